@@ -1,0 +1,4 @@
+pub mod Show
+pub mod Outcome
+pub mod Counts
+pub mod Laws

@@ -1,0 +1,9 @@
+pub mod LineLemmas
+pub mod CardLemmas
+pub mod ValueLemmas
+pub mod Found
+pub mod Written
+pub mod Spelled
+pub mod Proved
+pub mod KnownLemmas
+pub mod Examples

@@ -1,0 +1,5 @@
+pub mod Setup
+pub mod Spelling
+pub mod Refusals
+pub mod Reading
+pub mod Laws

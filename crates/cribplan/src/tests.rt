@@ -1,0 +1,6 @@
+//! Runs over memory.
+mod devices;
+mod failures;
+mod follows;
+mod replays;
+mod words;

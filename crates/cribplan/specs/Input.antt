@@ -20,10 +20,10 @@ most_bytes = 2 ^ 23
 unfoldable pub input_lines : List ℕ → Result Rest Refusal
 input_lines bytes = if nat_le (length bytes) most_bytes then all_lines bytes else Err (record { line = 0; number = too_long })
 
--- what is judged of a game whose section begins at a line
-abbrev pub judged : {A : Type 0} → ℕ → Result A GameFault → Result A Refusal
-judged first (Ok value) = Ok value
-judged first (Err fault) = Err (game_refusal first fault)
+-- what is judged of a game whose section begins at a line and has so many acts
+abbrev pub judged : {A : Type 0} → ℕ → ℕ → Result A GameFault → Result A Refusal
+judged first acts (Ok value) = Ok value
+judged first acts (Err fault) = Err (game_refusal first acts fault)
 
 -- the report of a problem and a game
 unfoldable pub report_at : Rest → Result Report Refusal
@@ -31,7 +31,7 @@ report_at rest = do
   problem ← problem_at rest
   game ← game_at problem.1
   _ ← end_at game.1
-  judged problem.1.number (replayed problem.0 game.0)
+  judged problem.1.number (length game.0.acts.items) (replayed problem.0 game.0)
 
 -- the report that an input asks for
 unfoldable pub report_of_input : List ℕ → Result Report Refusal
@@ -44,7 +44,7 @@ ending_at rest = do
   plan ← plan_at problem.1
   game ← game_at plan.1
   _ ← end_at game.1
-  judged plan.1.number (followed problem.0 plan.0 game.0)
+  judged plan.1.number (length game.0.acts.items) (followed problem.0 plan.0 game.0)
 
 -- the ending that an input asks for
 unfoldable pub ending_of_input : List ℕ → Result Ending Refusal

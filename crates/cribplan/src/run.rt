@@ -32,7 +32,7 @@ fn read_report(mut lines: Lines<'_>) -> Result<Report, Refused>
     lines.finish()?;
     match replay(&problem, &game) {
         Ok(report) => Ok(report),
-        Err(fault) => Err(Refused::of_game(fault, first)),
+        Err(fault) => Err(Refused::of_game(fault, first, game.acts.len())),
     }
 }
 
@@ -58,7 +58,7 @@ fn read_ending<A: Allocator + Copy>(alloc: A, mut lines: Lines<'_>) -> Result<En
     lines.finish().map_err(Refused::from)?;
     match follow(&problem, &plan, &game) {
         Ok(ending) => Ok(ending),
-        Err(fault) => Err(Stop::Refused(Refused::of_game(fault, first))),
+        Err(fault) => Err(Stop::Refused(Refused::of_game(fault, first, game.acts.len()))),
     }
 }
 

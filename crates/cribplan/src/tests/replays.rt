@@ -213,7 +213,8 @@ fn refuses_other_texts(rt: HostRuntime) {
         "hold TC 9C 2C 1S",
         "refused line 5: 5\n",
     );
-    refuses(&rt, &LAST_CARD, 1, "problem 2", "refused line 1: 7\n");
+    refuses(&rt, &LAST_CARD, 1, "problem 2", "refused line 8: 4\n");
+    refuses(&rt, &LAST_CARD, 1, "problem 3", "refused line 1: 7\n");
     refuses(&rt, &LAST_CARD, 1, "problem 1\r", "refused line 1: 1\n");
     refuses(&rt, &LAST_CARD, 8, "game 2", "refused line 8: 7\n");
     refuses(&rt, &LAST_CARD, 11, "acts 33", "refused line 11: 6\n");
@@ -240,4 +241,117 @@ fn refuses_each_beginning(rt: HostRuntime) {
         assert_eq!(rt; text.as_slice(), wanted.as_bytes(), "the first {len} bytes");
         assert_eq!(rt; status, Status::Refused);
     }
+}
+
+// The four twos after own 2C and opp AC, and a game that goes on from there.
+const AFTER_TWO: [&str; 22] = [
+    "problem 2",
+    "dealer opponent",
+    "score 0 0",
+    "starter KD",
+    "hold 2C 2D 2H 2S",
+    "throw 4C 6D",
+    "goal holes 12",
+    "played 2",
+    "own 2C",
+    "opp AC",
+    "game 1",
+    "hold AC AD AH AS",
+    "throw 3C 3D",
+    "acts 8",
+    "own 2C",
+    "opp AC",
+    "own 2D",
+    "opp AD",
+    "own 2H",
+    "opp AH",
+    "own 2S",
+    "opp AS",
+];
+
+#[test]
+fn replays_from_any_turn(rt: HostRuntime) {
+    let input = text_of(rt.alloc(), &AFTER_TWO).expect(&rt, "memory");
+    replays(
+        &rt,
+        input.as_slice(),
+        "play 0 1\nhand owner 12 12 1\nreached\n",
+        Status::Yes,
+    );
+    refuses(&rt, &AFTER_TWO, 10, "opp go", "refused line 10: 23\n");
+    refuses(&rt, &AFTER_TWO, 10, "opp 2D", "refused line 10: 20\n");
+    refuses(&rt, &AFTER_TWO, 9, "own 3C", "refused line 9: 41\n");
+}
+
+#[test]
+fn refuses_games_that_are_not_as_played(rt: HostRuntime) {
+    refuses(&rt, &AFTER_TWO, 16, "opp AD", "refused line 16: 47\n");
+    refuses(&rt, &AFTER_TWO, 15, "own 2D", "refused line 15: 47\n");
+    refuses(
+        &rt,
+        &AFTER_TWO,
+        12,
+        "hold TC AD AH AS",
+        "refused line 16: 41\n",
+    );
+    let none = text_with(rt.alloc(), &AFTER_TWO[..14], 14, "acts 0").expect(&rt, "memory");
+    replays(
+        &rt,
+        none.as_slice(),
+        "refused line 14: 47\n",
+        Status::Refused,
+    );
+}
+
+#[test]
+fn refuses_a_deal_that_is_done(rt: HostRuntime) {
+    let lines = [
+        "problem 2",
+        "dealer opponent",
+        "score 100 119",
+        "starter KD",
+        "hold AC 2C 2D 2H",
+        "throw 4C 6D",
+        "goal win",
+        "played 2",
+        "own AC",
+        "opp AD",
+    ];
+    let input = text_of(rt.alloc(), &lines).expect(&rt, "memory");
+    replays(
+        &rt,
+        input.as_slice(),
+        "refused line 10: 24\n",
+        Status::Refused,
+    );
+}
+
+#[test]
+fn the_crib_can_reach_the_end_where_the_goal_is_to_stop(rt: HostRuntime) {
+    let lines = [
+        "problem 2",
+        "dealer opponent",
+        "score 0 92",
+        "starter KD",
+        "hold 2C 2D 2H 2S",
+        "throw 4C 6D",
+        "goal stop",
+        "played 0",
+        "game 1",
+        "hold AC AD AH AS",
+        "throw 5C 5D",
+        "acts 8",
+        "own 2C",
+        "opp AC",
+        "own 2D",
+        "opp AD",
+        "own 2H",
+        "opp AH",
+        "own 2S",
+        "opp AS",
+    ];
+    let input = text_of(rt.alloc(), &lines).expect(&rt, "memory");
+    let wanted =
+        "play 0 93\nhand owner 12 12 93\nhand opponent 12 12 105\ncrib opponent 16 12 121\nlost\n";
+    replays(&rt, input.as_slice(), wanted, Status::Yes);
 }

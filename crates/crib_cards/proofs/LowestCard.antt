@@ -1,0 +1,27 @@
+-- Sets of cards, taken from the lowest card on.
+use Rattle.std.proofs.Common.{◌≡◌, ℕ, ◌<◌, true, List, [], ◌∷◌, length, Some, None, sym, ap, ◌∙◌, arith}
+use Rattle.crib_cards.specs.Cards.{IsCard}
+use Rattle.crib_cards.specs.Sets.{has, set_without, IsCardSet, first_of_list}
+use Rattle.crib_cards.proofs.SetFacts.{in_set_where}
+use Rattle.crib_cards.proofs.SetLemmas.{set_without-lowest}
+
+-- a set is its lowest card and the others
+pub lowest_split : (cards rest : List ℕ) (card : ℕ) → IsCardSet cards → Some card ≡ first_of_list cards → rest ≡ set_without cards card → cards ≡ card ∷ rest
+lowest_split [] rest card are e is = absurd cc
+lowest_split (first ∷ others) rest card are e is =
+    let same : first ≡ card = cc in
+    let left : set_without (first ∷ others) card ≡ others = ap (set_without (first ∷ others)) (sym same)
+    ∙ set_without-lowest (has (first ∷ others)) first others (sym are) in
+    ap (λ k. k ∷ others) same ∙ ap (λ xs. card ∷ xs) (sym (is ∙ left))
+
+pub lowest_none : (cards : List ℕ) → None ≡ first_of_list cards → cards ≡ []
+lowest_none [] e = λ i. []
+lowest_none (first ∷ rest) e = absurd cc
+
+pub rest_smaller : (cards rest : List ℕ) (card : ℕ) → IsCardSet cards → Some card ≡ first_of_list cards → rest ≡ set_without cards card →
+    length rest < length cards
+rest_smaller cards rest card are e is = let one = ap length (lowest_split cards rest card are e is) in omega (arith, one)
+
+-- what is in a set is a card
+pub in_set : (cards : List ℕ) (card : ℕ) → IsCardSet cards → has cards card ≡ true → IsCard card
+in_set cards card is h = (in_set_where (has cards) card (ap (λ xs. has xs card) (sym is) ∙ h)).0

@@ -1,0 +1,67 @@
+-- What stands in a list, and lists with no number twice.
+use Rattle.std.proofs.Common.{◌≡◌, ◌⊎◌, ℕ, Bool, true, false, not, eqb, List, [], ◌∷◌, ◌++◌, refl, sym, ap, ◌∙◌, inl, inr}
+use Rattle.std.specs.List.{list_all}
+use Rattle.std.proofs.lemmas.Bool.{and_parts, and_from, or_cases, or_parts, or_from, or_left, or_right, both_ways, not-true, eqb-true, eq-eqb}
+use Rattle.crib_cards.specs.Sets.{has, are_distinct}
+use Rattle.crib_cards.proofs.SetFacts.{has-append}
+
+-- ---- what stands in a list
+
+pub has_here : (x : ℕ) (xs : List ℕ) → has (x ∷ xs) x ≡ true
+has_here x xs = or_left (eqb x x) (has xs x) (eq-eqb x x refl)
+
+pub has_there : (x y : ℕ) (xs : List ℕ) → has xs y ≡ true → has (x ∷ xs) y ≡ true
+has_there x y xs h = or_right (eqb x y) (has xs y) h
+
+pub has_cases : (x y : ℕ) (xs : List ℕ) → has (x ∷ xs) y ≡ true → (x ≡ y) ⊎ (has xs y ≡ true)
+has_cases x y xs h = elim (or_cases (eqb x y) (has xs y) h) [ inl here ↦ inl (eqb-true x y here) | inr there ↦ inr there ]
+
+-- all numbers of a list stand in some cards
+abbrev pub AreAmong : List ℕ → List ℕ → Type 0
+AreAmong cards xs = (x : ℕ) → has xs x ≡ true → has cards x ≡ true
+
+pub all_has : (p : ℕ → Bool) (xs : List ℕ) (x : ℕ) → list_all p xs ≡ true → has xs x ≡ true → p x ≡ true
+all_has p [] x all h = absurd (both_ways false refl h)
+all_has p (y ∷ xs) x all h =
+    let parts = and_parts (p y) (list_all p xs) all in
+    elim (has_cases y x xs h) [
+      | inl here ↦ ap p (sym here) ∙ parts.0
+      | inr there ↦ all_has p xs x parts.1 there
+    ]
+
+pub all_from : (p : ℕ → Bool) (xs : List ℕ) → ((x : ℕ) → has xs x ≡ true → p x ≡ true) → list_all p xs ≡ true
+all_from p [] each = refl
+all_from p (x ∷ xs) each = and_from (p x) (list_all p xs) (each x (has_here x xs)) (all_from p xs (λ y h. each y (has_there x y xs h)))
+
+-- ---- lists with no number twice
+
+pub distinct_parts : (x : ℕ) (xs : List ℕ) → are_distinct (x ∷ xs) ≡ true → (has xs x ≡ false) × (are_distinct xs ≡ true)
+distinct_parts x xs distinct = let parts = and_parts (not (has xs x)) (are_distinct xs) distinct in (not-true (has xs x) parts.0, parts.1)
+
+pub distinct_append : (xs ys : List ℕ) → are_distinct xs ≡ true → are_distinct ys ≡ true → ((x : ℕ) → has xs x ≡ true → has ys x ≡ false) →
+    are_distinct (xs ++ ys) ≡ true
+distinct_append [] ys dx dy apart = dy
+distinct_append (x ∷ xs) ys dx dy apart =
+    let parts = distinct_parts x xs dx in
+    and_from (not (has (xs ++ ys) x)) (are_distinct (xs ++ ys))
+    (ap not (has-append xs ys x ∙ or_from (has xs x) (has ys x) parts.0 (apart x (has_here x xs))))
+    (distinct_append xs ys parts.1 dy (λ y h. apart y (has_there x y xs h)))
+
+pub distinct_left : (xs ys : List ℕ) → are_distinct (xs ++ ys) ≡ true → are_distinct xs ≡ true
+distinct_left [] ys distinct = refl
+distinct_left (x ∷ xs) ys distinct =
+    let parts = distinct_parts x (xs ++ ys) distinct in
+    and_from (not (has xs x)) (are_distinct xs) (ap not (or_parts (has xs x) (has ys x) (sym (has-append xs ys x) ∙ parts.0)).0) (distinct_left xs ys parts.1)
+
+pub distinct_right : (xs ys : List ℕ) → are_distinct (xs ++ ys) ≡ true → are_distinct ys ≡ true
+distinct_right [] ys distinct = distinct
+distinct_right (x ∷ xs) ys distinct = distinct_right xs ys (distinct_parts x (xs ++ ys) distinct).1
+
+pub distinct_apart : (xs ys : List ℕ) (y : ℕ) → are_distinct (xs ++ ys) ≡ true → has xs y ≡ true → has ys y ≡ false
+distinct_apart [] ys y distinct h = absurd (both_ways false refl h)
+distinct_apart (x ∷ xs) ys y distinct h =
+    let parts = distinct_parts x (xs ++ ys) distinct in
+    elim (has_cases x y xs h) [
+      | inl here ↦ ap (has ys) (sym here) ∙ (or_parts (has xs x) (has ys x) (sym (has-append xs ys x) ∙ parts.0)).1
+      | inr there ↦ distinct_apart xs ys y parts.1 there
+    ]

@@ -1,0 +1,98 @@
+-- Sets that are made card by card, and sets that are walked from the lowest card on.
+use Rattle.std.proofs.Common.{◌≡◌, ℕ, ◌+◌, ◌<◌, Bool, true, false, not, eqb, ◌&&◌, ◌||◌, List, [], ◌∷◌, ◌++◌, length, take, get_or, Some, None, refl, sym, ap}
+use Rattle.std.proofs.Common.{◌∙◌, arith}
+use Rattle.std.proofs.lemmas.List.{take_more}
+use Rattle.std.proofs.Math.Bool.{or-false, or_assoc, and-true}
+use Rattle.crib_cards.specs.Deals.{unseen_from}
+use Rattle.crib_cards.specs.Sets.{has, set_of, set_with, set_with_all, set_without, set_without_all, IsCardSet, first_of_list}
+use Rattle.crib_cards.proofs.SetLemmas.{has-set_where, set_where_agree, set_without-lowest, has_push, eqb_turned}
+use Rattle.crib_cards.proofs.SetFacts.{has-append}
+
+-- ---- one card more
+
+-- the cards before a place of a list, and the one there
+pub take_card : (cards : List ℕ) (i card : ℕ) → i < length cards → card ≡ get_or cards i card → take (i + 1) cards ≡ take i cards ++ card ∷ []
+take_card cards i card inside is = take_more cards i card inside ∙ ap (λ (k : ℕ). take i cards ++ k ∷ []) (sym is)
+
+-- whether a list has a card, with one more at its end
+has_last : (cards : List ℕ) (card other : ℕ) → has (cards ++ card ∷ []) other ≡ (has cards other || eqb other card)
+has_last cards card other = has_push cards card other ∙ ap (λ (b : Bool). has cards other || b) (eqb_turned card other)
+
+-- ---- a set and all the cards of a list
+
+pub set_with_all-none : (cards : List ℕ) → IsCardSet cards → set_with_all cards [] ≡ cards
+set_with_all-none cards set = set_where_agree _ (has cards) (λ card is. or-false (has cards card)) ∙ sym set
+
+pub set_with-set_with_all : (cards more : List ℕ) (card : ℕ) → set_with (set_with_all cards more) card ≡ set_with_all cards (more ++ card ∷ [])
+set_with-set_with_all cards more card =
+    set_where_agree _ _ (λ other is.
+    ap (λ (b : Bool). b || eqb other card) (has-set_where (λ k. has cards k || has more k) other is)
+    ∙ or_assoc (has cards other) (has more other) (eqb other card)
+    ∙ ap (λ (b : Bool). has cards other || b) (sym (has_last more card other)))
+
+pub set_with_all-more : (cards more set next : List ℕ) (i card : ℕ) → i < length more → card ≡ get_or more i card → next ≡ set_with set card →
+    set ≡ set_with_all cards (take i more) → next ≡ set_with_all cards (take (i + 1) more)
+set_with_all-more cards more set next i card inside is one so_far =
+    one ∙ ap (λ (xs : List ℕ). set_with xs card) so_far ∙ set_with-set_with_all cards (take i more) card
+    ∙ ap (set_with_all cards) (sym (take_card more i card inside is))
+
+-- the set of a list, with all the cards of another one
+pub set_with_all-set_of : (cards more : List ℕ) → set_with_all (set_of cards) more ≡ set_of (cards ++ more)
+set_with_all-set_of cards more =
+    set_where_agree _ _ (λ card is. ap (λ (b : Bool). b || has more card) (has-set_where (has cards) card is) ∙ sym (has-append cards more card))
+
+-- ---- a set without any card of a list
+
+pub set_without_all-none : (cards : List ℕ) → IsCardSet cards → set_without_all cards [] ≡ cards
+set_without_all-none cards set = set_where_agree _ (has cards) (λ card is. and-true (has cards card)) ∙ sym set
+
+pub set_without-set_without_all : (cards others : List ℕ) (card : ℕ) →
+    set_without (set_without_all cards others) card ≡ set_without_all cards (others ++ card ∷ [])
+set_without-set_without_all cards others card =
+    set_where_agree _ _ (λ other is.
+    ap (λ (b : Bool). b && not (eqb other card)) (has-set_where (λ k. has cards k && not (has others k)) other is)
+    ∙ neither (has cards other) (has others other) (eqb other card)
+    ∙ ap (λ (b : Bool). has cards other && not b) (sym (has_last others card other)))
+  where
+    neither : (a b c : Bool) → ((a && not b) && not c) ≡ (a && not (b || c))
+    neither true true c = refl
+    neither true false c = refl
+    neither false b c = refl
+
+pub set_without_all-more : (cards others set next : List ℕ) (i card : ℕ) → i < length others → card ≡ get_or others i card → next ≡ set_without set card →
+    set ≡ set_without_all cards (take i others) → next ≡ set_without_all cards (take (i + 1) others)
+set_without_all-more cards others set next i card inside is one so_far =
+    one ∙ ap (λ (xs : List ℕ). set_without xs card) so_far ∙ set_without-set_without_all cards (take i others) card
+    ∙ ap (set_without_all cards) (sym (take_card others i card inside is))
+
+-- the cards that are none of some known ones, without all the cards of a list
+pub set_without_all-unseen_from : (known more : List ℕ) → set_without_all (unseen_from known) more ≡ unseen_from (known ++ more)
+set_without_all-unseen_from known more =
+    set_where_agree _ _ (λ card is.
+    ap (λ (b : Bool). b && not (has more card)) (has-set_where (λ k. not (has known k)) card is)
+    ∙ neither (has known card) (has more card)
+    ∙ ap not (sym (has-append known more card)))
+  where
+    neither : (a b : Bool) → (not a && not b) ≡ not (a || b)
+    neither true b = refl
+    neither false b = refl
+
+-- ---- the lowest card
+
+pub lowest_none : (cards : List ℕ) → None ≡ first_of_list cards → cards ≡ []
+lowest_none [] none = refl
+lowest_none (card ∷ cards) none = absurd cc
+
+-- a set is its lowest card, and then the set without it
+pub lowest_split : (cards : List ℕ) (card : ℕ) → IsCardSet cards → Some card ≡ first_of_list cards → cards ≡ card ∷ set_without cards card
+lowest_split [] card set first = absurd cc
+lowest_split (lowest ∷ cards) card set first =
+    let same : card ≡ lowest = cc in
+    sym (ap (λ (k : ℕ). k ∷ set_without (lowest ∷ cards) k) same
+    ∙ ap (λ (xs : List ℕ). lowest ∷ xs) (set_without-lowest (has (lowest ∷ cards)) lowest cards (sym set)))
+
+-- which is shorter by one
+pub length-without_lowest : (cards : List ℕ) (card : ℕ) → IsCardSet cards → Some card ≡ first_of_list cards → length (set_without cards card) + 1 ≡ length cards
+length-without_lowest cards card set first =
+    (let e : length (set_without cards card) + 1 ≡ length (card ∷ set_without cards card) = omega arith in e)
+    ∙ ap length (sym (lowest_split cards card set first))

@@ -1,0 +1,27 @@
+use Rattle.crib_know.proofs.Calls.{moved, unseen_set, fixed_is_set, know_four, rest_two, first_is}
+use Rattle.crib_know.proofs.know.some_deal.Goals as goal
+
+pub first_hold-hold-requires-clause-unseen : goal.first_hold-hold-requires-clause-unseen
+first_hold-hold-requires-clause-unseen c =
+    let known = c.know.invariant in
+    unseen_set _ known.problem known.history known.knows
+
+pub first_hold-hold-requires-clause-fixed : goal.first_hold-hold-requires-clause-fixed
+first_hold-hold-requires-clause-fixed c =
+    let known = c.know.invariant in
+    fixed_is_set _ known.problem known.history known.knows
+
+pub first_hold-hold-requires-clause-four : goal.first_hold-hold-requires-clause-four
+first_hold-hold-requires-clause-four c =
+    let known = c.know.invariant in
+    know_four _ known.problem known.history known.knows
+
+pub lowest_two-requires : goal.lowest_two-requires
+lowest_two-requires c =
+    let known = c.know.invariant in
+    rest_two _ known.problem known.history known.knows c.first_hold-hold.result c.first_hold-hold.ensures c.without_all.result c.without_all.ensures
+
+pub returns : goal.returns
+returns c = λ problem history knows.
+    first_is _ problem history (moved _ c.args.know.now problem history c.know.view_is knows) c.first_hold-hold.result c.first_hold-hold.ensures
+    c.without_all.result c.without_all.ensures c.lowest_two.result c.lowest_two.ensures

@@ -1,0 +1,5 @@
+use Rattle.crib_plan.proofs.Apart.{apart}
+use Rattle.crib_plan.proofs.laws.spelling_law.Goals as goal
+
+pub returns : goal.returns
+returns c = apart

@@ -1,0 +1,123 @@
+-- When a branch of a see line is refused, in the words of the format.
+use Rattle.std.specs.Prelude.{◌≡◌, ◌≢◌, ℕ, ◌<◌, ◌≤◌, ◌==◌, Bool, true, false, List, [], ◌∷◌, ◌++◌, ◌⊎◌, length, map}
+use Rattle.std.specs.Prelude.{count_by, slice_index, Some, None, IsOk, Err, codes, decimal}
+use Rattle.std.specs.List.{list_any, position_or_len, AllByRecursion}
+use Rattle.crib_cards.specs.Sets.{has}
+use Rattle.crib_text.specs.Refusals.{bad_line, bad_number}
+use Rattle.crib_text.specs.Words.{number_read}
+use Rattle.crib_plan.specs.Spelling.{letter_bytes, colon}
+use Rattle.crib_plan.specs.Refusals.{bad_next, bad_set}
+use Rattle.crib_plan.specs.Reading.{no_branches, branches_in}
+
+-- a branch: its letters, and the number of the node to which they lead
+pub record Branch : Type 0 where
+  pub set : List ℕ
+  pub node : ℕ
+
+abbrev pub branch_spelling : Branch → List ℕ
+branch_spelling branch = branch.set ++ colon ∷ decimal branch.node
+
+-- bytes that are some of these letters, in the same order
+unfoldable pub AreInOrder : List ℕ → List ℕ → Type 0
+AreInOrder [] letters = Unit {0}
+AreInOrder (byte ∷ bytes) [] = ⊥
+AreInOrder (byte ∷ bytes) (letter ∷ letters) =
+    ((byte ≡ letter) × AreInOrder bytes letters) ⊎ AreInOrder (byte ∷ bytes) letters
+
+-- the place of a letter among the fourteen, from 0
+abbrev pub letter_number : ℕ → ℕ
+letter_number byte = position_or_len (λ letter. letter == byte) letter_bytes
+
+-- the place of the first letter of a set
+abbrev pub first_number : List ℕ → ℕ
+first_number set = letter_number (slice_index set 0)
+
+-- whether a letter stands in some branches, and whether one of them leads to a node
+abbrev pub has_letter : List Branch → ℕ → Bool
+has_letter branches letter = list_any (λ branch. has branch.set letter) branches
+
+abbrev pub has_node : List Branch → ℕ → Bool
+has_node branches node = list_any (λ branch. branch.node == node) branches
+
+-- a letter at this place stands behind the first letter of the last branch, if there is one
+abbrev pub IsBehindLast : List Branch → ℕ → Type 0
+IsBehindLast [] number = Unit {0}
+IsBehindLast (branch ∷ []) number = first_number branch.set < number
+IsBehindLast (branch ∷ next ∷ branches) number = IsBehindLast (next ∷ branches) number
+
+-- a set that may stand behind some branches: one or more letters in their order, none of which stood before, the first
+-- of them behind the first of the branch before
+pub record IsNextSet (earlier : List Branch) (set : List ℕ) : Type 0 where
+  pub some : 0 < length set
+  pub in_order : AreInOrder set letter_bytes
+  pub once : (letter : ℕ) → has set letter ≡ true → has_letter earlier letter ≡ false
+  pub behind : IsBehindLast earlier (first_number set)
+
+-- the branches of a line so far pass
+abbrev pub Pass : ℕ → ℕ → List Branch → Type 0
+Pass place count earlier =
+    AllByRecursion (λ branch. branch.node ≤ 4294967295) earlier
+    × IsOk (branches_in place count no_branches (map branch_spelling earlier))
+
+-- behind them this word is refused, whatever words follow it
+abbrev pub IsRefused : ℕ → ℕ → List Branch → List ℕ → ℕ → Type 0
+IsRefused place count earlier word number =
+    (more : List (List ℕ)) →
+    branches_in place count no_branches (map branch_spelling earlier ++ word ∷ more) ≡ Err number
+
+-- no colon stands among bytes
+abbrev pub HasNoColon : List ℕ → Type 0
+HasNoColon bytes = list_any (λ byte. byte == colon) bytes ≡ false
+
+-- a later node of the plan
+abbrev pub IsLaterNode : ℕ → ℕ → ℕ → Type 0
+IsLaterNode place count node = (place < node) × (node < count)
+
+-- first a word without exactly one colon is refused
+abbrev pub ColonLaw : Type 0
+ColonLaw =
+    (place count : ℕ) (earlier : List Branch) (word : List ℕ) → Pass place count earlier →
+    count_by (λ byte. byte == colon) word ≢ 1 → IsRefused place count earlier word bad_line
+
+-- then a set that may not stand there
+abbrev pub SetLaw : Type 0
+SetLaw =
+    (place count : ℕ) (earlier : List Branch) (set next : List ℕ) → Pass place count earlier →
+    HasNoColon set → HasNoColon next → ¬ IsNextSet earlier set →
+    IsRefused place count earlier (set ++ colon ∷ next) bad_set
+
+-- then `end`
+abbrev pub EndLaw : Type 0
+EndLaw =
+    (place count : ℕ) (earlier : List Branch) (set : List ℕ) → Pass place count earlier →
+    HasNoColon set → IsNextSet earlier set → IsRefused place count earlier (set ++ colon ∷ codes "end") bad_next
+
+-- then a word that is no number
+abbrev pub NumberLaw : Type 0
+NumberLaw =
+    (place count : ℕ) (earlier : List Branch) (set next : List ℕ) → Pass place count earlier →
+    HasNoColon set → HasNoColon next → IsNextSet earlier set → next ≢ codes "end" → number_read next ≡ None →
+    IsRefused place count earlier (set ++ colon ∷ next) bad_number
+
+-- then a number that is of no later node
+abbrev pub RangeLaw : Type 0
+RangeLaw =
+    (place count : ℕ) (earlier : List Branch) (set next : List ℕ) (node : ℕ) → Pass place count earlier →
+    HasNoColon set → HasNoColon next → IsNextSet earlier set → number_read next ≡ Some node →
+    ¬ IsLaterNode place count node → IsRefused place count earlier (set ++ colon ∷ next) bad_next
+
+-- then a node that stood before
+abbrev pub NodeLaw : Type 0
+NodeLaw =
+    (place count : ℕ) (earlier : List Branch) (set next : List ℕ) (node : ℕ) → Pass place count earlier →
+    HasNoColon set → HasNoColon next → IsNextSet earlier set → number_read next ≡ Some node →
+    IsLaterNode place count node → has_node earlier node ≡ true →
+    IsRefused place count earlier (set ++ colon ∷ next) bad_set
+
+-- and every other branch passes
+abbrev pub PassLaw : Type 0
+PassLaw =
+    (place count : ℕ) (earlier : List Branch) (set next : List ℕ) (node : ℕ) → Pass place count earlier →
+    HasNoColon set → HasNoColon next → IsNextSet earlier set → number_read next ≡ Some node →
+    IsLaterNode place count node → has_node earlier node ≡ false →
+    IsOk (branches_in place count no_branches (map branch_spelling earlier ++ (set ++ colon ∷ next) ∷ []))

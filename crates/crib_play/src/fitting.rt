@@ -1,0 +1,42 @@
+//! Which cards fit at a count.
+ghost use Rattle.std.specs.Prelude.{◌≡◌};
+ghost use Rattle.std.specs.List.{list_any};
+ghost use Rattle.crib_play.specs.Fitting.{fits_at};
+
+use crib_cards::{Card, CardSet};
+
+/// Whether the card fits at this count: the count with it is at most 31.
+pub fn fits(card: Card, count: u8) -> bool
+    ensures { result ≡ fits_at count card }
+{
+    count.saturating_add(card.rank().value()) <= 31
+}
+
+/// Whether some card of the set fits at this count. Of a set with no card none does.
+pub fn any_fits(cards: CardSet, count: u8) -> bool
+    ensures { result ≡ list_any (fits_at count) cards }
+{
+    match cards.lowest() {
+        // no other card has a lower value
+        Some(lowest) => fits(lowest, count),
+        None => false,
+    }
+}
+
+#[cfg(test)]
+mod tests {
+    use super::*;
+    use crib_cards::{Rank, Suit};
+
+    #[test]
+    fn fits_up_to_31(rt: HostRuntime) {
+        let six = Card::of(Rank::new(6).expect(&rt, "a rank"), Suit::Hearts);
+        let king = Card::of(Rank::new(13).expect(&rt, "a rank"), Suit::Clubs);
+        assert!(rt; fits(king, 21) && !fits(king, 22));
+        assert!(rt; fits(six, 25) && !fits(six, 26) && !fits(six, 255));
+        let both = CardSet::new().with(king).with(six);
+        assert!(rt; any_fits(both, 0) && any_fits(both, 25));
+        assert!(rt; !any_fits(both, 26));
+        assert!(rt; !any_fits(CardSet::new(), 0));
+    }
+}

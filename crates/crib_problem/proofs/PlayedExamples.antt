@@ -1,0 +1,89 @@
+-- Worked examples of the turns that may be played already, against the rules: tens and small clubs lead, both at 0.
+use Rattle.std.specs.Prelude.{◌≡◌, refl, [], ◌∷◌, ℕ, List, Option, Some, None, reverse}
+use Rattle.crib_cards.specs.Sets.{set_where}
+use Rattle.crib_cards.specs.declared.sides.Side.TheVariants.{Owner, Opponent}
+use Rattle.crib_cards.specs.declared.moves.Act.{Act}
+use Rattle.crib_cards.specs.declared.moves.Move.TheVariants.{Card, Go}
+use Rattle.crib_problem.specs.Played.{Board, act_refusal, least_by}
+
+-- TC 9C 2C 8C held, 3H turned up, 4S 6S thrown; the opponent deals, at a score, and the owner is to win
+abbrev board_at : ℕ → Board
+board_at score = record {
+  start = record { dealer = Opponent; scores = record { owner = 0; opponent = score }; target = 121 };
+  hold = 36 ∷ 32 ∷ 4 ∷ 28 ∷ [];
+  known = 10 ∷ 36 ∷ 32 ∷ 4 ∷ 28 ∷ 15 ∷ 23 ∷ [];
+}
+
+abbrev own : ℕ → Act
+own card = record { side = Owner; what = Card card }
+
+abbrev theirs : ℕ → Act
+theirs card = record { side = Opponent; what = Card card }
+
+abbrev own_go : Act
+own_go = record { side = Owner; what = Go }
+
+abbrev their_go : Act
+their_go = record { side = Opponent; what = Go }
+
+-- why an act may not come after some acts, the first one first
+abbrev refusal : ℕ → List Act → Act → Option ℕ
+refusal score acts act = act_refusal (board_at score) (reverse acts) act
+
+-- TC TD 9C make 29
+abbrev at_29 : List Act
+at_29 = own 36 ∷ theirs 37 ∷ own 32 ∷ []
+
+-- a go at 29 tells that each card of the opponent counts 3 or more
+pub least_3 : least_by (board_at 0) (reverse (own 36 ∷ theirs 37 ∷ own 32 ∷ their_go ∷ [])) ≡ 3
+least_3 = refl
+
+-- the owner may not say go while 2C fits, which makes 31
+pub must_play_at_29 : refusal 0 (own 36 ∷ theirs 37 ∷ own 32 ∷ their_go ∷ []) own_go ≡ Some 43
+unfolding set_where
+must_play_at_29 = refl
+
+pub plays_at_29 : refusal 0 (own 36 ∷ theirs 37 ∷ own 32 ∷ their_go ∷ []) (own 4) ≡ None
+unfolding set_where
+plays_at_29 = refl
+
+-- then the opponent leads: no deal lets him show 2D, and 3C may be his
+pub no_two : refusal 0 (own 36 ∷ theirs 37 ∷ own 32 ∷ their_go ∷ own 4 ∷ []) (theirs 5) ≡ Some 23
+unfolding set_where
+no_two = refl
+
+pub a_three : refusal 0 (own 36 ∷ theirs 37 ∷ own 32 ∷ their_go ∷ own 4 ∷ []) (theirs 8) ≡ None
+unfolding set_where
+a_three = refl
+
+-- at 30, after AD, neither 2C nor 8C fits, so the owner says go; at 29 it was not his turn
+pub go_at_30 : refusal 0 (own 36 ∷ theirs 37 ∷ own 32 ∷ theirs 1 ∷ []) own_go ≡ None
+unfolding set_where
+go_at_30 = refl
+
+pub not_asked_at_29 : refusal 0 at_29 own_go ≡ Some 44
+unfolding set_where
+not_asked_at_29 = refl
+
+-- whose turn it is comes before what he holds: the opponent's TD at the first lead, and the owner's KD after TC
+pub turn_first : refusal 0 [] (theirs 37) ≡ Some 44
+unfolding set_where
+turn_first = refl
+
+pub turn_before_hand : refusal 0 (own 36 ∷ []) (own 49) ≡ Some 44
+unfolding set_where
+turn_before_hand = refl
+
+-- a card that was seen comes before whose turn it is
+pub seen_first : refusal 0 [] (theirs 36) ≡ Some 20
+unfolding set_where
+seen_first = refl
+
+-- the opponent, at 118, pegs 2 for the pair of tens, and the close after two gos at 30 brings him hole 121
+pub over_by_go : refusal 118 (own 36 ∷ theirs 37 ∷ own 32 ∷ theirs 1 ∷ own_go ∷ []) their_go ≡ Some 24
+unfolding set_where
+over_by_go = refl
+
+pub not_over_by_go : refusal 117 (own 36 ∷ theirs 37 ∷ own 32 ∷ theirs 1 ∷ own_go ∷ []) their_go ≡ None
+unfolding set_where
+not_over_by_go = refl

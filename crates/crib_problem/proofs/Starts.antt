@@ -1,0 +1,111 @@
+-- What a problem and its deals are to the play.
+use Rattle.std.proofs.Common.{◌≡◌, ℕ, ◌+◌, ◌<◌, ◌≤◌, Bool, true, false, not, eqb, List, [], ◌∷◌, ◌++◌, length, refl, sym, ap, subst, ◌∙◌, inl, inr, arith}
+use Rattle.std.specs.List.{AllByRecursion, list_all}
+use Rattle.std.proofs.lemmas.Bool.{cases_Bool, and_parts, and_from, or_cases, or_left, or_right, or_from, both_ways, not-true, eqb-true, eq-eqb}
+use Rattle.crib_cards.specs.Cards.{IsCard}
+use Rattle.crib_cards.specs.Sets.{has, are_distinct, set_where, set_of}
+use Rattle.crib_cards.specs.Deals.{IsDeal}
+use Rattle.crib_cards.specs.declared.sides.Dealt.{Dealt}
+use Rattle.crib_cards.proofs.SetFacts.{has-append, in_set_where, has-set_of, IsCardSet-set_of, set_with-set_of_cons}
+use Rattle.crib_cards.proofs.SetCounts.{length-set_with}
+use Rattle.crib_play.specs.Standing.{IsStart}
+use Rattle.crib_play.specs.Legal.{IsDealt}
+use Rattle.crib_play.proofs.CardLemmas.{distinct_left}
+use Rattle.crib_problem.specs.Setup.{Setup, IsSetup, IsGoal, goal_hole, known_cards, unseen_of, start_of, hands_of}
+use Rattle.crib_problem.specs.declared.problem.Goal.{Goal}
+use Rattle.crib_problem.specs.declared.problem.Goal.TheVariants.{Win, Holes, Stop}
+
+-- ---- lists of cards
+pub each_has : (P : ℕ → Type 0) (xs : List ℕ) (card : ℕ) → AllByRecursion P xs → has xs card ≡ true → P card
+each_has P [] card all h = absurd (both_ways false refl h)
+each_has P (x ∷ xs) card all h =
+    elim (or_cases (eqb x card) (has xs card) h) [
+      | inl here ↦ subst P (eqb-true x card here) all.0
+      | inr there ↦ each_has P xs card all.1 there
+    ]
+
+pub all_has : (p : ℕ → Bool) (xs : List ℕ) (card : ℕ) → list_all p xs ≡ true → has xs card ≡ true → p card ≡ true
+all_has p [] card all h = absurd (both_ways false refl h)
+all_has p (x ∷ xs) card all h =
+    let parts = and_parts (p x) (list_all p xs) all in
+    elim (or_cases (eqb x card) (has xs card) h) [
+      | inl here ↦ ap p (sym (eqb-true x card here)) ∙ parts.0
+      | inr there ↦ all_has p xs card parts.1 there
+    ]
+
+pub distinct_append : (xs ys : List ℕ) → are_distinct xs ≡ true → are_distinct ys ≡ true → ((card : ℕ) → has xs card ≡ true → has ys card ≡ false) →
+    are_distinct (xs ++ ys) ≡ true
+distinct_append [] ys dx dy apart = dy
+distinct_append (x ∷ xs) ys dx dy apart =
+    let parts = and_parts (not (has xs x)) (are_distinct xs) dx in
+    and_from (not (has (xs ++ ys) x)) (are_distinct (xs ++ ys))
+    (ap not (has-append xs ys x ∙ or_from (has xs x) (has ys x) (not-true (has xs x) parts.0) (apart x (or_left (eqb x x) (has xs x) (eq-eqb x x refl)))))
+    (distinct_append xs ys parts.1 dy (λ card h. apart card (or_right (eqb x card) (has xs card) h)))
+
+-- a set of different cards is as long as their list
+pub length-set_of : (cards : List ℕ) → AllByRecursion IsCard cards → are_distinct cards ≡ true → length (set_of cards) ≡ length cards
+unfolding set_where
+length-set_of [] all distinct = refl
+length-set_of (card ∷ cards) all distinct =
+    let parts = and_parts (not (has cards card)) (are_distinct cards) distinct in
+    let more : length (set_of (card ∷ cards)) ≡ length (set_of cards) + 1 = ap length (sym (set_with-set_of_cons cards card))
+    ∙ length-set_with (set_of cards) card (IsCardSet-set_of cards) all.0 (has-set_of cards card all.0 ∙ not-true (has cards card) parts.0) in
+    more ∙ (let rest = length-set_of cards all.1 parts.1 in omega (arith, rest))
+
+-- ---- the start
+goal_bounds : (score : ℕ) (goal : Goal) → score ≤ 120 → IsGoal score goal → (score < goal_hole score goal) × (goal_hole score goal ≤ 121)
+goal_bounds score Win low is = (omega arith, omega arith)
+goal_bounds score Stop low is = (omega arith, omega arith)
+goal_bounds score (Holes holes) low is = (omega (arith, is.0), omega (arith, is.1))
+
+module _ (problem : Setup) (setup : IsSetup problem) where
+  pub started : IsStart (start_of problem)
+  started =
+      let bounds = goal_bounds problem.scores.owner problem.goal setup.owner_score setup.goal_in_range in
+      let theirs = setup.opponent_score in
+      record { below_target = bounds.0; target_in_game = bounds.1; opponent_in_game = omega (arith, theirs) }
+
+  -- ---- the owner's hand
+  pub hold_known : (card : ℕ) → has problem.hold card ≡ true → has (known_cards problem) card ≡ true
+  hold_known card mine =
+      or_right (eqb problem.starter card) (has (problem.hold ++ problem.thrown) card) (has-append problem.hold problem.thrown card
+      ∙ or_left (has problem.hold card) (has problem.thrown card) mine)
+
+  pub hold_is_card : (card : ℕ) → has problem.hold card ≡ true → IsCard card
+  hold_is_card card mine = each_has IsCard (known_cards problem) card setup.cards (hold_known card mine)
+
+  pub hold_distinct : are_distinct problem.hold ≡ true
+  hold_distinct =
+      let parts = and_parts (not (has (problem.hold ++ problem.thrown) problem.starter)) (are_distinct (problem.hold ++ problem.thrown)) setup.distinct in
+      distinct_left problem.hold problem.thrown parts.1
+
+  pub hold_four : length (set_of problem.hold) ≡ 4
+  hold_four = length-set_of problem.hold (first_all problem.hold problem.thrown setup.cards.1) hold_distinct ∙ setup.held
+    where
+      first_all : (xs ys : List ℕ) → AllByRecursion IsCard (xs ++ ys) → AllByRecursion IsCard xs
+      first_all [] ys all = tt
+      first_all (x ∷ xs) ys all = (all.0, first_all xs ys all.1)
+
+  -- ---- the hands of a deal
+  module _ (dealt : Dealt) (deal : IsDeal (unseen_of problem) dealt) where
+    pub theirs_unseen : (card : ℕ) → has dealt.hold card ≡ true → IsCard card × (has (known_cards problem) card ≡ false)
+    theirs_unseen card theirs =
+        let six : has (dealt.hold ++ dealt.throw) card ≡ true = has-append dealt.hold dealt.throw card
+        ∙ or_left (has dealt.hold card) (has dealt.throw card) theirs in
+        let parts = in_set_where (λ c. not (has (known_cards problem) c)) card
+        (all_has (has (unseen_of problem)) (dealt.hold ++ dealt.throw) card deal.hidden_before six) in
+        (parts.0, not-true (has (known_cards problem) card) parts.1)
+
+    apart : (card : ℕ) → has problem.hold card ≡ true → has dealt.hold card ≡ false
+    apart card mine =
+        elim (cases_Bool (has dealt.hold card)) [
+          | inl theirs ↦ absurd (both_ways (has (known_cards problem) card) (theirs_unseen card theirs).1 (hold_known card mine))
+          | inr other ↦ other
+        ]
+
+    pub hands_dealt : IsDealt (hands_of problem dealt)
+    hands_dealt = record {
+      owner_four = setup.held;
+      opponent_four = deal.held;
+      distinct = distinct_append problem.hold dealt.hold hold_distinct (distinct_left dealt.hold dealt.throw deal.distinct) apart;
+    }

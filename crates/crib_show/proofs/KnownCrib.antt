@@ -1,0 +1,40 @@
+-- Points of the fifteens and pairs of some cards are points of these cards with others.
+use Rattle.std.proofs.Common.{ℕ, ◌+◌, ◌*◌, ◌≤◌, cond, List, [], ◌∷◌, ◌++◌, sum_by, arith}
+use Rattle.crib_cards.specs.declared.sides.Dealt.{Dealt}
+use Rattle.crib_show.specs.Show.{choices, crib_flush, crib_points, fifteen_points, is_fifteen, is_pair, jack_points, pair_points, run_points}
+use Rattle.crib_show.specs.Worst.{hidden_crib}
+use Rattle.crib_show.specs.declared.deals.WorstShow.{WorstShow}
+use Rattle.crib_show.proofs.Choices.{sum_by-choices}
+
+no_cards : (f : List ℕ → ℕ) (ys : List ℕ) → f [] ≤ sum_by f (choices ys)
+no_cards f [] = omega arith
+no_cards f (y ∷ ys) = let rest = no_cards f ys in let whole = sum_by-choices f y ys in omega (arith, rest, whole)
+
+more_choices : (f : List ℕ → ℕ) (xs ys : List ℕ) → sum_by f (choices xs) ≤ sum_by f (choices (xs ++ ys))
+more_choices f [] ys = let some = no_cards f ys in omega (arith, some)
+more_choices f (x ∷ xs) ys =
+    let with_it = more_choices (λ chosen. f (x ∷ chosen)) xs ys in
+    let without = more_choices f xs ys in
+    let few = sum_by-choices f x xs in
+    let all = sum_by-choices f x (xs ++ ys) in
+    omega (arith, with_it, without, few, all)
+
+-- what the starter and the owner's throw give, each crib has
+pub known_in_crib : (worst : WorstShow) (dealt : Dealt) → fifteen_points (worst.starter ∷ worst.own_throw) + pair_points (worst.starter ∷ worst.own_throw) ≤
+    hidden_crib worst dealt
+unfolding crib_points
+known_in_crib worst dealt =
+    let known = worst.starter ∷ worst.own_throw in
+    sums (fifteen_points known) (pair_points known) (fifteen_points (known ++ dealt.throw)) (pair_points (known ++ dealt.throw))
+    (run_points (known ++ dealt.throw))
+    (crib_flush (worst.own_throw ++ dealt.throw) worst.starter) (jack_points (worst.own_throw ++ dealt.throw) worst.starter)
+    (twice (sum_by (λ chosen. cond (is_fifteen chosen) 1 0) (choices known)) (sum_by (λ chosen. cond (is_fifteen chosen) 1 0) (choices (known ++ dealt.throw)))
+    (more_choices (λ chosen. cond (is_fifteen chosen) 1 0) known dealt.throw))
+    (twice (sum_by (λ chosen. cond (is_pair chosen) 1 0) (choices known)) (sum_by (λ chosen. cond (is_pair chosen) 1 0) (choices (known ++ dealt.throw)))
+    (more_choices (λ chosen. cond (is_pair chosen) 1 0) known dealt.throw))
+  where
+    twice : (a b : ℕ) → a ≤ b → 2 * a ≤ 2 * b
+    twice a b less = omega arith
+
+    sums : (f p fs ps rs flush jack : ℕ) → f ≤ fs → p ≤ ps → f + p ≤ fs + ps + rs + flush + jack
+    sums f p fs ps rs flush jack less_f less_p = omega arith

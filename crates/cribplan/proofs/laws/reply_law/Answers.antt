@@ -1,0 +1,6 @@
+use Rattle.cribplan.proofs.Replies.{one_reply_law}
+use Rattle.cribplan.proofs.Beginnings.{cut_short_law}
+use Rattle.cribplan.proofs.laws.reply_law.Goals as goal
+
+pub returns : goal.returns
+returns c = record { one = one_reply_law; cut_short = cut_short_law }

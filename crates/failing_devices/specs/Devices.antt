@@ -1,0 +1,12 @@
+-- What a device has still to give, and what it was given.
+use Rattle.std.specs.Prelude.{ℕ, List}
+use Rattle.failing_devices.specs.declared.Feed.{Feed}
+use Rattle.failing_devices.specs.declared.Tray.{Tray}
+
+-- the bytes that are still to be read
+abbrev pub fed_bytes : Feed → List ℕ
+fed_bytes feed = feed.rest.now
+
+-- the bytes that were written
+abbrev pub tray_bytes : {A : Type 0} → Tray A → List ℕ
+tray_bytes tray = tray.bytes.items

@@ -1,0 +1,96 @@
+-- What people dispute about the play, each worked by computation. The crib flush and who counts first stand beside the
+-- show (crib_show), a plan that runs out beside the games that follow one (crib_game).
+use Rattle.std.specs.Prelude.{◌≡◌, refl, List, [], ◌∷◌, true, reverse}
+use Rattle.std.specs.List.{list_any}
+use Rattle.crib_cards.specs.declared.sides.Side.TheVariants.{Owner, Opponent}
+use Rattle.crib_cards.specs.declared.letters.Letter.TheVariants.{Seen, Go}
+use Rattle.crib_cards.specs.Start.{Start, Hands}
+use Rattle.crib_cards.specs.declared.moves.Move.{Move}
+use Rattle.crib_cards.specs.declared.moves.Move.TheVariants as move
+use Rattle.crib_play.specs.declared.turns.Turn.TheVariants as turns
+use Rattle.crib_play.specs.Record.{pile_of}
+use Rattle.crib_play.specs.Filled.{filled, points_added}
+use Rattle.crib_play.specs.Standing.{asked_seen, count_seen}
+use Rattle.crib_play.specs.Fitting.{fits_at}
+use Rattle.crib_play.specs.Legal.{MayTake, fits, cards_left}
+use Rattle.crib_play.specs.Least.{least_of}
+
+-- the opponent deals, so the owner leads; both are at 0
+abbrev level_start : Start
+level_start = record { dealer = Opponent; scores = record { owner = 0; opponent = 0 }; target = 121 }
+
+-- ---- the last card and 31
+
+-- K 8 K: the go at 28 after which nobody is heard brings 1 for the last card, with the silent go that closes
+last_card_at_28 : points_added level_start Go (reverse (Seen 13 ∷ Seen 8 ∷ Seen 13 ∷ Go ∷ [])) ≡ 1
+last_card_at_28 = refl
+
+-- K 8 K and a three: 2 for 31, and no 1 beside it
+three_makes_31 : points_added level_start (Seen 3) (reverse (Seen 13 ∷ Seen 8 ∷ Seen 13 ∷ [])) ≡ 2
+three_makes_31 = refl
+
+-- 31 closes by itself: the next player is asked over an empty pile
+asked_after_31 : asked_seen level_start (reverse (Seen 13 ∷ Seen 8 ∷ Seen 13 ∷ Seen 3 ∷ [])) ≡ turns.Owner
+asked_after_31 = refl
+
+count_after_31 : count_seen level_start (reverse (Seen 13 ∷ Seen 8 ∷ Seen 13 ∷ Seen 3 ∷ [])) ≡ 0
+count_after_31 = refl
+
+-- ---- gos said twice
+
+-- T 9 8 A, the owner says go at 28, and the opponent plays two more aces. The owner does not say go a second time: his
+-- further gos are silent. After the second ace the opponent's four cards are played, so his own go is silent too; it
+-- closes, and brings him 1.
+one_go_is_said : filled level_start (reverse (Seen 10 ∷ Seen 9 ∷ Seen 8 ∷ Seen 1 ∷ Go ∷ Seen 1 ∷ Seen 1 ∷ []))
+    ≡ reverse (Seen 10 ∷ Seen 9 ∷ Seen 8 ∷ Seen 1 ∷ Go ∷ Seen 1 ∷ Go ∷ Seen 1 ∷ Go ∷ Go ∷ [])
+one_go_is_said = refl
+
+-- 2 for the pair of aces, and then 6 for three of them and 1 for the last card
+pair_after_the_go : points_added level_start (Seen 1) (reverse (Seen 10 ∷ Seen 9 ∷ Seen 8 ∷ Seen 1 ∷ Go ∷ [])) ≡ 2
+pair_after_the_go = refl
+
+third_ace : points_added level_start (Seen 1) (reverse (Seen 10 ∷ Seen 9 ∷ Seen 8 ∷ Seen 1 ∷ Go ∷ Seen 1 ∷ [])) ≡ 7
+third_ace = refl
+
+-- ---- a run across a close
+
+-- K Q T A makes 31. A two and a three after it are no run with the ace: the pile began anew
+pile_after_a_close : pile_of (filled level_start (reverse (Seen 13 ∷ Seen 12 ∷ Seen 10 ∷ Seen 1 ∷ Seen 2 ∷ Seen 3 ∷ [])))
+    ≡ 2 ∷ 3 ∷ []
+pile_after_a_close = refl
+
+no_run_across_a_close : points_added level_start (Seen 3) (reverse (Seen 13 ∷ Seen 12 ∷ Seen 10 ∷ Seen 1 ∷ Seen 2 ∷ [])) ≡ 0
+no_run_across_a_close = refl
+
+-- nor is an ace a pair with the one that made 31
+no_pair_across_a_close : points_added level_start (Seen 1) (reverse (Seen 13 ∷ Seen 12 ∷ Seen 10 ∷ Seen 1 ∷ [])) ≡ 0
+no_pair_across_a_close = refl
+
+-- ---- a go at 22, and what it tells
+
+-- KC QC 2D: at 22 the opponent, who holds TD JD QD, may say go; with a nine in place of the ten he may not
+abbrev tens : Hands
+tens = record { owner = 48 ∷ 5 ∷ 6 ∷ 7 ∷ []; opponent = 44 ∷ 37 ∷ 41 ∷ 45 ∷ [] }
+
+abbrev nine_and_tens : Hands
+nine_and_tens = record { owner = 48 ∷ 5 ∷ 6 ∷ 7 ∷ []; opponent = 44 ∷ 33 ∷ 41 ∷ 45 ∷ [] }
+
+abbrev to_22 : List Move
+to_22 = reverse (move.Card 48 ∷ move.Card 44 ∷ move.Card 5 ∷ [])
+
+go_at_22 : MayTake tens Opponent move.Go to_22
+go_at_22 = refl
+
+no_go_with_a_nine : list_any (fits to_22) (cards_left nine_and_tens Opponent to_22) ≡ true
+no_go_with_a_nine = refl
+
+-- at 21 a king fits, so nobody who holds a card says go
+king_at_21 : fits_at 21 48 ≡ true
+king_at_21 = refl
+
+-- so a go at 22 tells that each card left counts ten, and a go at 23 nine or ten
+go_at_22_tells_tens : least_of Owner Opponent (reverse (Seen 13 ∷ Seen 12 ∷ Seen 2 ∷ Go ∷ [])) ≡ 10
+go_at_22_tells_tens = refl
+
+go_at_23_tells_nines : least_of Owner Opponent (reverse (Seen 13 ∷ Seen 12 ∷ Seen 3 ∷ Go ∷ [])) ≡ 9
+go_at_23_tells_nines = refl

@@ -1,0 +1,7 @@
+use Rattle.std.proofs.Common.{arith}
+use Rattle.crib_play.proofs.PointsLemmas.{count_of-le}
+use Rattle.crib_play.proofs.tables.Table.count.Goals as goal
+
+-- eight cards of at most ten each
+pub returns-clause-range : goal.returns-clause-range
+returns-clause-range c = omega (arith, c.self.invariant, c.has_room_for_eight.ensures, count_of-le c.self.inside.pile.items)

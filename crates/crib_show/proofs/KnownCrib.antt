@@ -1,9 +1,6 @@
 -- Points of the fifteens and pairs of some cards are points of these cards with others.
 use Rattle.std.proofs.Common.{ℕ, ◌+◌, ◌*◌, ◌≤◌, cond, List, [], ◌∷◌, ◌++◌, sum_by, arith}
-use Rattle.crib_cards.specs.declared.sides.Dealt.{Dealt}
 use Rattle.crib_show.specs.Show.{choices, crib_flush, crib_points, fifteen_points, is_fifteen, is_pair, jack_points, pair_points, run_points}
-use Rattle.crib_show.specs.Worst.{hidden_crib}
-use Rattle.crib_show.specs.declared.deals.WorstShow.{WorstShow}
 use Rattle.crib_show.proofs.Choices.{sum_by-choices}
 
 no_cards : (f : List ℕ → ℕ) (ys : List ℕ) → f [] ≤ sum_by f (choices ys)
@@ -20,18 +17,17 @@ more_choices f (x ∷ xs) ys =
     omega (arith, with_it, without, few, all)
 
 -- what the starter and the owner's throw give, each crib has
-pub known_in_crib : (worst : WorstShow) (dealt : Dealt) → fifteen_points (worst.starter ∷ worst.own_throw) + pair_points (worst.starter ∷ worst.own_throw) ≤
-    hidden_crib worst dealt
+pub known_in_crib : (starter : ℕ) (throw theirs : List ℕ) → fifteen_points (starter ∷ throw) + pair_points (starter ∷ throw) ≤
+    crib_points (throw ++ theirs) starter
 unfolding crib_points
-known_in_crib worst dealt =
-    let known = worst.starter ∷ worst.own_throw in
-    sums (fifteen_points known) (pair_points known) (fifteen_points (known ++ dealt.throw)) (pair_points (known ++ dealt.throw))
-    (run_points (known ++ dealt.throw))
-    (crib_flush (worst.own_throw ++ dealt.throw) worst.starter) (jack_points (worst.own_throw ++ dealt.throw) worst.starter)
-    (twice (sum_by (λ chosen. cond (is_fifteen chosen) 1 0) (choices known)) (sum_by (λ chosen. cond (is_fifteen chosen) 1 0) (choices (known ++ dealt.throw)))
-    (more_choices (λ chosen. cond (is_fifteen chosen) 1 0) known dealt.throw))
-    (twice (sum_by (λ chosen. cond (is_pair chosen) 1 0) (choices known)) (sum_by (λ chosen. cond (is_pair chosen) 1 0) (choices (known ++ dealt.throw)))
-    (more_choices (λ chosen. cond (is_pair chosen) 1 0) known dealt.throw))
+known_in_crib starter throw theirs =
+    let known : List ℕ = starter ∷ throw in
+    sums (fifteen_points known) (pair_points known) (fifteen_points (known ++ theirs)) (pair_points (known ++ theirs)) (run_points (known ++ theirs))
+    (crib_flush (throw ++ theirs) starter) (jack_points (throw ++ theirs) starter)
+    (twice (sum_by (λ chosen. cond (is_fifteen chosen) 1 0) (choices known)) (sum_by (λ chosen. cond (is_fifteen chosen) 1 0) (choices (known ++ theirs)))
+    (more_choices (λ chosen. cond (is_fifteen chosen) 1 0) known theirs))
+    (twice (sum_by (λ chosen. cond (is_pair chosen) 1 0) (choices known)) (sum_by (λ chosen. cond (is_pair chosen) 1 0) (choices (known ++ theirs)))
+    (more_choices (λ chosen. cond (is_pair chosen) 1 0) known theirs))
   where
     twice : (a b : ℕ) → a ≤ b → 2 * a ≤ 2 * b
     twice a b less = omega arith

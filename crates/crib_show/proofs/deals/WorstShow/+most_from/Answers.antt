@@ -23,19 +23,19 @@ pub most_from-more-requires : goal.most_from-more-requires
 most_from-more-requires t c =
     let less = rest_smaller c.args.cards c.without-cards.result c.in-Some.card c.lowest.ensures.set (sym c.in-Some.is ∙ c.lowest.ensures.first)
     c.without-cards.ensures in
-    (omega (arith, less, c.decreases), (omega arith, c.requires.bound))
+    (omega (arith, less, c.decreases), (c.requires.plain, (omega arith, c.requires.bound)))
 
 pub most_from-requires : goal.most_from-requires
 most_from-requires t c =
     let less = rest_smaller c.args.cards c.without-cards.result c.in-Some.card c.lowest.ensures.set (sym c.in-Some.is ∙ c.lowest.ensures.first)
     c.without-cards.ensures in
-    (omega (arith, less, c.decreases), (c.requires.len, c.requires.bound))
+    (omega (arith, less, c.decreases), (c.requires.plain, (c.requires.len, c.requires.bound)))
 
 pub most_from-requires-else-of-gt0 : goal.most_from-requires-else-of-gt0
 most_from-requires-else-of-gt0 t c =
     let less = rest_smaller c.args.cards c.without-cards.result c.in-Some.card c.lowest.ensures.set (sym c.in-Some.is ∙ c.lowest.ensures.first)
     c.without-cards.ensures in
-    (omega (arith, less, c.decreases), (c.requires.len, c.requires.bound))
+    (omega (arith, less, c.decreases), (c.requires.plain, (c.requires.len, c.requires.bound)))
 
 pub returns-then-of-gt0-clause-value : goal.returns-then-of-gt0-clause-value
 returns-then-of-gt0-clause-value t c =

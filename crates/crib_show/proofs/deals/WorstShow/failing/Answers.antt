@@ -5,7 +5,7 @@ use Rattle.crib_show.proofs.FailLemmas.{any_decided, any_short, by_hand, by_hand
 use Rattle.crib_show.proofs.deals.WorstShow.failing.Goals as goal
 
 pub returns-then-are_decided : goal.returns-then-are_decided
-returns-then-are_decided c = λ dealt. any_decided c.args.self.now c.requires (sym c.are_decided.ensures ∙ c.if-are_decided.true) dealt
+returns-then-are_decided c = λ dealt. any_decided c.args.self.now c.requires.fail (sym c.are_decided.ensures ∙ c.if-are_decided.true) dealt
 
 pub returns-in-Owner : goal.returns-in-Owner
 returns-in-Owner c = λ dealt. by_hand c.args.self.now (sym c.are_decided.ensures ∙ c.if-are_decided.false) c.in-Owner.is c.if-self.true dealt
@@ -17,9 +17,9 @@ returns-in-Owner-2 c = λ dealt.
     ∙ by_hand_or_crib worst (sym c.are_decided.ensures ∙ c.if-are_decided.false) c.in-Owner-2.is c.if-self.false dealt
 
 pub returns-in-Opponent : goal.returns-in-Opponent
-returns-in-Opponent c = λ dealt. by_total c.args.self.now (sym c.are_decided.ensures ∙ c.if-are_decided.false) c.requires c.in-Opponent.is c.if-self-2.true
+returns-in-Opponent c = λ dealt. by_total c.args.self.now (sym c.are_decided.ensures ∙ c.if-are_decided.false) c.requires.fail c.in-Opponent.is c.if-self-2.true
     dealt
 
 pub returns-in-Opponent-2 : goal.returns-in-Opponent-2
-returns-in-Opponent-2 c = λ dealt. any_short c.args.self.now (sym c.are_decided.ensures ∙ c.if-are_decided.false) c.requires c.in-Opponent-2.is
+returns-in-Opponent-2 c = λ dealt. any_short c.args.self.now (sym c.are_decided.ensures ∙ c.if-are_decided.false) c.requires.fail c.in-Opponent-2.is
     c.if-self-2.false dealt

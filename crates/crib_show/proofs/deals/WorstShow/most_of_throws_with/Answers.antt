@@ -16,7 +16,7 @@ loop-second-preserved c =
     c.loop-second.most c.max-most.result
     (lowest_split c.loop-second.rest c.without-rest.result c.in-Some.second c.lowest.ensures.set (sym c.in-Some.is ∙ c.lowest.ensures.first)
     c.without-rest.ensures) refl
-    (c.max-most.ensures ∙ ap (λ k. max c.loop-second.most (c.args.hand + k)) c.hidden_crib.ensures.value))
+    (c.max-most.ensures ∙ ap (λ k. max c.loop-second.most (c.args.hand + k)) c.crib_of_throw.ensures.value))
     ∙ c.loop-second.invariant
 
 pub returns : goal.returns

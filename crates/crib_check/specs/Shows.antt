@@ -1,5 +1,7 @@
 -- The deals that the show may be of.
+use Rattle.crib_show.specs.declared.deals.OwnPoints.{OwnPoints}
 use Rattle.crib_show.specs.declared.deals.WorstShow.{WorstShow}
+use Rattle.crib_show.specs.Worst.{AreOwnPoints}
 use Rattle.crib_problem.specs.Setup.{Setup, unseen_of, target_of, is_stop}
 use Rattle.crib_know.specs.Knowledge.{Knowledge}
 
@@ -17,3 +19,7 @@ worst_of problem know = record {
   fixed = know.fixed;
   stop = is_stop problem.goal;
 }
+
+-- what the show gives the owner of a problem whatever the opponent holds
+abbrev pub AreOwn : Setup → OwnPoints → Type 0
+AreOwn problem own = AreOwnPoints problem.starter problem.hold problem.thrown own

@@ -1,5 +1,5 @@
 use super::*;
-use crib_cards::Rank;
+use crib_cards::{Card, Rank};
 use crib_know::Know;
 use crib_plan::{Next, start};
 use crib_play::Turn;
@@ -15,7 +15,7 @@ fn first_key(of: &Problem, by: &Plan<Global>) -> Key {
 
 #[test]
 fn keeps_keys(rt: HostRuntime) {
-    let problem = problem(&rt, TWELVE);
+    let problem = problem(&rt, NEAR);
     let plan = plan(&rt, TWOS);
     let key = first_key(&problem, &plan);
     let mut set = KeySet::new(rt.alloc());
@@ -197,22 +197,28 @@ impl Settled for Counting {
     }
 }
 
-/// The position after three twos of the owner, each answered by a card of the opponent.
-fn after_three(rt: &(impl Abort + AllocGlobal), of: &Problem, answers: [u8; 3]) -> Key {
+/// The owner, who is asked, plays a card that he holds and that fits.
+fn play(rt: &(impl Abort + AllocGlobal), know: &mut Know, card: Card) {
+    assert!(rt; know.turn() == Turn::Owner);
+    assert!(rt; know.own_left().has(card));
+    assert!(rt; know.round().fits(card.rank()));
+    know.own_play(card);
+}
+
+/// The position after four twos of the owner, of which the opponent has answered the first three.
+fn after_four(rt: &(impl Abort + AllocGlobal), of: &Problem, answers: [u8; 3]) -> Key {
     let mut know = Know::start(of);
-    let [first, second, third, _] = of.hold();
+    let [first, second, third, last] = of.hold();
     for (card, number) in [first, second, third].into_iter().zip(answers) {
-        assert!(rt; know.turn() == Turn::Owner);
-        assert!(rt; know.own_left().has(card));
-        assert!(rt; know.round().fits(card.rank()));
-        know.own_play(card);
+        play(rt, &mut know, card);
         let rank = Rank::new(number).expect(rt, "a rank");
         assert!(rt; know.can_play(rank));
         know.saw_play(rank);
     }
+    play(rt, &mut know, last);
     Key {
         know,
-        place: Next::To(3),
+        place: Next::End,
     }
 }
 
@@ -220,9 +226,9 @@ fn after_three(rt: &(impl Abort + AllocGlobal), of: &Problem, answers: [u8; 3]) 
 fn settles_a_position_once_however_it_is_reached(rt: HostRuntime) {
     let problem = problem(&rt, TWELVE);
     let plan = plan(&rt, TWOS);
-    let wanted = after_three(&rt, &problem, [10, 9, 6]);
-    assert!(rt; wanted == after_three(&rt, &problem, [9, 10, 6]));
-    assert!(rt; wanted != after_three(&rt, &problem, [9, 10, 5]));
+    let wanted = after_four(&rt, &problem, [10, 9, 6]);
+    assert!(rt; wanted == after_four(&rt, &problem, [9, 10, 6]));
+    assert!(rt; wanted != after_four(&rt, &problem, [9, 10, 4]));
     let mut table = Counting {
         set: KeySet::new(rt.alloc()),
         wanted,

@@ -1,0 +1,32 @@
+-- What the code's walk finds at a position.
+use Rattle.std.specs.Prelude.{◌≡◌, ◌+◌, ◌≤◌, List, length, Option, Some, None}
+use Rattle.crib_cards.specs.declared.sides.Dealt.{Dealt}
+use Rattle.crib_cards.specs.declared.moves.Act.{Act}
+use Rattle.crib_play.specs.History.{Event}
+use Rattle.crib_problem.specs.Setup.{Setup, played_back}
+use Rattle.crib_plan.specs.declared.plan.Node.{Node}
+use Rattle.crib_game.specs.declared.game.Game.{Game}
+use Rattle.crib_game.specs.Replay.{acts_back}
+use Rattle.crib_check.specs.declared.keys.Key.{Key}
+use Rattle.crib_check.specs.declared.failure.Failure.{Failure}
+use Rattle.crib_check.specs.Histories.{later_of_trail}
+use Rattle.crib_check.specs.Positions.{IsSettled, IsFirstFrom}
+use Rattle.crib_check.specs.Suits.{acts_in_suits}
+
+-- the game of a deal and of the acts of a trail, which come after those that are played already
+pub record IsGameOf (problem : Setup) (dealt : Dealt) (trail : List Act) (game : Game) : Type 0 where
+  pub deal : game.opp ≡ dealt
+  pub acts : acts_back game ≡ acts_in_suits dealt.hold (played_back problem) (later_of_trail trail)
+
+-- the walk stopped after the acts of a trail: in the game of these and of the deal, the plan fails first
+pub record IsStoppedBy
+    (problem : Setup) (plan : List Node) (history : List Event) (trail : List Act) (failure : Failure)
+    : Type 0 where
+  pub room : length problem.played + length trail ≤ 32
+  pub first : (game : Game) → IsGameOf problem failure.dealt trail game →
+      IsFirstFrom problem plan history game failure.ending
+
+-- what is found at a position that a history led to: that it is settled, or where the plan fails first
+abbrev pub IsFoundFrom : Setup → List Node → Key → List Event → List Act → Option Failure → Type 0
+IsFoundFrom problem plan key history trail None = IsSettled problem plan key
+IsFoundFrom problem plan key history trail (Some failure) = IsStoppedBy problem plan history trail failure

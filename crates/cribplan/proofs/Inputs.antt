@@ -2,7 +2,7 @@
 use Rattle.std.proofs.Common.{◌≡◌, ℕ, ◌+◌, ◌≤◌, Bool, true, false, not, cond, List, [], ◌∷◌, ◌++◌, length, map, flat_map, Result, Ok, Err}
 use Rattle.std.proofs.Common.{codes, decimal, refl, sym, ap, ◌∙◌, subst, append_assoc, arith}
 use Rattle.std.proofs.lemmas.Bool.{le-leb, and_from}
-use Rattle.std.proofs.lemmas.List.{append-nil}
+use Rattle.std.proofs.lemmas.List.{append-nil, length-append}
 use Rattle.std.proofs.lemmas.List.Folds.{list_all-append}
 use Rattle.std.specs.Prelude.{nat_le}
 use Rattle.std.specs.List.{list_all}
@@ -20,13 +20,15 @@ use Rattle.crib_problem.specs.Reading.{problem_at}
 use Rattle.crib_problem.proofs.Found.{problem_found}
 use Rattle.crib_problem.proofs.Spelled.{lines_spelled}
 use Rattle.crib_problem.proofs.Proved.{lines_are_words}
+use Rattle.crib_problem.proofs.Lengths.{problem_text-le}
 use Rattle.crib_plan.specs.declared.plan.Node.{Node}
-use Rattle.crib_plan.specs.Nodes.{AreNodes, ArePlan}
-use Rattle.crib_plan.specs.Spelling.{node_line, node_lines, plan_lines, plan_text}
+use Rattle.crib_plan.specs.Nodes.{ArePlan}
+use Rattle.crib_plan.specs.Spelling.{plan_lines, plan_text}
 use Rattle.crib_plan.specs.Reading.{count_at, plan_at}
+use Rattle.crib_plan.proofs.Apart.{plan_are_lines}
 use Rattle.crib_plan.proofs.Found.{plan_found}
+use Rattle.crib_plan.proofs.Lengths.{plan_text-le}
 use Rattle.crib_plan.proofs.Spelled.{plan_spelled}
-use Rattle.crib_plan.proofs.WordLemmas.{node_words}
 use Rattle.cribplan.specs.Input.{most_bytes, input_lines, problem_alone_at, problem_of_input, question_at, question_of_input}
 use Rattle.cribplan.specs.Laws.{SpellsProblem, SpellsPlan}
 use Rattle.cribplan.proofs.Setups.{setup_read}
@@ -122,20 +124,6 @@ question_accepted input question e =
 
 -- ---- what is spelled so is accepted
 
-nodes_words : (place count : ℕ) (nodes : List Node) → place + length nodes ≤ 65535 → count ≤ 65535 → AreNodes place count nodes
-    → list_all are_words (node_lines place nodes) ≡ true
-nodes_words place count [] few fewer are = refl
-nodes_words place count (node ∷ nodes) few fewer are =
-    and_from (are_words (node_line place node)) _ (node_words place count node (omega arith) fewer are.0)
-    (nodes_words (place + 1) count nodes (omega arith) fewer are.1)
-
-plan_words : (plan : List Node) → ArePlan plan → list_all are_words (plan_lines plan) ≡ true
-unfolding plan_lines
-plan_words plan is =
-    let few = is.0 in
-    let count = and_from (is_word (decimal (length plan))) true (is_word-decimal (length plan) (omega arith)) refl in
-    and_from (are_words (codes "nodes" ∷ decimal (length plan) ∷ [])) _ count (nodes_words 0 (length plan) plan (omega arith) few is.1)
-
 texts_joined : (lines more : List (List (List ℕ))) → lines_text (lines ++ more) ≡ lines_text lines ++ lines_text more
 texts_joined [] more = refl
 texts_joined (words ∷ lines) more = ap (λ (text : List ℕ). line_text words ++ text) (texts_joined lines more)
@@ -163,14 +151,26 @@ question_asked : (rest : Rest) (problem : Setup) (plan : List Node) (after last 
 unfolding question_at
 question_asked rest problem plan after last e f none = rw (e, f, none) refl
 
+-- a problem and the longest plan take no more bytes than an input may have
+spelled_fits : (input : List ℕ) (problem : Setup) (plan : List Node) → SpellsPlan input problem plan → length input ≤ most_bytes
+spelled_fits input problem plan spelled = omega (
+  arith,
+  ap length spelled.text,
+  length-append (problem_text problem) (plan_text plan),
+  problem_text-le problem spelled.problem_is,
+  plan_text-le plan spelled.plan_is,
+  spelled.plan_is.0,
+)
+
 -- the spelling of a problem and a plan asks `check` of them
-pub question_spelled : (input : List ℕ) (problem : Setup) (plan : List Node) → SpellsPlan input problem plan → length input ≤ most_bytes
+pub question_spelled : (input : List ℕ) (problem : Setup) (plan : List Node) → SpellsPlan input problem plan
     → question_of_input input ≡ Ok (problem, plan)
 unfolding question_of_input problem_text plan_text
-question_spelled input problem plan spelled few =
+question_spelled input problem plan spelled =
+    let few = spelled_fits input problem plan spelled in
     let lines = problem_lines problem ++ plan_lines plan in
     let words : list_all are_words lines ≡ true = list_all-append are_words (problem_lines problem) (plan_lines plan)
-    ∙ and_from _ _ (lines_are_words problem spelled.problem_is) (plan_words plan spelled.plan_is) in
+    ∙ and_from _ _ (lines_are_words problem spelled.problem_is) (plan_are_lines plan spelled.plan_is) in
     let taken = lines_taken input lines few (spelled.text ∙ sym (texts_joined (problem_lines problem) (plan_lines plan))) words in
     let plans : List (List ℕ) = map line_bytes (plan_lines plan) in
     let whole : Rest = record { number = 1; lines = map line_bytes lines } in

@@ -128,20 +128,20 @@ either_verdict Holds reply is = inl is
 either_verdict (Fails result game) reply is = inr (result, game, is)
 
 pub either_law : EitherLaw
-either_law input problem plan reply spelled few answers =
+either_law input problem plan reply spelled answers =
     let A : Result (Setup × List Node) Refusal → Type 0 = λ said. AnswersCheck said reply in
-    let asked = subst A (question_spelled input problem plan spelled few) answers in
+    let asked = subst A (question_spelled input problem plan spelled) answers in
     either_verdict asked.0 reply asked.2
 
 pub sure_owed : SureLaw
-sure_owed input problem plan spelled few sure =
+sure_owed input problem plan spelled sure =
     let A : Result (Setup × List Node) Refusal → Type 0 = λ said. AnswersCheck said (verdict_reply Holds) in
-    subst A (sym (question_spelled input problem plan spelled few)) (Holds, sure, refl)
+    subst A (sym (question_spelled input problem plan spelled)) (Holds, sure, refl)
 
 pub failing_owed : FailingLaw
-failing_owed input problem plan result game spelled few first =
+failing_owed input problem plan result game spelled first =
     let A : Result (Setup × List Node) Refusal → Type 0 = λ said. AnswersCheck said (verdict_reply (Fails result game)) in
-    subst A (sym (question_spelled input problem plan spelled few)) (Fails result game, first, refl)
+    subst A (sym (question_spelled input problem plan spelled)) (Fails result game, first, refl)
 
 -- ---- solve
 

@@ -1,5 +1,5 @@
 -- What a reader may take from what the program writes, from the bytes that come in to the bytes that go out.
-use Rattle.std.specs.Prelude.{◌≡◌, ◌≤◌, ◌⊎◌, ℕ, List, [], ◌∷◌, ◌++◌, length, Option, Some, Result, Ok, codes}
+use Rattle.std.specs.Prelude.{◌≡◌, ◌⊎◌, ℕ, List, [], ◌∷◌, ◌++◌, Option, Some, Result, Ok, codes}
 use Rattle.std.specs.Io.KnownBytes.{Appends}
 use Rattle.crib_text.specs.Device.{HasFailed}
 use Rattle.crib_text.specs.Refusals.{Refusal, cut_short}
@@ -21,7 +21,7 @@ use Rattle.cribplan.specs.declared.job.Job.{Job}
 use Rattle.cribplan.specs.declared.job.Job.TheVariants.{Replay, Follow, Check, Solve, Board}
 use Rattle.cribplan.specs.declared.status.Status.{Status}
 use Rattle.cribplan.specs.declared.status.Status.TheVariants.{Yes, No}
-use Rattle.cribplan.specs.Input.{most_bytes, report_of_input, ending_of_input, question_of_input}
+use Rattle.cribplan.specs.Input.{report_of_input, ending_of_input, question_of_input}
 use Rattle.cribplan.specs.Input.{problem_of_input, board_of_input}
 use Rattle.cribplan.specs.Answer.{Reply, Answers, ending_word, refusal_reply, verdict_reply}
 use Rattle.cribplan.specs.Run.{Delivers}
@@ -125,21 +125,21 @@ FailsLaw =
 abbrev pub EitherLaw : Type 0
 EitherLaw =
     (input : List ℕ) (problem : Setup) (plan : List Node) (reply : Reply) → SpellsPlan input problem plan →
-    length input ≤ most_bytes → Answers Check input reply →
+    Answers Check input reply →
     (reply ≡ verdict_reply Holds) ⊎ ((result : Ending) × (game : Game) × (reply ≡ verdict_reply (Fails result game)))
 
 -- `holds` is owed wherever the plan is sure
 abbrev pub SureLaw : Type 0
 SureLaw =
-    (input : List ℕ) (problem : Setup) (plan : List Node) → SpellsPlan input problem plan →
-    length input ≤ most_bytes → IsSure problem plan → Answers Check input (verdict_reply Holds)
+    (input : List ℕ) (problem : Setup) (plan : List Node) → SpellsPlan input problem plan → IsSure problem plan →
+    Answers Check input (verdict_reply Holds)
 
 -- and `fails` wherever there is a first failing game
 abbrev pub FailingLaw : Type 0
 FailingLaw =
     (input : List ℕ) (problem : Setup) (plan : List Node) (result : Ending) (game : Game) →
-    SpellsPlan input problem plan → length input ≤ most_bytes →
-    IsFirstFailing problem plan game result → Answers Check input (verdict_reply (Fails result game))
+    SpellsPlan input problem plan → IsFirstFailing problem plan game result →
+    Answers Check input (verdict_reply (Fails result game))
 
 -- ---- solve
 

@@ -1,11 +1,11 @@
 -- Each beginning of an accepted input is refused as cut short, whatever the command.
-use Rattle.std.proofs.Common.{◌≡◌, ℕ, zero, suc, ◌+◌, ◌≤◌, Bool, true, false, cond, List, [], ◌∷◌, ◌++◌, length, Result, Ok, Err}
-use Rattle.std.proofs.Common.{codes, refl, sym, ap, ◌∙◌, subst, arith, length-append}
+use Rattle.std.proofs.Common.{◌≡◌, ℕ, ◌≤◌, Bool, true, false, cond, List, [], ◌∷◌, ◌++◌, length, Result, Ok, Err}
+use Rattle.std.proofs.Common.{refl, sym, ap, ◌∙◌, subst, arith, length-append}
 use Rattle.std.specs.Prelude.{nat_le}
 use Rattle.std.proofs.lemmas.Bool.{le-leb, leb-true}
 use Rattle.crib_text.specs.Refusals.{Refusal}
 use Rattle.crib_text.specs.Words.{line_after}
-use Rattle.crib_text.specs.Reading.{◌>>=◌, Rest, all_lines, value_at, header_in, end_at, no_line}
+use Rattle.crib_text.specs.Reading.{◌>>=◌, Rest, all_lines, end_at, no_line}
 use Rattle.crib_text.proofs.ReadingLemmas.{bind_ok}
 use Rattle.crib_text.proofs.Steady.{IsSteady, from_line, missing, steady_ok, steady_then, text_cut}
 use Rattle.crib_problem.specs.Reading.{problem_at}

@@ -1,6 +1,6 @@
 -- What the inputs that are accepted spell, and that such spellings are accepted.
 use Rattle.std.proofs.Common.{◌≡◌, ℕ, ◌+◌, ◌≤◌, Bool, true, false, not, cond, List, [], ◌∷◌, ◌++◌, length, map, flat_map, Result, Ok, Err}
-use Rattle.std.proofs.Common.{codes, decimal, refl, sym, ap, ◌∙◌, subst, append_assoc, arith}
+use Rattle.std.proofs.Common.{refl, sym, ap, ◌∙◌, subst, append_assoc, arith}
 use Rattle.std.proofs.lemmas.Bool.{le-leb, and_from}
 use Rattle.std.proofs.lemmas.List.{append-nil, length-append}
 use Rattle.std.proofs.lemmas.List.Folds.{list_all-append}
@@ -12,7 +12,7 @@ use Rattle.crib_text.specs.Words.{lines_of, is_ended}
 use Rattle.crib_text.specs.Reading.{◌>>=◌, Rest, checked, all_lines, end_at, no_line}
 use Rattle.crib_text.specs.Laws.{ended_line}
 use Rattle.crib_text.proofs.LineLaws.{lines_law}
-use Rattle.crib_text.proofs.SpellingLemmas.{are_words, is_word, is_word-decimal, all_lines-lines_text}
+use Rattle.crib_text.proofs.SpellingLemmas.{are_words, all_lines-lines_text}
 use Rattle.crib_text.proofs.ReadingLemmas.{bind_ok, ok_is}
 use Rattle.crib_problem.specs.Setup.{Setup}
 use Rattle.crib_problem.specs.Spelling.{problem_lines, problem_text}
@@ -30,7 +30,7 @@ use Rattle.crib_plan.proofs.Found.{plan_found}
 use Rattle.crib_plan.proofs.Lengths.{plan_text-le}
 use Rattle.crib_plan.proofs.Spelled.{plan_spelled}
 use Rattle.cribplan.specs.Input.{most_bytes, input_lines, problem_alone_at, problem_of_input, question_at, question_of_input}
-use Rattle.cribplan.specs.Laws.{SpellsProblem, SpellsPlan}
+use Rattle.cribplan.specs.Telling.{SpellsProblem, SpellsPlan}
 use Rattle.cribplan.proofs.Setups.{setup_read}
 
 -- ---- the text as a whole
@@ -180,3 +180,20 @@ question_spelled input problem plan spelled =
     let left : Rest = record { number = second.0; lines = [] } in
     ap (λ (read : Result Rest Refusal). read >>= question_at) taken
     ∙ question_asked whole problem plan last left first second.1 (nothing_left left refl)
+
+problem_asked_alone : (rest : Rest) (problem : Setup) (last : Rest) → problem_at rest ≡ Ok (problem, last) → end_at last ≡ Ok tt
+    → problem_alone_at rest ≡ Ok problem
+unfolding problem_alone_at
+problem_asked_alone rest problem last e none = rw (e, none) refl
+
+-- the spelling of a problem asks `solve` of it
+pub problem_spelled : (input : List ℕ) (problem : Setup) → SpellsProblem input problem → problem_of_input input ≡ Ok problem
+unfolding problem_of_input problem_text
+problem_spelled input problem spelled =
+    let lines = problem_lines problem in
+    let few : length input ≤ most_bytes = omega (arith, ap length spelled.text, problem_text-le problem spelled.problem_is) in
+    let taken = lines_taken input lines few spelled.text (lines_are_words problem spelled.problem_is) in
+    let whole : Rest = record { number = 1; lines = map line_bytes lines } in
+    let last : Rest = record { number = 1 + length lines; lines = [] } in
+    let first = lines_spelled whole problem [] spelled.problem_is (sym (append-nil (map line_bytes lines))) in
+    ap (λ (read : Result Rest Refusal). read >>= problem_alone_at) taken ∙ problem_asked_alone whole problem last first (nothing_left last refl)

@@ -22,7 +22,8 @@ use Rattle.crib_search.proofs.Proved.{sure_law, none_law}
 use Rattle.cribplan.specs.declared.job.Job.TheVariants.{Replay, Follow, Check, Solve, Board}
 use Rattle.cribplan.specs.Input.{problem_of_input, question_of_input}
 use Rattle.cribplan.specs.Answer.{Reply, AnswersCheck, AnswersProblem, AnswersSolve, refusal_reply, verdict_reply, found_reply, fault_reply, too_large}
-use Rattle.cribplan.specs.Laws.{holds_line, fails_line, none_line, OneReplyLaw, HoldsLaw, FailsLaw, EitherLaw, SureLaw, FailingLaw, PlanLaw, NoneLaw}
+use Rattle.cribplan.specs.Laws.{OneReplyLaw, HoldsLaw, FailsLaw, EitherLaw, SureLaw, FailingLaw, PlanLaw, NoneLaw}
+use Rattle.cribplan.specs.Telling.{holds_line, fails_line, none_line}
 use Rattle.cribplan.proofs.Inputs.{problem_accepted, question_accepted, question_spelled}
 
 -- ---- texts are told apart by their first byte

@@ -1,7 +1,6 @@
 //! The laws of what the program answers. Each function does nothing; its contract is the laws.
 ghost use Rattle.cribplan.specs.Laws.{CutShortLaw, EitherLaw, FailingLaw, FailsLaw, HoldsLaw, OneReplyLaw, SureLaw};
 ghost use Rattle.cribplan.specs.Laws.{NoneLaw, PlanLaw};
-ghost use Rattle.cribplan.specs.Laws.{FailedLaw, HeldLaw, SolvedLaw, UnsolvedLaw};
 
 /// What holds of every command.
 ///
@@ -32,12 +31,4 @@ pub fn check_law()
 pub fn solve_law()
     ensures plan { PlanLaw }
     ensures none { NoneLaw }
-{}
-
-/// What the exit statuses 0 and 1 of a run tell of the input that it was given, and what it has then written.
-pub fn status_law()
-    ensures held { HeldLaw }
-    ensures failed { FailedLaw }
-    ensures solved { SolvedLaw }
-    ensures unsolved { UnsolvedLaw }
 {}

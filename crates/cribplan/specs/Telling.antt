@@ -1,0 +1,110 @@
+-- What the exit status of a run of `check` or `solve` tells of the input that it was given.
+use Rattle.std.specs.Prelude.{◌≡◌, ◌⊎◌, ℕ, List, [], ◌∷◌, ◌++◌, Option, codes}
+use Rattle.std.specs.Io.KnownBytes.{Appends}
+use Rattle.crib_text.specs.Refusals.{no_memory}
+use Rattle.crib_text.specs.Spelling.{line_text}
+use Rattle.crib_problem.specs.Setup.{Setup, IsSetup}
+use Rattle.crib_problem.specs.Spelling.{problem_text}
+use Rattle.crib_plan.specs.declared.plan.Node.{Node}
+use Rattle.crib_plan.specs.Nodes.{ArePlan}
+use Rattle.crib_plan.specs.Spelling.{plan_text}
+use Rattle.crib_game.specs.declared.game.Game.{Game}
+use Rattle.crib_game.specs.declared.ending.Ending.{Ending}
+use Rattle.crib_game.specs.Spelling.{game_text}
+use Rattle.crib_check.specs.Sure.{IsSure}
+use Rattle.crib_check.specs.Failing.{IsFirstFailing}
+use Rattle.crib_search.specs.Winnable.{IsWinnable}
+use Rattle.cribplan.specs.declared.job.Job.{Job}
+use Rattle.cribplan.specs.declared.job.Job.TheVariants.{Replay, Follow, Check, Solve, Board}
+use Rattle.cribplan.specs.declared.status.Status.{Status}
+use Rattle.cribplan.specs.declared.status.Status.TheVariants.{Yes, No, Refused, Fault}
+use Rattle.cribplan.specs.Answer.{ending_word, fault_line, too_large}
+
+-- ---- what an input spells
+
+-- an input is the spelling of a problem and nothing else
+pub record SpellsProblem (input : List ℕ) (problem : Setup) : Type 0 where
+  pub problem_is : IsSetup problem
+  pub text : input ≡ problem_text problem
+
+-- an input is the spelling of a problem, then that of a plan, and nothing else
+pub record SpellsPlan (input : List ℕ) (problem : Setup) (plan : List Node) : Type 0 where
+  pub problem_is : IsSetup problem
+  pub plan_is : ArePlan plan
+  pub text : input ≡ problem_text problem ++ plan_text plan
+
+-- an input spells a problem, and a plan that is sure for it
+pub record HasSurePlan (input : List ℕ) : Type 0 where
+  pub problem : Setup
+  pub plan : List Node
+  pub spelled : SpellsPlan input problem plan
+  pub sure : IsSure problem plan
+
+-- an input spells a problem and a plan, and a text is the spelling of the first game in which this plan fails, with
+-- this ending
+pub record HasFailingPlan (input : List ℕ) (result : Ending) (text : List ℕ) : Type 0 where
+  pub problem : Setup
+  pub plan : List Node
+  pub game : Game
+  pub spelled : SpellsPlan input problem plan
+  pub game_is : text ≡ game_text game
+  pub first : IsFirstFailing problem plan game result
+
+-- an input spells a problem, and a text is the spelling of a plan that is sure for it
+pub record IsSolvedBy (input text : List ℕ) : Type 0 where
+  pub problem : Setup
+  pub plan : List Node
+  pub spelled : SpellsProblem input problem
+  pub plan_is : text ≡ plan_text plan
+  pub sure : IsSure problem plan
+
+-- an input spells a problem for which no plan is sure
+pub record HasNoPlan (input : List ℕ) : Type 0 where
+  pub problem : Setup
+  pub spelled : SpellsProblem input problem
+  pub none : ¬ IsWinnable problem
+
+-- an input spells a problem for which some plan is sure
+pub record HasSomePlan (input : List ℕ) : Type 0 where
+  pub problem : Setup
+  pub spelled : SpellsProblem input problem
+  pub some : IsWinnable problem
+
+-- ---- the lines that tell it
+
+abbrev pub holds_line : List ℕ
+holds_line = line_text (codes "holds" ∷ [])
+
+abbrev pub fails_line : Ending → List ℕ
+fails_line result = line_text (codes "fails" ∷ ending_word result ∷ [])
+
+abbrev pub none_line : List ℕ
+none_line = line_text (codes "none" ∷ [])
+
+-- ---- what a status tells
+
+-- what a run of `check` tells: the plan is sure, or it fails first in the game that is written, or the input spells no
+-- problem and plan, or a device failed, or there was no memory
+abbrev pub CheckTells : List ℕ → Option (List ℕ) → Option (List ℕ) → Type 0 → Status → Type 0
+CheckTells input old new failed Yes = HasSurePlan input × Appends old new holds_line
+CheckTells input old new failed No =
+    (result : Ending) × (text : List ℕ) × HasFailingPlan input result text × Appends old new (fails_line result ++ text)
+CheckTells input old new failed Refused = (problem : Setup) (plan : List Node) → ¬ SpellsPlan input problem plan
+CheckTells input old new failed Fault = failed ⊎ Appends old new (fault_line no_memory)
+
+-- what a run of `solve` tells: the plan that is written is sure, or no plan is, or the input spells no problem, or a
+-- device failed, or there was no memory, or there is a sure plan but the one that was found has too many nodes
+abbrev pub SolveTells : List ℕ → Option (List ℕ) → Option (List ℕ) → Type 0 → Status → Type 0
+SolveTells input old new failed Yes = (text : List ℕ) × IsSolvedBy input text × Appends old new text
+SolveTells input old new failed No = HasNoPlan input × Appends old new none_line
+SolveTells input old new failed Refused = (problem : Setup) → ¬ SpellsProblem input problem
+SolveTells input old new failed Fault =
+    failed ⊎ Appends old new (fault_line no_memory) ⊎ (HasSomePlan input × Appends old new (fault_line too_large))
+
+-- what a run tells by its status
+abbrev pub StatusTells : Job → List ℕ → Option (List ℕ) → Option (List ℕ) → Type 0 → Status → Type 0
+StatusTells Check input old new failed ended = CheckTells input old new failed ended
+StatusTells Solve input old new failed ended = SolveTells input old new failed ended
+StatusTells Replay input old new failed ended = Unit {0}
+StatusTells Follow input old new failed ended = Unit {0}
+StatusTells Board input old new failed ended = Unit {0}

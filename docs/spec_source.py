@@ -95,7 +95,7 @@ class Function:
 
 
 def functions_of(path):
-    """The functions that a file of src declares, in traits and in impls as well."""
+    """The functions and the ghost members that a file of src declares, in traits and in impls as well."""
     lines, owner, in_trait = path.read_text().splitlines(), None, False
     for n, line in enumerate(lines):
         if line == "}":
@@ -104,6 +104,10 @@ def functions_of(path):
         if block:
             words = re.sub(r"<[^<>]*>", "", re.sub(r"<[^<>]*>", "", block[2])).split(" where ")[0]
             owner, in_trait = re.findall(r"\w+", words.split(":")[0])[-1], " for " in words or block[1] == "trait"
+        told = re.match(r"    ghost (\w+) = ", line)
+        if told:
+            end = next(m for m in range(n, len(lines)) if lines[m].endswith("};"))
+            yield Function(path, told[1], owner, in_trait, lines[n:end + 1])
         found = re.match(r"\s*(pub )?(?:pub\(\w+\) )?(?:const )?fn (\w+)", line)
         if found:
             ends = (m for m in range(n, len(lines)) if lines[m].strip() in ("{", "{}") or lines[m].endswith(";"))

@@ -10,7 +10,8 @@ use Rattle.crib_plan.specs.declared.plan.Next.TheVariants.{End, To}
 use Rattle.crib_plan.specs.declared.plan.Node.{Node}
 use Rattle.crib_plan.specs.declared.plan.Node.TheVariants.{Play, See}
 use Rattle.crib_plan.specs.Nodes.{most_nodes, IsLater, IsNode, AreNodes, ArePlan}
-use Rattle.crib_plan.specs.Spelling.{next_word, node_line, node_lines, nodes_of, spaced_branch, plan_text}
+use Rattle.crib_plan.specs.Spelling.{next_word, node_line, node_lines, nodes_of, plan_text}
+use Rattle.crib_plan.specs.Inside.Spelling.{spaced_branch}
 use Rattle.crib_plan.proofs.Written.{branches_len, small_nodes, node_fewer, play_text, see_text, head_text}
 
 next_short : (place : ℕ) (next : Next) → IsLater place most_nodes next → length (next_word next) ≤ 5

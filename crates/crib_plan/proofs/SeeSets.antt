@@ -9,7 +9,8 @@ use Rattle.crib_plan.specs.declared.plan.Next.{Next}
 use Rattle.crib_plan.specs.declared.plan.Next.TheVariants.{End, To}
 use Rattle.crib_plan.specs.Reading.{begins, letters_read, is_end, are_free, led_by}
 use Rattle.crib_plan.specs.SeeLaws.{AreInOrder}
-use Rattle.crib_plan.proofs.BranchFound.{chosen, or_rest}
+use Rattle.crib_plan.proofs.BranchFound.{chosen}
+use Rattle.crib_plan.proofs.LeadsTo.{or_rest}
 
 -- ---- letters in order
 

@@ -10,7 +10,7 @@ use Rattle.crib_cards.specs.declared.moves.Move.TheVariants as move
 use Rattle.crib_play.specs.declared.turns.Turn.TheVariants as turns
 use Rattle.crib_play.specs.Record.{pile_of}
 use Rattle.crib_play.specs.Filled.{filled, points_added}
-use Rattle.crib_play.specs.Standing.{asked_seen, count_seen}
+use Rattle.crib_play.proofs.Seen.{asked_seen, count_seen}
 use Rattle.crib_play.specs.Fitting.{fits_at}
 use Rattle.crib_play.specs.Legal.{MayTake, fits, cards_left}
 use Rattle.crib_play.specs.Least.{least_of}

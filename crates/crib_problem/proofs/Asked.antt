@@ -2,6 +2,7 @@
 use Rattle.std.proofs.Common.{◌≡◌, ℕ, zero, suc, ◌+◌, ◌≤◌, Bool, true, false, cond, not, ◌&&◌, ◌||◌, eqb, leb, ltb, List, [], ◌∷◌, length, Option, Some, None}
 use Rattle.std.proofs.Common.{refl, sym, ap, ◌∙◌, inl, inr, arith}
 use Rattle.std.specs.List.{list_any}
+use Rattle.std.specs.Option.{option_or}
 use Rattle.std.proofs.lemmas.Bool.{cases_Bool, cases_lt, and_parts, both_ways, not-false, leb-true, leb-false, lt-ltb, ltb-true, eqb-true}
 use Rattle.crib_cards.specs.Cards.{rank_of, rank_value, card_value}
 use Rattle.crib_cards.specs.Sets.{has, set_where, set_without}
@@ -14,32 +15,34 @@ use Rattle.crib_cards.specs.declared.letters.Letter.TheVariants.{Seen, Go}
 use Rattle.crib_cards.specs.declared.moves.Move.{Move}
 use Rattle.crib_cards.specs.declared.moves.Move.TheVariants as move
 use Rattle.crib_cards.specs.declared.moves.Act.{Act}
-use Rattle.crib_cards.proofs.SetLemmas.{set_where_agree, has-set_where, IsCardSet-set_where}
+use Rattle.crib_cards.proofs.SetLemmas.{set_where_agree, has-set_where, IsCardSet-set_where, eqb_turned}
 use Rattle.crib_cards.proofs.SetFacts.{in_set_where}
 use Rattle.crib_cards.proofs.SetCounts.{length-set_without}
 use Rattle.crib_play.specs.declared.turns.Turn.{Turn}
 use Rattle.crib_play.specs.declared.turns.Turn.TheVariants as turns
 use Rattle.crib_play.specs.Record as plays
 use Rattle.crib_play.specs.Record.{Record, count_of, pile_of, mover, has_said_go, is_heard}
-use Rattle.crib_play.specs.Score.{is_done, side_asked, asked_after}
+use Rattle.crib_play.specs.Score.{side_asked, asks}
 use Rattle.crib_play.specs.Filled.{is_silent_next, with_silent_gos}
 use Rattle.crib_play.specs.Standing.{MayShow, AreTaken, IsStart}
 use Rattle.crib_play.specs.Legal.{letters_of}
 use Rattle.crib_play.specs.History.{moves_of}
 use Rattle.crib_play.specs.Fitting.{fits_at}
+use Rattle.crib_play.specs.Least.{least_with_go}
 use Rattle.crib_play.proofs.CardLemmas.{one_fails}
 use Rattle.crib_play.proofs.Plays.{played_card, played_go}
+use Rattle.crib_play.proofs.Least.{least_card, least_other, least_go}
+use Rattle.crib_play.proofs.Reached.{asked_mover}
 use Rattle.crib_play.proofs.Visible.{heard-filled}
 use Rattle.crib_problem.specs.Refusals.{same_card, not_turn, not_held, does_not_fit, must_play, no_deal, already_over}
-use Rattle.crib_problem.specs.Played.{Board, cards_played, record_by, count_by_acts, asked_by, is_asked, own_left_by, seen_by, least_by, shows_seen}
-use Rattle.crib_problem.specs.Played.{move_refusal, turn_refusal, or_then, is_over_by, AreAllowed}
+use Rattle.crib_problem.specs.Played.{Board, cards_played, record_by, count_by_acts, asked_by, own_left_by, seen_by, least_by, shows_seen}
+use Rattle.crib_problem.specs.Played.{move_refusal, turn_refusal, is_over_by, AreAllowed}
 use Rattle.crib_problem.specs.Setup.{Setup, IsSetup, board_of}
-use Rattle.crib_problem.specs.Tables.{Keeps}
+use Rattle.crib_problem.specs.Inside.Tables.{Keeps}
 use Rattle.crib_problem.proofs.Starts.{started, hold_known, hold_is_card, hold_four}
-use Rattle.crib_problem.proofs.CardLemmas.{eqb_sym}
 
 -- ---- what is not refused
-none_of_two : (a b : Bool) (x y : ℕ) (rest : Option ℕ) → cond a (Some x) (cond b (Some y) rest) ≡ None → (a ≡ false) × (b ≡ false) × (rest ≡ None)
+pub none_of_two : (a b : Bool) (x y : ℕ) (rest : Option ℕ) → cond a (Some x) (cond b (Some y) rest) ≡ None → (a ≡ false) × (b ≡ false) × (rest ≡ None)
 none_of_two true b x y rest e = absurd cc
 none_of_two false true x y rest e = absurd cc
 none_of_two false false x y rest e = (refl, refl, e)
@@ -48,42 +51,29 @@ none_of_one : (a : Bool) (x : ℕ) → cond a (Some x) None ≡ None → a ≡ f
 none_of_one true x e = absurd cc
 none_of_one false x e = refl
 
-or_then_none : (first second : Option ℕ) → or_then first second ≡ None → (first ≡ None) × (second ≡ None)
-or_then_none None second e = (refl, e)
-or_then_none (Some number) second e = absurd cc
+pub none_of_either : (first second : Option ℕ) → option_or first second ≡ None → (first ≡ None) × (second ≡ None)
+none_of_either None second e = (refl, e)
+none_of_either (Some number) second e = absurd cc
 
 -- the parts of an act that may be the next one
 pub record MayTurn (seen : List ℕ) (asked : Turn) (count : ℕ) (own : List ℕ) (least : ℕ) (act : Act) : Type 0 where
   pub unseen : shows_seen seen act.side act.what ≡ false
-  pub turn : is_asked asked act.side ≡ true
+  pub turn : asks asked act.side ≡ true
   pub may : move_refusal count own least act.side act.what ≡ None
 
 pub may_turn : (seen : List ℕ) (asked : Turn) (count : ℕ) (own : List ℕ) (least : ℕ) (act : Act) → turn_refusal seen asked count own least act ≡ None →
     MayTurn seen asked count own least act
 may_turn seen asked count own least act e =
-    let parts = none_of_two (shows_seen seen act.side act.what) (not (is_asked asked act.side)) same_card not_turn
+    let parts = none_of_two (shows_seen seen act.side act.what) (not (asks asked act.side)) same_card not_turn
     (move_refusal count own least act.side act.what) e in
-    record { unseen = parts.0; turn = not-false (is_asked asked act.side) parts.1; may = parts.2 }
+    record { unseen = parts.0; turn = not-false (asks asked act.side) parts.1; may = parts.2 }
 
-pub asked_open : (asked : Turn) (side : Side) → is_asked asked side ≡ true → asked ≡ side_asked side
+pub asked_open : (asked : Turn) (side : Side) → asks asked side ≡ true → asked ≡ side_asked side
 asked_open turns.Owner Owner e = refl
 asked_open turns.Owner Opponent e = absurd cc
 asked_open turns.Opponent Owner e = absurd cc
 asked_open turns.Opponent Opponent e = refl
 asked_open turns.Over side e = absurd cc
-
--- who is asked is the side to move, and the deal is not done
-pub asked_mover : (start : Start) (past : Record) (side : Side) → asked_after start past ≡ side_asked side → (is_done start past ≡ false) ×
-    (mover (pone_of start) past ≡ side)
-asked_mover start past side e = by_parts (is_done start past) (mover (pone_of start) past) side e
-  where
-    by_parts : (done : Bool) (m s : Side) → cond done turns.Over (side_asked m) ≡ side_asked s → (done ≡ false) × (m ≡ s)
-    by_parts true m Owner e = absurd cc
-    by_parts true m Opponent e = absurd cc
-    by_parts false Owner Owner e = (refl, refl)
-    by_parts false Owner Opponent e = absurd cc
-    by_parts false Opponent Owner e = absurd cc
-    by_parts false Opponent Opponent e = (refl, refl)
 
 -- ---- the cards that the owner has played
 played_gos : (n : ℕ) (start : Start) (past : Record) → plays.cards_played (pone_of start) Owner (with_silent_gos n start past) ≡ plays.cards_played
@@ -111,7 +101,7 @@ own_less hold played card =
     set_where_agree _ _ (λ other is.
     ap (λ (b : Bool). b && not (eqb other card)) (has-set_where (λ c. has hold c && not (has played c)) other is)
     ∙ regroup (has hold other) (has played other) (eqb other card)
-    ∙ ap (λ (b : Bool). has hold other && not (b || has played other)) (eqb_sym other card))
+    ∙ ap (λ (b : Bool). has hold other && not (b || has played other)) (eqb_turned other card))
   where
     regroup : (a b c : Bool) → ((a && not b) && not c) ≡ (a && not (c || b))
     regroup true true true = refl
@@ -194,6 +184,19 @@ module _ (board : Board) (before : List Act) (keeps : Keeps board before) where
       let four = keeps.four in
       omega (arith, fewer, four)
 
+-- ---- what a turn tells of the opponent's cards
+module _ (board : Board) (before : List Act) where
+  pub least_by_card : (side : Side) (card : ℕ) → least_by board (record { side = side; what = move.Card card } ∷ before) ≡ least_by board before
+  least_by_card side card = least_card board.start Opponent (letters_of (moves_of before)) (rank_of card)
+
+  pub least_by_go : (side : Side) → IsStart board.start → AreTaken board.start (letters_of (moves_of before)) → asked_by board before ≡ side_asked side →
+      least_by board (record { side = side; what = move.Go } ∷ before) ≡ cond (same_side side Opponent)
+      (least_with_go (count_by_acts board before) (least_by board before)) (least_by board before)
+  least_by_go Owner is taken asked =
+      least_other board.start Opponent (letters_of (moves_of before)) Go
+      (ap (λ (side : Side). same_side side Opponent) (asked_mover board.start (record_by board before) Owner asked).1)
+  least_by_go Opponent is taken asked = least_go board.start Opponent (letters_of (moves_of before)) is taken asked
+
 -- ---- at a count below 22 each card fits
 pub low_fits : (count : ℕ) (own : List ℕ) → 1 ≤ length own → list_any (fits_at count) own ≡ false → 22 ≤ count
 low_fits count own some none =
@@ -240,7 +243,7 @@ were_taken board is keeps (act ∷ before) allowed =
     let own = own_left_by board before in
     let least = least_by board before in
     let may = may_turn (seen_by board before) asked count own least act
-    (or_then_none (turn_refusal (seen_by board before) asked count own least act) (cond (is_over_by board (act ∷ before)) (Some already_over) None)
+    (none_of_either (turn_refusal (seen_by board before) asked count own least act) (cond (is_over_by board (act ∷ before)) (Some already_over) None)
     allowed.1).0 in
     let turn = asked_open asked act.side may.turn in
     let holds : act.side ≡ Owner → 1 ≤ length own = λ e. asked_holds board before so_far.keeps is so_far.taken (turn ∙ ap side_asked e) in

@@ -1,12 +1,12 @@
 -- The visible turns of a legal record that is not done are allowed.
-use Rattle.std.proofs.Common.{◌≡◌, ℕ, ◌+◌, ◌-◌, ◌≤◌, max, Bool, true, false, cond, not, ◌&&◌, ◌||◌, eqb, leb, ltb, List, [], ◌∷◌, ◌++◌, length, reverse, Option}
+use Rattle.std.proofs.Common.{◌≡◌, ℕ, ◌+◌, ◌≤◌, Bool, true, false, cond, not, ◌&&◌, ◌||◌, eqb, leb, ltb, List, [], ◌∷◌, ◌++◌, reverse, Option}
 use Rattle.std.proofs.Common.{Some, None, refl, sym, ap, subst, ◌∙◌, inl, inr, arith}
 use Rattle.std.specs.List.{list_any}
-use Rattle.std.proofs.lemmas.Bool.{cases_Bool, cond-true, cond-false, and_parts, or_left, or_right, not-true, ltb-true, eq-eqb}
+use Rattle.std.specs.Option.{option_or}
+use Rattle.std.proofs.lemmas.Bool.{cases_Bool, cond-false, and_parts, or_left, or_right, not-true, ltb-true, eq-eqb}
 use Rattle.std.proofs.lemmas.List.{length-reverse, reverse-append, reverse-reverse}
 use Rattle.crib_cards.specs.Cards.{IsCard, card_value}
 use Rattle.crib_cards.specs.Sets.{has}
-use Rattle.crib_cards.specs.Sides.{same_side}
 use Rattle.crib_cards.specs.Letters.{letter_of}
 use Rattle.crib_cards.specs.Deals.{IsDeal}
 use Rattle.crib_cards.specs.Start.{Start, Hands, pone_of}
@@ -21,53 +21,28 @@ use Rattle.crib_cards.proofs.SetLemmas.{has-set_where}
 use Rattle.crib_cards.proofs.SetFacts.{has-append, has-filter, in_set_where}
 use Rattle.crib_play.specs.declared.turns.Turn.{Turn}
 use Rattle.crib_play.specs.declared.turns.Turn.TheVariants as turns
-use Rattle.crib_play.specs.Record.{Record, mover, is_heard, count_of, pile_of}
-use Rattle.crib_play.specs.Score.{is_done, side_asked, asked_after}
-use Rattle.crib_play.specs.Filled.{is_visible, filled}
+use Rattle.crib_play.specs.Record.{Record, mover, count_of, pile_of}
+use Rattle.crib_play.specs.Score.{is_done, side_asked, asks, asked_after}
+use Rattle.crib_play.specs.Filled.{is_visible}
 use Rattle.crib_play.specs.Least.{least_of}
 use Rattle.crib_play.specs.Legal.{IsDealt, letters_of, cards_of, cards_left, fits, MayTake, MayCome, IsLegal}
-use Rattle.crib_play.specs.History.{visible_moves, filled_moves, acts_of, moves_of}
+use Rattle.crib_play.specs.History.{acts_of, visible_moves, filled_moves}
 use Rattle.crib_play.specs.Fitting.{fits_at}
 use Rattle.crib_play.proofs.CardLemmas.{none_passes}
-use Rattle.crib_play.proofs.Fills.{letters_filled}
+use Rattle.crib_play.proofs.Fills.{acts_visible, acts_silent, acts_fewer, letters_filled}
 use Rattle.crib_play.proofs.Legals.{filled_before}
 use Rattle.crib_play.proofs.Least.{least_left}
 use Rattle.crib_play.proofs.Bounds.{at_most_29, high_visible_go}
 use Rattle.crib_problem.specs.Refusals.{same_card, not_turn, not_held, does_not_fit, must_play, no_deal, already_over}
-use Rattle.crib_problem.specs.Played.{Board, cards_played, record_by, count_by_acts, asked_by, is_asked, own_left_by, seen_by, least_with, least_by, shows_seen}
-use Rattle.crib_problem.specs.Played.{move_refusal, turn_refusal, or_then, is_over_by, act_refusal, AreAllowed}
+use Rattle.crib_problem.specs.Played.{Board, cards_played, record_by, count_by_acts, asked_by, own_left_by, seen_by, least_by, shows_seen}
+use Rattle.crib_problem.specs.Played.{move_refusal, turn_refusal, is_over_by, act_refusal, AreAllowed}
 use Rattle.crib_problem.specs.declared.problem.Version.{Version}
 use Rattle.crib_problem.specs.declared.problem.Version.TheVariants.{Two}
 use Rattle.crib_problem.specs.Setup.{Setup, IsSetup, IsMove, CanSay, known_cards, unseen_of, start_of, board_of, hands_of}
 use Rattle.crib_problem.proofs.TurnLemmas.{AllMoves}
 use Rattle.crib_problem.proofs.Starts.{started, hold_is_card, theirs_unseen, hands_dealt}
 
--- ---- the visible turns of a record
-module _ (pone : Side) (turn : Move) (past : List Move) where
-  acts_visible : is_visible pone (letter_of turn) (letters_of past) ≡ true → acts_of pone (turn ∷ past) ≡ record {
-    side = mover pone (letters_of past);
-    what =
-        turn;
-  } ∷ acts_of pone past
-  acts_visible v = cond-true (is_visible pone (letter_of turn) (letters_of past))
-      (record { side = mover pone (letters_of past); what = turn } ∷ acts_of pone past) (acts_of pone past) v
-
-  acts_silent : is_visible pone (letter_of turn) (letters_of past) ≡ false → acts_of pone (turn ∷ past) ≡ acts_of pone past
-  acts_silent v = cond-false (is_visible pone (letter_of turn) (letters_of past))
-      (record { side = mover pone (letters_of past); what = turn } ∷ acts_of pone past) (acts_of pone past) v
-
-pub moves_of-acts : (pone : Side) (past : List Move) → moves_of (acts_of pone past) ≡ visible_moves pone past
-moves_of-acts pone [] = refl
-moves_of-acts pone (turn ∷ past) =
-    step (is_visible pone (letter_of turn) (letters_of past))
-    ∙ ap (λ (rest : List Move). cond (is_visible pone (letter_of turn) (letters_of past)) (turn ∷ rest) rest) (moves_of-acts pone past)
-  where
-    step : (b : Bool) → moves_of (cond b (record { side = mover pone (letters_of past); what = turn } ∷ acts_of pone past) (acts_of pone past)) ≡ cond b
-        (turn ∷ moves_of (acts_of pone past)) (moves_of (acts_of pone past))
-    step true = refl
-    step false = refl
-
--- the cards of its acts are its cards
+-- ---- the cards of the acts of a record are its cards
 has_acts : (pone : Side) (past : List Move) (card : ℕ) → has (cards_played (acts_of pone past)) card ≡ has (cards_of past) card
 has_acts pone [] card = refl
 has_acts pone (move.Card first ∷ past) card =
@@ -100,14 +75,14 @@ not_refused : (seen : List ℕ) (asked : Turn) (count : ℕ) (own : List ℕ) (l
     asked ≡ side_asked side → move_refusal count own least side what ≡ None →
     turn_refusal seen asked count own least (record { side = side; what = what }) ≡ None
 not_refused seen asked count own least side what unseen turn may =
-    cond-false (shows_seen seen side what) (Some same_card) (cond (not (is_asked asked side)) (Some not_turn) (move_refusal count own least side what)) unseen
-    ∙ cond-false (not (is_asked asked side)) (Some not_turn) (move_refusal count own least side what) (ap (λ (t : Turn). not (is_asked t side)) turn
-    ∙ asks side)
+    cond-false (shows_seen seen side what) (Some same_card) (cond (not (asks asked side)) (Some not_turn) (move_refusal count own least side what)) unseen
+    ∙ cond-false (not (asks asked side)) (Some not_turn) (move_refusal count own least side what) (ap (λ (t : Turn). not (asks t side)) turn
+    ∙ asks_it side)
     ∙ may
   where
-    asks : (s : Side) → not (is_asked (side_asked s) s) ≡ false
-    asks Owner = refl
-    asks Opponent = refl
+    asks_it : (s : Side) → not (asks (side_asked s) s) ≡ false
+    asks_it Owner = refl
+    asks_it Opponent = refl
 
 none_any : (f : ℕ → Bool) (xs : List ℕ) → ((card : ℕ) → has xs card ≡ true → f card ≡ false) → list_any f xs ≡ false
 none_any f [] each = refl
@@ -171,53 +146,16 @@ module _ (problem : Setup) (setup : IsSetup problem) (dealt : Dealt) (deal : IsD
     -- the record that the acts stand for is the record
     module _ (same : filled_moves start (visible_moves pone past) ≡ past) where
       record_same : record_by board acts ≡ letters_of past
-      record_same =
-          ap (λ (moves : List Move). filled start (letters_of moves)) (moves_of-acts pone past)
-          ∙ sym (letters_filled start (visible_moves pone past))
-          ∙ ap letters_of same
+      record_same = sym (letters_filled start (visible_moves pone past)) ∙ ap letters_of same
 
       count_same : count_by_acts board acts ≡ count_of (pile_of (letters_of past))
       count_same = ap (λ (record_of : Record). count_of (pile_of record_of)) record_same
 
+      least_same : least_by board acts ≡ least_of pone Opponent (letters_of past)
+      least_same = ap (least_of pone Opponent) record_same
+
       fits_same : (card : ℕ) → fits_at (count_by_acts board acts) card ≡ fits past card
       fits_same card = ap (λ (n : ℕ). leb (n + card_value card) 31) count_same
-
-  -- ---- what the opponent's gos tell
-  least_quiet : (side : Side) (value least : ℕ) (heard : Side → Bool) → heard side ≡ false → cond (same_side side Opponent && heard Opponent)
-      (max (32 - value) least) least ≡ least
-  least_quiet Owner value least heard e = refl
-  least_quiet Opponent value least heard e = cond-false (heard Opponent) (max (32 - value) least) least e
-
-  least_heard : (side : Side) (value least : ℕ) (heard : Side → Bool) → heard side ≡ true → least_with side move.Go value least ≡ cond (same_side side Opponent
-      && heard Opponent) (max (32 - value) least) least
-  least_heard Owner value least heard e = refl
-  least_heard Opponent value least heard e = sym (cond-true (heard Opponent) (max (32 - value) least) least e)
-
-  least_card : (side : Side) (card value least : ℕ) → least_with side (move.Card card) value least ≡ least
-  least_card Owner card value least = refl
-  least_card Opponent card value least = refl
-
-  least_same : (past : List Move) → IsLegal start hands past → least_by board (acts_of pone past) ≡ least_of pone Opponent (letters_of past)
-  least_same [] legal = refl
-  least_same (move.Card card ∷ past) legal =
-      least_card (mover pone (letters_of past)) card (count_by_acts board (acts_of pone past)) (least_by board (acts_of pone past)) ∙ least_same past legal.0
-  least_same (move.Go ∷ past) legal =
-      let acts = acts_of pone past in
-      let m = mover pone (letters_of past) in
-      let heard : Side → Bool = λ side. is_heard pone side (letters_of past) in
-      let rest = least_same past legal.0 in
-      elim (cases_Bool (is_visible pone Go (letters_of past))) [
-        | inl v ↦
-            ap (least_by board) (acts_visible pone move.Go past v)
-            ∙ ap (λ (n : ℕ). least_with m move.Go n (least_by board acts))
-            (count_same past legal.0 (filled_before start hands move.Go past (started problem setup) real legal.0 legal.1 v))
-            ∙ ap (least_with m move.Go (count_of (pile_of (letters_of past)))) rest
-            ∙ least_heard m (count_of (pile_of (letters_of past))) (least_of pone Opponent (letters_of past)) heard v
-        | inr v ↦
-            ap (least_by board) (acts_silent pone move.Go past v)
-            ∙ rest
-            ∙ sym (least_quiet m (count_of (pile_of (letters_of past))) (least_of pone Opponent (letters_of past)) heard v)
-      ]
 
   -- ---- a visible turn
   module _ (past : List Move) (legal : IsLegal start hands past) (same : filled_moves start (visible_moves pone past) ≡ past) where
@@ -241,7 +179,7 @@ module _ (problem : Setup) (setup : IsSetup problem) (dealt : Dealt) (deal : IsD
     )
     may_move Opponent (move.Card card) take high =
         let least = least_left start hands Opponent past card legal take.0 in
-        let told = least_same past legal in (
+        let told = least_same past legal same in (
           theirs_hidden past legal card take.0,
           cond-false (not (fits_at (count_by_acts board before) card)) (Some does_not_fit)
               (cond (ltb (card_value card) (least_by board before)) (Some no_deal) None) (ap not (fits_same past legal same card ∙ take.1))
@@ -271,7 +209,7 @@ module _ (problem : Setup) (setup : IsSetup problem) (dealt : Dealt) (deal : IsD
         let act : Act = record { side = side; what = turn } in
         let parts = may_move side turn may.may_take (high_go turn may v) in
         let over : is_over_by board (act ∷ before) ≡ false = ap (is_over_by board) (sym (acts_visible pone turn past v)) ∙ going in
-        ap (λ (refused : Option ℕ). or_then refused (cond (is_over_by board (act ∷ before)) (Some already_over) None))
+        ap (λ (refused : Option ℕ). option_or refused (cond (is_over_by board (act ∷ before)) (Some already_over) None))
         (not_refused (seen_by board before) (asked_by board before) (count_by_acts board before) (own_left_by board before) (least_by board before) side turn
         parts.0 (asked_mover may.not_done) parts.1)
         ∙ cond-false (is_over_by board (act ∷ before)) (Some already_over) None over
@@ -327,16 +265,7 @@ module _ (problem : Setup) (setup : IsSetup problem) (dealt : Dealt) (deal : IsD
         opponent_score = setup.opponent_score;
         goal_in_range = setup.goal_in_range;
         of_version = subst S (sym two) tt;
-        few = omega (arith, long, fewer played, length-reverse acts);
+        few = omega (arith, long, acts_fewer pone played, length-reverse acts);
         moves = moves_back acts (moves_are played legal);
         allowed = subst A (sym (reverse-reverse acts)) (honest played legal going);
       }
-    where
-      fewer : (listed : List Move) → length (acts_of pone listed) ≤ length listed
-      fewer [] = omega arith
-      fewer (turn ∷ past) =
-          let rest = fewer past in
-          elim (cases_Bool (is_visible pone (letter_of turn) (letters_of past))) [
-            | inl v ↦ let same = ap length (acts_visible pone turn past v) in omega (arith, rest, same)
-            | inr v ↦ let same = ap length (acts_silent pone turn past v) in omega (arith, rest, same)
-          ]

@@ -7,7 +7,6 @@ use Rattle.crib_cards.specs.declared.sides.Dealt.{Dealt}
 use Rattle.crib_cards.specs.declared.moves.Move.{Move}
 use Rattle.crib_cards.specs.declared.moves.Act.{Act}
 use Rattle.crib_play.specs.Score.{is_done}
-use Rattle.crib_play.specs.Filled.{filled}
 use Rattle.crib_play.specs.Legal.{letters_of}
 use Rattle.crib_play.specs.History.{acts_of, visible_moves}
 use Rattle.crib_play.specs.Fitting.{fits_at}
@@ -17,7 +16,7 @@ use Rattle.crib_problem.specs.Setup.{Setup, IsSetup, start_of, board_of, hands_o
 use Rattle.crib_problem.specs.Laws.{AskedHoldsLaw, LowFitsLaw, IsHonest, HonestLaw, MayBeginLaw}
 use Rattle.crib_problem.proofs.Starts.{started, hands_dealt}
 use Rattle.crib_problem.proofs.Asked.{holds_asked, low_fits}
-use Rattle.crib_problem.proofs.Honest.{moves_of-acts, honest, may_begin}
+use Rattle.crib_problem.proofs.Honest.{honest, may_begin}
 
 pub asked_holds_proved : AskedHoldsLaw
 asked_holds_proved problem acts setup allowed asked = holds_asked problem setup acts allowed asked
@@ -37,8 +36,7 @@ still_going : (problem : Setup) (dealt : Dealt) (acts : List Act) (setup : IsSet
 still_going problem dealt acts setup is =
     let start = start_of problem in
     let pone = pone_of start in
-    ap (λ (moves : List Move). is_done start (filled start (letters_of moves))) (moves_of-acts pone is.played)
-    ∙ ap (is_done start) (sym (letters_filled start (visible_moves pone is.played)))
+    ap (is_done start) (sym (letters_filled start (visible_moves pone is.played)))
     ∙ ap (λ (moves : List Move). is_done start (letters_of moves)) (filled_law start (hands_of problem dealt) is.played (started problem setup)
     (hands_dealt problem setup dealt is.deal) is.legal)
     ∙ is.going

@@ -8,7 +8,7 @@ use Rattle.crib_cards.specs.Sets.{has, are_distinct, IsCardSet}
 use Rattle.crib_cards.specs.declared.sides.Dealt.{Dealt}
 use Rattle.crib_cards.proofs.LowestCard.{in_set}
 use Rattle.crib_cards.proofs.Members.{AreAmong, has_here, has_there}
-use Rattle.crib_show.specs.Extremes.{may_be_hold, may_have_jack, most_suit_points, suited, suited_points}
+use Rattle.crib_show.specs.Inside.Extremes.{may_be_hold, may_have_jack, most_suit_points, suited, suited_points}
 use Rattle.crib_show.specs.Show.{are_of_suit, hand_flush, hand_points}
 use Rattle.crib_show.specs.Worst.{AgreesWith, hidden_hand}
 use Rattle.crib_show.specs.declared.deals.WorstShow.{WorstShow}

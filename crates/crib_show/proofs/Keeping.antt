@@ -3,7 +3,7 @@ use Rattle.std.proofs.Common.{◌≡◌, ℕ, zero, suc, ◌+◌, ◌-◌, ◌<�
 use Rattle.std.proofs.Common.{subst, append_assoc, append-nil, arith}
 use Rattle.std.proofs.lemmas.Bool.{cases_eq, both_ways, cond-true, cond-false}
 use Rattle.std.proofs.lemmas.List.{take_all}
-use Rattle.crib_show.specs.Totals.{keep_choices}
+use Rattle.crib_show.specs.Inside.Totals.{keep_choices}
 use Rattle.crib_show.proofs.Choosing.{IsChoice, choice_beyond, choice_first, choice_later, choice_only, choice_rest, take_set}
 use Rattle.crib_cards.proofs.Members.{has_here}
 use Rattle.crib_show.proofs.Rising.{RisesFrom}

@@ -1,16 +1,17 @@
 -- The greatest sum of hand and crib is what is kept of the deals that agree.
 use Rattle.std.proofs.Common.{◌≡◌, ◌⊎◌, ℕ, ◌+◌, ◌≤◌, max, Bool, true, false, cond, ltb, ◌&&◌, List, [], ◌++◌, refl, sym, inl, inr, subst, arith}
 use Rattle.std.proofs.lemmas.Bool.{cases_lt, and_from, and_right, cond-true, cond-false, le-ltb, lt-ltb}
-use Rattle.crib_cards.specs.Sets.{IsCardSet, set_of}
+use Rattle.crib_cards.specs.Sets.{IsCardSet, set_of, set_without_all}
 use Rattle.crib_cards.specs.declared.sides.Dealt.{Dealt}
-use Rattle.crib_show.specs.Listing.{any_card, may_be_held, may_hold, without_all}
+use Rattle.crib_cards.proofs.SetLemmas.{IsCardSet-set_where}
+use Rattle.crib_show.specs.Inside.Listing.{any_card, may_be_held, may_hold}
 use Rattle.crib_show.specs.Show.{crib_points, hand_points}
-use Rattle.crib_show.specs.Totals.{keep_choices, most_of_hold, most_of_throw}
+use Rattle.crib_show.specs.Inside.Totals.{keep_choices, most_of_hold, most_of_throw}
 use Rattle.crib_show.specs.Worst.{AgreesWith, HasDeal, IsGreatestTotal, hidden_crib, hidden_total}
 use Rattle.crib_show.specs.declared.deals.WorstShow.{WorstShow}
 use Rattle.crib_show.specs.declared.listing.Test.TheVariants.{Any}
 use Rattle.crib_show.proofs.Choosing.{IsChoice}
-use Rattle.crib_show.proofs.FirstListed.{IsCardSet-without_all, agrees_found, hold_choice, hold_reordered, may_hold_set, rises_set, throw_choice}
+use Rattle.crib_show.proofs.FirstListed.{agrees_found, hold_choice, hold_reordered, may_hold_set, rises_set, throw_choice}
 use Rattle.crib_show.proofs.FirstListed.{throw_reordered}
 use Rattle.crib_show.proofs.Keeping.{kept_all, kept_on, kept_reaches}
 use Rattle.crib_show.proofs.Rising.{RisesFrom}
@@ -35,16 +36,16 @@ module _ (worst : WorstShow) (set : IsCardSet worst.unseen) (bound : ℕ) where
 
   -- what is kept of the throws of a hold
   abbrev with_throws : List ℕ → ℕ → ℕ
-  with_throws hold points = keep_choices (most_of_throw worst (hand_of hold)) any_card [] 2 (without_all worst.unseen hold) points
+  with_throws hold points = keep_choices (most_of_throw worst (hand_of hold)) any_card [] 2 (set_without_all worst.unseen hold) points
 
   agrees : (hold throw : List ℕ) → IsChoice (may_be_held worst) 0 4 worst.unseen hold → may_hold worst hold ≡ true →
-      IsChoice any_card 0 2 (without_all worst.unseen hold) throw → AgreesWith worst (record { hold = hold; throw = throw })
+      IsChoice any_card 0 2 (set_without_all worst.unseen hold) throw → AgreesWith worst (record { hold = hold; throw = throw })
   agrees hold throw choice may thrown =
       agrees_found worst Any set (record { hold = hold; throw = throw })
       (record { hold = choice; may = may; thrown = record { held = refl; thrown = thrown; passed = refl } })
 
   throw_attained : (hold throw : List ℕ) (points : ℕ) → IsChoice (may_be_held worst) 0 4 worst.unseen hold → may_hold worst hold ≡ true →
-      IsChoice any_card 0 2 (without_all worst.unseen hold) throw →
+      IsChoice any_card 0 2 (set_without_all worst.unseen hold) throw →
       IsTotalOrNone points → IsTotalOrNone (most_of_throw worst (hand_of hold) throw points)
   unfolding IsTotalOrNone
   throw_attained hold throw points choice may thrown is =
@@ -54,13 +55,13 @@ module _ (worst : WorstShow) (set : IsCardSet worst.unseen) (bound : ℕ) where
         | inr new ↦ inr (record { hold = hold; throw = throw }, agrees hold throw choice may thrown, sym new)
       ]
 
-  rises_throws : (hold : List ℕ) → RisesFrom 0 (without_all worst.unseen hold)
-  rises_throws hold = rises_set (without_all worst.unseen hold) (IsCardSet-without_all worst.unseen hold set)
+  rises_throws : (hold : List ℕ) → RisesFrom 0 (set_without_all worst.unseen hold)
+  rises_throws hold = rises_set (set_without_all worst.unseen hold) (IsCardSet-set_where _)
 
   hold_attained : (hold : List ℕ) (points : ℕ) → IsChoice (may_be_held worst) 0 4 worst.unseen hold → IsTotalOrNone points →
       IsTotalOrNone (most_of_hold worst bound hold points)
   hold_attained hold points choice is = go (may_hold worst hold) (ltb points (hand_of hold + bound)) (λ may.
-      kept_all (most_of_throw worst (hand_of hold)) any_card IsTotalOrNone [] 0 2 (without_all worst.unseen hold) points (rises_throws hold)
+      kept_all (most_of_throw worst (hand_of hold)) any_card IsTotalOrNone [] 0 2 (set_without_all worst.unseen hold) points (rises_throws hold)
       (λ throw kept thrown so. throw_attained hold throw kept choice may thrown so) is)
     where
       go : (may more : Bool) → (may ≡ true → IsTotalOrNone (with_throws hold points)) → IsTotalOrNone (cond (may && more) (with_throws hold points) points)
@@ -85,7 +86,7 @@ module _ (worst : WorstShow) (set : IsCardSet worst.unseen) (bound : ℕ) where
     hold_keeps : (hold : List ℕ) (points : ℕ) → IsEnough points → IsEnough (most_of_hold worst bound hold points)
     hold_keeps hold points enough =
         go (may_hold worst hold && ltb points (hand_of hold + bound))
-        (kept_on (most_of_throw worst (hand_of hold)) any_card IsEnough (throw_keeps (hand_of hold)) [] 2 (without_all worst.unseen hold) points enough)
+        (kept_on (most_of_throw worst (hand_of hold)) any_card IsEnough (throw_keeps (hand_of hold)) [] 2 (set_without_all worst.unseen hold) points enough)
       where
         go : (b : Bool) → IsEnough (with_throws hold points) → IsEnough (cond b (with_throws hold points) points)
         go false throws = enough
@@ -114,7 +115,7 @@ module _ (worst : WorstShow) (set : IsCardSet worst.unseen) (bound : ℕ) where
           | inl less ↦
               subst IsEnough (sym (cond-true (may_hold worst hold && ltb points (hand_of hold + bound)) (with_throws hold points) points
               (and_from (may_hold worst hold) (ltb points (hand_of hold + bound)) may (lt-ltb points (hand_of hold + bound) less))))
-              (kept_reaches (most_of_throw worst (hand_of hold)) any_card IsEnough (throw_keeps (hand_of hold)) [] 0 2 (without_all worst.unseen hold)
+              (kept_reaches (most_of_throw worst (hand_of hold)) any_card IsEnough (throw_keeps (hand_of hold)) [] 0 2 (set_without_all worst.unseen hold)
               (set_of other.throw) points (rises_throws hold)
               (throw_choice worst Any set other is refl) throw_reaches)
           | inr more ↦

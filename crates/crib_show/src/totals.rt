@@ -1,15 +1,14 @@
 //! The greatest sum of the opponent's hand and the crib, both of one deal.
 ghost use Rattle.std.specs.Prelude.{◌≡◌, ◌+◌, ◌-◌, ◌<◌, ◌≤◌, ◌∷◌, ◌++◌, [], take};
 ghost use Rattle.crib_cards.specs.Sets.{IsCardSet};
-ghost use Rattle.crib_show.specs.Listing.{any_card};
+ghost use Rattle.crib_show.specs.Inside.Listing.{any_card};
 ghost use Rattle.crib_show.specs.Show.{crib_points};
-ghost use Rattle.crib_show.specs.Totals.{keep_choices, most_of_hold, most_of_holds, most_of_throw};
+ghost use Rattle.crib_show.specs.Inside.Totals.{keep_choices, most_of_hold, most_of_holds, most_of_throw};
 ghost use Rattle.crib_show.specs.Worst.{AgreesWith, ArePlain, HasDeal, IsGreatestTotal, hidden_crib};
 ghost use Rattle.crib_cards.specs.declared.sides.Dealt.{Dealt};
 
 use super::cribs::plain_cribs;
 use super::deals::{PlainCribs, WorstShow};
-use super::listing::without_all;
 use super::points::{crib_flush, hand_points, jack_points};
 use crib_cards::{Card, CardSet};
 
@@ -82,7 +81,7 @@ impl WorstShow {
         if hand + bound <= most {
             return most;
         }
-        self.most_of_throws(plain, hand, without_all(self.unseen, &hold), most)
+        self.most_of_throws(plain, hand, self.unseen.without_all(&hold), most)
     }
 
     /// The most of some points and of a hand with each crib, with two cards of a set for the throw.

@@ -17,7 +17,8 @@ use Rattle.cribplan.specs.declared.job.Job.TheVariants.{Replay, Follow, Check, S
 use Rattle.cribplan.specs.declared.status.Status.{Status}
 use Rattle.cribplan.specs.declared.status.Status.TheVariants.{Yes, No, Refused, Fault}
 use Rattle.cribplan.specs.Input.{problem_of_input, question_of_input}
-use Rattle.cribplan.specs.Answer.{Reply, Answers, AnswersCheck, AnswersProblem, AnswersSolve, refusal_reply, verdict_reply, found_reply, fault_line, fault_reply, too_large}
+use Rattle.cribplan.specs.Answer.{Reply, Answers, AnswersCheck, AnswersProblem, AnswersSolve, refusal_reply, verdict_reply, found_reply}
+use Rattle.cribplan.specs.Answer.{fault_line, fault_reply, too_large}
 use Rattle.cribplan.specs.Run.{MayOwe, Sends, Delivers}
 use Rattle.cribplan.specs.Telling.{SpellsProblem, SpellsPlan, HasSomePlan, holds_line, fails_line, none_line, CheckTells, SolveTells, StatusTells}
 use Rattle.crib_search.proofs.Proved.{sure_law}

@@ -1,4 +1,5 @@
-use Rattle.crib_know.proofs.Calls.{moved, unseen_set, fixed_is_set, know_four, rest_two, first_is}
+use Rattle.crib_know.proofs.OwnCalls.{rest_two, first_is}
+use Rattle.crib_know.proofs.OwnCalls.{moved, unseen_set, fixed_is_set, know_four}
 use Rattle.crib_know.proofs.know.some_deal.Goals as goal
 
 pub first_hold-hold-requires-clause-unseen : goal.first_hold-hold-requires-clause-unseen

@@ -2,8 +2,8 @@ use Rattle.std.proofs.Common.{sym, ap, ◌∙◌, arith}
 use Rattle.std.specs.Prelude.{nat_lt}
 use Rattle.std.proofs.lemmas.Bool.{lt-ltb, le-ltb}
 use Rattle.crib_cards.specs.Sets.{count_at}
-use Rattle.crib_show.specs.Listing.{may_be_held}
-use Rattle.crib_show.specs.Totals.{most_of_hold}
+use Rattle.crib_show.specs.Inside.Listing.{may_be_held}
+use Rattle.crib_show.specs.Inside.Totals.{most_of_hold}
 use Rattle.crib_cards.proofs.LowestCard.{lowest_split, lowest_none, rest_smaller}
 use Rattle.crib_show.proofs.Keeping.{all_kept, kept_none, kept_taken, kept_barred}
 use Rattle.crib_show.proofs.deals.WorstShow.+most_from.Goals as goal

@@ -1,6 +1,6 @@
 use Rattle.std.proofs.Common.{◌≡◌, ℕ, ◌+◌, List, sym, ap, ◌∙◌, arith}
 use Rattle.crib_show.specs.Show.{crib_flush, jack_points}
-use Rattle.crib_show.proofs.CribLemmas.{crib_of_ranks}
+use Rattle.crib_show.proofs.Throws.{crib_of_ranks}
 use Rattle.crib_show.proofs.deals.WorstShow.crib_of_throw.Goals as goal
 
 added : (a b c d e f points : ℕ) → a ≡ d → b ≡ e → c ≡ f → points ≡ d + (e + f) → a + b + c ≡ points

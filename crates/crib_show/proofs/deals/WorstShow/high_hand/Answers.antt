@@ -1,5 +1,5 @@
 use Rattle.std.proofs.Common.{◌≡◌, ℕ, ◌+◌, ◌≤◌, ◌∷◌, sym, ap, ◌∙◌, subst, inl, inr, arith}
-use Rattle.crib_show.specs.Extremes.{most_suit_points, ranks_from, suited}
+use Rattle.crib_show.specs.Inside.Extremes.{most_suit_points, ranks_from, suited}
 use Rattle.crib_show.specs.Show.{plain_points}
 use Rattle.crib_show.specs.Worst.{hidden_hand, IsGreatestHand}
 use Rattle.crib_show.proofs.FewPoints.{few_points, few_suit_points}

@@ -1,6 +1,6 @@
 use Rattle.std.proofs.Common.{◌≡◌, ℕ, ◌+◌, ◌≤◌, min, Bool, true, false, cond, sym, subst, ◌∙◌, refl, arith}
 use Rattle.std.proofs.lemmas.Bool.{both_ways}
-use Rattle.crib_show.specs.Extremes.{has_room, least_suits, plain_crib}
+use Rattle.crib_show.specs.Inside.Extremes.{has_room, least_suits, plain_crib}
 use Rattle.crib_show.proofs.deals.WorstShow.lowered.Goals as goal
 use Rattle.crib_show.proofs.deals.WorstShow.lowered.Goals.{then-points-least-via-then-points-least, then-points-least-via-else-points-least+then-not-has_room}
 

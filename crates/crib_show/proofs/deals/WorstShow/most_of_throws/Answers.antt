@@ -1,6 +1,6 @@
 use Rattle.std.proofs.Common.{[], refl, sym, ◌∙◌}
-use Rattle.crib_show.specs.Listing.{any_card}
-use Rattle.crib_show.specs.Totals.{most_of_throw}
+use Rattle.crib_show.specs.Inside.Listing.{any_card}
+use Rattle.crib_show.specs.Inside.Totals.{most_of_throw}
 use Rattle.crib_cards.proofs.LowestCard.{lowest_split, lowest_none, rest_smaller}
 use Rattle.crib_show.proofs.Keeping.{keep_none, keep_taken}
 use Rattle.crib_show.proofs.deals.WorstShow.most_of_throws.Goals as goal

@@ -1,6 +1,6 @@
 use Rattle.std.proofs.Common.{◌≡◌, [], ◌∷◌, length}
-use Rattle.crib_show.specs.Listing.{any_card}
-use Rattle.crib_show.specs.Totals.{keep_choices, most_of_throw}
+use Rattle.crib_show.specs.Inside.Listing.{any_card}
+use Rattle.crib_show.specs.Inside.Totals.{keep_choices, most_of_throw}
 use Rattle.crib_show.proofs.deals.WorstShow.most_of_throws_with.Given as goal
 
 abbrev pub invariant-loop-second : goal.invariant-loop-second

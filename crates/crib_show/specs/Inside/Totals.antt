@@ -1,8 +1,9 @@
 -- Shaped by the code: the greatest sum of hand and crib, kept while the deals that agree are tried one after another.
 -- Worst says what the public call answers, without any listing.
 use Rattle.std.specs.Prelude.{ℕ, zero, suc, ◌+◌, nat_lt, max, Bool, ◌&&◌, List, [], ◌∷◌, ◌++◌, if◌then◌else◌}
+use Rattle.crib_cards.specs.Sets.{set_without_all}
 use Rattle.crib_show.specs.declared.deals.WorstShow.{WorstShow}
-use Rattle.crib_show.specs.Listing.{any_card, may_be_held, may_hold, without_all}
+use Rattle.crib_show.specs.Inside.Listing.{any_card, may_be_held, may_hold}
 use Rattle.crib_show.specs.Show.{hand_points, crib_points}
 
 -- what is left of some points when a step is made for each choice: some cards, and after them n from cards that may be
@@ -25,7 +26,7 @@ most_of_hold worst bound hold most =
     if may_hold worst hold && nat_lt most (hand_points hold worst.starter + bound)
     then
     keep_choices (most_of_throw worst (hand_points hold worst.starter)) any_card [] 2
-    (without_all worst.unseen hold) most
+    (set_without_all worst.unseen hold) most
     else most
 
 -- what is left of some points when the deals are tried of the holds of some cards and n others of those given

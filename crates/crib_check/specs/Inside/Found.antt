@@ -9,9 +9,9 @@ use Rattle.crib_game.specs.declared.game.Game.{Game}
 use Rattle.crib_game.specs.Replay.{acts_back}
 use Rattle.crib_check.specs.declared.keys.Key.{Key}
 use Rattle.crib_check.specs.declared.failure.Failure.{Failure}
-use Rattle.crib_check.specs.Histories.{later_of_trail}
-use Rattle.crib_check.specs.Positions.{IsSettled, IsFirstFrom}
-use Rattle.crib_check.specs.Suits.{acts_in_suits}
+use Rattle.crib_check.specs.Inside.Histories.{later_of_trail}
+use Rattle.crib_check.specs.Inside.Positions.{IsSettled, IsFirstFrom}
+use Rattle.crib_check.specs.Inside.Suits.{acts_in_suits}
 
 -- the game of a deal and of the acts of a trail, which come after those that are played already
 pub record IsGameOf (problem : Setup) (dealt : Dealt) (trail : List Act) (game : Game) : Type 0 where

@@ -1,0 +1,17 @@
+-- The letters before a place.
+use Rattle.std.specs.Prelude.{ℕ, ◌<◌, List, ◌∷◌}
+use Rattle.crib_cards.specs.Letters.{letter_place}
+use Rattle.crib_cards.specs.declared.letters.Letter.{Letter}
+use Rattle.crib_play.specs.History.{Event, Theirs}
+use Rattle.crib_problem.specs.Setup.{Setup}
+use Rattle.crib_plan.specs.declared.plan.Node.{Node}
+use Rattle.crib_know.specs.Hidden.{CanShow}
+use Rattle.crib_check.specs.declared.keys.Key.{Key}
+use Rattle.crib_check.specs.Inside.Positions.{StandsAt, HoldsFrom}
+
+-- the letters before a place in the order of the letters are settled: no failing game goes on from a history with one
+-- of them that can be shown
+abbrev pub IsSettledBelow : Setup → List Node → Key → ℕ → Type 0
+IsSettledBelow problem plan key place =
+    (history : List Event) (letter : Letter) → StandsAt problem plan key history → CanShow problem history letter →
+    letter_place letter < place → HoldsFrom problem plan (Theirs letter ∷ history)

@@ -1,0 +1,3 @@
+-- What private functions alone cite, and no public contract rests on.
+pub mod Judging
+pub mod Tracing

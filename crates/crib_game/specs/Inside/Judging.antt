@@ -1,0 +1,53 @@
+-- How a game is judged as it goes on: by the table and the cards that are left to each side.
+use Rattle.std.specs.Prelude.{ℕ, ◌+◌, ◌≤◌, Bool, true, false, List, Option}
+use Rattle.crib_cards.specs.Cards.{card_value}
+use Rattle.crib_cards.specs.Sets.{set_without}
+use Rattle.crib_cards.specs.declared.sides.Dealt.{Dealt}
+use Rattle.crib_cards.specs.declared.sides.Side.{Side}
+use Rattle.crib_cards.specs.declared.sides.Side.TheVariants.{Owner, Opponent}
+use Rattle.crib_cards.specs.declared.moves.Move.{Move}
+use Rattle.crib_cards.specs.declared.moves.Move.TheVariants as move
+use Rattle.crib_cards.specs.declared.moves.Act.{Act}
+use Rattle.crib_play.specs.declared.turns.Turn.{Turn}
+use Rattle.crib_play.specs.declared.turns.Turn.TheVariants as turns
+use Rattle.crib_play.specs.Record.{count_of}
+use Rattle.crib_play.specs.Score.{asks}
+use Rattle.crib_play.specs.Standing.{Standing}
+use Rattle.crib_show.specs.declared.deals.Full.{Full}
+use Rattle.crib_problem.specs.Setup.{Setup}
+use Rattle.crib_game.specs.declared.fault.GameFault.{GameFault}
+use Rattle.crib_game.specs.declared.remark.Remark.{Remark}
+use Rattle.crib_game.specs.declared.walk.Held.{Held}
+use Rattle.crib_game.specs.Replay.{first_fault, full_with, move_fault_at}
+
+-- whether the deal is done
+abbrev pub is_over : Turn → Bool
+is_over turns.Owner = false
+is_over turns.Opponent = false
+is_over turns.Over = true
+
+-- the cards that are left to a side
+abbrev pub held_of : Held → Side → List ℕ
+held_of held Owner = held.owner
+held_of held Opponent = held.opponent
+
+-- what is held after a move: a card that is played is no one's
+abbrev pub held_after : Held → Move → Held
+held_after held (move.Card card) =
+    record { owner = set_without held.owner card; opponent = set_without held.opponent card }
+held_after held move.Go = held
+
+-- what is wrong with an act at a table, of a side that holds some cards, with what is remarked of it
+abbrev pub fault_at : Remark → Standing → List ℕ → Act → ℕ → Option GameFault
+fault_at remark table cards act place =
+    first_fault remark (is_over table.asked) (asks table.asked act.side)
+    (move_fault_at (count_of table.pile) cards act.what place) place
+
+-- the move may be shown at a table
+abbrev pub MayShowAt : Move → Standing → Type 0
+MayShowAt (move.Card card) table = count_of table.pile + card_value card ≤ 31
+MayShowAt move.Go table = 22 ≤ count_of table.pile
+
+-- all that the show depends on, with the scores of a table
+abbrev pub full_at : Setup → Dealt → Standing → Full
+full_at problem dealt table = full_with problem dealt table.scores

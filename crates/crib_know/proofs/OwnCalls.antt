@@ -1,0 +1,278 @@
+-- What the owner's turns, the first lead and the first deal require and give.
+use Rattle.std.proofs.Common.{◌≡◌, ℕ, ◌+◌, ◌-◌, ◌<◌, ◌≤◌, Bool, true, false, not, ◌&&◌, ◌||◌, eqb, leb, List, [], ◌∷◌, ◌++◌, map, length, take}
+use Rattle.std.proofs.Common.{reverse, get_or, replicate, refl, sym, ap, subst, ◌∙◌, arith}
+use Rattle.std.specs.List.{list_any}
+use Rattle.std.proofs.lemmas.List.{take_all}
+use Rattle.crib_cards.specs.Cards.{IsCard, rank_of, card_value}
+use Rattle.crib_cards.specs.Sets.{has, set_of, set_without, rank_counts, IsCardSet, set_without_all}
+use Rattle.crib_cards.specs.Start.{Start}
+use Rattle.crib_cards.specs.declared.sides.Dealt.{Dealt}
+use Rattle.crib_cards.specs.declared.sides.Side.{Side}
+use Rattle.crib_cards.specs.declared.sides.Scores.{Scores}
+use Rattle.crib_cards.specs.declared.letters.Letter.TheVariants.{Seen, Go}
+use Rattle.crib_cards.specs.declared.moves.Move.{Move}
+use Rattle.crib_cards.specs.declared.moves.Move.TheVariants as move
+use Rattle.crib_cards.specs.declared.moves.Act.{Act}
+use Rattle.crib_cards.proofs.SetLemmas.{has-set_where, set_where_agree, IsCardSet-set_where}
+use Rattle.crib_cards.proofs.SetFacts.{has-append}
+use Rattle.crib_play.specs.declared.turns.Turn.TheVariants as turns
+use Rattle.crib_play.specs.Record.{count_of}
+use Rattle.crib_play.specs.Filled.{filled}
+use Rattle.crib_play.specs.Standing.{StandsFor, standing_after}
+use Rattle.crib_play.specs.History.{Event, Own, event_by, event_of, history_letters}
+use Rattle.crib_problem.specs.Setup.{Setup, IsSetup, known_cards, unseen_of, fixed_cards, start_of, target_of}
+use Rattle.crib_know.specs.Knowledge.{Knowledge, played_events, their_ranks, least_value, own_left}
+use Rattle.crib_know.specs.Inside.Knowledge.{at_first_lead}
+use Rattle.crib_know.specs.Knowledge.{knowledge_after}
+use Rattle.crib_know.specs.Hidden.{CanShow, CanShowAt, CanComeAt, KnowsAfter, IsFirstDeal}
+use Rattle.crib_know.proofs.Leading.{MayCome, IsLed}
+use Rattle.crib_play.proofs.Plays.{filter_all}
+use Rattle.crib_know.specs.Inside.Choice.{first_hold_with}
+use Rattle.crib_know.proofs.Lists.{count_map, count_set_of}
+use Rattle.crib_know.proofs.Fixed.{fixed_are_cards, fixed_distinct}
+use Rattle.crib_know.proofs.Played.{reverse_more, setup_at_first_lead, begun_at_first_lead, played_dealt, played_agrees, may_at}
+use Rattle.crib_know.proofs.Counting.{counts_none, counts_agree, chosen_picked}
+use Rattle.crib_know.proofs.RisingLists.{rising_distinct}
+use Rattle.crib_know.proofs.FirstDeals.{Needs, Fixes, free_cards, free_are_cards, free_chosen, first_hold, first_dealt, hold_four, hold_rising, hold_within}
+use Rattle.crib_know.proofs.FirstDeals.{two_others}
+use Rattle.crib_know.proofs.Led.{possible_led}
+use Rattle.crib_know.proofs.Knows.{led_possible, needs_history, begun_fixes}
+use Rattle.crib_know.proofs.Knows.{first_deal_is}
+use Rattle.crib_know.proofs.Calls.{same_knowledge, led_of, asked_same, count_same, least_same, seen_same, left_same, own_same}
+use Rattle.crib_know.proofs.Calls.{after_own_play, own_go_high, after_own_go, unseen_same, fixed_same, stands_before, play_shows}
+use Rattle.crib_know.proofs.Calls.{play_facts, go_shows, go_facts}
+
+-- ---- a knowledge that is known by another name
+pub moved : (know now : Knowledge) (problem : Setup) (history : List Event) → know ≡ now → KnowsAfter now problem history → KnowsAfter know problem history
+moved know now problem history same knows = let K : Knowledge → Type 0 = λ k. KnowsAfter k problem history in subst K (sym same) knows
+
+-- what can be shown after one history can be shown after each
+pub moved_play : (know now : Knowledge) (same : know ≡ now) (rank : ℕ) → CanShowAt now (Seen rank) → (problem : Setup) (history : List Event) →
+    KnowsAfter know problem history → CanShow problem history (Seen rank)
+moved_play know now same rank can problem history knows =
+    let facts = play_facts know can.0 can.1 (moved know now can.0 can.1 same can.2) rank can.3 in
+    play_shows know problem history knows rank facts.0 facts.1
+
+pub moved_go : (know now : Knowledge) (same : know ≡ now) → CanShowAt now Go → (problem : Setup) (history : List Event) → KnowsAfter know problem history →
+    CanShow problem history Go
+moved_go know now same can problem history knows = go_shows know problem history knows (go_facts know can.0 can.1 (moved know now can.0 can.1 same can.2) can.3)
+
+-- ---- the owner's turns
+module _ (know now : Knowledge) (same : know ≡ now) where
+  module _ (card rank : ℕ) (asked : now.round.asked ≡ turns.Owner) (held : has now.own_left card ≡ true)
+      (fits : count_of now.round.pile + card_value card ≤ 31) (rank_ok : rank ≡ rank_of card) where
+    pub moved_own_play : (problem : Setup) (history : List Event) → KnowsAfter know problem history → (next : Knowledge) →
+        (StandsFor know.round (start_of problem) (history_letters history) → StandsFor next.round (start_of problem) (Seen rank ∷ history_letters history)) →
+        next.own_left ≡ set_without know.own_left card → next.ranks_seen ≡ know.ranks_seen →
+        next.opponent_left ≡ know.opponent_left → next.least ≡ know.least → next.unseen ≡ know.unseen → next.fixed ≡ know.fixed →
+        KnowsAfter next problem (Own (move.Card card) ∷ history)
+    moved_own_play problem history knows next stands own ranks left least unseen fixed =
+        let S : ℕ → Type 0 = λ r. StandsFor next.round (start_of problem) (Seen r ∷ history_letters history) in
+        let count = ap (λ (k : Knowledge). count_of k.round.pile) same in
+        after_own_play know problem history knows card
+        (ap (λ (k : Knowledge). k.round.asked) same ∙ asked)
+        (ap (λ (k : Knowledge). has k.own_left card) same ∙ held)
+        (omega (arith, fits, count))
+        next (subst S rank_ok (stands (stands_before know problem history knows))) own ranks left least unseen fixed
+
+  module _ (asked : now.round.asked ≡ turns.Owner) (none : list_any (λ card. leb (count_of now.round.pile + card_value card) 31) now.own_left ≡ false) where
+    none_before : list_any (λ card. leb (count_of know.round.pile + card_value card) 31) know.own_left ≡ false
+    none_before = ap (λ (k : Knowledge). list_any (λ card. leb (count_of k.round.pile + card_value card) 31) k.own_left) same ∙ none
+
+    pub moved_own_high : (problem : Setup) (history : List Event) → KnowsAfter know problem history → 22 ≤ count_of know.round.pile
+    moved_own_high problem history knows = own_go_high know problem history knows (ap (λ (k : Knowledge). k.round.asked) same ∙ asked) none_before
+
+    pub moved_own_go : (problem : Setup) (history : List Event) → KnowsAfter know problem history → (next : Knowledge) →
+        (StandsFor know.round (start_of problem) (history_letters history) → StandsFor next.round (start_of problem) (Go ∷ history_letters history)) →
+        next.own_left ≡ know.own_left → next.ranks_seen ≡ know.ranks_seen →
+        next.opponent_left ≡ know.opponent_left → next.least ≡ know.least → next.unseen ≡ know.unseen → next.fixed ≡ know.fixed →
+        KnowsAfter next problem (Own move.Go ∷ history)
+    moved_own_go problem history knows next stands own ranks left least unseen fixed =
+        after_own_go know problem history knows (ap (λ (k : Knowledge). k.round.asked) same ∙ asked) none_before next
+        (stands (stands_before know problem history knows)) own ranks left least unseen fixed
+
+-- ---- at the first lead
+pub start_knows : (problem : Setup) → IsSetup problem → (dealer : Side) (scores : Scores) (target : ℕ) (next : Knowledge) → dealer ≡ problem.dealer →
+    scores ≡ problem.scores → target ≡ target_of problem →
+    StandsFor next.round (record { dealer = dealer; scores = scores; target = target }) [] → next.own_left ≡ set_of problem.hold →
+    next.ranks_seen ≡ replicate 13 0 → next.opponent_left ≡ 4 → next.least ≡ 1 → next.unseen ≡ unseen_of problem → next.fixed ≡ set_of [] →
+    KnowsAfter next (at_first_lead problem) []
+start_knows problem setup dealer scores target next same_dealer same_scores same_target stands own ranks left least unseen fixed =
+    let start : Start = record { dealer = dealer; scores = scores; target = target } in
+    let same : start ≡ start_of problem = (λ i. record { dealer = same_dealer i; scores = same_scores i; target = same_target i }) in
+    record {
+      setup = setup_at_first_lead problem setup;
+      begun = begun_at_first_lead problem [];
+      possible = led_possible (at_first_lead problem) (setup_at_first_lead problem setup) [] tt (begun_at_first_lead problem []);
+      knowledge = same_knowledge next (knowledge_after (at_first_lead problem) []) (stands.shows ∙ ap (λ (s : Start). standing_after s (filled s [])) same)
+          (own ∙ ap set_of (sym (filter_all problem.hold))) (ranks ∙ sym counts_none) left least unseen fixed;
+    }
+
+-- after the turns that are played already
+pub played_knows : (problem : Setup) → IsSetup problem → (know next : Knowledge) → KnowsAfter know (at_first_lead problem) (played_events problem) →
+    next.round ≡ know.round → next.own_left ≡ know.own_left → next.ranks_seen ≡ know.ranks_seen →
+    next.opponent_left ≡ know.opponent_left → next.least ≡ know.least → next.unseen ≡ know.unseen → next.fixed ≡ set_of (fixed_cards problem) →
+    KnowsAfter next problem (played_events problem)
+played_knows problem setup know next knows round own ranks left least unseen fixed = record {
+  setup = setup;
+  possible = (played_dealt problem setup, played_agrees problem setup);
+  begun = record { later = []; parts = refl };
+  knowledge = same_knowledge next (knowledge_after problem (played_events problem)) (round ∙ ap (λ (k : Knowledge). k.round) knows.knowledge)
+      (own ∙ ap (λ (k : Knowledge). k.own_left) knows.knowledge)
+      (ranks ∙ ap (λ (k : Knowledge). k.ranks_seen) knows.knowledge) (left ∙ ap (λ (k : Knowledge). k.opponent_left) knows.knowledge)
+      (least ∙ ap (λ (k : Knowledge). k.least) knows.knowledge)
+      (unseen ∙ ap (λ (k : Knowledge). k.unseen) knows.knowledge) fixed;
+}
+
+-- ---- the first deal
+module _ (know : Knowledge) (problem : Setup) (history : List Event) (knows : KnowsAfter know problem history) where
+  abbrev seen_ranks : List ℕ
+  seen_ranks = their_ranks history
+
+  abbrev seen_least : ℕ
+  seen_least = least_value problem history
+
+  abbrev seen_needs : Needs problem knows.setup seen_ranks seen_least
+  seen_needs = needs_history problem knows.setup history (led_of know problem history knows)
+
+  abbrev seen_fixes : Fixes problem knows.setup seen_ranks
+  seen_fixes = begun_fixes problem knows.setup history knows.begun
+
+  -- the cards of the first hold
+  abbrev pub know_hold : List ℕ
+  know_hold = first_hold_with know.fixed know.ranks_seen know.least (rank_counts (map rank_of know.fixed)) know.opponent_left
+      (set_without_all know.unseen know.fixed)
+
+  -- the fixed cards as a set
+  abbrev fixed_set : List ℕ
+  fixed_set = set_of (fixed_cards problem)
+
+  fixed_has : (card : ℕ) → IsCard card → has fixed_set card ≡ has (fixed_cards problem) card
+  fixed_has card is = has-set_where (has (fixed_cards problem)) card is
+
+  fixed_counts : rank_counts (map rank_of fixed_set) ≡ rank_counts (map rank_of (fixed_cards problem))
+  fixed_counts =
+      counts_agree (map rank_of fixed_set) (map rank_of (fixed_cards problem))
+      (λ rank. count_map rank_of rank fixed_set ∙ count_set_of (λ card. eqb (rank_of card) rank) (fixed_cards problem) (fixed_distinct problem knows.setup)
+      (fixed_are_cards problem knows.setup) ∙ sym (count_map rank_of rank (fixed_cards problem)))
+
+  free_is : set_without_all (unseen_of problem) fixed_set ≡ free_cards problem knows.setup
+  free_is =
+      set_where_agree _ _ (λ card is.
+      (λ i. has-set_where (λ c. not (has (known_cards problem) c)) card is i && not (fixed_has card is i)))
+
+  hold_is : know_hold ≡ first_hold problem knows.setup seen_ranks seen_least
+  hold_is =
+      ap (λ (fixed : List ℕ). first_hold_with fixed know.ranks_seen know.least (rank_counts (map rank_of fixed)) know.opponent_left
+      (set_without_all know.unseen fixed)) (fixed_same know problem history knows)
+      ∙ ap (λ (counts : List ℕ). first_hold_with fixed_set counts know.least (rank_counts (map rank_of fixed_set)) know.opponent_left
+      (set_without_all know.unseen fixed_set)) (seen_same know problem history knows)
+      ∙ ap (λ (n : ℕ). first_hold_with fixed_set (rank_counts seen_ranks) n (rank_counts (map rank_of fixed_set)) know.opponent_left
+      (set_without_all know.unseen fixed_set)) (least_same know problem history knows)
+      ∙ ap (λ (n : ℕ). first_hold_with fixed_set (rank_counts seen_ranks) seen_least (rank_counts (map rank_of fixed_set)) n
+      (set_without_all know.unseen fixed_set)) (left_same know problem history knows)
+      ∙ ap (λ (cards : List ℕ). first_hold_with fixed_set (rank_counts seen_ranks) seen_least (rank_counts (map rank_of fixed_set)) (4 - length seen_ranks)
+      (set_without_all cards fixed_set)) (unseen_same know problem history knows)
+      ∙ ap (λ (cards : List ℕ). first_hold_with fixed_set (rank_counts seen_ranks) seen_least (rank_counts (map rank_of fixed_set)) (4 - length seen_ranks)
+      cards) free_is
+      ∙ ap (λ (counts : List ℕ). first_hold_with fixed_set (rank_counts seen_ranks) seen_least counts (4 - length seen_ranks) (free_cards problem knows.setup))
+      fixed_counts
+      ∙ ap (λ (cards : List ℕ). set_of (fixed_set ++ cards)) (chosen_picked seen_ranks seen_least (map rank_of (fixed_cards problem)) (4 - length seen_ranks)
+      (free_cards problem knows.setup) (free_are_cards problem knows.setup))
+      ∙ same_set (free_chosen problem knows.setup seen_ranks seen_least)
+    where
+      same_set : (cards : List ℕ) → set_of (set_of (fixed_cards problem) ++ cards) ≡ set_of (fixed_cards problem ++ cards)
+      same_set cards =
+          set_where_agree _ _ (λ card is. has-append (set_of (fixed_cards problem)) cards card ∙ ap (λ (b : Bool). b || has cards card)
+          (has-set_where (has (fixed_cards problem)) card is) ∙ sym (has-append (fixed_cards problem) cards card))
+
+  pub unseen_set : IsCardSet know.unseen
+  unseen_set = let S : List ℕ → Type 0 = λ cards. IsCardSet cards in
+      subst S (sym (unseen_same know problem history knows)) (IsCardSet-set_where (λ card. not (has (known_cards problem) card)))
+
+  pub fixed_is_set : IsCardSet know.fixed
+  fixed_is_set = let S : List ℕ → Type 0 = λ cards. IsCardSet cards in
+      subst S (sym (fixed_same know problem history knows)) (IsCardSet-set_where (has (fixed_cards problem)))
+
+  pub know_four : length know_hold ≡ 4
+  know_four = ap length hold_is ∙ hold_four problem knows.setup seen_ranks seen_least seen_needs seen_fixes
+
+  -- the cards left for the throw
+  module _ (hold : List ℕ) (is : hold ≡ know_hold) (rest : List ℕ) (without : rest ≡ set_without_all know.unseen hold) where
+    rest_is : rest ≡ set_without_all (unseen_of problem) (first_hold problem knows.setup seen_ranks seen_least)
+    rest_is =
+        without
+        ∙ ap (λ (cards : List ℕ). set_without_all cards hold) (unseen_same know problem history knows)
+        ∙ ap (set_without_all (unseen_of problem)) (is ∙ hold_is)
+
+    pub rest_two : 2 ≤ length rest
+    rest_two =
+        let mine = first_hold problem knows.setup seen_ranks seen_least in
+        let two = two_others problem knows.setup mine (hold_four problem knows.setup seen_ranks seen_least seen_needs seen_fixes)
+        (rising_distinct mine (hold_rising problem knows.setup seen_ranks seen_least seen_needs seen_fixes))
+        (hold_within problem knows.setup seen_ranks seen_least seen_needs seen_fixes) in
+        let same = ap length rest_is in
+        omega (arith, two, same)
+
+    pub first_is : (throw : List ℕ) → throw ≡ take 2 rest → IsFirstDeal problem history (record { hold = hold; throw = throw })
+    first_is throw two =
+        let D : Dealt → Type 0 = λ dealt. IsFirstDeal problem history dealt in
+        let same_hold : first_hold problem knows.setup seen_ranks seen_least ≡ hold = sym (is ∙ hold_is) in
+        let same_throw : take 2 (set_without_all (unseen_of problem) (first_hold problem knows.setup seen_ranks seen_least)) ≡ throw =
+        sym (two ∙ ap (take 2) rest_is) in
+        let same : first_dealt problem knows.setup seen_ranks seen_least ≡ record { hold = hold; throw = throw } =
+        (λ i. record { hold = same_hold i; throw = same_throw i }) in
+        subst D same (first_deal_is problem knows.setup history (led_of know problem history knows) knows.begun)
+
+-- ---- a turn that is seen
+pub event_is : (act : Act) (side : Side) (what : Move) → act.side ≡ side → act.what ≡ what → event_of act ≡ event_by side what
+event_is act side what same_side same_what = λ i. event_by (same_side i) (same_what i)
+
+pub come_as : (know : Knowledge) (event other : Event) → event ≡ other → CanComeAt know event → CanComeAt know other
+come_as know event other same can = let M : Event → Type 0 = λ e. CanComeAt know e in subst M same can
+
+pub knows_as : (know : Knowledge) (problem : Setup) (history : List Event) (event other : Event) → other ≡ event → KnowsAfter know problem (event ∷ history) →
+    KnowsAfter know problem (other ∷ history)
+knows_as know problem history event other same knows = let K : Event → Type 0 = λ e. KnowsAfter know problem (e ∷ history) in subst K (sym same) knows
+
+come_may : (know : Knowledge) (event : Event) (can : CanComeAt know event) → MayCome can.0 can.1 event
+come_may know event can = (possible_led can.0 can.2.setup (event ∷ can.1) can.3).1
+
+pub come_asked : (know : Knowledge) (card : ℕ) → CanComeAt know (Own (move.Card card)) → know.round.asked ≡ turns.Owner
+come_asked know card can = asked_same know can.0 can.1 can.2 ∙ (come_may know (Own (move.Card card)) can).0
+
+pub come_held : (know : Knowledge) (card : ℕ) → CanComeAt know (Own (move.Card card)) → has know.own_left card ≡ true
+come_held know card can = ap (λ (cards : List ℕ). has cards card) (own_same know can.0 can.1 can.2) ∙ (come_may know (Own (move.Card card)) can).1
+
+pub come_fits : (know : Knowledge) (card : ℕ) → CanComeAt know (Own (move.Card card)) → count_of know.round.pile + card_value card ≤ 31
+come_fits know card can = let count = count_same know can.0 can.1 can.2 in let fits = (come_may know (Own (move.Card card)) can).2 in omega (arith, count, fits)
+
+pub come_go : (know : Knowledge) → CanComeAt know (Own move.Go) → know.round.asked ≡ turns.Owner
+come_go know can = asked_same know can.0 can.1 can.2 ∙ (come_may know (Own move.Go) can).0
+
+pub come_none : (know : Knowledge) → CanComeAt know (Own move.Go) → list_any (λ card. leb (count_of know.round.pile + card_value card) 31) know.own_left ≡ false
+come_none know can =
+    (λ i. list_any (λ card. leb (count_of know.round.pile + card_value card) 31) (own_same know can.0 can.1 can.2 i))
+    ∙ (λ i. list_any (λ card. leb (count_same know can.0 can.1 can.2 i + card_value card) 31) (own_left can.0 can.1)) ∙ (come_may know (Own move.Go) can).1
+
+-- a turn played already, after those before it
+pub see_next : (problem : Setup) (setup : IsSetup problem) (know : Knowledge) (i : ℕ) (act : Act) → i < length problem.played →
+    act ≡ get_or problem.played i act → KnowsAfter know (at_first_lead problem) (map event_of (reverse (take i problem.played))) → CanComeAt know (event_of act)
+see_next problem setup know i act lt at knows =
+    let bare = at_first_lead problem in
+    let history = map event_of (reverse (take i problem.played)) in
+    let led : IsLed bare (event_of act ∷ history) = (led_of know bare history knows, may_at problem setup i act lt at) in
+    (bare, history, knows, led_possible bare knows.setup (event_of act ∷ history) led (begun_at_first_lead problem (event_of act ∷ history)))
+
+pub seen_next : (problem : Setup) (next : Knowledge) (i : ℕ) (act : Act) → i < length problem.played → act ≡ get_or problem.played i act →
+    KnowsAfter next (at_first_lead problem) (event_of act ∷ map event_of (reverse (take i problem.played))) →
+    KnowsAfter next (at_first_lead problem) (map event_of (reverse (take (i + 1) problem.played)))
+seen_next problem next i act lt at knows =
+    let K : List Act → Type 0 = λ acts. KnowsAfter next (at_first_lead problem) (map event_of acts) in
+    subst K (sym (reverse_more problem.played i act lt at)) knows
+
+pub all_seen : (problem : Setup) (know : Knowledge) (i : ℕ) → length problem.played ≤ i →
+    KnowsAfter know (at_first_lead problem) (map event_of (reverse (take i problem.played))) → KnowsAfter know (at_first_lead problem) (played_events problem)
+all_seen problem know i all knows =
+    let K : List Act → Type 0 = λ acts. KnowsAfter know (at_first_lead problem) (map event_of (reverse acts)) in
+    subst K (take_all i problem.played all) knows

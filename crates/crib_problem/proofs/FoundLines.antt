@@ -1,0 +1,331 @@
+-- Each line of a problem that is read is spelled so.
+use Rattle.std.proofs.Common.{◌≡◌, ℕ, ◌-◌, ◌≤◌, Bool, true, false, not, eqb, cond, ◌&&◌, ◌||◌, List, [], ◌∷◌, ◌++◌, length, map, Ok, Err, codes}
+use Rattle.std.proofs.Common.{decimal, refl, sym, ap, subst, ◌∙◌, arith, inl, inr}
+use Rattle.std.specs.Prelude.{nat_le, bytes_eq}
+use Rattle.std.specs.List.{AllByRecursion}
+use Rattle.std.proofs.lemmas.Bool.{cases_Bool, eqb-true, eq-eqb, leb-true, and_parts, not-true, or_parts}
+use Rattle.crib_cards.specs.declared.sides.Side.TheVariants.{Owner, Opponent}
+use Rattle.std.proofs.lemmas.List.{length-map}
+use Rattle.std.proofs.lemmas.Slice.Eq.{bytes_eq-Decides}
+use Rattle.crib_cards.specs.Cards.{IsCard}
+use Rattle.crib_cards.specs.Sets.{has, are_distinct}
+use Rattle.crib_cards.specs.Sides.{game_hole}
+use Rattle.crib_cards.specs.CardText.{card_text}
+use Rattle.crib_cards.specs.declared.sides.Side.{Side}
+use Rattle.crib_cards.specs.declared.sides.Scores.{Scores}
+use Rattle.crib_text.specs.Refusals.{bad_line, bad_version}
+use Rattle.crib_text.specs.Reading.{Rest, value_at, unless_refused, after_keyword, only_word, number_in}
+use Rattle.crib_text.proofs.ReadingLemmas.{bind_ok, if_ok, unless_ok, ok_is, value_found, after_found, only_found, number_found}
+use Rattle.crib_cards.proofs.CardReadLemmas.{card_read_is}
+use Rattle.crib_cards.proofs.SetFacts.{has-append}
+use Rattle.crib_problem.specs.declared.problem.Goal.{Goal}
+use Rattle.crib_problem.specs.declared.problem.Goal.TheVariants.{Win, Holes, Stop}
+use Rattle.crib_problem.specs.declared.problem.Version.{Version}
+use Rattle.crib_problem.specs.declared.problem.Version.TheVariants.{One, Two}
+use Rattle.crib_problem.specs.Setup.{IsSetup, IsGoal, CanSay}
+use Rattle.crib_problem.specs.Spelling.{side_word, goal_words, version_word}
+use Rattle.crib_problem.specs.Refusals.{same_card, bad_score, bad_goal}
+use Rattle.crib_problem.specs.Reading.{version_of_number, version_in, side_in, dealer_in, score_in, both_scores, scores_in, card_in, new_card, new_cards}
+use Rattle.crib_problem.specs.Reading.{cards_in_line, starter_in, holes_in, stop_goal, plain_goal, holes_goal, win_in, target_in, goal_in}
+use Rattle.crib_problem.proofs.CardLemmas.{card_in_is, all-append}
+
+version_found : (n : ℕ) (version : Version) → version_of_number n ≡ Ok version → decimal n ≡ version_word version
+unfolding version_of_number
+version_found n version e =
+    elim (cases_Bool (eqb n 1)) [
+      | inl first ↦
+          let h : version_of_number n ≡ Ok One = rw first refl in
+          ap decimal (eqb-true n 1 first) ∙ ap version_word (ok_is One version (sym h ∙ e))
+      | inr other ↦
+          let h : version_of_number n ≡ cond (eqb n 2) (Ok Two) (Err bad_version) = rw other refl in
+          let g = if_ok (eqb n 2) bad_version Two version (sym h ∙ e) in
+          ap decimal (eqb-true n 2 g.0) ∙ ap version_word g.1
+    ]
+
+pub version_line_found : (words : List (List ℕ)) (version : Version) → version_in words ≡ Ok version → words ≡ codes "problem" ∷ version_word version ∷ []
+unfolding version_in
+version_line_found words version e =
+    let a = bind_ok (after_keyword (codes "problem") 1 words) _ version e in
+    let b = bind_ok (only_word a.0) _ version a.2 in
+    let c = bind_ok (number_in b.0) _ version b.2 in
+    (after_found (codes "problem") 1 words a.0 a.1).0 ∙ ap (λ (w : List (List ℕ)). codes "problem" ∷ w) (only_found a.0 b.0 b.1)
+    ∙ ap (λ (w : List ℕ). codes "problem" ∷ w ∷ []) ((number_found b.0 c.0 c.1).0 ∙ version_found c.0 version c.2)
+
+side_found : (word : List ℕ) (side : Side) → side_in word ≡ Ok side → word ≡ side_word side
+unfolding side_in
+side_found word side e =
+    elim (cases_Bool (bytes_eq word (codes "owner"))) [
+      | inl holds ↦
+          let h : side_in word ≡ Ok Owner = rw holds refl in
+          (bytes_eq-Decides word (codes "owner")).0 holds ∙ ap side_word (ok_is Owner side (sym h ∙ e))
+      | inr fails ↦
+          let h : side_in word ≡ cond (bytes_eq word (codes "opponent")) (Ok Opponent) (Err bad_line) = rw fails refl in
+          let g = if_ok (bytes_eq word (codes "opponent")) bad_line Opponent side (sym h ∙ e) in
+          (bytes_eq-Decides word (codes "opponent")).0 g.0 ∙ ap side_word g.1
+    ]
+
+pub dealer_found : (words : List (List ℕ)) (side : Side) → dealer_in words ≡ Ok side → words ≡ codes "dealer" ∷ side_word side ∷ []
+unfolding dealer_in
+dealer_found words side e =
+    let a = bind_ok (after_keyword (codes "dealer") 1 words) _ side e in
+    let b = bind_ok (only_word a.0) _ side a.2 in
+    (after_found (codes "dealer") 1 words a.0 a.1).0 ∙ ap (λ (w : List (List ℕ)). codes "dealer" ∷ w) (only_found a.0 b.0 b.1)
+    ∙ ap (λ (w : List ℕ). codes "dealer" ∷ w ∷ []) (side_found b.0 side b.2)
+
+score_found : (word : List ℕ) (score : ℕ) → score_in word ≡ Ok score → (word ≡ decimal score) × (score ≤ 120)
+unfolding score_in
+score_found word score e =
+    let a = bind_ok (number_in word) _ score e in
+    let b = bind_ok (unless_refused bad_score (nat_le a.0 120)) _ score a.2 in
+    let is : a.0 ≡ score = ok_is a.0 score b.2 in
+    let small : a.0 ≤ 120 = leb-true _ _ (unless_ok _ bad_score b.0 b.1) in
+    ((number_found word a.0 a.1).0 ∙ ap decimal is, omega arith)
+
+abbrev HasScores : List (List ℕ) → Scores → Type 0
+HasScores words scores = (words ≡ decimal scores.owner ∷ decimal scores.opponent ∷ []) × (scores.owner ≤ 120) × (scores.opponent ≤ 120)
+
+both_found : (words : List (List ℕ)) (scores : Scores) → both_scores words ≡ Ok scores → HasScores words scores
+unfolding both_scores
+both_found [] scores e = absurd cc
+both_found (first ∷ []) scores e = absurd cc
+both_found (first ∷ second ∷ []) scores e =
+    let a = bind_ok (score_in first) _ scores e in
+    let b = bind_ok (score_in second) _ scores a.2 in
+    let made : Scores = record { owner = a.0; opponent = b.0 } in
+    let f = score_found first a.0 a.1 in
+    let s = score_found second b.0 b.1 in
+    subst (λ (v : Scores). HasScores (first ∷ second ∷ []) v) (ok_is made scores b.2) (
+      ap (λ (w : List ℕ). w ∷ second ∷ []) f.0
+          ∙ ap (λ (w : List ℕ). decimal a.0 ∷ w ∷ []) s.0,
+      f.1,
+      s.1,
+    )
+both_found (first ∷ second ∷ third ∷ words) scores e = absurd cc
+
+pub scores_found : (words : List (List ℕ)) (scores : Scores) → scores_in words ≡ Ok scores
+    → (words ≡ codes "score" ∷ decimal scores.owner ∷ decimal scores.opponent ∷ []) × (scores.owner ≤ 120) × (scores.opponent ≤ 120)
+unfolding scores_in
+scores_found words scores e =
+    let a = bind_ok (after_keyword (codes "score") 2 words) _ scores e in
+    let b = both_found a.0 scores a.2 in
+    ((after_found (codes "score") 2 words a.0 a.1).0 ∙ ap (λ (w : List (List ℕ)). codes "score" ∷ w) b.0, b.1, b.2)
+
+card_found : (known word : List ℕ) (card : ℕ) → new_card known word ≡ Ok card → (word ≡ card_text card) × IsCard card × (has known card ≡ false)
+unfolding new_card
+card_found known word card e =
+    let a = bind_ok (card_in word) _ card e in
+    let b = bind_ok (unless_refused same_card (not (has known a.0))) _ card a.2 in
+    let is : a.0 ≡ card = ok_is a.0 card b.2 in
+    let read = card_read_is word a.0 (card_in_is word a.0 a.1) in
+    subst (λ (c : ℕ). (word ≡ card_text c) × IsCard c × (has known c ≡ false)) is (read.0, read.1, not-true _ (unless_ok _ same_card b.0 b.1))
+
+-- cards that are not among these, and not twice
+pub record AreNew (known cards : List ℕ) : Type 0 where
+  pub all_cards : AllByRecursion IsCard cards
+  pub distinct : are_distinct cards ≡ true
+  pub fresh : (card : ℕ) → has cards card ≡ true → has known card ≡ false
+
+pub starter_found : (words : List (List ℕ)) (card : ℕ) → starter_in words ≡ Ok card → (words ≡ codes "starter" ∷ card_text card ∷ []) × IsCard card
+unfolding starter_in
+starter_found words card e =
+    let a = bind_ok (after_keyword (codes "starter") 1 words) _ card e in
+    let b = bind_ok (only_word a.0) _ card a.2 in
+    let c = card_found [] b.0 card b.2 in (
+      (after_found (codes "starter") 1 words a.0 a.1).0 ∙ ap (λ (w : List (List ℕ)). codes "starter" ∷ w) (only_found a.0 b.0 b.1)
+          ∙ ap (λ (w : List ℕ). codes "starter" ∷ w ∷ []) c.0,
+      c.1,
+    )
+
+cards_found : (known : List ℕ) (words : List (List ℕ)) (cards : List ℕ) → new_cards known words ≡ Ok cards → (words ≡ map card_text cards) × AreNew known cards
+unfolding new_cards
+cards_found known [] cards e =
+    subst (λ (cs : List ℕ). ([] ≡ map card_text cs) × AreNew known cs) (ok_is [] cards e)
+    (refl, record { all_cards = tt; distinct = refl; fresh = λ card h. absurd cc })
+cards_found known (word ∷ words) cards e =
+    let a = bind_ok (new_card known word) _ cards e in
+    let b = bind_ok (new_cards (a.0 ∷ known) words) _ cards a.2 in
+    let first = card_found known word a.0 a.1 in
+    let rest = cards_found (a.0 ∷ known) words b.0 b.1 in
+    let other : has b.0 a.0 ≡ false = elim (cases_Bool (has b.0 a.0)) [
+      | inl holds ↦ let h = rest.1.fresh a.0 holds in let self : eqb a.0 a.0 ≡ true = eq-eqb a.0 a.0 refl in let g : has (a.0 ∷ known) a.0 ≡ true =
+          rw self refl in absurd cc
+      | inr fails ↦ fails
+    ] in
+    let fresh : (card : ℕ) → has (a.0 ∷ b.0) card ≡ true → has known card ≡ false = λ card h.
+    elim (cases_Bool (eqb a.0 card)) [
+      | inl same ↦ ap (has known) (sym (eqb-true a.0 card same)) ∙ first.2
+      | inr differs ↦
+          let inner : has b.0 card ≡ true = (let g : has (a.0 ∷ b.0) card ≡ has b.0 card = rw differs refl in sym g ∙ h) in
+          let k : has (a.0 ∷ known) card ≡ has known card = rw differs refl in
+          sym k ∙ rest.1.fresh card inner
+    ] in
+    subst (λ (cs : List ℕ). (word ∷ words ≡ map card_text cs) × AreNew known cs) (ok_is (a.0 ∷ b.0) cards b.2) (
+      ap (λ (w : List ℕ). w ∷ words) first.0 ∙ ap (λ (ws : List (List ℕ)). card_text a.0 ∷ ws) rest.0,
+      record {
+        all_cards =
+            (first.1, rest.1.all_cards);
+        distinct = rw (other, rest.1.distinct) refl;
+        fresh = fresh;
+      },
+    )
+
+pub cards_line_found : (keyword : List ℕ) (count : ℕ) (known : List ℕ) (words : List (List ℕ)) (cards : List ℕ)
+    → cards_in_line keyword count known words ≡ Ok cards
+    → (words ≡ keyword ∷ map card_text cards) × AreNew known cards × (length cards ≡ count)
+unfolding cards_in_line
+cards_line_found keyword count known words cards e =
+    let a = bind_ok (after_keyword keyword count words) _ cards e in
+    let after = after_found keyword count words a.0 a.1 in
+    let b = cards_found known a.0 cards a.2 in
+    (after.0 ∙ ap (λ (w : List (List ℕ)). keyword ∷ w) b.0, b.1, sym (length-map cards card_text) ∙ ap length (sym b.0) ∙ after.1)
+
+abbrev HasGoal : Version → ℕ → List (List ℕ) → Goal → Type 0
+HasGoal version score words goal = (words ≡ goal_words goal) × IsGoal score goal × CanSay version goal []
+
+holes_said : (version : Version) (holes : ℕ) → CanSay version (Holes holes) []
+holes_said One holes = (refl, refl)
+holes_said Two holes = tt
+
+win_said : (version : Version) → CanSay version Win []
+win_said One = (refl, refl)
+win_said Two = tt
+
+holes_found : (version : Version) (score : ℕ) (word : List ℕ) (goal : Goal) → holes_in score word ≡ Ok goal →
+    HasGoal version score (codes "holes" ∷ word ∷ []) goal
+unfolding holes_in
+holes_found version score word goal e =
+    let a = bind_ok (number_in word) _ goal e in
+    let b = bind_ok (unless_refused bad_goal (nat_le 1 a.0 && nat_le a.0 (game_hole - score))) _ goal a.2 in
+    let both = and_parts _ _ (unless_ok _ bad_goal b.0 b.1) in
+    subst (HasGoal version score (codes "holes" ∷ word ∷ [])) (ok_is (Holes a.0) goal b.2)
+    (ap (λ (w : List ℕ). codes "holes" ∷ w ∷ []) (number_found word a.0 a.1).0, (leb-true _ _ both.0, leb-true _ _ both.1), holes_said version a.0)
+
+two_found : (version : Version) (score : ℕ) (words : List (List ℕ)) (goal : Goal) → holes_goal score words ≡ Ok goal → HasGoal version score words goal
+unfolding holes_goal
+two_found version score [] goal e = absurd cc
+two_found version score (kind ∷ []) goal e = absurd cc
+two_found version score (kind ∷ word ∷ []) goal e =
+    elim (cases_Bool (bytes_eq kind (codes "holes"))) [
+      | inl holds ↦
+          let same : kind ≡ codes "holes" = (bytes_eq-Decides kind (codes "holes")).0 holds in
+          let read : holes_in score word ≡ Ok goal = (let h : cond (bytes_eq kind (codes "holes")) (holes_in score word) (Err bad_line) ≡ holes_in score word =
+          rw holds refl in sym h ∙ e) in
+          let f = holes_found version score word goal read in
+          (ap (λ (k : List ℕ). k ∷ word ∷ []) same ∙ f.0, f.1, f.2)
+      | inr fails ↦ let h : cond (bytes_eq kind (codes "holes")) (holes_in score word) (Err bad_line) ≡ Err bad_line = rw fails refl in absurd cc
+    ]
+two_found version score (kind ∷ word ∷ other ∷ words) goal e = absurd cc
+
+stop_found : (version : Version) (score : ℕ) (kind : List ℕ) (goal : Goal) → kind ≡ codes "stop" → stop_goal version ≡ Ok goal →
+    HasGoal version score (kind ∷ []) goal
+unfolding stop_goal
+stop_found One score kind goal is e = absurd cc
+stop_found Two score kind goal is e = subst (HasGoal Two score (kind ∷ [])) (ok_is Stop goal e) (ap (λ (k : List ℕ). k ∷ []) is, tt, tt)
+
+plain_found : (version : Version) (score : ℕ) (kind : List ℕ) (goal : Goal) → plain_goal version kind ≡ Ok goal → HasGoal version score (kind ∷ []) goal
+unfolding plain_goal
+plain_found version score kind goal e =
+    elim (cases_Bool (bytes_eq kind (codes "win"))) [
+      | inl holds ↦
+          let h : plain_goal version kind ≡ Ok Win = rw holds refl in
+          subst (HasGoal version score (kind ∷ [])) (ok_is Win goal (sym h ∙ e)) (
+            ap (λ (k : List ℕ). k ∷ []) ((bytes_eq-Decides kind (codes "win")).0 holds),
+            tt,
+            win_said version,
+          )
+      | inr fails ↦
+          let h : plain_goal version kind ≡ cond (bytes_eq kind (codes "stop")) (stop_goal version) (Err bad_line) = rw fails refl in
+          stop_or_not version score kind goal (sym h ∙ e)
+    ]
+  where
+    stop_or_not : (version : Version) (score : ℕ) (kind : List ℕ) (goal : Goal) → cond (bytes_eq kind (codes "stop")) (stop_goal version) (Err bad_line)
+        ≡ Ok goal → HasGoal version score (kind ∷ []) goal
+    stop_or_not version score kind goal e =
+        elim (cases_Bool (bytes_eq kind (codes "stop"))) [
+          | inl holds ↦
+              let h : cond (bytes_eq kind (codes "stop")) (stop_goal version) (Err bad_line) ≡ stop_goal version = rw holds refl in
+              stop_found version score kind goal ((bytes_eq-Decides kind (codes "stop")).0 holds) (sym h ∙ e)
+          | inr fails ↦ let h : cond (bytes_eq kind (codes "stop")) (stop_goal version) (Err bad_line) ≡ Err bad_line = rw fails refl in absurd cc
+        ]
+
+abbrev HasGoalLine : Version → ℕ → List (List ℕ) → Goal → Type 0
+HasGoalLine version score words goal = (words ≡ codes "goal" ∷ goal_words goal) × IsGoal score goal × CanSay version goal []
+
+pub goal_found : (version : Version) (score : ℕ) (words : List (List ℕ)) (goal : Goal) → goal_in version score words ≡ Ok goal →
+    HasGoalLine version score words goal
+unfolding goal_in win_in target_in
+goal_found version score words goal e =
+    elim (cases_Bool (eqb (length words) 2)) [
+      | inl holds ↦
+          let read : win_in version words ≡ Ok goal =
+          (let h : cond (eqb (length words) 2) (win_in version words) (target_in score words) ≡ win_in version words = rw holds refl in sym h ∙ e) in
+          let a = bind_ok (after_keyword (codes "goal") 1 words) _ goal read in
+          let b = bind_ok (only_word a.0) _ goal a.2 in
+          let p = plain_found version score b.0 goal b.2 in
+          ((after_found (codes "goal") 1 words a.0 a.1).0 ∙ ap (λ (w : List (List ℕ)). codes "goal" ∷ w) (only_found a.0 b.0 b.1 ∙ p.0), p.1, p.2)
+      | inr fails ↦
+          let read : target_in score words ≡ Ok goal =
+          (let h : cond (eqb (length words) 2) (win_in version words) (target_in score words) ≡ target_in score words = rw fails refl in sym h ∙ e) in
+          let a = bind_ok (after_keyword (codes "goal") 2 words) _ goal read in
+          let t = two_found version score a.0 goal a.2 in
+          ((after_found (codes "goal") 2 words a.0 a.1).0 ∙ ap (λ (w : List (List ℕ)). codes "goal" ∷ w) t.0, t.1, t.2)
+    ]
+
+-- all the cards
+has_or : (a b : Bool) → (a || b) ≡ true → b ≡ false → a ≡ true
+has_or true b e f = refl
+has_or false b e f = absurd cc
+
+pub distinct-append : (xs ys : List ℕ) → are_distinct xs ≡ true → are_distinct ys ≡ true → ((card : ℕ) → has ys card ≡ true → has xs card ≡ false) →
+    are_distinct (xs ++ ys) ≡ true
+distinct-append [] ys d f apart = f
+distinct-append (x ∷ xs) ys d f apart =
+    let parts = and_parts (not (has xs x)) (are_distinct xs) d in
+    let here : has ys x ≡ false = elim (cases_Bool (has ys x)) [
+      | inl holds ↦ let h = apart x holds in let self : eqb x x ≡ true = eq-eqb x x refl in let g : has (x ∷ xs) x ≡ true = rw self refl in absurd cc
+      | inr fails ↦ fails
+    ] in
+    let none : has (xs ++ ys) x ≡ false = has-append xs ys x ∙ (rw (not-true _ parts.0, here) refl) in
+    let rest = distinct-append xs ys parts.1 f (λ card h. (or_parts (eqb x card) (has xs card) (apart card h)).1) in
+    rw (none, rest) refl
+
+seven_distinct : (starter : ℕ) (hold thrown : List ℕ) → AreNew (starter ∷ []) hold → AreNew (starter ∷ hold) thrown →
+    are_distinct (starter ∷ hold ++ thrown) ≡ true
+seven_distinct starter hold thrown h t =
+    distinct-append (starter ∷ hold) thrown
+    (let none : has hold starter ≡ false = elim (cases_Bool (has hold starter)) [
+      | inl holds ↦ let k = h.fresh starter holds in let self : eqb starter starter ≡ true = eq-eqb starter starter refl in
+          let g : has (starter ∷ []) starter ≡ true = rw self refl in absurd cc
+      | inr fails ↦ fails
+    ] in rw (none, h.distinct) refl)
+    t.distinct t.fresh
+
+pub setup_is : (rest r1 r2 r3 r4 r5 r6 r7 : Rest) (version : Version) (dealer : Side) (scores : Scores) (starter : ℕ) (hold thrown : List ℕ) (goal : Goal)
+    → value_at scores_in r2 ≡ Ok (scores, r3) → value_at starter_in r3 ≡ Ok (starter, r4) → value_at (cards_in_line (codes "hold") 4 (starter ∷ [])) r4 ≡ Ok
+    (hold, r5)
+    → value_at (cards_in_line (codes "throw") 2 (starter ∷ hold)) r5 ≡ Ok (thrown, r6) → value_at (goal_in version scores.owner) r6 ≡ Ok (goal, r7)
+    → IsSetup (record { version = version; dealer = dealer; scores = scores; starter = starter; hold = hold; thrown = thrown; goal = goal; played = [] })
+setup_is rest r1 r2 r3 r4 r5 r6 r7 version dealer scores starter hold thrown goal e3 e4 e5 e6 e7 =
+    let v3 = value_found scores_in r2 (scores, r3) e3 in
+    let v4 = value_found starter_in r3 (starter, r4) e4 in
+    let v5 = value_found (cards_in_line (codes "hold") 4 (starter ∷ [])) r4 (hold, r5) e5 in
+    let v6 = value_found (cards_in_line (codes "throw") 2 (starter ∷ hold)) r5 (thrown, r6) e6 in
+    let v7 = value_found (goal_in version scores.owner) r6 (goal, r7) e7 in
+    let s = scores_found v3.0 scores v3.2 in
+    let c = starter_found v4.0 starter v4.2 in
+    let h = cards_line_found (codes "hold") 4 (starter ∷ []) v5.0 hold v5.2 in
+    let t = cards_line_found (codes "throw") 2 (starter ∷ hold) v6.0 thrown v6.2 in
+    let g = goal_found version scores.owner v7.0 goal v7.2 in
+    record {
+      held = h.2;
+      two_thrown = t.2;
+      cards = (c.1, all-append hold thrown h.1.all_cards t.1.all_cards);
+      distinct = seven_distinct starter hold thrown h.1 t.1;
+      owner_score = s.1;
+      opponent_score = s.2;
+      goal_in_range = g.1;
+      of_version = g.2;
+      few = omega arith;
+      moves = tt;
+      allowed = tt;
+    }

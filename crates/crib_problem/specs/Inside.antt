@@ -1,0 +1,5 @@
+-- What private functions alone cite, and no public contract rests on.
+pub mod Reading
+pub mod Refusals
+pub mod Spelling
+pub mod Tables

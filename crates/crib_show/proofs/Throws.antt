@@ -1,0 +1,166 @@
+-- The points of a crib with two cards that may be thrown.
+use Rattle.std.proofs.Common.{◌≡◌, ◌≢◌, ◌⊎◌, ℕ, ◌+◌, ◌-◌, ◌*◌, ◌/◌, ◌%◌, ◌<◌, ◌≤◌, min, suc, zero, Bool, true, false, not, cond, eqb, ltb, ◌&&◌, ◌||◌, List, []}
+use Rattle.std.proofs.Common.{◌∷◌, ◌++◌, map, count_by, refl, sym, ap, ◌∙◌, inl, inr, subst, arith}
+use Rattle.std.specs.List.{list_all, list_any}
+use Rattle.std.proofs.lemmas.Bool.{cases_Bool, cases_lt, and_parts, and_from, or_cases, or_from, or_left, or_parts, or_right, both_ways, not-true, cond-true}
+use Rattle.std.proofs.lemmas.Bool.{cond-false, eq-eqb, eqb-true, eqb-false, ne_eqb, lt-ltb, ltb-true}
+use Rattle.std.proofs.lemmas.List.{map-append}
+use Rattle.crib_cards.specs.Cards.{IsCard, IsRank, card_of, jack, rank_of, suit_of}
+use Rattle.crib_cards.specs.Sets.{has, are_distinct, count_at, count_rank, IsCardSet}
+use Rattle.crib_cards.specs.declared.sides.Dealt.{Dealt}
+use Rattle.crib_cards.proofs.SetFacts.{are_distinct-set_where, has-append}
+use Rattle.crib_show.specs.Inside.Extremes.{IsLowCrib, crib_suit_points, crib_with, has_room, is_free, least_of_ranks}
+use Rattle.crib_show.proofs.Tried.{AreTried, IsLeastBefore, IsMostBefore}
+use Rattle.crib_show.specs.Inside.Extremes.{least_suits, least_suits_with, most_crib_suits, no_crib, plain_crib, right_jack, thrown_suits}
+use Rattle.crib_show.specs.Show.{are_of_suit, crib_flush, crib_points, jack_points, plain_points}
+use Rattle.crib_show.specs.Worst.{AgreesWith, HasDeal, hidden_crib}
+use Rattle.crib_show.specs.declared.deals.WorstShow.{WorstShow}
+use Rattle.crib_show.proofs.Exchange.{IsHold, count_append, count_no, count_within, count_yes, deal_of, exchange, held_count, hold_of, outside, throw_of}
+use Rattle.crib_show.proofs.Jacks.{all_append_left, any_found, right_is}
+use Rattle.crib_show.proofs.OrderLaw.{append-reordered, crib_points-reordered}
+use Rattle.crib_show.proofs.RankLaw.{plain_points-reordered}
+use Rattle.crib_show.proofs.Reordered.{Reordered, front, same_order}
+use Rattle.crib_cards.proofs.Members.{has_here, has_there, has_cases, distinct_append, distinct_parts}
+use Rattle.crib_cards.proofs.LowestCard.{in_set}
+use Rattle.crib_cards.proofs.SetLemmas.{eqb_turned}
+use Rattle.crib_show.proofs.TriedPairs.{four_below, four_is, card_back, rank_back}
+
+module _ (worst : WorstShow) where
+  -- ---- two cards that may be thrown
+  pub record MayThrow (x y : ℕ) : Type 0 where
+    pub first_free : is_free worst x ≡ true
+    pub second_free : is_free worst y ≡ true
+    pub apart : x ≢ y
+    pub room : has_room worst (rank_of x) (rank_of y) ≡ true
+
+  suits_of : (x y : ℕ) → MayThrow x y → thrown_suits worst x y ≡ crib_suit_points worst x y
+  suits_of x y may =
+      cond-true (is_free worst x && is_free worst y && not (eqb x y)) (crib_suit_points worst x y) no_crib
+      (and_from (is_free worst x && is_free worst y) (not (eqb x y)) (and_from (is_free worst x) (is_free worst y) may.first_free may.second_free)
+      (ap not (ne_eqb x y may.apart)))
+
+  few_suits : (x y : ℕ) → crib_suit_points worst x y ≤ 6
+  few_suits x y = six (list_all (λ card. eqb (suit_of card) (suit_of worst.starter)) (crib_with worst x y))
+      (list_any (λ card. eqb (rank_of card) jack && eqb (suit_of card) (suit_of worst.starter)) (crib_with worst x y))
+    where
+      six : (flush jack_held : Bool) → cond flush 5 0 + cond jack_held 1 0 ≤ 6
+      six true true = omega arith
+      six true false = omega arith
+      six false true = omega arith
+      six false false = omega arith
+
+  least_suits_below : (x y : ℕ) → least_suits worst (rank_of x) (rank_of y) ≤ thrown_suits worst x y
+  least_suits_below x y =
+      let p = rank_of x in
+      let q = rank_of y in
+      let first = four_below (λ s. least_suits_with worst (card_of p s) q) (suit_of x) (omega arith) in
+      let second = four_below (λ t. thrown_suits worst (card_of p (suit_of x)) (card_of q t)) (suit_of y) (omega arith) in
+      joined (least_suits worst p q) (least_suits_with worst (card_of p (suit_of x)) q) (thrown_suits worst (card_of p (suit_of x)) (card_of q (suit_of y)))
+      (thrown_suits worst x y) first second
+      (λ i. thrown_suits worst (card_back x i) (card_back y i))
+    where
+      joined : (a b c d : ℕ) → a ≤ b → b ≤ c → c ≡ d → a ≤ d
+      joined a b c d e f g = omega arith
+
+  -- ---- the points of the crib
+  plain_same : (x y p q : ℕ) → rank_of x ≡ p → rank_of y ≡ q → IsRank p → IsRank q → plain_points (worst.starter ∷ crib_with worst x y) ≡ plain_crib worst p q
+  plain_same x y p q is_p is_q range_p range_q =
+      plain_points-reordered (worst.starter ∷ crib_with worst x y) (worst.starter ∷ crib_with worst (card_of p 0) (card_of q 0))
+      (subst (Reordered (map rank_of (worst.starter ∷ crib_with worst x y))) same (same_order (map rank_of (worst.starter ∷ crib_with worst x y))))
+    where
+      same : map rank_of (worst.starter ∷ crib_with worst x y) ≡ map rank_of (worst.starter ∷ crib_with worst (card_of p 0) (card_of q 0))
+      same =
+          ap (λ ranks. rank_of worst.starter ∷ ranks)
+          (map-append rank_of worst.own_throw (x ∷ y ∷ [])
+          ∙ (λ i. map rank_of worst.own_throw ++ (is_p ∙ sym (rank_back p 0 (omega arith) range_p.0)) i ∷ (is_q ∙ sym (rank_back q 0 (omega arith) range_q.0))
+          i ∷ [])
+          ∙ sym (map-append rank_of worst.own_throw (card_of p 0 ∷ card_of q 0 ∷ [])))
+
+  pub crib_of_ranks : (x y p q : ℕ) → rank_of x ≡ p → rank_of y ≡ q → IsRank p → IsRank q → crib_points (crib_with worst x y) worst.starter
+      ≡ plain_crib worst p q + crib_suit_points worst x y
+  unfolding crib_points
+  crib_of_ranks x y p q is_p is_q range_p range_q =
+      regroup (plain_points (worst.starter ∷ crib_with worst x y)) (plain_crib worst p q) (crib_flush (crib_with worst x y) worst.starter)
+      (jack_points (crib_with worst x y) worst.starter)
+      (plain_same x y p q is_p is_q range_p range_q)
+    where
+      regroup : (a b c d : ℕ) → a ≡ b → a + c + d ≡ b + (c + d)
+      regroup a b c d same = omega arith
+
+  -- the crib of two cards that may be thrown is no less than the least of their ranks
+  pub above_least : (x y : ℕ) → MayThrow x y → IsRank (rank_of x) → IsRank (rank_of y) → least_of_ranks worst (rank_of x) (rank_of y) ≤ crib_points
+      (crib_with worst x y) worst.starter
+  above_least x y may range_x range_y =
+      joined (least_of_ranks worst (rank_of x) (rank_of y)) (plain_crib worst (rank_of x) (rank_of y)) (least_suits worst (rank_of x) (rank_of y))
+      (thrown_suits worst x y) (crib_suit_points worst x y)
+      (crib_points (crib_with worst x y) worst.starter)
+      (cond-true (has_room worst (rank_of x) (rank_of y)) (plain_crib worst (rank_of x) (rank_of y) + least_suits worst (rank_of x) (rank_of y)) no_crib
+      may.room)
+      (least_suits_below x y) (suits_of x y may) (crib_of_ranks x y (rank_of x) (rank_of y) refl refl range_x range_y)
+    where
+      joined : (a b c d e f : ℕ) → a ≡ b + c → c ≤ d → d ≡ e → f ≡ b + e → a ≤ f
+      joined a b c d e f h i j k = omega arith
+
+  pub suits_low : (x y : ℕ) → MayThrow x y → least_suits worst (rank_of x) (rank_of y) ≤ 6
+  suits_low x y may = joined (least_suits worst (rank_of x) (rank_of y)) (thrown_suits worst x y) (crib_suit_points worst x y) (least_suits_below x y)
+      (suits_of x y may) (few_suits x y)
+    where
+      joined : (a b c : ℕ) → a ≤ b → b ≡ c → c ≤ 6 → a ≤ 6
+      joined a b c h i j = omega arith
+
+  -- where there is a least, two cards have it
+  pub record Reaches (points : ℕ) : Type 0 where
+    pub x : ℕ
+    pub y : ℕ
+    pub may : MayThrow x y
+    pub crib : crib_points (crib_with worst x y) worst.starter ≡ points
+
+  pub reached : (p q points : ℕ) → IsRank p → IsRank q → points ≡ least_of_ranks worst p q → points < 255 → Reaches points
+  reached p q points range_p range_q is low =
+      elim (cases_Bool (has_room worst p q)) [
+        | inr no_room ↦
+            let none : least_of_ranks worst p q ≡ no_crib = cond-false (has_room worst p q) (plain_crib worst p q + least_suits worst p q) no_crib no_room in
+            absurd (too_high points (least_of_ranks worst p q) is none low)
+        | inl room ↦
+            let sum : least_of_ranks worst p q ≡ plain_crib worst p q + least_suits worst p q =
+            cond-true (has_room worst p q) (plain_crib worst p q + least_suits worst p q) no_crib room in
+            let first = four_is (λ s. least_suits_with worst (card_of p s) q) in
+            let second = four_is (λ t. thrown_suits worst (card_of p first.0) (card_of q t)) in
+            let x = card_of p first.0 in
+            let y = card_of q second.0 in
+            let rank_x : rank_of x ≡ p = rank_back p first.0 first.1 range_p.0 in
+            let rank_y : rank_of y ≡ q = rank_back q second.0 second.1 range_q.0 in
+            let test : Bool = is_free worst x && is_free worst y && not (eqb x y) in
+            elim (cases_Bool test) [
+              | inr fails ↦
+                  absurd (too_high_sum points (least_of_ranks worst p q) (plain_crib worst p q) (least_suits worst p q) (least_suits_with worst x q)
+                  (thrown_suits worst x y) is sum first.2 second.2
+                  (cond-false test (crib_suit_points worst x y) no_crib fails) low)
+              | inl passes ↦
+                  let parts = and_parts (is_free worst x && is_free worst y) (not (eqb x y)) passes in
+                  let free = and_parts (is_free worst x) (is_free worst y) parts.0 in
+                  record {
+                    x = x;
+                    y = y;
+                    may = record {
+                      first_free = free.0;
+                      second_free = free.1;
+                      apart = eqb-false x y (not-true (eqb x y) parts.1);
+                      room = (λ i. has_room worst (rank_x i) (rank_y i)) ∙ room;
+                    };
+                    crib = exactly (crib_points (crib_with worst x y) worst.starter) (plain_crib worst p q) (crib_suit_points worst x y) points
+                        (least_of_ranks worst p q) (least_suits worst p q) (least_suits_with worst x q) (thrown_suits worst x y)
+                        (crib_of_ranks x y p q rank_x rank_y range_p range_q) is sum first.2 second.2
+                        (cond-true test (crib_suit_points worst x y) no_crib passes);
+                  }
+            ]
+      ]
+    where
+      too_high : (a b : ℕ) → a ≡ b → b ≡ 255 → a < 255 → ⊥
+      too_high a b e f less = omega arith
+
+      too_high_sum : (a b c d e f : ℕ) → a ≡ b → b ≡ c + d → d ≡ e → e ≡ f → f ≡ 255 → a < 255 → ⊥
+      too_high_sum a b c d e f g h i j k less = omega arith
+
+      exactly : (a b c d e f g h : ℕ) → a ≡ b + c → d ≡ e → e ≡ b + f → f ≡ g → g ≡ h → h ≡ c → a ≡ d
+      exactly a b c d e f g h i j k l m n = omega arith

@@ -1,0 +1,32 @@
+-- What the loops over hands and cribs have tried.
+use Rattle.std.specs.Prelude.{◌≡◌, ◌⊎◌, ℕ, ◌+◌, ◌<◌, ◌≤◌, ◌==◌, nat_lt, max, min, Bool, not, ◌&&◌, ◌||◌, IsTrue, List}
+use Rattle.std.specs.Prelude.{[], ◌∷◌, ◌++◌, map, replicate, if◌then◌else◌}
+use Rattle.std.specs.List.{list_all}
+use Rattle.crib_cards.specs.Cards.{IsRank, card_of, suit_of, jack}
+use Rattle.crib_cards.specs.Sets.{has, are_distinct, count_at, count_rank}
+use Rattle.crib_cards.specs.declared.sides.Dealt.{Dealt}
+use Rattle.crib_show.specs.declared.deals.WorstShow.{WorstShow}
+use Rattle.crib_show.specs.Show.{are_of_suit, crib_flush, hand_flush, jack_points, plain_points}
+use Rattle.crib_show.specs.Worst.{AgreesWith, hidden_crib, hidden_hand}
+use Rattle.crib_show.specs.Inside.Extremes.{suited, most_suit_points, has_room, no_crib, least_suits, plain_crib, least_of_ranks}
+
+-- the greatest hand of some ranks
+abbrev pub greatest_hand : WorstShow → List ℕ → ℕ
+greatest_hand worst ranks = plain_points (worst.starter ∷ suited 0 ranks) + most_suit_points worst ranks
+
+-- whether two ranks come before two others, or stand in the wrong order
+abbrev pub AreTried : ℕ → ℕ → ℕ → ℕ → Type 0
+AreTried first second p q = (p < first) ⊎ ((p ≡ first) × (q < second))
+
+-- a least crib of the pairs of ranks that are tried before two ranks, the lower rank first
+pub record IsLeastBefore (worst : WorstShow) (first second least : ℕ) : Type 0 where
+  pub all : (p q : ℕ) → IsRank p → IsRank q → p ≤ q → AreTried first second p q → least ≤ least_of_ranks worst p q
+  pub some : (least ≡ no_crib) ⊎ ((p : ℕ) × (q : ℕ) × IsRank p × IsRank q × (least ≡ least_of_ranks worst p q))
+  pub low : (p q : ℕ) → IsRank p → IsRank q → p ≤ q → AreTried first second p q → IsTrue (has_room worst p q)
+      → least_suits worst p q ≤ 6 → least ≤ 102
+
+-- no pair of ranks that is tried before two ranks and may be thrown has more points
+pub record IsMostBefore (worst : WorstShow) (first second most : ℕ) : Type 0 where
+  pub all : (p q : ℕ) → IsRank p → IsRank q → p ≤ q → AreTried first second p q → IsTrue (has_room worst p q)
+      → plain_crib worst p q ≤ most
+  pub low : most ≤ 96

@@ -168,13 +168,11 @@ class Source:
             else:
                 found.update({f"{used}.{its}": block for its, block in self.of_module(crate, place).items()})
 
-    def reached_from(self, roots, closed=()):
-        """The definitions that some blocks reach, without them, and without what the closed ones rest on."""
+    def reached_from(self, roots):
+        """The definitions that some blocks reach, without these blocks."""
         reached, ahead = {}, list(roots)
         while ahead:
             block = ahead.pop()
-            if block in closed:
-                continue
             meanings = self.meanings(block.path)
             words = block.words | ({">>="} if "←" in block.words else set())
             for next_block in [meanings[word] for word in words if word in meanings]:

@@ -10,6 +10,7 @@ use Rattle.crib_cards.specs.Order.{is_before, are_rising}
 use Rattle.crib_play.proofs.CardLemmas.{filter_yes, filter_no}
 use Rattle.crib_know.proofs.Cards.{eqb_same, has_here, has-filter_parts}
 use Rattle.crib_know.proofs.Lists.{has_range_parts}
+use Rattle.crib_cards.proofs.SetFacts.{rising_rest, rising_above}
 
 -- ---- dictionary order
 pub before_front : (x : ℕ) (xs ys : List ℕ) → is_before xs ys ≡ false → is_before (x ∷ xs) (x ∷ ys) ≡ false
@@ -170,20 +171,6 @@ pub rising_take : (xs : List ℕ) → are_rising xs ≡ true → are_rising (tak
 rising_take [] rising = refl
 rising_take (x ∷ []) rising = refl
 rising_take (x ∷ y ∷ xs) rising = and_from (ltb x y) true (and_parts (ltb x y) (are_rising (y ∷ xs)) rising).0 refl
-
-rising_rest : (x : ℕ) (xs : List ℕ) → are_rising (x ∷ xs) ≡ true → are_rising xs ≡ true
-rising_rest x [] rising = refl
-rising_rest x (y ∷ ys) rising = (and_parts (ltb x y) (are_rising (y ∷ ys)) rising).1
-
-rising_above : (x : ℕ) (xs : List ℕ) (card : ℕ) → are_rising (x ∷ xs) ≡ true → has xs card ≡ true → x < card
-rising_above x [] card rising h = absurd (both_ways false refl h)
-rising_above x (y ∷ ys) card rising h =
-    let parts = and_parts (ltb x y) (are_rising (y ∷ ys)) rising in
-    let less : x < y = ltb-true x y parts.0 in
-    elim (or_cases (eqb y card) (has ys card) h) [
-      | inl here ↦ let is : y ≡ card = eqb-true y card here in omega arith
-      | inr there ↦ let more = rising_above y ys card parts.1 there in omega (arith, more, less)
-    ]
 
 pub rising_distinct : (xs : List ℕ) → are_rising xs ≡ true → are_distinct xs ≡ true
 rising_distinct [] rising = refl

@@ -28,6 +28,7 @@ use Rattle.crib_problem.specs.Refusals.{same_card, bad_score, bad_goal}
 use Rattle.crib_problem.specs.Reading.{version_of_number, version_in, side_in, dealer_in, score_in, both_scores, scores_in, card_in, new_card, new_cards}
 use Rattle.crib_problem.specs.Reading.{cards_in_line, starter_in, holes_in, stop_goal, plain_goal, holes_goal, win_in, target_in, goal_in}
 use Rattle.crib_problem.proofs.CardLemmas.{card_in_is, all-append}
+use Rattle.crib_problem.proofs.TurnLemmas.{side_called_is}
 
 version_found : (n : ℕ) (version : Version) → version_of_number n ≡ Ok version → decimal n ≡ version_word version
 unfolding version_of_number
@@ -53,16 +54,7 @@ version_line_found words version e =
 
 side_found : (word : List ℕ) (side : Side) → side_in word ≡ Ok side → word ≡ side_word side
 unfolding side_in
-side_found word side e =
-    elim (cases_Bool (bytes_eq word (codes "owner"))) [
-      | inl holds ↦
-          let h : side_in word ≡ Ok Owner = rw holds refl in
-          (bytes_eq-Decides word (codes "owner")).0 holds ∙ ap side_word (ok_is Owner side (sym h ∙ e))
-      | inr fails ↦
-          let h : side_in word ≡ cond (bytes_eq word (codes "opponent")) (Ok Opponent) (Err bad_line) = rw fails refl in
-          let g = if_ok (bytes_eq word (codes "opponent")) bad_line Opponent side (sym h ∙ e) in
-          (bytes_eq-Decides word (codes "opponent")).0 g.0 ∙ ap side_word g.1
-    ]
+side_found word side e = side_called_is side_word word side e
 
 pub dealer_found : (words : List (List ℕ)) (side : Side) → dealer_in words ≡ Ok side → words ≡ codes "dealer" ∷ side_word side ∷ []
 unfolding dealer_in

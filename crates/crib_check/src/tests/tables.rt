@@ -3,6 +3,7 @@ use crib_cards::{Card, Rank};
 use crib_know::Know;
 use crib_plan::{Next, start};
 use crib_play::Turn;
+use refusing_alloc::Refusing;
 use std::cell::RefCell;
 
 /// The position at the start.
@@ -15,7 +16,7 @@ fn first_key(of: &Problem, by: &Plan<Global>) -> Key {
 
 #[test]
 fn keeps_keys(rt: HostRuntime) {
-    let problem = problem(&rt, NEAR);
+    let problem = problem(&rt, TWELVE);
     let plan = plan(&rt, TWOS);
     let key = first_key(&problem, &plan);
     let mut set = KeySet::new(rt.alloc());
@@ -112,7 +113,7 @@ fn settles_each_position_after_it_was_asked_for_and_once(rt: HostRuntime) {
     assert!(rt; table.puts > 1);
 }
 
-/// Each row comes out with this table, which is used for all of them.
+/// Each row comes out with this table.
 fn come_out_with<T: Settled>(rt: &(impl Abort + AllocGlobal), rows: &[Row], table: &mut T) {
     for row in rows {
         let (of, by, _) = *row;
@@ -121,53 +122,49 @@ fn come_out_with<T: Settled>(rt: &(impl Abort + AllocGlobal), rows: &[Row], tabl
     }
 }
 
-/// The rows of plans that fail, and those that begin in the middle of a play, come out with this table.
-fn others_come_out_with<T: Settled>(rt: &(impl Abort + AllocGlobal), table: &mut T) {
+/// All rows come out with this table, which is used for one after another.
+fn all_come_out_with<T: Settled>(rt: &(impl Abort + AllocGlobal), table: &mut T) {
+    come_out_with(rt, &SURE, table);
     come_out_with(rt, &SHORT, table);
     come_out_with(rt, &LOST, table);
     come_out_with(rt, &STUCK, table);
     come_out_with(rt, &BEGUN_ROWS, table);
-    come_out_with(rt, &NOT_STOPPED, table);
+    come_out_with(rt, &STOPPING, table);
 }
 
 #[test]
-fn passes_sure_plans_with_a_table(rt: HostRuntime) {
-    come_out_with(&rt, &SURE, &mut KeySet::new(rt.alloc()));
-}
-
-#[test]
-fn stops_the_opponent(rt: HostRuntime) {
+fn names_the_game_that_falls_short_with_a_set_of_keys(rt: HostRuntime) {
+    let [(of, by, _), _] = SHORT;
+    let named = b"game 1\nhold AC AD AH AS\nthrow 3C 3D\nacts 8\n\
+        own 2C\nopp AC\nown 2D\nopp AD\nown 2H\nopp AH\nown 2S\nopp AS\n";
     let mut table = KeySet::new(rt.alloc());
-    come_out_with(&rt, &[(STOP_FAR, TWOS, None)], &mut table);
+    let verdict = check_with(&problem(&rt, of), &plan(&rt, by), &mut table);
+    assert!(rt; verdict == Verdict::Fails(Ending::Short, game(&rt, named)));
 }
 
 #[test]
-fn names_the_same_games_with_a_table(rt: HostRuntime) {
-    others_come_out_with(&rt, &mut KeySet::new(rt.alloc()));
+fn forgets_the_keys_of_another_plan(rt: HostRuntime) {
+    let problem = problem(&rt, TWELVE);
+    let named = b"game 1\nhold AC AD AH AS\nthrow 3C 3D\nacts 2\nown 2C\nopp AC\n";
+    let mut table = KeySet::new(rt.alloc());
+    assert!(rt; check_with(&problem, &plan(&rt, TWOS), &mut table) == Verdict::Holds);
+    let verdict = check_with(&problem, &plan(&rt, TWICE), &mut table);
+    assert!(rt; verdict == Verdict::Fails(Ending::Stuck, game(&rt, named)));
 }
 
 #[test]
-fn passes_sure_plans_where_every_second_put_is_refused(rt: HostRuntime) {
-    let mut table = Watched::new(rt.alloc(), Refuses::EverySecond);
-    come_out_with(&rt, &SURE, &mut table);
+fn answers_the_same_with_a_set_of_keys(rt: HostRuntime) {
+    all_come_out_with(&rt, &mut KeySet::new(rt.alloc()));
 }
 
 #[test]
-fn names_the_same_games_where_every_second_put_is_refused(rt: HostRuntime) {
-    let mut table = Watched::new(rt.alloc(), Refuses::EverySecond);
-    others_come_out_with(&rt, &mut table);
+fn answers_the_same_where_every_second_put_is_refused(rt: HostRuntime) {
+    all_come_out_with(&rt, &mut Watched::new(rt.alloc(), Refuses::EverySecond));
 }
 
 #[test]
-fn passes_sure_plans_where_every_put_is_refused(rt: HostRuntime) {
-    let mut table = Watched::new(rt.alloc(), Refuses::All);
-    come_out_with(&rt, &SURE, &mut table);
-}
-
-#[test]
-fn names_the_same_games_where_every_put_is_refused(rt: HostRuntime) {
-    let mut table = Watched::new(rt.alloc(), Refuses::All);
-    others_come_out_with(&rt, &mut table);
+fn answers_the_same_where_every_put_is_refused(rt: HostRuntime) {
+    all_come_out_with(&rt, &mut Watched::new(rt.alloc(), Refuses::All));
 }
 
 /// A table that keeps every key, and counts how often one of them is put.
@@ -197,28 +194,22 @@ impl Settled for Counting {
     }
 }
 
-/// The owner, who is asked, plays a card that he holds and that fits.
-fn play(rt: &(impl Abort + AllocGlobal), know: &mut Know, card: Card) {
-    assert!(rt; know.turn() == Turn::Owner);
-    assert!(rt; know.own_left().has(card));
-    assert!(rt; know.round().fits(card.rank()));
-    know.own_play(card);
-}
-
-/// The position after four twos of the owner, of which the opponent has answered the first three.
-fn after_four(rt: &(impl Abort + AllocGlobal), of: &Problem, answers: [u8; 3]) -> Key {
+/// The position after three twos of the owner, each answered by a card of the opponent.
+fn after_three(rt: &(impl Abort + AllocGlobal), of: &Problem, answers: [u8; 3]) -> Key {
     let mut know = Know::start(of);
-    let [first, second, third, last] = of.hold();
+    let [first, second, third, _] = of.hold();
     for (card, number) in [first, second, third].into_iter().zip(answers) {
-        play(rt, &mut know, card);
+        assert!(rt; know.turn() == Turn::Owner);
+        assert!(rt; know.own_left().has(card));
+        assert!(rt; know.round().fits(card.rank()));
+        know.own_play(card);
         let rank = Rank::new(number).expect(rt, "a rank");
         assert!(rt; know.can_play(rank));
         know.saw_play(rank);
     }
-    play(rt, &mut know, last);
     Key {
         know,
-        place: Next::End,
+        place: Next::To(3),
     }
 }
 
@@ -226,9 +217,9 @@ fn after_four(rt: &(impl Abort + AllocGlobal), of: &Problem, answers: [u8; 3]) -
 fn settles_a_position_once_however_it_is_reached(rt: HostRuntime) {
     let problem = problem(&rt, TWELVE);
     let plan = plan(&rt, TWOS);
-    let wanted = after_four(&rt, &problem, [10, 9, 6]);
-    assert!(rt; wanted == after_four(&rt, &problem, [9, 10, 6]));
-    assert!(rt; wanted != after_four(&rt, &problem, [9, 10, 4]));
+    let wanted = after_three(&rt, &problem, [10, 9, 6]);
+    assert!(rt; wanted == after_three(&rt, &problem, [9, 10, 6]));
+    assert!(rt; wanted != after_three(&rt, &problem, [9, 10, 5]));
     let mut table = Counting {
         set: KeySet::new(rt.alloc()),
         wanted,
@@ -237,4 +228,36 @@ fn settles_a_position_once_however_it_is_reached(rt: HostRuntime) {
     let verdict = check_with(&problem, &plan, &mut table);
     assert!(rt; verdict == Verdict::Holds);
     assert_eq!(rt; table.met, 1);
+}
+
+/// The first position of the problem, at this node of a plan.
+fn key_at(of: &Problem, node: u16) -> Key {
+    Key {
+        know: Know::start(of),
+        place: Next::To(node),
+    }
+}
+
+#[test]
+fn a_refused_put_leaves_the_keys_as_they_were(rt: HostRuntime) {
+    let problem = problem(&rt, TWELVE);
+    for served in 0..50 {
+        let heap = Refusing::after(rt.alloc(), served);
+        let mut set = KeySet::new(&heap);
+        for node in 0..40u16 {
+            if set.put(key_at(&problem, node)).is_err() {
+                assert!(rt; heap.has_refused());
+                for other in 0..40u16 {
+                    assert_eq!(rt; set.has(&key_at(&problem, other)), other < node);
+                }
+                assert!(rt; set.put(key_at(&problem, node)).is_ok());
+            }
+            assert!(rt; set.has(&key_at(&problem, node)));
+        }
+        if !heap.has_refused() {
+            assert!(rt; served > 2);
+            return;
+        }
+    }
+    panic!(rt; "more growths than 50")
 }

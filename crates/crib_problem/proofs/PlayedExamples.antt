@@ -4,7 +4,7 @@ use Rattle.crib_cards.specs.Sets.{set_where}
 use Rattle.crib_cards.specs.declared.sides.Side.TheVariants.{Owner, Opponent}
 use Rattle.crib_cards.specs.declared.moves.Act.{Act}
 use Rattle.crib_cards.specs.declared.moves.Move.TheVariants.{Card, Go}
-use Rattle.crib_problem.specs.Played.{Board, act_refusal, least_by}
+use Rattle.crib_problem.specs.Played.{AreAllowed, Board, act_refusal, least_by}
 
 -- TC 9C 2C 8C held, 3H turned up, 4S 6S thrown; the opponent deals, at a score, and the owner is to win
 abbrev board_at : ℕ → Board
@@ -87,3 +87,70 @@ over_by_go = refl
 pub not_over_by_go : refusal 117 (own 36 ∷ theirs 37 ∷ own 32 ∷ theirs 1 ∷ own_go ∷ []) their_go ≡ None
 unfolding set_where
 not_over_by_go = refl
+
+-- a card that lies on the table is neither held any more nor hidden
+pub own_card_again : refusal 0 (own 36 ∷ theirs 37 ∷ []) (own 36) ≡ Some 41
+unfolding set_where
+own_card_again = refl
+
+pub their_card_again : refusal 0 (own 36 ∷ theirs 37 ∷ own 4 ∷ []) (theirs 37) ≡ Some 20
+unfolding set_where
+their_card_again = refl
+
+-- what is thrown is not held, and neither it nor the starter can be the opponent's
+pub thrown_is_not_held : refusal 0 [] (own 15) ≡ Some 41
+unfolding set_where
+thrown_is_not_held = refl
+
+pub thrown_is_not_theirs : refusal 0 (own 36 ∷ []) (theirs 15) ≡ Some 20
+unfolding set_where
+thrown_is_not_theirs = refl
+
+pub starter_is_not_theirs : refusal 0 (own 36 ∷ []) (theirs 10) ≡ Some 20
+unfolding set_where
+starter_is_not_theirs = refl
+
+-- at 29 a king doesn't fit, nor at 30 an eight
+pub king_at_29 : refusal 0 at_29 (theirs 49) ≡ Some 42
+unfolding set_where
+king_at_29 = refl
+
+pub eight_at_30 : refusal 0 (own 36 ∷ theirs 37 ∷ own 32 ∷ theirs 1 ∷ []) (own 28) ≡ Some 42
+unfolding set_where
+eight_at_30 = refl
+
+-- at 21, after 9C 2D TC, each card fits, so no deal lets the opponent say go; at 22, after TC JD 2C, tens do not fit
+pub no_go_at_21 : refusal 0 (own 32 ∷ theirs 5 ∷ own 36 ∷ []) their_go ≡ Some 23
+unfolding set_where
+no_go_at_21 = refl
+
+pub go_at_22 : refusal 0 (own 36 ∷ theirs 41 ∷ own 4 ∷ []) their_go ≡ None
+unfolding set_where
+go_at_22 = refl
+
+-- once the deal is done nobody is asked
+pub after_the_end : refusal 118 (own 36 ∷ theirs 37 ∷ own 32 ∷ theirs 1 ∷ own_go ∷ their_go ∷ []) (own 28) ≡ Some 44
+unfolding set_where
+after_the_end = refl
+
+-- TC TD 9C, a go, 2C for 31; KD 8C KH make 28: the owner holds no card, so his go is silent and the opponent's is heard
+pub go_after_a_silent_go : refusal 0 (own 36 ∷ theirs 37 ∷ own 32 ∷ their_go ∷ own 4 ∷ theirs 49 ∷ own 28 ∷ theirs 50 ∷ []) their_go ≡ None
+unfolding set_where
+go_after_a_silent_go = refl
+
+-- 3C 9D 3D count 15 for the owner; the opponent, at 119, has no pair
+abbrev threes : Board
+threes = record {
+  start = record { dealer = Opponent; scores = record { owner = 0; opponent = 119 }; target = 121 };
+  hold = 8 ∷ 9 ∷ 4 ∷ 28 ∷ [];
+  known = 49 ∷ 8 ∷ 9 ∷ 4 ∷ 28 ∷ 15 ∷ 23 ∷ [];
+}
+
+pub fifteen_between_threes : act_refusal threes (reverse (own 8 ∷ theirs 33 ∷ [])) (own 9) ≡ None
+unfolding set_where
+fifteen_between_threes = refl
+
+-- the dealer may not lead
+pub dealer_leads_not : AreAllowed (board_at 0) (theirs 37 ∷ []) → ⊥
+unfolding set_where
+dealer_leads_not are = (let refused = are.1 in cc)

@@ -1,18 +1,22 @@
 -- What the command-line parser found.
-use Rattle.std.specs.Prelude.{◌≡◌, List, Some, true, codes}
+use Rattle.std.specs.Prelude.{◌≡◌, List, [], ◌∷◌, Some, None, Result, true, codes, drop, MatchResult, ◌⊎◌}
 use Rattle.std.specs.List.{list_any}
 use Rattle.std.specs.Str.{bytes_eq}
-use Rattle.clap.specs.Words.{Text, one_text, matches_of, rows_of}
+use Rattle.clap.specs.Values.{kind_of}
+use Rattle.clap.specs.Words.{Text, one_text}
+use Rattle.clap.specs.declared.error.Error.{Error}
+use Rattle.clap.specs.declared.error.kind.ErrorKind.TheVariants.{OutOfMemory}
 use Rattle.clap.specs.declared.parser.matches.Found.{Found}
-use Rattle.clap.specs.declared.builder.value_parser.ValueParser.{ValueParser}
-use Rattle.cribplan.specs.Job.{job_names}
-use Rattle.cribplan.specs.Command.{values_of, cribplan_app}
+use Rattle.cribplan.specs.Command.{is_job_name, words_refusal, without_mark}
 
--- what clap found is what it matches of these words, with one of the names as the value of `command`
+-- the one word after the program's name is a job's name, and what clap found as the value of `command`
 pub record HasCommand (words : List Text) (found : Found) : Type 0 where
-  pub parser : ValueParser
-  pub values : values_of parser ≡ job_names
-  pub rows : rows_of found ≡ matches_of (cribplan_app parser) words
   pub name : Text
+  pub only : without_mark (drop 1 words) ≡ name ∷ []
+  pub is_name : is_job_name name ≡ true
   pub read : one_text found (codes "command") ≡ Some name
-  pub is_name : list_any (λ job. bytes_eq job name) job_names ≡ true
+
+-- the words are refused with just that kind, want of memory aside, and with none where there is no error
+abbrev pub IsRefusedFor : {T : Type 0} → List Text → Result T Error → Type 0
+IsRefusedFor words r = MatchResult r (λ _. words_refusal words ≡ None)
+    (λ error. (kind_of error ≡ OutOfMemory) ⊎ (words_refusal words ≡ Some (kind_of error)))

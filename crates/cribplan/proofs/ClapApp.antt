@@ -1,0 +1,19 @@
+-- The command as clap reads it.
+use Rattle.std.specs.Prelude.{Some, true, codes}
+use Rattle.clap.specs.Simple.{filled, help_rule}
+use Rattle.clap.specs.Walk.{Rule}
+use Rattle.clap.specs.Words.{App, new_app, new_rule, with_rule}
+use Rattle.clap.specs.declared.builder.action.ArgAction.TheVariants.{Set}
+use Rattle.clap.specs.declared.builder.value_parser.ValueParser.{ValueParser}
+
+-- one required argument `command` and no other
+abbrev pub cribplan_app : ValueParser → App
+cribplan_app parser = with_rule (new_app (codes "cribplan")) (record (new_rule (codes "command")) {
+  action = Some Set;
+  parser = Some parser;
+  required = true;
+})
+
+-- the flag for help, as building the command makes it
+abbrev pub help_flag : Rule
+help_flag = filled help_rule

@@ -1,8 +1,9 @@
 -- The deals that the show may be of.
-use Rattle.crib_show.specs.declared.deals.OwnPoints.{OwnPoints}
+use Rattle.crib_cards.specs.Sets.{set_of}
 use Rattle.crib_show.specs.declared.deals.WorstShow.{WorstShow}
-use Rattle.crib_show.specs.Worst.{AreOwnPoints}
-use Rattle.crib_problem.specs.Setup.{Setup, unseen_of, target_of, is_stop}
+use Rattle.crib_show.specs.declared.shows.Shows.{Shows}
+use Rattle.crib_show.specs.Shows.{AreShows}
+use Rattle.crib_problem.specs.Setup.{Setup, unseen_of, fixed_cards, target_of, is_stop}
 use Rattle.crib_know.specs.Knowledge.{Knowledge}
 
 -- the deals behind what is known, where all cards are played
@@ -20,6 +21,7 @@ worst_of problem know = record {
   stop = is_stop problem.goal;
 }
 
--- what the show gives the owner of a problem whatever the opponent holds
-abbrev pub AreOwn : Setup → OwnPoints → Type 0
-AreOwn problem own = AreOwnPoints problem.starter problem.hold problem.thrown own
+-- what is kept of the shows of a problem is right, whatever the scores are
+abbrev pub AreShowsOf : Setup → Shows → Type 0
+AreShowsOf problem shows =
+    AreShows problem.starter problem.hold problem.thrown (unseen_of problem) (set_of (fixed_cards problem)) shows

@@ -9,7 +9,7 @@ use Rattle.crib_cards.specs.Cards.{IsCard, IsRank, card_of, jack, rank_of, suit_
 use Rattle.crib_cards.specs.Sets.{has, are_distinct, count_at, count_rank, IsCardSet}
 use Rattle.crib_cards.specs.declared.sides.Dealt.{Dealt}
 use Rattle.crib_cards.proofs.SetFacts.{are_distinct-set_where, has-append}
-use Rattle.crib_show.specs.Inside.Extremes.{IsLowCrib, crib_suit_points, crib_with, has_room, is_free, least_of_ranks}
+use Rattle.crib_show.specs.Inside.Extremes.{crib_suit_points, crib_with, has_room, is_free, least_of_ranks}
 use Rattle.crib_show.proofs.Tried.{AreTried, IsLeastBefore, IsMostBefore}
 use Rattle.crib_show.specs.Inside.Extremes.{least_suits, least_suits_with, most_crib_suits, no_crib, plain_crib, right_jack, thrown_suits}
 use Rattle.crib_show.specs.Show.{are_of_suit, crib_flush, crib_points, jack_points, plain_points}

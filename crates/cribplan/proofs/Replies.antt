@@ -15,13 +15,15 @@ use Rattle.crib_check.specs.declared.verdict.Verdict.TheVariants.{Holds, Fails}
 use Rattle.crib_check.specs.Sure.{IsSure}
 use Rattle.crib_check.specs.Failing.{IsFirstFailing}
 use Rattle.crib_check.specs.Verdicts.{IsRight}
+use Rattle.crib_check.proofs.Sureness.{ends, sure_goes_on}
 use Rattle.crib_check.proofs.Uniqueness.{same_law}
 use Rattle.crib_search.specs.Finder.{IsFound}
 use Rattle.crib_search.proofs.Unique.{one_law}
 use Rattle.crib_search.proofs.Proved.{sure_law, none_law}
 use Rattle.cribplan.specs.declared.job.Job.TheVariants.{Replay, Follow, Check, Solve, Board}
 use Rattle.cribplan.specs.Input.{problem_of_input, question_of_input}
-use Rattle.cribplan.specs.Answer.{Reply, AnswersCheck, AnswersProblem, AnswersSolve, refusal_reply, verdict_reply, found_reply, fault_reply, too_large}
+use Rattle.cribplan.specs.Reply.{Reply}
+use Rattle.cribplan.specs.Answer.{AnswersCheck, AnswersProblem, AnswersSolve, refusal_reply, verdict_reply, found_reply, fault_reply, too_large}
 use Rattle.cribplan.specs.Laws.{OneReplyLaw, HoldsLaw, FailsLaw, EitherLaw, SureLaw, FailingLaw, PlanLaw, NoneLaw}
 use Rattle.cribplan.specs.Telling.{holds_line, fails_line, none_line}
 use Rattle.cribplan.proofs.Inputs.{problem_accepted, question_accepted, question_spelled}
@@ -109,7 +111,15 @@ failed_by_output (Err refusal) reply result text is e =
 pub holds_law : HoldsLaw
 holds_law input reply answers e =
     let held = held_by_output (question_of_input input) reply answers e in
-    record { problem = held.question.0; plan = held.question.1; spelled = question_accepted input held.question held.asked; sure = held.sure }
+    let spelled = question_accepted input held.question held.asked in
+    record {
+      problem = held.question.0;
+      plan = held.question.1;
+      spelled = spelled;
+      sure = held.sure;
+      goes_on = sure_goes_on held.question.0 held.question.1 held.sure;
+      ends = ends held.question.0 spelled.problem_is;
+    }
 
 pub fails_law : FailsLaw
 fails_law input reply result text answers e =
@@ -204,12 +214,15 @@ pub plan_law : PlanLaw
 plan_law input reply more answers e =
     let planned = planned_by_output (problem_of_input input) reply more answers e in
     let spelled = problem_accepted input planned.problem planned.asked in
+    let sure = sure_law planned.problem planned.plan spelled.problem_is planned.found in
     record {
       problem = planned.problem;
       plan = planned.plan;
       spelled = spelled;
       plan_is = planned.output_is;
-      sure = sure_law planned.problem planned.plan spelled.problem_is planned.found;
+      sure = sure;
+      goes_on = sure_goes_on planned.problem planned.plan sure;
+      ends = ends planned.problem spelled.problem_is;
     }
 
 pub no_plan_law : NoneLaw

@@ -1,6 +1,6 @@
 -- What a reader may take from what the program writes, from the bytes that come in to the bytes that go out.
-use Rattle.std.specs.Prelude.{◌≡◌, ◌⊎◌, ℕ, List, ◌∷◌, ◌++◌, Result, Ok, codes}
-use Rattle.crib_text.specs.Refusals.{Refusal, cut_short}
+use Rattle.std.specs.Prelude.{◌≡◌, ◌⊎◌, ◌<◌, ℕ, List, ◌∷◌, ◌++◌, length, Result, Ok, codes}
+use Rattle.crib_text.specs.Refusals.{Refusal, cut_short, too_long}
 use Rattle.crib_text.specs.Words.{line_after}
 use Rattle.crib_problem.specs.Setup.{Setup}
 use Rattle.crib_plan.specs.declared.plan.Node.{Node}
@@ -11,9 +11,10 @@ use Rattle.crib_check.specs.Sure.{IsSure}
 use Rattle.crib_check.specs.Failing.{IsFirstFailing}
 use Rattle.cribplan.specs.declared.job.Job.{Job}
 use Rattle.cribplan.specs.declared.job.Job.TheVariants.{Replay, Follow, Check, Solve, Board}
-use Rattle.cribplan.specs.Input.{report_of_input, ending_of_input, question_of_input}
+use Rattle.cribplan.specs.Input.{most_bytes, report_of_input, ending_of_input, question_of_input}
 use Rattle.cribplan.specs.Input.{problem_of_input, board_of_input}
-use Rattle.cribplan.specs.Answer.{Reply, Answers, refusal_reply, verdict_reply}
+use Rattle.cribplan.specs.Reply.{Reply}
+use Rattle.cribplan.specs.Answer.{Answers, refusal_reply, verdict_reply}
 use Rattle.cribplan.specs.Telling.{SpellsPlan, HasSurePlan, HasFailingPlan, IsSolvedBy, HasNoPlan}
 use Rattle.cribplan.specs.Telling.{holds_line, fails_line, none_line}
 
@@ -23,6 +24,12 @@ use Rattle.cribplan.specs.Telling.{holds_line, fails_line, none_line}
 abbrev pub OneReplyLaw : Type 0
 OneReplyLaw =
     (job : Job) (input : List ℕ) (one other : Reply) → Answers job input one → Answers job input other → one ≡ other
+
+-- an input of more bytes than may be read is owed one refusal, whatever the command
+abbrev pub TooLongLaw : Type 0
+TooLongLaw =
+    (job : Job) (input : List ℕ) → most_bytes < length input →
+    Answers job input (refusal_reply (record { line = 0; number = too_long }))
 
 -- ---- beginnings
 
@@ -45,7 +52,7 @@ CutShortLaw =
 
 -- ---- check
 
--- where `holds` is owed, the input spells a problem and a plan that is sure for it
+-- where `holds` is owed, the input spells a problem and a plan that is sure for it, whose play goes on until it ends
 abbrev pub HoldsLaw : Type 0
 HoldsLaw =
     (input : List ℕ) (reply : Reply) → Answers Check input reply → reply.output ≡ holds_line → HasSurePlan input
@@ -80,7 +87,7 @@ FailingLaw =
 -- ---- solve
 
 -- where a text that begins with `plan` is owed, it is the spelling of a plan that is sure for the problem that the
--- input spells
+-- input spells, and whose play goes on until it ends
 abbrev pub PlanLaw : Type 0
 PlanLaw =
     (input : List ℕ) (reply : Reply) (more : List ℕ) → Answers Solve input reply →

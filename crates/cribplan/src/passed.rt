@@ -1,0 +1,41 @@
+//! Plans that the checker has passed.
+ghost use Rattle.std.specs.Prelude.{◌≡◌, ◌≢◌, None, IfSome};
+ghost use Rattle.crib_check.specs.Sure.{IsSure};
+
+use crib_check::{KeySet, Verdict, check_with};
+use crib_plan::Plan;
+use crib_problem::Problem;
+use std::alloc::Allocator;
+
+/// A plan that the checker has passed for a problem. Only [`passed`] makes one, and only of one is the answer of a plan
+/// made.
+#[derive(Drop)]
+pub struct PassedPlan<'a, A: Allocator> {
+    problem: &'a Problem,
+    plan: &'a Plan<A>,
+    ghost sure: { IsSure problem.now plan.now },
+}
+
+impl<'a, A: Allocator> PassedPlan<'a, A> {
+    /// The plan.
+    pub fn plan(&self) -> &'a Plan<A>
+        ensures { result.now ≡ self.now.plan.now }
+    {
+        self.plan
+    }
+}
+
+/// The plan, if the checker passes it. The checker's table keeps what memory there is for.
+pub fn passed<'a, A: Allocator + Copy>(
+    alloc: A,
+    problem: &'a Problem,
+    plan: &'a Plan<A>,
+) -> Option<PassedPlan<'a, A>>
+    ensures plan { IfSome result (λ passed. passed.plan.now ≡ plan.now) }
+    ensures sure { IsSure problem.now plan.now → result ≢ None }
+{
+    match check_with(problem, plan, &mut KeySet::new(alloc)) {
+        Verdict::Holds => Some(PassedPlan { problem, plan }),
+        Verdict::Fails(_, _) => None,
+    }
+}

@@ -1,0 +1,318 @@
+-- A sure plan with two branches, and what it tells. TC TD 9C are played and make 29. The owner knows all twos, so the
+-- opponent shows an ace or says go: after an ace the owner's ace makes a pair and 31, after a go his two makes 31.
+use Rattle.std.proofs.Common.{arith, ◌≡◌, ◌⊎◌, refl, sym, ap, ◌∙◌, subst, inl, inr, ℕ, Bool, true, false, eqb, not, ◌||◌, cond, filter, List, [], ◌∷◌, ◌++◌, replicate, Option, Some, None}
+use Rattle.std.specs.Prelude.{IsTrue, IsFalse, is_some, if◌then◌else◌}
+use Rattle.std.specs.List.{list_all, list_any}
+use Rattle.std.proofs.lemmas.Bool.{both_ways, cases_Bool, eqb-true, eq-eqb, and_parts, or_cases, or_left, or_right}
+use Rattle.crib_cards.specs.Sets.{has, set_where}
+use Rattle.crib_cards.specs.declared.sides.Dealt.{Dealt}
+use Rattle.crib_cards.specs.declared.sides.Side.TheVariants.{Owner, Opponent}
+use Rattle.crib_cards.specs.declared.moves.Move.{Move}
+use Rattle.crib_cards.specs.declared.moves.Move.TheVariants.{Card, Go}
+use Rattle.crib_cards.specs.declared.moves.Act.{Act}
+use Rattle.crib_play.specs.Legal.{MayCome, IsLegal, cards_of, cards_left, fits, letters_of}
+use Rattle.crib_play.specs.History.{act_by, acts_of}
+use Rattle.crib_play.specs.Filled.{is_visible}
+use Rattle.crib_play.specs.Record.{mover}
+use Rattle.crib_cards.specs.Letters.{letter_of}
+use Rattle.crib_show.specs.Outcome.{outcome_of}
+use Rattle.crib_show.specs.declared.outcomes.Outcome.TheVariants.{Reached}
+use Rattle.crib_problem.specs.declared.problem.Goal.TheVariants.{Holes}
+use Rattle.crib_problem.specs.declared.problem.Version.TheVariants.{Two}
+use Rattle.crib_problem.specs.Setup.{Setup, IsDealOf, start_of, hands_of, played_back, unseen_of}
+use Rattle.crib_plan.specs.declared.plan.Next.TheVariants.{End, To}
+use Rattle.crib_plan.specs.declared.plan.Node.{Node}
+use Rattle.crib_plan.specs.declared.plan.Node.TheVariants.{Play, See}
+use Rattle.crib_game.specs.Replay.{next_played, is_done_for, full_of}
+use Rattle.crib_game.specs.Following.{IsAsStated, Follows, is_stuck, place_of}
+use Rattle.crib_check.specs.Sure.{IsSure, IsFollowed, GoesOn}
+use Rattle.crib_check.specs.Verdicts.{KeepsOn}
+use Rattle.crib_check.specs.declared.verdict.Verdict.TheVariants.{Fails}
+use Rattle.crib_game.specs.declared.game.Game.{Game}
+use Rattle.crib_game.specs.declared.ending.Ending.TheVariants as ending
+
+-- TC 9C 2C AC are held, 2D 2H thrown, and 2S is the starter; two holes are to be made
+abbrev at_29 : Setup
+at_29 = record {
+  version = Two;
+  dealer = Opponent;
+  scores = record { owner = 0; opponent = 0 };
+  starter = 7;
+  hold = 36 ∷ 32 ∷ 4 ∷ 0 ∷ [];
+  thrown = 5 ∷ 6 ∷ [];
+  goal = Holes 2;
+  played = record { side = Owner; what = Card 36 } ∷ record { side = Opponent; what = Card 37 } ∷ record { side = Owner; what = Card 32 } ∷ [];
+}
+
+-- after an ace AC, after a go 2C
+abbrev ace_or_two : List Node
+ace_or_two = See (To 1 ∷ replicate 12 End ++ To 2 ∷ []) ∷ Play 0 End ∷ Play 4 End ∷ []
+
+-- the turns that are played already, and one more: the last one first
+abbrev three_turns : List Move
+three_turns = Card 32 ∷ Card 37 ∷ Card 36 ∷ []
+
+-- all records that follow the plan, and their beginnings
+data Course : List Move → Type 0 where
+  nothing : Course []
+  the_ten : Course (Card 36 ∷ [])
+  two_tens : Course (Card 37 ∷ Card 36 ∷ [])
+  at_count_29 : Course (Card 32 ∷ Card 37 ∷ Card 36 ∷ [])
+  diamond : Course (Card 1 ∷ Card 32 ∷ Card 37 ∷ Card 36 ∷ [])
+  heart : Course (Card 2 ∷ Card 32 ∷ Card 37 ∷ Card 36 ∷ [])
+  spade : Course (Card 3 ∷ Card 32 ∷ Card 37 ∷ Card 36 ∷ [])
+  a_go : Course (Go ∷ Card 32 ∷ Card 37 ∷ Card 36 ∷ [])
+  after_diamond : Course (Card 0 ∷ Card 1 ∷ Card 32 ∷ Card 37 ∷ Card 36 ∷ [])
+  after_heart : Course (Card 0 ∷ Card 2 ∷ Card 32 ∷ Card 37 ∷ Card 36 ∷ [])
+  after_spade : Course (Card 0 ∷ Card 3 ∷ Card 32 ∷ Card 37 ∷ Card 36 ∷ [])
+  after_go : Course (Card 4 ∷ Go ∷ Card 32 ∷ Card 37 ∷ Card 36 ∷ [])
+
+-- ---- how many of the three turns some acts begin with, or that they stray from them
+data Stage : Type 0 where
+  None_yet : Stage
+  One : Stage
+  Both : Stage
+  All : Stage
+  Astray : Stage
+
+abbrev is_card : ℕ → Move → Bool
+is_card number (Card card) = eqb number card
+is_card number Go = false
+
+abbrev stage_with : Stage → Move → Stage
+stage_with None_yet what = if is_card 36 what then One else Astray
+stage_with One what = if is_card 37 what then Both else Astray
+stage_with Both what = if is_card 32 what then All else Astray
+stage_with All what = All
+stage_with Astray what = Astray
+
+abbrev stage : List Act → Stage
+stage [] = None_yet
+stage (act ∷ before) = stage_with (stage before) act.what
+
+abbrev IsOnCourse : Stage → Type 0
+IsOnCourse None_yet = Unit {0}
+IsOnCourse One = Unit {0}
+IsOnCourse Both = Unit {0}
+IsOnCourse All = Unit {0}
+IsOnCourse Astray = ⊥
+
+begun : (later : List Act) → stage (later ++ played_back at_29) ≡ All
+begun [] = refl
+begun (act ∷ later) = ap (λ it. stage_with it act.what) (begun later)
+
+before_it : (it : Stage) (what : Move) → IsOnCourse (stage_with it what) → IsOnCourse it
+before_it None_yet what is = tt
+before_it One what is = tt
+before_it Both what is = tt
+before_it All what is = tt
+before_it Astray what is = is
+
+before_visible : (visible : Bool) (act : Act) (acts : List Act) → IsOnCourse (stage (if visible then act ∷ acts else acts)) → IsOnCourse (stage acts)
+before_visible true act acts is = before_it (stage acts) act.what is
+before_visible false act acts is = is
+
+the_card : (number card : ℕ) (it : Stage) → IsOnCourse (if eqb number card then it else Astray) → number ≡ card
+the_card number card it is =
+    elim (cases_Bool (eqb number card)) [
+      | inl same ↦ eqb-true number card same
+      | inr other ↦ absurd (subst (λ (test : Bool). IsOnCourse (if test then it else Astray)) other is)
+    ]
+
+-- ---- what the opponent may show at 29: his cards are hidden ones, and of these the aces alone fit
+kept : (b : Bool) (first card : ℕ) (rest : List ℕ) → has (cond b (first ∷ rest) rest) card ≡ true → (first ≡ card) ⊎ (has rest card ≡ true)
+kept true first card rest h =
+    elim (or_cases (eqb first card) (has rest card) h) [
+      | inl here ↦ inl (eqb-true first card here)
+      | inr there ↦ inr there
+    ]
+kept false first card rest h = inr h
+
+passes : (p q : ℕ → Bool) (cards more : List ℕ) (card : ℕ) → list_all p (cards ++ more) ≡ true → has (filter q cards) card ≡ true → p card ≡ true
+passes p q [] more card all left = absurd (both_ways false refl left)
+passes p q (first ∷ cards) more card all left =
+    let parts = and_parts (p first) (list_all p (cards ++ more)) all in
+    elim (kept (q first) first card (filter q cards) left) [
+      | inl here ↦ ap p (sym here) ∙ parts.0
+      | inr there ↦ passes p q cards more card parts.1 there
+    ]
+
+has_passed : (p : ℕ → Bool) (cards : List ℕ) (card : ℕ) → list_all p cards ≡ true → has cards card ≡ true → p card ≡ true
+has_passed p [] card all h = absurd (both_ways false refl h)
+has_passed p (first ∷ cards) card all h =
+    let parts = and_parts (p first) (list_all p cards) all in
+    elim (or_cases (eqb first card) (has cards card) h) [
+      | inl here ↦ ap p (sym (eqb-true first card here)) ∙ parts.0
+      | inr there ↦ has_passed p cards card parts.1 there
+    ]
+
+abbrev is_ace_if : Bool → ℕ → Bool
+is_ace_if false card = true
+is_ace_if true card = eqb 1 card || (eqb 2 card || eqb 3 card)
+
+only_aces_fit : list_all (λ card. is_ace_if (fits three_turns card) card) (unseen_of at_29) ≡ true
+unfolding set_where
+only_aces_fit = refl
+
+an_ace : (dealt : Dealt) (card : ℕ) → IsDealOf at_29 dealt → has (cards_left (hands_of at_29 dealt) Opponent three_turns) card ≡ true →
+    fits three_turns card ≡ true → (eqb 1 card || (eqb 2 card || eqb 3 card)) ≡ true
+an_ace dealt card deal left fit =
+    let hidden = passes (has (unseen_of at_29)) (λ card. not (has (cards_of three_turns) card)) dealt.hold dealt.throw card deal.deal.hidden_before left in
+    ap (λ b. is_ace_if b card) (sym fit) ∙ has_passed (λ card. is_ace_if (fits three_turns card) card) (unseen_of at_29) card only_aces_fit hidden
+
+-- ---- each record that follows the plan is a course
+stated : (number card : ℕ) → Some number ≡ Some card → number ≡ card
+stated number card e = ap number_in e
+  where
+    number_in : Option ℕ → ℕ
+    number_in (Some card) = card
+    number_in None = 99
+
+abbrev AsPlanned : Move → List Move → Type 0
+AsPlanned turn past = IsFalse (is_some (next_played at_29.played Owner past)) → IsAsStated ace_or_two (place_of ace_or_two at_29.played Owner past) (mover Owner (letters_of past)) turn
+
+further : (dealt : Dealt) (turn : Move) (past : List Move) → IsDealOf at_29 dealt → Course past →
+    MayCome (start_of at_29) (hands_of at_29 dealt) turn past → Follows ace_or_two at_29.played Owner (turn ∷ past) →
+    IsOnCourse (stage (acts_of Owner (turn ∷ past))) → Course (turn ∷ past)
+further dealt (Card card) past deal nothing come follows on = subst (λ card. Course (Card card ∷ [])) (the_card 36 card One on) the_ten
+further dealt Go past deal nothing come follows on = absurd (both_ways true come.may_take refl)
+further dealt (Card card) past deal the_ten come follows on = subst (λ card. Course (Card card ∷ Card 36 ∷ [])) (the_card 37 card Both on) two_tens
+further dealt Go past deal the_ten come follows on = absurd on
+further dealt (Card card) past deal two_tens come follows on =
+    subst (λ card. Course (Card card ∷ Card 37 ∷ Card 36 ∷ [])) (the_card 32 card All on) at_count_29
+further dealt Go past deal two_tens come follows on = absurd (both_ways true come.may_take refl)
+further dealt (Card card) past deal at_count_29 come follows on =
+    elim (or_cases (eqb 1 card) (eqb 2 card || eqb 3 card) (an_ace dealt card deal come.may_take.0 come.may_take.1)) [
+      | inl one ↦ subst (λ card. Course (Card card ∷ three_turns)) (eqb-true 1 card one) diamond
+      | inr other ↦ elim (or_cases (eqb 2 card) (eqb 3 card) other) [
+        | inl two ↦ subst (λ card. Course (Card card ∷ three_turns)) (eqb-true 2 card two) heart
+        | inr three ↦ subst (λ card. Course (Card card ∷ three_turns)) (eqb-true 3 card three) spade
+      ]
+    ]
+further dealt Go past deal at_count_29 come follows on = a_go
+further dealt (Card card) past deal diamond come follows on =
+    subst (λ card. Course (Card card ∷ Card 1 ∷ three_turns)) (stated 0 card (follows.1 refl)) after_diamond
+further dealt Go past deal diamond come follows on = absurd (both_ways true come.may_take refl)
+further dealt (Card card) past deal heart come follows on =
+    subst (λ card. Course (Card card ∷ Card 2 ∷ three_turns)) (stated 0 card (follows.1 refl)) after_heart
+further dealt Go past deal heart come follows on = absurd (both_ways true come.may_take refl)
+further dealt (Card card) past deal spade come follows on =
+    subst (λ card. Course (Card card ∷ Card 3 ∷ three_turns)) (stated 0 card (follows.1 refl)) after_spade
+further dealt Go past deal spade come follows on = absurd (both_ways true come.may_take refl)
+further dealt (Card card) past deal a_go come follows on =
+    subst (λ card. Course (Card card ∷ Go ∷ three_turns)) (stated 4 card (follows.1 refl)) after_go
+further dealt Go past deal a_go come follows on = absurd (both_ways true come.may_take refl)
+further dealt turn past deal after_diamond come follows on = absurd (both_ways true come.not_done refl)
+further dealt turn past deal after_heart come follows on = absurd (both_ways true come.not_done refl)
+further dealt turn past deal after_spade come follows on = absurd (both_ways true come.not_done refl)
+further dealt turn past deal after_go come follows on = absurd (both_ways true come.not_done refl)
+
+course : (dealt : Dealt) (played : List Move) → IsDealOf at_29 dealt → IsLegal (start_of at_29) (hands_of at_29 dealt) played →
+    Follows ace_or_two at_29.played Owner played → IsOnCourse (stage (acts_of Owner played)) → Course played
+course dealt [] deal legal follows on = nothing
+course dealt (turn ∷ past) deal legal follows on =
+    let earlier = before_visible (is_visible Owner (letter_of turn) (letters_of past)) (act_by Owner turn past) (acts_of Owner past) on in
+    further dealt turn past deal (course dealt past deal legal.0 follows.0 earlier) legal.1 follows on
+
+-- a record that begins with the three turns, as a course
+course_of : (dealt : Dealt) (played : List Move) → IsFollowed at_29 ace_or_two dealt played → (stage (acts_of Owner played) ≡ All) × Course played
+course_of dealt played is =
+    let all : stage (acts_of Owner played) ≡ All = ap stage is.begins.parts ∙ begun is.begins.later in
+    (all, course dealt played is.deal is.legal is.follows (subst IsOnCourse (sym all) tt))
+
+-- ---- the plan is sure
+abbrev is_stage_all : Stage → Bool
+is_stage_all All = true
+is_stage_all it = false
+
+not_stuck : (dealt : Dealt) (played : List Move) → stage (acts_of Owner played) ≡ All → Course played →
+    IsFalse (is_stuck ace_or_two at_29.played (start_of at_29) (hands_of at_29 dealt) played)
+not_stuck dealt played all nothing = absurd (both_ways false refl (ap is_stage_all all))
+not_stuck dealt played all the_ten = absurd (both_ways false refl (ap is_stage_all all))
+not_stuck dealt played all two_tens = absurd (both_ways false refl (ap is_stage_all all))
+not_stuck dealt played all at_count_29 = refl
+not_stuck dealt played all diamond = refl
+not_stuck dealt played all heart = refl
+not_stuck dealt played all spade = refl
+not_stuck dealt played all a_go = refl
+not_stuck dealt played all after_diamond = refl
+not_stuck dealt played all after_heart = refl
+not_stuck dealt played all after_spade = refl
+not_stuck dealt played all after_go = refl
+
+done_well : (dealt : Dealt) (played : List Move) → Course played → IsTrue (is_done_for at_29 played) → outcome_of (full_of at_29 dealt played) ≡ Reached
+unfolding outcome_of
+done_well dealt played nothing over = absurd (both_ways false refl over)
+done_well dealt played the_ten over = absurd (both_ways false refl over)
+done_well dealt played two_tens over = absurd (both_ways false refl over)
+done_well dealt played at_count_29 over = absurd (both_ways false refl over)
+done_well dealt played diamond over = absurd (both_ways false refl over)
+done_well dealt played heart over = absurd (both_ways false refl over)
+done_well dealt played spade over = absurd (both_ways false refl over)
+done_well dealt played a_go over = absurd (both_ways false refl over)
+done_well dealt played after_diamond over = refl
+done_well dealt played after_heart over = refl
+done_well dealt played after_spade over = refl
+done_well dealt played after_go over = refl
+
+pub ace_or_two_is_sure : IsSure at_29 ace_or_two
+ace_or_two_is_sure = record {
+  never_stuck = λ dealt played is. let found = course_of dealt played is in not_stuck dealt played found.0 found.1;
+  reached = λ dealt played is over. done_well dealt played (course_of dealt played is).1 over;
+}
+
+-- ---- and the play goes on: the opponent has an ace, or he says go
+any_of : (p : ℕ → Bool) (cards : List ℕ) → list_any p cards ≡ true → (card : ℕ) × (has cards card ≡ true) × (p card ≡ true)
+any_of p [] any = absurd (both_ways false refl any)
+any_of p (first ∷ cards) any =
+    elim (or_cases (p first) (list_any p cards) any) [
+      | inl here ↦ (first, or_left (eqb first first) (has cards first) (eq-eqb first first refl), here)
+      | inr there ↦ let found = any_of p cards there in (found.0, or_right (eqb first found.0) (has cards found.0) found.1, found.2)
+    ]
+
+with_turn : (dealt : Dealt) (turn : Move) (past : List Move) → IsFollowed at_29 ace_or_two dealt past →
+    is_visible Owner (letter_of turn) (letters_of past) ≡ true → MayCome (start_of at_29) (hands_of at_29 dealt) turn past → AsPlanned turn past →
+    IsFollowed at_29 ace_or_two dealt (turn ∷ past)
+with_turn dealt turn past is visible come planned = record {
+  deal = is.deal;
+  legal = (is.legal, come);
+  begins = record {
+    later = act_by Owner turn past ∷ is.begins.later;
+    parts =
+        ap (λ b. if b then act_by Owner turn past ∷ acts_of Owner past else acts_of Owner past) visible
+        ∙ ap (λ acts. act_by Owner turn past ∷ acts) is.begins.parts;
+  };
+  follows = (is.follows, planned);
+}
+
+next_turn : (dealt : Dealt) (played : List Move) → Course played → stage (acts_of Owner played) ≡ All → IsFollowed at_29 ace_or_two dealt played →
+    IsFalse (is_done_for at_29 played) → (turn : Move) × IsFollowed at_29 ace_or_two dealt (turn ∷ played)
+next_turn dealt played nothing all is on = absurd (both_ways false refl (ap is_stage_all all))
+next_turn dealt played the_ten all is on = absurd (both_ways false refl (ap is_stage_all all))
+next_turn dealt played two_tens all is on = absurd (both_ways false refl (ap is_stage_all all))
+next_turn dealt played at_count_29 all is on =
+    elim (cases_Bool (list_any (fits three_turns) (cards_left (hands_of at_29 dealt) Opponent three_turns))) [
+      | inl any ↦
+          let found = any_of (fits three_turns) (cards_left (hands_of at_29 dealt) Opponent three_turns) any in
+          (Card found.0, with_turn dealt (Card found.0) three_turns is refl (record { not_done = refl; may_take = (found.1, found.2) }) (λ late. tt))
+      | inr none ↦ (Go, with_turn dealt Go three_turns is refl (record { not_done = refl; may_take = none }) (λ late. tt))
+    ]
+next_turn dealt played diamond all is on =
+    (Card 0, with_turn dealt (Card 0) (Card 1 ∷ three_turns) is refl (record { not_done = refl; may_take = (refl, refl) }) (λ late. refl))
+next_turn dealt played heart all is on =
+    (Card 0, with_turn dealt (Card 0) (Card 2 ∷ three_turns) is refl (record { not_done = refl; may_take = (refl, refl) }) (λ late. refl))
+next_turn dealt played spade all is on =
+    (Card 0, with_turn dealt (Card 0) (Card 3 ∷ three_turns) is refl (record { not_done = refl; may_take = (refl, refl) }) (λ late. refl))
+next_turn dealt played a_go all is on =
+    (Card 4, with_turn dealt (Card 4) (Go ∷ three_turns) is refl (record { not_done = refl; may_take = (refl, refl) }) (λ late. refl))
+next_turn dealt played after_diamond all is on = absurd (both_ways true on refl)
+next_turn dealt played after_heart all is on = absurd (both_ways true on refl)
+next_turn dealt played after_spade all is on = absurd (both_ways true on refl)
+next_turn dealt played after_go all is on = absurd (both_ways true on refl)
+
+pub ace_or_two_goes_on : GoesOn at_29 ace_or_two
+ace_or_two_goes_on dealt played is on = let found = course_of dealt played is in next_turn dealt played found.1 found.0 is on
+
+-- a failing game may go on or not: nothing is asked of it
+pub a_failing_plan_need_not_go_on : (game : Game) → KeepsOn at_29 ace_or_two (Fails ending.Lost game)
+a_failing_plan_need_not_go_on game = tt

@@ -1,2 +1,3 @@
 -- What private functions alone cite, and no public contract rests on.
+pub mod Device
 pub mod Reading

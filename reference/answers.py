@@ -7,9 +7,9 @@ from typing import NamedTuple
 from board import board_text, replay_text
 from checker import Checker
 from finder import Finder
-from game import Judge, read_game
-from plan import MOST_NODES, plan_text, read_plan
-from problem import read_problem
+from game import Game, Judge, read_game
+from plan import MOST_NODES, Plan, plan_text, read_plan
+from problem import Problem, read_problem
 from reading import Lines, Refused
 
 SECTIONS = {
@@ -40,7 +40,7 @@ def answer(command: str, data: bytes) -> Answer:
         return Answer(f"refused line {refused.line}: {refused.number}\n", 2)
 
 
-def check(problem, plan) -> Answer:
+def check(problem: Problem, plan: Plan) -> Answer:
     """Whether a plan is sure."""
     failure = Checker(problem, plan).first_failure()
     if failure is None:
@@ -48,7 +48,7 @@ def check(problem, plan) -> Answer:
     return Answer(f"fails {failure.ending}\n{failure.game.text()}", 1)
 
 
-def solve(problem) -> Answer:
+def solve(problem: Problem) -> Answer:
     """A sure plan."""
     plan = Finder(problem).plan()
     if plan is None:
@@ -56,17 +56,17 @@ def solve(problem) -> Answer:
     return Answer("fault 50\n", 3) if len(plan) > MOST_NODES else Answer(plan_text(plan), 0)
 
 
-def replay(problem, game) -> Answer:
+def replay(problem: Problem, game: Game) -> Answer:
     """What a game comes to."""
     return Answer(replay_text(Judge(problem, None, game).report()), 0)
 
 
-def board(problem, game) -> Answer:
+def board(problem: Problem, game: Game) -> Answer:
     """The same, with every act and the pegs."""
     return Answer(board_text(problem, Judge(problem, None, game).report()), 0)
 
 
-def follow(problem, plan, game) -> Answer:
+def follow(problem: Problem, plan: Plan, game: Game) -> Answer:
     """How a game stands under a plan."""
     ending = Judge(problem, plan, game).report().ending
     return Answer(f"{ending}\n", 0 if ending == "reached" else 1)

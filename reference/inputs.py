@@ -14,8 +14,9 @@ from plan import GO, LETTERS, Node, Plan, Play, See, place_after, plan_text, sta
 from play import OPPONENT, OWNER, Act, Table
 from problem import Problem
 
-LATE = (3, 4, 5, 6, 7, 8, 9, 10)  # turns that are played already, mostly
-EARLY = (0, 1, 2)  # here a check takes the reference some seconds
+LATE = (3, 4, 5, 5, 6, 6, 7, 7, 8, 8, 9, 10)  # turns that are played already, mostly
+EARLY = (0, 0, 1, 2)  # here a check may take the reference some seconds
+ENOUGH = 5  # turns after which many problems are solved in a second
 
 
 class Input(NamedTuple):
@@ -130,9 +131,11 @@ def at_edge(random: Random, problem: Problem) -> Problem:
 
 
 def late_deal(random: Random) -> Deal:
-    """A problem late in the play, half of the time at an edge."""
+    """A problem late in the play, often at an edge."""
     deal = random_deal(random, LATE)
-    return replace(deal, problem=at_edge(random, deal.problem)) if random.random() < 0.5 else deal
+    if len(deal.problem.played) < ENOUGH or random.random() < 0.3:
+        return deal
+    return replace(deal, problem=at_edge(random, deal.problem))
 
 
 def random_plan(random: Random, hold: tuple[Card, ...]) -> Plan:
@@ -162,16 +165,16 @@ def changed_plan(random: Random, plan: Plan, hold: tuple[Card, ...]) -> Plan:
 
 
 def some_plan(random: Random, problem: Problem) -> Plan:
-    """A plan: a sure one of this problem or of an easier one, such a plan with a change or two, or a random one."""
-    if random.random() < 0.1 or len(problem.played) < min(LATE):
+    """A plan: a sure one, one that is never stuck, such a plan with a change or two, or a random one."""
+    if random.random() < 0.1:
         return random_plan(random, problem.hold)
-    plan = Finder(problem).plan()
-    if plan is None:
-        easier = replace(problem, goal="holes 1")
-        plan = Finder(easier).plan() if is_honest(easier) else None
-    if plan is None:
-        plan = random_plan(random, problem.hold)
-    for _ in range(random.choice([0, 0, 1, 2])):
+    is_late = len(problem.played) >= ENOUGH
+    plan = Finder(problem).plan() if random.random() < 0.7 or not is_late else None
+    if plan is None and is_late:
+        # No deal takes the opponent from hole 0 to 121, so here every plan is sure that is never stuck.
+        plan = Finder(replace(problem, version=2, scores=(0, 0), goal="stop")).plan()
+    plan = plan or random_plan(random, problem.hold)
+    for _ in range(random.choice([0, 0, 0, 1, 2])):
         plan = changed_plan(random, plan, problem.hold)
     return plan
 
@@ -187,8 +190,12 @@ def random_game(random: Random, deal: Deal, plan: Plan | None) -> Game:
     while not table.is_done() and len(acts) < most:
         legal = legal_acts(table, hands[table.turn])
         node = None if plan is None else stated(plan, place)
-        if node is not None and Act(OWNER, node.card) in legal and random.random() < 0.95:
-            legal, place = [Act(OWNER, node.card)], node.next
+        if plan is not None and legal[0].side == OWNER and legal[0].card is not None:
+            is_stuck = node is None or Act(OWNER, node.card) not in legal
+            if is_stuck and random.random() < 0.8:
+                break
+            if not is_stuck and random.random() < 0.97:
+                legal, place = [Act(OWNER, node.card)], node.next
         act = random.choice(legal)
         if act.side == OPPONENT and plan is not None:
             place = place_after(plan, place, GO if act.card is None else act.card.rank)
@@ -214,17 +221,17 @@ def early_input(random: Random) -> Input:
     problem = random_deal(random, EARLY).problem
     if random.random() < 0.5:
         return Input("solve", problem.text().encode())
-    return Input("check", (problem.text() + plan_text(random_plan(random, problem.hold))).encode())
+    return Input("check", (problem.text() + plan_text(some_plan(random, problem))).encode())
 
 
 def random_input(random: Random) -> Input:
     """An input and a command: of six inputs two are mangled, and a few are very long or early in the play."""
     command = random.choice(["check", "check", "solve", "solve", "replay", "board", "follow"])
     kind = random.random()
-    if kind < 0.03:
+    if kind < 0.04:
         return early_input(random)
     text = random_text(random, command)
-    if kind < 0.04:
+    if kind < 0.05:
         return Input(command, padded(random, text))
     if kind < 0.37:
         other = random.choice(["check", "solve", "replay", "board", "follow"])

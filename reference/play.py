@@ -108,7 +108,7 @@ class Table(NamedTuple):
     def _after_go(self) -> tuple[Table, int]:
         """The table after one turn that is a go, said or silent, and its points: those of the last card's player."""
         if self.gos == 0 or not self.pile:
-            said = changed(self.said, self.turn, True)
+            said = self.said if self.is_silent() else changed(self.said, self.turn, True)
             return self._replace(turn=1 - self.turn, gos=1, said=said), 0
         closed = self._replace(
             turn=1 - self.turn, pile=(), gos=0, said=(False, False), scores=scored(self.scores, self.last, 1)

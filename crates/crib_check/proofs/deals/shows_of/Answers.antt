@@ -1,4 +1,4 @@
-use Rattle.std.proofs.Common.{List, ℕ, subst, sym}
+use Rattle.std.proofs.Common.{List, ℕ, subst}
 use Rattle.crib_cards.specs.Sets.{set_of}
 use Rattle.crib_problem.specs.Setup.{unseen_of, fixed_cards}
 use Rattle.crib_show.specs.Shows.{AreShows}

@@ -20,7 +20,7 @@ use Rattle.crib_board.specs.Board.{board_text}
 use Rattle.cribplan.specs.declared.job.Job.TheVariants.{Replay, Follow, Check, Solve, Board}
 use Rattle.cribplan.specs.Answer.{AnswersCheck, AnswersSolve, refusal_reply, reply_by, report_reply, ending_reply, board_reply}
 use Rattle.cribplan.specs.Input.{most_bytes, input_lines, judged, report_at, report_of_input, question_at, question_of_input}
-use Rattle.cribplan.specs.Input.{problem_alone_at, problem_of_input, ending_at, ending_of_input, board_at, board_of_input}
+use Rattle.cribplan.specs.Input.{problem_alone_at, problem_of_input, ending_at, ending_under, ending_of_input, board_at, board_of_input}
 use Rattle.cribplan.specs.Laws.{Accepts, CutShortLaw}
 
 -- ---- the sections of an input, whatever they say
@@ -138,7 +138,7 @@ board_takes =
     (λ before game. takes_end (λ rest. judged before.number (length game.acts.items) (board_text problem game))))
 
 ending_takes : Takes (section problem_at (section plan_at (section game_at done))) ending_at
-unfolding ending_at
+unfolding ending_at ending_under
 ending_takes =
     takes_section problem_at (section plan_at (section game_at done))
     (λ first problem. plan_at problem.1 >>= λ plan. game_at plan.1 >>= λ game. end_at game.1 >>= λ _. judged plan.1.number (length game.0.acts.items)

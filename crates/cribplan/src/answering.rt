@@ -9,9 +9,8 @@ ghost use Rattle.cribplan.specs.Telling.{StatusTells};
 use crate::answer::Answer;
 use crate::ending::ending_answer;
 use crate::job::Job;
-use crate::line::memory_answer;
 use crate::reading::{board_of, ending_of, problem_of, report_of, verdict_of};
-use crate::refusal::{Refused, Stop, refusal_answer};
+use crate::refusal::{Refused, refusal_answer, stop_answer};
 use crate::report::report_answer;
 use crate::solve::solve_answer;
 use crate::status::Status;
@@ -69,8 +68,7 @@ fn follow_answer<A: Allocator + Copy>(alloc: A, input: &[u8]) -> Answer<A>
 {
     match ending_of(alloc, input) {
         Ok(ending) => ending_answer(ending),
-        Err(Stop::Refused(refused)) => refusal_answer(refused),
-        Err(Stop::Memory) => memory_answer(),
+        Err(stop) => stop_answer(stop),
     }
 }
 
@@ -80,8 +78,7 @@ fn check_answer<A: Allocator + Copy>(alloc: A, input: &[u8]) -> Answer<A>
 {
     match verdict_of(alloc, input) {
         Ok(verdict) => verdict_answer(alloc, &verdict),
-        Err(Stop::Refused(refused)) => refusal_answer(refused),
-        Err(Stop::Memory) => memory_answer(),
+        Err(stop) => stop_answer(stop),
     }
 }
 
@@ -101,8 +98,7 @@ fn board_answer<A: Allocator + Copy>(alloc: A, input: &[u8]) -> Answer<A>
 {
     match board_of(alloc, input) {
         Ok(text) => section_answer(text),
-        Err(Stop::Refused(refused)) => refusal_answer(refused),
-        Err(Stop::Memory) => memory_answer(),
+        Err(stop) => stop_answer(stop),
     }
 }
 

@@ -2,7 +2,7 @@
 ghost use Rattle.std.specs.Prelude.{◌≡◌, ◌≤◌, Err, IfOk, IsOk, length, vec_len};
 ghost use Rattle.crib_text.specs.Lines.{rest_of};
 ghost use Rattle.crib_text.specs.Reading.{Gives};
-ghost use Rattle.cribplan.specs.Input.{board_at, ending_at, problem_alone_at, question_at, report_at};
+ghost use Rattle.cribplan.specs.Input.{board_at, ending_at, ending_under, problem_alone_at, question_at, report_at};
 ghost use Rattle.cribplan.specs.Input.{board_of_input, ending_of_input, problem_of_input, question_of_input};
 ghost use Rattle.cribplan.specs.Input.{report_of_input};
 ghost use Rattle.cribplan.specs.Inside.Replies.{Tells, TellsVerdict, refusal_of};
@@ -12,7 +12,7 @@ use crate::refusal::{Refused, Stop};
 use crib_board::{BoardFault, write_board};
 use crib_check::{KeySet, Verdict, check_with};
 use crib_game::{Ending, Report, follow, read_game, replay};
-use crib_plan::read_plan;
+use crib_plan::{Plan, read_plan};
 use crib_problem::{Problem, read_problem};
 use crib_text::Lines;
 use std::alloc::Allocator;
@@ -42,7 +42,26 @@ pub fn report_of(input: &[u8]) -> Result<Report, Refused>
     read_report(lines)
 }
 
-// How the game stands under the plan, of the problem, the plan and the game that the lines spell.
+// How the game that the lines spell stands under a plan.
+#[tactic(auto, unfolding(crate::specs::Input::ending_under))]
+fn read_ending_under<A: Allocator>(
+    problem: &Problem,
+    plan: &Plan<A>,
+    mut lines: Lines<'_>,
+) -> Result<Ending, Refused>
+    ensures { Gives (λ ending. ending) refusal_of result (ending_under problem.now plan.now (rest_of lines.entry)) }
+{
+    let first = lines.number();
+    let game = read_game(&mut lines)?;
+    lines.finish()?;
+    match follow(problem, plan, &game) {
+        Ok(ending) => Ok(ending),
+        Err(fault) => Err(Refused::of_game(fault, first, game.acts.len())),
+    }
+}
+
+// How the game stands under the plan, of the problem, the plan and the game that the lines spell. Once the plan is read
+// nothing can want memory.
 #[tactic(auto, unfolding(crate::specs::Input::ending_at, crate::specs::Memory::count_behind))]
 fn read_ending<A: Allocator + Copy>(alloc: A, mut lines: Lines<'_>) -> Result<Ending, Stop>
     ensures ending { Tells (λ ending. ending) result (ending_at (rest_of lines.entry)) }
@@ -50,13 +69,8 @@ fn read_ending<A: Allocator + Copy>(alloc: A, mut lines: Lines<'_>) -> Result<En
 {
     let problem = read_problem(&mut lines).map_err(Refused::from)?;
     let plan = read_plan(alloc, &mut lines)?;
-    let first = lines.number();
-    let game = read_game(&mut lines).map_err(Refused::from)?;
-    lines.finish().map_err(Refused::from)?;
-    match follow(&problem, &plan, &game) {
-        Ok(ending) => Ok(ending),
-        Err(fault) => Err(Stop::Refused(Refused::of_game(fault, first, game.acts.len()))),
-    }
+    let ending = read_ending_under(&problem, &plan, lines)?;
+    Ok(ending)
 }
 
 /// The ending that the input asks for.

@@ -1,4 +1,4 @@
--- A sure plan with two branches, and what it tells. TC TD 9C are played and make 29. The owner knows all twos, so the
+-- A worked plan that is sure, with two branches. TC TD 9C are played and make 29. The owner knows all twos, so the
 -- opponent shows an ace or says go: after an ace the owner's ace makes a pair and 31, after a go his two makes 31.
 use Rattle.std.proofs.Common.{arith, ◌≡◌, ◌⊎◌, refl, sym, ap, ◌∙◌, subst, inl, inr, ℕ, Bool, true, false, eqb, not, ◌||◌, cond, filter, List, [], ◌∷◌, ◌++◌, replicate, Option, Some, None}
 use Rattle.std.specs.Prelude.{IsTrue, IsFalse, is_some, if◌then◌else◌}

@@ -1,0 +1,257 @@
+"""Single changes of definitions: another comparison, side, number, field, order, or one of its cases for its neighbour.
+
+A change is made in what a definition says and never in its signature or in the patterns of its cases. What a change can
+turn into what is read from the sources: the variants of a type, fields of one type in a record, definitions of one
+signature in a module.
+"""
+import re
+from collections.abc import Iterator
+from dataclasses import dataclass
+
+from example_crate import PRELUDE, Module, blocks_of, module_of
+
+# What a change names, and the library has not.
+HELPERS = f"""use {PRELUDE}.{{◌≡◌, ◌≤◌, ℕ, ◌==◌, Bool, not, List, [], ◌∷◌, ◌++◌}}
+infix 40 ◌=/=◌
+abbrev pub ◌=/=◌ : ℕ → ℕ → Bool
+a =/= b = not (a == b)
+
+infixl 65 ◌+first◌ ◌+second◌
+abbrev pub ◌+first◌ : ℕ → ℕ → ℕ
+a +first b = a
+
+abbrev pub ◌+second◌ : ℕ → ℕ → ℕ
+a +second b = b
+
+infixl 65 ◌++first◌ ◌++turned◌
+abbrev pub ◌++first◌ : {{A : Type 0}} → List A → List A → List A
+a ++first b = a
+
+abbrev pub ◌++turned◌ : {{A : Type 0}} → List A → List A → List A
+a ++turned b = b ++ a
+
+infixr 67 ◌∷last◌ ◌∷none◌
+abbrev pub ◌∷last◌ : {{A : Type 0}} → A → List A → List A
+a ∷last b = b ++ a ∷ []
+
+abbrev pub ◌∷none◌ : {{A : Type 0}} → A → List A → List A
+a ∷none b = b
+
+infix 4 ◌≡any◌
+abbrev pub ◌≡any◌ : {{A : Type 0}} → A → A → Type 0
+a ≡any b = a ≡ a
+
+infix 50 ◌≤any◌
+abbrev pub ◌≤any◌ : ℕ → ℕ → Type 0
+a ≤any b = 0 ≤ b
+
+abbrev pub itself : {{A : Type 0}} → A → A
+itself a = a
+
+abbrev pub unfiltered : {{A : Type 0}} → (A → Bool) → List A → List A
+unfiltered f xs = xs
+
+abbrev pub IsAny : Bool → Type 0
+IsAny b = b ≡ b
+"""
+HELPER_NAMES = {name.strip("◌"): name for name in re.findall(r"^abbrev pub (\S+) :", HELPERS, re.M)}
+TURNED = {
+    "nat_le": ["nat_lt"], "nat_lt": ["nat_le"], "==": ["=/="], "true": ["false"], "false": ["true"], "&&": ["||"], "||": ["&&"],
+    "min": ["max"], "max": ["min"], "take": ["drop"], "drop": ["take"], "list_any": ["list_all"], "list_all": ["list_any"],
+    "not": ["itself"], "reverse": ["itself"], "filter": ["unfiltered"], "+": ["+first", "+second"], "-": ["+first"],
+    "++": ["++turned", "++first"], "∷": ["∷last", "∷none"], "IsTrue": ["IsFalse", "IsAny"], "IsFalse": ["IsTrue", "IsAny"],
+    "≤": ["<", "≤any"], "<": ["≤", "≤any"], "≡": ["≡any"],
+}
+OPERATORS = ("&&", "||", "≤", "<")
+IN_LISTS = ("list_any", "list_all")
+TOKEN = re.compile(r"\"[^\"]*\"|--[^\n]*|[\w'◌]+(?:\.[\w']+)*|\s+|∷|\+\+|&&|\|\||==|[^\s\w]")
+NAMED = re.compile(r"^ *(?:abbrev |unfoldable )?(?:pub )?([\w'◌-]+)(?: [({][^)}]*[)}])* :", re.M)
+
+
+@dataclass(frozen=True)
+class Change:
+    """One change: the module, the definition, the changed line, and the module's text with the change."""
+    module: Module
+    name: str
+    line: str
+    text: str
+
+    @property
+    def key(self) -> str:
+        return f"{self.module[1]}.{self.module[2]} {self.name}: {self.line}"
+
+
+def names_of(block: str) -> list[str]:
+    """The names that a declaration declares, at its top."""
+    code = "\n".join(line for line in block.splitlines() if not line.startswith("--"))
+    if re.match(r"pub (record|data) ", code):
+        return [re.split(r"[\s:(]", code.split(" ", 2)[2], maxsplit=1)[0]]
+    depth = "  " if "mutual" in code.split("\n", 1)[0] else ""
+    return [name.strip("◌") for name in re.findall(rf"^{depth}(?:abbrev |unfoldable )?(?:pub )?(?:data )?([\w'◌-]+)(?: [({{][^)}}]*[)}}])* :", code, re.M)]
+
+
+class Sources:
+    """What the definitions are made of, as far as a change wants to know it."""
+
+    def __init__(self, texts: dict[Module, str]) -> None:
+        self.texts = texts
+        self.fields: dict[str, set[str]] = {}
+        self.signatures: dict[Module, dict[str, str]] = {}
+        for module, text in texts.items():
+            for block in blocks_of(text):
+                self.add_fields(block)
+            if module[0] == "specs" and not module[2].startswith("declared."):
+                self.signatures[module] = dict(re.findall(r"^(?:abbrev |unfoldable )?pub ([\w'-]+) : ([^\n]*)$", text, re.M))
+
+    def add_fields(self, block: str) -> None:
+        by_type: dict[str, list[str]] = {}
+        if re.search(r"^pub record .* : Type 0 where$", block, re.M):
+            for name, kind in re.findall(r"^  pub (\w+) : (.*)$", block, re.M):
+                by_type.setdefault(kind, []).append(name)
+        for names in by_type.values():
+            for name, other in zip(names, names[1:] + names[:1]):
+                if name != other:
+                    self.fields.setdefault(name, set()).add(other)
+
+    def variants(self, module: Module) -> list[str]:
+        """The variants without a value, of the type whose variants a module has."""
+        return re.findall(r"^  (\w+) : the_data$", self.texts[module], re.M)
+
+    def alike(self, module: Module, name: str) -> str | None:
+        """The next definition of a module with the same signature."""
+        signature = self.signatures.get(module, {}).get(name)
+        names = [one for one, its in self.signatures.get(module, {}).items() if its == signature]
+        return names[(names.index(name) + 1) % len(names)] if signature and len(names) > 1 else None
+
+
+class Header:
+    """What the imports of a module name."""
+
+    def __init__(self, sources: Sources, text: str) -> None:
+        self.names: set[str] = set()
+        self.turned: dict[str, list[tuple[str, str]]] = {}  # a name: what it may turn into, with the import for that
+        for path, names, alias in re.findall(r"^use ([\w.]+?)(?:\.\{([^}]*)\}| as (\w+))$", text, re.M):
+            its = [name.strip() for name in names.split(",") if name.strip()]
+            self.names |= {name.strip("◌") for name in its}
+            crate, kind, place = (re.match(r"Rattle\.(\w+)\.(specs)\.(.*)", path) or re.match(r"()()()", "")).groups()
+            module = module_of(crate, kind, place)
+            if place.endswith(".TheVariants"):
+                self.add_variants(sources, (kind, crate, place), path, its, alias)
+            elif module:
+                for name in its:
+                    other = sources.alike(module, name)
+                    if other:
+                        self.turned.setdefault(name, []).append((other, f"use {path}.{{{other}}}"))
+
+    def add_variants(self, sources: Sources, module: Module, path: str, names: list[str], alias: str) -> None:
+        of_type = sources.variants(module)
+        for name, other in zip(of_type, of_type[1:] + of_type[:1]):
+            if name == other:
+                continue
+            if alias:
+                self.turned.setdefault(f"{alias}.{name}", []).append((f"{alias}.{other}", ""))
+            elif name in names:
+                self.turned.setdefault(name, []).append((other, f"use {path}.{{{other}}}"))
+
+    def with_import(self, text: str, new: str, line: str) -> str:
+        """The text with an import for a new word, if it wants one."""
+        operator = f"◌{new}◌" if new in OPERATORS else new
+        if new in HELPER_NAMES:
+            line = f"use Rattle.pins.specs.Changed.{{{HELPER_NAMES[new]}}}"
+        elif not line and new in {word for words in TURNED.values() for word in words}:
+            line = f"use {'Rattle.std.specs.List' if new in IN_LISTS else PRELUDE}.{{{operator}}}"
+        if not line or (new in self.names and new not in HELPER_NAMES):
+            return text
+        at = text.index("use ") if "use " in text else 0
+        return text[:at] + line + "\n" + text[at:]
+
+
+def sides_of(block: str) -> Iterator[tuple[int, int]]:
+    """Where a declaration says something: the types of a record's fields, the right sides of a definition's equations."""
+    if re.search(r"^pub record ", block, re.M):
+        yield from (found.span(1) for found in re.finditer(r"^  pub \w+ : (.*(?:\n    .*)*)", block, re.M))
+        return
+    names, at, start = set(NAMED.findall(block)), 0, None
+    for line in block.splitlines(keepends=True):
+        head = re.match(r" {0,2}([\w'◌-]+)", line)
+        begins = bool(head and head[1] in names and not NAMED.match(line)) or (bool(re.search(r" = |=$", line)) and not line.startswith(" "))
+        if (begins or NAMED.match(line)) and start is not None:
+            yield start, at
+            start = None
+        equation = re.search(r"(?<![<>=/≡])=(?![=/>])", line) if begins and not line.startswith("--") else None
+        if equation:
+            start = at + equation.end()
+        at += len(line)
+    if start is not None:
+        yield start, at
+
+
+def edits_in(sources: Sources, header: Header, block: str, span: tuple[int, int]) -> Iterator[tuple[int, int, str, str]]:
+    """The changes within one side: from where to where, the new text, and an import."""
+    tokens = [found for found in TOKEN.finditer(block, *span) if not found[0].isspace() and not found[0].startswith("--")]
+    for n, found in enumerate(tokens):
+        token, (start, end) = found[0], found.span()
+        before = tokens[n - 1][0] if n else ""
+        after = tokens[n + 1][0] if n + 1 < len(tokens) else ""
+        if before == "λ" or after == "." or (token == "∷" and after == "[]") or (token == "-" and after == ">"):
+            continue
+        yield from ((start, end, new, "") for new in TURNED.get(token, []))
+        yield from ((start, end, new, line) for new, line in header.turned.get(token, []))
+        if token.isdigit() and before not in ("Type", "{"):
+            yield from ((start, end, str(number), "") for number in (int(token) + 1, int(token) - 1) if number >= 0)
+        if token.startswith('"') and before == "codes" and len(token) > 2:
+            yield end - 2, end - 1, "y" if token[-2] == "x" else "x", ""
+        field = re.fullmatch(r"([\w'.]+)\.(\w+)", token)
+        if field and token not in header.turned:
+            yield from ((start, end, f"{field[1]}.{other}", "") for other in sorted(sources.fields.get(field[2], ())))
+        if token == "if":
+            yield from negated(tokens, n, block)
+
+
+def negated(tokens: list[re.Match[str]], n: int, block: str) -> Iterator[tuple[int, int, str, str]]:
+    """The same with its condition denied."""
+    depth = 0
+    for later in tokens[n + 1:]:
+        depth += (later[0] == "if") - (later[0] == "then")
+        if depth < 0:
+            start, end = tokens[n].end(), later.start()
+            yield start, end, f" not ({block[start:end].strip()}) ", f"use {PRELUDE}.{{not}}"
+            return
+
+
+def neighbours(block: str, spans: list[tuple[int, int]]) -> Iterator[tuple[int, int, str, str]]:
+    """Each right side of several for the next one's."""
+    if len(spans) < 2 or re.search(r"^pub record ", block, re.M):
+        return
+    bound = [set(re.findall(r"\b[a-z]\w*", block[block.rfind("\n", 0, start) + 1:start])) for start, _ in spans]
+    for n, other in enumerate([*range(1, len(spans)), len(spans) - 2]):
+        side = block[slice(*spans[other])]
+        used = set(re.findall(r"\b[a-z]\w*", side)) & bound[other]
+        if used <= bound[n]:
+            yield *spans[n], side.rstrip("\n") + "\n" * block[slice(*spans[n])].endswith("\n"), ""
+
+
+def shown_line(block: str, start: int, end: int) -> str:
+    """The lines of a change, as one."""
+    first = block.rfind("\n", 0, start) + 1
+    last = block.find("\n", end - (block[end - 1:end] == "\n"))
+    return " ".join(block[first:last if last >= 0 else len(block)].split())
+
+
+def changes_of(sources: Sources, module: Module, wanted: set[str]) -> Iterator[Change]:
+    """The changes of the wanted definitions of a module, each new text once."""
+    text, at, seen = sources.texts[module], 0, set()
+    header = Header(sources, text)
+    for block in blocks_of(text):
+        at = text.index(block, at)
+        names = names_of(block)
+        if not set(names) & wanted or block.startswith(("use ", "infix")) or re.search(r"^pub data ", block, re.M):
+            continue
+        spans = list(sides_of(block))
+        edits = [edit for span in spans for edit in edits_in(sources, header, block, span)]
+        for start, end, new, line in [*edits, *neighbours(block, spans)]:
+            changed = block[:start] + new + block[end:]
+            if changed not in seen and changed != block:
+                seen.add(changed)
+                whole = header.with_import(text[:at] + changed + text[at + len(block):], "not" if "not" in line else new, line)
+                yield Change(module, names[0], shown_line(changed, start, start + len(new)), whole)

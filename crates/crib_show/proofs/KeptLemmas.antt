@@ -7,15 +7,15 @@ use Rattle.crib_cards.specs.Sets.{has}
 use Rattle.crib_cards.specs.declared.sides.Dealt.{Dealt}
 use Rattle.crib_show.specs.Show.{hand_points, crib_points}
 use Rattle.crib_show.specs.Shows.{AreKept, AreKeptFor, AreShows, AreShowsFor, HasCards}
-use Rattle.crib_show.specs.Worst.{AgreesWith, IsGreatestHand, IsGreatestTotal, IsLeastCrib, hidden_crib, hidden_hand, hidden_total}
+use Rattle.crib_show.specs.Worst.{AgreesWith, IsGreatestCrib, IsGreatestHand, IsGreatestTotal, IsLeastCrib, hidden_crib, hidden_hand, hidden_total}
 use Rattle.crib_show.specs.declared.deals.WorstShow.{WorstShow}
 use Rattle.crib_show.specs.declared.shows.Kept.{Kept}
 use Rattle.crib_show.specs.declared.shows.Shows.{Shows}
 
 -- nothing that is kept is right
 pub none_kept : (starter : ℕ) (throw unseen fixed ranks : List ℕ) →
-    AreKeptFor starter throw unseen fixed (record { ranks = ranks; hand = None; least_crib = None; total = None })
-none_kept starter throw unseen fixed ranks = λ worst is. record { hand = tt; least_crib = tt; total = tt }
+    AreKeptFor starter throw unseen fixed (record { ranks = ranks; greatest_hand = None; least_crib = None; greatest_crib = None; greatest_total = None })
+none_kept starter throw unseen fixed ranks = λ worst is. record { greatest_hand = tt; least_crib = tt; greatest_crib = tt; greatest_total = tt }
 
 -- ---- two shows with the same cards
 module _ (starter : ℕ) (throw unseen fixed ranks : List ℕ) (worst other : WorstShow) (here : HasCards starter throw unseen fixed ranks worst)
@@ -58,6 +58,12 @@ module _ (starter : ℕ) (throw unseen fixed ranks : List ℕ) (worst other : Wo
     all = λ dealt agrees. subst (λ k. points ≤ k) (cribs dealt) (is.all dealt (agrees_here dealt agrees));
   }
 
+  crib_there : (points : ℕ) → IsGreatestCrib worst points → IsGreatestCrib other points
+  crib_there points is = record {
+    some = (is.some.0, agrees_there is.some.0 is.some.1, sym (cribs is.some.0) ∙ is.some.2);
+    all = λ dealt agrees. subst (λ k. k ≤ points) (cribs dealt) (is.all dealt (agrees_here dealt agrees));
+  }
+
   total_there : (points : ℕ) → IsGreatestTotal worst points → IsGreatestTotal other points
   total_there points is = record {
     some = (is.some.0, agrees_there is.some.0 is.some.1, sym (totals is.some.0) ∙ is.some.2);
@@ -66,9 +72,10 @@ module _ (starter : ℕ) (throw unseen fixed ranks : List ℕ) (worst other : Wo
 
   kept_there : (kept : Kept) → AreKept worst kept → AreKept other kept
   kept_there kept is = record {
-    hand = IfSome_then kept.hand is.hand hand_there;
+    greatest_hand = IfSome_then kept.greatest_hand is.greatest_hand hand_there;
     least_crib = IfSome_then kept.least_crib is.least_crib least_there;
-    total = IfSome_then kept.total is.total total_there;
+    greatest_crib = IfSome_then kept.greatest_crib is.greatest_crib crib_there;
+    greatest_total = IfSome_then kept.greatest_total is.greatest_total total_there;
   }
 
 -- a show has its own cards

@@ -39,7 +39,7 @@ module _ (worst : WorstShow) where
       (and_from (is_free worst x && is_free worst y) (not (eqb x y)) (and_from (is_free worst x) (is_free worst y) may.first_free may.second_free)
       (ap not (ne_eqb x y may.apart)))
 
-  few_suits : (x y : ℕ) → crib_suit_points worst x y ≤ 6
+  pub few_suits : (x y : ℕ) → crib_suit_points worst x y ≤ 6
   few_suits x y = six (list_all (λ card. eqb (suit_of card) (suit_of worst.starter)) (crib_with worst x y))
       (list_any (λ card. eqb (rank_of card) jack && eqb (suit_of card) (suit_of worst.starter)) (crib_with worst x y))
     where

@@ -1,5 +1,5 @@
 -- What the loops over hands and cribs have tried.
-use Rattle.std.specs.Prelude.{◌≡◌, ◌⊎◌, ℕ, ◌+◌, ◌<◌, ◌≤◌, ◌==◌, nat_lt, max, min, Bool, not, ◌&&◌, ◌||◌, IsTrue, List}
+use Rattle.std.specs.Prelude.{◌≡◌, ◌⊎◌, ℕ, ◌+◌, ◌<◌, ◌≤◌, ◌==◌, nat_lt, max, min, Bool, not, ◌&&◌, ◌||◌, IsTrue, IsFalse, List}
 use Rattle.std.specs.Prelude.{[], ◌∷◌, ◌++◌, map, replicate, if◌then◌else◌}
 use Rattle.std.specs.List.{list_all}
 use Rattle.crib_cards.specs.Cards.{IsRank, card_of, suit_of, jack}
@@ -8,6 +8,8 @@ use Rattle.crib_cards.specs.declared.sides.Dealt.{Dealt}
 use Rattle.crib_show.specs.declared.deals.WorstShow.{WorstShow}
 use Rattle.crib_show.specs.Show.{are_of_suit, crib_flush, hand_flush, jack_points, plain_points}
 use Rattle.crib_show.specs.Worst.{AgreesWith, hidden_crib, hidden_hand}
+use Rattle.crib_show.specs.declared.totals.Sought.{Sought}
+use Rattle.crib_show.specs.Inside.Totals.{ranks_give}
 use Rattle.crib_show.specs.Inside.Extremes.{suited, most_suit_points, has_room, no_crib, least_suits, plain_crib, least_of_ranks}
 
 -- the greatest hand of some ranks
@@ -30,3 +32,7 @@ pub record IsMostBefore (worst : WorstShow) (first second most : ℕ) : Type 0 w
   pub all : (p q : ℕ) → IsRank p → IsRank q → p ≤ q → AreTried first second p q → IsTrue (has_room worst p q)
       → plain_crib worst p q ≤ most
   pub low : most ≤ 96
+
+-- no two ranks that are tried before two ranks give enough of what is sought
+pub record NoneGiveBefore (worst : WorstShow) (sought : Sought) (spare enough first second : ℕ) : Type 0 where
+  pub none : (p q : ℕ) → IsRank p → IsRank q → p ≤ q → AreTried first second p q → IsFalse (ranks_give worst sought spare enough p q)

@@ -10,7 +10,9 @@ use Rattle.crib_cards.specs.Sets.{has, are_distinct, count_at, count_rank, IsCar
 use Rattle.crib_cards.specs.declared.sides.Dealt.{Dealt}
 use Rattle.crib_cards.proofs.SetFacts.{are_distinct-set_where, has-append}
 use Rattle.crib_show.specs.Inside.Extremes.{crib_suit_points, crib_with, has_room, is_free, least_of_ranks}
-use Rattle.crib_show.proofs.Tried.{AreTried, IsLeastBefore, IsMostBefore}
+use Rattle.crib_show.proofs.Tried.{AreTried, IsLeastBefore, IsMostBefore, NoneGiveBefore}
+use Rattle.crib_show.specs.declared.totals.Sought.{Sought}
+use Rattle.crib_show.specs.Inside.Totals.{ranks_give}
 use Rattle.crib_show.specs.Inside.Extremes.{least_suits, least_suits_with, most_crib_suits, no_crib, plain_crib, right_jack, thrown_suits}
 use Rattle.crib_show.specs.Show.{are_of_suit, crib_flush, crib_points, jack_points, plain_points}
 use Rattle.crib_show.specs.Worst.{AgreesWith, HasDeal, hidden_crib}
@@ -170,3 +172,20 @@ module _ (worst : WorstShow) where
         low =
             before.low;
       }
+
+-- the same of pairs of ranks that give too little
+module _ (worst : WorstShow) (sought : Sought) (spare enough : ℕ) where
+  pub none_next : (first second p q : ℕ) → NoneGiveBefore worst sought spare enough first second → p ≡ first → q ≡ second →
+      ranks_give worst sought spare enough p q ≡ false → NoneGiveBefore worst sought spare enough first (second + 1)
+  none_next first second p q before is_p is_q fails = record {
+    none = λ a b is_a is_b order tried.
+        elim (sooner first second a b tried) [
+          | inl earlier ↦ before.none a b is_a is_b order earlier
+          | inr same ↦ sym (λ i. ranks_give worst sought spare enough ((is_p ∙ sym same.0) i) ((is_q ∙ sym same.1) i)) ∙ fails
+        ];
+  }
+
+  pub none_row : (first second : ℕ) → NoneGiveBefore worst sought spare enough first second → 14 ≤ second →
+      NoneGiveBefore worst sought spare enough (first + 1) (first + 1)
+  none_row first second before past =
+      record { none = λ p q is_p is_q order tried. before.none p q is_p is_q order (row_sooner first second p q past is_q order tried) }

@@ -4,13 +4,14 @@ use Rattle.std.specs.List.{All}
 use Rattle.crib_show.specs.declared.deals.WorstShow.{WorstShow}
 use Rattle.crib_show.specs.declared.shows.Kept.{Kept}
 use Rattle.crib_show.specs.declared.shows.Shows.{Shows}
-use Rattle.crib_show.specs.Worst.{AreOwnPoints, IsGreatestHand, IsGreatestTotal, IsLeastCrib}
+use Rattle.crib_show.specs.Worst.{AreOwnPoints, IsGreatestCrib, IsGreatestHand, IsGreatestTotal, IsLeastCrib}
 
 -- what is kept of a show is right
 pub record AreKept (worst : WorstShow) (kept : Kept) : Type 0 where
-  pub hand : IfSome kept.hand (IsGreatestHand worst)
+  pub greatest_hand : IfSome kept.greatest_hand (IsGreatestHand worst)
   pub least_crib : IfSome kept.least_crib (IsLeastCrib worst)
-  pub total : IfSome kept.total (IsGreatestTotal worst)
+  pub greatest_crib : IfSome kept.greatest_crib (IsGreatestCrib worst)
+  pub greatest_total : IfSome kept.greatest_total (IsGreatestTotal worst)
 
 -- a show with these cards, whatever the scores, the target and the dealer are
 pub record HasCards (starter : ℕ) (throw unseen fixed ranks : List ℕ) (worst : WorstShow) : Type 0 where

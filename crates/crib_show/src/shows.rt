@@ -1,7 +1,8 @@
 //! What the shows of one problem come to, kept from one end of the play to the next.
-ghost use Rattle.std.specs.Prelude.{◌≡◌, ℕ, List};
+ghost use Rattle.std.specs.Prelude.{◌≡◌, ℕ, List, None};
 ghost use Rattle.crib_show.specs.Shows.{AreKept, AreShows, AreShowsFor};
-ghost use Rattle.crib_show.specs.Worst.{ArePlain, HasDeal, IsGreatestHand, IsGreatestTotal, IsLeastCrib};
+ghost use Rattle.crib_show.specs.Worst.{ArePlain, HasDeal, IsGreatestCrib, IsGreatestHand, IsGreatestTotal};
+ghost use Rattle.crib_show.specs.Worst.{IsLeastCrib};
 
 use super::cribs::{known_crib, plain_cribs};
 use super::deals::{OwnPoints, PlainCribs, WorstShow};
@@ -28,23 +29,32 @@ pub struct Kept {
     /// How many cards of each rank he held.
     pub ranks: RankCounts,
     /// The points of the greatest hand.
-    pub hand: Option<u8>,
+    pub greatest_hand: Option<u8>,
     /// The points of the least crib.
     pub least_crib: Option<u8>,
+    /// The points of the greatest crib.
+    pub greatest_crib: Option<u8>,
     /// The points of the greatest sum of hand and crib.
-    pub total: Option<u8>,
+    pub greatest_total: Option<u8>,
 }
 
 impl Kept {
     /// Some ranks of which nothing has been worked out.
     fn new(ranks: RankCounts) -> Self
-        ensures { result ≡ record { ranks = ranks; hand = None; least_crib = None; total = None } }
+        ensures { result ≡ record {
+          ranks = ranks;
+          greatest_hand = None;
+          least_crib = None;
+          greatest_crib = None;
+          greatest_total = None;
+        } }
     {
         Kept {
             ranks,
-            hand: None,
+            greatest_hand: None,
             least_crib: None,
-            total: None,
+            greatest_crib: None,
+            greatest_total: None,
         }
     }
 
@@ -56,11 +66,11 @@ impl Kept {
         ensures kept { AreKept worst.now self.new }
         ensures ranks { self.new.ranks ≡ self.old.ranks }
     {
-        if let Some(points) = self.hand {
+        if let Some(points) = self.greatest_hand {
             return points;
         }
         let points = worst.worst_hand();
-        self.hand = Some(points);
+        self.greatest_hand = Some(points);
         points
     }
 
@@ -81,6 +91,23 @@ impl Kept {
         points
     }
 
+    /// The points of the greatest crib, worked out where they are not kept. Some deal must agree.
+    pub(crate) fn greatest_crib(&mut self, worst: &WorstShow, plain: &PlainCribs) -> u8
+        requires deal { HasDeal worst.now }
+        requires plain { ArePlain worst.now.starter worst.now.own_throw plain.now }
+        requires kept { AreKept worst.now self.old }
+        ensures greatest { IsGreatestCrib worst.now result }
+        ensures kept { AreKept worst.now self.new }
+        ensures ranks { self.new.ranks ≡ self.old.ranks }
+    {
+        if let Some(points) = self.greatest_crib {
+            return points;
+        }
+        let points = worst.greatest_crib(plain);
+        self.greatest_crib = Some(points);
+        points
+    }
+
     /// The points of the greatest sum of hand and crib, worked out where they are not kept. Some deal must agree.
     pub(crate) fn greatest_total(&mut self, worst: &WorstShow, plain: &PlainCribs) -> u8
         requires deal { HasDeal worst.now }
@@ -90,11 +117,12 @@ impl Kept {
         ensures kept { AreKept worst.now self.new }
         ensures ranks { self.new.ranks ≡ self.old.ranks }
     {
-        if let Some(points) = self.total {
+        if let Some(points) = self.greatest_total {
             return points;
         }
-        let points = worst.most_total_within(plain, worst.high_crib(plain));
-        self.total = Some(points);
+        let crib = self.greatest_crib(worst, plain);
+        let points = worst.greatest_total(plain, crib);
+        self.greatest_total = Some(points);
         points
     }
 }

@@ -1,16 +1,26 @@
-//! The greatest sum of the opponent's hand and the crib, both of one deal.
-ghost use Rattle.std.specs.Prelude.{◌≡◌, ◌+◌, ◌-◌, ◌<◌, ◌≤◌, ◌∷◌, ◌++◌, [], take};
-ghost use Rattle.crib_cards.specs.Sets.{IsCardSet};
-ghost use Rattle.crib_show.specs.Inside.Listing.{any_card};
-ghost use Rattle.crib_show.specs.Show.{crib_points};
-ghost use Rattle.crib_show.specs.Inside.Totals.{keep_choices, most_of_hold, most_of_holds, most_of_throw};
-ghost use Rattle.crib_show.specs.Worst.{AgreesWith, ArePlain, HasDeal, IsGreatestTotal, hidden_crib};
-ghost use Rattle.crib_cards.specs.declared.sides.Dealt.{Dealt};
+//! The greatest crib, and the greatest sum of the opponent's hand and the crib, both of one deal.
+ghost use Rattle.std.specs.Prelude.{◌≡◌, ◌⊎◌, ◌+◌, ◌≤◌, ◌∷◌, ◌++◌, [], IsFalse, IsTrue};
+ghost use Rattle.crib_cards.specs.Cards.{IsRank};
+ghost use Rattle.crib_show.specs.Inside.Extremes.{most_suit_points, plain_crib, ranks_from, suited};
+ghost use Rattle.crib_show.specs.Inside.Totals.{NoneGive, SomeGive, card_gives, ranks_give, sought_points, throw_gives};
+ghost use Rattle.crib_show.specs.Inside.Totals.{without_throw};
+ghost use Rattle.crib_show.specs.Show.{crib_points, plain_points};
+ghost use Rattle.crib_show.specs.Worst.{ArePlain, HasDeal, IsGreatestCrib, IsGreatestTotal};
 
 use super::cribs::plain_cribs;
 use super::deals::{PlainCribs, WorstShow};
-use super::points::{crib_flush, hand_points, jack_points};
-use crib_cards::{Card, CardSet};
+use super::hands::{is_set, rank_numbered};
+use super::points::{crib_flush, jack_points};
+use crib_cards::{Card, Rank, Suit};
+
+/// What is sought as great as it may be.
+#[derive(Clone, Copy)]
+pub enum Sought {
+    /// The crib.
+    Crib,
+    /// The crib with what suits add to the opponent's hand, of these ranks.
+    CribAndHand([Rank; 4]),
+}
 
 impl WorstShow {
     /// The points of the greatest sum of the opponent's hand and crib, both of one deal. Some deal must agree.
@@ -19,106 +29,157 @@ impl WorstShow {
         ensures { IsGreatestTotal self.now result }
     {
         let plain = plain_cribs(&self.own_throw, self.starter);
-        self.most_total_within(&plain, self.high_crib(&plain))
+        self.greatest_total(&plain, self.greatest_crib(&plain))
     }
 
-    /// What [`WorstShow::most_total`] answers, where no crib has more points than a bound.
-    pub(crate) fn most_total_within(&self, plain: &PlainCribs, bound: u8) -> u8
+    /// The points of the greatest crib that the opponent's throw may leave. Some deal must agree.
+    pub(crate) fn greatest_crib(&self, plain: &PlainCribs) -> u8
         requires deal { HasDeal self.now }
         requires plain { ArePlain self.now.starter self.now.own_throw plain.now }
-        requires bound { (dealt : Dealt) → AgreesWith self.now dealt → hidden_crib self.now dealt ≤ bound }
-        requires range { bound ≤ 102 }
+        ensures { IsGreatestCrib self.now result }
+    {
+        is_set(self.unseen);
+        let spare = self.most_crib_suits();
+        self.most_sought(plain, &Sought::Crib, spare, self.high_crib(plain))
+    }
+
+    /// What [`WorstShow::most_total`] answers, with the points of the greatest crib.
+    pub(crate) fn greatest_total(&self, plain: &PlainCribs, crib: u8) -> u8
+        requires deal { HasDeal self.now }
+        requires plain { ArePlain self.now.starter self.now.own_throw plain.now }
+        requires crib { IsGreatestCrib self.now crib }
         ensures { IsGreatestTotal self.now result }
     {
-        self.most_from(plain, bound, &[self.starter; 4], 0, self.unseen, 0)
+        is_set(self.unseen);
+        is_set(self.fixed);
+        let hand = self.ranks_hand();
+        let spare = self.most_crib_suits() + hand.suits;
+        let sought = Sought::CribAndHand(hand.ranks);
+        hand.plain + self.most_sought(plain, &sought, spare, crib + hand.suits)
     }
 
-    /// The most of some points and of the deals whose hold has the first cards of `hold` and otherwise cards of a set.
-    fn most_from(
-        &self,
-        plain: &PlainCribs,
-        bound: u8,
-        hold: &[Card; 4],
-        len: usize,
-        cards: CardSet,
-        most: u8,
-    ) -> u8
+    /// The most that is sought of the throws, up to a bound.
+    fn most_sought(&self, plain: &PlainCribs, sought: &Sought, spare: u8, bound: u8) -> u8
         requires plain { ArePlain self.now.starter self.now.own_throw plain.now }
-        requires len { len ≤ 4 }
-        requires bound { bound ≤ 102 }
-        ensures value { result ≡ most_of_holds self.now bound (take len hold.now) (4 - len) cards most }
-        ensures set { len < 4 → IsCardSet cards }
+        requires range { spare ≤ 12 }
+        ensures some { (result ≡ 0) ⊎ SomeGive self.now sought.now spare result }
+        ensures all { (result ≡ bound) ⊎ NoneGive self.now sought.now spare (result + 1) }
+        ensures range { result ≤ bound }
     {
-        if len == 4 {
-            return self.most_of_hold(plain, bound, *hold, most);
-        }
-        let Some(card) = cards.lowest() else {
-            return most;
-        };
-        let cards = cards.without(card);
-        if self.ranks.of(card.rank()) > 0 {
-            let mut longer = *hold;
-            longer[len] = card;
-            let more = self.most_from(plain, bound, &longer, len + 1, cards, most);
-            self.most_from(plain, bound, hold, len, cards, more)
-        } else {
-            self.most_from(plain, bound, hold, len, cards, most)
-        }
-    }
-
-    /// The most of some points and of the deals of a hold, if the opponent may have held these cards.
-    ///
-    /// Its throws are tried only where the hand with a bound on the crib has more points.
-    fn most_of_hold(&self, plain: &PlainCribs, bound: u8, hold: [Card; 4], most: u8) -> u8
-        requires plain { ArePlain self.now.starter self.now.own_throw plain.now }
-        requires bound { bound ≤ 102 }
-        ensures { result ≡ most_of_hold self.now bound hold most }
-    {
-        if !self.may_hold(&hold) {
-            return most;
-        }
-        let hand = hand_points(&hold, self.starter);
-        if hand + bound <= most {
-            return most;
-        }
-        self.most_of_throws(plain, hand, self.unseen.without_all(&hold), most)
-    }
-
-    /// The most of some points and of a hand with each crib, with two cards of a set for the throw.
-    fn most_of_throws(&self, plain: &PlainCribs, hand: u8, cards: CardSet, most: u8) -> u8
-        requires plain { ArePlain self.now.starter self.now.own_throw plain.now }
-        requires hand { hand ≤ 102 }
-        ensures { result ≡ keep_choices (most_of_throw self.now hand) any_card [] 2 cards most }
-    {
-        let mut most = most;
-        let mut rest = cards;
-        while let Some(first) = rest.lowest() {
-            rest = rest.without(first);
-            most = self.most_of_throws_with(plain, hand, first, rest, most);
+        let mut most = bound;
+        while most > 0 && !self.some_give(plain, sought, spare, most) {
+            most -= 1;
         }
         most
     }
 
-    /// The most of some points and of a hand with each crib, with a card and one of a set for the throw.
-    fn most_of_throws_with(
+    /// Whether some two ranks give enough of what is sought.
+    fn some_give(&self, plain: &PlainCribs, sought: &Sought, spare: u8, enough: u8) -> bool
+        requires plain { ArePlain self.now.starter self.now.own_throw plain.now }
+        requires range { spare ≤ 12 }
+        ensures some { IsTrue result → SomeGive self.now sought.now spare enough }
+        ensures none { IsFalse result → NoneGive self.now sought.now spare enough }
+    {
+        for first in 1..14 {
+            for second in first..14 {
+                let first = rank_numbered(first);
+                let second = rank_numbered(second);
+                if self.ranks_give(plain, sought, spare, enough, first, second) {
+                    return true;
+                }
+            }
+        }
+        false
+    }
+
+    /// Whether cards of two ranks may be thrown that give enough of what is sought. The points that ranks give, with
+    /// some that may come to them, are asked first.
+    fn ranks_give(
         &self,
         plain: &PlainCribs,
-        hand: u8,
+        sought: &Sought,
+        spare: u8,
+        enough: u8,
+        first: Rank,
+        second: Rank,
+    ) -> bool
+        requires plain { ArePlain self.now.starter self.now.own_throw plain.now }
+        requires range { spare ≤ 12 }
+        requires ranks { IsRank first × IsRank second }
+        ensures { result ≡ ranks_give self.now sought.now spare enough first second }
+    {
+        enough <= plain.of(first, second) + spare
+            && self.has_room(first, second)
+            && (self.card_gives(plain, sought, enough, Card::of(first, Suit::Clubs), second)
+                || self.card_gives(
+                    plain,
+                    sought,
+                    enough,
+                    Card::of(first, Suit::Diamonds),
+                    second,
+                )
+                || self.card_gives(plain, sought, enough, Card::of(first, Suit::Hearts), second)
+                || self.card_gives(plain, sought, enough, Card::of(first, Suit::Spades), second))
+    }
+
+    /// Whether a card may be thrown with one of a rank, so that they give enough of what is sought.
+    fn card_gives(
+        &self,
+        plain: &PlainCribs,
+        sought: &Sought,
+        enough: u8,
         first: Card,
-        cards: CardSet,
-        most: u8,
-    ) -> u8
+        rank: Rank,
+    ) -> bool
         requires plain { ArePlain self.now.starter self.now.own_throw plain.now }
-        requires hand { hand ≤ 102 }
-        ensures { result ≡ keep_choices (most_of_throw self.now hand) any_card (first ∷ []) 1 cards most }
+        ensures { result ≡ card_gives self.now sought.now enough first rank }
     {
-        let mut most = most;
-        let mut rest = cards;
-        while let Some(second) = rest.lowest() {
-            rest = rest.without(second);
-            most = most.max(hand + self.crib_of_throw(plain, first, second));
+        self.is_free(first)
+            && (self.throw_gives(plain, sought, enough, first, Card::of(rank, Suit::Clubs))
+                || self.throw_gives(plain, sought, enough, first, Card::of(rank, Suit::Diamonds))
+                || self.throw_gives(plain, sought, enough, first, Card::of(rank, Suit::Hearts))
+                || self.throw_gives(plain, sought, enough, first, Card::of(rank, Suit::Spades)))
+    }
+
+    /// Whether the second of two cards may be thrown with the first, and they give enough of what is sought.
+    fn throw_gives(
+        &self,
+        plain: &PlainCribs,
+        sought: &Sought,
+        enough: u8,
+        first: Card,
+        second: Card,
+    ) -> bool
+        requires plain { ArePlain self.now.starter self.now.own_throw plain.now }
+        ensures { result ≡ throw_gives self.now sought.now enough first second }
+    {
+        self.is_free(second)
+            && first.number() != second.number()
+            && enough <= self.sought_points(plain, sought, first, second)
+    }
+
+    /// The points that are sought when two cards are thrown.
+    fn sought_points(&self, plain: &PlainCribs, sought: &Sought, first: Card, second: Card) -> u8
+        requires plain { ArePlain self.now.starter self.now.own_throw plain.now }
+        ensures { result ≡ sought_points self.now sought.now first second }
+    {
+        let crib = self.crib_of_throw(plain, first, second);
+        match sought {
+            Sought::Crib => crib,
+            Sought::CribAndHand(ranks) => {
+                crib + self.without_throw(first, second).most_suit_points(ranks)
+            }
         }
-        most
+    }
+
+    /// The show of which two cards are not the opponent's to hold.
+    fn without_throw(&self, first: Card, second: Card) -> WorstShow
+        ensures { result ≡ without_throw self.now first second }
+    {
+        WorstShow {
+            unseen: self.unseen.without(first).without(second),
+            ..*self
+        }
     }
 
     /// The points of the crib when two cards are thrown, those of their ranks taken from the table.

@@ -1,35 +1,51 @@
--- Shaped by the code: the greatest sum of hand and crib, kept while the deals that agree are tried one after another.
--- Worst says what the public call answers, without any listing.
-use Rattle.std.specs.Prelude.{ℕ, zero, suc, ◌+◌, nat_lt, max, Bool, ◌&&◌, List, [], ◌∷◌, ◌++◌, if◌then◌else◌}
-use Rattle.crib_cards.specs.Sets.{set_without_all}
+-- Shaped by the code: the greatest crib, and the greatest sum of hand and crib, sought among the throws of two cards.
+-- Worst says what the public call answers, by the deals alone.
+use Rattle.std.specs.Prelude.{◌≡◌, ◌⊎◌, ℕ, ◌+◌, ◌≤◌, ◌==◌, nat_le, Bool, not, ◌&&◌, ◌||◌, IsTrue, IsFalse, List}
+use Rattle.crib_cards.specs.Cards.{IsRank, card_of}
+use Rattle.crib_cards.specs.Sets.{set_without}
 use Rattle.crib_show.specs.declared.deals.WorstShow.{WorstShow}
-use Rattle.crib_show.specs.Inside.Listing.{any_card, may_be_held, may_hold}
-use Rattle.crib_show.specs.Show.{hand_points, crib_points}
+use Rattle.crib_show.specs.declared.totals.Sought.{Sought}
+use Rattle.crib_show.specs.declared.totals.Sought.TheVariants.{Crib, CribAndHand}
+use Rattle.crib_show.specs.Inside.Extremes.{crib_with, has_room, is_free, most_suit_points, plain_crib}
+use Rattle.crib_show.specs.Show.{crib_points}
 
--- what is left of some points when a step is made for each choice: some cards, and after them n from cards that may be
--- chosen, in dictionary order
-unfoldable pub keep_choices : (List ℕ → ℕ → ℕ) → (ℕ → Bool) → List ℕ → ℕ → List ℕ → ℕ → ℕ
-keep_choices step may taken zero cards most = step taken most
-keep_choices step may taken (suc n) [] most = most
-keep_choices step may taken (suc n) (card ∷ cards) most =
-    keep_choices step may taken (suc n) cards
-    (if may card then keep_choices step may (taken ++ card ∷ []) n cards most else most)
+-- a show of which two cards are not the opponent's to hold
+abbrev pub without_throw : WorstShow → ℕ → ℕ → WorstShow
+without_throw worst first second = record worst { unseen = set_without (set_without worst.unseen first) second }
 
--- the most of some points and of a hand with the crib of a throw
-abbrev pub most_of_throw : WorstShow → ℕ → List ℕ → ℕ → ℕ
-most_of_throw worst hand throw most = max most (hand + crib_points (worst.own_throw ++ throw) worst.starter)
+-- the points that are sought, when two cards are thrown: of the crib, and of what suits add to the best hand that is
+-- left of some ranks
+abbrev pub sought_points : WorstShow → Sought → ℕ → ℕ → ℕ
+sought_points worst Crib first second = crib_points (crib_with worst first second) worst.starter
+sought_points worst (CribAndHand ranks) first second =
+    crib_points (crib_with worst first second) worst.starter + most_suit_points (without_throw worst first second) ranks
 
--- the most of some points and of a hold with each throw of two others of the unseen cards, tried only where the hand
--- and a bound on the crib have more points
-abbrev pub most_of_hold : WorstShow → ℕ → List ℕ → ℕ → ℕ
-most_of_hold worst bound hold most =
-    if may_hold worst hold && nat_lt most (hand_points hold worst.starter + bound)
-    then
-    keep_choices (most_of_throw worst (hand_points hold worst.starter)) any_card [] 2
-    (set_without_all worst.unseen hold) most
-    else most
+-- whether they are enough, and the second of two cards may be thrown with the first
+abbrev pub throw_gives : WorstShow → Sought → ℕ → ℕ → ℕ → Bool
+throw_gives worst sought enough first second =
+    is_free worst second && not (first == second) && nat_le enough (sought_points worst sought first second)
 
--- what is left of some points when the deals are tried of the holds of some cards and n others of those given
-abbrev pub most_of_holds : WorstShow → ℕ → List ℕ → ℕ → List ℕ → ℕ → ℕ
-most_of_holds worst bound taken n cards most =
-    keep_choices (most_of_hold worst bound) (may_be_held worst) taken n cards most
+-- whether they are with a card of a rank, and the first may be thrown
+abbrev pub card_gives : WorstShow → Sought → ℕ → ℕ → ℕ → Bool
+card_gives worst sought enough first rank =
+    is_free worst first
+    && (throw_gives worst sought enough first (card_of rank 0) || throw_gives worst sought enough first (card_of rank 1)
+    || throw_gives worst sought enough first (card_of rank 2) || throw_gives worst sought enough first (card_of rank 3))
+
+-- whether they are with cards of two ranks. The points that ranks give, with some that may come to them, are asked first
+abbrev pub ranks_give : WorstShow → Sought → ℕ → ℕ → ℕ → ℕ → Bool
+ranks_give worst sought spare enough first second =
+    nat_le enough (plain_crib worst first second + spare) && has_room worst first second
+    && (card_gives worst sought enough (card_of first 0) second || card_gives worst sought enough (card_of first 1) second
+    || card_gives worst sought enough (card_of first 2) second || card_gives worst sought enough (card_of first 3) second)
+
+-- some two ranks do
+abbrev pub SomeGive : WorstShow → Sought → ℕ → ℕ → Type 0
+SomeGive worst sought spare enough =
+    (first : ℕ) × (second : ℕ) × IsRank first × IsRank second × IsTrue (ranks_give worst sought spare enough first second)
+
+-- no two ranks do
+abbrev pub NoneGive : WorstShow → Sought → ℕ → ℕ → Type 0
+NoneGive worst sought spare enough =
+    (first second : ℕ) → IsRank first → IsRank second → first ≤ second
+    → IsFalse (ranks_give worst sought spare enough first second)

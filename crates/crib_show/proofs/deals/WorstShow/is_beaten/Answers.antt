@@ -6,9 +6,9 @@ use Rattle.crib_show.proofs.deals.WorstShow.is_beaten.Goals as goal
 
 pub returns-then-apart-lt-GAME_HOLE-clause-none : goal.returns-then-apart-lt-GAME_HOLE-clause-none
 returns-then-apart-lt-GAME_HOLE-clause-none c = λ going.
-    let crib = c.high_crib.result in
+    let crib = c.greatest_crib-crib.result in
     apart_never c.args.self.now c.requires.still c.requires.dealer c.requires.stop c.greatest_hand-hand.result crib c.greatest_hand-hand.ensures.greatest.all
-    c.high_crib.ensures.all
+    c.greatest_crib-crib.ensures.greatest.all
     (subst (λ k. k < 121) (ap (λ s. s.opponent) c.with-apart.ensures ∙ ap (λ k. pegged k crib) (ap (λ s. s.opponent) c.with.ensures))
     c.if-apart-lt-GAME_HOLE.true)
 

@@ -1,0 +1,343 @@
+-- What is sought among the throws is the greatest of the deals that agree.
+use Rattle.std.proofs.Common.{◌≡◌, ◌≢◌, ◌⊎◌, ℕ, ◌+◌, ◌<◌, ◌≤◌, suc, zero, Bool, true, false, not, eqb, leb, ◌&&◌, ◌||◌, List, [], ◌∷◌, refl, sym, ap, ◌∙◌}
+use Rattle.std.proofs.Common.{inl, inr, subst, arith}
+use Rattle.std.proofs.lemmas.Bool.{cases_Bool, cases_lt, and_parts, and_from, or_cases, or_from, or_left, or_right, both_ways, not-true, eqb-false, ne_eqb}
+use Rattle.std.proofs.lemmas.Bool.{le-leb, leb-true}
+use Rattle.crib_cards.specs.Cards.{IsRank, card_of, rank_of, suit_of}
+use Rattle.crib_cards.specs.Sets.{has, set_without, IsCardSet}
+use Rattle.crib_cards.specs.declared.sides.Dealt.{Dealt}
+use Rattle.crib_cards.proofs.LowestCard.{in_set}
+use Rattle.crib_cards.proofs.Members.{has_here, has_there, has_cases}
+use Rattle.crib_cards.proofs.SetFacts.{IsCardSet-set_without, has-set_without}
+use Rattle.crib_show.specs.Inside.Extremes.{crib_suit_points, crib_with, has_room, is_free, most_crib_suits, most_suit_points, plain_crib, ranks_from}
+use Rattle.crib_show.specs.Inside.Extremes.{suit_points, suited}
+use Rattle.crib_show.specs.Inside.Totals.{NoneGive, SomeGive, card_gives, ranks_give, sought_points, throw_gives, without_throw}
+use Rattle.crib_show.specs.Show.{crib_points, hand_points, plain_points}
+use Rattle.crib_show.specs.Worst.{AgreesWith, ArePlain, HasDeal, IsGreatestCrib, IsGreatestTotal, hidden_crib, hidden_hand, hidden_total}
+use Rattle.crib_show.specs.declared.deals.WorstShow.{WorstShow}
+use Rattle.crib_show.specs.declared.totals.Sought.{Sought}
+use Rattle.crib_show.specs.declared.totals.Sought.TheVariants.{Crib, CribAndHand}
+use Rattle.crib_show.proofs.CribLemmas.{deal_with, ordered, suits_most}
+use Rattle.crib_show.proofs.Exchange.{IsHold, SomeHold, deal_of, held_in, hold_of, throw_of}
+use Rattle.crib_show.proofs.HandLemmas.{most_held, no_more, value}
+use Rattle.crib_show.proofs.Throws.{MayThrow, crib_of_ranks, few_suits}
+use Rattle.crib_show.proofs.TriedPairs.{card_back, rank_back}
+
+-- ---- one of four suits
+
+four_any : (f : ℕ → Bool) → (f 0 || f 1 || f 2 || f 3) ≡ true → (suit : ℕ) × (suit < 4) × (f suit ≡ true)
+four_any f any =
+    elim (or_cases (f 0 || f 1 || f 2) (f 3) any) [
+      | inr last ↦ (3, omega arith, last)
+      | inl three ↦
+          elim (or_cases (f 0 || f 1) (f 2) three) [
+            | inr third ↦ (2, omega arith, third)
+            | inl two ↦ elim (or_cases (f 0) (f 1) two) [ inl first ↦ (0, omega arith, first) | inr second ↦ (1, omega arith, second) ]
+          ]
+    ]
+
+four_from : (f : ℕ → Bool) (suit : ℕ) → suit < 4 → f suit ≡ true → (f 0 || f 1 || f 2 || f 3) ≡ true
+four_from f zero small is = or_left (f 0 || f 1 || f 2) (f 3) (or_left (f 0 || f 1) (f 2) (or_left (f 0) (f 1) is))
+four_from f (suc zero) small is = or_left (f 0 || f 1 || f 2) (f 3) (or_left (f 0 || f 1) (f 2) (or_right (f 0) (f 1) is))
+four_from f (suc (suc zero)) small is = or_left (f 0 || f 1 || f 2) (f 3) (or_right (f 0 || f 1) (f 2) is)
+four_from f (suc (suc (suc zero))) small is = or_right (f 0 || f 1 || f 2) (f 3) is
+four_from f (suc (suc (suc (suc n)))) small is = absurd (omega arith)
+
+module _ (worst : WorstShow) where
+  -- ---- two cards that give enough
+  record Found (sought : Sought) (enough : ℕ) : Type 0 where
+    x : ℕ
+    y : ℕ
+    may : MayThrow worst x y
+    gives : enough ≤ sought_points worst sought x y
+
+  found : (sought : Sought) (spare enough : ℕ) → SomeGive worst sought spare enough → Found sought enough
+  found sought spare enough give =
+      let p = give.0 in
+      let q = give.1 in
+      let range_p = give.2 in
+      let range_q = give.3 in
+      let outer = and_parts (leb enough (plain_crib worst p q + spare) && has_room worst p q) (card_gives worst sought enough (card_of p 0) q
+      || card_gives worst sought enough (card_of p 1) q || card_gives worst sought enough (card_of p 2) q || card_gives worst sought enough (card_of p 3) q)
+      give.4 in
+      let room = (and_parts (leb enough (plain_crib worst p q + spare)) (has_room worst p q) outer.0).1 in
+      let first = four_any (λ s. card_gives worst sought enough (card_of p s) q) outer.1 in
+      let x = card_of p first.0 in
+      let with_first = and_parts (is_free worst x) (throw_gives worst sought enough x (card_of q 0) || throw_gives worst sought enough x (card_of q 1)
+      || throw_gives worst sought enough x (card_of q 2) || throw_gives worst sought enough x (card_of q 3)) first.2 in
+      let second = four_any (λ t. throw_gives worst sought enough x (card_of q t)) with_first.1 in
+      let y = card_of q second.0 in
+      let rank_x : rank_of x ≡ p = rank_back p first.0 first.1 range_p.0 in
+      let rank_y : rank_of y ≡ q = rank_back q second.0 second.1 range_q.0 in
+      let both = and_parts (is_free worst y && not (eqb x y)) (leb enough (sought_points worst sought x y)) second.2 in
+      let free = and_parts (is_free worst y) (not (eqb x y)) both.0 in
+      record {
+        x = x;
+        y = y;
+        may = record {
+          first_free = with_first.0;
+          second_free = free.0;
+          apart = eqb-false x y (not-true (eqb x y) free.1);
+          room = (λ i. has_room worst (rank_x i) (rank_y i)) ∙ room;
+        };
+        gives = leb-true enough (sought_points worst sought x y) both.1;
+      }
+
+  -- where no two ranks give enough, no two cards do, the lower rank first
+  too_little : (sought : Sought) (spare enough x y : ℕ) → NoneGive worst sought spare enough → MayThrow worst x y → rank_of x ≤ rank_of y →
+      IsRank (rank_of x) → IsRank (rank_of y) →
+      sought_points worst sought x y ≤ plain_crib worst (rank_of x) (rank_of y) + spare → sought_points worst sought x y < enough
+  too_little sought spare enough x y none may order range_x range_y few =
+      let p = rank_of x in
+      let q = rank_of y in
+      elim (cases_lt (sought_points worst sought x y) enough) [
+        | inl less ↦ less
+        | inr reached ↦
+            let here : throw_gives worst sought enough x y ≡ true = and_from (is_free worst y && not (eqb x y)) (leb enough (sought_points worst sought x y))
+            (and_from (is_free worst y) (not (eqb x y)) may.second_free (ap not (ne_eqb x y may.apart)))
+            (le-leb enough (sought_points worst sought x y) reached) in
+            let with_x : card_gives worst sought enough x q ≡ true = and_from (is_free worst x) (throw_gives worst sought enough x (card_of q 0)
+            || throw_gives worst sought enough x (card_of q 1) || throw_gives worst sought enough x (card_of q 2)
+            || throw_gives worst sought enough x (card_of q 3)) may.first_free
+            (four_from (λ t. throw_gives worst sought enough x (card_of q t)) (suit_of y) (omega arith)
+            (ap (throw_gives worst sought enough x) (card_back y) ∙ here)) in
+            absurd (both_ways (ranks_give worst sought spare enough p q) (none p q range_x range_y order)
+            (and_from (leb enough (plain_crib worst p q + spare) && has_room worst p q) (card_gives worst sought enough (card_of p 0) q
+            || card_gives worst sought enough (card_of p 1) q || card_gives worst sought enough (card_of p 2) q
+            || card_gives worst sought enough (card_of p 3) q)
+            (and_from (leb enough (plain_crib worst p q + spare)) (has_room worst p q)
+            (le-leb enough (plain_crib worst p q + spare) (through enough (sought_points worst sought x y) (plain_crib worst p q + spare) reached few))
+            may.room)
+            (four_from (λ s. card_gives worst sought enough (card_of p s) q) (suit_of x) (omega arith)
+            (ap (λ k. card_gives worst sought enough k q) (card_back x) ∙ with_x))))
+      ]
+    where
+      through : (a b c : ℕ) → a ≤ b → b ≤ c → a ≤ c
+      through a b c d e = omega arith
+
+  module _ (unseen_set : IsCardSet worst.unseen) where
+    -- the crib of two cards is no more than the points of their ranks and the most of the suits
+    crib_low : (x y : ℕ) → MayThrow worst x y → IsRank (rank_of x) → IsRank (rank_of y) → crib_points (crib_with worst x y) worst.starter
+        ≤ plain_crib worst (rank_of x) (rank_of y) + most_crib_suits worst
+    crib_low x y may range_x range_y =
+        joined (crib_points (crib_with worst x y) worst.starter) (plain_crib worst (rank_of x) (rank_of y)) (crib_suit_points worst x y)
+        (most_crib_suits worst)
+        (crib_of_ranks worst x y (rank_of x) (rank_of y) refl refl range_x range_y) (suits_most worst unseen_set x y may)
+      where
+        joined : (a b c d : ℕ) → a ≡ b + c → c ≤ d → a ≤ b + d
+        joined a b c d e f = omega arith
+
+    pub few_crib : (points : List ℕ) → ArePlain worst.starter worst.own_throw points → (dealt : Dealt) → AgreesWith worst dealt →
+        hidden_crib worst dealt ≤ 102
+    few_crib points plain dealt agrees =
+        let thrown = ordered worst unseen_set dealt.hold dealt.throw agrees in
+        let p = rank_of thrown.x in
+        let q = rank_of thrown.y in
+        joined (hidden_crib worst dealt) (crib_points (crib_with worst thrown.x thrown.y) worst.starter) (plain_crib worst p q)
+        (crib_suit_points worst thrown.x thrown.y)
+        thrown.crib (crib_of_ranks worst thrown.x thrown.y p q refl refl thrown.range_x thrown.range_y)
+        (subst (λ k. k ≤ 96) (plain.each p q thrown.range_x thrown.range_y) (plain.few p q thrown.range_x thrown.range_y))
+        (few_suits worst thrown.x thrown.y)
+      where
+        joined : (a b c d : ℕ) → a ≡ b → b ≡ c + d → c ≤ 96 → d ≤ 6 → a ≤ 102
+        joined a b c d e f g h = omega arith
+
+    -- ---- the greatest crib
+    pub crib_greatest : HasDeal worst → (spare bound most : ℕ) → spare ≡ most_crib_suits worst →
+        ((dealt : Dealt) → AgreesWith worst dealt → hidden_crib worst dealt ≤ bound) →
+        (most ≡ 0) ⊎ SomeGive worst Crib spare most → (most ≡ bound) ⊎ NoneGive worst Crib spare (most + 1) → IsGreatestCrib worst most
+    crib_greatest some spare bound most is_spare cribs give none = record {
+      some = elim give [
+        | inl zero_is ↦ (some.0, some.1, nothing (hidden_crib worst some.0) most (all some.0 some.1) zero_is)
+        | inr two ↦
+            let pair = found Crib spare most two in
+            let deal = deal_with worst unseen_set some pair.x pair.y pair.may in (
+              record { hold = deal.0; throw = pair.x ∷ pair.y ∷ [] },
+              deal.1,
+              both (crib_points (crib_with worst pair.x pair.y) worst.starter) most
+                  (all (record { hold = deal.0; throw = pair.x ∷ pair.y ∷ [] }) deal.1) pair.gives,
+            )
+      ];
+      all = all;
+    }
+      where
+        nothing : (a b : ℕ) → a ≤ b → b ≡ 0 → a ≡ b
+        nothing a b c d = omega arith
+
+        both : (a b : ℕ) → a ≤ b → b ≤ a → a ≡ b
+        both a b c d = omega arith
+
+        no_more_than : (a b : ℕ) → a ≡ b → b < most + 1 → a ≤ most
+        no_more_than a b c d = omega arith
+
+        all : (dealt : Dealt) → AgreesWith worst dealt → hidden_crib worst dealt ≤ most
+        all dealt agrees = elim none [
+          | inl is ↦ subst (λ k. hidden_crib worst dealt ≤ k) (sym is) (cribs dealt agrees)
+          | inr less ↦
+              let thrown = ordered worst unseen_set dealt.hold dealt.throw agrees in
+              no_more_than (hidden_crib worst dealt) (crib_points (crib_with worst thrown.x thrown.y) worst.starter) thrown.crib
+              (too_little Crib spare (most + 1) thrown.x thrown.y less thrown.may thrown.order thrown.range_x thrown.range_y
+              (subst (λ k. crib_points (crib_with worst thrown.x thrown.y) worst.starter ≤ plain_crib worst (rank_of thrown.x) (rank_of thrown.y) + k)
+              (sym is_spare) (crib_low thrown.x thrown.y thrown.may thrown.range_x thrown.range_y)))
+        ]
+
+    -- ---- holds beside a throw
+    module _ (fixed_set : IsCardSet worst.fixed) where
+      abbrev four : List ℕ
+      four = ranks_from 1 worst.ranks
+
+      module _ (x y : ℕ) where
+        abbrev beside : WorstShow
+        beside = without_throw worst x y
+
+        hold_beside : (hold : List ℕ) → IsHold worst hold → has hold x ≡ false → has hold y ≡ false → IsHold beside hold
+        hold_beside hold is out_x out_y = record {
+          four = is.four;
+          distinct = is.distinct;
+          unseen = λ k h.
+              let card = in_set worst.unseen k unseen_set (is.unseen k h) in
+              has-set_without (set_without worst.unseen x) y k card
+              ∙ and_from (has (set_without worst.unseen x) k) (not (eqb k y))
+              (has-set_without worst.unseen x k card ∙ and_from (has worst.unseen k) (not (eqb k x)) (is.unseen k h) (ap not (ne_eqb k x (other k x hold h out_x))))
+              (ap not (ne_eqb k y (other k y hold h out_y)));
+          ranks_held = is.ranks_held;
+          fixed_held = is.fixed_held;
+        }
+          where
+            other : (k z : ℕ) (hold : List ℕ) → has hold k ≡ true → has hold z ≡ false → k ≢ z
+            other k z hold held out = λ same. both_ways (has hold z) out (subst (λ j. has hold j ≡ true) same held)
+
+        in_beside : (k : ℕ) → has beside.unseen k ≡ true → (has worst.unseen k ≡ true) × (k ≢ x) × (k ≢ y)
+        in_beside k h =
+            let card = in_set beside.unseen k (IsCardSet-set_without (set_without worst.unseen x) y) h in
+            let outer = and_parts (has (set_without worst.unseen x) k) (not (eqb k y)) (sym (has-set_without (set_without worst.unseen x) y k card) ∙ h) in
+            let inner = and_parts (has worst.unseen k) (not (eqb k x)) (sym (has-set_without worst.unseen x k card) ∙ outer.0) in
+            (inner.0, eqb-false k x (not-true (eqb k x) inner.1), eqb-false k y (not-true (eqb k y) outer.1))
+
+        -- a hold that is left with as many points as suits can add, and thrown cards that are none of its
+        record Best : Type 0 where
+          hold : List ℕ
+          is_hold : IsHold worst hold
+          out_x : has hold x ≡ false
+          out_y : has hold y ≡ false
+          suits : suit_points hold worst.starter ≡ most_suit_points beside four
+
+        beside_set : IsCardSet beside.unseen
+        beside_set = IsCardSet-set_without (set_without worst.unseen x) y
+
+        best : (hold : List ℕ) → IsHold worst hold → has hold x ≡ false → has hold y ≡ false → Best
+        best hold is out_x out_y =
+            let most = most_held beside beside_set fixed_set (record { hold = hold; is_hold = hold_beside hold is out_x out_y }) in
+            record {
+              hold = most.hold;
+              is_hold = record {
+                four = most.is_hold.four;
+                distinct = most.is_hold.distinct;
+                unseen = λ k h. (in_beside k (most.is_hold.unseen k h)).0;
+                ranks_held = most.is_hold.ranks_held;
+                fixed_held = most.is_hold.fixed_held;
+              };
+              out_x = out x most.hold (λ h. (in_beside x (most.is_hold.unseen x h)).1 refl);
+              out_y = out y most.hold (λ h. (in_beside y (most.is_hold.unseen y h)).2 refl);
+              suits = most.suits;
+            }
+          where
+            out : (z : ℕ) (hold : List ℕ) → (has hold z ≡ true → ⊥) → has hold z ≡ false
+            out z hold never = elim (cases_Bool (has hold z)) [ inl held ↦ absurd (never held) | inr gone ↦ gone ]
+
+        suits_below : (hold : List ℕ) → IsHold worst hold → has hold x ≡ false → has hold y ≡ false → suit_points hold worst.starter
+            ≤ most_suit_points beside four
+        suits_below hold is out_x out_y =
+            let here = hold_beside hold is out_x out_y in
+            no_more beside beside_set fixed_set (record { hold = hold; is_hold = here }) hold here
+
+        best_of_throw : HasDeal worst → MayThrow worst x y → Best
+        best_of_throw some may =
+            let deal = deal_with worst unseen_set some x y may in
+            let dealt : Dealt = record { hold = deal.0; throw = x ∷ y ∷ [] } in
+            let apart = (throw_of worst dealt deal.1).apart in
+            best deal.0 (hold_of worst dealt deal.1) (gone deal.0 apart x (has_here x (y ∷ []))) (gone deal.0 apart y (has_there x y (y ∷ []) (has_here y [])))
+          where
+            gone : (hold : List ℕ) → ((k : ℕ) → has hold k ≡ true → has (x ∷ y ∷ []) k ≡ false) → (k : ℕ) → has (x ∷ y ∷ []) k ≡ true → has hold k ≡ false
+            gone hold apart k h = elim (cases_Bool (has hold k)) [ inl held ↦ absurd (both_ways (has (x ∷ y ∷ []) k) (apart k held) h) | inr out ↦ out ]
+
+        -- the deal of this hold and throw
+        best_deal : HasDeal worst → MayThrow worst x y → (of : Best) → AgreesWith worst (record { hold = of.hold; throw = x ∷ y ∷ [] })
+        best_deal some may of =
+            let deal = deal_with worst unseen_set some x y may in
+            let thrown = throw_of worst (record { hold = deal.0; throw = x ∷ y ∷ [] }) deal.1 in
+            deal_of worst of.hold (x ∷ y ∷ []) of.is_hold (record {
+              two = refl;
+              distinct = thrown.distinct;
+              unseen = thrown.unseen;
+              apart = λ k h. or_from (eqb x k) (has (y ∷ []) k)
+                  (ne_eqb x k (λ is. both_ways (has of.hold k) (ap (has of.hold) (sym is) ∙ of.out_x) h))
+                  (or_from (eqb y k) false (ne_eqb y k (λ is. both_ways (has of.hold k) (ap (has of.hold) (sym is) ∙ of.out_y) h)) refl);
+            })
+
+      -- ---- the greatest sum
+      pub total_greatest : HasDeal worst → (spare crib plain suits most : ℕ) → IsGreatestCrib worst crib →
+          plain ≡ plain_points (worst.starter ∷ suited 0 four) → suits ≡ most_suit_points worst four →
+          spare ≡ most_crib_suits worst + suits → (most ≡ 0) ⊎ SomeGive worst (CribAndHand four) spare most →
+          (most ≡ crib + suits) ⊎ NoneGive worst (CribAndHand four) spare (most + 1) → IsGreatestTotal worst (plain + most)
+      total_greatest some spare crib plain suits most cribs is_plain is_suits is_spare give none = record {
+        some = elim give [
+          | inl zero_is ↦ (
+            some.0,
+            some.1,
+            least (hidden_hand worst some.0) (hidden_crib worst some.0) (suit_points some.0.hold worst.starter)
+                (hand_is some.0 some.1) zero_is (all some.0 some.1),
+          )
+          | inr two ↦
+              let pair = found (CribAndHand four) spare most two in
+              let of = best_of_throw pair.x pair.y some pair.may in
+              let dealt : Dealt = record { hold = of.hold; throw = pair.x ∷ pair.y ∷ [] } in
+              let agrees = best_deal pair.x pair.y some pair.may of in (
+                dealt,
+                agrees,
+                both (hidden_hand worst dealt) (hidden_crib worst dealt) (suit_points of.hold worst.starter)
+                    (most_suit_points (beside pair.x pair.y) four)
+                    (hand_is dealt agrees) of.suits (all dealt agrees) pair.gives,
+              )
+        ];
+        all = all;
+      }
+        where
+          least : (a b c : ℕ) → a ≡ plain + c → most ≡ 0 → a + b ≤ plain + most → a + b ≡ plain + most
+          least a b c d e f = omega arith
+
+          both : (a b c d : ℕ) → a ≡ plain + c → c ≡ d → a + b ≤ plain + most → most ≤ b + d → a + b ≡ plain + most
+          both a b c d e f g h = omega arith
+
+          hand_is : (dealt : Dealt) → AgreesWith worst dealt → hidden_hand worst dealt ≡ plain + suit_points dealt.hold worst.starter
+          hand_is dealt agrees = subst (λ k. hidden_hand worst dealt ≡ k + suit_points dealt.hold worst.starter) (sym is_plain)
+              (value worst unseen_set fixed_set (held_in worst some) dealt.hold (hold_of worst dealt agrees))
+
+          suits_few : (hold : List ℕ) → IsHold worst hold → suit_points hold worst.starter ≤ suits
+          suits_few hold is = subst (λ k. suit_points hold worst.starter ≤ k) (sym is_suits) (no_more worst unseen_set fixed_set (held_in worst some) hold is)
+
+          bounded : (a b c : ℕ) → a ≡ plain + c → c ≤ suits → b ≤ crib → most ≡ crib + suits → a + b ≤ plain + most
+          bounded a b c d e f g = omega arith
+
+          sought_few : (a b c d : ℕ) → a ≤ b + c → d ≤ suits → spare ≡ c + suits → a + d ≤ b + spare
+          sought_few a b c d e f g = omega arith
+
+          no_more_than : (a b c d e : ℕ) → a ≡ plain + c → b ≡ d → c ≤ e → d + e < most + 1 → a + b ≤ plain + most
+          no_more_than a b c d e f g h i = omega arith
+
+          all : (dealt : Dealt) → AgreesWith worst dealt → hidden_total worst dealt ≤ plain + most
+          all dealt agrees = elim none [
+            | inl is ↦ bounded (hidden_hand worst dealt) (hidden_crib worst dealt) (suit_points dealt.hold worst.starter) (hand_is dealt agrees)
+                (suits_few dealt.hold (hold_of worst dealt agrees)) (cribs.all dealt agrees) is
+            | inr less ↦
+                let thrown = ordered worst unseen_set dealt.hold dealt.throw agrees in
+                let of = best_of_throw thrown.x thrown.y some thrown.may in
+                no_more_than (hidden_hand worst dealt) (hidden_crib worst dealt) (suit_points dealt.hold worst.starter)
+                (crib_points (crib_with worst thrown.x thrown.y) worst.starter) (most_suit_points (beside thrown.x thrown.y) four)
+                (hand_is dealt agrees) thrown.crib (suits_below thrown.x thrown.y dealt.hold (hold_of worst dealt agrees) thrown.out_x thrown.out_y)
+                (too_little (CribAndHand four) spare (most + 1) thrown.x thrown.y less thrown.may thrown.order thrown.range_x thrown.range_y
+                (sought_few (crib_points (crib_with worst thrown.x thrown.y) worst.starter) (plain_crib worst (rank_of thrown.x) (rank_of thrown.y))
+                (most_crib_suits worst) (most_suit_points (beside thrown.x thrown.y) four)
+                (crib_low thrown.x thrown.y thrown.may thrown.range_x thrown.range_y)
+                (subst (λ k. k ≤ suits) of.suits (suits_few of.hold of.is_hold)) is_spare))
+          ]

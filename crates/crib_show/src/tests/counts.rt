@@ -1,0 +1,72 @@
+//! All 12,994,800 choices of four cards and a starter, counted by their points.
+//!
+//! `rt test` counts them in a second or two. `rt try --test`, which doesn't optimise, gives up on them.
+use super::*;
+use crib_cards::{Rank, Suit};
+
+/// How many hands have 0, 1, 2 .. 29 points. This table stands in books: four hands of 29, and none of 19, 25, 26 or 27.
+const HANDS: [u32; 30] = [
+    1_009_008, 99_792, 2_813_796, 505_008, 2_855_676, 697_508, 1_800_268, 751_324, 1_137_236,
+    361_224, 388_740, 51_680, 317_340, 19_656, 90_100, 9_168, 58_248, 11_196, 2_708, 0, 8_068,
+    2_496, 444, 356, 3_680, 0, 0, 0, 76, 4,
+];
+
+/// The same of cribs, which have points for a flush only where the starter is of its suit.
+const CRIBS: [u32; 30] = [
+    1_022_208, 99_792, 2_839_800, 508_908, 2_868_960, 703_496, 1_787_176, 755_320, 1_118_336,
+    358_368, 378_240, 43_880, 310_956, 16_548, 88_132, 9_072, 57_288, 11_196, 2_264, 0, 7_828,
+    2_472, 444, 356, 3_680, 0, 0, 0, 76, 4,
+];
+
+// as many places as hand_points and crib_points allow for
+type Counts = [u32; 103];
+
+fn pack(rt: &impl Abort) -> [Card; 52] {
+    let mut cards = [card(rt, b"AC"); 52];
+    for place in 0..52u8 {
+        let suit = match place % 4 {
+            0 => Suit::Clubs,
+            1 => Suit::Diamonds,
+            2 => Suit::Hearts,
+            _ => Suit::Spades,
+        };
+        cards[place as usize] = Card::of(Rank::new(place / 4 + 1).expect(rt, "a rank"), suit);
+    }
+    cards
+}
+
+// four cards with each starter
+fn count_starters(cards: &[Card; 52], four: &[Card; 4], hands: &mut Counts, cribs: &mut Counts) {
+    for starter in cards {
+        if !four.contains(starter) {
+            let hand = hand_points(four, *starter) as usize;
+            let crib = crib_points(four, *starter) as usize;
+            hands[hand] = hands[hand].saturating_add(1);
+            cribs[crib] = cribs[crib].saturating_add(1);
+        }
+    }
+}
+
+#[test]
+fn counts_every_hand_and_crib(rt: HostRuntime) {
+    let cards = pack(&rt);
+    let mut hands = [0; 103];
+    let mut cribs = [0; 103];
+    for first in 0..52usize {
+        for second in first + 1..52 {
+            for third in second + 1..52 {
+                for fourth in third + 1..52 {
+                    let four = [cards[first], cards[second], cards[third], cards[fourth]];
+                    count_starters(&cards, &four, &mut hands, &mut cribs);
+                }
+            }
+        }
+    }
+    for points in 0..30usize {
+        assert_eq!(rt; hands[points], HANDS[points], "hands of {points}");
+        assert_eq!(rt; cribs[points], CRIBS[points], "cribs of {points}");
+    }
+    for points in 30..103usize {
+        assert!(rt; hands[points] == 0 && cribs[points] == 0);
+    }
+}

@@ -71,10 +71,7 @@ impl Settled for Watched {
         if self.refuses == Refuses::None
             && let Ok(mut asked) = self.asked.try_borrow_mut()
         {
-            let _ = asked.put(Key {
-                know: key.know.copy(),
-                place: key.place,
-            });
+            let _ = asked.put(key.copy());
         }
         self.set.has(key)
     }
@@ -101,6 +98,10 @@ impl Settled for Watched {
     }
 }
 
+/// The positions of the four twos that are not done, of which 1,575 are the owner's: as many as a walk in Python counts,
+/// that of `bench/positions`, which shares nothing with this one.
+const POSITIONS: u32 = 3470;
+
 #[test]
 fn settles_each_position_after_it_was_asked_for_and_once(rt: HostRuntime) {
     let problem = problem(&rt, TWELVE);
@@ -110,7 +111,7 @@ fn settles_each_position_after_it_was_asked_for_and_once(rt: HostRuntime) {
     assert!(rt; verdict == Verdict::Holds);
     assert!(rt; !table.twice);
     assert!(rt; !table.unasked);
-    assert!(rt; table.puts > 1);
+    assert_eq!(rt; table.puts, POSITIONS);
 }
 
 /// Each row comes out with this table.

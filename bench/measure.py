@@ -10,6 +10,7 @@ import tempfile
 import time
 from dataclasses import dataclass
 from pathlib import Path
+from typing import IO
 
 CALLGRIND = ["valgrind", "--tool=callgrind", "--callgrind-out-file=/dev/null"]
 COLLECTED = re.compile(r"Collected : (\d+)")
@@ -49,15 +50,28 @@ class Program:
         self.has_memory = shutil.which("time") is not None
         self.has_instructions = shutil.which("valgrind") is not None
 
-    def _once(self, task: Task) -> tuple[float, str]:
-        """The user and system time of one run, and the first line of what it wrote."""
-        with task.file.open("rb") as source, tempfile.TemporaryFile() as answer:
-            process = subprocess.Popen([*self.words, task.command], stdin=source, stdout=answer)
+    def _once(self, command: str, source: IO[bytes]) -> tuple[float, str]:
+        """The user and system time of one run, and what it wrote."""
+        with tempfile.TemporaryFile() as answer:
+            process = subprocess.Popen([*self.words, command], stdin=source, stdout=answer)
             _, status, usage = os.wait4(process.pid, 0)
             process.returncode = os.waitstatus_to_exitcode(status)
             answer.seek(0)
-            words = answer.readline().decode().strip()
-        return usage.ru_utime + usage.ru_stime, words
+            written = answer.read().decode()
+        return usage.ru_utime + usage.ru_stime, written
+
+    def run(self, command: str, text: str) -> tuple[float, str]:
+        """The time of one run over a text, and what it wrote."""
+        with tempfile.TemporaryFile() as source:
+            source.write(text.encode())
+            source.seek(0)
+            return self._once(command, source)
+
+    def _once_on(self, task: Task) -> tuple[float, str]:
+        """The time of one run, and the first line of what it wrote."""
+        with task.file.open("rb") as source:
+            seconds, written = self._once(task.command, source)
+        return seconds, written.partition("\n")[0]
 
     def _memory(self, task: Task) -> int | None:
         """The peak memory of one run in kB. A parent of little memory starts it, since a child is told its parent's."""
@@ -70,7 +84,7 @@ class Program:
 
     def cost(self, task: Task) -> Cost:
         """The least time of some runs, and the memory of one more."""
-        runs = [self._once(task) for _ in range(self.repeats)]
+        runs = [self._once_on(task) for _ in range(self.repeats)]
         return Cost(task, min(seconds for seconds, _ in runs), self._memory(task), runs[0][1])
 
     def instructions(self, task: Task) -> int:

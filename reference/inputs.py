@@ -2,6 +2,7 @@
 
 from __future__ import annotations
 
+from collections.abc import Callable
 from dataclasses import dataclass, replace
 from random import Random
 from typing import NamedTuple
@@ -111,23 +112,34 @@ def is_honest(problem: Problem) -> bool:
     return True
 
 
-def at_edge(random: Random, problem: Problem) -> Problem:
-    """The problem with the goal or the score at which the answer of `solve` turns, or the one beside it."""
+def ladder(problem: Problem) -> list[Problem]:
+    """The problem with each other number of holes or score, from the easiest to the hardest."""
     if problem.goal.startswith("holes"):
         others = [replace(problem, goal=f"holes {holes}") for holes in range(1, 122 - problem.scores[OWNER])]
     elif problem.goal == "win":
         others = [replace(problem, scores=(score, problem.scores[OPPONENT])) for score in range(120, -1, -1)]
     else:
         others = [replace(problem, scores=(problem.scores[OWNER], score)) for score in range(121)]
-    others = [other for other in others if is_honest(other)]
-    low, high = 0, len(others)  # all before low have a plan, none from high on has one
+    return [other for other in others if is_honest(other)]
+
+
+def edge_of(problems: list[Problem], has_plan: Callable[[Problem], bool]) -> int:
+    """How many problems of a ladder have a plan, by bisection."""
+    low, high = 0, len(problems)  # all before low have one, and none from high on
     while low < high:
         middle = (low + high) // 2
-        if Finder(others[middle]).plan() is None:
-            high = middle
-        else:
+        if has_plan(problems[middle]):
             low = middle + 1
-    return others[max(0, min(len(others) - 1, random.choice([low - 1, low - 1, low])))]
+        else:
+            high = middle
+    return low
+
+
+def at_edge(random: Random, problem: Problem) -> Problem:
+    """The last problem of a ladder for which there is a plan, or the one beside it."""
+    others = ladder(problem)
+    first_without = edge_of(others, lambda other: Finder(other).plan() is not None)
+    return others[max(0, min(len(others) - 1, random.choice([first_without - 1, first_without - 1, first_without])))]
 
 
 def late_deal(random: Random) -> Deal:

@@ -177,7 +177,7 @@ impl Shows {
 ///
 /// The choices that stand before it are counted by their highest rank, those of them with the same highest rank by the
 /// next, and so on.
-fn place_of(ranks: &RankCounts) -> usize {
+pub(crate) fn place_of(ranks: &RankCounts) -> usize {
     let mut place: usize = 0;
     let mut lower: usize = 0;
     for number in 1..14u8 {

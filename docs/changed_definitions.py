@@ -193,9 +193,10 @@ def edits_in(sources: Sources, header: Header, block: str, span: tuple[int, int]
         token, (start, end) = found[0], found.span()
         before = tokens[n - 1][0] if n else ""
         after = tokens[n + 1][0] if n + 1 < len(tokens) else ""
-        if before == "λ" or after == "." or (token == "∷" and after == "[]") or (token == "-" and after == ">"):
+        if before == "λ" or after == "." or (token == "-" and after == ">"):
             continue
-        yield from ((start, end, new, "") for new in TURNED.get(token, []))
+        at_the_end = block[end:].lstrip().startswith("[]")
+        yield from ((start, end, new, "") for new in TURNED.get(token, []) if not (new == "∷last" and at_the_end))
         yield from ((start, end, new, line) for new, line in header.turned.get(token, []))
         if token.isdigit() and before not in ("Type", "{"):
             yield from ((start, end, str(number), "") for number in (int(token) + 1, int(token) - 1) if number >= 0)

@@ -13,9 +13,11 @@ CRATES = sorted(path.parent.name for path in ROOT.glob("crates/*/specs"))
 PRELUDE = "Rattle.std.specs.Prelude"
 PATH = re.compile(r"\bRattle\.(\w+)\.(specs|proofs)\.(\w+(?:\.\w+)*)")
 NUMBERS = ("u8", "u16", "u32", "u64", "usize")
-LIBRARY = f"""-- A list in its own room.
-use {PRELUDE}.{{List}}
+LIBRARY = f"""use {PRELUDE}.{{List}}
 pub record ArrayVec (A : Type 0) : Type 0 where
+  pub items : List A
+
+pub record Vec (A : Type 0) : Type 0 where
   pub items : List A
 """
 
@@ -88,10 +90,12 @@ class Declared:
     def __init__(self) -> None:
         self.homes: dict[tuple[str, str], str] = {}  # a crate and a type's name: its module of src
         self.values: dict[tuple[str, str], tuple[str, str]] = {}  # the same: what it is seen as, and imports
+        self.others: dict[str, str] = {}  # another name of a type: the type
         for path in sorted(ROOT.glob("crates/*/src/*.rt")):
             crate = path.relative_to(ROOT / "crates").parts[0]
             for name, _ in type_blocks(path):
                 self.homes[crate, name] = path.stem
+            self.others.update(re.findall(r"^pub(?:\(\w+\))? type (\w+) = (.*);$", path.read_text(), re.M))
             self.add_views(crate, path.read_text().splitlines())
 
     def add_views(self, crate: str, lines: list[str]) -> None:
@@ -112,27 +116,27 @@ class Declared:
 
     def type_in_antt(self, crate: str, rust: str) -> tuple[str, set[str]]:
         """A type of Rust as antt has it, and the imports for it."""
-        rust = rust.strip()
+        rust = self.others.get(rust.strip(), rust.strip())
         if rust in NUMBERS:
             return "ℕ", {f"use {PRELUDE}.{{ℕ}}"}
         if rust == "bool":
             return "Bool", {f"use {PRELUDE}.{{Bool}}"}
-        held = re.fullmatch(r"\[(\w+); *\w+\]", rust) or re.fullmatch(r"(?:Option|ArrayVec)<(\w+)(?:, \w+)?>", rust)
+        held = re.fullmatch(r"\[(\w+); *\w+\]", rust) or re.fullmatch(r"(?:Option|ArrayVec|Vec)<(\w+)(?:, \w+)?>", rust)
         if held:
             inner, uses = self.type_in_antt(crate, held[1])
             outer = "List" if rust[0] == "[" else rust.split("<")[0]
-            home = "Rattle.pins.specs.Library" if outer == "ArrayVec" else PRELUDE
+            home = "Rattle.pins.specs.Library" if outer.endswith("Vec") else PRELUDE
             return f"{outer} ({inner})" if " " in inner else f"{outer} {inner}", uses | {f"use {home}.{{{outer}}}"}
         if rust.startswith("&"):
             inner, uses = self.type_in_antt(crate, re.search(r"\[(\w+)\]", rust)[1])
             return f"Bor (List {inner})", uses | {f"use {PRELUDE}.{{List}}", "use Rattle.std.specs.Borrow.{Bor}"}
-        rust = rust.split("<")[0]
+        rust, _, over = rust.rstrip(">").partition("<")
         home = self.crate_of(crate, rust)
         if (home, rust) in self.values:
             value, uses = self.values[home, rust]
             words = re.findall(r"\w+", value)
             return value, {line for line in uses.splitlines() if set(re.findall(r"\w+", line.partition("{")[2])) & set(words)}
-        return rust, {f"use Rattle.{home}.specs.declared.{self.homes[home, rust]}.{rust}.{{{rust}}}"}
+        return f"{rust} {over}".strip(), {f"use Rattle.{home}.specs.declared.{self.homes[home, rust]}.{rust}.{{{rust}}}"}
 
     def texts(self, crate: str, stem: str, name: str) -> dict[str, str]:
         """The modules of a declared type: itself, and that of its variants if it is an enum."""
@@ -140,8 +144,8 @@ class Declared:
         lines = path.read_text().splitlines()
         start = next(n for n, line in enumerate(lines) if re.match(rf"(?:pub(?:\(\w+\))? )?(struct|enum) {name}\b", line))
         body = [re.sub(r"#\[.*?\] ?|//.*", "", line).strip() for line in item_lines(lines, start)[1:-1]]
+        over = "".join(re.findall(r"<([A-Z]\w*)", lines[start]))
         if re.search(r"\benum\b", lines[start]):
-            over = "".join(re.findall(r"<(\w+)", lines[start]))
             return self.enum_texts(crate, f"{stem}.{name}", over, " ".join(body))
         uses, fields = set(), []
         for line in body:
@@ -150,13 +154,14 @@ class Declared:
                 value, its = self.type_in_antt(crate, field[2])
                 fields.append(f"  pub {field[1]} : {value}")
                 uses |= its
-        return {f"{stem}.{name}": "\n".join([*sorted(uses), f"pub record {name} : Type 0 where", *fields]) + "\n"}
+        head = f"pub record {name}{f' ({over} : Type 0)' * bool(over)} : Type 0 where"
+        return {f"{stem}.{name}": "\n".join([*sorted(uses), head, *fields]) + "\n"}
 
     def enum_texts(self, crate: str, module: str, over: str, body: str) -> dict[str, str]:
         uses, variants = set(), []
         data = f"the_data {over}".strip()
         for name, one, several in re.findall(r"(\w+)(?:\(([^()]*)\)| \{([^{}]*)\})?,", body):
-            held = one.split(",") if one else [part.split(":")[1] for part in several.split(",") if ":" in part]
+            held = re.split(r", (?![^<]*>)", one) if one else [part.split(":")[1] for part in several.split(",") if ":" in part]
             values = [self.type_in_antt(crate, rust) for rust in held]
             uses |= set().union(*(its for _, its in values))
             variants.append("  " + name + " : " + "".join(f"{value} → " for value, _ in values) + data)

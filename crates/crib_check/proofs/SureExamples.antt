@@ -1,6 +1,6 @@
 -- A worked plan that is sure, with two branches. TC TD 9C are played and make 29. The owner knows all twos, so the
 -- opponent shows an ace or says go: after an ace the owner's ace makes a pair and 31, after a go his two makes 31.
-use Rattle.std.proofs.Common.{arith, ◌≡◌, ◌⊎◌, refl, sym, ap, ◌∙◌, subst, inl, inr, ℕ, Bool, true, false, eqb, not, ◌||◌, cond, filter, List, [], ◌∷◌, ◌++◌, replicate, Option, Some, None}
+use Rattle.std.proofs.Common.{arith, ◌≡◌, ◌⊎◌, ◌<◌, length, refl, sym, ap, ◌∙◌, subst, inl, inr, ℕ, Bool, true, false, eqb, not, ◌||◌, cond, filter, List, [], ◌∷◌, ◌++◌, replicate, Option, Some, None}
 use Rattle.std.specs.Prelude.{IsTrue, IsFalse, is_some, if◌then◌else◌}
 use Rattle.std.specs.List.{list_all, list_any}
 use Rattle.std.proofs.lemmas.Bool.{both_ways, cases_Bool, eqb-true, eq-eqb, and_parts, or_cases, or_left, or_right}
@@ -25,14 +25,14 @@ use Rattle.crib_plan.specs.declared.plan.Node.{Node}
 use Rattle.crib_plan.specs.declared.plan.Node.TheVariants.{Play, See}
 use Rattle.crib_game.specs.Replay.{next_played, is_done_for, full_of}
 use Rattle.crib_game.specs.Following.{IsAsStated, Follows, is_stuck, place_of}
-use Rattle.crib_check.specs.Sure.{IsSure, IsFollowed, GoesOn}
+use Rattle.crib_check.specs.Sure.{IsSure, IsFollowed, GoesOn, Ends}
 use Rattle.crib_check.specs.Verdicts.{KeepsOn}
 use Rattle.crib_check.specs.declared.verdict.Verdict.TheVariants.{Fails}
 use Rattle.crib_game.specs.declared.game.Game.{Game}
 use Rattle.crib_game.specs.declared.ending.Ending.TheVariants as ending
 
 -- TC 9C 2C AC are held, 2D 2H thrown, and 2S is the starter; two holes are to be made
-abbrev at_29 : Setup
+abbrev pub at_29 : Setup
 at_29 = record {
   version = Two;
   dealer = Opponent;
@@ -45,7 +45,7 @@ at_29 = record {
 }
 
 -- after an ace AC, after a go 2C
-abbrev ace_or_two : List Node
+abbrev pub ace_or_two : List Node
 ace_or_two = See (To 1 ∷ replicate 12 End ++ To 2 ∷ []) ∷ Play 0 End ∷ Play 4 End ∷ []
 
 -- the turns that are played already, and one more: the last one first
@@ -316,3 +316,12 @@ ace_or_two_goes_on dealt played is on = let found = course_of dealt played is in
 -- a failing game may go on or not: nothing is asked of it
 pub a_failing_plan_need_not_go_on : (game : Game) → KeepsOn at_29 ace_or_two (Fails ending.Lost game)
 a_failing_plan_need_not_go_on game = tt
+
+-- ---- the play ends where no record has thirty turns, and not where one has
+pub fewer_than_thirty_turns :
+    ((dealt : Dealt) (played : List Move) → IsDealOf at_29 dealt → IsLegal (start_of at_29) (hands_of at_29 dealt) played → length played < 30) → Ends at_29
+fewer_than_thirty_turns few dealt played deal legal = let bound = few dealt played deal legal in omega (arith, bound)
+
+pub thirty_turns_are_too_many : Ends at_29 → (dealt : Dealt) (played : List Move) → IsDealOf at_29 dealt →
+    IsLegal (start_of at_29) (hands_of at_29 dealt) played → length played ≡ 30 → ⊥
+thirty_turns_are_too_many ends dealt played deal legal thirty = let bound = ends dealt played deal legal in absurd (omega (arith, bound, thirty))

@@ -10,7 +10,7 @@ from dataclasses import replace
 from random import Random
 from typing import NamedTuple
 
-from cribbage import OPPONENT, OWNER, PLAYERS, Problem, edge_of, ladder, random_cards, random_turns
+from cribbage import DECK, OPPONENT, OWNER, PLAYERS, Problem, edge_of, ladder, random_cards, random_turns
 
 
 class Kind(NamedTuple):
@@ -57,9 +57,29 @@ class Edge(NamedTuple):
     none: Problem | None
 
 
-def random_edge(random: Random, kind: Kind, has_plan: Callable[[Problem], bool]) -> Edge:
-    """The edge of a random problem."""
-    problems = ladder(random_problem(random, kind))
+def near(random: Random, problem: Problem) -> Problem:
+    """The problem before the first lead, with another card or another score."""
+    cards = [problem.starter, *problem.hold, *problem.throw]
+    scores = list(problem.scores)
+    if random.random() < 0.2:
+        side = random.randrange(2)
+        scores[side] = max(0, min(90, scores[side] + random.randint(-10, 10)))
+    else:
+        cards[random.randrange(7)] = random.choice([card for card in DECK if card not in cards])
+    return replace(
+        problem,
+        scores=(scores[OWNER], scores[OPPONENT]),
+        starter=cards[0],
+        hold=tuple(cards[1:5]),
+        throw=tuple(cards[5:7]),
+        goal=problem.goal if problem.goal in ("win", "stop") else "holes 1",
+        played=(),
+    )
+
+
+def edge(problem: Problem, has_plan: Callable[[Problem], bool]) -> Edge:
+    """The edge of a problem's ladder."""
+    problems = ladder(problem)
     first = edge_of(problems, has_plan)
     return Edge(
         last=problems[first - 1] if first > 0 else None,

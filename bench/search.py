@@ -13,7 +13,7 @@ from random import Random
 from typing import NamedTuple
 
 from cribbage import Lines, Problem, plan_text, read_plan
-from edges import KINDS, Kind, random_edge
+from edges import KINDS, Kind, edge, near, random_problem
 from measure import Cost, Program, Task
 from tables import Table, Value
 
@@ -40,9 +40,10 @@ class Dear(NamedTuple):
 class Search:
     """The dearest inputs that were met so far: of each edge the dearest run."""
 
-    def __init__(self, program: Program, seed: int) -> None:
+    def __init__(self, program: Program, seed: int, is_near: bool) -> None:
         self.program = program
         self.seed = seed
+        self.is_near = is_near  # whether every second edge is near one of the dearest
         self.dearest: dict[Kind, list[Run]] = {kind: [] for kind in KINDS}
         self.edges = 0
         self.runs = 0
@@ -62,27 +63,31 @@ class Search:
         while time.monotonic() < ends:
             with self._lock:
                 number = next(self._numbers)
-            kind = KINDS[number % len(KINDS)]
-            runs = self._runs_of(Random(f"{self.seed} {number}"), kind)
+                kind = KINDS[number % len(KINDS)]
+                dear = [run.problem for run in self.dearest[kind]]
+            random = Random(f"{self.seed} {number}")
+            is_near = self.is_near and dear and number // len(KINDS) % 2 == 1
+            problem = near(random, random.choice(dear)) if is_near else random_problem(random, kind)
+            runs = self._runs_of(problem)
             with self._lock:
                 self.edges += 1
                 self.runs += len(runs)
-                best = [*self.dearest[kind], max(runs)] if runs else self.dearest[kind]
+                best = [*self.dearest[kind], max(runs, key=lambda run: run.seconds)] if runs else self.dearest[kind]
                 self.dearest[kind] = sorted(best, key=lambda run: -run.seconds)[:KEPT]
 
-    def _runs_of(self, random: Random, kind: Kind) -> list[Run]:
-        """All runs that the bisection of an edge makes, and a check of the plan that was found."""
+    def _runs_of(self, problem: Problem) -> list[Run]:
+        """All runs that the bisection of a problem's edge makes, and a check of the plan that was found."""
         runs: list[Run] = []
         plans: dict[Problem, str] = {}
 
-        def has_plan(problem: Problem) -> bool:
-            seconds, answer = self.program.run("solve", problem.text())
-            runs.append(Run(seconds, "solve", problem, problem.text()))
+        def has_plan(other: Problem) -> bool:
+            seconds, answer = self.program.run("solve", other.text())
+            runs.append(Run(seconds, "solve", other, other.text()))
             if answer.startswith("plan"):
-                plans[problem] = plan_text(read_plan(Lines(answer.encode())))
-            return problem in plans
+                plans[other] = plan_text(read_plan(Lines(answer.encode())))
+            return other in plans
 
-        last = random_edge(random, kind, has_plan).last
+        last = edge(problem, has_plan).last
         if last is not None:
             text = last.text() + plans[last]
             runs.append(Run(self.program.run("check", text)[0], "check", last, text))
@@ -138,6 +143,6 @@ def first_of_each(found: dict[Kind, list[Dear]], search: Search, seconds: float)
     for kind, dears in found.items():
         if dears:
             rows.append([kind.name(), *dear_row(dears[0])])
-    command = f"bench/run --search {seconds:.0f} --seed {search.seed}"
+    command = f"bench/run --search {seconds:.0f} --seed {search.seed}{' --near' if search.is_near else ''}"
     remark = f"`{command}` tried {search.edges:,} edges in {search.runs:,} runs. The dealer stands before the goal."
     return Table("The dearest that a search found", remark, ["Kind", *HEADS], rows)

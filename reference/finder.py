@@ -88,8 +88,7 @@ def numbered(nodes: list[Node], first: Place) -> Plan:
         node = nodes[place]
         for target in [node.next] if isinstance(node, Play) else node.next:
             walk(target)
-        if place not in left:
-            left.append(place)
+        left.append(place)  # no way leads back to it, so it wasn't left meanwhile
 
     walk(first)
     number: dict[Place, Place] = {place: len(left) - 1 - order for order, place in enumerate(left)}

@@ -57,10 +57,10 @@ module _ (worst : WorstShow) where
       let q = give.1 in
       let range_p = give.2 in
       let range_q = give.3 in
-      let outer = and_parts (leb enough (plain_crib worst p q + spare) && has_room worst p q) (card_gives worst sought enough (card_of p 0) q
+      let outer = and_parts (leb enough (plain_crib worst p q + most_crib_suits worst p q + spare) && has_room worst p q) (card_gives worst sought enough (card_of p 0) q
       || card_gives worst sought enough (card_of p 1) q || card_gives worst sought enough (card_of p 2) q || card_gives worst sought enough (card_of p 3) q)
       give.4 in
-      let room = (and_parts (leb enough (plain_crib worst p q + spare)) (has_room worst p q) outer.0).1 in
+      let room = (and_parts (leb enough (plain_crib worst p q + most_crib_suits worst p q + spare)) (has_room worst p q) outer.0).1 in
       let first = four_any (λ s. card_gives worst sought enough (card_of p s) q) outer.1 in
       let x = card_of p first.0 in
       let with_first = and_parts (is_free worst x) (throw_gives worst sought enough x (card_of q 0) || throw_gives worst sought enough x (card_of q 1)
@@ -86,7 +86,8 @@ module _ (worst : WorstShow) where
   -- where no two ranks give enough, no two cards do, the lower rank first
   too_little : (sought : Sought) (spare enough x y : ℕ) → NoneGive worst sought spare enough → MayThrow worst x y → rank_of x ≤ rank_of y →
       IsRank (rank_of x) → IsRank (rank_of y) →
-      sought_points worst sought x y ≤ plain_crib worst (rank_of x) (rank_of y) + spare → sought_points worst sought x y < enough
+      sought_points worst sought x y ≤ plain_crib worst (rank_of x) (rank_of y) + most_crib_suits worst (rank_of x) (rank_of y) + spare →
+      sought_points worst sought x y < enough
   too_little sought spare enough x y none may order range_x range_y few =
       let p = rank_of x in
       let q = rank_of y in
@@ -102,11 +103,11 @@ module _ (worst : WorstShow) where
             (four_from (λ t. throw_gives worst sought enough x (card_of q t)) (suit_of y) (omega arith)
             (ap (throw_gives worst sought enough x) (card_back y) ∙ here)) in
             absurd (both_ways (ranks_give worst sought spare enough p q) (none p q range_x range_y order)
-            (and_from (leb enough (plain_crib worst p q + spare) && has_room worst p q) (card_gives worst sought enough (card_of p 0) q
+            (and_from (leb enough (plain_crib worst p q + most_crib_suits worst p q + spare) && has_room worst p q) (card_gives worst sought enough (card_of p 0) q
             || card_gives worst sought enough (card_of p 1) q || card_gives worst sought enough (card_of p 2) q
             || card_gives worst sought enough (card_of p 3) q)
-            (and_from (leb enough (plain_crib worst p q + spare)) (has_room worst p q)
-            (le-leb enough (plain_crib worst p q + spare) (through enough (sought_points worst sought x y) (plain_crib worst p q + spare) reached few))
+            (and_from (leb enough (plain_crib worst p q + most_crib_suits worst p q + spare)) (has_room worst p q)
+            (le-leb enough (plain_crib worst p q + most_crib_suits worst p q + spare) (through enough (sought_points worst sought x y) (plain_crib worst p q + most_crib_suits worst p q + spare) reached few))
             may.room)
             (four_from (λ s. card_gives worst sought enough (card_of p s) q) (suit_of x) (omega arith)
             (ap (λ k. card_gives worst sought enough k q) (card_back x) ∙ with_x))))
@@ -118,11 +119,11 @@ module _ (worst : WorstShow) where
   module _ (unseen_set : IsCardSet worst.unseen) where
     -- the crib of two cards is no more than the points of their ranks and the most of the suits
     crib_low : (x y : ℕ) → MayThrow worst x y → IsRank (rank_of x) → IsRank (rank_of y) → crib_points (crib_with worst x y) worst.starter
-        ≤ plain_crib worst (rank_of x) (rank_of y) + most_crib_suits worst
+        ≤ plain_crib worst (rank_of x) (rank_of y) + most_crib_suits worst (rank_of x) (rank_of y)
     crib_low x y may range_x range_y =
         joined (crib_points (crib_with worst x y) worst.starter) (plain_crib worst (rank_of x) (rank_of y)) (crib_suit_points worst x y)
-        (most_crib_suits worst)
-        (crib_of_ranks worst x y (rank_of x) (rank_of y) refl refl range_x range_y) (suits_most worst unseen_set x y may)
+        (most_crib_suits worst (rank_of x) (rank_of y))
+        (crib_of_ranks worst x y (rank_of x) (rank_of y) refl refl range_x range_y) (suits_most worst unseen_set x y may range_x range_y)
       where
         joined : (a b c d : ℕ) → a ≡ b + c → c ≤ d → a ≤ b + d
         joined a b c d e f = omega arith
@@ -143,14 +144,14 @@ module _ (worst : WorstShow) where
         joined a b c d e f g h = omega arith
 
     -- ---- the greatest crib
-    pub crib_greatest : HasDeal worst → (spare bound most : ℕ) → spare ≡ most_crib_suits worst →
+    pub crib_greatest : HasDeal worst → (bound most : ℕ) →
         ((dealt : Dealt) → AgreesWith worst dealt → hidden_crib worst dealt ≤ bound) →
-        (most ≡ 0) ⊎ SomeGive worst Crib spare most → (most ≡ bound) ⊎ NoneGive worst Crib spare (most + 1) → IsGreatestCrib worst most
-    crib_greatest some spare bound most is_spare cribs give none = record {
+        (most ≡ 0) ⊎ SomeGive worst Crib 0 most → (most ≡ bound) ⊎ NoneGive worst Crib 0 (most + 1) → IsGreatestCrib worst most
+    crib_greatest some bound most cribs give none = record {
       some = elim give [
         | inl zero_is ↦ (some.0, some.1, nothing (hidden_crib worst some.0) most (all some.0 some.1) zero_is)
         | inr two ↦
-            let pair = found Crib spare most two in
+            let pair = found Crib 0 most two in
             let deal = deal_with worst unseen_set some pair.x pair.y pair.may in (
               record { hold = deal.0; throw = pair.x ∷ pair.y ∷ [] },
               deal.1,
@@ -167,6 +168,9 @@ module _ (worst : WorstShow) where
         both : (a b : ℕ) → a ≤ b → b ≤ a → a ≡ b
         both a b c d = omega arith
 
+        none_more : (a b : ℕ) → a ≤ b → a ≤ b + 0
+        none_more a b c = omega arith
+
         no_more_than : (a b : ℕ) → a ≡ b → b < most + 1 → a ≤ most
         no_more_than a b c d = omega arith
 
@@ -176,9 +180,9 @@ module _ (worst : WorstShow) where
           | inr less ↦
               let thrown = ordered worst unseen_set dealt.hold dealt.throw agrees in
               no_more_than (hidden_crib worst dealt) (crib_points (crib_with worst thrown.x thrown.y) worst.starter) thrown.crib
-              (too_little Crib spare (most + 1) thrown.x thrown.y less thrown.may thrown.order thrown.range_x thrown.range_y
-              (subst (λ k. crib_points (crib_with worst thrown.x thrown.y) worst.starter ≤ plain_crib worst (rank_of thrown.x) (rank_of thrown.y) + k)
-              (sym is_spare) (crib_low thrown.x thrown.y thrown.may thrown.range_x thrown.range_y)))
+              (too_little Crib 0 (most + 1) thrown.x thrown.y less thrown.may thrown.order thrown.range_x thrown.range_y
+              (none_more (crib_points (crib_with worst thrown.x thrown.y) worst.starter) (plain_crib worst (rank_of thrown.x) (rank_of thrown.y)
+              + most_crib_suits worst (rank_of thrown.x) (rank_of thrown.y)) (crib_low thrown.x thrown.y thrown.may thrown.range_x thrown.range_y)))
         ]
 
     -- ---- holds beside a throw
@@ -276,11 +280,11 @@ module _ (worst : WorstShow) where
             })
 
       -- ---- the greatest sum
-      pub total_greatest : HasDeal worst → (spare crib plain suits most : ℕ) → IsGreatestCrib worst crib →
+      pub total_greatest : HasDeal worst → (crib plain suits most : ℕ) → IsGreatestCrib worst crib →
           plain ≡ plain_points (worst.starter ∷ suited 0 four) → suits ≡ most_suit_points worst four →
-          spare ≡ most_crib_suits worst + suits → (most ≡ 0) ⊎ SomeGive worst (CribAndHand four) spare most →
-          (most ≡ crib + suits) ⊎ NoneGive worst (CribAndHand four) spare (most + 1) → IsGreatestTotal worst (plain + most)
-      total_greatest some spare crib plain suits most cribs is_plain is_suits is_spare give none = record {
+          (most ≡ 0) ⊎ SomeGive worst (CribAndHand four) suits most →
+          (most ≡ crib + suits) ⊎ NoneGive worst (CribAndHand four) suits (most + 1) → IsGreatestTotal worst (plain + most)
+      total_greatest some crib plain suits most cribs is_plain is_suits give none = record {
         some = elim give [
           | inl zero_is ↦ (
             some.0,
@@ -289,7 +293,7 @@ module _ (worst : WorstShow) where
                 (hand_is some.0 some.1) zero_is (all some.0 some.1),
           )
           | inr two ↦
-              let pair = found (CribAndHand four) spare most two in
+              let pair = found (CribAndHand four) suits most two in
               let of = best_of_throw pair.x pair.y some pair.may in
               let dealt : Dealt = record { hold = of.hold; throw = pair.x ∷ pair.y ∷ [] } in
               let agrees = best_deal pair.x pair.y some pair.may of in (
@@ -319,8 +323,8 @@ module _ (worst : WorstShow) where
           bounded : (a b c : ℕ) → a ≡ plain + c → c ≤ suits → b ≤ crib → most ≡ crib + suits → a + b ≤ plain + most
           bounded a b c d e f g = omega arith
 
-          sought_few : (a b c d : ℕ) → a ≤ b + c → d ≤ suits → spare ≡ c + suits → a + d ≤ b + spare
-          sought_few a b c d e f g = omega arith
+          sought_few : (a b c : ℕ) → a ≤ b → c ≤ suits → a + c ≤ b + suits
+          sought_few a b c d e = omega arith
 
           no_more_than : (a b c d e : ℕ) → a ≡ plain + c → b ≡ d → c ≤ e → d + e < most + 1 → a + b ≤ plain + most
           no_more_than a b c d e f g h i = omega arith
@@ -335,9 +339,9 @@ module _ (worst : WorstShow) where
                 no_more_than (hidden_hand worst dealt) (hidden_crib worst dealt) (suit_points dealt.hold worst.starter)
                 (crib_points (crib_with worst thrown.x thrown.y) worst.starter) (most_suit_points (beside thrown.x thrown.y) four)
                 (hand_is dealt agrees) thrown.crib (suits_below thrown.x thrown.y dealt.hold (hold_of worst dealt agrees) thrown.out_x thrown.out_y)
-                (too_little (CribAndHand four) spare (most + 1) thrown.x thrown.y less thrown.may thrown.order thrown.range_x thrown.range_y
-                (sought_few (crib_points (crib_with worst thrown.x thrown.y) worst.starter) (plain_crib worst (rank_of thrown.x) (rank_of thrown.y))
-                (most_crib_suits worst) (most_suit_points (beside thrown.x thrown.y) four)
+                (too_little (CribAndHand four) suits (most + 1) thrown.x thrown.y less thrown.may thrown.order thrown.range_x thrown.range_y
+                (sought_few (crib_points (crib_with worst thrown.x thrown.y) worst.starter) (plain_crib worst (rank_of thrown.x) (rank_of thrown.y)
+                + most_crib_suits worst (rank_of thrown.x) (rank_of thrown.y)) (most_suit_points (beside thrown.x thrown.y) four)
                 (crib_low thrown.x thrown.y thrown.may thrown.range_x thrown.range_y)
-                (subst (λ k. k ≤ suits) of.suits (suits_few of.hold of.is_hold)) is_spare))
+                (subst (λ k. k ≤ suits) of.suits (suits_few of.hold of.is_hold))))
           ]

@@ -11,7 +11,7 @@ use Rattle.crib_cards.specs.declared.sides.Dealt.{Dealt}
 use Rattle.crib_cards.proofs.SetFacts.{are_distinct-set_where, has-append}
 use Rattle.crib_show.specs.Inside.Extremes.{crib_suit_points, crib_with, has_room, is_free, least_of_ranks}
 use Rattle.crib_show.proofs.Tried.{AreTried, IsLeastBefore, IsMostBefore}
-use Rattle.crib_show.specs.Inside.Extremes.{least_suits, least_suits_with, most_crib_suits, no_crib, plain_crib, right_jack, thrown_suits}
+use Rattle.crib_show.specs.Inside.Extremes.{least_suits, least_suits_with, may_throw_flush, may_throw_jack, most_crib_suits, no_crib, plain_crib, right_jack, thrown_suits}
 use Rattle.crib_show.specs.Show.{are_of_suit, crib_flush, crib_points, jack_points, plain_points}
 use Rattle.crib_show.specs.Worst.{AgreesWith, HasDeal, hidden_crib}
 use Rattle.crib_show.specs.declared.deals.WorstShow.{WorstShow}
@@ -42,6 +42,15 @@ module _ (worst : WorstShow) where
   pub few_suits : (x y : ℕ) → crib_suit_points worst x y ≤ 6
   few_suits x y = six (list_all (λ card. eqb (suit_of card) (suit_of worst.starter)) (crib_with worst x y))
       (list_any (λ card. eqb (rank_of card) jack && eqb (suit_of card) (suit_of worst.starter)) (crib_with worst x y))
+    where
+      six : (flush jack_held : Bool) → cond flush 5 0 + cond jack_held 1 0 ≤ 6
+      six true true = omega arith
+      six true false = omega arith
+      six false true = omega arith
+      six false false = omega arith
+
+  pub few_most : (p q : ℕ) → most_crib_suits worst p q ≤ 6
+  few_most p q = six (may_throw_flush worst p q) (may_throw_jack worst p q)
     where
       six : (flush jack_held : Bool) → cond flush 5 0 + cond jack_held 1 0 ≤ 6
       six true true = omega arith

@@ -10,7 +10,7 @@ use Rattle.crib_show.specs.Show.{are_of_suit, crib_flush, hand_flush, jack_point
 use Rattle.crib_show.specs.Worst.{AgreesWith, hidden_crib, hidden_hand}
 use Rattle.crib_show.specs.declared.totals.Sought.{Sought}
 use Rattle.crib_show.specs.Inside.Totals.{ranks_give}
-use Rattle.crib_show.specs.Inside.Extremes.{suited, most_suit_points, has_room, no_crib, least_suits, plain_crib, least_of_ranks}
+use Rattle.crib_show.specs.Inside.Extremes.{suited, most_crib_suits, most_suit_points, has_room, no_crib, least_suits, plain_crib, least_of_ranks}
 
 -- the greatest hand of some ranks
 abbrev pub greatest_hand : WorstShow → List ℕ → ℕ
@@ -27,11 +27,11 @@ pub record IsLeastBefore (worst : WorstShow) (first second least : ℕ) : Type 0
   pub low : (p q : ℕ) → IsRank p → IsRank q → p ≤ q → AreTried first second p q → IsTrue (has_room worst p q)
       → least_suits worst p q ≤ 6 → least ≤ 102
 
--- no pair of ranks that is tried before two ranks and may be thrown has more points
+-- no pair of ranks that is tried before two ranks and may be thrown has more points, with its suits
 pub record IsMostBefore (worst : WorstShow) (first second most : ℕ) : Type 0 where
   pub all : (p q : ℕ) → IsRank p → IsRank q → p ≤ q → AreTried first second p q → IsTrue (has_room worst p q)
-      → plain_crib worst p q ≤ most
-  pub low : most ≤ 96
+      → plain_crib worst p q + most_crib_suits worst p q ≤ most
+  pub low : most ≤ 102
 
 -- no two ranks that are tried before two ranks give enough of what is sought
 pub record NoneGiveBefore (worst : WorstShow) (sought : Sought) (spare enough first second : ℕ) : Type 0 where

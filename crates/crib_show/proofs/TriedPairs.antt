@@ -148,16 +148,16 @@ module _ (worst : WorstShow) where
 
   -- the same for the most that ranks give
   pub most_next : (first second p q most next : ℕ) → IsMostBefore worst first second most → p ≡ first → q ≡ second → most ≤ next →
-      (has_room worst p q ≡ true → plain_crib worst p q ≤ next) → next ≤ 96 →
+      (has_room worst p q ≡ true → plain_crib worst p q + most_crib_suits worst p q ≤ next) → next ≤ 102 →
       IsMostBefore worst first (second + 1) next
   most_next first second p q most next before is_p is_q more here low = record {
     all = λ a b is_a is_b order tried room.
         elim (sooner first second a b tried) [
-          | inl earlier ↦ through (plain_crib worst a b) most next (before.all a b is_a is_b order earlier room) more
+          | inl earlier ↦ through (plain_crib worst a b + most_crib_suits worst a b) most next (before.all a b is_a is_b order earlier room) more
           | inr same ↦
               let of_a : p ≡ a = is_p ∙ sym same.0 in
               let of_b : q ≡ b = is_q ∙ sym same.1 in
-              subst (λ k. k ≤ next) (λ i. plain_crib worst (of_a i) (of_b i)) (here ((λ i. has_room worst (of_a i) (of_b i)) ∙ room))
+              subst (λ k. k ≤ next) (λ i. plain_crib worst (of_a i) (of_b i) + most_crib_suits worst (of_a i) (of_b i)) (here ((λ i. has_room worst (of_a i) (of_b i)) ∙ room))
         ];
     low = low;
   }

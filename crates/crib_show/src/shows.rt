@@ -142,13 +142,12 @@ impl Shows {
         }
     }
 
-    /// What is kept for the ranks of a show. Nothing is where other ranks stand in their place.
-    pub(crate) fn kept(&self, worst: &WorstShow) -> Kept
+    /// What is kept for the ranks of a show in their place. Nothing is where other ranks stand there.
+    pub(crate) fn kept(&self, worst: &WorstShow, place: usize) -> Kept
         requires { AreShowsFor worst.now self.now }
         ensures kept { AreKept worst.now result }
         ensures ranks { result.ranks ≡ worst.now.ranks }
     {
-        let place = place_of(&worst.ranks);
         if place < PLACES {
             let kept = self.kept[place];
             if kept.ranks == worst.ranks {
@@ -158,15 +157,14 @@ impl Shows {
         Kept::new(worst.ranks)
     }
 
-    /// Keeps what has been worked out of a show.
-    pub(crate) fn keep(&mut self, worst: &WorstShow, kept: Kept)
+    /// Keeps what has been worked out of a show, in the place of its ranks.
+    pub(crate) fn keep(&mut self, worst: &WorstShow, place: usize, kept: Kept)
         requires shows { AreShowsFor worst.now self.old }
         requires kept { AreKept worst.now kept }
         requires ranks { kept.ranks ≡ worst.now.ranks }
         ensures shows { AreShowsFor worst.now self.new }
         ensures own { self.new.own ≡ self.old.own }
     {
-        let place = place_of(&kept.ranks);
         if place < PLACES {
             self.kept[place] = kept;
         }

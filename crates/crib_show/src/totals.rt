@@ -7,7 +7,7 @@ ghost use Rattle.crib_show.specs.Inside.Totals.{without_throw};
 ghost use Rattle.crib_show.specs.Show.{crib_points, plain_points};
 ghost use Rattle.crib_show.specs.Worst.{ArePlain, HasDeal, IsGreatestCrib, IsGreatestTotal};
 
-use super::cribs::plain_cribs;
+use super::cribs::{MOST_OF_SUITS, plain_cribs};
 use super::deals::{PlainCribs, WorstShow};
 use super::hands::{is_set, rank_numbered};
 use super::points::{crib_flush, jack_points};
@@ -39,8 +39,7 @@ impl WorstShow {
         ensures { IsGreatestCrib self.now result }
     {
         is_set(self.unseen);
-        let spare = self.most_crib_suits();
-        self.most_sought(plain, &Sought::Crib, spare, self.high_crib(plain))
+        self.most_sought(plain, &Sought::Crib, 0, self.high_crib(plain))
     }
 
     /// What [`WorstShow::most_total`] answers, with the points of the greatest crib.
@@ -53,15 +52,14 @@ impl WorstShow {
         is_set(self.unseen);
         is_set(self.fixed);
         let hand = self.ranks_hand();
-        let spare = self.most_crib_suits() + hand.suits;
         let sought = Sought::CribAndHand(hand.ranks);
-        hand.plain + self.most_sought(plain, &sought, spare, crib + hand.suits)
+        hand.plain + self.most_sought(plain, &sought, hand.suits, crib + hand.suits)
     }
 
     /// The most that is sought of the throws, up to a bound.
     fn most_sought(&self, plain: &PlainCribs, sought: &Sought, spare: u8, bound: u8) -> u8
         requires plain { ArePlain self.now.starter self.now.own_throw plain.now }
-        requires range { spare ≤ 12 }
+        requires range { spare ≤ 6 }
         ensures some { (result ≡ 0) ⊎ SomeGive self.now sought.now spare result }
         ensures all { (result ≡ bound) ⊎ NoneGive self.now sought.now spare (result + 1) }
         ensures range { result ≤ bound }
@@ -76,7 +74,7 @@ impl WorstShow {
     /// Whether some two ranks give enough of what is sought.
     fn some_give(&self, plain: &PlainCribs, sought: &Sought, spare: u8, enough: u8) -> bool
         requires plain { ArePlain self.now.starter self.now.own_throw plain.now }
-        requires range { spare ≤ 12 }
+        requires range { spare ≤ 6 }
         ensures some { IsTrue result → SomeGive self.now sought.now spare enough }
         ensures none { IsFalse result → NoneGive self.now sought.now spare enough }
     {
@@ -92,8 +90,8 @@ impl WorstShow {
         false
     }
 
-    /// Whether cards of two ranks may be thrown that give enough of what is sought. The points that ranks give, with
-    /// some that may come to them, are asked first.
+    /// Whether cards of two ranks may be thrown that give enough of what is sought. The most that these can give to the
+    /// crib, with some that may come to it, is asked first.
     fn ranks_give(
         &self,
         plain: &PlainCribs,
@@ -104,11 +102,15 @@ impl WorstShow {
         second: Rank,
     ) -> bool
         requires plain { ArePlain self.now.starter self.now.own_throw plain.now }
-        requires range { spare ≤ 12 }
+        requires range { spare ≤ 6 }
         requires ranks { IsRank first × IsRank second }
         ensures { result ≡ ranks_give self.now sought.now spare enough first second }
     {
-        enough <= plain.of(first, second) + spare
+        let points = plain.of(first, second);
+        if points + MOST_OF_SUITS + spare < enough {
+            return false;
+        }
+        enough <= points + self.most_crib_suits(first, second) + spare
             && self.has_room(first, second)
             && (self.card_gives(plain, sought, enough, Card::of(first, Suit::Clubs), second)
                 || self.card_gives(

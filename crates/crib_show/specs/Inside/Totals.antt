@@ -6,7 +6,7 @@ use Rattle.crib_cards.specs.Sets.{set_without}
 use Rattle.crib_show.specs.declared.deals.WorstShow.{WorstShow}
 use Rattle.crib_show.specs.declared.totals.Sought.{Sought}
 use Rattle.crib_show.specs.declared.totals.Sought.TheVariants.{Crib, CribAndHand}
-use Rattle.crib_show.specs.Inside.Extremes.{crib_with, has_room, is_free, most_suit_points, plain_crib}
+use Rattle.crib_show.specs.Inside.Extremes.{crib_with, has_room, is_free, most_crib_suits, most_suit_points, plain_crib}
 use Rattle.crib_show.specs.Show.{crib_points}
 
 -- a show of which two cards are not the opponent's to hold
@@ -32,10 +32,12 @@ card_gives worst sought enough first rank =
     && (throw_gives worst sought enough first (card_of rank 0) || throw_gives worst sought enough first (card_of rank 1)
     || throw_gives worst sought enough first (card_of rank 2) || throw_gives worst sought enough first (card_of rank 3))
 
--- whether they are with cards of two ranks. The points that ranks give, with some that may come to them, are asked first
+-- whether they are with cards of two ranks. The most that these can give to the crib, with some that may come to it, is
+-- asked first
 abbrev pub ranks_give : WorstShow → Sought → ℕ → ℕ → ℕ → ℕ → Bool
 ranks_give worst sought spare enough first second =
-    nat_le enough (plain_crib worst first second + spare) && has_room worst first second
+    nat_le enough (plain_crib worst first second + most_crib_suits worst first second + spare)
+    && has_room worst first second
     && (card_gives worst sought enough (card_of first 0) second || card_gives worst sought enough (card_of first 1) second
     || card_gives worst sought enough (card_of first 2) second || card_gives worst sought enough (card_of first 3) second)
 

@@ -23,10 +23,9 @@ pub returns : goal.returns
 returns c =
     let worst = c.args.self.now in
     let hand = c.ranks_hand-hand.ensures in
-    let spare = c.most_crib_suits.result + c.ranks_hand-hand.result.suits in
+    let suits = c.ranks_hand-hand.result.suits in
     let most = c.most_sought.result in
-    total_greatest worst c.is_set.ensures c.is_set-2.ensures c.requires.deal spare c.args.crib c.ranks_hand-hand.result.plain c.ranks_hand-hand.result.suits
-    most c.requires.crib hand.plain hand.suits (ap (λ k. k + c.ranks_hand-hand.result.suits) c.most_crib_suits.ensures.value)
-    (subst (λ (ranks : List ℕ). (most ≡ 0) ⊎ SomeGive worst (CribAndHand ranks) spare most) hand.ranks c.most_sought.ensures.some)
-    (subst (λ (ranks : List ℕ). (most ≡ c.args.crib + c.ranks_hand-hand.result.suits) ⊎ NoneGive worst (CribAndHand ranks) spare (most + 1)) hand.ranks
-    c.most_sought.ensures.all)
+    total_greatest worst c.is_set.ensures c.is_set-2.ensures c.requires.deal c.args.crib c.ranks_hand-hand.result.plain suits most c.requires.crib
+    hand.plain hand.suits
+    (subst (λ (ranks : List ℕ). (most ≡ 0) ⊎ SomeGive worst (CribAndHand ranks) suits most) hand.ranks c.most_sought.ensures.some)
+    (subst (λ (ranks : List ℕ). (most ≡ c.args.crib + suits) ⊎ NoneGive worst (CribAndHand ranks) suits (most + 1)) hand.ranks c.most_sought.ensures.all)

@@ -8,6 +8,6 @@ returns-then-place-lt-PLACES-clause-shows c =
     let worst = c.args.worst.now in
     record {
       own = c.requires.shows.own;
-      kept = All-set (AreKeptFor worst.starter worst.own_throw worst.unseen worst.fixed) c.args.self.now.kept c.place_of-place.result c.args.kept
+      kept = All-set (AreKeptFor worst.starter worst.own_throw worst.unseen worst.fixed) c.args.self.now.kept c.args.place c.args.kept
           (kept_from worst c.args.kept c.requires.kept c.requires.ranks) c.requires.shows.kept;
     }

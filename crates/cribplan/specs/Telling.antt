@@ -88,8 +88,8 @@ none_line = line_text (codes "none" ∷ [])
 
 -- ---- what text and status tell
 
--- what the answer of `check` tells: the plan is sure, or it fails first in the game that is written, or the input spells
--- no problem and plan, or there was no memory
+-- what the answer of `check` tells: the plan is sure, or it fails first in the game that is written, or the input
+-- spells no problem and plan, or there was no memory
 abbrev pub CheckTells : List ℕ → List ℕ → Status → Type 0
 CheckTells input text Yes = HasSurePlan input × (text ≡ holds_line)
 CheckTells input text No =

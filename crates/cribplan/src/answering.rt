@@ -23,11 +23,11 @@ use std::alloc::Allocator;
 ///
 /// - `owed`: it is the reply that is owed to these bytes; or it tells that memory ran out, where the command asks for
 ///   it.
-/// - `told`: what text and status tell of these bytes, for `check` and `solve`. Of `check`, `Yes` goes with `holds`, and
-///   the plan of the input is sure; `No` goes with `fails`, how, and the first game in which the plan fails. Of `solve`,
-///   `Yes` goes with a plan that is sure; `No` goes with `none`, and no plan is sure. `Refused` tells that the bytes
-///   spell nothing of the kind. `Fault` tells that memory ran out, or of `solve`, that there is a sure plan and the one
-///   that was found has too many nodes.
+/// - `told`: what text and status tell of these bytes, for `check` and `solve`. Of `check`, `Yes` goes with `holds`,
+///   and the plan of the input is sure; `No` goes with `fails`, how, and the first game in which the plan fails. Of
+///   `solve`, `Yes` goes with a plan that is sure; `No` goes with `none`, and no plan is sure. `Refused` tells that the
+///   bytes spell nothing of the kind. `Fault` tells that memory ran out, or of `solve`, that there is a sure plan and
+///   the one that was found has too many nodes.
 pub fn answer_to<A: Allocator + Copy>(alloc: A, job: Job, input: &[u8]) -> Answer<A>
     ensures owed { Makes job input.now (reply_of result) }
     ensures told { StatusTells job input.now (reply_of result) }

@@ -5,6 +5,7 @@ use super::follows::ONE_GAME;
 use super::inputs::text_of;
 use super::replays::{LAST_CARD, LAST_CARD_ANSWER};
 use super::solves::{FOUR_PLAYS, TWELVE};
+use crate::answering::answer_to;
 use crate::job::Job;
 use crate::run::run;
 use crate::status::Status;
@@ -13,17 +14,27 @@ use failing_devices::{Feed, Tray, Trouble};
 use refusing_alloc::Refusing;
 use std::process::Abort;
 
+// What the refused growths of some runs came to: `fault 11`, or the answer that there is with memory.
+#[derive(Clone, Copy, Debug, PartialEq, Eq)]
+struct Refusals {
+    told: u32,
+    passed_over: u32,
+}
+
 // Refuses each growth of a run in turn, up to a run that asks for no more. The answer is then `fault 11`, alone, with
-// its status; or, where the growth was that of a table, what it is with memory. Tells whether a growth was passed over.
-fn passes_over_a_growth(
+// its status; or, where the growth was that of a table, what it is with memory.
+fn refuse_each(
     rt: &(impl Abort + AllocGlobal),
     job: Job,
     lines: &[&str],
     wanted: &str,
     status: Status,
-) -> bool {
+) -> Refusals {
     let input = text_of(rt.alloc(), lines).expect(rt, "memory");
-    let mut passed_over = false;
+    let mut refusals = Refusals {
+        told: 0,
+        passed_over: 0,
+    };
     for served in 0..1000 {
         let heap = Refusing::after(rt.alloc(), served);
         let mut source = Counted::new(Feed::new(input.as_slice(), 4096, Trouble::Never));
@@ -37,68 +48,111 @@ fn passes_over_a_growth(
                 b"fault 11\n".as_slice(),
                 "growth {served}"
             );
+            refusals.told = refusals.told.saturating_add(1);
         } else {
             assert_eq!(rt; text.as_slice(), wanted.as_bytes(), "growth {served}");
             assert_eq!(rt; ended, status, "growth {served}");
             if !heap.has_refused() {
-                assert!(rt; served >= 2, "a run reads and writes");
-                return passed_over;
+                return refusals;
             }
-            passed_over = true;
+            refusals.passed_over = refusals.passed_over.saturating_add(1);
         }
     }
     panic!(rt; "a run that never ends to grow")
 }
 
+// The input is one growth, and a board another.
 #[test]
 fn of_replay_and_board(rt: HostRuntime) {
-    let passed_over = passes_over_a_growth(
-        &rt,
-        Job::Replay,
-        &LAST_CARD,
-        LAST_CARD_ANSWER,
-        Status::Yes,
-    );
-    assert!(rt; !passed_over);
-    let passed_over = passes_over_a_growth(
-        &rt,
-        Job::Board,
-        &LAST_CARD,
-        LAST_CARD_BOARD,
-        Status::Yes,
-    );
-    assert!(rt; !passed_over);
+    let replayed = refuse_each(&rt, Job::Replay, &LAST_CARD, LAST_CARD_ANSWER, Status::Yes);
+    let wanted = Refusals {
+        told: 1,
+        passed_over: 0,
+    };
+    assert_eq!(rt; replayed, wanted);
+    let drawn = refuse_each(&rt, Job::Board, &LAST_CARD, LAST_CARD_BOARD, Status::Yes);
+    let wanted = Refusals {
+        told: 2,
+        passed_over: 0,
+    };
+    assert_eq!(rt; drawn, wanted);
 }
 
+// The input and the plan.
 #[test]
 fn of_follow(rt: HostRuntime) {
-    let passed_over = passes_over_a_growth(&rt, Job::Follow, &ONE_GAME, "short\n", Status::No);
-    assert!(rt; !passed_over);
+    let followed = refuse_each(&rt, Job::Follow, &ONE_GAME, "short\n", Status::No);
+    let wanted = Refusals {
+        told: 2,
+        passed_over: 0,
+    };
+    assert_eq!(rt; followed, wanted);
 }
 
-// The table of settled positions grows, and is passed over.
+// The input and the plan. The table of settled positions grows, and is passed over.
 #[test]
 fn of_check(rt: HostRuntime) {
-    let passed_over = passes_over_a_growth(&rt, Job::Check, &TWOS, "holds\n", Status::Yes);
-    assert!(rt; passed_over);
+    let checked = refuse_each(&rt, Job::Check, &TWOS, "holds\n", Status::Yes);
+    assert_eq!(rt; checked.told, 2);
+    assert!(rt; checked.passed_over > 0);
 }
 
-// The first game fails, so that no position is settled; it is written whole or not at all.
+// The input, the plan and the game, which is written whole or not at all. The first game fails, so that no position is
+// settled.
 #[test]
 fn of_check_that_fails(rt: HostRuntime) {
-    let passed_over = passes_over_a_growth(
-        &rt,
-        Job::Check,
-        &ONE_HOLE_SHORT,
-        FALLS_SHORT,
-        Status::No,
-    );
-    assert!(rt; !passed_over);
+    let checked = refuse_each(&rt, Job::Check, &ONE_HOLE_SHORT, FALLS_SHORT, Status::No);
+    let wanted = Refusals {
+        told: 3,
+        passed_over: 0,
+    };
+    assert_eq!(rt; checked, wanted);
 }
 
 // The table of positions that were searched grows, and is passed over.
 #[test]
 fn of_solve(rt: HostRuntime) {
-    let passed_over = passes_over_a_growth(&rt, Job::Solve, &TWELVE, FOUR_PLAYS, Status::Yes);
-    assert!(rt; passed_over);
+    let solved = refuse_each(&rt, Job::Solve, &TWELVE, FOUR_PLAYS, Status::Yes);
+    assert!(rt; solved.told >= 3, "the input, the nodes and the text");
+    assert!(rt; solved.passed_over > 0);
+}
+
+// What a job answers to an input in memory, where the first growth that it asks for is refused, and whether it asks
+// for one.
+fn answers_without_memory(
+    rt: &(impl Abort + AllocGlobal),
+    job: Job,
+    lines: &[&str],
+    wanted: &str,
+    asks: bool,
+) {
+    let input = text_of(rt.alloc(), lines).expect(rt, "memory");
+    let heap = Refusing::after(rt.alloc(), 0);
+    let answer = answer_to(&heap, job, input.as_slice());
+    assert_eq!(rt; answer.text.as_slice(), wanted.as_bytes());
+    assert_eq!(rt; heap.has_refused(), asks);
+}
+
+// What has a bound and no section takes no memory, and no refusal is lost for want of it.
+#[test]
+fn of_answers_in_memory(rt: HostRuntime) {
+    answers_without_memory(&rt, Job::Replay, &LAST_CARD, LAST_CARD_ANSWER, false);
+    for (job, lines) in [
+        (Job::Replay, &TWOS[..]),
+        (Job::Follow, &TWELVE[..6]),
+        (Job::Check, &LAST_CARD[..]),
+        (Job::Board, &TWOS[..]),
+    ] {
+        let wanted = if lines.len() == 6 {
+            "refused line 7: 3\n"
+        } else {
+            "refused line 8: 4\n"
+        };
+        answers_without_memory(&rt, job, lines, wanted, false);
+    }
+    answers_without_memory(&rt, Job::Solve, &TWOS, "refused line 8: 8\n", false);
+    answers_without_memory(&rt, Job::Check, &TWELVE, "refused line 8: 3\n", false);
+    answers_without_memory(&rt, Job::Follow, &ONE_GAME, "fault 11\n", true);
+    answers_without_memory(&rt, Job::Check, &TWOS, "fault 11\n", true);
+    answers_without_memory(&rt, Job::Board, &LAST_CARD, "fault 11\n", true);
 }

@@ -1,0 +1,69 @@
+//! Gos that are false.
+use super::inputs::{gives, refuses_each_beginning, text_of};
+use crate::job::Job;
+use crate::status::Status;
+
+// A two of the opponent's fits at 29, so that his go is false.
+const FALSE_GO: [&str; 17] = [
+    "problem 1",
+    "dealer opponent",
+    "score 0 0",
+    "starter 3H",
+    "hold TC 9C 2C 8C",
+    "throw 4S 6S",
+    "goal win",
+    "game 1",
+    "hold TD 2D KH QS",
+    "throw 5H 7D",
+    "acts 6",
+    "own TC",
+    "opp TD",
+    "own 9C",
+    "opp go",
+    "own 2C",
+    "opp 2D",
+];
+
+#[test]
+fn refuses_a_false_go(rt: HostRuntime) {
+    let input = text_of(rt.alloc(), &FALSE_GO).expect(&rt, "memory");
+    let wanted = "refused line 15: 43\n";
+    gives(&rt, Job::Replay, input.as_slice(), wanted, Status::Refused);
+    refuses_each_beginning(&rt, Job::Replay, input.as_slice());
+}
+
+// The same turns as those that are played already: nobody who says go at 29 has a two, so no deal agrees.
+#[test]
+fn refuses_turns_after_a_false_go(rt: HostRuntime) {
+    let lines = [
+        "problem 2",
+        "dealer opponent",
+        "score 0 0",
+        "starter 3H",
+        "hold TC 9C 2C 8C",
+        "throw 4S 6S",
+        "goal win",
+        "played 6",
+        "own TC",
+        "opp TD",
+        "own 9C",
+        "opp go",
+        "own 2C",
+        "opp 2D",
+        "game 1",
+        "hold TD 2D KH QS",
+        "throw 5H 7D",
+        "acts 6",
+        "own TC",
+        "opp TD",
+        "own 9C",
+        "opp go",
+        "own 2C",
+        "opp 2D",
+    ];
+    let wanted = "refused line 14: 23\n";
+    let input = text_of(rt.alloc(), &lines).expect(&rt, "memory");
+    gives(&rt, Job::Replay, input.as_slice(), wanted, Status::Refused);
+    let problem = text_of(rt.alloc(), &lines[..14]).expect(&rt, "memory");
+    gives(&rt, Job::Solve, problem.as_slice(), wanted, Status::Refused);
+}

@@ -1,0 +1,298 @@
+-- Worked examples of the finder's steps and of the plan that it finds for two holes from 29: TC TD 9C are played, and
+-- the owner, who knows all twos, holds 2C and AC.
+use Rattle.std.proofs.Common.{arith, ◌≡◌, ◌⊎◌, refl, ap, inl, inr, ℕ, ◌<◌, ◌==◌, length, true, false, List, [], ◌∷◌, ◌++◌, Option, Some, None, replicate}
+use Rattle.std.specs.List.{AllZip}
+use Rattle.std.specs.Prelude.{if◌then◌else◌}
+use Rattle.crib_cards.specs.Sets.{set_where}
+use Rattle.crib_cards.specs.declared.letters.Letter.{Letter}
+use Rattle.crib_cards.specs.declared.letters.Letter.TheVariants.{Seen, Go}
+use Rattle.crib_cards.specs.declared.moves.Move.TheVariants as move
+use Rattle.crib_cards.specs.declared.sides.Side.TheVariants.{Opponent}
+use Rattle.crib_play.specs.declared.turns.Turn.TheVariants as turns
+use Rattle.crib_play.specs.History.{Event, Own, Theirs}
+use Rattle.crib_show.specs.Outcome.{outcome_of}
+use Rattle.crib_show.specs.Show.{hand_points, crib_points}
+use Rattle.crib_problem.specs.declared.problem.Goal.TheVariants.{Win}
+use Rattle.crib_problem.specs.declared.problem.Version.TheVariants.{One}
+use Rattle.crib_problem.specs.Setup.{Setup}
+use Rattle.crib_plan.specs.declared.plan.Next.TheVariants.{End, To}
+use Rattle.crib_plan.specs.declared.plan.Node.{Node}
+use Rattle.crib_plan.specs.declared.plan.Node.TheVariants.{Play, See}
+use Rattle.crib_know.specs.Knowledge.{played_events}
+use Rattle.crib_know.specs.Hidden.{AgreesWith, CanShow}
+use Rattle.crib_check.proofs.SureExamples.{at_29}
+use Rattle.crib_search.specs.Trees.{Tree, Finish, Plays, Sees, NoBranch, branches_of, joined, same_tree, same_branches, plan_of_tree}
+use Rattle.crib_search.specs.Finder.{Found, Tries, OwnerFinds, LacksBranch, BranchFinds, FindsFor, FindsTree, Finds, IsFound, IsReachedBehind}
+use Rattle.crib_search.specs.Finder.{ExceedsLimit, options, letters}
+use Rattle.crib_search.specs.declared.finder.Found.TheVariants as found
+use Rattle.crib_search.specs.declared.finder.SearchFault.TheVariants.{TooLarge, NoMemory}
+use Rattle.crib_search.specs.Answer.{plan_found, search_fault_number}
+
+-- ---- answers
+pub a_plan_is_found : (A : Type 0) → plan_found {A = A} (found.Plan (Play 4 End ∷ [])) ≡ Some (Play 4 End ∷ [])
+a_plan_is_found A = refl
+
+pub too_large : search_fault_number TooLarge ≡ 50
+too_large = refl
+
+pub out_of_memory : search_fault_number NoMemory ≡ 11
+out_of_memory = refl
+
+-- ---- trees
+abbrev clubs : Tree
+clubs = Plays 4 Finish
+
+abbrev look : Tree
+look = Sees (branches_of (clubs ∷ []))
+
+pub end_is_no_look : same_tree Finish look ≡ false
+end_is_no_look = refl
+
+pub card_is_no_end : same_tree clubs Finish ≡ false
+card_is_no_end = refl
+
+pub look_is_no_end : same_tree look Finish ≡ false
+look_is_no_end = refl
+
+pub look_is_no_card : same_tree look clubs ≡ false
+look_is_no_card = refl
+
+pub look_is_itself : same_tree look look ≡ true
+look_is_itself = refl
+
+pub other_look : same_tree look (Sees (branches_of (Plays 5 Finish ∷ []))) ≡ false
+other_look = refl
+
+pub longer_look : same_tree look (Sees (branches_of (clubs ∷ clubs ∷ []))) ≡ false
+longer_look = refl
+
+pub shorter_look : same_tree (Sees (branches_of (clubs ∷ clubs ∷ []))) look ≡ false
+shorter_look = refl
+
+pub later_branch_differs : same_tree (Sees (branches_of (clubs ∷ clubs ∷ []))) (Sees (branches_of (clubs ∷ look ∷ []))) ≡ false
+later_branch_differs = refl
+
+-- ---- letters, and the owner's cards that he may try
+pub ranks_and_then_a_go : letters
+    ≡ Seen 1 ∷ Seen 2 ∷ Seen 3 ∷ Seen 4 ∷ Seen 5 ∷ Seen 6 ∷ Seen 7 ∷ Seen 8 ∷ Seen 9 ∷ Seen 10 ∷ Seen 11 ∷ Seen 12 ∷ Seen 13 ∷ Go ∷ []
+ranks_and_then_a_go = refl
+
+-- TC 9C 2C 8C are held
+abbrev level : Setup
+level = record {
+  version = One;
+  dealer = Opponent;
+  scores = record { owner = 0; opponent = 0 };
+  starter = 10;
+  hold = 36 ∷ 32 ∷ 4 ∷ 28 ∷ [];
+  thrown = 15 ∷ 23 ∷ [];
+  goal = Win;
+  played = [];
+}
+
+-- after TC and a ten each of the others fits
+pub others_at_20 : options level (Theirs (Seen 10) ∷ Own (move.Card 36) ∷ []) ≡ 32 ∷ 4 ∷ 28 ∷ []
+others_at_20 = refl
+
+-- at 29, after a go, 2C alone fits
+pub two_at_29 : options level (Theirs Go ∷ Own (move.Card 32) ∷ Theirs (Seen 10) ∷ Own (move.Card 36) ∷ []) ≡ 4 ∷ []
+two_at_29 = refl
+
+-- ---- one step, where it is given what is found further on: nothing after 2C or an ace of the opponent, else the end
+abbrev answer : List Event → Option Tree
+answer [] = None
+answer (Own (move.Card card) ∷ history) = if card == 4 then None else Some Finish
+answer (Own move.Go ∷ history) = Some look
+answer (Theirs (Seen rank) ∷ history) = if rank == 1 then None else Some Finish
+answer (Theirs Go ∷ history) = None
+
+abbrev given : Found
+given history it = it ≡ answer history
+
+abbrev a_go : List Event
+a_go = Theirs Go ∷ []
+
+pub nothing_to_try : Tries given a_go [] None
+nothing_to_try = refl
+
+pub no_tree_of_nothing : Tries given a_go [] (Some Finish) → ⊥
+no_tree_of_nothing tries = cc
+
+-- after 2C there is none, so 2D is played
+pub second_card : Tries given a_go (4 ∷ 5 ∷ []) (Some (Plays 5 Finish))
+second_card = (None, refl, (Some Finish, refl, refl))
+
+-- 2D and 2H both lead to the end: the first one is played
+pub first_card : OwnerFinds given a_go (5 ∷ 6 ∷ []) (Some (Plays 5 Finish))
+first_card = (Some Finish, refl, refl)
+
+pub a_card_that_leads_is_played : Tries given a_go (5 ∷ []) None → ⊥
+a_card_that_leads_is_played (None, is, rest) = cc
+a_card_that_leads_is_played (Some tree, is, rest) = cc
+
+-- where no card fits he says go
+pub own_go : OwnerFinds given a_go [] (Some look)
+own_go = refl
+
+-- at 29 an ace can be shown, and after it there is none
+abbrev three_events : List Event
+three_events = played_events at_29
+
+-- AD TD 3C 3D were dealt, or TD and three threes
+ace_shown : CanShow at_29 three_events (Seen 1)
+unfolding set_where
+ace_shown = (
+  record { hold = 1 ∷ 37 ∷ 8 ∷ 9 ∷ []; throw = 10 ∷ 11 ∷ [] },
+  (
+    record { deal = record { held = refl; thrown = refl; distinct = refl; hidden_before = refl }; fixed = refl },
+    (
+      move.Card 1 ∷ move.Card 32 ∷ move.Card 37 ∷ move.Card 36 ∷ [],
+      (
+        (
+          ((tt, record { not_done = refl; may_take = (refl, refl) }), record { not_done = refl; may_take = (refl, refl) }),
+          record { not_done = refl; may_take = (refl, refl) },
+        ),
+        record { not_done = refl; may_take = (refl, refl) },
+      ),
+      refl,
+    ),
+  ),
+)
+
+go_shown : CanShow at_29 three_events Go
+unfolding set_where
+go_shown = (
+  record { hold = 37 ∷ 8 ∷ 9 ∷ 10 ∷ []; throw = 1 ∷ 11 ∷ [] },
+  (
+    record { deal = record { held = refl; thrown = refl; distinct = refl; hidden_before = refl }; fixed = refl },
+    (
+      move.Go ∷ move.Card 32 ∷ move.Card 37 ∷ move.Card 36 ∷ [],
+      (
+        (
+          ((tt, record { not_done = refl; may_take = (refl, refl) }), record { not_done = refl; may_take = (refl, refl) }),
+          record { not_done = refl; may_take = (refl, refl) },
+        ),
+        record { not_done = refl; may_take = refl },
+      ),
+      refl,
+    ),
+  ),
+)
+
+pub ace_lacks_a_tree : LacksBranch given at_29 three_events
+ace_lacks_a_tree = (Seen 1, ace_shown, refl)
+
+pub none_found_after_a_look : FindsFor turns.Opponent given at_29 three_events None
+none_found_after_a_look = inl (ace_lacks_a_tree, refl)
+
+-- a branch that can't be shown is the end, and no other
+pub hidden_branch_is_the_end : ¬ CanShow at_29 three_events (Seen 3) → BranchFinds given at_29 three_events (Seen 3) Finish
+hidden_branch_is_the_end none = inr (none, refl)
+
+pub hidden_branch_is_no_card : ¬ CanShow at_29 three_events (Seen 3) → BranchFinds given at_29 three_events (Seen 3) clubs → ⊥
+hidden_branch_is_no_card none (inl shown) = none shown.0
+hidden_branch_is_no_card none (inr hidden) = (let is = hidden.1 in cc)
+
+-- none is found where a branch is lacking alone, and a tree that is found joins its branches
+pub none_lacks_a_branch : FindsFor turns.Opponent given at_29 three_events None → LacksBranch given at_29 three_events
+none_lacks_a_branch (inl lacks) = lacks.0
+none_lacks_a_branch (inr finds) = absurd (let is = finds.2 in cc)
+
+pub tree_joins_branches : (tree : Tree) → FindsFor turns.Opponent given at_29 three_events (Some tree) →
+    (branches : List Tree) × AllZip (BranchFinds given at_29 three_events) letters branches × (Some tree ≡ Some (joined branches))
+tree_joins_branches tree (inl lacks) = absurd (let is = lacks.1 in cc)
+tree_joins_branches tree (inr finds) = finds
+
+-- a deal that is done is the end where the owner has reached his goal, and none where not
+pub end_where_reached : IsReachedBehind level [] → FindsFor turns.Over given level [] None → ⊥
+end_where_reached reached (inl is) = (let end = is.1 in cc)
+end_where_reached reached (inr is) = is.0 reached
+
+pub none_where_not_reached : ¬ IsReachedBehind level [] → FindsFor turns.Over given level [] (Some Finish) → ⊥
+none_where_not_reached not_reached (inl is) = not_reached is.0
+none_where_not_reached not_reached (inr is) = (let end = is.1 in cc)
+
+-- the first lead is not the end of a deal that the owner has won
+pub not_reached_at_the_start : IsReachedBehind level [] → ⊥
+unfolding set_where outcome_of hand_points crib_points
+not_reached_at_the_start reached =
+    (let short = reached (record { hold = 37 ∷ 49 ∷ 50 ∷ 47 ∷ []; throw = 18 ∷ 25 ∷ [] })
+    (record { deal = record { held = refl; thrown = refl; distinct = refl; hidden_before = refl }; fixed = refl }, ([], tt, refl)) in cc)
+
+-- ---- the plan: after an ace AC, and after a go 2C, the first card of the hold that leads to the goal
+abbrev ace_or_two : Tree
+ace_or_two = Sees (branches_of (Plays 0 Finish ∷ replicate 12 Finish ++ Plays 4 Finish ∷ []))
+
+ace_reaches : Finds 28 at_29 (Own (move.Card 0) ∷ Theirs (Seen 1) ∷ three_events) (Some Finish)
+unfolding outcome_of
+ace_reaches = inl (λ dealt agrees. refl, refl)
+
+two_reaches : Finds 28 at_29 (Own (move.Card 4) ∷ Theirs Go ∷ three_events) (Some Finish)
+unfolding outcome_of
+two_reaches = inl (λ dealt agrees. refl, refl)
+
+pub tree_of_two_cards : ((rank : ℕ) → 1 < rank → ¬ CanShow at_29 three_events (Seen rank)) → FindsTree at_29 (Some ace_or_two)
+unfolding FindsTree
+tree_of_two_cards none = inr (
+  Plays 0 Finish ∷ replicate 12 Finish ++ Plays 4 Finish ∷ [],
+  (
+    inl (ace_shown, (Some Finish, ace_reaches, refl)),
+    (
+      hidden 2 (omega arith),
+      (
+        hidden 3 (omega arith),
+        (
+          hidden 4 (omega arith),
+          (
+            hidden 5 (omega arith),
+            (
+              hidden 6 (omega arith),
+              (
+                hidden 7 (omega arith),
+                (
+                  hidden 8 (omega arith),
+                  (
+                    hidden 9 (omega arith),
+                    (
+                      hidden 10 (omega arith),
+                      (
+                        hidden 11 (omega arith),
+                        (
+                          hidden 12 (omega arith),
+                          (
+                            hidden 13 (omega arith),
+                            (inl (go_shown, (Some Finish, two_reaches, refl)), tt),
+                          ),
+                        ),
+                      ),
+                    ),
+                  ),
+                ),
+              ),
+            ),
+          ),
+        ),
+      ),
+    ),
+  ),
+  refl,
+)
+  where
+    hidden : (rank : ℕ) → 1 < rank → BranchFinds (λ further after. Finds 29 at_29 further after) at_29 three_events (Seen rank) Finish
+    hidden rank high = inr (none rank high, refl)
+
+-- the look is node 0, and the card that is left last comes first behind it
+pub plan_of_two_cards : ((rank : ℕ) → 1 < rank → ¬ CanShow at_29 three_events (Seen rank)) →
+    IsFound at_29 (Some (See (To 2 ∷ replicate 12 End ++ To 1 ∷ []) ∷ Play 4 End ∷ Play 0 End ∷ []))
+plan_of_two_cards none = (Some ace_or_two, tree_of_two_cards none, refl)
+
+pub a_plan_has_a_tree : (plan : List Node) → IsFound at_29 (Some plan) → (tree : Tree) × FindsTree at_29 (Some tree) × (Some plan ≡ Some (plan_of_tree tree))
+a_plan_has_a_tree plan (None, finds, is) = cc
+a_plan_has_a_tree plan (Some tree, finds, is) = (tree, finds, is)
+
+-- three nodes are more than two; what exceeds a limit has more nodes than it
+pub three_nodes_exceed_two : ((rank : ℕ) → 1 < rank → ¬ CanShow at_29 three_events (Seen rank)) → ExceedsLimit at_29 2
+three_nodes_exceed_two none = (See (To 2 ∷ replicate 12 End ++ To 1 ∷ []) ∷ Play 4 End ∷ Play 0 End ∷ [], plan_of_two_cards none, omega arith)
+
+pub more_nodes_than_the_limit : (limit : ℕ) → ExceedsLimit at_29 limit → (plan : List Node) × (limit < length plan)
+more_nodes_than_the_limit limit exceeds = (exceeds.0, exceeds.2)

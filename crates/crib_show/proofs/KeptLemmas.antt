@@ -1,16 +1,15 @@
 -- What is kept of a show is right for each other with the same cards.
-use Rattle.std.proofs.Common.{◌≡◌, ℕ, ◌+◌, ◌≤◌, ◌++◌, List, Option, Some, None, IfSome, IsTrue, refl, sym, ap, ◌∙◌, subst}
+use Rattle.std.proofs.Common.{◌≡◌, ℕ, ◌+◌, ◌≤◌, ◌++◌, List, None, IsTrue, refl, sym, ap, ◌∙◌, subst}
 use Rattle.std.proofs.lemmas.Option.{IfSome_then}
 use Rattle.std.specs.List.{list_all}
 use Rattle.crib_cards.specs.Deals.{IsDeal}
 use Rattle.crib_cards.specs.Sets.{has}
 use Rattle.crib_cards.specs.declared.sides.Dealt.{Dealt}
 use Rattle.crib_show.specs.Show.{hand_points, crib_points}
-use Rattle.crib_show.specs.Shows.{AreKept, AreKeptFor, AreShows, AreShowsFor, HasCards}
+use Rattle.crib_show.specs.Shows.{AreKept, AreKeptFor, HasCards}
 use Rattle.crib_show.specs.Worst.{AgreesWith, IsGreatestCrib, IsGreatestHand, IsGreatestTotal, IsLeastCrib, hidden_crib, hidden_hand, hidden_total}
 use Rattle.crib_show.specs.declared.deals.WorstShow.{WorstShow}
 use Rattle.crib_show.specs.declared.shows.Kept.{Kept}
-use Rattle.crib_show.specs.declared.shows.Shows.{Shows}
 
 -- nothing that is kept is right
 pub none_kept : (starter : ℕ) (throw unseen fixed ranks : List ℕ) →

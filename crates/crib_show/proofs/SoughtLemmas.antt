@@ -7,18 +7,18 @@ use Rattle.crib_cards.specs.Cards.{IsRank, card_of, rank_of, suit_of}
 use Rattle.crib_cards.specs.Sets.{has, set_without, IsCardSet}
 use Rattle.crib_cards.specs.declared.sides.Dealt.{Dealt}
 use Rattle.crib_cards.proofs.LowestCard.{in_set}
-use Rattle.crib_cards.proofs.Members.{has_here, has_there, has_cases}
+use Rattle.crib_cards.proofs.Members.{has_here, has_there}
 use Rattle.crib_cards.proofs.SetFacts.{IsCardSet-set_without, has-set_without}
 use Rattle.crib_show.specs.Inside.Extremes.{crib_suit_points, crib_with, has_room, is_free, most_crib_suits, most_suit_points, plain_crib, ranks_from}
 use Rattle.crib_show.specs.Inside.Extremes.{suit_points, suited}
 use Rattle.crib_show.specs.Inside.Totals.{NoneGive, SomeGive, card_gives, ranks_give, sought_points, throw_gives, without_throw}
-use Rattle.crib_show.specs.Show.{crib_points, hand_points, plain_points}
+use Rattle.crib_show.specs.Show.{crib_points, plain_points}
 use Rattle.crib_show.specs.Worst.{AgreesWith, ArePlain, HasDeal, IsGreatestCrib, IsGreatestTotal, hidden_crib, hidden_hand, hidden_total}
 use Rattle.crib_show.specs.declared.deals.WorstShow.{WorstShow}
 use Rattle.crib_show.specs.declared.totals.Sought.{Sought}
 use Rattle.crib_show.specs.declared.totals.Sought.TheVariants.{Crib, CribAndHand}
 use Rattle.crib_show.proofs.CribLemmas.{deal_with, ordered, suits_most}
-use Rattle.crib_show.proofs.Exchange.{IsHold, SomeHold, deal_of, held_in, hold_of, throw_of}
+use Rattle.crib_show.proofs.Exchange.{IsHold, deal_of, held_in, hold_of, throw_of}
 use Rattle.crib_show.proofs.HandLemmas.{most_held, no_more, value}
 use Rattle.crib_show.proofs.Throws.{MayThrow, crib_of_ranks, few_suits}
 use Rattle.crib_show.proofs.TriedPairs.{card_back, rank_back}

@@ -1,28 +1,17 @@
 -- The points of a crib with two cards that may be thrown.
-use Rattle.std.proofs.Common.{◌≡◌, ◌≢◌, ◌⊎◌, ℕ, ◌+◌, ◌-◌, ◌*◌, ◌/◌, ◌%◌, ◌<◌, ◌≤◌, min, suc, zero, Bool, true, false, not, cond, eqb, ltb, ◌&&◌, ◌||◌, List, []}
-use Rattle.std.proofs.Common.{◌∷◌, ◌++◌, map, count_by, refl, sym, ap, ◌∙◌, inl, inr, subst, arith}
+use Rattle.std.proofs.Common.{◌≡◌, ◌≢◌, ℕ, ◌+◌, ◌<◌, ◌≤◌, Bool, true, false, not, cond, eqb, ◌&&◌, []}
+use Rattle.std.proofs.Common.{◌∷◌, ◌++◌, map, refl, sym, ap, ◌∙◌, inl, inr, subst, arith}
 use Rattle.std.specs.List.{list_all, list_any}
-use Rattle.std.proofs.lemmas.Bool.{cases_Bool, cases_lt, and_parts, and_from, or_cases, or_from, or_left, or_parts, or_right, both_ways, not-true, cond-true}
-use Rattle.std.proofs.lemmas.Bool.{cond-false, eq-eqb, eqb-true, eqb-false, ne_eqb, lt-ltb, ltb-true}
+use Rattle.std.proofs.lemmas.Bool.{cases_Bool, and_parts, and_from, not-true, cond-true}
+use Rattle.std.proofs.lemmas.Bool.{cond-false, eqb-false, ne_eqb}
 use Rattle.std.proofs.lemmas.List.{map-append}
-use Rattle.crib_cards.specs.Cards.{IsCard, IsRank, card_of, jack, rank_of, suit_of}
-use Rattle.crib_cards.specs.Sets.{has, are_distinct, count_at, count_rank, IsCardSet}
-use Rattle.crib_cards.specs.declared.sides.Dealt.{Dealt}
-use Rattle.crib_cards.proofs.SetFacts.{are_distinct-set_where, has-append}
+use Rattle.crib_cards.specs.Cards.{IsRank, card_of, jack, rank_of, suit_of}
 use Rattle.crib_show.specs.Inside.Extremes.{crib_suit_points, crib_with, has_room, is_free, least_of_ranks}
-use Rattle.crib_show.proofs.Tried.{AreTried, IsLeastBefore, IsMostBefore}
-use Rattle.crib_show.specs.Inside.Extremes.{least_suits, least_suits_with, may_throw_flush, may_throw_jack, most_crib_suits, no_crib, plain_crib, right_jack, thrown_suits}
-use Rattle.crib_show.specs.Show.{are_of_suit, crib_flush, crib_points, jack_points, plain_points}
-use Rattle.crib_show.specs.Worst.{AgreesWith, HasDeal, hidden_crib}
+use Rattle.crib_show.specs.Inside.Extremes.{least_suits, least_suits_with, may_throw_flush, may_throw_jack, most_crib_suits, no_crib, plain_crib, thrown_suits}
+use Rattle.crib_show.specs.Show.{crib_flush, crib_points, jack_points, plain_points}
 use Rattle.crib_show.specs.declared.deals.WorstShow.{WorstShow}
-use Rattle.crib_show.proofs.Exchange.{IsHold, count_append, count_no, count_within, count_yes, deal_of, exchange, held_count, hold_of, outside, throw_of}
-use Rattle.crib_show.proofs.Jacks.{all_append_left, any_found, right_is}
-use Rattle.crib_show.proofs.OrderLaw.{append-reordered, crib_points-reordered}
 use Rattle.crib_show.proofs.RankLaw.{plain_points-reordered}
-use Rattle.crib_show.proofs.Reordered.{Reordered, front, same_order}
-use Rattle.crib_cards.proofs.Members.{has_here, has_there, has_cases, distinct_append, distinct_parts}
-use Rattle.crib_cards.proofs.LowestCard.{in_set}
-use Rattle.crib_cards.proofs.SetLemmas.{eqb_turned}
+use Rattle.crib_show.proofs.Reordered.{Reordered, same_order}
 use Rattle.crib_show.proofs.TriedPairs.{four_below, four_is, card_back, rank_back}
 
 module _ (worst : WorstShow) where

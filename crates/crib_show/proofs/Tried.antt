@@ -1,13 +1,9 @@
 -- What the loops over hands and cribs have tried.
-use Rattle.std.specs.Prelude.{◌≡◌, ◌⊎◌, ℕ, ◌+◌, ◌<◌, ◌≤◌, ◌==◌, nat_lt, max, min, Bool, not, ◌&&◌, ◌||◌, IsTrue, IsFalse, List}
-use Rattle.std.specs.Prelude.{[], ◌∷◌, ◌++◌, map, replicate, if◌then◌else◌}
-use Rattle.std.specs.List.{list_all}
-use Rattle.crib_cards.specs.Cards.{IsRank, card_of, suit_of, jack}
-use Rattle.crib_cards.specs.Sets.{has, are_distinct, count_at, count_rank}
-use Rattle.crib_cards.specs.declared.sides.Dealt.{Dealt}
+use Rattle.std.specs.Prelude.{◌≡◌, ◌⊎◌, ℕ, ◌+◌, ◌<◌, ◌≤◌, IsTrue, IsFalse, List}
+use Rattle.std.specs.Prelude.{◌∷◌}
+use Rattle.crib_cards.specs.Cards.{IsRank}
 use Rattle.crib_show.specs.declared.deals.WorstShow.{WorstShow}
-use Rattle.crib_show.specs.Show.{are_of_suit, crib_flush, hand_flush, jack_points, plain_points}
-use Rattle.crib_show.specs.Worst.{AgreesWith, hidden_crib, hidden_hand}
+use Rattle.crib_show.specs.Show.{plain_points}
 use Rattle.crib_show.specs.declared.totals.Sought.{Sought}
 use Rattle.crib_show.specs.Inside.Totals.{ranks_give}
 use Rattle.crib_show.specs.Inside.Extremes.{suited, most_crib_suits, most_suit_points, has_room, no_crib, least_suits, plain_crib, least_of_ranks}

@@ -1,30 +1,14 @@
 -- The least and the most that are found while pairs of ranks are tried.
-use Rattle.std.proofs.Common.{◌≡◌, ◌≢◌, ◌⊎◌, ℕ, ◌+◌, ◌-◌, ◌*◌, ◌/◌, ◌%◌, ◌<◌, ◌≤◌, min, suc, zero, Bool, true, false, not, cond, eqb, ltb, ◌&&◌, ◌||◌, List, []}
-use Rattle.std.proofs.Common.{◌∷◌, ◌++◌, map, count_by, refl, sym, ap, ◌∙◌, inl, inr, subst, arith}
-use Rattle.std.specs.List.{list_all, list_any}
-use Rattle.std.proofs.lemmas.Bool.{cases_Bool, cases_lt, and_parts, and_from, or_cases, or_from, or_left, or_parts, or_right, both_ways, not-true, cond-true}
-use Rattle.std.proofs.lemmas.Bool.{cond-false, eq-eqb, eqb-true, eqb-false, ne_eqb, lt-ltb, ltb-true}
-use Rattle.std.proofs.lemmas.List.{map-append}
-use Rattle.crib_cards.specs.Cards.{IsCard, IsRank, card_of, jack, rank_of, suit_of}
-use Rattle.crib_cards.specs.Sets.{has, are_distinct, count_at, count_rank, IsCardSet}
-use Rattle.crib_cards.specs.declared.sides.Dealt.{Dealt}
-use Rattle.crib_cards.proofs.SetFacts.{are_distinct-set_where, has-append}
-use Rattle.crib_show.specs.Inside.Extremes.{crib_suit_points, crib_with, has_room, is_free, least_of_ranks}
+use Rattle.std.proofs.Common.{◌≡◌, ◌⊎◌, ℕ, ◌+◌, ◌-◌, ◌*◌, ◌/◌, ◌%◌, ◌<◌, ◌≤◌, min, suc, zero, true, false}
+use Rattle.std.proofs.Common.{refl, sym, ◌∙◌, inl, inr, subst, arith}
+use Rattle.std.proofs.lemmas.Bool.{cases_lt}
+use Rattle.crib_cards.specs.Cards.{IsRank, card_of, rank_of, suit_of}
+use Rattle.crib_show.specs.Inside.Extremes.{has_room, least_of_ranks}
 use Rattle.crib_show.proofs.Tried.{AreTried, IsLeastBefore, IsMostBefore, NoneGiveBefore}
 use Rattle.crib_show.specs.declared.totals.Sought.{Sought}
 use Rattle.crib_show.specs.Inside.Totals.{ranks_give}
-use Rattle.crib_show.specs.Inside.Extremes.{least_suits, least_suits_with, most_crib_suits, no_crib, plain_crib, right_jack, thrown_suits}
-use Rattle.crib_show.specs.Show.{are_of_suit, crib_flush, crib_points, jack_points, plain_points}
-use Rattle.crib_show.specs.Worst.{AgreesWith, HasDeal, hidden_crib}
+use Rattle.crib_show.specs.Inside.Extremes.{least_suits, most_crib_suits, no_crib, plain_crib}
 use Rattle.crib_show.specs.declared.deals.WorstShow.{WorstShow}
-use Rattle.crib_show.proofs.Exchange.{IsHold, count_append, count_no, count_within, count_yes, deal_of, exchange, held_count, hold_of, outside, throw_of}
-use Rattle.crib_show.proofs.Jacks.{all_append_left, any_found, right_is}
-use Rattle.crib_show.proofs.OrderLaw.{append-reordered, crib_points-reordered}
-use Rattle.crib_show.proofs.RankLaw.{plain_points-reordered}
-use Rattle.crib_show.proofs.Reordered.{Reordered, front, same_order}
-use Rattle.crib_cards.proofs.Members.{has_here, has_there, has_cases, distinct_append, distinct_parts}
-use Rattle.crib_cards.proofs.LowestCard.{in_set}
-use Rattle.crib_cards.proofs.SetLemmas.{eqb_turned}
 
 -- ---- numbers
 

@@ -1,6 +1,6 @@
 -- Shaped by the code: the greatest crib, and the greatest sum of hand and crib, sought among the throws of two cards.
 -- Worst says what the public call answers, by the deals alone.
-use Rattle.std.specs.Prelude.{◌≡◌, ◌⊎◌, ℕ, ◌+◌, ◌≤◌, ◌==◌, nat_le, Bool, not, ◌&&◌, ◌||◌, IsTrue, IsFalse, List}
+use Rattle.std.specs.Prelude.{ℕ, ◌+◌, ◌≤◌, ◌==◌, nat_le, Bool, not, ◌&&◌, ◌||◌, IsTrue, IsFalse}
 use Rattle.crib_cards.specs.Cards.{IsRank, card_of}
 use Rattle.crib_cards.specs.Sets.{set_without}
 use Rattle.crib_show.specs.declared.deals.WorstShow.{WorstShow}

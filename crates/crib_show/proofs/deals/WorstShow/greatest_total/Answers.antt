@@ -1,4 +1,4 @@
-use Rattle.std.proofs.Common.{◌≡◌, ◌⊎◌, ℕ, ◌+◌, ◌≤◌, List, ap, ◌∙◌, subst, arith}
+use Rattle.std.proofs.Common.{◌≡◌, ◌⊎◌, ℕ, ◌+◌, ◌≤◌, List, subst, arith}
 use Rattle.crib_show.specs.Inside.Totals.{NoneGive, SomeGive}
 use Rattle.crib_show.specs.declared.totals.Sought.TheVariants.{CribAndHand}
 use Rattle.crib_show.proofs.SoughtLemmas.{few_crib, total_greatest}

@@ -1,4 +1,4 @@
-use Rattle.std.proofs.Common.{◌≡◌, ◌≤◌, ◌<◌, inl, inr, ap, subst, ◌∙◌}
+use Rattle.std.proofs.Common.{◌≤◌, ◌<◌, inl, inr, ap, subst, ◌∙◌}
 use Rattle.std.proofs.lemmas.Bool.{ltb-true, ltb-false}
 use Rattle.crib_cards.specs.Sides.{pegged}
 use Rattle.crib_show.proofs.FailLemmas.{lost_by_hand, dealer_never, short_by_crib, crib_never}

@@ -1,7 +1,6 @@
 use Rattle.std.proofs.Common.{subst, sym}
 use Rattle.std.proofs.lemmas.List.Elements.{All-replicate}
 use Rattle.crib_show.specs.Shows.{AreKeptFor}
-use Rattle.crib_show.specs.declared.shows.Kept.{Kept}
 use Rattle.crib_show.proofs.KeptLemmas.{none_kept}
 use Rattle.crib_show.proofs.shows.Shows.new.Goals as goal
 

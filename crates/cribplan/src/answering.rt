@@ -1,5 +1,5 @@
 //! From the bytes of the input to the whole answer, in memory.
-ghost use Rattle.std.specs.Prelude.{◌≡◌, ◌≤◌, ◌<◌, List, length, vec_len};
+ghost use Rattle.std.specs.Prelude.{◌≡◌, ◌≤◌, length, vec_len};
 ghost use Rattle.crib_text.specs.Refusals.{too_long};
 ghost use Rattle.cribplan.specs.Answer.{board_reply, refusal_reply};
 ghost use Rattle.cribplan.specs.Memory.{Makes};

@@ -56,16 +56,18 @@ IsAny b = b ≡ b
 """
 HELPER_NAMES = {name.strip("◌"): name for name in re.findall(r"^abbrev pub (\S+) :", HELPERS, re.M)}
 TURNED = {
-    "nat_le": ["nat_lt"], "nat_lt": ["nat_le"], "==": ["=/="], "true": ["false"], "false": ["true"], "&&": ["||"], "||": ["&&"],
-    "min": ["max"], "max": ["min"], "take": ["drop"], "drop": ["take"], "list_any": ["list_all"], "list_all": ["list_any"],
-    "not": ["itself"], "reverse": ["itself"], "filter": ["unfiltered"], "+": ["+first", "+second"], "-": ["+first"],
-    "++": ["++turned", "++first"], "∷": ["∷last", "∷none"], "IsTrue": ["IsFalse", "IsAny"], "IsFalse": ["IsTrue", "IsAny"],
+    "nat_le": ["nat_lt"], "nat_lt": ["nat_le"], "==": ["=/="], "true": ["false"], "false": ["true"],
+    "&&": ["||"], "||": ["&&"], "min": ["max"], "max": ["min"], "take": ["drop"], "drop": ["take"],
+    "list_any": ["list_all"], "list_all": ["list_any"], "not": ["itself"], "reverse": ["itself"],
+    "filter": ["unfiltered"], "+": ["+first", "+second"], "-": ["+first"], "++": ["++turned", "++first"],
+    "∷": ["∷last", "∷none"], "IsTrue": ["IsFalse", "IsAny"], "IsFalse": ["IsTrue", "IsAny"],
     "≤": ["<", "≤any"], "<": ["≤", "≤any"], "≡": ["≡any"],
 }
 OPERATORS = ("&&", "||", "≤", "<")
 IN_LISTS = ("list_any", "list_all")
 TOKEN = re.compile(r"\"[^\"]*\"|--[^\n]*|[\w'◌]+(?:\.[\w']+)*|\s+|∷|\+\+|&&|\|\||==|[^\s\w]")
-NAMED = re.compile(r"^ *(?:abbrev |unfoldable )?(?:pub )?([\w'◌-]+)(?: [({][^)}]*[)}])* :", re.M)
+SIGNED = r"(?:abbrev |unfoldable )?(?:pub )?(?:data )?([\w'◌-]+)(?: [({][^)}]*[)}])* :"
+NAMED = re.compile("^ *" + SIGNED, re.M)
 
 
 @dataclass(frozen=True)
@@ -87,7 +89,7 @@ def names_of(block: str) -> list[str]:
     if re.match(r"pub (record|data) ", code):
         return [re.split(r"[\s:(]", code.split(" ", 2)[2], maxsplit=1)[0]]
     depth = "  " if "mutual" in code.split("\n", 1)[0] else ""
-    return [name.strip("◌") for name in re.findall(rf"^{depth}(?:abbrev |unfoldable )?(?:pub )?(?:data )?([\w'◌-]+)(?: [({{][^)}}]*[)}}])* :", code, re.M)]
+    return [name.strip("◌") for name in re.findall("^" + depth + SIGNED, code, re.M)]
 
 
 class Sources:
@@ -101,7 +103,8 @@ class Sources:
             for block in blocks_of(text):
                 self.add_fields(block)
             if module[0] == "specs" and not module[2].startswith("declared."):
-                self.signatures[module] = dict(re.findall(r"^(?:abbrev |unfoldable )?pub ([\w'-]+) : ([^\n]*)$", text, re.M))
+                signed = r"^(?:abbrev |unfoldable )?pub ([\w'-]+) : ([^\n]*)$"
+                self.signatures[module] = dict(re.findall(signed, text, re.M))
 
     def add_fields(self, block: str) -> None:
         by_type: dict[str, list[str]] = {}
@@ -167,14 +170,15 @@ class Header:
 
 
 def sides_of(block: str) -> Iterator[tuple[int, int]]:
-    """Where a declaration says something: the types of a record's fields, the right sides of a definition's equations."""
+    """Where a declaration says something: the types of a record's fields, the right sides of equations."""
     if re.search(r"^pub record ", block, re.M):
         yield from (found.span(1) for found in re.finditer(r"^  pub \w+ : (.*(?:\n    .*)*)", block, re.M))
         return
     names, at, start = set(NAMED.findall(block)), 0, None
     for line in block.splitlines(keepends=True):
         head = re.match(r" {0,2}([\w'◌-]+)", line)
-        begins = bool(head and head[1] in names and not NAMED.match(line)) or (bool(re.search(r" = |=$", line)) and not line.startswith(" "))
+        begins = bool(head and head[1] in names and not NAMED.match(line))
+        begins = begins or bool(re.match(r"\S.*(?: = |=$)", line))
         if (begins or NAMED.match(line)) and start is not None:
             yield start, at
             start = None
@@ -186,9 +190,12 @@ def sides_of(block: str) -> Iterator[tuple[int, int]]:
         yield start, at
 
 
-def edits_in(sources: Sources, header: Header, block: str, span: tuple[int, int]) -> Iterator[tuple[int, int, str, str]]:
-    """The changes within one side: from where to where, the new text, and an import."""
-    tokens = [found for found in TOKEN.finditer(block, *span) if not found[0].isspace() and not found[0].startswith("--")]
+Edit = tuple[int, int, str, str]  # from where to where, the new text, and an import for it
+
+
+def edits_in(sources: Sources, header: Header, block: str, span: tuple[int, int]) -> Iterator[Edit]:
+    """The changes within one side."""
+    tokens = [found for found in TOKEN.finditer(block, *span) if not re.match(r"\s|--", found[0])]
     for n, found in enumerate(tokens):
         token, (start, end) = found[0], found.span()
         before = tokens[n - 1][0] if n else ""
@@ -209,7 +216,7 @@ def edits_in(sources: Sources, header: Header, block: str, span: tuple[int, int]
             yield from negated(tokens, n, block)
 
 
-def negated(tokens: list[re.Match[str]], n: int, block: str) -> Iterator[tuple[int, int, str, str]]:
+def negated(tokens: list[re.Match[str]], n: int, block: str) -> Iterator[Edit]:
     """The same with its condition denied."""
     depth = 0
     for later in tokens[n + 1:]:
@@ -220,7 +227,7 @@ def negated(tokens: list[re.Match[str]], n: int, block: str) -> Iterator[tuple[i
             return
 
 
-def neighbours(block: str, spans: list[tuple[int, int]]) -> Iterator[tuple[int, int, str, str]]:
+def neighbours(block: str, spans: list[tuple[int, int]]) -> Iterator[Edit]:
     """Each right side of several for the next one's."""
     if len(spans) < 2 or re.search(r"^pub record ", block, re.M):
         return
@@ -254,5 +261,6 @@ def changes_of(sources: Sources, module: Module, wanted: set[str]) -> Iterator[C
             changed = block[:start] + new + block[end:]
             if changed not in seen and changed != block:
                 seen.add(changed)
-                whole = header.with_import(text[:at] + changed + text[at + len(block):], "not" if "not" in line else new, line)
+                whole = text[:at] + changed + text[at + len(block):]
+                whole = header.with_import(whole, "not" if "not" in line else new, line)
                 yield Change(module, names[0], shown_line(changed, start, start + len(new)), whole)

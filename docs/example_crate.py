@@ -1,8 +1,8 @@
 """One crate without code: the definitions of all crates and the worked examples that hold them to the rules.
 
-A module `Rattle.CRATE.specs.M` of the repository is `Rattle.pins.specs.CRATE.M` there, and one of `proofs` likewise. The
-types that `src` declares are written as antt has them: a type with a view is what it is seen as. A module of worked
-examples says so in its first line. An example that rests on a lemma of a crate, and not on computation alone, is left out.
+A module `Rattle.CRATE.specs.M` of the repository is `Rattle.pins.specs.CRATE.M` there, and one of `proofs` likewise.
+The types that `src` declares are written as antt has them: a type with a view is what it is seen as. A module of worked
+examples says so in its first line. An example that rests on a lemma of another module is left out.
 """
 import re
 from pathlib import Path
@@ -76,7 +76,8 @@ def without_lemmas(text: str) -> str:
             lost |= set(re.findall(r"[\w-]+", line.partition("{")[2]))
     blocks = blocks_of(text)
     while lost:
-        hit = [block for block in blocks if lost & set(re.findall(r"[\w'-]+", re.sub(r"^(--|use ).*$", "", block, flags=re.M)))]
+        code = {block: re.sub(r"^(--|use ).*$", "", block, flags=re.M) for block in blocks}
+        hit = [block for block in blocks if lost & set(re.findall(r"[\w'-]+", code[block]))]
         if not hit:
             break
         blocks = [block for block in blocks if block not in hit]
@@ -134,15 +135,18 @@ class Declared:
         home = self.crate_of(crate, rust)
         if (home, rust) in self.values:
             value, uses = self.values[home, rust]
-            words = re.findall(r"\w+", value)
-            return value, {line for line in uses.splitlines() if set(re.findall(r"\w+", line.partition("{")[2])) & set(words)}
-        return f"{rust} {over}".strip(), {f"use Rattle.{home}.specs.declared.{self.homes[home, rust]}.{rust}.{{{rust}}}"}
+            words = set(re.findall(r"\w+", value))
+            its = {line: set(re.findall(r"\w+", line.partition("{")[2])) for line in uses.splitlines()}
+            return value, {line for line in its if words & its[line]}
+        place = f"Rattle.{home}.specs.declared.{self.homes[home, rust]}.{rust}"
+        return f"{rust} {over}".strip(), {f"use {place}.{{{rust}}}"}
 
     def texts(self, crate: str, stem: str, name: str) -> dict[str, str]:
         """The modules of a declared type: itself, and that of its variants if it is an enum."""
         path = ROOT / "crates" / crate / "src" / (stem + ".rt")
         lines = path.read_text().splitlines()
-        start = next(n for n, line in enumerate(lines) if re.match(rf"(?:pub(?:\(\w+\))? )?(struct|enum) {name}\b", line))
+        head = rf"(?:pub(?:\(\w+\))? )?(struct|enum) {name}\b"
+        start = next(n for n, line in enumerate(lines) if re.match(head, line))
         body = [re.sub(r"#\[.*?\] ?|//.*", "", line).strip() for line in item_lines(lines, start)[1:-1]]
         over = "".join(re.findall(r"<([A-Z]\w*)", lines[start]))
         if re.search(r"\benum\b", lines[start]):
@@ -161,7 +165,8 @@ class Declared:
         uses, variants = set(), []
         data = f"the_data {over}".strip()
         for name, one, several in re.findall(r"(\w+)(?:\(([^()]*)\)| \{([^{}]*)\})?,", body):
-            held = re.split(r", (?![^<]*>)", one) if one else [part.split(":")[1] for part in several.split(",") if ":" in part]
+            named = [part.split(":")[1] for part in several.split(",") if ":" in part]
+            held = re.split(r", (?![^<]*>)", one) if one else named
             values = [self.type_in_antt(crate, rust) for rust in held]
             uses |= set().union(*(its for _, its in values))
             variants.append("  " + name + " : " + "".join(f"{value} → " for value, _ in values) + data)
@@ -219,8 +224,8 @@ def with_nodes(files: dict[str, str]) -> dict[str, str]:
             kids = nodes.setdefault("/".join(parts[:n]), [])
             if parts[n] not in kids:
                 kids.append(parts[n])
-    made = {(f"{node}/Lib.antt" if "/" not in node else f"{node}.antt"): kids for node, kids in nodes.items()}
-    return files | {file: "".join(f"pub mod {kid}\n" for kid in kids) for file, kids in made.items() if file not in files}
+    made = {node + (".antt" if "/" in node else "/Lib.antt"): kids for node, kids in nodes.items()}
+    return {file: "".join(f"pub mod {kid}\n" for kid in kids) for file, kids in made.items()} | files
 
 
 def crate_files(texts: dict[Module, str]) -> dict[str, str]:

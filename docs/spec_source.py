@@ -5,40 +5,77 @@ their fields, views and invariants, and the clauses of functions. A name of a fi
 lines of the file say, or a definition of the same file. Comments, blank lines and imports don't count as lines of a
 definition, and what the library of the toolchain defines counts for nothing.
 """
+
+from __future__ import annotations
+
 import re
+from collections.abc import Iterable, Iterator
 from pathlib import Path
 
 ROOT = Path(__file__).resolve().parent.parent
+THEOREM = ("cribplan", "answering.rt", "answer_to")  # the call that the headline is about: its crate, file and name
 NAME = re.compile(r"(?<![\w.])[^\W\d][\w'-]*(?:\.[\w'-]+)?|>>=|←")
 IMPORT = re.compile(r"^\s*(?:ghost )?use Rattle\.(\w+)\.specs\.([\w.]+?)(?:\.\{([^}]*)\}| as (\w+))?;?$")
 
 
-def code_lines(lines):
+def code_lines(lines: list[str]) -> list[str]:
     """The lines that count: no blank, no comment, no import, no attribute."""
     aside = re.compile(r"^\s*($|--|//|#\[|(ghost )?use |(pub )?mod )")
     return [line for line in lines if not aside.match(line)]
 
 
-class Block:
-    """A definition, a type with its view, or the head of a function: its file, its lines, and the names in them."""
+def comment_of(lines: list[str]) -> str:
+    """What the comment above a definition says, as one line. The comment above the imports is the file's."""
+    said: list[str] = []
+    for line in lines:
+        if re.match(r"\s*(ghost )?use ", line):
+            said = []
+        elif not line.startswith("--"):
+            break
+        elif not line.startswith("-- ----"):
+            said.append(line.removeprefix("--").strip())
+    return " ".join(said)
 
-    def __init__(self, path, name, lines):
-        self.path, self.name, self.lines = path, name, code_lines(lines)
+
+class Block:
+    """A definition, a type with its view, or the head of a function: its file, its name, its lines, the names in them,
+    and of a definition what its comment says."""
+
+    def __init__(self, path: Path, name: str, lines: list[str]) -> None:
+        self.path, self.name, self.lines, self.comment = path, name, code_lines(lines), comment_of(lines)
         aside = r'"[^"]*"|//.*|--.*'  # texts and remarks, and in Rust the names of variants
         aside += r"|^    \w+(?=[,(])" if path.suffix == ".rt" else ""
         words = NAME.findall("\n".join(re.sub(aside, "", line) for line in self.lines))
         self.words = {part for word in words for part in (word, word.split(".")[0])}
 
 
-def place_of(path):
+def place_of(path: Path) -> tuple[str, str]:
     """The crate of a file, and the module that it is."""
     crate, _, *module = path.relative_to(ROOT / "crates").with_suffix("").parts
     return crate, ".".join(module)
 
 
-def spec_blocks(path):
+def crates() -> list[str]:
+    """The crates of crates.txt, lowest first."""
+    return re.findall(r"^(\w+):", (ROOT / "crates.txt").read_text(), re.M)
+
+
+def words_in(found: Iterable[Iterable[str]]) -> set[str]:
+    """The words of all parts that a pattern found."""
+    return {word for parts in found for part in parts for word in re.findall(r"\w+", part)}
+
+
+def library_names(crate: str) -> set[str] | None:
+    """The names that the `lib.rt` of a crate hands out; none of a program."""
+    library = ROOT / "crates" / crate / "src/lib.rt"
+    if not library.is_file():
+        return None
+    return words_in(re.findall(r"^pub use (?:\w+::)+(?:\{([^}]*)\}|(\w+));|^pub \w+ (\w+)", library.read_text(), re.M))
+
+
+def spec_blocks(path: Path) -> Iterator[tuple[str, Block]]:
     """The definitions of a file of specs. Blank lines part them; what is indented goes on with the one before."""
-    paragraphs = []
+    paragraphs: list[str] = []
     for part in path.read_text().split("\n\n"):
         if part.startswith(" ") and paragraphs:
             paragraphs[-1] += "\n\n" + part
@@ -55,7 +92,7 @@ def spec_blocks(path):
         yield from ((name, block) for name in names)
 
 
-def item_lines(lines, start):
+def item_lines(lines: list[str], start: int) -> list[str]:
     """The lines of an item of Rust: to the brace that closes it, or to its semicolon."""
     if lines[start].rstrip().endswith((";", "}")):
         return lines[start:start + 1]
@@ -63,9 +100,10 @@ def item_lines(lines, start):
     return lines[start:end + 1]
 
 
-def type_blocks(path):
+def type_blocks(path: Path) -> list[tuple[str, Block]]:
     """The structs, enums and traits that a file of src declares, with their views and invariants."""
-    lines, found = path.read_text().splitlines(), {}
+    lines = path.read_text().splitlines()
+    found: dict[str, list[str]] = {}
     for n, line in enumerate(lines):
         declared = re.match(r"(?:pub(?:\(\w+\))? )?(?:struct|enum|trait) (\w+)", line)
         if declared:
@@ -80,10 +118,10 @@ def type_blocks(path):
 class Function:
     """A function of src: its name, the type that it is a method of, whether it may be called from without, its head."""
 
-    def __init__(self, path, name, owner, is_open, lines):
+    def __init__(self, path: Path, name: str, owner: str | None, is_open: bool, lines: list[str]) -> None:
         self.path, self.name, self.owner, self.is_open, self.lines = path, name, owner, is_open, lines
 
-    def head(self, clauses=None):
+    def head(self, clauses: list[str] | None = None) -> Block:
         """The head as a block: all of it, or its types and the clauses of some names."""
         starts = [n for n, line in enumerate(self.lines) if re.match(r"\s*(requires|ensures)\b", line)]
         parts = [self.lines[:starts[0]] if starts else self.lines]
@@ -94,9 +132,11 @@ class Function:
         return Block(self.path, self.name, sum([parts[0], *chosen], []))
 
 
-def functions_of(path):
+def functions_of(path: Path) -> Iterator[Function]:
     """The functions and the ghost members that a file of src declares, in traits and in impls as well."""
-    lines, owner, in_trait = path.read_text().splitlines(), None, False
+    lines = path.read_text().splitlines()
+    owner: str | None = None
+    in_trait = False
     for n, line in enumerate(lines):
         if line == "}":
             owner, in_trait = None, False
@@ -118,8 +158,10 @@ def functions_of(path):
 class Source:
     """All definitions of the repository, and what the names of each file mean."""
 
-    def __init__(self):
-        self.specs, self.types, self.meanings_of = {}, {}, {}
+    def __init__(self) -> None:
+        self.specs: dict[tuple[str, str, str], Block] = {}  # by crate, module and name
+        self.types: dict[tuple[str, str], Block] = {}  # by crate and name
+        self.meanings_of: dict[Path, dict[str, Block]] = {}
         for path in sorted(ROOT.glob("crates/*/specs/**/*.antt")):
             for name, block in spec_blocks(path):
                 self.specs[(*place_of(path), name)] = block
@@ -127,14 +169,15 @@ class Source:
             for name, block in type_blocks(path):
                 self.types[place_of(path)[0], name] = block
 
-    def function(self, crate, file, name):
+    def function(self, crate: str, file: str, name: str) -> Function:
         """The function of that name in a file."""
         return next(one for one in functions_of(ROOT / "crates" / crate / "src" / file) if one.name == name)
 
-    def of_module(self, crate, module):
+    def of_module(self, crate: str, module: str) -> dict[str, Block]:
+        """The definitions of a module, by their names."""
         return {name: block for (its, of, name), block in self.specs.items() if (its, of) == (crate, module)}
 
-    def meanings(self, path):
+    def meanings(self, path: Path) -> dict[str, Block]:
         """The blocks that the names of a file stand for."""
         if path not in self.meanings_of:
             (crate, module), text = place_of(path), path.read_text()
@@ -145,15 +188,15 @@ class Source:
             self.meanings_of[path] = found
         return self.meanings_of[path]
 
-    def rust_types(self, crate, text):
+    def rust_types(self, crate: str, text: str) -> dict[str, Block]:
         """The types that the names of a file of src may be: those it imports, else its crate's, else any crate's."""
         found = {name: block for (_, name), block in self.types.items()}
         found.update({name: block for (its, name), block in self.types.items() if its == crate})
-        for its, names in re.findall(r"^use (crib\w+)::([^;]*);", text, re.M):
+        for its, names in re.findall(r"^use (\w+)::([^;]*);", text, re.M):
             found.update({n: self.types[its, n] for n in re.findall(r"\w+", names) if (its, n) in self.types})
         return found
 
-    def add_import(self, found, crate, place, names, alias):
+    def add_import(self, found: dict[str, Block], crate: str, place: str, names: str, alias: str) -> None:
         """Adds what an import names. What is of the library counts for nothing."""
         place = place.removesuffix(".TheVariants")
         last = place.split(".")[-1]
@@ -168,15 +211,21 @@ class Source:
             else:
                 found.update({f"{used}.{its}": block for its, block in self.of_module(crate, place).items()})
 
-    def reached_from(self, roots):
+    def cited(self, block: Block) -> list[Block]:
+        """The definitions and the types that a block names."""
+        meanings = self.meanings(block.path)
+        words = block.words | ({">>="} if "←" in block.words else set())
+        return [meanings[word] for word in sorted(words) if word in meanings]
+
+    def reached_from(self, roots: Iterable[Block]) -> list[Block]:
         """The definitions that some blocks reach, without these blocks."""
-        reached, ahead = {}, list(roots)
+        roots = list(roots)
+        seen, ahead = {id(block) for block in roots}, list(roots)
+        reached: list[Block] = []
         while ahead:
-            block = ahead.pop()
-            meanings = self.meanings(block.path)
-            words = block.words | ({">>="} if "←" in block.words else set())
-            for next_block in [meanings[word] for word in words if word in meanings]:
-                if id(next_block) not in reached and next_block not in roots:
-                    reached[id(next_block)] = next_block
-                    ahead.append(next_block)
-        return list(reached.values())
+            for block in self.cited(ahead.pop()):
+                if id(block) not in seen:
+                    seen.add(id(block))
+                    reached.append(block)
+                    ahead.append(block)
+        return reached

@@ -14,6 +14,7 @@ pub record Branch : Type 0 where
   pub set : List ℕ
   pub node : ℕ
 
+-- the text of a branch: its letters, the colon, and the number of its node
 abbrev pub branch_spelling : Branch → List ℕ
 branch_spelling branch = branch.set ++ colon ∷ decimal branch.node
 
@@ -32,10 +33,11 @@ letter_number byte = position_or_len (λ letter. letter == byte) letter_bytes
 abbrev pub first_number : List ℕ → ℕ
 first_number set = letter_number (slice_index set 0)
 
--- whether a letter stands in some branches, and whether one of them leads to a node
+-- whether a letter stands in some branches
 abbrev pub has_letter : List Branch → ℕ → Bool
 has_letter branches letter = list_any (λ branch. has branch.set letter) branches
 
+-- whether some branch leads to a node
 abbrev pub has_node : List Branch → ℕ → Bool
 has_node branches node = list_any (λ branch. branch.node == node) branches
 

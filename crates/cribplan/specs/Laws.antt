@@ -37,6 +37,7 @@ TooLongLaw =
 abbrev pub Accepts : {A : Type 0} → Result A Refusal → Type 0
 Accepts {A = A} said = (value : A) × (said ≡ Ok value)
 
+-- an input is accepted by a command
 abbrev pub IsAccepted : Job → List ℕ → Type 0
 IsAccepted Replay input = Accepts (report_of_input input)
 IsAccepted Follow input = Accepts (ending_of_input input)

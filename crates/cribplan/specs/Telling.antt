@@ -77,12 +77,15 @@ pub record HasSomePlan (input : List ℕ) : Type 0 where
 
 -- ---- the lines that tell it
 
+-- the line of a plan that is sure
 abbrev pub holds_line : List ℕ
 holds_line = line_text (codes "holds" ∷ [])
 
+-- the line of a plan that fails, with how it ends
 abbrev pub fails_line : Ending → List ℕ
 fails_line result = line_text (codes "fails" ∷ ending_word result ∷ [])
 
+-- the line of a problem for which no plan is sure
 abbrev pub none_line : List ℕ
 none_line = line_text (codes "none" ∷ [])
 

@@ -57,7 +57,8 @@ module _ (worst : WorstShow) where
       let q = give.1 in
       let range_p = give.2 in
       let range_q = give.3 in
-      let outer = and_parts (leb enough (plain_crib worst p q + most_crib_suits worst p q + spare) && has_room worst p q) (card_gives worst sought enough (card_of p 0) q
+      let outer = and_parts (leb enough (plain_crib worst p q + most_crib_suits worst p q + spare) && has_room worst p q)
+      (card_gives worst sought enough (card_of p 0) q
       || card_gives worst sought enough (card_of p 1) q || card_gives worst sought enough (card_of p 2) q || card_gives worst sought enough (card_of p 3) q)
       give.4 in
       let room = (and_parts (leb enough (plain_crib worst p q + most_crib_suits worst p q + spare)) (has_room worst p q) outer.0).1 in
@@ -103,11 +104,13 @@ module _ (worst : WorstShow) where
             (four_from (λ t. throw_gives worst sought enough x (card_of q t)) (suit_of y) (omega arith)
             (ap (throw_gives worst sought enough x) (card_back y) ∙ here)) in
             absurd (both_ways (ranks_give worst sought spare enough p q) (none p q range_x range_y order)
-            (and_from (leb enough (plain_crib worst p q + most_crib_suits worst p q + spare) && has_room worst p q) (card_gives worst sought enough (card_of p 0) q
+            (and_from (leb enough (plain_crib worst p q + most_crib_suits worst p q + spare) && has_room worst p q)
+            (card_gives worst sought enough (card_of p 0) q
             || card_gives worst sought enough (card_of p 1) q || card_gives worst sought enough (card_of p 2) q
             || card_gives worst sought enough (card_of p 3) q)
             (and_from (leb enough (plain_crib worst p q + most_crib_suits worst p q + spare)) (has_room worst p q)
-            (le-leb enough (plain_crib worst p q + most_crib_suits worst p q + spare) (through enough (sought_points worst sought x y) (plain_crib worst p q + most_crib_suits worst p q + spare) reached few))
+            (le-leb enough (plain_crib worst p q + most_crib_suits worst p q + spare) (through enough (sought_points worst sought x y)
+            (plain_crib worst p q + most_crib_suits worst p q + spare) reached few))
             may.room)
             (four_from (λ s. card_gives worst sought enough (card_of p s) q) (suit_of x) (omega arith)
             (ap (λ k. card_gives worst sought enough k q) (card_back x) ∙ with_x))))
@@ -202,7 +205,8 @@ module _ (worst : WorstShow) where
               let card = in_set worst.unseen k unseen_set (is.unseen k h) in
               has-set_without (set_without worst.unseen x) y k card
               ∙ and_from (has (set_without worst.unseen x) k) (not (eqb k y))
-              (has-set_without worst.unseen x k card ∙ and_from (has worst.unseen k) (not (eqb k x)) (is.unseen k h) (ap not (ne_eqb k x (other k x hold h out_x))))
+              (has-set_without worst.unseen x k card ∙ and_from (has worst.unseen k) (not (eqb k x)) (is.unseen k h)
+              (ap not (ne_eqb k x (other k x hold h out_x))))
               (ap not (ne_eqb k y (other k y hold h out_y)));
           ranks_held = is.ranks_held;
           fixed_held = is.fixed_held;

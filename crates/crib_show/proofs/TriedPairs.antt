@@ -141,7 +141,8 @@ module _ (worst : WorstShow) where
           | inr same ↦
               let of_a : p ≡ a = is_p ∙ sym same.0 in
               let of_b : q ≡ b = is_q ∙ sym same.1 in
-              subst (λ k. k ≤ next) (λ i. plain_crib worst (of_a i) (of_b i) + most_crib_suits worst (of_a i) (of_b i)) (here ((λ i. has_room worst (of_a i) (of_b i)) ∙ room))
+              subst (λ k. k ≤ next) (λ i. plain_crib worst (of_a i) (of_b i) + most_crib_suits worst (of_a i) (of_b i))
+              (here ((λ i. has_room worst (of_a i) (of_b i)) ∙ room))
         ];
     low = low;
   }

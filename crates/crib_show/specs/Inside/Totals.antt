@@ -38,13 +38,16 @@ abbrev pub ranks_give : WorstShow → Sought → ℕ → ℕ → ℕ → ℕ →
 ranks_give worst sought spare enough first second =
     nat_le enough (plain_crib worst first second + most_crib_suits worst first second + spare)
     && has_room worst first second
-    && (card_gives worst sought enough (card_of first 0) second || card_gives worst sought enough (card_of first 1) second
-    || card_gives worst sought enough (card_of first 2) second || card_gives worst sought enough (card_of first 3) second)
+    && (card_gives worst sought enough (card_of first 0) second
+    || card_gives worst sought enough (card_of first 1) second
+    || card_gives worst sought enough (card_of first 2) second
+    || card_gives worst sought enough (card_of first 3) second)
 
 -- some two ranks do
 abbrev pub SomeGive : WorstShow → Sought → ℕ → ℕ → Type 0
 SomeGive worst sought spare enough =
-    (first : ℕ) × (second : ℕ) × IsRank first × IsRank second × IsTrue (ranks_give worst sought spare enough first second)
+    (first : ℕ) × (second : ℕ) × IsRank first × IsRank second
+    × IsTrue (ranks_give worst sought spare enough first second)
 
 -- no two ranks do
 abbrev pub NoneGive : WorstShow → Sought → ℕ → ℕ → Type 0

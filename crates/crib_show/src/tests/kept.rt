@@ -1,0 +1,65 @@
+//! What is kept of the shows of one problem.
+ghost use Rattle.crib_show.specs.Shows.{AreShowsFor};
+
+use super::{ACES, counted, twos_against};
+use crate::shows::place_of;
+use crate::{Shows, WorstShow};
+use crib_cards::{Rank, RankCounts, Side};
+use std::process::Abort;
+
+// whether what is kept answers as what is worked out anew
+fn answers_alike(rt: &impl Abort, worst: &WorstShow, shows: &mut Shows)
+    requires { AreShowsFor worst.now shows.old }
+    ensures { AreShowsFor worst.now shows.new }
+{
+    assert!(rt; worst.has_deal());
+    let kept = worst.can_fail_with(shows);
+    assert_eq!(rt; kept, worst.can_fail());
+}
+
+#[test]
+fn answers_from_what_is_kept(rt: HostRuntime) {
+    let sevens: [&[u8]; 4] = [b"7C", b"7D", b"8C", b"9C"];
+    let mut worst = twos_against(&rt, b"5H", [b"5C", b"5D"], ACES, &[]);
+    worst.stop = true;
+    let mut shows = Shows::new(&worst.own_hold, &worst.own_throw, worst.starter);
+    for _turn in 0..2 {
+        // twelve in the hand and 29 in the crib
+        worst.ranks = counted(&rt, ACES);
+        worst.scores.opponent = 79;
+        answers_alike(&rt, &worst, &mut shows);
+        worst.scores.opponent = 80;
+        answers_alike(&rt, &worst, &mut shows);
+        // another hand of the same ranks, and another hand
+        worst.dealer = Side::Owner;
+        worst.scores.opponent = 109;
+        answers_alike(&rt, &worst, &mut shows);
+        worst.ranks = counted(&rt, sevens);
+        answers_alike(&rt, &worst, &mut shows);
+        worst.dealer = Side::Opponent;
+        answers_alike(&rt, &worst, &mut shows);
+    }
+}
+
+#[test]
+fn gives_each_choice_of_ranks_a_place(rt: HostRuntime) {
+    let mut taken = [false; 1820];
+    for first in 1..14 {
+        for second in first..14 {
+            for third in second..14 {
+                for fourth in third..14 {
+                    let mut ranks = RankCounts::new();
+                    for number in [first, second, third, fourth] {
+                        let rank = Rank::new(number).expect(&rt, "a rank");
+                        assert!(rt; ranks.of(rank) < 4);
+                        ranks.add(rank);
+                    }
+                    let place = place_of(&ranks);
+                    assert!(rt; place < 1820);
+                    assert!(rt; !taken[place]);
+                    taken[place] = true;
+                }
+            }
+        }
+    }
+}

@@ -98,8 +98,8 @@ impl Settled for Watched {
     }
 }
 
-/// The positions of the four twos that are not done, of which 1,575 are the owner's: as many as a walk in Python counts,
-/// that of `bench/positions`, which shares nothing with this one.
+/// The positions of the four twos that are not done, of which 1,575 are the owner's: as many as the walk of
+/// `bench/positions` meets, which shares nothing with this one.
 const POSITIONS: u32 = 3470;
 
 #[test]

@@ -12,7 +12,8 @@ use Rattle.clap.specs.Kinds.{Kinds}
 use Rattle.clap.specs.Kinds.{or_else as then_kinds}
 use Rattle.clap.specs.Lexer.{long_of, short_of}
 use Rattle.clap.specs.Simple.{App, built, entered, matches_of}
-use Rattle.clap.specs.Walk.{Text, Rule, Held, Step, Walk, after_flag, after_step, arg_by_long, arg_by_short, bundle_met, bundle_step, finished, idle, long_or_other, one_of}
+use Rattle.clap.specs.Walk.{Text, Rule, Held, Step, Walk, after_flag, after_step, arg_by_long, arg_by_short, bundle_met, bundle_step}
+use Rattle.clap.specs.Walk.{finished, idle, long_or_other, one_of}
 use Rattle.clap.specs.Walk.{plain, reacted, settled, short_or_plain, short_word, value, walked, word_met}
 use Rattle.clap.specs.declared.builder.value_parser.ValueParser.TheVariants.{Names}
 use Rattle.clap.specs.declared.error.kind.ErrorKind.{ErrorKind}
@@ -150,7 +151,8 @@ module _ (names : Bor (List (Bor Text))) (listed : map (λ s. s.now) names.now �
       go None = shorts (short_of word)
       go (Some option) = long_fails name option
 
-  letters_plain : (name : Option Text) (word letters : Text) → option_map_or (λ letter. Some (short_refusal name letter)) (slice_get (chars letters) 0) None ≡ None
+  letters_plain : (name : Option Text) (word letters : Text)
+      → option_map_or (λ letter. Some (short_refusal name letter)) (slice_get (chars letters) 0) None ≡ None
       → short_word rules idle word letters (held name) ≡ (held name, value)
   unfolding bundle_met chars
   letters_plain name word [] e = refl
@@ -167,7 +169,8 @@ module _ (names : Bor (List (Bor Text))) (listed : map (λ s. s.now) names.now �
       → word_met rules [] false idle (place name) word (held name) ≡ (held name, value)
   plain_met name word mark none = rw mark (go (long_of word) none)
     where
-      shorts : (o : Option Text) → option_map_or (λ letter. Some (short_refusal name letter)) (option_and_then (λ letters. slice_get (chars letters) 0) o) None ≡ None
+      shorts : (o : Option Text)
+          → option_map_or (λ letter. Some (short_refusal name letter)) (option_and_then (λ letters. slice_get (chars letters) 0) o) None ≡ None
           → short_or_plain rules idle word o (held name) ≡ (held name, value)
       shorts None e = refl
       shorts (Some letters) e = letters_plain name word letters e
@@ -228,7 +231,8 @@ module _ (names : Bor (List (Bor Text))) (listed : map (λ s. s.now) names.now �
           else first_of o (plain_refusal name word (refusal_from rest false)))
       go true mark o is rec = step (at false name) (at true name) word rest (mark_turns name word mark) (mark_walks name word mark) ∙ rec true name
       go false mark (Some kind) is rec = stop (at false name) word rest kind
-          (ap (λ k. then_kinds k (step_fault app.top (place name) (word_met rules [] false idle (place name) word (held name)).0 (word_met rules [] false idle (place name) word (held name)).1))
+          (let met = word_met rules [] false idle (place name) word (held name) in
+          ap (λ k. then_kinds k (step_fault app.top (place name) met.0 met.1))
           (word_fails name word mark ∙ ap kinds_of is))
       go false mark None is rec = plains name mark is (rec false)
         where
@@ -281,7 +285,8 @@ module _ (names : Bor (List (Bor Text))) (listed : map (λ s. s.now) names.now �
           plains : (n : Option Text) → is_mark word ≡ false → option_refusal n word ≡ None
               → ((k : Option Text) → refusal_from rest false k ≡ None → Finds (walk_on (at false k) rest) (left false k rest))
               → plain_refusal n word (refusal_from rest false) ≡ None → Finds (walk_on (at false n) (word ∷ rest)) (left false n (word ∷ rest))
-          plains None mark is rec e = subst (λ w. Finds (walk_on w rest) (left false None (word ∷ rest))) (sym (walks word mark is)) (rw mark (rec (Some word) e))
+          plains None mark is rec e = subst (λ w. Finds (walk_on w rest) (left false None (word ∷ rest))) (sym (walks word mark is))
+              (rw mark (rec (Some word) e))
           plains (Some first) mark is rec e = cc
 
   pub found_word : (words : List Text) → words_refusal words ≡ None

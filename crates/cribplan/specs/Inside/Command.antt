@@ -1,7 +1,5 @@
 -- What the command-line parser found.
 use Rattle.std.specs.Prelude.{◌≡◌, List, [], ◌∷◌, Some, None, Result, true, codes, drop, MatchResult, ◌⊎◌}
-use Rattle.std.specs.List.{list_any}
-use Rattle.std.specs.Str.{bytes_eq}
 use Rattle.clap.specs.Values.{kind_of}
 use Rattle.clap.specs.Words.{Text, one_text}
 use Rattle.clap.specs.declared.error.Error.{Error}

@@ -4,7 +4,7 @@
 use super::*;
 use crib_cards::{Rank, Suit};
 
-/// How many hands have 0, 1, 2 .. 29 points. This table stands in books: four hands of 29, and none of 19, 25, 26 or 27.
+/// How many hands have 0, 1, 2 .. 29 points. Books have this table: four hands of 29, and none of 19, 25, 26 or 27.
 const HANDS: [u32; 30] = [
     1_009_008, 99_792, 2_813_796, 505_008, 2_855_676, 697_508, 1_800_268, 751_324, 1_137_236,
     361_224, 388_740, 51_680, 317_340, 19_656, 90_100, 9_168, 58_248, 11_196, 2_708, 0, 8_068,

@@ -1,6 +1,7 @@
 -- A worked plan that is sure, with two branches. TC TD 9C are played and make 29. The owner knows all twos, so the
 -- opponent shows an ace or says go: after an ace the owner's ace makes a pair and 31, after a go his two makes 31.
-use Rattle.std.proofs.Common.{arith, ◌≡◌, ◌⊎◌, ◌<◌, length, refl, sym, ap, ◌∙◌, subst, inl, inr, ℕ, Bool, true, false, eqb, not, ◌||◌, cond, filter, List, [], ◌∷◌, ◌++◌, replicate, Option, Some, None}
+use Rattle.std.proofs.Common.{arith, ◌≡◌, ◌⊎◌, ◌<◌, refl, sym, ap, ◌∙◌, subst, inl, inr, ℕ, Bool, true, false, eqb, not, ◌||◌, cond}
+use Rattle.std.proofs.Common.{List, [], ◌∷◌, ◌++◌, length, filter, replicate, Option, Some, None}
 use Rattle.std.specs.Prelude.{IsTrue, IsFalse, is_some, if◌then◌else◌}
 use Rattle.std.specs.List.{list_all, list_any}
 use Rattle.std.proofs.lemmas.Bool.{both_ways, cases_Bool, eqb-true, eq-eqb, and_parts, or_cases, or_left, or_right}
@@ -169,7 +170,9 @@ stated number card e = ap number_in e
     number_in None = 99
 
 abbrev AsPlanned : Move → List Move → Type 0
-AsPlanned turn past = IsFalse (is_some (next_played at_29.played Owner past)) → IsAsStated ace_or_two (place_of ace_or_two at_29.played Owner past) (mover Owner (letters_of past)) turn
+AsPlanned turn past =
+    IsFalse (is_some (next_played at_29.played Owner past)) →
+    IsAsStated ace_or_two (place_of ace_or_two at_29.played Owner past) (mover Owner (letters_of past)) turn
 
 further : (dealt : Dealt) (turn : Move) (past : List Move) → IsDealOf at_29 dealt → Course past →
     MayCome (start_of at_29) (hands_of at_29 dealt) turn past → Follows ace_or_two at_29.played Owner (turn ∷ past) →

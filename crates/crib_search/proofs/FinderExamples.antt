@@ -1,10 +1,9 @@
 -- Worked examples of the finder's steps and of the plan that it finds for two holes from 29: TC TD 9C are played, and
 -- the owner, who knows all twos, holds 2C and AC.
-use Rattle.std.proofs.Common.{arith, ◌≡◌, ◌⊎◌, refl, ap, inl, inr, ℕ, ◌<◌, ◌==◌, length, true, false, List, [], ◌∷◌, ◌++◌, Option, Some, None, replicate}
+use Rattle.std.proofs.Common.{arith, ◌≡◌, refl, inl, inr, ℕ, ◌<◌, ◌==◌, length, true, false, List, [], ◌∷◌, ◌++◌, Option, Some, None, replicate}
 use Rattle.std.specs.List.{AllZip}
 use Rattle.std.specs.Prelude.{if◌then◌else◌}
 use Rattle.crib_cards.specs.Sets.{set_where}
-use Rattle.crib_cards.specs.declared.letters.Letter.{Letter}
 use Rattle.crib_cards.specs.declared.letters.Letter.TheVariants.{Seen, Go}
 use Rattle.crib_cards.specs.declared.moves.Move.TheVariants as move
 use Rattle.crib_cards.specs.declared.sides.Side.TheVariants.{Opponent}
@@ -19,9 +18,9 @@ use Rattle.crib_plan.specs.declared.plan.Next.TheVariants.{End, To}
 use Rattle.crib_plan.specs.declared.plan.Node.{Node}
 use Rattle.crib_plan.specs.declared.plan.Node.TheVariants.{Play, See}
 use Rattle.crib_know.specs.Knowledge.{played_events}
-use Rattle.crib_know.specs.Hidden.{AgreesWith, CanShow}
+use Rattle.crib_know.specs.Hidden.{CanShow}
 use Rattle.crib_check.proofs.SureExamples.{at_29}
-use Rattle.crib_search.specs.Trees.{Tree, Finish, Plays, Sees, NoBranch, branches_of, joined, same_tree, same_branches, plan_of_tree}
+use Rattle.crib_search.specs.Trees.{Tree, Finish, Plays, Sees, branches_of, joined, same_tree, plan_of_tree}
 use Rattle.crib_search.specs.Finder.{Found, Tries, OwnerFinds, LacksBranch, BranchFinds, FindsFor, FindsTree, Finds, IsFound, IsReachedBehind}
 use Rattle.crib_search.specs.Finder.{ExceedsLimit, options, letters}
 use Rattle.crib_search.specs.declared.finder.Found.TheVariants as found

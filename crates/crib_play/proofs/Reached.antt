@@ -1,32 +1,28 @@
 -- The record of some visible turns, turn by turn.
-use Rattle.std.proofs.Common.{◌≡◌, ℕ, ◌+◌, ◌-◌, ◌≤◌, zero, suc, Bool, true, false, cond, not, ◌&&◌, eqb, ltb, List, [], ◌∷◌, ◌++◌, refl, sym, ap, subst, ◌∙◌}
-use Rattle.std.proofs.Common.{inl, inr, ⊎_elim, arith}
-use Rattle.std.proofs.lemmas.Bool.Decides.{nat_tests}
-use Rattle.std.proofs.lemmas.Bool.{cases_Bool, cond-true, cond-false, and_right, and_from, and_parts, both_ways, false≢true, true≢false, ltb-false, or_right}
-use Rattle.std.proofs.lemmas.Bool.{and_cases, eq-eqb}
+use Rattle.std.proofs.Common.{◌≡◌, ℕ, ◌+◌, ◌≤◌, Bool, true, false, cond, List, [], ◌∷◌, ◌++◌, refl, sym, ap, subst, ◌∙◌}
+use Rattle.std.proofs.Common.{inl, inr, arith}
+use Rattle.std.proofs.lemmas.Bool.{cases_Bool, false≢true}
 use Rattle.crib_cards.specs.Cards.{rank_value}
 use Rattle.crib_cards.specs.declared.sides.Side.{Side}
 use Rattle.crib_cards.specs.declared.sides.Side.TheVariants.{Owner, Opponent}
 use Rattle.crib_cards.specs.declared.letters.Letter.{Letter}
 use Rattle.crib_cards.specs.declared.letters.Letter.TheVariants.{Seen, Go}
-use Rattle.crib_cards.specs.Sides.{other_side, are_decided, scores_with}
+use Rattle.crib_cards.specs.Sides.{other_side}
 use Rattle.crib_cards.specs.Start.{Start, pone_of}
-use Rattle.crib_play.specs.declared.turns.Turn.{Turn}
 use Rattle.crib_play.specs.declared.turns.Turn.TheVariants as turns
-use Rattle.crib_play.specs.Record.{Record, is_begun, count_of, pile_of, closes, mover, is_heard}
+use Rattle.crib_play.specs.Record.{Record, count_of, pile_of, closes, mover, is_heard}
 use Rattle.crib_play.specs.Points.{card_points, points_in}
 use Rattle.crib_play.specs.Score.{side_asked, asked_after, is_done}
 use Rattle.crib_play.specs.Filled.{filled, with_silent_gos, points_added}
 use Rattle.crib_play.specs.Standing.{Standing, standing_after, MayFollow, AreTaken, IsStart, StandsFor, seat_of}
-use Rattle.crib_play.specs.Inside.Steps.{with_seat, with_go_said, closed, on_pile, laid, laid_points, settled, settled_points, played, played_points, passed}
+use Rattle.crib_play.specs.Inside.Steps.{with_seat, with_go_said, settled, settled_points, played, played_points, passed}
 use Rattle.crib_play.specs.Inside.Steps.{passed_points}
-use Rattle.crib_play.proofs.States.{State, state_after, closes_at, closes_by_go, step_card, go_open, go_closing, step_go, done, heard_of, is_silent, gos}
+use Rattle.crib_play.proofs.States.{State, state_after, closes_by_go, step_card, go_open, step_go, done, heard_of, gos}
 use Rattle.crib_play.proofs.States.{gos_points, face, asked_of, state_after-card, state_after-go, state_after-gos, points_in-gos, standing_after-state}
 use Rattle.crib_play.proofs.States.{heard_after, closes-go}
 use Rattle.crib_play.specs.Sound.{IsSound}
 use Rattle.crib_play.proofs.SoundLemmas.{sound_played, sound_passed, sound_heard}
-use Rattle.crib_play.proofs.Settling.{shown, IsSum, other_twice, heard_open_other, heard_open_mover, settled_closing, points_closing, lead_held}
-use Rattle.crib_play.proofs.Settling.{lead_points_held, Settles, settles_card, settles_go}
+use Rattle.crib_play.proofs.Settling.{shown}
 use Rattle.crib_play.proofs.Stands.{said_of, IsTurned, turned_card, turned_go, turned_gos, passed_face, begun_count}
 use Rattle.crib_play.proofs.Stands.{played_is, played_points_is, GoSettles, go_settles}
 

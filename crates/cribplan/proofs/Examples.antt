@@ -1,5 +1,5 @@
 -- Worked examples of what a run tells by its text and its status.
-use Rattle.std.proofs.Common.{arith, ◌≡◌, ◌⊎◌, refl, sym, ap, subst, inl, inr, ℕ, List, [], ◌∷◌, ◌++◌, Some, length, codes}
+use Rattle.std.proofs.Common.{arith, ◌≡◌, refl, sym, subst, inl, inr, ℕ, List, [], ◌++◌, Some, codes}
 use Rattle.std.specs.Fmt.{digits}
 use Rattle.crib_cards.specs.Sets.{set_where}
 use Rattle.crib_problem.specs.Setup.{Setup, IsSetup}
@@ -13,13 +13,12 @@ use Rattle.crib_game.specs.declared.ending.Ending.TheVariants as ending
 use Rattle.crib_game.specs.Spelling.{game_text, game_lines}
 use Rattle.crib_text.specs.Refusals.{no_memory}
 use Rattle.crib_check.specs.Sure.{Ends}
-use Rattle.crib_check.specs.Failing.{IsFirstFailing}
 use Rattle.crib_check.proofs.SureExamples.{at_29, ace_or_two, ace_or_two_is_sure, ace_or_two_goes_on}
 use Rattle.crib_search.specs.Winnable.{IsWinnable}
 use Rattle.cribplan.specs.declared.job.Job.TheVariants.{Replay, Check, Solve}
 use Rattle.cribplan.specs.declared.status.Status.TheVariants.{Yes, No, Refused, Fault}
 use Rattle.cribplan.specs.Answer.{fault_line, too_large}
-use Rattle.cribplan.specs.Telling.{SpellsProblem, SpellsPlan, HasSurePlan, HasFailingPlan, IsSolvedBy, HasNoPlan, HasSomePlan}
+use Rattle.cribplan.specs.Telling.{SpellsProblem, SpellsPlan, HasFailingPlan, IsSolvedBy, HasNoPlan}
 use Rattle.cribplan.specs.Telling.{CheckTells, SolveTells, StatusTells, holds_line, fails_line, none_line}
 use Rattle.cribplan.specs.Run.{RunTells}
 

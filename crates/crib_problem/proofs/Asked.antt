@@ -1,4 +1,4 @@
--- An owner who is asked after allowed acts holds a card.
+-- Proves that an owner who is asked after allowed acts holds a card.
 use Rattle.std.proofs.Common.{◌≡◌, ℕ, zero, suc, ◌+◌, ◌≤◌, Bool, true, false, cond, not, ◌&&◌, ◌||◌, eqb, leb, ltb, List, [], ◌∷◌, length, Option, Some, None}
 use Rattle.std.proofs.Common.{refl, sym, ap, ◌∙◌, inl, inr, arith}
 use Rattle.std.specs.List.{list_any}
@@ -41,7 +41,7 @@ use Rattle.crib_problem.specs.Setup.{Setup, IsSetup, board_of}
 use Rattle.crib_problem.specs.Inside.Tables.{Keeps}
 use Rattle.crib_problem.proofs.Starts.{started, hold_known, hold_is_card, hold_four}
 
--- ---- what is not refused
+-- ---- what follows where an act is not refused
 pub none_of_two : (a b : Bool) (x y : ℕ) (rest : Option ℕ) → cond a (Some x) (cond b (Some y) rest) ≡ None → (a ≡ false) × (b ≡ false) × (rest ≡ None)
 none_of_two true b x y rest e = absurd cc
 none_of_two false true x y rest e = absurd cc
@@ -55,7 +55,7 @@ pub none_of_either : (first second : Option ℕ) → option_or first second ≡ 
 none_of_either None second e = (refl, e)
 none_of_either (Some number) second e = absurd cc
 
--- the parts of an act that may be the next one
+-- an act that may be the next one: the parts of this
 pub record MayTurn (seen : List ℕ) (asked : Turn) (count : ℕ) (own : List ℕ) (least : ℕ) (act : Act) : Type 0 where
   pub unseen : shows_seen seen act.side act.what ≡ false
   pub turn : asks asked act.side ≡ true
@@ -75,7 +75,7 @@ asked_open turns.Opponent Owner e = absurd cc
 asked_open turns.Opponent Opponent e = refl
 asked_open turns.Over side e = absurd cc
 
--- ---- the cards that the owner has played
+-- ---- the owner's cards: those that he has played, and those left
 played_gos : (n : ℕ) (start : Start) (past : Record) → plays.cards_played (pone_of start) Owner (with_silent_gos n start past) ≡ plays.cards_played
     (pone_of start) Owner past
 played_gos zero start past = refl
@@ -94,7 +94,7 @@ played_seen start past rank side m =
     let n = plays.cards_played (pone_of start) Owner past in
     played_gos 3 start (Seen rank ∷ past) ∙ played_card (pone_of start) Owner past rank ∙ ap (λ (s : Side). cond (same_side s Owner) (n + 1) n) m
 
--- one card less is left
+-- after a card of his hold is played, it alone is missing from his cards left
 pub own_less : (hold played : List ℕ) (card : ℕ) → set_without (set_where (λ c. has hold c && not (has played c))) card ≡ set_where
     (λ c. has hold c && not (has (card ∷ played) c))
 own_less hold played card =
@@ -110,7 +110,7 @@ own_less hold played card =
     regroup true false false = refl
     regroup false b c = refl
 
--- a card that is none of his leaves him the same cards
+-- a card that is not in his hold leaves his cards as they were
 own_same : (hold played : List ℕ) (card : ℕ) → has hold card ≡ false → set_where (λ c. has hold c && not (has (card ∷ played) c)) ≡ set_where
     (λ c. has hold c && not (has played c))
 own_same hold played card out =
@@ -121,7 +121,7 @@ own_same hold played card out =
     ])
 
 module _ (board : Board) (before : List Act) (keeps : Keeps board before) where
-  -- a card that was not seen is none of the owner's
+  -- a card that the owner has not seen is not in his hold
   not_his : (card : ℕ) → has (seen_by board before) card ≡ false → has board.hold card ≡ false
   not_his card e =
       elim (cases_Bool (has board.hold card)) [
@@ -170,7 +170,7 @@ module _ (board : Board) (before : List Act) (keeps : Keeps board before) where
       (least_by board before) act → Keeps board (act ∷ before)
   keeps_act act may = keeps_move act.side act.what (asked_open (asked_by board before) act.side may.turn) may.unseen may.may
 
-  -- the owner who is asked holds a card
+  -- an owner who is asked holds a card
   pub asked_holds : IsStart board.start → AreTaken board.start (letters_of (moves_of before)) → asked_by board before ≡ turns.Owner →
       1 ≤ length (own_left_by board before)
   asked_holds is taken asked =
@@ -184,7 +184,7 @@ module _ (board : Board) (before : List Act) (keeps : Keeps board before) where
       let four = keeps.four in
       omega (arith, fewer, four)
 
--- ---- what a turn tells of the opponent's cards
+-- ---- what a turn shows of the opponent's cards
 module _ (board : Board) (before : List Act) where
   pub least_by_card : (side : Side) (card : ℕ) → least_by board (record { side = side; what = move.Card card } ∷ before) ≡ least_by board before
   least_by_card side card = least_card board.start Opponent (letters_of (moves_of before)) (rank_of card)
@@ -206,7 +206,7 @@ low_fits count own some none =
     high : (n rank : ℕ) → leb (n + rank_value rank) 31 ≡ false → 22 ≤ n
     high n rank e = omega (arith, leb-false (n + rank_value rank) 31 e)
 
--- a move may be shown at a count
+-- a card that fits at this count, or a go at a count of 22 or more
 abbrev pub Shows : ℕ → Move → Type 0
 Shows count (move.Card card) = count + card_value card ≤ 31
 Shows count move.Go = 22 ≤ count
@@ -229,7 +229,7 @@ shows_letter : (past : Record) (what : Move) → Shows (count_of (pile_of past))
 shows_letter past (move.Card card) e = e
 shows_letter past move.Go e = e
 
--- ---- allowed acts were taken one by one
+-- ---- allowed acts, as turns that were taken one by one
 pub record WereTaken (board : Board) (acts : List Act) : Type 0 where
   pub taken : AreTaken board.start (letters_of (moves_of acts))
   pub keeps : Keeps board acts
@@ -258,7 +258,7 @@ were_taken board is keeps (act ∷ before) allowed =
       keeps = keeps_act board before so_far.keeps act may;
     }
 
--- ---- a problem's board
+-- ---- the board of a problem
 module _ (problem : Setup) (setup : IsSetup problem) where
   pub keeps_first : Keeps (board_of problem) []
   keeps_first =

@@ -1,4 +1,4 @@
--- The beginning of a problem is refused as cut short.
+-- Proves that each proper beginning of a problem is refused as cut short.
 use Rattle.std.proofs.Common.{ℕ, zero, suc, ◌+◌, List, [], ◌∷◌, length, map, codes, sym, ap, ◌∙◌}
 use Rattle.std.proofs.lemmas.List.{append-nil}
 use Rattle.crib_cards.specs.declared.moves.Act.{Act}

@@ -1,4 +1,4 @@
--- Each line of a problem that is read is spelled so.
+-- Proves that each line that is read as part of a problem is the spelling of that part.
 use Rattle.std.proofs.Common.{◌≡◌, ℕ, ◌-◌, ◌≤◌, Bool, true, false, not, eqb, cond, ◌&&◌, ◌||◌, List, [], ◌∷◌, ◌++◌, length, map, Ok, Err, codes}
 use Rattle.std.proofs.Common.{decimal, refl, sym, ap, subst, ◌∙◌, arith, inl, inr}
 use Rattle.std.specs.Prelude.{nat_le, bytes_eq}
@@ -111,7 +111,7 @@ card_found known word card e =
     let read = card_read_is word a.0 (card_in_is word a.0 a.1) in
     subst (λ (c : ℕ). (word ≡ card_text c) × IsCard c × (has known c ≡ false)) is (read.0, read.1, not-true _ (unless_ok _ same_card b.0 b.1))
 
--- cards that are not among these, and not twice
+-- cards that are not among the known ones, and no two of them alike
 pub record AreNew (known cards : List ℕ) : Type 0 where
   pub all_cards : AllByRecursion IsCard cards
   pub distinct : are_distinct cards ≡ true
@@ -263,7 +263,7 @@ goal_found version score words goal e =
           ((after_found (codes "goal") 2 words a.0 a.1).0 ∙ ap (λ (w : List (List ℕ)). codes "goal" ∷ w) t.0, t.1, t.2)
     ]
 
--- all the cards
+-- two lists of different cards, put together
 has_or : (a b : Bool) → (a || b) ≡ true → b ≡ false → a ≡ true
 has_or true b e f = refl
 has_or false b e f = absurd cc

@@ -1,4 +1,4 @@
--- The visible turns of a legal record that is not done are allowed.
+-- Proves that the visible turns of a legal record are allowed, where the deal is not done after it.
 use Rattle.std.proofs.Common.{◌≡◌, ℕ, ◌+◌, ◌≤◌, Bool, true, false, cond, not, ◌&&◌, ◌||◌, eqb, leb, ltb, List, [], ◌∷◌, ◌++◌, reverse, Option}
 use Rattle.std.proofs.Common.{Some, None, refl, sym, ap, subst, ◌∙◌, inl, inr, arith}
 use Rattle.std.specs.List.{list_any}
@@ -42,7 +42,7 @@ use Rattle.crib_problem.specs.Setup.{Setup, IsSetup, IsMove, CanSay, known_cards
 use Rattle.crib_problem.proofs.TurnLemmas.{AllMoves}
 use Rattle.crib_problem.proofs.Starts.{started, hold_is_card, theirs_unseen, hands_dealt}
 
--- ---- the cards of the acts of a record are its cards
+-- ---- the acts of a record play the cards of the record
 has_acts : (pone : Side) (past : List Move) (card : ℕ) → has (cards_played (acts_of pone past)) card ≡ has (cards_of past) card
 has_acts pone [] card = refl
 has_acts pone (move.Card first ∷ past) card =
@@ -70,7 +70,7 @@ moves_back : (acts : List Act) → AllMoves acts → AllMoves (reverse acts)
 moves_back [] all = tt
 moves_back (act ∷ acts) all = subst AllMoves (sym (reverse-append (act ∷ []) acts)) (moves_append (reverse acts) (act ∷ []) (moves_back acts all.1) (all.0, tt))
 
--- ---- an act that is not refused
+-- ---- an act that no refusal meets
 not_refused : (seen : List ℕ) (asked : Turn) (count : ℕ) (own : List ℕ) (least : ℕ) (side : Side) (what : Move) → shows_seen seen side what ≡ false →
     asked ≡ side_asked side → move_refusal count own least side what ≡ None →
     turn_refusal seen asked count own least (record { side = side; what = what }) ≡ None
@@ -114,7 +114,7 @@ module _ (problem : Setup) (setup : IsSetup problem) (dealt : Dealt) (deal : IsD
     abbrev acts : List Act
     acts = acts_of pone past
 
-    -- the owner's cards that are left
+    -- the owner's cards left, by the acts and by the record
     own_has : (card : ℕ) → IsCard card → has (own_left_by board acts) card ≡ has (cards_left hands Owner past) card
     own_has card is =
         has-set_where (λ c. has problem.hold c && not (has (cards_played acts) c)) card is
@@ -132,7 +132,7 @@ module _ (problem : Setup) (setup : IsSetup problem) (dealt : Dealt) (deal : IsD
         let is = (in_set_where (λ c. has problem.hold c && not (has (cards_played acts) c)) card h).0 in
         sym (own_has card is) ∙ h
 
-    -- a card that is left to the opponent was not seen
+    -- a card left to the opponent was not seen
     theirs_hidden : (card : ℕ) → has (cards_left hands Opponent past) card ≡ true → has (seen_by board acts) card ≡ false
     theirs_hidden card h =
         let parts = and_parts (has dealt.hold card) (not (has (cards_of past) card)) (sym (has-filter (λ c. not (has (cards_of past) c)) dealt.hold card)
@@ -143,7 +143,7 @@ module _ (problem : Setup) (setup : IsSetup problem) (dealt : Dealt) (deal : IsD
         ∙ has_acts pone past card
         ∙ not-true (has (cards_of past) card) parts.1
 
-    -- the record that the acts stand for is the record
+    -- the record is the filled record of its acts
     module _ (same : filled_moves start (visible_moves pone past) ≡ past) where
       record_same : record_by board acts ≡ letters_of past
       record_same = sym (letters_filled start (visible_moves pone past)) ∙ ap letters_of same
@@ -214,7 +214,7 @@ module _ (problem : Setup) (setup : IsSetup problem) (dealt : Dealt) (deal : IsD
         parts.0 (asked_mover may.not_done) parts.1)
         ∙ cond-false (is_over_by board (act ∷ before)) (Some already_over) None over
 
-  -- ---- all of them
+  -- ---- all visible turns of a record
   pub honest : (played : List Move) → IsLegal start hands played → is_over_by board (acts_of pone played) ≡ false → AreAllowed board (acts_of pone played)
   honest [] legal going = tt
   honest (turn ∷ past) legal going =
@@ -227,8 +227,8 @@ module _ (problem : Setup) (setup : IsSetup problem) (dealt : Dealt) (deal : IsD
         | inr v ↦ subst A (sym (acts_silent pone turn past v)) (honest past legal.0 (ap (is_over_by board) (sym (acts_silent pone turn past v)) ∙ going))
       ]
 
-  -- ---- a problem that begins after them
-  -- their cards are cards of the hands
+  -- ---- a problem with these acts as its opening
+  -- a card that is played is a card of the two holds
   move_is : (side : Side) (turn : Move) (past : List Move) → MayTake hands side turn past → IsMove turn
   move_is Owner (move.Card card) past take =
       hold_is_card problem setup card (and_parts (has problem.hold card) (not (has (cards_of past) card))

@@ -1,4 +1,4 @@
--- How many bytes the text of a problem takes at most.
+-- A bound on the bytes of the text of a problem.
 use Rattle.std.proofs.Common.{◌≡◌, ℕ, ◌+◌, ◌*◌, ◌≤◌, List, [], ◌∷◌, ◌++◌, length, map, codes, decimal, refl, arith}
 use Rattle.std.proofs.lemmas.List.{length-append}
 use Rattle.crib_cards.specs.CardText.{card_text}
@@ -31,7 +31,7 @@ line_of_three first second third = omega (
   length-append second (codes " " ++ third),
 )
 
--- a word and some cards
+-- the length of a line with a word and some cards
 cards_line : (word : List ℕ) (cards : List ℕ) → length (line_text (word ∷ map card_text cards)) ≡ length word + 3 * length cards + 1
 cards_line word [] = omega (arith, length-append word (codes "\n"))
 cards_line word (card ∷ cards) = omega (
@@ -83,7 +83,7 @@ played_short Two acts few =
       acts_short acts,
     )
 
--- seven lines of at most 17 bytes, and at most 32 turns after a line of their number
+-- the bound: seven lines of at most 17 bytes, the line `played N`, and at most 32 lines of acts
 pub problem_text-le : (problem : Setup) → IsSetup problem → length (problem_text problem) ≤ 354
 unfolding problem_text problem_lines
 problem_text-le problem is =

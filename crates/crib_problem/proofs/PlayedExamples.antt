@@ -1,4 +1,5 @@
--- Worked examples of the turns that may be played already, against the rules: tens and small clubs lead, both at 0.
+-- Worked examples of openings, held against the rules: tens and small clubs lead. Both scores are 0 unless an example says otherwise. A card is a number below
+-- 52: 36 is TC, 37 is TD, 32 is 9C.
 use Rattle.std.specs.Prelude.{◌≡◌, refl, [], ◌∷◌, ℕ, List, Option, Some, None, reverse}
 use Rattle.crib_cards.specs.Sets.{set_where}
 use Rattle.crib_cards.specs.declared.sides.Side.TheVariants.{Owner, Opponent}
@@ -6,7 +7,7 @@ use Rattle.crib_cards.specs.declared.moves.Act.{Act}
 use Rattle.crib_cards.specs.declared.moves.Move.TheVariants.{Card, Go}
 use Rattle.crib_problem.specs.Played.{AreAllowed, Board, act_refusal, least_by}
 
--- TC 9C 2C 8C held, 3H turned up, 4S 6S thrown; the opponent deals, at a score, and the owner is to win
+-- the owner holds TC 9C 2C 8C and threw 4S 6S; the starter is 3H, the opponent deals and is at the given score, and the goal is to win
 abbrev board_at : ℕ → Board
 board_at score = record {
   start = record { dealer = Opponent; scores = record { owner = 0; opponent = score }; target = 121 };
@@ -26,19 +27,19 @@ own_go = record { side = Owner; what = Go }
 abbrev their_go : Act
 their_go = record { side = Opponent; what = Go }
 
--- why an act may not come after some acts, the first one first
+-- the refusal of an act after some acts, if there is one; here the acts have the first one first
 abbrev refusal : ℕ → List Act → Act → Option ℕ
 refusal score acts act = act_refusal (board_at score) (reverse acts) act
 
--- TC TD 9C make 29
+-- TC TD 9C make the count 29
 abbrev at_29 : List Act
 at_29 = own 36 ∷ theirs 37 ∷ own 32 ∷ []
 
--- a go at 29 tells that each card of the opponent counts 3 or more
+-- after a go at 29, each card left to the opponent counts 3 or more
 pub least_3 : least_by (board_at 0) (reverse (own 36 ∷ theirs 37 ∷ own 32 ∷ their_go ∷ [])) ≡ 3
 least_3 = refl
 
--- the owner may not say go while 2C fits, which makes 31
+-- the owner may not say go while his 2C fits; it makes 31
 pub must_play_at_29 : refusal 0 (own 36 ∷ theirs 37 ∷ own 32 ∷ their_go ∷ []) own_go ≡ Some 43
 unfolding set_where
 must_play_at_29 = refl
@@ -47,7 +48,7 @@ pub plays_at_29 : refusal 0 (own 36 ∷ theirs 37 ∷ own 32 ∷ their_go ∷ []
 unfolding set_where
 plays_at_29 = refl
 
--- then the opponent leads: no deal lets him show 2D, and 3C may be his
+-- after that 31 the opponent leads: no hidden deal lets him show 2D after his go at 29, and 3C may be his
 pub no_two : refusal 0 (own 36 ∷ theirs 37 ∷ own 32 ∷ their_go ∷ own 4 ∷ []) (theirs 5) ≡ Some 23
 unfolding set_where
 no_two = refl
@@ -56,7 +57,7 @@ pub a_three : refusal 0 (own 36 ∷ theirs 37 ∷ own 32 ∷ their_go ∷ own 4 
 unfolding set_where
 a_three = refl
 
--- at 30, after AD, neither 2C nor 8C fits, so the owner says go; at 29 it was not his turn
+-- at 30, after AD, neither 2C nor 8C fits, so the owner may say go; at 29 it is not his turn
 pub go_at_30 : refusal 0 (own 36 ∷ theirs 37 ∷ own 32 ∷ theirs 1 ∷ []) own_go ≡ None
 unfolding set_where
 go_at_30 = refl
@@ -65,7 +66,7 @@ pub not_asked_at_29 : refusal 0 at_29 own_go ≡ Some 44
 unfolding set_where
 not_asked_at_29 = refl
 
--- whose turn it is comes before what he holds: the opponent's TD at the first lead, and the owner's KD after TC
+-- the other side's turn (44) comes before a card that is not held (41): the opponent's TD at the first lead, and the owner's KD after TC
 pub turn_first : refusal 0 [] (theirs 37) ≡ Some 44
 unfolding set_where
 turn_first = refl
@@ -74,12 +75,12 @@ pub turn_before_hand : refusal 0 (own 36 ∷ []) (own 49) ≡ Some 44
 unfolding set_where
 turn_before_hand = refl
 
--- a card that was seen comes before whose turn it is
+-- a card that was seen (20) comes before the other side's turn (44)
 pub seen_first : refusal 0 [] (theirs 36) ≡ Some 20
 unfolding set_where
 seen_first = refl
 
--- the opponent, at 118, pegs 2 for the pair of tens, and the close after two gos at 30 brings him hole 121
+-- the opponent is at 118: he pegs 2 for the pair of tens, and the close after two gos at 30 takes him to hole 121
 pub over_by_go : refusal 118 (own 36 ∷ theirs 37 ∷ own 32 ∷ theirs 1 ∷ own_go ∷ []) their_go ≡ Some 24
 unfolding set_where
 over_by_go = refl
@@ -88,7 +89,7 @@ pub not_over_by_go : refusal 117 (own 36 ∷ theirs 37 ∷ own 32 ∷ theirs 1 �
 unfolding set_where
 not_over_by_go = refl
 
--- a card that lies on the table is neither held any more nor hidden
+-- a card that was played is not held any more, and it cannot be the opponent's
 pub own_card_again : refusal 0 (own 36 ∷ theirs 37 ∷ []) (own 36) ≡ Some 41
 unfolding set_where
 own_card_again = refl
@@ -97,7 +98,7 @@ pub their_card_again : refusal 0 (own 36 ∷ theirs 37 ∷ own 4 ∷ []) (theirs
 unfolding set_where
 their_card_again = refl
 
--- what is thrown is not held, and neither it nor the starter can be the opponent's
+-- the cards thrown are not held, and neither they nor the starter can be the opponent's
 pub thrown_is_not_held : refusal 0 [] (own 15) ≡ Some 41
 unfolding set_where
 thrown_is_not_held = refl
@@ -110,7 +111,7 @@ pub starter_is_not_theirs : refusal 0 (own 36 ∷ []) (theirs 10) ≡ Some 20
 unfolding set_where
 starter_is_not_theirs = refl
 
--- at 29 a king doesn't fit, nor at 30 an eight
+-- a king does not fit at 29, and an eight does not fit at 30
 pub king_at_29 : refusal 0 at_29 (theirs 49) ≡ Some 42
 unfolding set_where
 king_at_29 = refl
@@ -119,7 +120,7 @@ pub eight_at_30 : refusal 0 (own 36 ∷ theirs 37 ∷ own 32 ∷ theirs 1 ∷ []
 unfolding set_where
 eight_at_30 = refl
 
--- at 21, after 9C 2D TC, each card fits, so no deal lets the opponent say go; at 22, after TC JD 2C, tens do not fit
+-- at 21, after 9C 2D TC, each card fits, so no hidden deal lets the opponent say go; at 22, after TC JD 2C, no ten fits, so he may
 pub no_go_at_21 : refusal 0 (own 32 ∷ theirs 5 ∷ own 36 ∷ []) their_go ≡ Some 23
 unfolding set_where
 no_go_at_21 = refl
@@ -128,17 +129,17 @@ pub go_at_22 : refusal 0 (own 36 ∷ theirs 41 ∷ own 4 ∷ []) their_go ≡ No
 unfolding set_where
 go_at_22 = refl
 
--- once the deal is done nobody is asked
+-- once the deal is done it is nobody's turn
 pub after_the_end : refusal 118 (own 36 ∷ theirs 37 ∷ own 32 ∷ theirs 1 ∷ own_go ∷ their_go ∷ []) (own 28) ≡ Some 44
 unfolding set_where
 after_the_end = refl
 
--- TC TD 9C, a go, 2C for 31; KD 8C KH make 28: the owner holds no card, so his go is silent and the opponent's is heard
+-- TC TD 9C, a go, 2C for 31; KD 8C KH make 28: the owner holds no card, so his go is silent, and the opponent says his
 pub go_after_a_silent_go : refusal 0 (own 36 ∷ theirs 37 ∷ own 32 ∷ their_go ∷ own 4 ∷ theirs 49 ∷ own 28 ∷ theirs 50 ∷ []) their_go ≡ None
 unfolding set_where
 go_after_a_silent_go = refl
 
--- 3C 9D 3D count 15 for the owner; the opponent, at 119, has no pair
+-- 3C 9D 3D make 15 for the owner; the opponent is at 119, and this is no pair for him
 abbrev threes : Board
 threes = record {
   start = record { dealer = Opponent; scores = record { owner = 0; opponent = 119 }; target = 121 };

@@ -1,4 +1,4 @@
--- Worked examples of problems: goals, what is refused, deals, and games that begin with the turns that are played already.
+-- Worked examples of problems: goals, conditions, hidden deals, and games that begin with the opening.
 use Rattle.std.proofs.Common.{arith, ◌≡◌, refl, ap, true, false, [], ◌∷◌, ◌++◌, List, ℕ, length, codes}
 use Rattle.std.specs.Fmt.{digits}
 use Rattle.std.specs.List.{AllByRecursion}
@@ -23,7 +23,7 @@ own card = record { side = Owner; what = Card card }
 abbrev theirs : ℕ → Act
 theirs card = record { side = Opponent; what = Card card }
 
--- four twos of a dealer, at 61 to 70, and twelve holes more
+-- the owner deals and holds four twos, the scores are 61 to 70, and the goal is twelve holes
 abbrev midway : Setup
 midway = record {
   version = Two;
@@ -64,7 +64,7 @@ reached_in_the_play = refl
 pub not_yet_reached : is_done (start_of (record midway { goal = Holes 3 })) (Seen 8 ∷ Seen 7 ∷ []) ≡ false
 not_yet_reached = refl
 
--- ---- what a problem keeps
+-- ---- the conditions of a problem
 seven_cards : AllByRecursion IsCard (known_cards midway)
 seven_cards = (omega arith, (omega arith, (omega arith, (omega arith, (omega arith, (omega arith, (omega arith, tt)))))))
 
@@ -113,7 +113,7 @@ one_thrown is = let two = is.two_thrown in absurd (omega (arith, two))
 pub thrown_card_is_held : IsSetup (record midway { thrown = 12 ∷ 7 ∷ [] }) → ⊥
 thrown_card_is_held is = absurd (both_ways false refl is.distinct)
 
--- the first version has neither the goal to stop nor turns
+-- version 1 has neither the goal `stop` nor an opening
 pub no_stop_in_version_1 : CanSay One Stop [] → ⊥
 no_stop_in_version_1 can = absurd (both_ways true can.0 refl)
 
@@ -123,7 +123,7 @@ no_turn_in_version_1 can = (let none = can.1 in cc)
 pub no_such_card : IsMove (Card 52) → ⊥
 no_such_card is = absurd (omega (arith, is))
 
--- ---- deals after own 2C and opp AC
+-- ---- hidden deals after own 2C and opp AC
 abbrev after_two : Setup
 after_two = record midway { dealer = Opponent; played = own 4 ∷ theirs 0 ∷ [] }
 
@@ -155,7 +155,7 @@ three_are_no_throw is = let two = is.deal.thrown in absurd (omega (arith, two))
 pub goes_on_with_2D : BeginsAsPlayed after_two (theirs 1 ∷ own 5 ∷ theirs 0 ∷ own 4 ∷ [])
 goes_on_with_2D = record { later = theirs 1 ∷ own 5 ∷ []; parts = refl }
 
--- own 2D and opp AC are two other turns
+-- own 2D and opp AC are not that opening
 pub begins_with_2D : BeginsAsPlayed after_two (theirs 0 ∷ own 5 ∷ []) → ⊥
 begins_with_2D is = no is.later is.parts
   where

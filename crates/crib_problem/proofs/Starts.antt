@@ -1,4 +1,4 @@
--- What a problem and its deals are to the play.
+-- What a problem and its hidden deals give the play: a start, and two holds dealt from the pack.
 use Rattle.std.proofs.Common.{◌≡◌, ℕ, ◌+◌, ◌<◌, ◌≤◌, Bool, true, false, not, eqb, List, [], ◌∷◌, ◌++◌, length, refl, sym, ap, subst, ◌∙◌, inl, inr, arith}
 use Rattle.std.specs.List.{AllByRecursion, list_all}
 use Rattle.std.proofs.lemmas.Bool.{cases_Bool, and_parts, and_from, or_cases, or_left, or_right, or_from, both_ways, not-true, eqb-true, eq-eqb}
@@ -42,7 +42,7 @@ distinct_append (x ∷ xs) ys dx dy apart =
     (ap not (has-append xs ys x ∙ or_from (has xs x) (has ys x) (not-true (has xs x) parts.0) (apart x (or_left (eqb x x) (has xs x) (eq-eqb x x refl)))))
     (distinct_append xs ys parts.1 dy (λ card h. apart card (or_right (eqb x card) (has xs card) h)))
 
--- a set of different cards is as long as their list
+-- the set of different cards has as many cards as their list
 pub length-set_of : (cards : List ℕ) → AllByRecursion IsCard cards → are_distinct cards ≡ true → length (set_of cards) ≡ length cards
 unfolding set_where
 length-set_of [] all distinct = refl
@@ -65,7 +65,7 @@ module _ (problem : Setup) (setup : IsSetup problem) where
       let theirs = setup.opponent_score in
       record { below_target = bounds.0; target_in_game = bounds.1; opponent_in_game = omega (arith, theirs) }
 
-  -- ---- the owner's hand
+  -- ---- the owner's hold
   pub hold_known : (card : ℕ) → has problem.hold card ≡ true → has (known_cards problem) card ≡ true
   hold_known card mine =
       or_right (eqb problem.starter card) (has (problem.hold ++ problem.thrown) card) (has-append problem.hold problem.thrown card
@@ -86,7 +86,7 @@ module _ (problem : Setup) (setup : IsSetup problem) where
       first_all [] ys all = tt
       first_all (x ∷ xs) ys all = (all.0, first_all xs ys all.1)
 
-  -- ---- the hands of a deal
+  -- ---- the holds of a hidden deal
   module _ (dealt : Dealt) (deal : IsDeal (unseen_of problem) dealt) where
     pub theirs_unseen : (card : ℕ) → has dealt.hold card ≡ true → IsCard card × (has (known_cards problem) card ≡ false)
     theirs_unseen card theirs =

@@ -1,4 +1,4 @@
--- The laws of the turns that may be played already, as `specs/Laws` states them.
+-- Proves the laws of openings, as `specs/Laws` states them.
 use Rattle.std.proofs.Common.{◌≡◌, false, List, reverse, sym, ap, subst, ◌∙◌, inl, inr, arith}
 use Rattle.std.specs.List.{list_any}
 use Rattle.std.proofs.lemmas.Bool.{cases_Bool}
@@ -30,7 +30,7 @@ low_fits_proved problem acts setup allowed asked low =
       | inr none ↦ let high = low_fits count own (holds_asked problem setup acts allowed asked) none in absurd (omega (arith, low, high))
     ]
 
--- the deal is not done after the visible turns of a record that is not done
+-- the deal is not done after the visible turns of such a record
 still_going : (problem : Setup) (dealt : Dealt) (acts : List Act) (setup : IsSetup problem) (is : IsHonest problem dealt acts) →
     is_over_by (board_of problem) (acts_of (pone_of (start_of problem)) is.played) ≡ false
 still_going problem dealt acts setup is =

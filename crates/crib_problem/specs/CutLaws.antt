@@ -8,7 +8,7 @@ use Rattle.crib_problem.specs.Setup.{Setup, IsSetup}
 use Rattle.crib_problem.specs.Spelling.{problem_lines, problem_text}
 use Rattle.crib_problem.specs.Reading.{problem_at}
 
--- the first lines of a problem, but not all of them, are refused as cut short at the line that is missing
+-- the first lines of a problem, but not all of them, are refused as cut short, at the line that is missing
 abbrev pub LinesCutLaw : Type 0
 LinesCutLaw =
     (problem : Setup) (number : ℕ) (front : List (List ℕ)) (next : List ℕ) (back : List (List ℕ)) → IsSetup problem →

@@ -1,8 +1,8 @@
--- A set of cards beside the list of them that a reader has seen.
+-- A set of cards, compared with a list of cards.
 use Rattle.std.specs.Prelude.{◌≡◌, ℕ, List}
 use Rattle.crib_cards.specs.Cards.{IsCard}
 use Rattle.crib_cards.specs.Sets.{has}
 
--- a set of cards has the cards of a list
+-- a set has the same cards of the pack as a list
 pub record IsSetOf (set listed : List ℕ) : Type 0 where
   pub same : (card : ℕ) → IsCard card → has set card ≡ has listed card

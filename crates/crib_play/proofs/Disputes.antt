@@ -1,5 +1,5 @@
--- What people dispute about the play, each worked by computation. The crib flush and who counts first stand beside the
--- show (crib_show), a plan that runs out beside the games that follow one (crib_game).
+-- Worked examples of what people dispute about the play. Other disputes stand elsewhere: the crib flush and who counts first in `crib_show`, and a plan that
+-- runs out in `crib_game`.
 use Rattle.std.specs.Prelude.{◌≡◌, refl, List, [], ◌∷◌, true, reverse}
 use Rattle.std.specs.List.{list_any}
 use Rattle.crib_cards.specs.declared.sides.Side.TheVariants.{Owner, Opponent}
@@ -15,21 +15,21 @@ use Rattle.crib_play.specs.Fitting.{fits_at}
 use Rattle.crib_play.specs.Legal.{MayTake, fits, cards_left}
 use Rattle.crib_play.specs.Least.{least_of}
 
--- the opponent deals, so the owner leads; both are at 0
+-- the opponent deals, so the owner leads; both scores are 0
 abbrev level_start : Start
 level_start = record { dealer = Opponent; scores = record { owner = 0; opponent = 0 }; target = 121 }
 
 -- ---- the last card and 31
 
--- K 8 K: the go at 28 after which nobody is heard brings 1 for the last card, with the silent go that closes
+-- K 8 K: after the go at 28 nobody is heard. It brings 1 for the last card, by the silent go that closes the count
 last_card_at_28 : points_added level_start Go (reverse (Seen 13 ∷ Seen 8 ∷ Seen 13 ∷ Go ∷ [])) ≡ 1
 last_card_at_28 = refl
 
--- K 8 K and a three: 2 for 31, and no 1 beside it
+-- K 8 K 3: 2 for 31, and no 1 beside it
 three_makes_31 : points_added level_start (Seen 3) (reverse (Seen 13 ∷ Seen 8 ∷ Seen 13 ∷ [])) ≡ 2
 three_makes_31 = refl
 
--- 31 closes by itself: the next player is asked over an empty pile
+-- 31 closes the count by itself: the next player is asked over an empty pile
 asked_after_31 : asked_seen level_start (reverse (Seen 13 ∷ Seen 8 ∷ Seen 13 ∷ Seen 3 ∷ [])) ≡ turns.Owner
 asked_after_31 = refl
 
@@ -38,14 +38,13 @@ count_after_31 = refl
 
 -- ---- gos said twice
 
--- T 9 8 A, the owner says go at 28, and the opponent plays two more aces. The owner does not say go a second time: his
--- further gos are silent. After the second ace the opponent's four cards are played, so his own go is silent too; it
--- closes, and brings him 1.
+-- T 9 8 A, the owner says go at 28, and the opponent plays two more aces. The owner does not say go a second time: his further gos are silent. After the second
+-- ace the opponent has played his four cards, so his own go is silent too. It closes the count and brings him 1.
 one_go_is_said : filled level_start (reverse (Seen 10 ∷ Seen 9 ∷ Seen 8 ∷ Seen 1 ∷ Go ∷ Seen 1 ∷ Seen 1 ∷ []))
     ≡ reverse (Seen 10 ∷ Seen 9 ∷ Seen 8 ∷ Seen 1 ∷ Go ∷ Seen 1 ∷ Go ∷ Seen 1 ∷ Go ∷ Go ∷ [])
 one_go_is_said = refl
 
--- 2 for the pair of aces, and then 6 for three of them and 1 for the last card
+-- 2 for the pair of aces, and then 6 for three aces and 1 for the last card
 pair_after_the_go : points_added level_start (Seen 1) (reverse (Seen 10 ∷ Seen 9 ∷ Seen 8 ∷ Seen 1 ∷ Go ∷ [])) ≡ 2
 pair_after_the_go = refl
 
@@ -54,7 +53,7 @@ third_ace = refl
 
 -- ---- a run across a close
 
--- K Q T A makes 31. A two and a three after it are no run with the ace: the pile began anew
+-- K Q T A makes 31. The two and the three that come next make no run with the ace, since the pile is a new one
 pile_after_a_close : pile_of (filled level_start (reverse (Seen 13 ∷ Seen 12 ∷ Seen 10 ∷ Seen 1 ∷ Seen 2 ∷ Seen 3 ∷ [])))
     ≡ 2 ∷ 3 ∷ []
 pile_after_a_close = refl
@@ -62,13 +61,13 @@ pile_after_a_close = refl
 no_run_across_a_close : points_added level_start (Seen 3) (reverse (Seen 13 ∷ Seen 12 ∷ Seen 10 ∷ Seen 1 ∷ Seen 2 ∷ [])) ≡ 0
 no_run_across_a_close = refl
 
--- nor is an ace a pair with the one that made 31
+-- an ace that comes next makes no pair with the ace of the 31
 no_pair_across_a_close : points_added level_start (Seen 1) (reverse (Seen 13 ∷ Seen 12 ∷ Seen 10 ∷ Seen 1 ∷ [])) ≡ 0
 no_pair_across_a_close = refl
 
--- ---- a go at 22, and what it tells
+-- ---- a go at 22, and what it shows
 
--- KC QC 2D: at 22 the opponent, who holds TD JD QD, may say go; with a nine in place of the ten he may not
+-- KC QC 2D make 22. The opponent, who holds TD JD QD, may say go. With a nine in place of the ten he may not
 abbrev tens : Hands
 tens = record { owner = 48 ∷ 5 ∷ 6 ∷ 7 ∷ []; opponent = 44 ∷ 37 ∷ 41 ∷ 45 ∷ [] }
 
@@ -84,11 +83,11 @@ go_at_22 = refl
 no_go_with_a_nine : list_any (fits to_22) (cards_left nine_and_tens Opponent to_22) ≡ true
 no_go_with_a_nine = refl
 
--- at 21 a king fits, so nobody who holds a card says go
+-- at 21 a king fits, so no player who holds a card may say go
 king_at_21 : fits_at 21 48 ≡ true
 king_at_21 = refl
 
--- so a go at 22 tells that each card left counts ten, and a go at 23 nine or ten
+-- so a go at 22 shows that each card left counts ten, and a go at 23 that it counts nine or ten
 go_at_22_tells_tens : least_of Owner Opponent (reverse (Seen 13 ∷ Seen 12 ∷ Seen 2 ∷ Go ∷ [])) ≡ 10
 go_at_22_tells_tens = refl
 

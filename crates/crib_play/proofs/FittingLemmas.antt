@@ -1,4 +1,4 @@
--- Where the lowest card of a set does not fit, none does.
+-- Proves that some card of a set fits exactly where the lowest one does.
 use Rattle.std.proofs.Common.{◌≡◌, ℕ, ◌+◌, ◌<◌, Bool, true, false, ltb, ◌||◌, List, [], ◌∷◌, Some, None, refl, sym, ap, ◌∙◌, inl, inr, arith}
 use Rattle.std.specs.List.{list_any}
 use Rattle.std.proofs.lemmas.Bool.{cases_Bool, and_parts, ltb-true, or_left, lt-leb, leb-false}
@@ -8,7 +8,7 @@ use Rattle.crib_cards.specs.Sets.{has, IsCardSet, first_of_list}
 use Rattle.crib_cards.proofs.SetFacts.{are_rising-set_where}
 use Rattle.crib_play.specs.Fitting.{fits_at}
 
--- a card that stands later counts no less
+-- a card that stands later in a rising list has no lower value, so it does not fit either
 none_later : (count low : ℕ) (cards : List ℕ) → are_rising (low ∷ cards) ≡ true → fits_at count low ≡ false → list_any (fits_at count) cards ≡ false
 none_later count low [] rising out = refl
 none_later count low (card ∷ cards) rising out =
@@ -30,7 +30,7 @@ lowest_fits (lowest ∷ cards) count card set first =
       | inr e ↦ e ∙ sym (ap (λ (b : Bool). b || list_any (fits_at count) cards) e ∙ none_later count lowest cards rising e)
     ])
 
--- and none of a set with no card
+-- no card of an empty set fits
 pub none_fits : (cards : List ℕ) (count : ℕ) → None ≡ first_of_list cards → false ≡ list_any (fits_at count) cards
 none_fits [] count none = refl
 none_fits (card ∷ cards) count none = absurd cc

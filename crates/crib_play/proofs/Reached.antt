@@ -1,4 +1,4 @@
--- The record of some visible turns, turn by turn.
+-- Lemmas about the filled record of visible turns, turn by turn.
 use Rattle.std.proofs.Common.{◌≡◌, ℕ, ◌+◌, ◌≤◌, Bool, true, false, cond, List, [], ◌∷◌, ◌++◌, refl, sym, ap, subst, ◌∙◌}
 use Rattle.std.proofs.Common.{inl, inr, arith}
 use Rattle.std.proofs.lemmas.Bool.{cases_Bool, false≢true}
@@ -26,7 +26,7 @@ use Rattle.crib_play.proofs.Settling.{shown}
 use Rattle.crib_play.proofs.Stands.{said_of, IsTurned, turned_card, turned_go, turned_gos, passed_face, begun_count}
 use Rattle.crib_play.proofs.Stands.{played_is, played_points_is, GoSettles, go_settles}
 
--- ---- the record of some visible turns
+-- ---- the filled record of visible turns
 said_nothing : (start : Start) (side : Side) → said_of (state_after start []) side ≡ false
 said_nothing start Owner = refl
 said_nothing start Opponent = refl
@@ -48,17 +48,17 @@ asked_is target s m e =
     same Opponent Owner e = cc
     same Opponent Opponent e = refl
 
--- who is asked is the side to move, and the deal is not done
+-- the side that is asked is the side to move, and the deal is not done
 pub asked_mover : (start : Start) (past : Record) (side : Side) → asked_after start past ≡ side_asked side → (is_done start past ≡ false) ×
     (mover (pone_of start) past ≡ side)
 asked_mover start past side e = asked_is start.target (state_after start past) side e
 
--- what holds of the record of visible turns that were taken as the rules ask
+-- what holds of the filled record of visible turns that may follow one another
 pub record Reached (start : Start) (past : Record) : Type 0 where
   pub turned : IsTurned (state_after start past)
   pub sound : IsSound (standing_after start past)
 
--- where a record is reached and the deal is not done, the side to move is heard
+-- such a record where the deal is not done: the side to move is heard
 pub record Open (start : Start) (past : Record) : Type 0 where
   pub not_done : done start.target (state_after start past) ≡ false
   pub held : heard_of (state_after start past) (mover (pone_of start) past) ≡ true
@@ -79,7 +79,7 @@ open_after start past r d = record {
     seat_after-heard start Owner past = refl
     seat_after-heard start Opponent past = refl
 
--- one more card, and one more go, of a record that is reached
+-- such a record after one more card, and after one more go
 pub card_after : (start : Start) (past : Record) (rank : ℕ) → Open start past →
     standing_after start (with_silent_gos 3 start (Seen rank ∷ past)) ≡ played (standing_after start past) (mover (pone_of start) past) rank
 card_after start past rank o =
@@ -203,7 +203,7 @@ known round start seen m stands asked =
     let who = asked_is start.target s m (sym (ap (λ (x : Standing). x.asked) (stands.shows ∙ standing_after-state start (filled start seen))) ∙ asked) in
     record { not_done = who.0; moves = who.1; ready = open_after start (filled start seen) (reached start seen stands.started stands.taken) who.0 }
 
--- a card played
+-- the round after a card stands for the turns with this card
 pub stands_played : (round : Standing) (start : Start) (seen : List Letter) (m : Side) (rank : ℕ) →
     StandsFor round start seen → round.asked ≡ side_asked m → count_of round.pile + rank_value rank ≤ 31 →
     StandsFor (played round m rank) start (Seen rank ∷ seen) × (played_points round m rank ≡ points_added start (Seen rank) seen)
@@ -222,7 +222,7 @@ stands_played round start seen m rank stands asked fits =
       omega (arith, points, card_points_after start past rank k.ready),
     )
 
--- a go said
+-- the round after a go stands for the turns with this go
 pub stands_passed : (round : Standing) (start : Start) (seen : List Letter) (m : Side) →
     StandsFor round start seen → round.asked ≡ side_asked m → 22 ≤ count_of round.pile →
     StandsFor (passed round m) start (Go ∷ seen) × (passed_points round m ≡ points_added start Go seen)

@@ -1,4 +1,4 @@
--- What visible turns lead to.
+-- The count and the side asked after visible turns.
 use Rattle.std.specs.Prelude.{ℕ, List}
 use Rattle.crib_play.specs.declared.turns.Turn.{Turn}
 use Rattle.crib_cards.specs.declared.letters.Letter.{Letter}

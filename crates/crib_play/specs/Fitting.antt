@@ -1,4 +1,4 @@
--- Whether cards fit at a count.
+-- Which cards fit at a count.
 use Rattle.std.specs.Prelude.{ℕ, ◌+◌, nat_le, Bool}
 use Rattle.crib_cards.specs.Cards.{card_value}
 

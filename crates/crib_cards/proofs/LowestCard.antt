@@ -1,11 +1,11 @@
--- Sets of cards, taken from the lowest card on.
+-- Lemmas about walking through a set of cards from its lowest card on.
 use Rattle.std.proofs.Common.{◌≡◌, ℕ, ◌<◌, true, List, [], ◌∷◌, length, Some, None, sym, ap, ◌∙◌, arith}
 use Rattle.crib_cards.specs.Cards.{IsCard}
 use Rattle.crib_cards.specs.Sets.{has, set_without, IsCardSet, first_of_list}
 use Rattle.crib_cards.proofs.SetFacts.{in_set_where}
 use Rattle.crib_cards.proofs.SetLemmas.{set_without-lowest}
 
--- a set is its lowest card and the others
+-- a set is its lowest card, and then the set of the others
 pub lowest_split : (cards rest : List ℕ) (card : ℕ) → IsCardSet cards → Some card ≡ first_of_list cards → rest ≡ set_without cards card → cards ≡ card ∷ rest
 lowest_split [] rest card are e is = absurd cc
 lowest_split (first ∷ others) rest card are e is =
@@ -22,6 +22,6 @@ pub rest_smaller : (cards rest : List ℕ) (card : ℕ) → IsCardSet cards → 
     length rest < length cards
 rest_smaller cards rest card are e is = let one = ap length (lowest_split cards rest card are e is) in omega (arith, one)
 
--- what is in a set is a card
+-- each member of a set is a card of the pack
 pub in_set : (cards : List ℕ) (card : ℕ) → IsCardSet cards → has cards card ≡ true → IsCard card
 in_set cards card is h = (in_set_where (has cards) card (ap (λ xs. has xs card) (sym is) ∙ h)).0

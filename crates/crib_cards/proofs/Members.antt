@@ -1,11 +1,11 @@
--- What stands in a list, and lists with no number twice.
+-- Lemmas about the members of a list, and about lists with no number twice.
 use Rattle.std.proofs.Common.{◌≡◌, ◌⊎◌, ℕ, Bool, true, false, not, eqb, List, [], ◌∷◌, ◌++◌, refl, sym, ap, ◌∙◌, inl, inr}
 use Rattle.std.specs.List.{list_all}
 use Rattle.std.proofs.lemmas.Bool.{and_parts, and_from, or_cases, or_parts, or_from, or_left, or_right, both_ways, not-true, eqb-true, eq-eqb}
 use Rattle.crib_cards.specs.Sets.{has, are_distinct}
 use Rattle.crib_cards.proofs.SetFacts.{has-append}
 
--- ---- what stands in a list
+-- ---- members of a list
 
 pub has_here : (x : ℕ) (xs : List ℕ) → has (x ∷ xs) x ≡ true
 has_here x xs = or_left (eqb x x) (has xs x) (eq-eqb x x refl)
@@ -16,7 +16,7 @@ has_there x y xs h = or_right (eqb x y) (has xs y) h
 pub has_cases : (x y : ℕ) (xs : List ℕ) → has (x ∷ xs) y ≡ true → (x ≡ y) ⊎ (has xs y ≡ true)
 has_cases x y xs h = elim (or_cases (eqb x y) (has xs y) h) [ inl here ↦ inl (eqb-true x y here) | inr there ↦ inr there ]
 
--- all numbers of a list stand in some cards
+-- each number of the first list is in the second
 abbrev pub AreAmong : List ℕ → List ℕ → Type 0
 AreAmong cards xs = (x : ℕ) → has xs x ≡ true → has cards x ≡ true
 

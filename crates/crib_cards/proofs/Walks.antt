@@ -1,4 +1,4 @@
--- Sets that are made card by card, and sets that are walked from the lowest card on.
+-- Lemmas about sets that are built card by card, and sets that are walked from the lowest card on.
 use Rattle.std.proofs.Common.{◌≡◌, ℕ, ◌+◌, ◌<◌, Bool, true, false, not, eqb, ◌&&◌, ◌||◌, List, [], ◌∷◌, ◌++◌, length, take, get_or, Some, None, refl, sym, ap}
 use Rattle.std.proofs.Common.{◌∙◌, arith}
 use Rattle.std.proofs.lemmas.List.{take_more}
@@ -10,11 +10,11 @@ use Rattle.crib_cards.proofs.SetFacts.{has-append}
 
 -- ---- one card more
 
--- the cards before a place of a list, and the one there
+-- the cards of a list before a place, and the one at that place
 pub take_card : (cards : List ℕ) (i card : ℕ) → i < length cards → card ≡ get_or cards i card → take (i + 1) cards ≡ take i cards ++ card ∷ []
 take_card cards i card inside is = take_more cards i card inside ∙ ap (λ (k : ℕ). take i cards ++ k ∷ []) (sym is)
 
--- whether a list has a card, with one more at its end
+-- the members of a list with one card added at its end
 has_last : (cards : List ℕ) (card other : ℕ) → has (cards ++ card ∷ []) other ≡ (has cards other || eqb other card)
 has_last cards card other = has_push cards card other ∙ ap (λ (b : Bool). has cards other || b) (eqb_turned card other)
 
@@ -36,7 +36,7 @@ set_with_all-more cards more set next i card inside is one so_far =
     one ∙ ap (λ (xs : List ℕ). set_with xs card) so_far ∙ set_with-set_with_all cards (take i more) card
     ∙ ap (set_with_all cards) (sym (take_card more i card inside is))
 
--- the set of a list, with all the cards of another one
+-- the set of a list with all the cards of another list is the set of both lists
 pub set_with_all-set_of : (cards more : List ℕ) → set_with_all (set_of cards) more ≡ set_of (cards ++ more)
 set_with_all-set_of cards more =
     set_where_agree _ _ (λ card is. ap (λ (b : Bool). b || has more card) (has-set_where (has cards) card is) ∙ sym (has-append cards more card))
@@ -65,7 +65,7 @@ set_without_all-more cards others set next i card inside is one so_far =
     one ∙ ap (λ (xs : List ℕ). set_without xs card) so_far ∙ set_without-set_without_all cards (take i others) card
     ∙ ap (set_without_all cards) (sym (take_card others i card inside is))
 
--- the cards that are none of some known ones, without all the cards of a list
+-- the unseen cards without the cards of a list are those that are in neither list
 pub set_without_all-unseen_from : (known more : List ℕ) → set_without_all (unseen_from known) more ≡ unseen_from (known ++ more)
 set_without_all-unseen_from known more =
     set_where_agree _ _ (λ card is.
@@ -83,7 +83,7 @@ pub lowest_none : (cards : List ℕ) → None ≡ first_of_list cards → cards 
 lowest_none [] none = refl
 lowest_none (card ∷ cards) none = absurd cc
 
--- a set is its lowest card, and then the set without it
+-- a set is its lowest card, and then the set without that card
 pub lowest_split : (cards : List ℕ) (card : ℕ) → IsCardSet cards → Some card ≡ first_of_list cards → cards ≡ card ∷ set_without cards card
 lowest_split [] card set first = absurd cc
 lowest_split (lowest ∷ cards) card set first =
@@ -91,7 +91,7 @@ lowest_split (lowest ∷ cards) card set first =
     sym (ap (λ (k : ℕ). k ∷ set_without (lowest ∷ cards) k) same
     ∙ ap (λ (xs : List ℕ). lowest ∷ xs) (set_without-lowest (has (lowest ∷ cards)) lowest cards (sym set)))
 
--- which is shorter by one
+-- the set without its lowest card is shorter by one
 pub length-without_lowest : (cards : List ℕ) (card : ℕ) → IsCardSet cards → Some card ≡ first_of_list cards → length (set_without cards card) + 1 ≡ length cards
 length-without_lowest cards card set first =
     (let e : length (set_without cards card) + 1 ≡ length (card ∷ set_without cards card) = omega arith in e)

@@ -1,4 +1,5 @@
-//! When sets of cards, and counts of ranks, compare as equal. Each function does nothing; its contract is the law.
+//! The laws of equality, for sets of cards and counts of ranks. The function does nothing; its contract states the
+//! laws.
 ghost use Rattle.std.specs.Bool.{Decides};
 ghost use Rattle.std.specs.Prelude.{◌≡◌, ℕ, List};
 ghost use Rattle.crib_cards.specs.Sets.{IsCardSet};
@@ -6,11 +7,11 @@ ghost use Rattle.crib_cards.specs.Sets.{IsCardSet};
 use super::counts::RankCounts;
 use super::sets::CardSet;
 
-/// Values compare as equal exactly where they are the same.
+/// `==` answers yes exactly where two values are the same.
 ///
-/// - `sets`: two sets of cards do exactly where they have the same cards. Every `CardSet` is such a set, as
-///   [`CardSet::lowest`] says.
-/// - `counts`: two counts of ranks do exactly where the counts of each rank are the same.
+/// - `sets`: two sets of cards are equal exactly where they have the same cards. The law is about lists that are sets;
+///   each `CardSet` is one, as [`CardSet::lowest`] states.
+/// - `counts`: two `RankCounts` are equal exactly where the count of each rank is the same.
 pub fn equal_law()
     ensures sets { (one other : List ℕ) → IsCardSet one → IsCardSet other →
         Decides (⟦<CardSet as PartialEq>⟧.eq one other) (one ≡ other) }

@@ -1,4 +1,4 @@
--- Readers that take of the first lines what they take of all: where these don't reach, the text is cut short.
+-- Lemmas about readers that read the first lines as they read all lines: where the first lines end too early, the text is cut short.
 use Rattle.std.proofs.Common.{◌≡◌, ℕ, ◌+◌, ◌≤◌, true, false, cond, List, [], ◌∷◌, ◌++◌, length, Result, Ok, Err, refl, sym, ap, ◌∙◌, arith, inl, inr}
 use Rattle.std.specs.Prelude.{◌⊎◌}
 use Rattle.std.specs.List.{list_all, onto_first, take_while}
@@ -14,24 +14,24 @@ use Rattle.crib_text.proofs.LineLemmas.{line_at-nil}
 use Rattle.crib_text.proofs.SpellingLemmas.{lines_of-none}
 use Rattle.crib_text.proofs.ReadingLemmas.{bind_ok, ok_is, pair_is, value_at-line}
 
--- lines from this number on
+-- the lines that are left, from this number on
 abbrev pub from_line : ℕ → List (List ℕ) → Rest
 from_line number lines = record { number = number; lines = lines }
 
--- this line is needed, and is not there
+-- the refusal of a line that is missing
 abbrev pub missing : ℕ → Refusal
 missing line = record { line = line; number = cut_short }
 
 -- ---- readers of lines
 
--- what is read of lines that go on is read of the first lines alone, and some of these are left
+-- what a reader returns of all lines, it returns of the first ones alone, and it leaves some of them
 pub record IsKept {A : Type 0} (read : Rest → Result (A × Rest) Refusal) (number : ℕ) (front back : List (List ℕ)) (value : A) (after : Rest) : Type 0 where
   pub left : List (List ℕ)
   pub lines : after.lines ≡ left ++ back
   pub counted : after.number + length left ≡ number + length front
   pub same : read (from_line number front) ≡ Ok (value, from_line after.number left)
 
--- what is read of lines that go on is read of the first lines alone, or they are cut short
+-- a reader that does so, or refuses the first lines as cut short
 pub record IsSteady {A : Type 0} (read : Rest → Result (A × Rest) Refusal) : Type 0 where
   pub cut : (number : ℕ) (front back : List (List ℕ)) (value : A) (after : Rest) → read (from_line number (front ++ back)) ≡ Ok (value, after)
       → IsKept read number front back value after ⊎ (read (from_line number front) ≡ Err (missing (number + length front)))
@@ -48,7 +48,7 @@ steady_ok {A = A} value = record {
       });
 }
 
--- one reader after another
+-- one such reader after another is such a reader
 pub steady_then : {A B : Type 0} (read : Rest → Result (A × Rest) Refusal) (next : A × Rest → Result (B × Rest) Refusal) → IsSteady read →
     ((value : A) → IsSteady (λ rest. next (value, rest)))
     → IsSteady (λ rest. read rest >>= next)
@@ -70,11 +70,11 @@ steady_then {A = A} {B = B} read next one other = record {
       ];
 }
 
--- a value, with what is left
+-- a value, with the lines that are left
 abbrev give : {A : Type 0} → Rest → A → Result (A × Rest) Refusal
 give rest value = Ok (value, rest)
 
--- the value of one line
+-- the value of one line, read in one step or in two
 one_line : {A : Type 0} (r : Result Line Refusal) (read : List (List ℕ) → Result A ℕ) (rest : Rest)
     → ((r >>= λ (line : Line). give rest line) >>= λ (next : Line × Rest). in_line next.0.number (read next.0.words) >>= give next.1)
     ≡ ((r >>= λ (line : Line). in_line line.number (read line.words)) >>= give rest)
@@ -108,7 +108,7 @@ steady_value {A = A} read = record { cut = λ number front back value after e. b
               ∙ ap (λ (r : Rest). Ok (value, from_line r.number front)) is.1;
         })
 
--- the first lines of those that are read to their end, but not all of them, are cut short
+-- if all lines are read to their end, the first ones alone are refused as cut short
 pub lines_cut : {A : Type 0} (read : Rest → Result (A × Rest) Refusal) (number last : ℕ) (front : List (List ℕ)) (next : List ℕ) (back : List (List ℕ))
     (value : A) → IsSteady read
     → read (from_line number (front ++ next ∷ back)) ≡ Ok (value, from_line last []) → read (from_line number front) ≡ Err (missing (number + length front))
@@ -135,7 +135,7 @@ some_length : (lines : List (List ℕ)) → (lines ≡ [] → ⊥) → 1 ≤ len
 some_length [] some = absurd (some refl)
 some_length (line ∷ lines) some = omega arith
 
--- the lines of a text that goes on after an LF
+-- a text goes on after an LF: its lines are those before and those after it
 ended_front : (front more : List ℕ) → is_ended front ≡ true → lines_of (front ++ more) ≡ lines_of front ++ lines_of more
 ended_front [] more e = ap (λ (ls : List (List ℕ)). ls ++ lines_of more) (sym lines_of-nil)
 ended_front (byte ∷ []) more e =
@@ -152,7 +152,7 @@ ended_front (byte ∷ next ∷ front) more e =
           ∙ ap (λ (ls : List (List ℕ)). ls ++ lines_of more) (sym (lines_of-other byte (next ∷ front) other))
     ]
 
--- the lines are as many as the LFs, where the last line is ended
+-- where the last line is ended, the number of lines is that of the LFs
 lines_count_ended : (bytes : List ℕ) → is_ended bytes ≡ true → 1 + length (lines_of bytes) ≡ line_after bytes
 lines_count_ended [] e = rw lines_of-nil refl
 lines_count_ended (byte ∷ []) e = rw (lines_of-lf byte [] e, lines_of-nil, e) refl
@@ -171,7 +171,7 @@ lines_count_ended (byte ∷ next ∷ bytes) e =
           omega (arith, rest, more, none, lines)
     ]
 
--- a text that is read as lines has no bad byte, and these are its lines
+-- bytes that are read as lines: no byte is bad, and these are the lines
 pub record IsLines (bytes : List ℕ) (rest : Rest) : Type 0 where
   pub good : list_all is_text_byte bytes ≡ true
   pub is : from_line 1 (lines_of bytes) ≡ rest
@@ -202,12 +202,12 @@ is_text : (bytes : List ℕ) → list_all is_text_byte bytes ≡ true → is_end
 unfolding all_lines checked
 is_text bytes all ended = rw (all, ended) refl
 
--- some lines, of which there is one
+-- a list of lines that is not empty has a first line
 first_of : (lines : List (List ℕ)) → (lines ≡ [] → ⊥) → (first : List ℕ) × (rest : List (List ℕ)) × (lines ≡ first ∷ rest)
 first_of [] some = absurd (some refl)
 first_of (line ∷ lines) some = (line, lines, refl)
 
--- each proper beginning of a text that is read to its end is cut short, at the line of the first byte that is missing
+-- each proper beginning of a text that is read to its end is refused as cut short, at the line of the first byte that is missing
 pub text_cut : {A : Type 0} (read : Rest → Result (A × Rest) Refusal) (front : List ℕ) (next : ℕ) (back : List ℕ) (last : ℕ) (value : A) → IsSteady read
     → (all_lines (front ++ next ∷ back) >>= read) ≡ Ok (value, from_line last []) → (all_lines front >>= read) ≡ Err (missing (line_after front))
 text_cut {A = A} read front next back last value steady e =

@@ -1,4 +1,4 @@
-//! What a `Counted` hands on: each of its calls is one call of the reader or writer inside, with that one's answer.
+//! What a `Counted` does: each of its calls is one call of the reader or writer inside, with the same result.
 
 use super::memory::{feeding, tray_of};
 use crate::device::{Glitch, Sink, Source};
@@ -8,7 +8,7 @@ use std::process::Abort;
 
 const TEXT: &[u8] = b"problem 1\ndealer owner\n";
 
-// Each kind of error but an interruption.
+// All kinds of errors but an interruption.
 const FAILURES: [ErrorKind; 41] = [
     ErrorKind::NotFound,
     ErrorKind::PermissionDenied,
@@ -53,7 +53,7 @@ const FAILURES: [ErrorKind; 41] = [
     ErrorKind::Uncategorized,
 ];
 
-/// Three calls of the reader, of which the second gives this error.
+// Reads three times. The second call gives an error of this kind, and moves no byte.
 fn reads_around(rt: &impl Abort, kind: ErrorKind, wanted: Glitch) {
     let mut source = feeding(TEXT, 5, Trouble::At(2, kind));
     let mut piece = [0u8; 8];
@@ -68,7 +68,7 @@ fn reads_around(rt: &impl Abort, kind: ErrorKind, wanted: Glitch) {
     assert_eq!(rt; source.into_inner().left(), TEXT.len() - 10);
 }
 
-/// Three calls of the writer, of which the second gives this error.
+// Writes three times. The second call gives an error of this kind, and moves no byte.
 fn writes_around(rt: &(impl Abort + AllocGlobal), kind: ErrorKind, wanted: Glitch) {
     let mut sink = tray_of(rt.alloc(), 5, Trouble::At(2, kind));
     assert_eq!(rt; sink.write(TEXT), Ok(5));

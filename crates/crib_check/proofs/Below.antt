@@ -9,8 +9,7 @@ use Rattle.crib_know.specs.Hidden.{CanShow}
 use Rattle.crib_check.specs.declared.keys.Key.{Key}
 use Rattle.crib_check.specs.Inside.Positions.{StandsAt, HoldsFrom}
 
--- the letters before a place in the order of the letters are settled: no failing game goes on from a history with one
--- of them that can be shown
+-- the letters before a place are settled: for each of them that can be shown, no failing game goes on from the history with that letter
 abbrev pub IsSettledBelow : Setup → List Node → Key → ℕ → Type 0
 IsSettledBelow problem plan key place =
     (history : List Event) (letter : Letter) → StandsAt problem plan key history → CanShow problem history letter →

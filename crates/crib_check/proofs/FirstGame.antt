@@ -1,4 +1,4 @@
--- A first failing game. It rests on the law of the deal that a knowledge names, and not on computation alone.
+-- A first failing game. The proof uses the contract of the deal that a knowledge names, and is not computation alone.
 use Rattle.std.proofs.Common.{arith, ◌≡◌, refl, ℕ, Bool, true, false, ◌&&◌, List, [], ◌∷◌}
 use Rattle.std.specs.Prelude.{IsFalse}
 use Rattle.std.proofs.lemmas.Bool.{or_from}
@@ -42,7 +42,7 @@ known = record {
   knowledge = refl;
 }
 
--- AC AD AH AS and 3C 3D: the owner has all twos
+-- AC AD AH AS are held and 3C 3D thrown, since the owner has all twos
 first_deal : IsFirstDeal four_twos [] aces
 unfolding set_where chosen
 first_deal = first_is at_the_lead four_twos [] known aces.hold refl (set_without_all at_the_lead.unseen aces.hold) refl aces.throw refl

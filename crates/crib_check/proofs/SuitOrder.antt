@@ -1,4 +1,4 @@
--- Equal ranks in suit order leave no choice.
+-- The history and the hold fix a record in which the opponent plays equal ranks in suit order.
 use Rattle.std.proofs.Common.{◌≡◌, ℕ, ◌+◌, ◌<◌, ◌≤◌, Bool, true, false, not, ◌&&◌, ◌||◌, eqb, ltb, List, [], ◌∷◌, ◌++◌, map}
 use Rattle.std.proofs.Common.{length, length-append, refl, sym, ap, subst, ◌∙◌, inl, inr, arith}
 use Rattle.std.specs.List.{list_any}
@@ -25,7 +25,7 @@ use Rattle.crib_check.specs.Failing.{is_in_turn, is_in_suit_order}
 use Rattle.crib_check.proofs.Orders.{same_side_of}
 use Rattle.crib_check.proofs.Suited.{theirs_with}
 
--- ---- equal ranks in suit order leave no choice
+-- ---- at each turn there is one card to play
 module _ (few : ℕ) (start : Start) (hands : Hands) where
   played_is : (acts : List Act) (card : ℕ) → has (cards_by Opponent acts) card ≡ true → has (cards_of (moves_of acts)) card ≡ true
   played_is [] card h = h
@@ -67,7 +67,7 @@ module _ (few : ℕ) (start : Start) (hands : Hands) where
         (and_from (eqb (rank_of card) (rank_of higher)) (ltb card higher) (eq-eqb (rank_of card) (rank_of higher) rank) (lt-ltb card higher less))
         (ap not unplayed))
 
-  -- a later card is in its turn
+  -- each card after the opening is played in suit order
   order_parts : (card : ℕ) (cards : List ℕ) → few ≤ length cards → is_in_suit_order few hands.opponent (card ∷ cards) ≡ true →
       (is_in_turn hands.opponent cards card ≡ true) × (is_in_suit_order few hands.opponent cards ≡ true)
   order_parts card cards enough order =
@@ -101,7 +101,7 @@ module _ (few : ℕ) (start : Start) (hands : Hands) where
   same_what acts Opponent move.Go (move.Card other) enough e take take_other order order_other = absurd cc
   same_what acts Opponent move.Go move.Go enough e take take_other order order_other = refl
 
-  -- acts that begin with the same ones
+  -- acts that begin with the same acts
   module _ (base : List Act) (enough : few ≤ length (cards_by Opponent base)) where
     more_cards : (acts : List Act) → few ≤ length (cards_by Opponent (acts ++ base))
     more_cards [] = enough

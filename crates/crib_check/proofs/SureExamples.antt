@@ -1,5 +1,5 @@
--- A worked plan that is sure, with two branches. TC TD 9C are played and make 29. The owner knows all twos, so the
--- opponent shows an ace or says go: after an ace the owner's ace makes a pair and 31, after a go his two makes 31.
+-- A worked plan that is sure, with two branches. The opening is TC TD 9C, which makes 29. The owner knows all twos, so the opponent shows an ace or says go.
+-- After an ace the owner's ace makes a pair and 31. After a go his two makes 31.
 use Rattle.std.proofs.Common.{arith, ◌≡◌, ◌⊎◌, ◌<◌, refl, sym, ap, ◌∙◌, subst, inl, inr, ℕ, Bool, true, false, eqb, not, ◌||◌, cond}
 use Rattle.std.proofs.Common.{List, [], ◌∷◌, ◌++◌, length, filter, replicate, Option, Some, None}
 use Rattle.std.specs.Prelude.{IsTrue, IsFalse, is_some, if◌then◌else◌}
@@ -32,7 +32,7 @@ use Rattle.crib_check.specs.declared.verdict.Verdict.TheVariants.{Fails}
 use Rattle.crib_game.specs.declared.game.Game.{Game}
 use Rattle.crib_game.specs.declared.ending.Ending.TheVariants as ending
 
--- TC 9C 2C AC are held, 2D 2H thrown, and 2S is the starter; two holes are to be made
+-- the owner holds TC 9C 2C AC and threw 2D 2H; the starter is 2S and the goal is two holes
 abbrev pub at_29 : Setup
 at_29 = record {
   version = Two;
@@ -45,11 +45,11 @@ at_29 = record {
   played = record { side = Owner; what = Card 36 } ∷ record { side = Opponent; what = Card 37 } ∷ record { side = Owner; what = Card 32 } ∷ [];
 }
 
--- after an ace AC, after a go 2C
+-- AC after an ace, 2C after a go
 abbrev pub ace_or_two : List Node
 ace_or_two = See (To 1 ∷ replicate 12 End ++ To 2 ∷ []) ∷ Play 0 End ∷ Play 4 End ∷ []
 
--- the turns that are played already, and one more: the last one first
+-- the opening, and then with one turn more; the last turn comes first
 abbrev three_turns : List Move
 three_turns = Card 32 ∷ Card 37 ∷ Card 36 ∷ []
 
@@ -68,7 +68,7 @@ data Course : List Move → Type 0 where
   after_spade : Course (Card 0 ∷ Card 3 ∷ Card 32 ∷ Card 37 ∷ Card 36 ∷ [])
   after_go : Course (Card 4 ∷ Go ∷ Card 32 ∷ Card 37 ∷ Card 36 ∷ [])
 
--- ---- how many of the three turns some acts begin with, or that they stray from them
+-- ---- how many of the three turns some acts begin with, or that they differ from them
 data Stage : Type 0 where
   None_yet : Stage
   One : Stage
@@ -120,7 +120,7 @@ the_card number card it is =
       | inr other ↦ absurd (subst (λ (test : Bool). IsOnCourse (if test then it else Astray)) other is)
     ]
 
--- ---- what the opponent may show at 29: his cards are hidden ones, and of these the aces alone fit
+-- ---- what the opponent may show at 29: his cards are unseen, and only the aces among them fit
 kept : (b : Bool) (first card : ℕ) (rest : List ℕ) → has (cond b (first ∷ rest) rest) card ≡ true → (first ≡ card) ⊎ (has rest card ≡ true)
 kept true first card rest h =
     elim (or_cases (eqb first card) (has rest card) h) [
@@ -264,7 +264,7 @@ ace_or_two_is_sure = record {
   reached = λ dealt played is over. done_well dealt played (course_of dealt played is).1 over;
 }
 
--- ---- and the play goes on: the opponent has an ace, or he says go
+-- ---- the play goes on: the opponent has an ace, or he says go
 any_of : (p : ℕ → Bool) (cards : List ℕ) → list_any p cards ≡ true → (card : ℕ) × (has cards card ≡ true) × (p card ≡ true)
 any_of p [] any = absurd (both_ways false refl any)
 any_of p (first ∷ cards) any =
@@ -316,11 +316,11 @@ next_turn dealt played after_go all is on = absurd (both_ways true on refl)
 pub ace_or_two_goes_on : GoesOn at_29 ace_or_two
 ace_or_two_goes_on dealt played is on = let found = course_of dealt played is in next_turn dealt played found.1 found.0 is on
 
--- a failing game may go on or not: nothing is asked of it
+-- nothing is asked of a failing game here: it may go on or not
 pub a_failing_plan_need_not_go_on : (game : Game) → KeepsOn at_29 ace_or_two (Fails ending.Lost game)
 a_failing_plan_need_not_go_on game = tt
 
--- ---- the play ends where no record has thirty turns, and not where one has
+-- ---- the play ends: the statement holds if no record has thirty turns, and fails if one has
 pub fewer_than_thirty_turns :
     ((dealt : Dealt) (played : List Move) → IsDealOf at_29 dealt → IsLegal (start_of at_29) (hands_of at_29 dealt) played → length played < 30) → Ends at_29
 fewer_than_thirty_turns few dealt played deal legal = let bound = few dealt played deal legal in omega (arith, bound)

@@ -1,4 +1,4 @@
--- The deals that the show may be of.
+-- The hidden deals that the show may meet.
 use Rattle.crib_cards.specs.Sets.{set_of}
 use Rattle.crib_show.specs.declared.deals.WorstShow.{WorstShow}
 use Rattle.crib_show.specs.declared.shows.Shows.{Shows}
@@ -6,7 +6,7 @@ use Rattle.crib_show.specs.Shows.{AreShows}
 use Rattle.crib_problem.specs.Setup.{Setup, unseen_of, fixed_cards, target_of, is_stop}
 use Rattle.crib_know.specs.Knowledge.{Knowledge}
 
--- the deals behind what is known, where all cards are played
+-- the hidden deals that agree with what is known, once all cards are played
 abbrev pub worst_of : Setup → Knowledge → WorstShow
 worst_of problem know = record {
   dealer = problem.dealer;
@@ -21,7 +21,7 @@ worst_of problem know = record {
   stop = is_stop problem.goal;
 }
 
--- what is kept of the shows of a problem is right, whatever the scores are
+-- the table of counted shows is right for the problem, whatever the scores are
 abbrev pub AreShowsOf : Setup → Shows → Type 0
 AreShowsOf problem shows =
     AreShows problem.starter problem.hold problem.thrown (unseen_of problem) (set_of (fixed_cards problem)) shows

@@ -1,10 +1,10 @@
-//! How and where a plan fails.
+//! Where and how a plan fails.
 
 use crib_cards::Dealt;
 use crib_game::Ending;
 
-/// How a plan fails at a position, and the first deal in which it does. The turns that lead there are in the trail of
-/// the walk.
+/// How a plan fails at a position, and the first deal in which it does. The trail of the walk has the turns that lead
+/// there.
 #[derive(Clone, Copy)]
 pub struct Failure {
     pub ending: Ending,

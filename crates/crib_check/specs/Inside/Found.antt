@@ -1,4 +1,4 @@
--- What the code's walk finds at a position.
+-- What the walk of the code finds at a position. The opening is the visible turns that the problem lists as played.
 use Rattle.std.specs.Prelude.{◌≡◌, ◌+◌, ◌≤◌, List, length, Option, Some, None}
 use Rattle.crib_cards.specs.declared.sides.Dealt.{Dealt}
 use Rattle.crib_cards.specs.declared.moves.Act.{Act}
@@ -13,12 +13,13 @@ use Rattle.crib_check.specs.Inside.Histories.{later_of_trail}
 use Rattle.crib_check.specs.Inside.Positions.{IsSettled, IsFirstFrom}
 use Rattle.crib_check.specs.Inside.Suits.{acts_in_suits}
 
--- the game of a deal and of the acts of a trail, which come after those that are played already
+-- the game of a deal and a trail: its acts are the opening, and then the acts of the trail
 pub record IsGameOf (problem : Setup) (dealt : Dealt) (trail : List Act) (game : Game) : Type 0 where
   pub deal : game.opp ≡ dealt
   pub acts : acts_back game ≡ acts_in_suits dealt.hold (played_back problem) (later_of_trail trail)
 
--- the walk stopped after the acts of a trail: in the game of these and of the deal, the plan fails first
+-- the walk stopped after the acts of a trail. The game of the deal and this trail is the first failing game that goes
+-- on from the history
 pub record IsStoppedBy
     (problem : Setup) (plan : List Node) (history : List Event) (trail : List Act) (failure : Failure)
     : Type 0 where
@@ -26,7 +27,7 @@ pub record IsStoppedBy
   pub first : (game : Game) → IsGameOf problem failure.dealt trail game →
       IsFirstFrom problem plan history game failure.ending
 
--- what is found at a position that a history led to: that it is settled, or where the plan fails first
+-- what the walk finds at a position that a history led to: the position is settled, or here is the first failing game
 abbrev pub IsFoundFrom : Setup → List Node → Key → List Event → List Act → Option Failure → Type 0
 IsFoundFrom problem plan key history trail None = IsSettled problem plan key
 IsFoundFrom problem plan key history trail (Some failure) = IsStoppedBy problem plan history trail failure

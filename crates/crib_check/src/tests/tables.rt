@@ -30,8 +30,8 @@ fn keeps_keys(rt: HostRuntime) {
     assert!(rt; set.has(&key));
 }
 
-/// A table that refuses no put, every second one or all, and sees whether one key comes twice, or comes before it was
-/// asked for.
+/// A table that refuses none of the puts, every second one, or all. It notices a key that is put twice, or that was put
+/// before it was asked for.
 #[derive(Drop)]
 struct Watched {
     set: KeySet<Global>,
@@ -98,8 +98,8 @@ impl Settled for Watched {
     }
 }
 
-/// The positions of the four twos that are not done, of which 1,575 are the owner's: as many as the walk of
-/// `bench/positions` meets, which shares nothing with this one.
+/// The number of positions of the four twos whose deal is not done. In 1,575 of them the owner is asked. The walk of
+/// `bench/positions`, which shares no code with this one, meets as many.
 const POSITIONS: u32 = 3470;
 
 #[test]
@@ -114,7 +114,7 @@ fn settles_each_position_after_it_was_asked_for_and_once(rt: HostRuntime) {
     assert_eq!(rt; table.puts, POSITIONS);
 }
 
-/// Each row comes out with this table.
+/// Whether each row comes out with this table.
 fn come_out_with<T: Settled>(rt: &(impl Abort + AllocGlobal), rows: &[Row], table: &mut T) {
     for row in rows {
         let (of, by, _) = *row;
@@ -123,7 +123,7 @@ fn come_out_with<T: Settled>(rt: &(impl Abort + AllocGlobal), rows: &[Row], tabl
     }
 }
 
-/// All rows come out with this table, which is used for one after another.
+/// Whether all rows come out with this table, which serves one after another.
 fn all_come_out_with<T: Settled>(rt: &(impl Abort + AllocGlobal), table: &mut T) {
     come_out_with(rt, &SURE, table);
     come_out_with(rt, &SHORT, table);

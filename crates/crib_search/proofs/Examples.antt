@@ -5,56 +5,56 @@ use Rattle.crib_plan.specs.declared.plan.Node.TheVariants.{Play, See}
 use Rattle.crib_search.specs.Finder.{one_of_each_rank}
 use Rattle.crib_search.specs.Trees.{Tree, Finish, Plays, Sees, branches_of, joined, walked, plan_of_tree}
 
--- the branches of the ace, of the two and of the go, where each other one is the end
+-- branches that are the end, except those of the ace, the two and the go
 abbrev after : Tree → Tree → Tree → List Tree
 after ace two go =
     ace ∷ two ∷ Finish ∷ Finish ∷ Finish ∷ Finish ∷ Finish ∷ Finish ∷ Finish ∷ Finish ∷ Finish ∷ Finish ∷ Finish ∷ go ∷ []
 
--- the two of clubs and of diamonds, and then the end
+-- the two of clubs, the two of diamonds, and then the end
 abbrev clubs : Tree
 clubs = Plays 4 Finish
 
 abbrev diamonds : Tree
 diamonds = Plays 5 Finish
 
--- where each branch is the end, so is the whole
+-- if each branch is the end, the joined tree is the end
 pub all_end : joined (after Finish Finish Finish) ≡ Finish
 all_end = refl
 
--- one play is stated without a look, after whichever letters it comes
+-- a play that is the same for all letters needs no look
 pub one_play : joined (after Finish clubs Finish) ≡ clubs
 one_play = refl
 
 pub one_play_twice : joined (after clubs Finish clubs) ≡ clubs
 one_play_twice = refl
 
--- two plays need a look
+-- two different plays need a look
 pub two_plays : joined (after clubs diamonds clubs) ≡ Sees (branches_of (after clubs diamonds clubs))
 two_plays = refl
 
--- a card that goes on in two ways is two plays
+-- a card that goes on in two ways is two different plays
 pub two_ways : joined (after clubs (Plays 4 diamonds) Finish) ≡ Sees (branches_of (after clubs (Plays 4 diamonds) Finish))
 two_ways = refl
 
--- a look stands for no other look: where each branch is one look, there is a new one before it
+-- branches that are the same look are not joined into it: a new look comes before it
 abbrev look : Tree
 look = Sees (branches_of (after clubs diamonds Finish))
 
 pub one_look : joined (after look look look) ≡ Sees (branches_of (after look look look))
 one_look = refl
 
--- the ace and the go lead to one play of clubs, the two to one of diamonds, and both go on with the two of hearts
+-- the ace and the go lead to the same play of the two of clubs, the two leads to the two of diamonds, and both go on with the two of hearts
 abbrev hearts : Tree
 hearts = Plays 6 Finish
 
 abbrev shared : Tree
 shared = Sees (branches_of (after (Plays 4 hearts) (Plays 5 hearts) (Plays 4 hearts)))
 
--- hearts are left first, and once; the look is left last
+-- the walk leaves the two of hearts first, and once; it leaves the look last
 pub left_in_order : walked shared [] ≡ shared ∷ Plays 5 hearts ∷ Plays 4 hearts ∷ hearts ∷ []
 left_in_order = refl
 
--- so the look is node 0, and hearts are node 3
+-- so the look is node 0, and the two of hearts is node 3
 pub shared_plan : plan_of_tree shared
     ≡ See (To 2 ∷ To 1 ∷ End ∷ End ∷ End ∷ End ∷ End ∷ End ∷ End ∷ End ∷ End ∷ End ∷ End ∷ To 2 ∷ [])
     ∷ Play 5 (To 3) ∷ Play 4 (To 3) ∷ Play 6 End ∷ []
@@ -64,6 +64,6 @@ shared_plan = refl
 pub no_nodes : plan_of_tree Finish ≡ []
 no_nodes = refl
 
--- of two twos and a four, the first two and the four are tried
+-- of two twos and a four, the finder tries the first two and the four
 pub tried_once : one_of_each_rank (5 ∷ 12 ∷ 4 ∷ []) ≡ 5 ∷ 12 ∷ []
 tried_once = refl

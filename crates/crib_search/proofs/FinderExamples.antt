@@ -1,5 +1,5 @@
--- Worked examples of the finder's steps and of the plan that it finds for two holes from 29: TC TD 9C are played, and
--- the owner, who knows all twos, holds 2C and AC.
+-- Worked examples of the finder's steps, and of the plan that it finds for two holes. The opening is TC TD 9C, which makes 29. The owner knows all twos, and
+-- holds 2C and AC.
 use Rattle.std.proofs.Common.{arith, ◌≡◌, refl, inl, inr, ℕ, ◌<◌, ◌==◌, length, true, false, List, [], ◌∷◌, ◌++◌, Option, Some, None, replicate}
 use Rattle.std.specs.List.{AllZip}
 use Rattle.std.specs.Prelude.{if◌then◌else◌}
@@ -76,7 +76,7 @@ pub ranks_and_then_a_go : letters
     ≡ Seen 1 ∷ Seen 2 ∷ Seen 3 ∷ Seen 4 ∷ Seen 5 ∷ Seen 6 ∷ Seen 7 ∷ Seen 8 ∷ Seen 9 ∷ Seen 10 ∷ Seen 11 ∷ Seen 12 ∷ Seen 13 ∷ Go ∷ []
 ranks_and_then_a_go = refl
 
--- TC 9C 2C 8C are held
+-- the owner holds TC 9C 2C 8C
 abbrev level : Setup
 level = record {
   version = One;
@@ -89,15 +89,15 @@ level = record {
   played = [];
 }
 
--- after TC and a ten each of the others fits
+-- after TC and a ten of the opponent, each of his other cards fits
 pub others_at_20 : options level (Theirs (Seen 10) ∷ Own (move.Card 36) ∷ []) ≡ 32 ∷ 4 ∷ 28 ∷ []
 others_at_20 = refl
 
--- at 29, after a go, 2C alone fits
+-- at 29, after a go, only 2C fits
 pub two_at_29 : options level (Theirs Go ∷ Own (move.Card 32) ∷ Theirs (Seen 10) ∷ Own (move.Card 36) ∷ []) ≡ 4 ∷ []
 two_at_29 = refl
 
--- ---- one step, where it is given what is found further on: nothing after 2C or an ace of the opponent, else the end
+-- ---- one step, for given answers further on: none after 2C or after an ace of the opponent, and otherwise the end
 abbrev answer : List Event → Option Tree
 answer [] = None
 answer (Own (move.Card card) ∷ history) = if card == 4 then None else Some Finish
@@ -117,11 +117,11 @@ nothing_to_try = refl
 pub no_tree_of_nothing : Tries given a_go [] (Some Finish) → ⊥
 no_tree_of_nothing tries = cc
 
--- after 2C there is none, so 2D is played
+-- none is found after 2C, so 2D is played
 pub second_card : Tries given a_go (4 ∷ 5 ∷ []) (Some (Plays 5 Finish))
 second_card = (None, refl, (Some Finish, refl, refl))
 
--- 2D and 2H both lead to the end: the first one is played
+-- 2D and 2H both lead to the end, so the first one is played
 pub first_card : OwnerFinds given a_go (5 ∷ 6 ∷ []) (Some (Plays 5 Finish))
 first_card = (Some Finish, refl, refl)
 
@@ -129,15 +129,15 @@ pub a_card_that_leads_is_played : Tries given a_go (5 ∷ []) None → ⊥
 a_card_that_leads_is_played (None, is, rest) = cc
 a_card_that_leads_is_played (Some tree, is, rest) = cc
 
--- where no card fits he says go
+-- if no card fits, the owner says go
 pub own_go : OwnerFinds given a_go [] (Some look)
 own_go = refl
 
--- at 29 an ace can be shown, and after it there is none
+-- at 29 an ace can be shown, and none is found after it
 abbrev three_events : List Event
 three_events = played_events at_29
 
--- AD TD 3C 3D were dealt, or TD and three threes
+-- the opponent holds AD TD 3C 3D, or TD and three threes
 ace_shown : CanShow at_29 three_events (Seen 1)
 unfolding set_where
 ace_shown = (
@@ -184,7 +184,7 @@ ace_lacks_a_tree = (Seen 1, ace_shown, refl)
 pub none_found_after_a_look : FindsFor turns.Opponent given at_29 three_events None
 none_found_after_a_look = inl (ace_lacks_a_tree, refl)
 
--- a branch that can't be shown is the end, and no other
+-- the branch of a letter that can't be shown is the end, and nothing else
 pub hidden_branch_is_the_end : ¬ CanShow at_29 three_events (Seen 3) → BranchFinds given at_29 three_events (Seen 3) Finish
 hidden_branch_is_the_end none = inr (none, refl)
 
@@ -192,7 +192,7 @@ pub hidden_branch_is_no_card : ¬ CanShow at_29 three_events (Seen 3) → Branch
 hidden_branch_is_no_card none (inl shown) = none shown.0
 hidden_branch_is_no_card none (inr hidden) = (let is = hidden.1 in cc)
 
--- none is found where a branch is lacking alone, and a tree that is found joins its branches
+-- none is found only if a branch is lacking, and a tree that is found joins its branches
 pub none_lacks_a_branch : FindsFor turns.Opponent given at_29 three_events None → LacksBranch given at_29 three_events
 none_lacks_a_branch (inl lacks) = lacks.0
 none_lacks_a_branch (inr finds) = absurd (let is = finds.2 in cc)
@@ -202,7 +202,7 @@ pub tree_joins_branches : (tree : Tree) → FindsFor turns.Opponent given at_29 
 tree_joins_branches tree (inl lacks) = absurd (let is = lacks.1 in cc)
 tree_joins_branches tree (inr finds) = finds
 
--- a deal that is done is the end where the owner has reached his goal, and none where not
+-- if a deal is done, the end is found where the owner has reached his goal, and otherwise none
 pub end_where_reached : IsReachedBehind level [] → FindsFor turns.Over given level [] None → ⊥
 end_where_reached reached (inl is) = (let end = is.1 in cc)
 end_where_reached reached (inr is) = is.0 reached
@@ -211,14 +211,14 @@ pub none_where_not_reached : ¬ IsReachedBehind level [] → FindsFor turns.Over
 none_where_not_reached not_reached (inl is) = not_reached is.0
 none_where_not_reached not_reached (inr is) = (let end = is.1 in cc)
 
--- the first lead is not the end of a deal that the owner has won
+-- at the first lead, some deal does not have the outcome Reached
 pub not_reached_at_the_start : IsReachedBehind level [] → ⊥
 unfolding set_where outcome_of hand_points crib_points
 not_reached_at_the_start reached =
     (let short = reached (record { hold = 37 ∷ 49 ∷ 50 ∷ 47 ∷ []; throw = 18 ∷ 25 ∷ [] })
     (record { deal = record { held = refl; thrown = refl; distinct = refl; hidden_before = refl }; fixed = refl }, ([], tt, refl)) in cc)
 
--- ---- the plan: after an ace AC, and after a go 2C, the first card of the hold that leads to the goal
+-- ---- the plan: AC after an ace, 2C after a go. Each is the first card of the hold that leads to the goal
 abbrev ace_or_two : Tree
 ace_or_two = Sees (branches_of (Plays 0 Finish ∷ replicate 12 Finish ++ Plays 4 Finish ∷ []))
 
@@ -280,7 +280,7 @@ tree_of_two_cards none = inr (
     hidden : (rank : ℕ) → 1 < rank → BranchFinds (λ further after. Finds 29 at_29 further after) at_29 three_events (Seen rank) Finish
     hidden rank high = inr (none rank high, refl)
 
--- the look is node 0, and the card that is left last comes first behind it
+-- the look is node 0, and the card that the walk leaves last is node 1
 pub plan_of_two_cards : ((rank : ℕ) → 1 < rank → ¬ CanShow at_29 three_events (Seen rank)) →
     IsFound at_29 (Some (See (To 2 ∷ replicate 12 End ++ To 1 ∷ []) ∷ Play 4 End ∷ Play 0 End ∷ []))
 plan_of_two_cards none = (Some ace_or_two, tree_of_two_cards none, refl)
@@ -289,7 +289,7 @@ pub a_plan_has_a_tree : (plan : List Node) → IsFound at_29 (Some plan) → (tr
 a_plan_has_a_tree plan (None, finds, is) = cc
 a_plan_has_a_tree plan (Some tree, finds, is) = (tree, finds, is)
 
--- three nodes are more than two; what exceeds a limit has more nodes than it
+-- three nodes are more than two, and only a plan with more nodes than a limit exceeds it
 pub three_nodes_exceed_two : ((rank : ℕ) → 1 < rank → ¬ CanShow at_29 three_events (Seen rank)) → ExceedsLimit at_29 2
 three_nodes_exceed_two none = (See (To 2 ∷ replicate 12 End ++ To 1 ∷ []) ∷ Play 4 End ∷ Play 0 End ∷ [], plan_of_two_cards none, omega arith)
 

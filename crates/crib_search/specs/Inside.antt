@@ -1,4 +1,4 @@
--- What private functions alone cite, and no public contract rests on.
+-- Definitions that only private functions cite. No public contract rests on them.
 pub mod Ahead
 pub mod Nodes
 pub mod Numbers

@@ -1,2 +1,2 @@
--- What private functions alone cite, and no public contract rests on.
+-- Definitions that only private functions cite. No public contract rests on them.
 pub mod Pegs

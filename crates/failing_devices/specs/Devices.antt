@@ -1,4 +1,4 @@
--- What a device has still to give, and what it was given.
+-- The bytes that a reader has still to give, and those that a writer was given.
 use Rattle.std.specs.Prelude.{ℕ, List}
 use Rattle.failing_devices.specs.declared.Feed.{Feed}
 use Rattle.failing_devices.specs.declared.Tray.{Tray}

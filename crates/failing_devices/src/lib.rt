@@ -1,5 +1,5 @@
-//! For tests: a reader and a writer over memory, which move so many bytes a call, and fail or are interrupted at the
-//! calls that they are told.
+//! For tests: a reader and a writer over memory. They move a given number of bytes a call. They fail, or are
+//! interrupted, at the calls that the test names.
 #![tactic(auto)]
 
 ghost use Rattle.std.specs.Prelude.{◌≡◌, [], Some, length};
@@ -12,19 +12,19 @@ use std::io::{Error, ErrorKind, Read, Write};
 #[cfg(test)]
 mod tests;
 
-/// Which calls of a device give an error, and of which kind. Calls are counted from 1. A call that gives an error moves
-/// no byte.
+/// Which calls of a device give an error, and of which kind. The first call is number 1. A call that gives an error
+/// moves no byte.
 #[derive(Clone, Copy)]
 pub enum Trouble {
-    /// No call does.
+    /// No call gives an error.
     Never,
-    /// This one does, and no other.
+    /// This call gives an error, and no other.
     At(u64, ErrorKind),
-    /// This one does, and each that follows.
+    /// This call gives an error, and so does each later one.
     From(u64, ErrorKind),
 }
 
-// Counts the calls of a device, and gives the error of those that are to fail.
+// Counts the calls of a device, and gives the error of each call that is to fail.
 #[derive(Clone, Copy)]
 struct Calls {
     made: u64,
@@ -51,7 +51,7 @@ pub struct Feed<'a> {
 }
 
 impl<'a> Feed<'a> {
-    /// Gives these bytes, at most `piece` of them a call, and at least one.
+    /// A reader that gives these bytes. A call gives at most `piece` of them, or one if `piece` is 0.
     pub fn new(bytes: &'a [u8], piece: usize, trouble: Trouble) -> Feed<'a>
         ensures { fed_bytes result ≡ bytes.now }
     {
@@ -63,7 +63,7 @@ impl<'a> Feed<'a> {
         }
     }
 
-    /// How many bytes are still to be given.
+    /// The number of bytes that are still to be given.
     pub fn left(&self) -> usize
         ensures { result ≡ length (fed_bytes self.now) }
     {
@@ -93,8 +93,8 @@ pub struct Tray<A: Allocator> {
 }
 
 impl<A: Allocator> Tray<A> {
-    /// Takes at most `piece` bytes a call, and none at all where that is 0. A growth that is refused is an error of the
-    /// call too.
+    /// A writer that takes at most `piece` bytes a call. If `piece` is 0, it takes none. A call also fails if memory
+    /// was refused.
     pub fn new(alloc: A, piece: usize, trouble: Trouble) -> Tray<A>
         ensures { tray_bytes result ≡ [] }
     {

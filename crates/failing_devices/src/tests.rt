@@ -3,7 +3,7 @@ use std::io::{ErrorKind, Read, Write};
 
 const BYTES: &[u8] = b"fifteen two";
 
-// How many of the first twenty calls of a reader give an error of this kind, and how many bytes they leave.
+// The number of errors of this kind in the first twenty calls of a reader, and the number of bytes that are left.
 fn failed_reads(feed: &mut Feed<'_>, kind: ErrorKind) -> (u32, usize) {
     let mut failed = 0u32;
     let mut buffer = [0; 4];

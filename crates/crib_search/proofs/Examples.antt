@@ -43,7 +43,7 @@ look = Sees (branches_of (after clubs diamonds Finish))
 pub one_look : joined (after look look look) ≡ Sees (branches_of (after look look look))
 one_look = refl
 
--- the ace and the go lead to the same play of the two of clubs, the two leads to the two of diamonds, and both go on with the two of hearts
+-- the ace and the go lead to the same play of the two of clubs; the two leads to the two of diamonds; both go on with the two of hearts
 abbrev hearts : Tree
 hearts = Plays 6 Finish
 

@@ -1,4 +1,4 @@
--- How a game is judged as it goes on: by the table and the cards that are left to each side.
+-- How acts are judged in the code: by the round and the cards that are left to each side.
 use Rattle.std.specs.Prelude.{ℕ, ◌+◌, ◌≤◌, Bool, true, false, List, Option}
 use Rattle.crib_cards.specs.Cards.{card_value}
 use Rattle.crib_cards.specs.Sets.{set_without}
@@ -31,23 +31,23 @@ abbrev pub held_of : Held → Side → List ℕ
 held_of held Owner = held.owner
 held_of held Opponent = held.opponent
 
--- what is held after a move: a card that is played is no one's
+-- the cards that are left after a move. A card that is played is left to neither side
 abbrev pub held_after : Held → Move → Held
 held_after held (move.Card card) =
     record { owner = set_without held.owner card; opponent = set_without held.opponent card }
 held_after held move.Go = held
 
--- what is wrong with an act at a table, of a side that holds some cards, with what is remarked of it
+-- the refusal of an act in a round, by the cards that its side has left and the remark on the act
 abbrev pub fault_at : Remark → Standing → List ℕ → Act → ℕ → Option GameFault
 fault_at remark table cards act place =
     first_fault remark (is_over table.asked) (asks table.asked act.side)
     (move_fault_at (count_of table.pile) cards act.what place) place
 
--- the move may be shown at a table
+-- the round allows a move: the card makes at most 31, or the go is said at a count of 22 or more
 abbrev pub MayShowAt : Move → Standing → Type 0
 MayShowAt (move.Card card) table = count_of table.pile + card_value card ≤ 31
 MayShowAt move.Go table = 22 ≤ count_of table.pile
 
--- all that the show depends on, with the scores of a table
+-- everything that the show depends on, with the scores of a round
 abbrev pub full_at : Setup → Dealt → Standing → Full
 full_at problem dealt table = full_with problem dealt table.scores

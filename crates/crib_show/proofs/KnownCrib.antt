@@ -1,4 +1,4 @@
--- Points of the fifteens and pairs of some cards are points of these cards with others.
+-- The points of the fifteens and pairs of some cards count also where other cards are added.
 use Rattle.std.proofs.Common.{ℕ, ◌+◌, ◌*◌, ◌≤◌, cond, List, [], ◌∷◌, ◌++◌, sum_by, arith}
 use Rattle.crib_show.specs.Show.{choices, crib_flush, crib_points, fifteen_points, is_fifteen, is_pair, jack_points, pair_points, run_points}
 use Rattle.crib_show.proofs.Choices.{sum_by-choices}
@@ -16,7 +16,7 @@ more_choices f (x ∷ xs) ys =
     let all = sum_by-choices f x (xs ++ ys) in
     omega (arith, with_it, without, few, all)
 
--- what the starter and the owner's throw give, each crib has
+-- each crib has the points of the starter and the owner's throw
 pub known_in_crib : (starter : ℕ) (throw theirs : List ℕ) → fifteen_points (starter ∷ throw) + pair_points (starter ∷ throw) ≤
     crib_points (throw ++ theirs) starter
 unfolding crib_points

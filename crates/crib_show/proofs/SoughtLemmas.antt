@@ -1,4 +1,4 @@
--- What is sought among the throws is the greatest of the deals that agree.
+-- The points that the search finds among the throws are the greatest of the hidden deals that agree.
 use Rattle.std.proofs.Common.{◌≡◌, ◌≢◌, ◌⊎◌, ℕ, ◌+◌, ◌<◌, ◌≤◌, suc, zero, Bool, true, false, not, eqb, leb, ◌&&◌, ◌||◌, List, [], ◌∷◌, refl, sym, ap, ◌∙◌}
 use Rattle.std.proofs.Common.{inl, inr, subst, arith}
 use Rattle.std.proofs.lemmas.Bool.{cases_Bool, cases_lt, and_parts, and_from, or_cases, or_from, or_left, or_right, both_ways, not-true, eqb-false, ne_eqb}
@@ -84,7 +84,7 @@ module _ (worst : WorstShow) where
         gives = leb-true enough (sought_points worst sought x y) both.1;
       }
 
-  -- where no two ranks give enough, no two cards do, the lower rank first
+  -- if no two ranks give enough points, no two cards do, the lower rank first
   too_little : (sought : Sought) (spare enough x y : ℕ) → NoneGive worst sought spare enough → MayThrow worst x y → rank_of x ≤ rank_of y →
       IsRank (rank_of x) → IsRank (rank_of y) →
       sought_points worst sought x y ≤ plain_crib worst (rank_of x) (rank_of y) + most_crib_suits worst (rank_of x) (rank_of y) + spare →
@@ -120,7 +120,7 @@ module _ (worst : WorstShow) where
       through a b c d e = omega arith
 
   module _ (unseen_set : IsCardSet worst.unseen) where
-    -- the crib of two cards is no more than the points of their ranks and the most of the suits
+    -- the crib with two cards thrown has at most the points of their ranks and the most of their suits
     crib_low : (x y : ℕ) → MayThrow worst x y → IsRank (rank_of x) → IsRank (rank_of y) → crib_points (crib_with worst x y) worst.starter
         ≤ plain_crib worst (rank_of x) (rank_of y) + most_crib_suits worst (rank_of x) (rank_of y)
     crib_low x y may range_x range_y =
@@ -222,7 +222,7 @@ module _ (worst : WorstShow) where
             let inner = and_parts (has worst.unseen k) (not (eqb k x)) (sym (has-set_without worst.unseen x k card) ∙ outer.0) in
             (inner.0, eqb-false k x (not-true (eqb k x) inner.1), eqb-false k y (not-true (eqb k y) outer.1))
 
-        -- a hold that is left with as many points as suits can add, and thrown cards that are none of its
+        -- a hold that gets the most points that suits can add, and thrown cards that are not in it
         record Best : Type 0 where
           hold : List ℕ
           is_hold : IsHold worst hold

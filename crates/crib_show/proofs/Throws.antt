@@ -85,7 +85,7 @@ module _ (worst : WorstShow) where
       regroup : (a b c d : ℕ) → a ≡ b → a + c + d ≡ b + (c + d)
       regroup a b c d same = omega arith
 
-  -- the crib of two cards that may be thrown is no less than the least of their ranks
+  -- the crib with two cards that may be thrown has no fewer points than the least crib of their ranks
   pub above_least : (x y : ℕ) → MayThrow x y → IsRank (rank_of x) → IsRank (rank_of y) → least_of_ranks worst (rank_of x) (rank_of y) ≤ crib_points
       (crib_with worst x y) worst.starter
   above_least x y may range_x range_y =
@@ -106,7 +106,7 @@ module _ (worst : WorstShow) where
       joined : (a b c : ℕ) → a ≤ b → b ≡ c → c ≤ 6 → a ≤ 6
       joined a b c h i j = omega arith
 
-  -- where there is a least, two cards have it
+  -- if such a throw is left, some two cards give the least crib of the ranks
   pub record Reaches (points : ℕ) : Type 0 where
     pub x : ℕ
     pub y : ℕ

@@ -1,4 +1,4 @@
--- The least and the most that are found while pairs of ranks are tried.
+-- The least and the most that are found so far, while pairs of ranks are tried.
 use Rattle.std.proofs.Common.{◌≡◌, ◌⊎◌, ℕ, ◌+◌, ◌-◌, ◌*◌, ◌/◌, ◌%◌, ◌<◌, ◌≤◌, min, suc, zero, true, false}
 use Rattle.std.proofs.Common.{refl, sym, ◌∙◌, inl, inr, subst, arith}
 use Rattle.std.proofs.lemmas.Bool.{cases_lt}
@@ -24,7 +24,7 @@ min_right a b c next is same = omega arith
 min_is : (a b : ℕ) → (min a b ≡ a) ⊎ (min a b ≡ b)
 min_is a b = elim (cases_lt a b) [ inl less ↦ inl (omega arith) | inr more ↦ inr (omega arith) ]
 
--- the least of four, one for each suit
+-- the least of four numbers, one for each suit
 abbrev least_of_four : (ℕ → ℕ) → ℕ
 least_of_four f = min (min (min (f 0) (f 1)) (f 2)) (f 3)
 
@@ -113,7 +113,7 @@ module _ (worst : WorstShow) where
         ];
   }
 
-  -- the same of ranks that are those numbers
+  -- the same for ranks that have those numbers
   pub tried_ranks : (first second p q least next : ℕ) → IsLeastBefore worst first second least → p ≡ first → q ≡ second → IsRank p → IsRank q →
       next ≡ min least (least_of_ranks worst p q) →
       (has_room worst p q ≡ true → least_suits worst p q ≤ 6 → next ≤ 102) → IsLeastBefore worst first (second + 1) next
@@ -158,7 +158,7 @@ module _ (worst : WorstShow) where
             before.low;
       }
 
--- the same of pairs of ranks that give too little
+-- the same for pairs of ranks that do not give enough points
 module _ (worst : WorstShow) (sought : Sought) (spare enough : ℕ) where
   pub none_next : (first second p q : ℕ) → NoneGiveBefore worst sought spare enough first second → p ≡ first → q ≡ second →
       ranks_give worst sought spare enough p q ≡ false → NoneGiveBefore worst sought spare enough first (second + 1)

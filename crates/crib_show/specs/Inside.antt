@@ -1,4 +1,4 @@
--- What private functions alone cite, and no public contract rests on.
+-- What private functions alone cite. No public contract rests on it.
 pub mod Counts
 pub mod Extremes
 pub mod Listing

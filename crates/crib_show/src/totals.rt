@@ -1,4 +1,4 @@
-//! The greatest crib, and the greatest sum of the opponent's hand and the crib, both of one deal.
+//! The greatest crib, and the greatest sum of the opponent's hand and the crib of one hidden deal.
 ghost use Rattle.std.specs.Prelude.{◌≡◌, ◌⊎◌, ◌+◌, ◌≤◌, ◌∷◌, ◌++◌, [], IsFalse, IsTrue};
 ghost use Rattle.crib_cards.specs.Cards.{IsRank};
 ghost use Rattle.crib_show.specs.Inside.Extremes.{most_suit_points, plain_crib, ranks_from, suited};
@@ -13,17 +13,17 @@ use super::hands::{is_set, rank_numbered};
 use super::points::{crib_flush, jack_points};
 use crib_cards::{Card, Rank, Suit};
 
-/// What is sought as great as it may be.
+/// The points that the search makes as great as possible.
 #[derive(Clone, Copy)]
 pub enum Sought {
-    /// The crib.
+    /// Those of the crib.
     Crib,
-    /// The crib with what suits add to the opponent's hand, of these ranks.
+    /// Those of the crib, and those that suits add to the opponent's hand of these ranks.
     CribAndHand([Rank; 4]),
 }
 
 impl WorstShow {
-    /// The points of the greatest sum of the opponent's hand and crib, both of one deal. Some deal must agree.
+    /// The greatest sum of the opponent's hand and the crib of one hidden deal, in points. Some hidden deal must agree.
     pub fn most_total(&self) -> u8
         requires { HasDeal self.now }
         ensures { IsGreatestTotal self.now result }
@@ -32,7 +32,7 @@ impl WorstShow {
         self.greatest_total(&plain, self.greatest_crib(&plain))
     }
 
-    /// The points of the greatest crib that the opponent's throw may leave. Some deal must agree.
+    // The points of the greatest crib over the hidden deals that agree. Some hidden deal must agree.
     pub(crate) fn greatest_crib(&self, plain: &PlainCribs) -> u8
         requires deal { HasDeal self.now }
         requires plain { ArePlain self.now.starter self.now.own_throw plain.now }
@@ -42,7 +42,7 @@ impl WorstShow {
         self.most_sought(plain, &Sought::Crib, 0, self.high_crib(plain))
     }
 
-    /// What [`WorstShow::most_total`] answers, with the points of the greatest crib.
+    // The same as [`WorstShow::most_total`]. `crib` is the points of the greatest crib.
     pub(crate) fn greatest_total(&self, plain: &PlainCribs, crib: u8) -> u8
         requires deal { HasDeal self.now }
         requires plain { ArePlain self.now.starter self.now.own_throw plain.now }
@@ -56,7 +56,8 @@ impl WorstShow {
         hand.plain + self.most_sought(plain, &sought, hand.suits, crib + hand.suits)
     }
 
-    /// The most that is sought of the throws, up to a bound.
+    // The greatest number up to `bound` such that some throw gives so many of the points that are sought, or 0. `spare`
+    // is the most points that suits add to the hand.
     fn most_sought(&self, plain: &PlainCribs, sought: &Sought, spare: u8, bound: u8) -> u8
         requires plain { ArePlain self.now.starter self.now.own_throw plain.now }
         requires range { spare ≤ 6 }
@@ -71,7 +72,7 @@ impl WorstShow {
         most
     }
 
-    /// Whether some two ranks give enough of what is sought.
+    // Whether some throw of two ranks gives at least `enough` points.
     fn some_give(&self, plain: &PlainCribs, sought: &Sought, spare: u8, enough: u8) -> bool
         requires plain { ArePlain self.now.starter self.now.own_throw plain.now }
         requires range { spare ≤ 6 }
@@ -90,8 +91,8 @@ impl WorstShow {
         false
     }
 
-    /// Whether cards of two ranks may be thrown that give enough of what is sought. The most that these can give to the
-    /// crib, with some that may come to it, is asked first.
+    // Whether some throw of these two ranks gives at least `enough` points. A bound is tried first: the points of the
+    // ranks, the most that suits add to the crib, and `spare`.
     fn ranks_give(
         &self,
         plain: &PlainCribs,
@@ -124,7 +125,7 @@ impl WorstShow {
                 || self.card_gives(plain, sought, enough, Card::of(first, Suit::Spades), second))
     }
 
-    /// Whether a card may be thrown with one of a rank, so that they give enough of what is sought.
+    // Whether this card may be thrown with one of the rank, and some such throw gives at least `enough` points.
     fn card_gives(
         &self,
         plain: &PlainCribs,
@@ -143,7 +144,7 @@ impl WorstShow {
                 || self.throw_gives(plain, sought, enough, first, Card::of(rank, Suit::Spades)))
     }
 
-    /// Whether the second of two cards may be thrown with the first, and they give enough of what is sought.
+    // Whether the second card may be thrown with the first, and this throw gives at least `enough` points.
     fn throw_gives(
         &self,
         plain: &PlainCribs,
@@ -160,7 +161,7 @@ impl WorstShow {
             && enough <= self.sought_points(plain, sought, first, second)
     }
 
-    /// The points that are sought when two cards are thrown.
+    // The points that are sought, with these two cards thrown.
     fn sought_points(&self, plain: &PlainCribs, sought: &Sought, first: Card, second: Card) -> u8
         requires plain { ArePlain self.now.starter self.now.own_throw plain.now }
         ensures { result ≡ sought_points self.now sought.now first second }
@@ -174,7 +175,7 @@ impl WorstShow {
         }
     }
 
-    /// The show of which two cards are not the opponent's to hold.
+    // The show without these two cards among the unseen ones. The opponent threw them, so he cannot hold them.
     fn without_throw(&self, first: Card, second: Card) -> WorstShow
         ensures { result ≡ without_throw self.now first second }
     {
@@ -184,7 +185,7 @@ impl WorstShow {
         }
     }
 
-    /// The points of the crib when two cards are thrown, those of their ranks taken from the table.
+    // The points of the crib with these two cards thrown. Those of the ranks come from `plain`.
     fn crib_of_throw(&self, plain: &PlainCribs, first: Card, second: Card) -> u8
         requires { ArePlain self.now.starter self.now.own_throw plain.now }
         ensures value { result ≡ crib_points (self.now.own_throw ++ first ∷ second ∷ []) self.now.starter }

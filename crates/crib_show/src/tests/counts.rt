@@ -1,24 +1,24 @@
-//! All 12,994,800 choices of four cards and a starter, counted by their points.
+//! The points of all 12,994,800 choices of four cards and a starter.
 //!
-//! `rt test` counts them in a second or two. `rt try --test`, which doesn't optimise, gives up on them.
+//! `rt test` counts them in a second or two. `rt try --test` doesn't optimise, and gives up on them.
 use super::*;
 use crib_cards::{Rank, Suit};
 
-/// How many hands have 0, 1, 2 .. 29 points. Books have this table: four hands of 29, and none of 19, 25, 26 or 27.
+// How many hands have 0, 1, 2 .. 29 points. Books print this table: four hands have 29, and none has 19, 25, 26 or 27.
 const HANDS: [u32; 30] = [
     1_009_008, 99_792, 2_813_796, 505_008, 2_855_676, 697_508, 1_800_268, 751_324, 1_137_236,
     361_224, 388_740, 51_680, 317_340, 19_656, 90_100, 9_168, 58_248, 11_196, 2_708, 0, 8_068,
     2_496, 444, 356, 3_680, 0, 0, 0, 76, 4,
 ];
 
-/// The same of cribs, which have points for a flush only where the starter is of its suit.
+// How many cribs have so many points. A crib has a flush only if the starter is of its suit.
 const CRIBS: [u32; 30] = [
     1_022_208, 99_792, 2_839_800, 508_908, 2_868_960, 703_496, 1_787_176, 755_320, 1_118_336,
     358_368, 378_240, 43_880, 310_956, 16_548, 88_132, 9_072, 57_288, 11_196, 2_264, 0, 7_828,
     2_472, 444, 356, 3_680, 0, 0, 0, 76, 4,
 ];
 
-// as many places as hand_points and crib_points allow for
+// one entry for each number of points that the contracts of hand_points and crib_points allow
 type Counts = [u32; 103];
 
 fn pack(rt: &impl Abort) -> [Card; 52] {

@@ -1,4 +1,4 @@
-//! What is kept of the shows of one problem.
+//! Answers with what is kept of the shows of one problem.
 ghost use Rattle.crib_show.specs.Shows.{AreShowsFor};
 
 use super::{ACES, counted, twos_against};
@@ -7,7 +7,7 @@ use crate::{Shows, WorstShow};
 use crib_cards::{Rank, RankCounts, Side};
 use std::process::Abort;
 
-// whether what is kept answers as what is worked out anew
+// whether an answer with what is kept is the one that is worked out anew
 fn answers_alike(rt: &impl Abort, worst: &WorstShow, shows: &mut Shows)
     requires { AreShowsFor worst.now shows.old }
     ensures { AreShowsFor worst.now shows.new }

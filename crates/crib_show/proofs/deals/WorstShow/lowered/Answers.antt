@@ -4,7 +4,7 @@ use Rattle.crib_show.specs.Inside.Extremes.{has_room, least_suits, plain_crib}
 use Rattle.crib_show.proofs.deals.WorstShow.lowered.Goals as goal
 use Rattle.crib_show.proofs.deals.WorstShow.lowered.Goals.{then-points-least-via-then-points-least, then-points-least-via-else-points-least+then-not-has_room}
 
--- what has as many points already is no less, whether it may be thrown or not
+-- if the ranks alone have `least` points or more, the crib has no less, whether they may be thrown or not
 no_less : (least plain suits : ℕ) (room : Bool) → least ≤ 255 → least ≤ plain → least ≡ min least (cond room (plain + suits) 255)
 no_less least plain suits true fits much = omega arith
 no_less least plain suits false fits much = omega arith

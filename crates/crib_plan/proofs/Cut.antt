@@ -1,4 +1,4 @@
--- The beginning of a plan is refused as cut short.
+-- A proper beginning of a plan is refused as cut short.
 use Rattle.std.proofs.Common.{ℕ, zero, suc, ◌+◌, List, [], ◌∷◌, ◌++◌, map, Result, codes, sym, ap, ◌∙◌}
 use Rattle.std.proofs.lemmas.List.{append-nil}
 use Rattle.crib_text.specs.Refusals.{Refusal}

@@ -68,7 +68,7 @@ nodes_short place count (node ∷ nodes) few fewer are =
       nodes_short (place + 1) count nodes (omega arith) fewer are.1,
     )
 
--- a line of 122 bytes for each node, and two short ones before them
+-- at most 122 bytes for the line of each node, and 19 for the two lines before them
 pub plan_text-le : (plan : List Node) → ArePlan plan → length (plan_text plan) ≤ 19 + 122 * length plan
 plan_text-le plan is =
     let few = is.0 in

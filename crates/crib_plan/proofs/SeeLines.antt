@@ -1,4 +1,4 @@
--- What is kept of the branches of a see line, told by their letters and nodes.
+-- The branches of a see line as the code keeps them, and as their letters and nodes.
 use Rattle.std.proofs.Common.{◌≡◌, ℕ, zero, suc, ◌+◌, ◌<◌, ◌≤◌, Bool, true, false, not, cond, eqb, ◌||◌, List, [], ◌∷◌, ◌++◌, length, get_or, Some, None, Ok}
 use Rattle.std.proofs.Common.{refl, sym, ap, subst, ◌∙◌, arith, inl, inr}
 use Rattle.std.specs.Prelude.{position, nat_lt, replicate}
@@ -78,7 +78,7 @@ leads_after node other holding nexts free long some =
 
 -- ---- what is kept
 
--- branches that were read, and what is kept of them
+-- what the code keeps stands for the branches that were read
 pub record Stand (earlier : List Branch) (before : Branches) : Type 0 where
   pub long : length before.nexts ≡ 14
   pub letters : (letter : ℕ) → is_end (where_leads letter_bytes before.nexts letter) ≡ not (has_letter earlier letter)
@@ -114,7 +114,7 @@ is_behind [] branch number h = h
 is_behind (one ∷ []) branch number h = h
 is_behind (one ∷ next ∷ earlier) branch number h = is_behind (next ∷ earlier) branch number h
 
--- a set that was read, by its places and by its bytes
+-- the first letter of a set that was read, by its byte and by its place
 pub first_is : (before : Branches) (set : List ℕ) (letters : Letters) → AreLetters before set letters
     → (first_number set ≡ letters.first) × (position_or_len (λ holds. holds) letters.set < length letters.set)
 first_is before set letters are =
@@ -131,7 +131,7 @@ first_is before set letters are =
           | inr more ↦ (let h : position (λ (b : Bool). b) holding ≡ None = rw more refl in absurd cc)
         ]
 
--- one branch more
+-- one more branch was read
 pub one_more : (earlier : List Branch) (before : Branches) (branch : Branch) (letters : Letters) → Stand earlier before → AreLetters before branch.set letters
     → Stand (earlier ++ branch ∷ []) (record { nexts = led_by branch.node letters.set before.nexts; least = letters.first + 1 })
 one_more earlier before branch letters stand are =

@@ -1,4 +1,4 @@
--- When a branch of a see line is refused.
+-- The proofs of the laws of see lines.
 use Rattle.std.proofs.Common.{◌≡◌, ◌≢◌, ℕ, zero, suc, ◌+◌, ◌<◌, ◌≤◌, Bool, true, false, not, cond, ◌&&◌, ◌⊎◌, List, [], ◌∷◌, ◌++◌, length, map, get_or, drop}
 use Rattle.std.proofs.Common.{take, Option, Some, None, Result, Ok, Err, codes, decimal, refl, sym, ap, subst, ◌∙◌, append_assoc, arith, inl, inr}
 use Rattle.std.specs.Prelude.{position, nat_lt, nat_le, bytes_eq, IsOk}
@@ -61,7 +61,7 @@ take_none (byte ∷ bytes) (suc n) none =
     let here : is_colon byte ≡ false = none 0 (omega arith) in
     rw here (take_none bytes n (λ i below. none (suc i) (omega arith)))
 
--- a word that is cut has one colon
+-- a word that is read as two parts has one colon
 cut_count : (word : List ℕ) (parts : Parts) → parts_in word ≡ Ok parts → count_by is_colon word ≡ 1
 unfolding parts_in
 cut_count word parts e =
@@ -79,7 +79,7 @@ cut_count word parts e =
 
 -- ---- one refusal alone
 
--- a reading with no other refusal than one
+-- a reading that can be refused only with this number
 abbrev Only : {A : Type 0} → ℕ → Result A ℕ → Type 0
 Only number read = (refused : ℕ) → read ≡ Err refused → refused ≡ number
 
@@ -237,7 +237,7 @@ stands place count front (branch ∷ back) before after stand small e =
     subst (λ (bs : List Branch). Stand bs after) (append_assoc front (branch ∷ []) back)
     (stands place count (front ++ branch ∷ []) back a.0 after one small.1 a.2)
 
--- branches that pass are kept
+-- the branches so far, and what was read of them
 record Passing (place count : ℕ) (earlier : List Branch) : Type 0 where
   before : Branches
   read : branches_in place count no_branches (map branch_spelling earlier) ≡ Ok before

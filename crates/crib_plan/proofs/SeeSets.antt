@@ -1,4 +1,4 @@
--- Sets of letters, told by their bytes and by the places that they hold.
+-- Sets of letters, as bytes and as the places that they hold.
 use Rattle.std.proofs.Common.{◌≡◌, ℕ, suc, ◌<◌, ◌≤◌, Bool, true, false, not, cond, eqb, List, [], ◌∷◌, length, get_or, Some, refl, sym, ap, ◌∙◌, arith, inl}
 use Rattle.std.proofs.Common.{inr}
 use Rattle.std.specs.List.{position_or_len}
@@ -42,7 +42,7 @@ read_past : (bytes : List ℕ) (letter : ℕ) (letters : List ℕ) (holding : Li
 unfolding letters_read
 read_past bytes letter letters holding other read = rw (other, read) refl
 
--- letters in order are read
+-- bytes that are letters in order are read as a set
 pub read_in_order : (letters bytes : List ℕ) → AreInOrder bytes letters → (holding : List Bool) × (letters_read letters bytes ≡ Some holding)
 unfolding letters_read AreInOrder
 read_in_order [] [] are = ([], refl)
@@ -65,7 +65,7 @@ taken_in_order : (bytes : List ℕ) (letter : ℕ) (letters : List ℕ) → AreI
 unfolding AreInOrder
 taken_in_order bytes letter letters are = inl (refl, are)
 
--- and what a choice of letters leaves is in order
+-- the letters of a set are in order
 pub chosen_in_order : (holding : List Bool) (letters : List ℕ) → AreInOrder (chosen holding letters) letters
 unfolding AreInOrder
 chosen_in_order [] letters = tt
@@ -86,7 +86,7 @@ has_chosen (true ∷ holding) (first ∷ letters) letter e =
     ]
 has_chosen (false ∷ holding) (first ∷ letters) letter e = or_right (eqb first letter) (has letters letter) (has_chosen holding letters letter e)
 
--- a letter that stands first stands nowhere else
+-- the first letter of a list stands only at its front
 not_chosen : (holding : List Bool) (first : ℕ) (letters : List ℕ) (letter : ℕ) → are_distinct (first ∷ letters) ≡ true → eqb first letter ≡ true
     → has (chosen holding letters) letter ≡ false
 not_chosen holding first letters letter distinct same =
@@ -98,7 +98,7 @@ not_chosen holding first letters letter distinct same =
       | inr e ↦ e
     ]
 
--- none is chosen where no place is held
+-- a set that holds no place has no letters
 pub chosen_none : (holding : List Bool) (letters : List ℕ) → length holding ≤ position_or_len (λ holds. holds) holding → chosen holding letters ≡ []
 chosen_none [] letters none = refl
 chosen_none (holds ∷ holding) [] none = refl
@@ -107,7 +107,7 @@ chosen_none (true ∷ holding) (letter ∷ letters) none =
     absurd (omega arith)
 chosen_none (false ∷ holding) (letter ∷ letters) none = chosen_none holding letters (omega arith)
 
--- and the first that is chosen stands at the first place that is held
+-- the first letter of a set stands at the first place that the set holds
 pub number_of_first : (holding : List Bool) (letters : List ℕ) → are_distinct letters ≡ true → length holding ≡ length letters
     → position_or_len (λ holds. holds) holding < length holding
     → position_or_len (λ letter. eqb letter (get_or (chosen holding letters) 0 0)) letters ≡ position_or_len (λ holds. holds) holding
@@ -141,7 +141,7 @@ where_leads [] nexts letter = End
 where_leads (first ∷ letters) [] letter = End
 where_leads (first ∷ letters) (next ∷ nexts) letter = cond (eqb first letter) next (where_leads letters nexts letter)
 
--- the letters of a set come to lead to a node, and the others stay
+-- each letter of a set leads to the node, and the others lead where they led
 pub leads_led : (node letter : ℕ) (letters : List ℕ) (holding : List Bool) (nexts : List Next) → are_distinct letters ≡ true → length nexts ≡ length letters
     → where_leads letters (led_by node holding nexts) letter ≡ cond (has (chosen holding letters) letter) (To node) (where_leads letters nexts letter)
 leads_led node letter [] [] nexts distinct long = refl
@@ -161,7 +161,7 @@ leads_led node letter (first ∷ letters) (false ∷ holding) (next ∷ nexts) d
       | inr differs ↦ rw differs (leads_led node letter letters holding nexts parts.1 (omega arith))
     ]
 
--- no letter of a set leads anywhere
+-- each letter of a free set leads to the end
 pub free_all : (letter : ℕ) (letters : List ℕ) (holding : List Bool) (nexts : List Next) → are_distinct letters ≡ true → are_free holding nexts ≡ true
     → has (chosen holding letters) letter ≡ true → is_end (where_leads letters nexts letter) ≡ true
 free_all letter [] [] nexts distinct free e = refl

@@ -1,4 +1,4 @@
--- When a branch of a see line is refused, in the words of the format.
+-- The laws of see lines: when a branch is refused, in the words of the format.
 use Rattle.std.specs.Prelude.{◌≡◌, ◌≢◌, ℕ, ◌<◌, ◌≤◌, ◌==◌, Bool, true, false, List, [], ◌∷◌, ◌++◌, ◌⊎◌, length, map}
 use Rattle.std.specs.Prelude.{count_by, slice_index, Some, None, IsOk, Err, codes, decimal}
 use Rattle.std.specs.List.{list_any, position_or_len, AllByRecursion}
@@ -9,7 +9,7 @@ use Rattle.crib_plan.specs.Spelling.{letter_bytes, colon}
 use Rattle.crib_plan.specs.Refusals.{bad_next, bad_set}
 use Rattle.crib_plan.specs.Reading.{no_branches, branches_in}
 
--- a branch: its letters, and the number of the node to which they lead
+-- a branch: its letters, and the number of its node
 pub record Branch : Type 0 where
   pub set : List ℕ
   pub node : ℕ
@@ -18,7 +18,7 @@ pub record Branch : Type 0 where
 abbrev pub branch_spelling : Branch → List ℕ
 branch_spelling branch = branch.set ++ colon ∷ decimal branch.node
 
--- bytes that are some of these letters, in the same order
+-- bytes are some of these letters, in the same order
 unfoldable pub AreInOrder : List ℕ → List ℕ → Type 0
 AreInOrder [] letters = Unit {0}
 AreInOrder (byte ∷ bytes) [] = ⊥
@@ -29,7 +29,7 @@ AreInOrder (byte ∷ bytes) (letter ∷ letters) =
 abbrev pub letter_number : ℕ → ℕ
 letter_number byte = position_or_len (λ letter. letter == byte) letter_bytes
 
--- the place of the first letter of a set
+-- the place of the first letter of a branch
 abbrev pub first_number : List ℕ → ℕ
 first_number set = letter_number (slice_index set 0)
 
@@ -41,14 +41,14 @@ has_letter branches letter = list_any (λ branch. has branch.set letter) branche
 abbrev pub has_node : List Branch → ℕ → Bool
 has_node branches node = list_any (λ branch. branch.node == node) branches
 
--- a letter at this place stands behind the first letter of the last branch, if there is one
+-- a place is behind that of the first letter of the last branch, if there is a branch
 abbrev pub IsBehindLast : List Branch → ℕ → Type 0
 IsBehindLast [] number = Unit {0}
 IsBehindLast (branch ∷ []) number = first_number branch.set < number
 IsBehindLast (branch ∷ next ∷ branches) number = IsBehindLast (next ∷ branches) number
 
--- a set that may stand behind some branches: one or more letters in their order, none of which stood before, the first
--- of them behind the first of the branch before
+-- letters that may stand in the next branch: they are one or more letters in their order, none stood in an earlier
+-- branch, and the first one is behind the first letter of the branch before
 pub record IsNextSet (earlier : List Branch) (set : List ℕ) : Type 0 where
   pub some : 0 < length set
   pub in_order : AreInOrder set letter_bytes
@@ -61,7 +61,7 @@ Pass place count earlier =
     AllByRecursion (λ branch. branch.node ≤ 4294967295) earlier
     × IsOk (branches_in place count no_branches (map branch_spelling earlier))
 
--- behind them this word is refused, whatever words follow it
+-- behind branches that pass, a word is refused with this number, whatever words follow it
 abbrev pub IsRefused : ℕ → ℕ → List Branch → List ℕ → ℕ → Type 0
 IsRefused place count earlier word number =
     (more : List (List ℕ)) →
@@ -71,44 +71,44 @@ IsRefused place count earlier word number =
 abbrev pub HasNoColon : List ℕ → Type 0
 HasNoColon bytes = list_any (λ byte. byte == colon) bytes ≡ false
 
--- a later node of the plan
+-- a node is a later node of the plan
 abbrev pub IsLaterNode : ℕ → ℕ → ℕ → Type 0
 IsLaterNode place count node = (place < node) × (node < count)
 
--- first a word without exactly one colon is refused
+-- first: a word without exactly one colon is refused
 abbrev pub ColonLaw : Type 0
 ColonLaw =
     (place count : ℕ) (earlier : List Branch) (word : List ℕ) → Pass place count earlier →
     count_by (λ byte. byte == colon) word ≢ 1 → IsRefused place count earlier word bad_line
 
--- then a set that may not stand there
+-- second: letters that may not stand there are refused
 abbrev pub SetLaw : Type 0
 SetLaw =
     (place count : ℕ) (earlier : List Branch) (set next : List ℕ) → Pass place count earlier →
     HasNoColon set → HasNoColon next → ¬ IsNextSet earlier set →
     IsRefused place count earlier (set ++ colon ∷ next) bad_set
 
--- then `end`
+-- third: the target `end` is refused
 abbrev pub EndLaw : Type 0
 EndLaw =
     (place count : ℕ) (earlier : List Branch) (set : List ℕ) → Pass place count earlier →
     HasNoColon set → IsNextSet earlier set → IsRefused place count earlier (set ++ colon ∷ codes "end") bad_next
 
--- then a word that is no number
+-- fourth: a target that is no number is refused
 abbrev pub NumberLaw : Type 0
 NumberLaw =
     (place count : ℕ) (earlier : List Branch) (set next : List ℕ) → Pass place count earlier →
     HasNoColon set → HasNoColon next → IsNextSet earlier set → next ≢ codes "end" → number_read next ≡ None →
     IsRefused place count earlier (set ++ colon ∷ next) bad_number
 
--- then a number that is of no later node
+-- fifth: a number that is not that of a later node is refused
 abbrev pub RangeLaw : Type 0
 RangeLaw =
     (place count : ℕ) (earlier : List Branch) (set next : List ℕ) (node : ℕ) → Pass place count earlier →
     HasNoColon set → HasNoColon next → IsNextSet earlier set → number_read next ≡ Some node →
     ¬ IsLaterNode place count node → IsRefused place count earlier (set ++ colon ∷ next) bad_next
 
--- then a node that stood before
+-- sixth: the node of an earlier branch is refused
 abbrev pub NodeLaw : Type 0
 NodeLaw =
     (place count : ℕ) (earlier : List Branch) (set next : List ℕ) (node : ℕ) → Pass place count earlier →
@@ -116,7 +116,7 @@ NodeLaw =
     IsLaterNode place count node → has_node earlier node ≡ true →
     IsRefused place count earlier (set ++ colon ∷ next) bad_set
 
--- and every other branch passes
+-- every other branch passes
 abbrev pub PassLaw : Type 0
 PassLaw =
     (place count : ℕ) (earlier : List Branch) (set next : List ℕ) (node : ℕ) → Pass place count earlier →

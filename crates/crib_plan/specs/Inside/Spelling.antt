@@ -1,4 +1,4 @@
--- The lines of a plan as they are read and written branch by branch, and the room that they take.
+-- The lines of a plan as the code reads and writes them, branch by branch, and the room that they take.
 use Rattle.std.specs.Prelude.{ℕ, List, [], ◌∷◌, if◌then◌else◌}
 use Rattle.crib_cards.specs.Sets.{has}
 use Rattle.crib_text.specs.Spelling.{space}
@@ -8,19 +8,19 @@ use Rattle.crib_plan.specs.declared.plan.Node.{Node}
 use Rattle.crib_plan.specs.declared.plan.Node.TheVariants.{Play, See}
 use Rattle.crib_plan.specs.Spelling.{branch_word}
 
--- the nodes that stood before, after some more branches
+-- the nodes that stood before, once some more branches have come
 abbrev pub seen_after : List ℕ → List Next → List ℕ
 seen_after before [] = before
 seen_after before (End ∷ branches) = seen_after before branches
 seen_after before (To node ∷ branches) =
     if has before node then seen_after before branches else seen_after (node ∷ before) branches
 
--- a branch after a space
+-- the word of a branch, after a space
 abbrev pub spaced_branch : List Next → ℕ → List ℕ
 spaced_branch branches node = space ∷ branch_word branches node
 
--- the most bytes of a node's line: a play line has at most two numbers of five digits, and a see line at most fourteen
--- branches with a letter each
+-- the most bytes of a node's line. A play line has at most two numbers of five digits. A see line has at most fourteen
+-- branches, with a letter each
 abbrev pub longest_line : Node → ℕ
 longest_line (Play card next) = 20
 longest_line (See branches) = 122

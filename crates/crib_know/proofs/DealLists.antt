@@ -62,7 +62,7 @@ count_of_fewer f p q (x ∷ xs) =
           ]
     ]
 
--- a set without a few cards keeps all but these few
+-- a set without a few cards keeps all others
 pub kept : (f p : ℕ → Bool) (xs : List ℕ) → are_distinct xs ≡ true → AreCards xs →
     count_by f (set_where p) ≤ count_by f (set_where (λ c. p c && not (has xs c))) + length xs
 unfolding set_where
@@ -73,7 +73,7 @@ kept f p xs distinct cards =
     let most = count_most f xs in
     omega (arith, split, few, set, most)
 
--- a set with the cards of a list: these and the others
+-- a set is the cards of a list and its other cards
 pub split_set : (f p : ℕ → Bool) (xs : List ℕ) → are_distinct xs ≡ true → AreCards xs → ((card : ℕ) → has xs card ≡ true → p card ≡ true) →
     count_by f (set_where p) ≡ count_by f xs + count_by f (set_where (λ c. p c && not (has xs c)))
 unfolding set_where

@@ -1,4 +1,4 @@
--- Histories that were led turn by turn: each of them could come after those before it.
+-- Histories that can come turn by turn.
 use Rattle.std.specs.Prelude.{◌≡◌, ◌+◌, ◌≤◌, List, [], ◌∷◌, IsTrue, IsFalse}
 use Rattle.std.specs.List.{list_any}
 use Rattle.crib_cards.specs.Cards.{card_value}
@@ -11,8 +11,8 @@ use Rattle.crib_problem.specs.Setup.{Setup}
 use Rattle.crib_know.specs.Knowledge.{asked_now, own_left, count_after}
 use Rattle.crib_know.specs.Hidden.{CanShow}
 
--- a turn that can come next: the owner, when he is asked, plays a card that he has and that fits, or says go where none fits; the opponent shows what some deal
--- lets him show
+-- a turn can come next. The owner must be asked, and play a card that he has and that fits, or say go if none fits. The opponent must show a letter that some
+-- hidden deal lets him show
 abbrev pub MayCome : Setup → List Event → Event → Type 0
 MayCome problem history (Own (move.Card card)) =
     (asked_now problem history ≡ turns.Owner) × IsTrue (has (own_left problem history) card) × (count_after problem history + card_value card ≤ 31)
@@ -20,7 +20,7 @@ MayCome problem history (Own move.Go) =
     (asked_now problem history ≡ turns.Owner) × IsFalse (list_any (fits_at (count_after problem history)) (own_left problem history))
 MayCome problem history (Theirs letter) = CanShow problem history letter
 
--- a history each turn of which could come
+-- each turn of a history can come after those before it
 abbrev pub IsLed : Setup → List Event → Type 0
 IsLed problem [] = Unit {0}
 IsLed problem (event ∷ history) = IsLed problem history × MayCome problem history event

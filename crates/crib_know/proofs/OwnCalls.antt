@@ -46,7 +46,7 @@ use Rattle.crib_know.proofs.Calls.{play_facts, go_shows, go_facts}
 pub moved : (know now : Knowledge) (problem : Setup) (history : List Event) → know ≡ now → KnowsAfter now problem history → KnowsAfter know problem history
 moved know now problem history same knows = let K : Knowledge → Type 0 = λ k. KnowsAfter k problem history in subst K (sym same) knows
 
--- what can be shown after one history can be shown after each
+-- what can be shown after one history that a knowledge stands for can be shown after each
 pub moved_play : (know now : Knowledge) (same : know ≡ now) (rank : ℕ) → CanShowAt now (Seen rank) → (problem : Setup) (history : List Event) →
     KnowsAfter know problem history → CanShow problem history (Seen rank)
 moved_play know now same rank can problem history knows =
@@ -108,7 +108,7 @@ start_knows problem setup dealer scores target next same_dealer same_scores same
           (own ∙ ap set_of (sym (filter_all problem.hold))) (ranks ∙ sym counts_none) left least unseen fixed;
     }
 
--- after the turns that are played already
+-- what the owner knows after the opening
 pub played_knows : (problem : Setup) → IsSetup problem → (know next : Knowledge) → KnowsAfter know (at_first_lead problem) (played_events problem) →
     next.round ≡ know.round → next.own_left ≡ know.own_left → next.ranks_seen ≡ know.ranks_seen →
     next.opponent_left ≡ know.opponent_left → next.least ≡ know.least → next.unseen ≡ know.unseen → next.fixed ≡ set_of (fixed_cards problem) →
@@ -255,7 +255,7 @@ come_none know can =
     (λ i. list_any (λ card. leb (count_of know.round.pile + card_value card) 31) (own_same know can.0 can.1 can.2 i))
     ∙ (λ i. list_any (λ card. leb (count_same know can.0 can.1 can.2 i + card_value card) 31) (own_left can.0 can.1)) ∙ (come_may know (Own move.Go) can).1
 
--- a turn played already, after those before it
+-- one more turn of the opening
 pub see_next : (problem : Setup) (setup : IsSetup problem) (know : Knowledge) (i : ℕ) (act : Act) → i < length problem.played →
     act ≡ get_or problem.played i act → KnowsAfter know (at_first_lead problem) (map event_of (reverse (take i problem.played))) → CanComeAt know (event_of act)
 see_next problem setup know i act lt at knows =

@@ -1,4 +1,4 @@
--- Dictionary order, and lists that rise.
+-- Rising lists, and their dictionary order.
 use Rattle.std.proofs.Common.{◌≡◌, ℕ, zero, suc, ◌+◌, ◌<◌, ◌≤◌, Bool, true, false, cond, not, ◌&&◌, ◌||◌, eqb, ltb, List, [], ◌∷◌, ◌++◌, length, take}
 use Rattle.std.proofs.Common.{refl, sym, ap, ◌∙◌, inl, inr, arith}
 use Rattle.std.specs.List.{filter, range_with_len}
@@ -20,7 +20,7 @@ before_above : (x y : ℕ) (xs ys : List ℕ) → y < x → is_before (x ∷ xs)
 before_above x y xs ys above = or_from (ltb x y) (eqb x y && is_before xs ys) (le-ltb x y (omega arith))
     (and_left (eqb x y) (is_before xs ys) (ne_eqb x y (λ e. absurd (omega arith))))
 
--- cards of a range that starts later
+-- a list of higher cards does not come before one with a lower first card
 pub later_first : (h : ℕ → Bool) (start n card : ℕ) (others : List ℕ) → card < start → 1 ≤ length (filter h (range_with_len start n)) →
     is_before (filter h (range_with_len start n)) (card ∷ others) ≡ false
 later_first h start zero card others later some = absurd (omega arith)
@@ -33,7 +33,7 @@ later_first h start (suc n) card others later some =
           ap (λ (xs : List ℕ). is_before xs (card ∷ others)) same ∙ later_first h (start + 1) n card others (omega arith) (omega (arith, some, ap length same))
     ]
 
--- lists of one length, one after another
+-- two fronts of one length, and what comes after them
 pub before_append : (xs ys us vs : List ℕ) → length xs ≡ length ys → is_before xs ys ≡ false → (xs ≡ ys → is_before us vs ≡ false) →
     is_before (xs ++ us) (ys ++ vs) ≡ false
 before_append [] [] us vs len e rest = rest refl
@@ -52,7 +52,7 @@ before_append (x ∷ xs) (y ∷ ys) us vs len e rest =
       | inr other ↦ and_left (eqb x y) (is_before (xs ++ us) (ys ++ vs)) other
     ])
 
--- the first of two lists stands before the other where it has the lower first card
+-- the list with the lower first card comes before the other
 earlier : (g : ℕ → Bool) (start n card : ℕ) (others : List ℕ) → card < start → 1 ≤ length (filter g (range_with_len start n)) →
     is_before (card ∷ others) (filter g (range_with_len start n)) ≡ true
 earlier g start zero card others later some = absurd (omega arith)
@@ -66,7 +66,7 @@ earlier g start (suc n) card others later some =
           ap (is_before (card ∷ others)) same ∙ earlier g (start + 1) n card others (omega arith) (omega (arith, some, ap length same))
     ]
 
--- the same card in front of both
+-- the order without the first card, if both lists have the same
 front_back : (x : ℕ) (xs ys : List ℕ) → is_before (x ∷ xs) (x ∷ ys) ≡ false → is_before xs ys ≡ false
 front_back x xs ys e =
     elim (and_cases (eqb x x) (is_before xs ys) (or_parts (ltb x x) (eqb x x && is_before xs ys) e).1) [
@@ -74,7 +74,7 @@ front_back x xs ys e =
       | inr later ↦ later
     ]
 
--- cards that both lists have in common change nothing in their order
+-- cards that both lists have do not change their order
 module _ (f h g : ℕ → Bool) (apart_h : (card : ℕ) → f card ≡ true → h card ≡ false) (apart_g : (card : ℕ) → f card ≡ true → g card ≡ false) where
   abbrev fh : ℕ → Bool
   fh card = f card || h card
@@ -186,7 +186,7 @@ filter_agree p q start (suc n) same =
     ap (λ (b : Bool). cond b (start ∷ filter p (range_with_len (start + 1) n)) (filter p (range_with_len (start + 1) n))) (same start (omega arith))
     ∙ ap (λ (xs : List ℕ). cond (q start) (start ∷ xs) xs) (filter_agree p q (start + 1) n (λ k low. same k (omega arith)))
 
--- a rising list is its set
+-- a rising list is the set of its cards
 filter_rising : (xs : List ℕ) (start n : ℕ) → are_rising xs ≡ true → ((card : ℕ) → has xs card ≡ true → (start ≤ card) × (card < start + n)) →
     filter (has xs) (range_with_len start n) ≡ xs
 filter_rising [] start zero rising within = refl

@@ -1,3 +1,3 @@
--- What private functions alone cite, and no public contract rests on.
+-- What private functions alone cite. No public contract rests on it.
 pub mod Choice
 pub mod Knowledge

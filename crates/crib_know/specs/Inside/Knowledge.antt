@@ -1,7 +1,7 @@
--- A problem without its turns.
+-- A problem without its opening.
 use Rattle.std.specs.Prelude.{[]}
 use Rattle.crib_problem.specs.Setup.{Setup}
 
--- a problem before any of its turns is played
+-- the problem without its opening
 abbrev pub at_first_lead : Setup → Setup
 at_first_lead problem = record problem { played = [] }

@@ -24,13 +24,13 @@ fn answers_from_what_is_kept(rt: HostRuntime) {
     worst.stop = true;
     let mut shows = Shows::new(&worst.own_hold, &worst.own_throw, worst.starter);
     for _turn in 0..2 {
-        // twelve in the hand and 29 in the crib
+        // the opponent gets twelve points for the hand and 29 for the crib
         worst.ranks = counted(&rt, ACES);
         worst.scores.opponent = 79;
         answers_alike(&rt, &worst, &mut shows);
         worst.scores.opponent = 80;
         answers_alike(&rt, &worst, &mut shows);
-        // another hand of the same ranks, and another hand
+        // the owner deals now, with the same ranks, and then with others
         worst.dealer = Side::Owner;
         worst.scores.opponent = 109;
         answers_alike(&rt, &worst, &mut shows);

@@ -76,7 +76,7 @@ leads_after node other holding nexts free long some =
           ])
     ])
 
--- ---- what is kept
+-- ---- the branches so far
 
 -- what the code keeps stands for the branches that were read
 pub record Stand (earlier : List Branch) (before : Branches) : Type 0 where
@@ -170,7 +170,7 @@ one_more earlier before branch letters stand are =
     or_nothing true = refl
     or_nothing false = refl
 
--- ---- a set behind the branches before
+-- ---- the letters of the next branch
 
 pub next_set_found : (earlier : List Branch) (before : Branches) (set : List ℕ) (letters : Letters) → Stand earlier before
     → letters_in before set ≡ Ok letters → IsNextSet earlier set

@@ -77,7 +77,7 @@ cut_count word parts e =
     let behind = count_none (drop (a.0 + 1) word) back in
     omega (arith, ap (count_by is_colon) whole, count_around (take a.0 word) (drop (a.0 + 1) word), front, behind)
 
--- ---- one refusal alone
+-- ---- readings with only one refusal
 
 -- a reading that can be refused only with this number
 abbrev Only : {A : Type 0} → ℕ → Result A ℕ → Type 0

@@ -42,7 +42,7 @@ use Rattle.crib_know.proofs.Calls.{same_knowledge, led_of, asked_same, count_sam
 use Rattle.crib_know.proofs.Calls.{after_own_play, own_go_high, after_own_go, unseen_same, fixed_same, stands_before, play_shows}
 use Rattle.crib_know.proofs.Calls.{play_facts, go_shows, go_facts}
 
--- ---- a knowledge that is known by another name
+-- ---- two names of one knowledge
 pub moved : (know now : Knowledge) (problem : Setup) (history : List Event) → know ≡ now → KnowsAfter now problem history → KnowsAfter know problem history
 moved know now problem history same knows = let K : Knowledge → Type 0 = λ k. KnowsAfter k problem history in subst K (sym same) knows
 

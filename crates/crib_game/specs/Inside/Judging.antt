@@ -43,7 +43,7 @@ fault_at remark table cards act place =
     first_fault remark (is_over table.asked) (asks table.asked act.side)
     (move_fault_at (count_of table.pile) cards act.what place) place
 
--- the round allows a move: the card makes at most 31, or the go is said at a count of 22 or more
+-- the round allows a move: the count with the card is at most 31, or the go is said at a count of 22 or more
 abbrev pub MayShowAt : Move → Standing → Type 0
 MayShowAt (move.Card card) table = count_of table.pile + card_value card ≤ 31
 MayShowAt move.Go table = 22 ≤ count_of table.pile

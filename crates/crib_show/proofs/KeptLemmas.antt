@@ -1,4 +1,4 @@
--- What is kept of one show is right for every other show with the same cards.
+-- What is kept of a show is right for each other with the same cards.
 use Rattle.std.proofs.Common.{◌≡◌, ℕ, ◌+◌, ◌≤◌, ◌++◌, List, None, IsTrue, refl, sym, ap, ◌∙◌, subst}
 use Rattle.std.proofs.lemmas.Option.{IfSome_then}
 use Rattle.std.specs.List.{list_all}
@@ -11,7 +11,7 @@ use Rattle.crib_show.specs.Worst.{AgreesWith, IsGreatestCrib, IsGreatestHand, Is
 use Rattle.crib_show.specs.declared.deals.WorstShow.{WorstShow}
 use Rattle.crib_show.specs.declared.shows.Kept.{Kept}
 
--- where nothing is kept, nothing that is kept is wrong
+-- nothing that is kept is right
 pub none_kept : (starter : ℕ) (throw unseen fixed ranks : List ℕ) →
     AreKeptFor starter throw unseen fixed (record { ranks = ranks; greatest_hand = None; least_crib = None; greatest_crib = None; greatest_total = None })
 none_kept starter throw unseen fixed ranks = λ worst is. record { greatest_hand = tt; least_crib = tt; greatest_crib = tt; greatest_total = tt }
@@ -87,7 +87,7 @@ pub kept_for : (worst : WorstShow) (kept : Kept) → AreKeptFor worst.starter wo
     AreKept worst kept
 kept_for worst kept all is = all worst (own_cards worst kept.ranks (sym is))
 
--- what is right for a show is kept for its ranks
+-- what is right of it is kept for its ranks
 pub kept_from : (worst : WorstShow) (kept : Kept) → AreKept worst kept → kept.ranks ≡ worst.ranks →
     AreKeptFor worst.starter worst.own_throw worst.unseen worst.fixed kept
 kept_from worst kept right is =

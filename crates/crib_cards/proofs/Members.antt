@@ -1,9 +1,10 @@
 -- Lemmas about the members of a list, and about lists with no number twice.
-use Rattle.std.proofs.Common.{◌≡◌, ◌⊎◌, ℕ, Bool, true, false, not, eqb, List, [], ◌∷◌, ◌++◌, refl, sym, ap, ◌∙◌, inl, inr}
+use Rattle.std.proofs.Common.{◌≡◌, ◌⊎◌, ℕ, Bool, true, false, not, eqb, List, [], ◌∷◌, ◌++◌, refl, sym, ap, ◌∙◌, inl, inr, arith}
 use Rattle.std.specs.List.{list_all}
 use Rattle.std.proofs.lemmas.Bool.{and_parts, and_from, or_cases, or_parts, or_from, or_left, or_right, both_ways, not-true, eqb-true, eq-eqb}
 use Rattle.crib_cards.specs.Sets.{has, are_distinct}
 use Rattle.crib_cards.proofs.SetFacts.{has-append}
+use Rattle.crib_cards.specs.Cards.{IsCard, rank_of, IsRank}
 
 -- ---- members of a list
 
@@ -20,6 +21,10 @@ has_cases x y xs h = elim (or_cases (eqb x y) (has xs y) h) [ inl here ↦ inl (
 abbrev pub AreAmong : List ℕ → List ℕ → Type 0
 AreAmong cards xs = (x : ℕ) → has xs x ≡ true → has cards x ≡ true
 
+-- all numbers of a list are cards
+abbrev pub AreCards : List ℕ → Type 0
+AreCards xs = (x : ℕ) → has xs x ≡ true → IsCard x
+
 pub all_has : (p : ℕ → Bool) (xs : List ℕ) (x : ℕ) → list_all p xs ≡ true → has xs x ≡ true → p x ≡ true
 all_has p [] x all h = absurd (both_ways false refl h)
 all_has p (y ∷ xs) x all h =
@@ -32,6 +37,9 @@ all_has p (y ∷ xs) x all h =
 pub all_from : (p : ℕ → Bool) (xs : List ℕ) → ((x : ℕ) → has xs x ≡ true → p x ≡ true) → list_all p xs ≡ true
 all_from p [] each = refl
 all_from p (x ∷ xs) each = and_from (p x) (list_all p xs) (each x (has_here x xs)) (all_from p xs (λ y h. each y (has_there x y xs h)))
+
+pub rank_is : (card : ℕ) → IsCard card → IsRank (rank_of card)
+rank_is card is = (omega arith, omega arith)
 
 -- ---- lists with no number twice
 

@@ -1,11 +1,11 @@
 -- Lemmas about sets that are built card by card, and sets that are walked from the lowest card on.
-use Rattle.std.proofs.Common.{◌≡◌, ℕ, ◌+◌, ◌<◌, Bool, true, false, not, eqb, ◌&&◌, ◌||◌, List, [], ◌∷◌, ◌++◌, length, take, get_or, Some, None, refl, sym, ap}
-use Rattle.std.proofs.Common.{◌∙◌, arith}
+use Rattle.std.proofs.Common.{◌≡◌, ℕ, ◌+◌, ◌<◌, Bool, true, false, not, eqb, ◌&&◌, ◌||◌, List, [], ◌∷◌, ◌++◌, length, take, get_or, Some, refl, sym, ap, set}
+use Rattle.std.proofs.Common.{◌∙◌, arith, zero, suc}
 use Rattle.std.proofs.lemmas.List.{take_more}
 use Rattle.std.proofs.Math.Bool.{or-false, or_assoc, and-true}
 use Rattle.crib_cards.specs.Deals.{unseen_from}
 use Rattle.crib_cards.specs.Sets.{has, set_of, set_with, set_with_all, set_without, set_without_all, IsCardSet, first_of_list}
-use Rattle.crib_cards.proofs.SetLemmas.{has-set_where, set_where_agree, set_without-lowest, has_push, eqb_turned}
+use Rattle.crib_cards.proofs.SetLemmas.{has-set_where, set_where_agree, set_without-lowest, has_push, eqb_turned, and_not_or}
 use Rattle.crib_cards.proofs.SetFacts.{has-append}
 
 -- ---- one card more
@@ -51,13 +51,8 @@ pub set_without-set_without_all : (cards others : List ℕ) (card : ℕ) →
 set_without-set_without_all cards others card =
     set_where_agree _ _ (λ other is.
     ap (λ (b : Bool). b && not (eqb other card)) (has-set_where (λ k. has cards k && not (has others k)) other is)
-    ∙ neither (has cards other) (has others other) (eqb other card)
+    ∙ and_not_or (has cards other) (has others other) (eqb other card)
     ∙ ap (λ (b : Bool). has cards other && not b) (sym (has_last others card other)))
-  where
-    neither : (a b c : Bool) → ((a && not b) && not c) ≡ (a && not (b || c))
-    neither true true c = refl
-    neither true false c = refl
-    neither false b c = refl
 
 pub set_without_all-more : (cards others set next : List ℕ) (i card : ℕ) → i < length others → card ≡ get_or others i card → next ≡ set_without set card →
     set ≡ set_without_all cards (take i others) → next ≡ set_without_all cards (take (i + 1) others)
@@ -79,10 +74,6 @@ set_without_all-unseen_from known more =
 
 -- ---- the lowest card
 
-pub lowest_none : (cards : List ℕ) → None ≡ first_of_list cards → cards ≡ []
-lowest_none [] none = refl
-lowest_none (card ∷ cards) none = absurd cc
-
 -- a set is its lowest card, and then the set without that card
 pub lowest_split : (cards : List ℕ) (card : ℕ) → IsCardSet cards → Some card ≡ first_of_list cards → cards ≡ card ∷ set_without cards card
 lowest_split [] card set first = absurd cc
@@ -96,3 +87,10 @@ pub length-without_lowest : (cards : List ℕ) (card : ℕ) → IsCardSet cards 
 length-without_lowest cards card set first =
     (let e : length (set_without cards card) + 1 ≡ length (card ∷ set_without cards card) = omega arith in e)
     ∙ ap length (sym (lowest_split cards card set first))
+
+pub take_set : (hold : List ℕ) (len card : ℕ) → len < length hold → take (len + 1) (set hold len card) ≡ take len hold ++ card ∷ []
+take_set [] len card inside = absurd (omega arith)
+take_set (first ∷ hold) zero card inside = refl
+take_set (first ∷ hold) (suc len) card inside =
+    let at : suc len + 1 ≡ suc (len + 1) = omega arith in
+    rw at (ap (λ (cs : List ℕ). first ∷ cs) (take_set hold len card (omega arith)))

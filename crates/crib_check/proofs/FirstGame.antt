@@ -1,5 +1,5 @@
 -- A first failing game. The proof uses the contract of the deal that a knowledge names, and is not computation alone.
-use Rattle.std.proofs.Common.{arith, ◌≡◌, refl, ℕ, Bool, true, false, ◌&&◌, List, [], ◌∷◌}
+use Rattle.std.proofs.Common.{arith, ◌≡◌, refl, ℕ, false, List, [], ◌∷◌}
 use Rattle.std.specs.Prelude.{IsFalse}
 use Rattle.std.proofs.lemmas.Bool.{or_from}
 use Rattle.crib_cards.specs.Sets.{set_where, set_without_all}
@@ -15,6 +15,7 @@ use Rattle.crib_know.specs.Inside.Choice.{chosen}
 use Rattle.crib_know.proofs.OwnCalls.{first_is}
 use Rattle.crib_check.specs.Failing.{IsFailing, IsFirstFailing, comes_before, opponent_letters}
 use Rattle.crib_check.proofs.Examples.{four_twos, aces, aces_are_a_deal, no_acts, stuck_at_once}
+use Rattle.crib_cards.proofs.SetLemmas.{and-false}
 
 four_twos_are_a_setup : IsSetup four_twos
 four_twos_are_a_setup = record {
@@ -51,10 +52,6 @@ nothing_before : (numbers : List ℕ) → is_before numbers [] ≡ false
 nothing_before [] = refl
 nothing_before (number ∷ numbers) = refl
 
-both_false : (b c : Bool) → c ≡ false → (b && c) ≡ false
-both_false true c e = e
-both_false false c e = refl
-
 -- the plan without a node is stuck at the first lead, and in no earlier game
 pub first_failing_game : IsFirstFailing four_twos [] no_acts ending.Stuck
 first_failing_game = record {
@@ -67,4 +64,4 @@ first_failing_game = record {
     not_before : (other : Game) (result : Ending) → IsFailing four_twos [] other result → IsFalse (comes_before other no_acts)
     not_before other result fails =
         or_from _ _ (nothing_before (opponent_letters other))
-        (both_false _ (is_before (deal_numbers other.opp) (deal_numbers aces)) (first_deal.first other.opp (fails.of_game.of_game.deal, ([], tt, refl))))
+        (and-false _ (is_before (deal_numbers other.opp) (deal_numbers aces)) (first_deal.first other.opp (fails.of_game.of_game.deal, ([], tt, refl))))

@@ -10,8 +10,9 @@ use Rattle.crib_cards.proofs.SetLemmas.{set_where_agree}
 use Rattle.crib_problem.specs.Setup.{Setup, IsSetup, known_cards, unseen_of}
 use Rattle.crib_problem.proofs.Starts.{each_has}
 use Rattle.crib_know.proofs.Choosing.{is_ten}
-use Rattle.crib_know.proofs.Cards.{count_cons}
-use Rattle.crib_know.proofs.Lists.{count_most, count_set_of, AreCards}
+use Rattle.crib_know.proofs.Lists.{count_most}
+use Rattle.crib_cards.proofs.SetCounts.{count_cons, count_by-set_of}
+use Rattle.crib_cards.proofs.Members.{AreCards}
 
 -- ---- lists
 count_split : (f p q : ℕ → Bool) (xs : List ℕ) → count_by f (filter p xs) ≡ count_by f (filter (λ c. p c && q c) xs) + count_by f
@@ -69,7 +70,7 @@ unfolding set_where
 kept f p xs distinct cards =
     let split = count_split f p (has xs) (range_with_len 0 52) in
     let few = count_of_fewer f p (has xs) (range_with_len 0 52) in
-    let set : count_by f (set_of xs) ≡ count_by f xs = count_set_of f xs distinct cards in
+    let set : count_by f (set_of xs) ≡ count_by f xs = count_by-set_of f xs distinct cards in
     let most = count_most f xs in
     omega (arith, split, few, set, most)
 
@@ -80,7 +81,7 @@ unfolding set_where
 split_set f p xs distinct cards within =
     let split = count_split f p (has xs) (range_with_len 0 52) in
     let both : set_where (λ c. p c && has xs c) ≡ set_of xs = set_where_agree _ _ (λ card is. just (p card) (has xs card) (within card)) in
-    let set : count_by f (set_of xs) ≡ count_by f xs = count_set_of f xs distinct cards in
+    let set : count_by f (set_of xs) ≡ count_by f xs = count_by-set_of f xs distinct cards in
     let same = ap (count_by f) both in
     omega (arith, split, same, set)
   where
@@ -88,12 +89,6 @@ split_set f p xs distinct cards within =
     just true b h = refl
     just false true h = h refl
     just false false h = refl
-
-pub count_append : (f : ℕ → Bool) (xs ys : List ℕ) → count_by f (xs ++ ys) ≡ count_by f xs + count_by f ys
-count_append f [] ys = let none : count_by f [] ≡ 0 = refl in omega (arith, none)
-count_append f (x ∷ xs) ys =
-    let rest : count_by f (xs ++ ys) ≡ count_by f xs + count_by f ys = count_append f xs ys in
-    omega (arith, rest, count_cons f x (xs ++ ys), count_cons f x xs)
 
 pub length_ranks : (xs : List ℕ) → length (map rank_of xs) ≡ length xs
 length_ranks [] = refl

@@ -28,9 +28,9 @@ use Rattle.crib_know.specs.Hidden.{CanShow, CanShowAt, CanComeAt, KnowsAfter, Is
 use Rattle.crib_know.proofs.Leading.{MayCome, IsLed}
 use Rattle.crib_play.proofs.Plays.{filter_all}
 use Rattle.crib_know.specs.Inside.Choice.{first_hold_with}
-use Rattle.crib_know.proofs.Lists.{count_map, count_set_of}
+use Rattle.crib_know.proofs.Lists.{count_map}
 use Rattle.crib_know.proofs.Fixed.{fixed_are_cards, fixed_distinct}
-use Rattle.crib_know.proofs.Played.{reverse_more, setup_at_first_lead, begun_at_first_lead, played_dealt, played_agrees, may_at}
+use Rattle.crib_know.proofs.Played.{setup_at_first_lead, begun_at_first_lead, played_dealt, played_agrees, may_at}
 use Rattle.crib_know.proofs.Counting.{counts_none, counts_agree, chosen_picked}
 use Rattle.crib_know.proofs.RisingLists.{rising_distinct}
 use Rattle.crib_know.proofs.FirstDeals.{Needs, Fixes, free_cards, free_are_cards, free_chosen, first_hold, first_dealt, hold_four, hold_rising, hold_within}
@@ -41,6 +41,8 @@ use Rattle.crib_know.proofs.Knows.{first_deal_is}
 use Rattle.crib_know.proofs.Calls.{same_knowledge, led_of, asked_same, count_same, least_same, seen_same, left_same, own_same}
 use Rattle.crib_know.proofs.Calls.{after_own_play, own_go_high, after_own_go, unseen_same, fixed_same, stands_before, play_shows}
 use Rattle.crib_know.proofs.Calls.{play_facts, go_shows, go_facts}
+use Rattle.crib_cards.proofs.SetCounts.{count_by-set_of}
+use Rattle.crib_problem.proofs.Honest.{reverse_more}
 
 -- ---- two names of one knowledge
 pub moved : (know now : Knowledge) (problem : Setup) (history : List Event) → know ≡ now → KnowsAfter now problem history → KnowsAfter know problem history
@@ -153,7 +155,7 @@ module _ (know : Knowledge) (problem : Setup) (history : List Event) (knows : Kn
   fixed_counts : rank_counts (map rank_of fixed_set) ≡ rank_counts (map rank_of (fixed_cards problem))
   fixed_counts =
       counts_agree (map rank_of fixed_set) (map rank_of (fixed_cards problem))
-      (λ rank. count_map rank_of rank fixed_set ∙ count_set_of (λ card. eqb (rank_of card) rank) (fixed_cards problem) (fixed_distinct problem knows.setup)
+      (λ rank. count_map rank_of rank fixed_set ∙ count_by-set_of (λ card. eqb (rank_of card) rank) (fixed_cards problem) (fixed_distinct problem knows.setup)
       (fixed_are_cards problem knows.setup) ∙ sym (count_map rank_of rank (fixed_cards problem)))
 
   free_is : set_without_all (unseen_of problem) fixed_set ≡ free_cards problem knows.setup

@@ -1,21 +1,20 @@
 -- Rising lists, and their dictionary order.
-use Rattle.std.proofs.Common.{◌≡◌, ℕ, zero, suc, ◌+◌, ◌<◌, ◌≤◌, Bool, true, false, cond, not, ◌&&◌, ◌||◌, eqb, ltb, List, [], ◌∷◌, ◌++◌, length, take}
+use Rattle.std.proofs.Common.{◌≡◌, ℕ, zero, suc, ◌+◌, ◌<◌, ◌≤◌, Bool, true, false, not, ◌&&◌, ◌||◌, eqb, ltb, List, [], ◌∷◌, ◌++◌, length, take}
 use Rattle.std.proofs.Common.{refl, sym, ap, ◌∙◌, inl, inr, arith}
 use Rattle.std.specs.List.{filter, range_with_len}
-use Rattle.std.proofs.lemmas.Bool.{cases_Bool, cases_eq, and_parts, and_from, and_left, and_right, and_cases, or_parts, or_from, or_cases, or_left, or_right}
-use Rattle.std.proofs.lemmas.Bool.{both_ways, eqb-true, eq-eqb, ne_eqb, lt-ltb, le-ltb, ltb-true}
+use Rattle.std.proofs.lemmas.Bool.{cases_Bool, cases_eq, and_parts, and_from, and_left, and_right, and_cases, or_parts, or_from, or_left, or_right}
+use Rattle.std.proofs.lemmas.Bool.{both_ways, eqb-true, eq-eqb, ne_eqb, lt-ltb, le-ltb}
 use Rattle.crib_cards.specs.Cards.{IsCard}
 use Rattle.crib_cards.specs.Sets.{has, are_distinct, set_of, set_where}
 use Rattle.crib_cards.specs.Order.{is_before, are_rising}
 use Rattle.crib_play.proofs.CardLemmas.{filter_yes, filter_no}
-use Rattle.crib_know.proofs.Cards.{eqb_same, has_here, has-filter_parts}
+use Rattle.crib_know.proofs.Cards.{eqb_same, has-filter_parts}
 use Rattle.crib_know.proofs.Lists.{has_range_parts}
-use Rattle.crib_cards.proofs.SetFacts.{rising_rest, rising_above}
+use Rattle.crib_cards.proofs.SetFacts.{rising_rest, rising_above, filter_agree}
+use Rattle.crib_cards.proofs.Members.{has_here}
+use Rattle.crib_cards.proofs.DictionaryOrder.{not_before_rest}
 
 -- ---- dictionary order
-pub before_front : (x : ℕ) (xs ys : List ℕ) → is_before xs ys ≡ false → is_before (x ∷ xs) (x ∷ ys) ≡ false
-before_front x xs ys e = or_from (ltb x x) (eqb x x && is_before xs ys) (le-ltb x x (omega arith)) (and_right (eqb x x) (is_before xs ys) e)
-
 before_above : (x y : ℕ) (xs ys : List ℕ) → y < x → is_before (x ∷ xs) (y ∷ ys) ≡ false
 before_above x y xs ys above = or_from (ltb x y) (eqb x y && is_before xs ys) (le-ltb x y (omega arith))
     (and_left (eqb x y) (is_before xs ys) (ne_eqb x y (λ e. absurd (omega arith))))
@@ -108,7 +107,7 @@ module _ (f h g : ℕ → Bool) (apart_h : (card : ℕ) → f card ≡ true → 
             let no_g = filter_no g start rest (apart_g start common) in
             let later = after_union (start + 1) n (omega (arith, len, ap length no_h, ap length no_g)) ((λ i. is_before (sym no_h i) (sym no_g i)) ∙ e) in
             (λ i. is_before (filter_yes fh start rest (or_left (f start) (h start) common) i) (filter_yes fg start rest (or_left (f start) (g start) common) i))
-            ∙ before_front start (filter fh rest) (filter fg rest) later
+            ∙ not_before_rest start (filter fh rest) (filter fg rest) later
         | inr alone ↦
             elim (cases_Bool (h start)) [
               | inl has_h ↦
@@ -120,7 +119,7 @@ module _ (f h g : ℕ → Bool) (apart_h : (card : ℕ) → f card ≡ true → 
                         (front_back start (filter h rest) (filter g rest) ((λ i. is_before (sym in_h i) (sym in_g i)) ∙ e)) in
                         (λ i. is_before (filter_yes fh start rest (or_right (f start) (h start) has_h) i)
                         (filter_yes fg start rest (or_right (f start) (g start) has_g) i))
-                        ∙ before_front start (filter fh rest) (filter fg rest) later
+                        ∙ not_before_rest start (filter fh rest) (filter fg rest) later
                     | inr no_g ↦
                         let out_g = filter_no g start rest no_g in
                         let first = earlier g (start + 1) n start (filter h rest) (omega arith) (omega (arith, len, ap length in_h, ap length out_g)) in
@@ -178,13 +177,6 @@ rising_distinct (x ∷ xs) rising =
     and_from (not (has xs x)) (are_distinct xs)
     (elim (cases_Bool (has xs x)) [ inl h ↦ (let above = rising_above x xs x rising h in absurd (omega (arith, above))) | inr h ↦ ap not h ])
     (rising_distinct xs (rising_rest x xs rising))
-
--- tests that agree on a range
-filter_agree : (p q : ℕ → Bool) (start n : ℕ) → ((k : ℕ) → start ≤ k → p k ≡ q k) → filter p (range_with_len start n) ≡ filter q (range_with_len start n)
-filter_agree p q start zero same = refl
-filter_agree p q start (suc n) same =
-    ap (λ (b : Bool). cond b (start ∷ filter p (range_with_len (start + 1) n)) (filter p (range_with_len (start + 1) n))) (same start (omega arith))
-    ∙ ap (λ (xs : List ℕ). cond (q start) (start ∷ xs) xs) (filter_agree p q (start + 1) n (λ k low. same k (omega arith)))
 
 -- a rising list is the set of its cards
 filter_rising : (xs : List ℕ) (start n : ℕ) → are_rising xs ≡ true → ((card : ℕ) → has xs card ≡ true → (start ≤ card) × (card < start + n)) →

@@ -1,25 +1,13 @@
 -- Whether some branch leads to a node.
-use Rattle.std.proofs.Common.{◌≡◌, ℕ, zero, suc, ◌+◌, ◌-◌, ◌<◌, ◌≤◌, Bool, true, false, not, cond, eqb, ◌&&◌, ◌||◌, List, [], ◌∷◌, ◌++◌, length, map, get_or}
-use Rattle.std.proofs.Common.{take, drop, Option, Some, None, Ok, decimal, refl, sym, ap, subst, ◌∙◌, append_assoc, arith, inl, inr}
-use Rattle.std.specs.Prelude.{option_map, position, replicate, nat_le}
-use Rattle.std.specs.List.{list_any, AllByRecursion}
-use Rattle.std.proofs.lemmas.Bool.{cases_Bool, cases_eq, eqb-true, eq-eqb, ne_eqb, leb-true, and_parts, not-true, or_left, or_right, or_parts}
-use Rattle.std.proofs.lemmas.List.{append-nil, length-take, take-append-drop, drop-drop, drop_more, map-append}
-use Rattle.std.proofs.lemmas.List.Folds.{list_any-append}
-use Rattle.std.proofs.lemmas.List.Quantifiers.{position-Some}
+use Rattle.std.proofs.Common.{◌≡◌, ℕ, ◌+◌, ◌-◌, Bool, true, false, eqb, ◌||◌, List, [], ◌∷◌, ◌++◌}
+use Rattle.std.proofs.Common.{refl, sym, ap, ◌∙◌, inl, inr}
+use Rattle.std.specs.List.{list_any}
+use Rattle.std.proofs.lemmas.Bool.{cases_Bool, cases_eq, ne_eqb}
 use Rattle.crib_cards.specs.Sets.{has}
-use Rattle.crib_text.specs.Refusals.{bad_line}
-use Rattle.crib_text.specs.Reading.{or_refused, unless_refused}
-use Rattle.crib_text.proofs.ReadingLemmas.{bind_ok, unless_ok, ok_is, or_ok}
 use Rattle.crib_plan.specs.declared.plan.Next.{Next}
 use Rattle.crib_plan.specs.declared.plan.Next.TheVariants.{End, To}
-use Rattle.crib_plan.specs.Nodes.{IsLater}
-use Rattle.crib_plan.specs.Spelling.{letter_bytes, colon, leads_to, letters_to, branch_word, nodes_of}
+use Rattle.crib_plan.specs.Spelling.{leads_to, nodes_of}
 use Rattle.crib_plan.specs.Inside.Spelling.{seen_after}
-use Rattle.crib_plan.specs.Refusals.{bad_set}
-use Rattle.crib_plan.specs.Reading.{is_colon, begins, letters_read, is_end, are_free, led_by, Branches, no_branches, Letters, Parts, parts_in, letters_in}
-use Rattle.crib_plan.specs.Reading.{branch_in, branches_in, branch_node_in}
-use Rattle.crib_plan.proofs.NextFound.{branch_node_found}
 
 -- whether some branch leads to a node
 abbrev pub leads : List Next → ℕ → Bool
@@ -38,7 +26,7 @@ or_false : (a : Bool) → a ≡ (a || false)
 or_false true = refl
 or_false false = refl
 
-or_comm3 : (a b c : Bool) → ((a || b) || c) ≡ (b || (a || c))
+pub or_comm3 : (a b c : Bool) → ((a || b) || c) ≡ (b || (a || c))
 or_comm3 true true c = refl
 or_comm3 true false c = refl
 or_comm3 false true c = refl

@@ -12,7 +12,7 @@ use Rattle.crib_plan.specs.declared.plan.Next.TheVariants.{End, To}
 use Rattle.crib_plan.specs.Spelling.{letter_bytes, leads_to}
 use Rattle.crib_plan.specs.Reading.{is_end, are_free, led_by, Branches, no_branches, Letters, letters_in}
 use Rattle.crib_plan.specs.SeeLaws.{Branch, AreInOrder, first_number, has_letter, has_node, IsBehindLast, IsNextSet}
-use Rattle.crib_plan.proofs.BranchFound.{chosen, led_leads, length-led, AreLetters, letters_found}
+use Rattle.crib_plan.proofs.BranchFound.{chosen, led_leads, length-led, AreLetters, letters_found, end_leads_not}
 use Rattle.crib_plan.proofs.LeadsTo.{leads, or_rest}
 use Rattle.crib_plan.proofs.SeeSets.{chosen_in_order, number_of_first, where_leads, leads_led, free_all}
 
@@ -21,15 +21,7 @@ bool_same true b there back = sym (there refl)
 bool_same false true there back = back refl
 bool_same false false there back = refl
 
-not_not : (a : Bool) → a ≡ not (not a)
-not_not true = refl
-not_not false = refl
-
 -- ---- nodes
-
-ends_not : (next : Next) (node : ℕ) → is_end next ≡ true → leads_to node next ≡ false
-ends_not End node e = refl
-ends_not (To other) node e = absurd cc
 
 leads_kept : (node other : ℕ) (holding : List Bool) (nexts : List Next) → are_free holding nexts ≡ true → leads nexts other ≡ true
     → leads (led_by node holding nexts) other ≡ true
@@ -38,7 +30,7 @@ leads_kept node other (holds ∷ holding) [] free e = e
 leads_kept node other (true ∷ holding) (next ∷ nexts) free e =
     let parts = and_parts (is_end next) (are_free holding nexts) free in
     or_right (eqb node other) (leads (led_by node holding nexts) other)
-    (leads_kept node other holding nexts parts.1 (or_rest (leads_to other next) (leads nexts other) e (ends_not next other parts.0)))
+    (leads_kept node other holding nexts parts.1 (or_rest (leads_to other next) (leads nexts other) e (end_leads_not next other parts.0)))
 leads_kept node other (false ∷ holding) (next ∷ nexts) free e =
     elim (cases_Bool (leads_to other next)) [
       | inl is ↦ or_left (leads_to other next) (leads (led_by node holding nexts) other) is

@@ -15,7 +15,7 @@ use Rattle.crib_cards.specs.declared.letters.Letter.TheVariants.{Seen, Go}
 use Rattle.crib_cards.specs.declared.moves.Move.{Move}
 use Rattle.crib_cards.specs.declared.moves.Move.TheVariants as move
 use Rattle.crib_cards.specs.declared.moves.Act.{Act}
-use Rattle.crib_cards.proofs.SetLemmas.{set_where_agree, has-set_where, IsCardSet-set_where, eqb_turned}
+use Rattle.crib_cards.proofs.SetLemmas.{set_where_agree, has-set_where, IsCardSet-set_where, eqb_turned, and_not_either}
 use Rattle.crib_cards.proofs.SetFacts.{in_set_where}
 use Rattle.crib_cards.proofs.SetCounts.{length-set_without}
 use Rattle.crib_play.specs.declared.turns.Turn.{Turn}
@@ -47,7 +47,7 @@ none_of_two true b x y rest e = absurd cc
 none_of_two false true x y rest e = absurd cc
 none_of_two false false x y rest e = (refl, refl, e)
 
-none_of_one : (a : Bool) (x : ℕ) → cond a (Some x) None ≡ None → a ≡ false
+pub none_of_one : (a : Bool) (x : ℕ) → cond a (Some x) None ≡ None → a ≡ false
 none_of_one true x e = absurd cc
 none_of_one false x e = refl
 
@@ -100,15 +100,8 @@ pub own_less : (hold played : List ℕ) (card : ℕ) → set_without (set_where 
 own_less hold played card =
     set_where_agree _ _ (λ other is.
     ap (λ (b : Bool). b && not (eqb other card)) (has-set_where (λ c. has hold c && not (has played c)) other is)
-    ∙ regroup (has hold other) (has played other) (eqb other card)
+    ∙ and_not_either (has hold other) (has played other) (eqb other card)
     ∙ ap (λ (b : Bool). has hold other && not (b || has played other)) (eqb_turned other card))
-  where
-    regroup : (a b c : Bool) → ((a && not b) && not c) ≡ (a && not (c || b))
-    regroup true true true = refl
-    regroup true true false = refl
-    regroup true false true = refl
-    regroup true false false = refl
-    regroup false b c = refl
 
 -- a card that is not in his hold leaves his cards as they were
 own_same : (hold played : List ℕ) (card : ℕ) → has hold card ≡ false → set_where (λ c. has hold c && not (has (card ∷ played) c)) ≡ set_where

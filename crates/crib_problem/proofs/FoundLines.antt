@@ -1,10 +1,9 @@
 -- Proves that each line that is read as part of a problem is the spelling of that part.
-use Rattle.std.proofs.Common.{◌≡◌, ℕ, ◌-◌, ◌≤◌, Bool, true, false, not, eqb, cond, ◌&&◌, ◌||◌, List, [], ◌∷◌, ◌++◌, length, map, Ok, Err, codes}
+use Rattle.std.proofs.Common.{◌≡◌, ℕ, ◌-◌, ◌≤◌, true, false, not, eqb, cond, ◌&&◌, List, [], ◌∷◌, ◌++◌, length, map, Ok, Err, codes}
 use Rattle.std.proofs.Common.{decimal, refl, sym, ap, subst, ◌∙◌, arith, inl, inr}
 use Rattle.std.specs.Prelude.{nat_le, bytes_eq}
 use Rattle.std.specs.List.{AllByRecursion}
 use Rattle.std.proofs.lemmas.Bool.{cases_Bool, eqb-true, eq-eqb, leb-true, and_parts, not-true, or_parts}
-use Rattle.crib_cards.specs.declared.sides.Side.TheVariants.{Owner, Opponent}
 use Rattle.std.proofs.lemmas.List.{length-map}
 use Rattle.std.proofs.lemmas.Slice.Eq.{bytes_eq-Decides}
 use Rattle.crib_cards.specs.Cards.{IsCard}
@@ -262,11 +261,6 @@ goal_found version score words goal e =
           let t = two_found version score a.0 goal a.2 in
           ((after_found (codes "goal") 2 words a.0 a.1).0 ∙ ap (λ (w : List (List ℕ)). codes "goal" ∷ w) t.0, t.1, t.2)
     ]
-
--- two lists of different cards, put together
-has_or : (a b : Bool) → (a || b) ≡ true → b ≡ false → a ≡ true
-has_or true b e f = refl
-has_or false b e f = absurd cc
 
 pub distinct-append : (xs ys : List ℕ) → are_distinct xs ≡ true → are_distinct ys ≡ true → ((card : ℕ) → has ys card ≡ true → has xs card ≡ false) →
     are_distinct (xs ++ ys) ≡ true

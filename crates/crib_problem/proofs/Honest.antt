@@ -1,10 +1,10 @@
 -- Proves that the visible turns of a legal record are allowed, where the deal is not done after it.
-use Rattle.std.proofs.Common.{◌≡◌, ℕ, ◌+◌, ◌≤◌, Bool, true, false, cond, not, ◌&&◌, ◌||◌, eqb, leb, ltb, List, [], ◌∷◌, ◌++◌, reverse, Option}
-use Rattle.std.proofs.Common.{Some, None, refl, sym, ap, subst, ◌∙◌, inl, inr, arith}
+use Rattle.std.proofs.Common.{◌≡◌, ℕ, ◌+◌, ◌≤◌, Bool, true, false, cond, not, ◌&&◌, ◌||◌, eqb, leb, ltb, List, [], ◌∷◌, ◌++◌, reverse, Option, ◌<◌, length, ap}
+use Rattle.std.proofs.Common.{Some, None, refl, sym, ap, subst, ◌∙◌, inl, inr, arith, take, drop, get_or}
 use Rattle.std.specs.List.{list_any}
 use Rattle.std.specs.Option.{option_or}
 use Rattle.std.proofs.lemmas.Bool.{cases_Bool, cond-false, and_parts, or_left, or_right, not-true, ltb-true, eq-eqb}
-use Rattle.std.proofs.lemmas.List.{length-reverse, reverse-append, reverse-reverse}
+use Rattle.std.proofs.lemmas.List.{length-reverse, reverse-append, reverse-reverse, take_more, take-append-drop}
 use Rattle.crib_cards.specs.Cards.{IsCard, card_value}
 use Rattle.crib_cards.specs.Sets.{has}
 use Rattle.crib_cards.specs.Letters.{letter_of}
@@ -62,15 +62,25 @@ has_acts pone (move.Go ∷ past) card = step (is_visible pone Go (letters_of pas
     step false = refl
 
 -- ---- moves with cards of the pack
-moves_append : (xs ys : List Act) → AllMoves xs → AllMoves ys → AllMoves (xs ++ ys)
+pub moves_append : (xs ys : List Act) → AllMoves xs → AllMoves ys → AllMoves (xs ++ ys)
 moves_append [] ys a b = b
 moves_append (x ∷ xs) ys a b = (a.0, moves_append xs ys a.1 b)
 
-moves_back : (acts : List Act) → AllMoves acts → AllMoves (reverse acts)
+pub moves_back : (acts : List Act) → AllMoves acts → AllMoves (reverse acts)
 moves_back [] all = tt
 moves_back (act ∷ acts) all = subst AllMoves (sym (reverse-append (act ∷ []) acts)) (moves_append (reverse acts) (act ∷ []) (moves_back acts all.1) (all.0, tt))
 
--- ---- an act that no refusal meets
+pub reverse_more : (acts : List Act) (i : ℕ) (act : Act) → i < length acts → act ≡ get_or acts i act → reverse (take (i + 1) acts) ≡ act ∷ reverse (take i acts)
+reverse_more acts i act lt at = ap reverse (take_more acts i act lt) ∙ reverse-append (take i acts) (get_or acts i act ∷ [])
+    ∙ ap (λ x. x ∷ reverse (take i acts)) (sym at)
+
+pub all_from_back : (acts : List Act) (i : ℕ) (act : Act) → i < length acts → act ≡ get_or acts i act → reverse acts ≡ reverse (drop (i + 1) acts)
+    ++ (act ∷ reverse (take i acts))
+all_from_back acts i act lt at =
+    ap reverse (sym (take-append-drop (i + 1) acts)) ∙ reverse-append (take (i + 1) acts) (drop (i + 1) acts)
+    ∙ ap (λ xs. reverse (drop (i + 1) acts) ++ xs) (reverse_more acts i act lt at)
+
+-- ---- an act that is not refused
 not_refused : (seen : List ℕ) (asked : Turn) (count : ℕ) (own : List ℕ) (least : ℕ) (side : Side) (what : Move) → shows_seen seen side what ≡ false →
     asked ≡ side_asked side → move_refusal count own least side what ≡ None →
     turn_refusal seen asked count own least (record { side = side; what = what }) ≡ None
@@ -84,7 +94,7 @@ not_refused seen asked count own least side what unseen turn may =
     asks_it Owner = refl
     asks_it Opponent = refl
 
-none_any : (f : ℕ → Bool) (xs : List ℕ) → ((card : ℕ) → has xs card ≡ true → f card ≡ false) → list_any f xs ≡ false
+pub none_any : (f : ℕ → Bool) (xs : List ℕ) → ((card : ℕ) → has xs card ≡ true → f card ≡ false) → list_any f xs ≡ false
 none_any f [] each = refl
 none_any f (x ∷ xs) each =
     ap (λ (b : Bool). b || list_any f xs) (each x (or_left (eqb x x) (has xs x) (eq-eqb x x refl)))

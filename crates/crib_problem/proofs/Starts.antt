@@ -1,7 +1,7 @@
 -- What a problem and its hidden deals give the play: a start, and two holds dealt from the pack.
-use Rattle.std.proofs.Common.{◌≡◌, ℕ, ◌+◌, ◌<◌, ◌≤◌, Bool, true, false, not, eqb, List, [], ◌∷◌, ◌++◌, length, refl, sym, ap, subst, ◌∙◌, inl, inr, arith}
-use Rattle.std.specs.List.{AllByRecursion, list_all}
-use Rattle.std.proofs.lemmas.Bool.{cases_Bool, and_parts, and_from, or_cases, or_left, or_right, or_from, both_ways, not-true, eqb-true, eq-eqb}
+use Rattle.std.proofs.Common.{◌≡◌, ℕ, ◌+◌, ◌<◌, ◌≤◌, true, false, not, eqb, List, [], ◌∷◌, ◌++◌, length, refl, sym, ap, subst, ◌∙◌, inl, inr, arith}
+use Rattle.std.specs.List.{AllByRecursion}
+use Rattle.std.proofs.lemmas.Bool.{cases_Bool, and_parts, or_cases, or_left, or_right, both_ways, not-true, eqb-true}
 use Rattle.crib_cards.specs.Cards.{IsCard}
 use Rattle.crib_cards.specs.Sets.{has, are_distinct, set_where, set_of}
 use Rattle.crib_cards.specs.Deals.{IsDeal}
@@ -10,10 +10,14 @@ use Rattle.crib_cards.proofs.SetFacts.{has-append, in_set_where, has-set_of, IsC
 use Rattle.crib_cards.proofs.SetCounts.{length-set_with}
 use Rattle.crib_play.specs.Standing.{IsStart}
 use Rattle.crib_play.specs.Legal.{IsDealt}
-use Rattle.crib_play.proofs.CardLemmas.{distinct_left}
 use Rattle.crib_problem.specs.Setup.{Setup, IsSetup, IsGoal, goal_hole, known_cards, unseen_of, start_of, hands_of}
 use Rattle.crib_problem.specs.declared.problem.Goal.{Goal}
 use Rattle.crib_problem.specs.declared.problem.Goal.TheVariants.{Win, Holes, Stop}
+use Rattle.crib_cards.proofs.Members.{all_has, distinct_append, distinct_left}
+
+pub first_all : (xs ys : List ℕ) → AllByRecursion IsCard (xs ++ ys) → AllByRecursion IsCard xs
+first_all [] ys all = tt
+first_all (x ∷ xs) ys all = (all.0, first_all xs ys all.1)
 
 -- ---- lists of cards
 pub each_has : (P : ℕ → Type 0) (xs : List ℕ) (card : ℕ) → AllByRecursion P xs → has xs card ≡ true → P card
@@ -23,24 +27,6 @@ each_has P (x ∷ xs) card all h =
       | inl here ↦ subst P (eqb-true x card here) all.0
       | inr there ↦ each_has P xs card all.1 there
     ]
-
-pub all_has : (p : ℕ → Bool) (xs : List ℕ) (card : ℕ) → list_all p xs ≡ true → has xs card ≡ true → p card ≡ true
-all_has p [] card all h = absurd (both_ways false refl h)
-all_has p (x ∷ xs) card all h =
-    let parts = and_parts (p x) (list_all p xs) all in
-    elim (or_cases (eqb x card) (has xs card) h) [
-      | inl here ↦ ap p (sym (eqb-true x card here)) ∙ parts.0
-      | inr there ↦ all_has p xs card parts.1 there
-    ]
-
-pub distinct_append : (xs ys : List ℕ) → are_distinct xs ≡ true → are_distinct ys ≡ true → ((card : ℕ) → has xs card ≡ true → has ys card ≡ false) →
-    are_distinct (xs ++ ys) ≡ true
-distinct_append [] ys dx dy apart = dy
-distinct_append (x ∷ xs) ys dx dy apart =
-    let parts = and_parts (not (has xs x)) (are_distinct xs) dx in
-    and_from (not (has (xs ++ ys) x)) (are_distinct (xs ++ ys))
-    (ap not (has-append xs ys x ∙ or_from (has xs x) (has ys x) (not-true (has xs x) parts.0) (apart x (or_left (eqb x x) (has xs x) (eq-eqb x x refl)))))
-    (distinct_append xs ys parts.1 dy (λ card h. apart card (or_right (eqb x card) (has xs card) h)))
 
 -- the set of different cards has as many cards as their list
 pub length-set_of : (cards : List ℕ) → AllByRecursion IsCard cards → are_distinct cards ≡ true → length (set_of cards) ≡ length cards
@@ -81,10 +67,6 @@ module _ (problem : Setup) (setup : IsSetup problem) where
 
   pub hold_four : length (set_of problem.hold) ≡ 4
   hold_four = length-set_of problem.hold (first_all problem.hold problem.thrown setup.cards.1) hold_distinct ∙ setup.held
-    where
-      first_all : (xs ys : List ℕ) → AllByRecursion IsCard (xs ++ ys) → AllByRecursion IsCard xs
-      first_all [] ys all = tt
-      first_all (x ∷ xs) ys all = (all.0, first_all xs ys all.1)
 
   -- ---- the holds of a hidden deal
   module _ (dealt : Dealt) (deal : IsDeal (unseen_of problem) dealt) where

@@ -82,11 +82,6 @@ own_cards : (worst : WorstShow) (ranks : List ℕ) → worst.ranks ≡ ranks →
     HasCards worst.starter worst.own_throw worst.unseen worst.fixed ranks worst
 own_cards worst ranks is = record { starter_is = refl; throw_is = refl; unseen_is = refl; fixed_is = refl; ranks_are = is }
 
--- what is kept for its ranks is right
-pub kept_for : (worst : WorstShow) (kept : Kept) → AreKeptFor worst.starter worst.own_throw worst.unseen worst.fixed kept → kept.ranks ≡ worst.ranks →
-    AreKept worst kept
-kept_for worst kept all is = all worst (own_cards worst kept.ranks (sym is))
-
 -- what is right of it is kept for its ranks
 pub kept_from : (worst : WorstShow) (kept : Kept) → AreKept worst kept → kept.ranks ≡ worst.ranks →
     AreKeptFor worst.starter worst.own_throw worst.unseen worst.fixed kept

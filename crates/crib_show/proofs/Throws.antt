@@ -14,6 +14,13 @@ use Rattle.crib_show.proofs.RankLaw.{plain_points-reordered}
 use Rattle.crib_show.proofs.Reordered.{Reordered, same_order}
 use Rattle.crib_show.proofs.TriedPairs.{four_below, four_is, card_back, rank_back}
 
+-- a flush and a jack are six points at most
+six : (flush jack_held : Bool) → cond flush 5 0 + cond jack_held 1 0 ≤ 6
+six true true = omega arith
+six true false = omega arith
+six false true = omega arith
+six false false = omega arith
+
 module _ (worst : WorstShow) where
   -- ---- two cards that may be thrown
   pub record MayThrow (x y : ℕ) : Type 0 where
@@ -31,21 +38,9 @@ module _ (worst : WorstShow) where
   pub few_suits : (x y : ℕ) → crib_suit_points worst x y ≤ 6
   few_suits x y = six (list_all (λ card. eqb (suit_of card) (suit_of worst.starter)) (crib_with worst x y))
       (list_any (λ card. eqb (rank_of card) jack && eqb (suit_of card) (suit_of worst.starter)) (crib_with worst x y))
-    where
-      six : (flush jack_held : Bool) → cond flush 5 0 + cond jack_held 1 0 ≤ 6
-      six true true = omega arith
-      six true false = omega arith
-      six false true = omega arith
-      six false false = omega arith
 
   pub few_most : (p q : ℕ) → most_crib_suits worst p q ≤ 6
   few_most p q = six (may_throw_flush worst p q) (may_throw_jack worst p q)
-    where
-      six : (flush jack_held : Bool) → cond flush 5 0 + cond jack_held 1 0 ≤ 6
-      six true true = omega arith
-      six true false = omega arith
-      six false true = omega arith
-      six false false = omega arith
 
   least_suits_below : (x y : ℕ) → least_suits worst (rank_of x) (rank_of y) ≤ thrown_suits worst x y
   least_suits_below x y =

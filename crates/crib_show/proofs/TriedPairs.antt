@@ -12,9 +12,6 @@ use Rattle.crib_show.specs.declared.deals.WorstShow.{WorstShow}
 
 -- ---- numbers
 
-same_le : (a b : ℕ) → a ≡ b → a ≤ b
-same_le a b same = omega arith
-
 min_below : (a b c next : ℕ) → next ≡ min a b → a ≤ c → next ≤ c
 min_below a b c next is below = omega arith
 

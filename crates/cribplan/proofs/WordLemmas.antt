@@ -7,7 +7,7 @@ use Rattle.std.specs.Option.{option_map_or}
 use Rattle.std.specs.Str.{bytes_eq, chars}
 use Rattle.std.specs.Borrow.{Bor}
 use Rattle.clap.specs.Faults.{bundle_fault, bundle_step_fault, check_fault, defaults_fault, entered_fault, fault_of, flag_word_fault, flags_fault}
-use Rattle.clap.specs.Faults.{is_simple_and_free, long_fault, react_fault, settle_fault, short_fault, step_fault, turn_fault, walk_fault, word_fault}
+use Rattle.clap.specs.Faults.{long_fault, react_fault, settle_fault, short_fault, step_fault, turn_fault, walk_fault, word_fault}
 use Rattle.clap.specs.Kinds.{Kinds}
 use Rattle.clap.specs.Kinds.{or_else as then_kinds}
 use Rattle.clap.specs.Lexer.{long_of, short_of}
@@ -245,8 +245,6 @@ module _ (names : Bor (List (Bor Text))) (listed : map (λ s. s.now) names.now �
   pub fault_is : (words : List Text) → fault_of (cribplan_app (Names names)) words ≡ kinds_of (words_refusal words)
   fault_is words = agrees (drop 1 words) false None
 
-  pub simple_and_free : is_simple_and_free (cribplan_app (Names names)) ≡ true
-  simple_and_free = refl
 
   -- what is found where nothing is refused: the one word that is left, a job's name
   abbrev Finds : Walk → List Text → Type 0

@@ -245,7 +245,6 @@ module _ (names : Bor (List (Bor Text))) (listed : map (λ s. s.now) names.now �
   pub fault_is : (words : List Text) → fault_of (cribplan_app (Names names)) words ≡ kinds_of (words_refusal words)
   fault_is words = agrees (drop 1 words) false None
 
-
   -- what is found where nothing is refused: the one word that is left, a job's name
   abbrev Finds : Walk → List Text → Type 0
   Finds w words = (word : Text) × (words ≡ word ∷ []) × (is_job_name word ≡ true) × (one_of (codes "command") (finished rules w.held) ≡ Some word)

@@ -9,7 +9,7 @@ use Rattle.crib_cards.specs.declared.moves.Move.{Move}
 use Rattle.crib_cards.specs.declared.moves.Move.TheVariants as move
 use Rattle.crib_play.specs.declared.turns.Turn.TheVariants as turns
 use Rattle.crib_play.specs.Record.{pile_of}
-use Rattle.crib_play.specs.Filled.{filled, points_added}
+use Rattle.crib_play.specs.Filled.{filled, points_added, visible_turns}
 use Rattle.crib_play.proofs.Seen.{asked_seen, count_seen}
 use Rattle.crib_play.specs.Fitting.{fits_at}
 use Rattle.crib_play.specs.Legal.{MayTake, fits, cards_left}
@@ -43,6 +43,10 @@ count_after_31 = refl
 one_go_is_said : filled level_start (reverse (Seen 10 ∷ Seen 9 ∷ Seen 8 ∷ Seen 1 ∷ Go ∷ Seen 1 ∷ Seen 1 ∷ []))
     ≡ reverse (Seen 10 ∷ Seen 9 ∷ Seen 8 ∷ Seen 1 ∷ Go ∷ Seen 1 ∷ Go ∷ Seen 1 ∷ Go ∷ Go ∷ [])
 one_go_is_said = refl
+
+one_go_is_seen : visible_turns Owner (reverse (Seen 10 ∷ Seen 9 ∷ Seen 8 ∷ Seen 1 ∷ Go ∷ Seen 1 ∷ Go ∷ Seen 1 ∷ Go ∷ Go ∷ []))
+    ≡ reverse (Seen 10 ∷ Seen 9 ∷ Seen 8 ∷ Seen 1 ∷ Go ∷ Seen 1 ∷ Seen 1 ∷ [])
+one_go_is_seen = refl
 
 -- 2 for the pair of aces, and then 6 for three aces and 1 for the last card
 pair_after_the_go : points_added level_start (Seen 1) (reverse (Seen 10 ∷ Seen 9 ∷ Seen 8 ∷ Seen 1 ∷ Go ∷ [])) ≡ 2

@@ -5,7 +5,7 @@ use Rattle.crib_cards.specs.Sets.{set_where}
 use Rattle.crib_cards.specs.declared.sides.Side.TheVariants.{Owner, Opponent}
 use Rattle.crib_cards.specs.declared.moves.Act.{Act}
 use Rattle.crib_cards.specs.declared.moves.Move.TheVariants.{Card, Go}
-use Rattle.crib_problem.specs.Played.{AreAllowed, Board, act_refusal, least_by}
+use Rattle.crib_problem.specs.Played.{AreAllowed, Board, act_refusal, least_by, move_refusal}
 
 -- the owner holds TC 9C 2C 8C and threw 4S 6S; the starter is 3H, the opponent deals and is at the given score, and the goal is to win
 abbrev board_at : ℕ → Board
@@ -128,6 +128,10 @@ no_go_at_21 = refl
 pub go_at_22 : refusal 0 (own 36 ∷ theirs 41 ∷ own 4 ∷ []) their_go ≡ None
 unfolding set_where
 go_at_22 = refl
+
+-- a king counts ten: it is no card that counts eleven or more
+pub king_counts_ten : move_refusal 0 [] 11 Opponent (Card 49) ≡ Some 23
+king_counts_ten = refl
 
 -- once the deal is done it is nobody's turn
 pub after_the_end : refusal 118 (own 36 ∷ theirs 37 ∷ own 32 ∷ theirs 1 ∷ own_go ∷ their_go ∷ []) (own 28) ≡ Some 44

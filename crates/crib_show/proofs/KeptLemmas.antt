@@ -1,38 +1,38 @@
 -- What is kept of a show is right for each other with the same cards.
-use Rattle.std.proofs.Common.{◌≡◌, ℕ, ◌+◌, ◌≤◌, ◌++◌, List, None, IsTrue, refl, sym, ap, ◌∙◌, subst}
-use Rattle.std.proofs.lemmas.Option.{IfSome_then}
+use Rattle.std.proofs.Common.{◌≡◌, ℕ, ◌+◌, ◌<◌, ◌≤◌, ◌++◌, List, IsTrue, length, replicate, set, eqb, refl, sym, ap, ◌∙◌, subst, inl, inr}
+use Rattle.std.proofs.lemmas.Bool.{cases_Bool, eqb-true, eqb-false}
+use Rattle.std.proofs.lemmas.Grind.{get_or-set_at}
+use Rattle.std.proofs.lemmas.List.{get_or-set_other, get_or-replicate, length-replicate, length-set}
 use Rattle.std.specs.List.{list_all}
 use Rattle.crib_cards.specs.Deals.{IsDeal}
 use Rattle.crib_cards.specs.Sets.{has}
 use Rattle.crib_cards.specs.declared.sides.Dealt.{Dealt}
 use Rattle.crib_show.specs.Show.{hand_points, crib_points}
-use Rattle.crib_show.specs.Shows.{AreKept, AreKeptFor, HasCards}
+use Rattle.crib_show.specs.Inside.Places.{IsPlace}
+use Rattle.crib_show.specs.Places.{AreFour, place_among}
+use Rattle.crib_show.specs.Shows.{AreKept, AreKeptIn, HasCards}
+use Rattle.crib_show.proofs.PlaceLemmas.{place_of_one}
 use Rattle.crib_show.specs.Worst.{AgreesWith, IsGreatestCrib, IsGreatestHand, IsGreatestTotal, IsLeastCrib, hidden_crib, hidden_hand, hidden_total}
 use Rattle.crib_show.specs.declared.deals.WorstShow.{WorstShow}
 use Rattle.crib_show.specs.declared.shows.Kept.{Kept}
 
--- nothing that is kept is right
-pub none_kept : (starter : ℕ) (throw unseen fixed ranks : List ℕ) →
-    AreKeptFor starter throw unseen fixed (record { ranks = ranks; greatest_hand = None; least_crib = None; greatest_crib = None; greatest_total = None })
-none_kept starter throw unseen fixed ranks = λ worst is. record { greatest_hand = tt; least_crib = tt; greatest_crib = tt; greatest_total = tt }
-
 -- ---- two shows with the same cards
-module _ (starter : ℕ) (throw unseen fixed ranks : List ℕ) (worst other : WorstShow) (here : HasCards starter throw unseen fixed ranks worst)
-    (there : HasCards starter throw unseen fixed ranks other) where
+module _ (starter : ℕ) (throw unseen fixed : List ℕ) (worst other : WorstShow) (here : HasCards starter throw unseen fixed worst)
+    (there : HasCards starter throw unseen fixed other) (same : worst.ranks ≡ other.ranks) where
   starters : worst.starter ≡ other.starter
   starters = here.starter_is ∙ sym there.starter_is
 
   agrees_there : (dealt : Dealt) → AgreesWith worst dealt → AgreesWith other dealt
   agrees_there dealt agrees = record {
     deal = subst (λ cards. IsDeal cards dealt) (here.unseen_is ∙ sym there.unseen_is) agrees.deal;
-    ranks_held = agrees.ranks_held ∙ here.ranks_are ∙ sym there.ranks_are;
+    ranks_held = agrees.ranks_held ∙ same;
     fixed_held = subst (λ cards. IsTrue (list_all (has dealt.hold) cards)) (here.fixed_is ∙ sym there.fixed_is) agrees.fixed_held;
   }
 
   agrees_here : (dealt : Dealt) → AgreesWith other dealt → AgreesWith worst dealt
   agrees_here dealt agrees = record {
     deal = subst (λ cards. IsDeal cards dealt) (there.unseen_is ∙ sym here.unseen_is) agrees.deal;
-    ranks_held = agrees.ranks_held ∙ there.ranks_are ∙ sym here.ranks_are;
+    ranks_held = agrees.ranks_held ∙ sym same;
     fixed_held = subst (λ cards. IsTrue (list_all (has dealt.hold) cards)) (there.fixed_is ∙ sym here.fixed_is) agrees.fixed_held;
   }
 
@@ -71,20 +71,36 @@ module _ (starter : ℕ) (throw unseen fixed ranks : List ℕ) (worst other : Wo
 
   kept_there : (kept : Kept) → AreKept worst kept → AreKept other kept
   kept_there kept is = record {
-    greatest_hand = IfSome_then kept.greatest_hand is.greatest_hand hand_there;
-    least_crib = IfSome_then kept.least_crib is.least_crib least_there;
-    greatest_crib = IfSome_then kept.greatest_crib is.greatest_crib crib_there;
-    greatest_total = IfSome_then kept.greatest_total is.greatest_total total_there;
+    greatest_hand = λ kept_here. hand_there kept.greatest_hand (is.greatest_hand kept_here);
+    least_crib = λ kept_here. least_there kept.least_crib (is.least_crib kept_here);
+    greatest_crib = λ kept_here. crib_there kept.greatest_crib (is.greatest_crib kept_here);
+    greatest_total = λ kept_here. total_there kept.greatest_total (is.greatest_total kept_here);
   }
 
 -- a show has its own cards
-own_cards : (worst : WorstShow) (ranks : List ℕ) → worst.ranks ≡ ranks →
-    HasCards worst.starter worst.own_throw worst.unseen worst.fixed ranks worst
-own_cards worst ranks is = record { starter_is = refl; throw_is = refl; unseen_is = refl; fixed_is = refl; ranks_are = is }
+own_cards : (worst : WorstShow) → AreFour worst.ranks → HasCards worst.starter worst.own_throw worst.unseen worst.fixed worst
+own_cards worst are = record { starter_is = refl; throw_is = refl; unseen_is = refl; fixed_is = refl; are_four = are }
 
--- what is right of it is kept for its ranks
-pub kept_from : (worst : WorstShow) (kept : Kept) → AreKept worst kept → kept.ranks ≡ worst.ranks →
-    AreKeptFor worst.starter worst.own_throw worst.unseen worst.fixed kept
-kept_from worst kept right is =
-    λ other there. kept_there worst.starter worst.own_throw worst.unseen worst.fixed kept.ranks worst other (own_cards worst kept.ranks (sym is)) there
-    kept right
+-- at first nothing is kept, which is right
+pub kept_new : (starter : ℕ) (throw unseen fixed : List ℕ) (n : ℕ) (kept : Kept) → ((worst : WorstShow) → AreKept worst kept) →
+    AreKeptIn starter throw unseen fixed (replicate n kept)
+kept_new starter throw unseen fixed n kept right = λ worst none has inside.
+    let place = place_among 4 worst.ranks in
+    subst (AreKept worst) (sym (get_or-replicate n place kept none (subst (λ k. place < k) (length-replicate n kept) inside))) (right worst)
+
+-- what is right of a show is kept in its place
+pub kept_with : (worst : WorstShow) (all : List Kept) (place : ℕ) (here : Kept) → IsPlace worst.ranks place → AreKept worst here →
+    AreKeptIn worst.starter worst.own_throw worst.unseen worst.fixed all → AreKeptIn worst.starter worst.own_throw worst.unseen worst.fixed (set all place here)
+kept_with worst all place here is right kept = λ other none has inside.
+    let within : place_among 4 other.ranks < length all = subst (λ k. place_among 4 other.ranks < k) (length-set all place here) inside in
+    elim (cases_Bool (eqb (place_among 4 other.ranks) place)) [
+      | inl yes_here ↦
+          let at = eqb-true (place_among 4 other.ranks) place yes_here in
+          let same : worst.ranks ≡ other.ranks = place_of_one 4 worst.ranks other.ranks (is.are_four.thirteen ∙ sym has.are_four.thirteen) is.are_four.four
+          has.are_four.four (sym is.place_is ∙ sym at) in
+          subst (AreKept other) (sym (get_or-set_at all place (place_among 4 other.ranks) here none at (subst (λ k. k < length all) at within)))
+          (kept_there worst.starter worst.own_throw worst.unseen worst.fixed worst other (own_cards worst is.are_four) has same here right)
+      | inr elsewhere ↦
+          subst (AreKept other) (sym (get_or-set_other all place (place_among 4 other.ranks) here none (eqb-false (place_among 4 other.ranks) place elsewhere)))
+          (kept other none has within)
+    ]

@@ -1,17 +1,22 @@
 //! What the shows of one problem come to, kept from one end of the play to the next.
-ghost use Rattle.std.specs.Prelude.{◌≡◌, ℕ, List, None};
+ghost use Rattle.std.specs.Prelude.{◌≡◌, ℕ, ◌+◌, ◌*◌, ◌<◌, ◌≤◌, List, length};
+ghost use Rattle.crib_show.specs.Inside.Places.{IsPlace};
+ghost use Rattle.crib_show.specs.Places.{below, many, place_among};
 ghost use Rattle.crib_show.specs.Shows.{AreKept, AreShows, AreShowsFor};
-ghost use Rattle.crib_show.specs.Worst.{ArePlain, HasDeal, IsGreatestCrib, IsGreatestHand, IsGreatestTotal};
+ghost use Rattle.crib_show.specs.Worst.{AreOwnPoints, HasDeal, IsGreatestCrib, IsGreatestHand, IsGreatestTotal};
 ghost use Rattle.crib_show.specs.Worst.{IsLeastCrib};
 
-use super::cribs::{known_crib, plain_cribs};
-use super::deals::{OwnPoints, PlainCribs, WorstShow};
-use super::hands::rank_numbered;
+use super::cribs::known_crib;
+use super::deals::{OwnPoints, WorstShow};
+use super::hands::is_set;
 use super::points::hand_points;
-use crib_cards::{Card, RankCounts};
+use crib_cards::Card;
 
 /// How many choices of four ranks there are.
 const PLACES: usize = 1820;
+
+/// Stands where nothing has been worked out.
+const NOT_KEPT: u8 = 255;
 
 /// What the shows of one problem come to, kept from one end of the play to the next.
 ///
@@ -23,38 +28,29 @@ pub struct Shows {
     kept: [Kept; PLACES],
 }
 
-/// What has been worked out of the shows with some ranks of the opponent.
-#[derive(Clone, Copy, PartialEq, Eq, Debug)]
+/// What has been worked out of the shows with some ranks of the opponent, four bytes.
+#[derive(Clone, Copy, Debug)]
 pub struct Kept {
-    /// How many cards of each rank he held.
-    pub ranks: RankCounts,
     /// The points of the greatest hand.
-    pub greatest_hand: Option<u8>,
+    pub greatest_hand: u8,
     /// The points of the least crib.
-    pub least_crib: Option<u8>,
+    pub least_crib: u8,
     /// The points of the greatest crib.
-    pub greatest_crib: Option<u8>,
+    pub greatest_crib: u8,
     /// The points of the greatest sum of hand and crib.
-    pub greatest_total: Option<u8>,
+    pub greatest_total: u8,
 }
 
 impl Kept {
-    /// Some ranks of which nothing has been worked out.
-    fn new(ranks: RankCounts) -> Self
-        ensures { result ≡ record {
-          ranks = ranks;
-          greatest_hand = None;
-          least_crib = None;
-          greatest_crib = None;
-          greatest_total = None;
-        } }
+    /// Nothing has been worked out.
+    fn new() -> Self
+        ensures { (worst : WorstShow) → AreKept worst result }
     {
         Kept {
-            ranks,
-            greatest_hand: None,
-            least_crib: None,
-            greatest_crib: None,
-            greatest_total: None,
+            greatest_hand: NOT_KEPT,
+            least_crib: NOT_KEPT,
+            greatest_crib: NOT_KEPT,
+            greatest_total: NOT_KEPT,
         }
     }
 
@@ -64,65 +60,64 @@ impl Kept {
         requires kept { AreKept worst.now self.old }
         ensures greatest { IsGreatestHand worst.now result }
         ensures kept { AreKept worst.now self.new }
-        ensures ranks { self.new.ranks ≡ self.old.ranks }
     {
-        if let Some(points) = self.greatest_hand {
-            return points;
+        if self.greatest_hand != NOT_KEPT {
+            return self.greatest_hand;
         }
         let points = worst.worst_hand();
-        self.greatest_hand = Some(points);
+        self.greatest_hand = points;
         points
     }
 
     /// The points of the least crib, worked out where they are not kept. Some deal must agree.
-    pub(crate) fn least_crib(&mut self, worst: &WorstShow, plain: &PlainCribs) -> u8
+    pub(crate) fn least_crib(&mut self, worst: &WorstShow, own: &mut OwnPoints) -> u8
         requires deal { HasDeal worst.now }
-        requires plain { ArePlain worst.now.starter worst.now.own_throw plain.now }
+        requires own { AreOwnPoints worst.now.starter worst.now.own_hold worst.now.own_throw own.old }
         requires kept { AreKept worst.now self.old }
         ensures least { IsLeastCrib worst.now result }
         ensures kept { AreKept worst.now self.new }
-        ensures ranks { self.new.ranks ≡ self.old.ranks }
+        ensures own { AreOwnPoints worst.now.starter worst.now.own_hold worst.now.own_throw own.new }
     {
-        if let Some(points) = self.least_crib {
-            return points;
+        if self.least_crib != NOT_KEPT {
+            return self.least_crib;
         }
-        let points = worst.low_crib(plain);
-        self.least_crib = Some(points);
+        let points = worst.low_crib(&own.plain(worst));
+        self.least_crib = points;
         points
     }
 
     /// The points of the greatest crib, worked out where they are not kept. Some deal must agree.
-    pub(crate) fn greatest_crib(&mut self, worst: &WorstShow, plain: &PlainCribs) -> u8
+    pub(crate) fn greatest_crib(&mut self, worst: &WorstShow, own: &mut OwnPoints) -> u8
         requires deal { HasDeal worst.now }
-        requires plain { ArePlain worst.now.starter worst.now.own_throw plain.now }
+        requires own { AreOwnPoints worst.now.starter worst.now.own_hold worst.now.own_throw own.old }
         requires kept { AreKept worst.now self.old }
         ensures greatest { IsGreatestCrib worst.now result }
         ensures kept { AreKept worst.now self.new }
-        ensures ranks { self.new.ranks ≡ self.old.ranks }
+        ensures own { AreOwnPoints worst.now.starter worst.now.own_hold worst.now.own_throw own.new }
     {
-        if let Some(points) = self.greatest_crib {
-            return points;
+        if self.greatest_crib != NOT_KEPT {
+            return self.greatest_crib;
         }
-        let points = worst.greatest_crib(plain);
-        self.greatest_crib = Some(points);
+        let points = worst.greatest_crib(&own.plain(worst));
+        self.greatest_crib = points;
         points
     }
 
     /// The points of the greatest sum of hand and crib, worked out where they are not kept. Some deal must agree.
-    pub(crate) fn greatest_total(&mut self, worst: &WorstShow, plain: &PlainCribs) -> u8
+    pub(crate) fn greatest_total(&mut self, worst: &WorstShow, own: &mut OwnPoints) -> u8
         requires deal { HasDeal worst.now }
-        requires plain { ArePlain worst.now.starter worst.now.own_throw plain.now }
+        requires own { AreOwnPoints worst.now.starter worst.now.own_hold worst.now.own_throw own.old }
         requires kept { AreKept worst.now self.old }
         ensures greatest { IsGreatestTotal worst.now result }
         ensures kept { AreKept worst.now self.new }
-        ensures ranks { self.new.ranks ≡ self.old.ranks }
+        ensures own { AreOwnPoints worst.now.starter worst.now.own_hold worst.now.own_throw own.new }
     {
-        if let Some(points) = self.greatest_total {
-            return points;
+        if self.greatest_total != NOT_KEPT {
+            return self.greatest_total;
         }
-        let crib = self.greatest_crib(worst, plain);
-        let points = worst.greatest_total(plain, crib);
-        self.greatest_total = Some(points);
+        let crib = self.greatest_crib(worst, own);
+        let points = worst.greatest_total(&own.plain(worst), crib);
+        self.greatest_total = points;
         points
     }
 }
@@ -136,63 +131,76 @@ impl Shows {
             own: OwnPoints {
                 hand: hand_points(hold, starter),
                 crib: known_crib(throw, starter),
-                plain: plain_cribs(throw, starter),
+                plain: None,
             },
-            kept: [Kept::new(RankCounts::new()); PLACES],
+            kept: [Kept::new(); PLACES],
         }
     }
 
-    /// What is kept for the ranks of a show in their place. Nothing is where other ranks stand there.
+    /// What is kept of a show in the place of its ranks.
     pub(crate) fn kept(&self, worst: &WorstShow, place: usize) -> Kept
-        requires { AreShowsFor worst.now self.now }
-        ensures kept { AreKept worst.now result }
-        ensures ranks { result.ranks ≡ worst.now.ranks }
+        requires shows { AreShowsFor worst.now self.now }
+        requires place { IsPlace worst.now.ranks place }
+        ensures { AreKept worst.now result }
     {
-        if place < PLACES {
-            let kept = self.kept[place];
-            if kept.ranks == worst.ranks {
-                return kept;
-            }
-        }
-        Kept::new(worst.ranks)
+        self.kept[place]
     }
 
     /// Keeps what has been worked out of a show, in the place of its ranks.
     pub(crate) fn keep(&mut self, worst: &WorstShow, place: usize, kept: Kept)
         requires shows { AreShowsFor worst.now self.old }
+        requires place { IsPlace worst.now.ranks place }
         requires kept { AreKept worst.now kept }
-        requires ranks { kept.ranks ≡ worst.now.ranks }
         ensures shows { AreShowsFor worst.now self.new }
         ensures own { self.new.own ≡ self.old.own }
     {
-        if place < PLACES {
-            self.kept[place] = kept;
+        self.kept[place] = kept;
+    }
+}
+
+impl WorstShow {
+    /// The place of the opponent's ranks among all choices of four. Some deal must agree.
+    pub(crate) fn place(&self) -> usize
+        requires { HasDeal self.now }
+        ensures { IsPlace self.now.ranks result }
+    {
+        is_set(self.unseen);
+        is_set(self.fixed);
+        place_among(self.ranks.as_slice(), 4)
+    }
+}
+
+/// The place of some counts of ranks among all choices of so many cards.
+fn place_among(counts: &[u8], cards: u8) -> usize
+    requires counts { length counts.now ≤ 13 }
+    requires cards { cards ≤ 4 }
+    ensures place { result ≡ place_among cards counts.now }
+    ensures range { result ≤ 1000 * length counts.now }
+{
+    match counts {
+        [] => 0,
+        [count, others @ ..] => {
+            let left = cards.saturating_sub(*count);
+            below(others.len(), left) + place_among(others, left)
         }
     }
 }
 
-/// The place of four ranks among all choices of four.
-///
-/// The choices that stand before it are counted by their highest rank, those of them with the same highest rank by the
-/// next, and so on.
-pub(crate) fn place_of(ranks: &RankCounts) -> usize {
-    let mut place: usize = 0;
-    let mut lower: usize = 0;
-    for number in 1..14u8 {
-        for _card in 0..ranks.of(rank_numbered(number)) {
-            if lower < 4 {
-                place = place.saturating_add(LOWER_CHOICES[lower][number as usize - 1]);
-                lower += 1;
-            }
-        }
-    }
-    place
+/// How many choices there are, among so many ranks, of fewer cards.
+fn below(ranks: usize, cards: u8) -> usize
+    requires ranks { ranks < 13 }
+    requires cards { cards ≤ 4 }
+    ensures value { result ≡ below (many ranks) cards }
+    ensures range { result ≤ 1000 }
+{
+    FEWER[cards as usize][ranks]
 }
 
-/// How many choices there are of one, two, three and four ranks below each rank.
-const LOWER_CHOICES: [[usize; 13]; 4] = [
-    [0, 1, 2, 3, 4, 5, 6, 7, 8, 9, 10, 11, 12],
-    [0, 1, 3, 6, 10, 15, 21, 28, 36, 45, 55, 66, 78],
-    [0, 1, 4, 10, 20, 35, 56, 84, 120, 165, 220, 286, 364],
-    [0, 1, 5, 15, 35, 70, 126, 210, 330, 495, 715, 1001, 1365],
+/// How many choices there are of fewer cards, among no rank and more.
+const FEWER: [[usize; 13]; 5] = [
+    [0, 0, 0, 0, 0, 0, 0, 0, 0, 0, 0, 0, 0],
+    [1, 1, 1, 1, 1, 1, 1, 1, 1, 1, 1, 1, 1],
+    [1, 2, 3, 4, 5, 6, 7, 8, 9, 10, 11, 12, 13],
+    [1, 3, 6, 10, 15, 21, 28, 36, 45, 55, 66, 78, 91],
+    [1, 4, 10, 20, 35, 56, 84, 120, 165, 220, 286, 364, 455],
 ];

@@ -2,9 +2,8 @@
 ghost use Rattle.crib_show.specs.Shows.{AreShowsFor};
 
 use super::{ACES, counted, twos_against};
-use crate::shows::place_of;
 use crate::{Shows, WorstShow};
-use crib_cards::{Rank, RankCounts, Side};
+use crib_cards::Side;
 use std::process::Abort;
 
 // whether an answer with what is kept is the one that is worked out anew
@@ -38,28 +37,5 @@ fn answers_from_what_is_kept(rt: HostRuntime) {
         answers_alike(&rt, &worst, &mut shows);
         worst.dealer = Side::Opponent;
         answers_alike(&rt, &worst, &mut shows);
-    }
-}
-
-#[test]
-fn gives_each_choice_of_ranks_a_place(rt: HostRuntime) {
-    let mut taken = [false; 1820];
-    for first in 1..14 {
-        for second in first..14 {
-            for third in second..14 {
-                for fourth in third..14 {
-                    let mut ranks = RankCounts::new();
-                    for number in [first, second, third, fourth] {
-                        let rank = Rank::new(number).expect(&rt, "a rank");
-                        assert!(rt; ranks.of(rank) < 4);
-                        ranks.add(rank);
-                    }
-                    let place = place_of(&ranks);
-                    assert!(rt; place < 1820);
-                    assert!(rt; !taken[place]);
-                    taken[place] = true;
-                }
-            }
-        }
     }
 }

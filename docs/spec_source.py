@@ -13,7 +13,7 @@ from collections.abc import Iterable, Iterator
 from pathlib import Path
 
 ROOT = Path(__file__).resolve().parent.parent
-THEOREM = ("cribplan", "answering.rt", "answer_to")  # the call that the headline is about: its crate, file and name
+THEOREM = ("crib_answer", "answering.rt", "answer_to")  # the call that the headline is about: its crate, file and name
 NAME = re.compile(r"(?<![\w.])[^\W\d][\w'-]*(?:\.[\w'-]+)?|>>=|←")
 IMPORT = re.compile(r"^\s*(?:ghost )?use Rattle\.(\w+)\.specs\.([\w.]+?)(?:\.\{([^}]*)\}| as (\w+))?;?$")
 

@@ -4,7 +4,7 @@ use Rattle.std.specs.Str.{chars}
 use Rattle.clap.specs.Walk.{Text}
 use Rattle.clap.specs.declared.error.kind.ErrorKind.TheVariants.{DisplayHelp, InvalidValue, MissingRequiredArgument}
 use Rattle.clap.specs.declared.error.kind.ErrorKind.TheVariants.{TooManyValues, UnknownArgument}
-use Rattle.cribplan.specs.declared.job.Job.TheVariants.{Check, Replay}
+use Rattle.crib_answer.specs.declared.job.Job.TheVariants.{Check, Replay}
 use Rattle.cribplan.specs.Command.{IsJobWords, refusal_from, words_refusal, without_mark}
 
 -- `cribplan`, and these words

@@ -18,9 +18,9 @@ use Rattle.clap.specs.Walk.{plain, reacted, settled, short_or_plain, short_word,
 use Rattle.clap.specs.declared.builder.value_parser.ValueParser.TheVariants.{Names}
 use Rattle.clap.specs.declared.error.kind.ErrorKind.{ErrorKind}
 use Rattle.clap.specs.declared.error.kind.ErrorKind.TheVariants.{DisplayHelp, InvalidValue, TooManyValues, UnknownArgument}
-use Rattle.cribplan.specs.Job.{job_names, name_of}
-use Rattle.cribplan.specs.declared.job.Job.{Job}
-use Rattle.cribplan.specs.declared.job.Job.TheVariants.{Replay, Follow, Check, Solve, Board}
+use Rattle.crib_answer.specs.Job.{job_names, name_of}
+use Rattle.crib_answer.specs.declared.job.Job.{Job}
+use Rattle.crib_answer.specs.declared.job.Job.TheVariants.{Replay, Follow, Check, Solve, Board}
 use Rattle.cribplan.specs.Command.{IsJobWords, end_refusal, help_refusal, is_job_name, is_mark, is_wrong, long_refusal, option_refusal}
 use Rattle.cribplan.specs.Command.{first_of, plain_refusal, refusal_from, words_refusal, short_refusal, without_mark}
 use Rattle.cribplan.proofs.ClapApp.{cribplan_app, help_flag}

@@ -1,3 +1,2 @@
 -- What private functions alone cite, and no public contract rests on.
 pub mod Command
-pub mod Replies

@@ -1,14 +1,7 @@
 //! Growths that are refused, each in turn.
-use super::boards::LAST_CARD_BOARD;
-use super::checks::{FALLS_SHORT, ONE_HOLE_SHORT, TWOS};
-use super::follows::ONE_GAME;
-use super::inputs::text_of;
-use super::replays::{LAST_CARD, LAST_CARD_ANSWER};
-use super::solves::{FOUR_PLAYS, TWELVE};
-use crate::answering::answer_to;
-use crate::job::Job;
+use super::inputs::{FALLS_SHORT, LAST_CARD, LAST_CARD_ANSWER, ONE_HOLE_SHORT, text_of};
 use crate::run::run;
-use crate::status::Status;
+use crib_answer::{Job, Status};
 use crib_text::Counted;
 use failing_devices::{Feed, Tray, Trouble};
 use refusing_alloc::Refusing;
@@ -61,40 +54,15 @@ fn refuse_each(
     panic!(rt; "a run that never ends to grow")
 }
 
-// The input is one growth, and a board another.
+// The input is one growth.
 #[test]
-fn of_replay_and_board(rt: HostRuntime) {
+fn of_replay(rt: HostRuntime) {
     let replayed = refuse_each(&rt, Job::Replay, &LAST_CARD, LAST_CARD_ANSWER, Status::Yes);
     let wanted = Refusals {
         told: 1,
         passed_over: 0,
     };
     assert_eq!(rt; replayed, wanted);
-    let drawn = refuse_each(&rt, Job::Board, &LAST_CARD, LAST_CARD_BOARD, Status::Yes);
-    let wanted = Refusals {
-        told: 2,
-        passed_over: 0,
-    };
-    assert_eq!(rt; drawn, wanted);
-}
-
-// The input and the plan.
-#[test]
-fn of_follow(rt: HostRuntime) {
-    let followed = refuse_each(&rt, Job::Follow, &ONE_GAME, "short\n", Status::No);
-    let wanted = Refusals {
-        told: 2,
-        passed_over: 0,
-    };
-    assert_eq!(rt; followed, wanted);
-}
-
-// The input and the plan. The table of settled positions grows, and is passed over.
-#[test]
-fn of_check(rt: HostRuntime) {
-    let checked = refuse_each(&rt, Job::Check, &TWOS, "holds\n", Status::Yes);
-    assert_eq!(rt; checked.told, 2);
-    assert!(rt; checked.passed_over > 0);
 }
 
 // The input, the plan and the game, which is written whole or not at all. The first game fails, so that no position is
@@ -107,52 +75,4 @@ fn of_check_that_fails(rt: HostRuntime) {
         passed_over: 0,
     };
     assert_eq!(rt; checked, wanted);
-}
-
-// The table of positions that were searched grows, and is passed over.
-#[test]
-fn of_solve(rt: HostRuntime) {
-    let solved = refuse_each(&rt, Job::Solve, &TWELVE, FOUR_PLAYS, Status::Yes);
-    assert!(rt; solved.told >= 3, "the input, the nodes and the text");
-    assert!(rt; solved.passed_over > 0);
-}
-
-// What a job answers to an input in memory, where the first growth that it asks for is refused, and whether it asks
-// for one.
-fn answers_without_memory(
-    rt: &(impl Abort + AllocGlobal),
-    job: Job,
-    lines: &[&str],
-    wanted: &str,
-    asks: bool,
-) {
-    let input = text_of(rt.alloc(), lines).expect(rt, "memory");
-    let heap = Refusing::after(rt.alloc(), 0);
-    let answer = answer_to(&heap, job, input.as_slice());
-    assert_eq!(rt; answer.text.as_slice(), wanted.as_bytes());
-    assert_eq!(rt; heap.has_refused(), asks);
-}
-
-// What has a bound and no section takes no memory, and no refusal is lost for want of it.
-#[test]
-fn of_answers_in_memory(rt: HostRuntime) {
-    answers_without_memory(&rt, Job::Replay, &LAST_CARD, LAST_CARD_ANSWER, false);
-    for (job, lines) in [
-        (Job::Replay, &TWOS[..]),
-        (Job::Follow, &TWELVE[..6]),
-        (Job::Check, &LAST_CARD[..]),
-        (Job::Board, &TWOS[..]),
-    ] {
-        let wanted = if lines.len() == 6 {
-            "refused line 7: 3\n"
-        } else {
-            "refused line 8: 4\n"
-        };
-        answers_without_memory(&rt, job, lines, wanted, false);
-    }
-    answers_without_memory(&rt, Job::Solve, &TWOS, "refused line 8: 8\n", false);
-    answers_without_memory(&rt, Job::Check, &TWELVE, "refused line 8: 3\n", false);
-    answers_without_memory(&rt, Job::Follow, &ONE_GAME, "fault 11\n", true);
-    answers_without_memory(&rt, Job::Check, &TWOS, "fault 11\n", true);
-    answers_without_memory(&rt, Job::Board, &LAST_CARD, "fault 11\n", true);
 }

@@ -1,13 +1,60 @@
-//! Inputs over memory, and what a job writes for them.
-use crate::job::Job;
+//! Inputs over memory, and what a run writes for them.
 use crate::run::run;
-use crate::status::Status;
+use crib_answer::{Job, Status};
 use crib_text::Counted;
-use failing_devices::{Feed, Tray, Trouble};
+use failing_devices::{Tray, Trouble};
 use std::alloc::Global;
+use std::io;
 use std::io::Read;
-use std::process::Abort;
-use std::{io, str};
+
+// Tens and a nine against tens and kings: a go at 29, a 31, a close at 28, and the last card.
+pub const LAST_CARD: [&str; 21] = [
+    "problem 1",
+    "dealer opponent",
+    "score 0 0",
+    "starter 3H",
+    "hold TC 9C 2C 8C",
+    "throw 4S 6S",
+    "goal win",
+    "game 1",
+    "hold TD KD KH QS",
+    "throw 5H 7D",
+    "acts 10",
+    "own TC",
+    "opp TD",
+    "own 9C",
+    "opp go",
+    "own 2C",
+    "opp KD",
+    "own 8C",
+    "opp KH",
+    "opp go",
+    "opp QS",
+];
+
+pub const LAST_CARD_ANSWER: &str =
+    "play 2 4\nhand owner 9 11 4\nhand opponent 2 11 6\ncrib opponent 9 11 15\nshort\n";
+
+/// The same where thirteen are asked.
+pub const ONE_HOLE_SHORT: [&str; 13] = [
+    "problem 1",
+    "dealer opponent",
+    "score 0 0",
+    "starter KD",
+    "hold 2C 2D 2H 2S",
+    "throw 4C 6D",
+    "goal holes 13",
+    "plan 1",
+    "nodes 4",
+    "0 play 2C 1",
+    "1 play 2D 2",
+    "2 play 2H 3",
+    "3 play 2S end",
+];
+
+/// What is written then.
+pub const FALLS_SHORT: &str = "fails short\ngame 1\nhold AC AD AH AS\nthrow 3C 3D\nacts 8\n\
+    own 2C\nopp AC\nown 2D\nopp AD\nown 2H\nopp AH\nown 2S\nopp AS\n";
 
 /// Runs a job from a reader into a writer that takes all, and tells what was written and the status.
 pub fn outcome<R: Read + Drop>(
@@ -20,25 +67,6 @@ pub fn outcome<R: Read + Drop>(
     (sink.into_inner().into_bytes(), status)
 }
 
-/// What a job writes for an input, and its status.
-pub fn answer_to(alloc: Global, job: Job, input: &[u8]) -> (Vec<u8>, Status) {
-    let feed = Feed::new(input, 4096, Trouble::Never);
-    outcome(alloc, job, Counted::new(feed))
-}
-
-/// What a job writes for an input is this text, with this status.
-pub fn gives(
-    rt: &(impl Abort + AllocGlobal),
-    job: Job,
-    input: &[u8],
-    wanted: &str,
-    status: Status,
-) {
-    let (text, ended) = answer_to(rt.alloc(), job, input);
-    assert_eq!(rt; str::from_utf8(text.as_slice()), Ok(wanted));
-    assert_eq!(rt; ended, status);
-}
-
 /// The text of these lines.
 pub fn text_of(alloc: Global, lines: &[&str]) -> io::Result<Vec<u8>> {
     let mut text = Vec::new(alloc);
@@ -47,55 +75,4 @@ pub fn text_of(alloc: Global, lines: &[&str]) -> io::Result<Vec<u8>> {
         text.push(b'\n')?;
     }
     Ok(text)
-}
-
-/// The text of these lines with another one in the place of one of them, counted from 1.
-pub fn text_with(
-    alloc: Global,
-    lines: &[&str],
-    number: usize,
-    changed: &str,
-) -> io::Result<Vec<u8>> {
-    let mut text = Vec::new(alloc);
-    for (index, line) in lines.iter().enumerate() {
-        let line = if index + 1 == number { changed } else { *line };
-        text.extend_from_slice(line.as_bytes())?;
-        text.push(b'\n')?;
-    }
-    Ok(text)
-}
-
-// How many lines end in a text.
-fn count_lines(text: &[u8]) -> usize {
-    text.iter().filter(|byte| **byte == b'\n').count()
-}
-
-// The refusal of the line after a front of a text, for a cause.
-fn refusal_after(alloc: Global, front: &[u8], number: u32) -> io::Result<String> {
-    let line = count_lines(front).saturating_add(1);
-    let text = format!(in alloc; "refused line {line}: {number}\n")?;
-    Ok(text)
-}
-
-/// Each text that an accepted input begins with is cut short at the line after its last LF.
-pub fn refuses_each_beginning(rt: &(impl Abort + AllocGlobal), job: Job, input: &[u8]) {
-    for len in 0..input.len() {
-        let front = &input[..len];
-        let wanted = refusal_after(rt.alloc(), front, 3).expect(rt, "memory");
-        let (text, status) = answer_to(rt.alloc(), job, front);
-        assert_eq!(rt; text.as_slice(), wanted.as_bytes(), "the first {len} bytes");
-        assert_eq!(rt; status, Status::Refused, "the first {len} bytes");
-    }
-}
-
-/// A CR at any place of an accepted input is refused at its line.
-pub fn refuses_each_carriage_return(rt: &(impl Abort + AllocGlobal), job: Job, input: &[u8]) {
-    for place in 0..input.len() {
-        let mut changed = Vec::from_slice(rt.alloc(), input).expect(rt, "memory");
-        changed.as_mut_slice()[place] = b'\r';
-        let wanted = refusal_after(rt.alloc(), &input[..place], 1).expect(rt, "memory");
-        let (text, status) = answer_to(rt.alloc(), job, changed.as_slice());
-        assert_eq!(rt; text.as_slice(), wanted.as_bytes(), "at place {place}");
-        assert_eq!(rt; status, Status::Refused, "at place {place}");
-    }
 }

@@ -1,0 +1,188 @@
+-- Worked examples of what a run tells by its text and its status.
+use Rattle.std.proofs.Common.{arith, ◌≡◌, refl, sym, subst, inl, inr, ℕ, List, [], ◌++◌, Some, codes}
+use Rattle.std.specs.Fmt.{digits}
+use Rattle.crib_cards.specs.Sets.{set_where}
+use Rattle.crib_problem.specs.Setup.{Setup, IsSetup}
+use Rattle.crib_problem.specs.Spelling.{problem_text, problem_lines}
+use Rattle.crib_plan.specs.declared.plan.Node.{Node}
+use Rattle.crib_plan.specs.Nodes.{ArePlan}
+use Rattle.crib_plan.specs.Spelling.{plan_text, plan_lines}
+use Rattle.crib_game.specs.declared.game.Game.{Game}
+use Rattle.crib_game.specs.declared.ending.Ending.{Ending}
+use Rattle.crib_game.specs.declared.ending.Ending.TheVariants as ending
+use Rattle.crib_game.specs.Spelling.{game_text, game_lines}
+use Rattle.crib_text.specs.Refusals.{no_memory}
+use Rattle.crib_check.specs.Sure.{Ends}
+use Rattle.crib_check.proofs.SureExamples.{at_29, ace_or_two, ace_or_two_is_sure, ace_or_two_goes_on}
+use Rattle.crib_search.specs.Winnable.{IsWinnable}
+use Rattle.crib_answer.specs.declared.job.Job.TheVariants.{Replay, Check, Solve}
+use Rattle.crib_answer.specs.declared.status.Status.TheVariants.{Yes, No, Refused, Fault}
+use Rattle.crib_answer.specs.Answer.{fault_line, too_large}
+use Rattle.crib_answer.specs.Telling.{SpellsProblem, SpellsPlan, HasFailingPlan, IsSolvedBy, HasNoPlan}
+use Rattle.crib_answer.specs.Telling.{CheckTells, SolveTells, StatusTells, holds_line, fails_line, none_line}
+
+-- ---- the lines
+pub holds : holds_line ≡ codes "holds\n"
+holds = refl
+
+pub fails_stuck : fails_line ending.Stuck ≡ codes "fails stuck\n"
+fails_stuck = refl
+
+pub fails_lost : fails_line ending.Lost ≡ codes "fails lost\n"
+fails_lost = refl
+
+pub fails_short : fails_line ending.Short ≡ codes "fails short\n"
+fails_short = refl
+
+-- a first failing game is never open or reached, but `follow` writes these words
+pub open_is_written : fails_line ending.Open ≡ codes "fails open\n"
+open_is_written = refl
+
+pub reached_is_written : fails_line ending.Reached ≡ codes "fails reached\n"
+reached_is_written = refl
+
+pub none : none_line ≡ codes "none\n"
+none = refl
+
+pub memory_ran_out : fault_line no_memory ≡ codes "fault 11\n"
+unfolding digits
+memory_ran_out = refl
+
+pub plan_too_large : fault_line too_large ≡ codes "fault 50\n"
+unfolding digits
+plan_too_large = refl
+
+-- ---- what is spelled: three turns are played and make 29, and the plan has an answer to an ace and to a go
+abbrev the_problem : List ℕ
+the_problem = codes "problem 2\ndealer opponent\nscore 0 0\nstarter 2S\nhold TC 9C 2C AC\nthrow 2D 2H\ngoal holes 2\nplayed 3\nown TC\nopp TD\nown 9C\n"
+
+abbrev the_plan : List ℕ
+the_plan = codes "plan 1\nnodes 3\n0 see A:1 g:2\n1 play AC end\n2 play 2C end\n"
+
+at_29_is_a_setup : IsSetup at_29
+unfolding set_where
+at_29_is_a_setup = record {
+  held = refl;
+  two_thrown = refl;
+  cards = (omega arith, (omega arith, (omega arith, (omega arith, (omega arith, (omega arith, (omega arith, tt)))))));
+  distinct = refl;
+  owner_score = omega arith;
+  opponent_score = omega arith;
+  goal_in_range = (omega arith, omega arith);
+  of_version = tt;
+  few = omega arith;
+  moves = (omega arith, (omega arith, (omega arith, tt)));
+  allowed = (((tt, refl), refl), refl);
+}
+
+are_a_plan : ArePlan ace_or_two
+are_a_plan = (
+  omega arith,
+  (
+    (refl, ((omega arith, omega arith), (tt, (tt, (tt, (tt, (tt, (tt, (tt, (tt, (tt, (tt, (tt, (tt, ((omega arith, omega arith), tt))))))))))))))),
+    ((omega arith, tt), ((omega arith, tt), tt)),
+  ),
+)
+
+pub problem_alone : SpellsProblem the_problem at_29
+unfolding problem_text problem_lines digits
+problem_alone = record { problem_is = at_29_is_a_setup; text = refl }
+
+pub problem_and_plan : SpellsPlan (the_problem ++ the_plan) at_29 ace_or_two
+unfolding problem_text problem_lines plan_text plan_lines digits
+problem_and_plan = record { problem_is = at_29_is_a_setup; plan_is = are_a_plan; text = refl }
+
+-- nothing spells nothing
+pub nothing_is_no_problem : (problem : Setup) → SpellsProblem [] problem → ⊥
+unfolding problem_text problem_lines
+nothing_is_no_problem problem is = (let text = is.text in cc)
+
+pub nothing_is_no_plan : (problem : Setup) (plan : List Node) → SpellsPlan [] problem plan → ⊥
+unfolding problem_text problem_lines
+nothing_is_no_plan problem plan is = (let text = is.text in cc)
+
+-- ---- check; the bound on the play is that of the law
+pub a_sure_plan_holds : Ends at_29 → CheckTells (the_problem ++ the_plan) (codes "holds\n") Yes
+a_sure_plan_holds ends = (
+  record { problem = at_29; plan = ace_or_two; spelled = problem_and_plan; sure = ace_or_two_is_sure; goes_on = ace_or_two_goes_on; ends = ends },
+  refl,
+)
+
+pub holds_is_written : CheckTells (the_problem ++ the_plan) [] Yes → ⊥
+holds_is_written told = (let text = told.1 in cc)
+
+pub a_failing_plan_fails : (game : Game) (input : List ℕ) → HasFailingPlan input ending.Short (game_text game) →
+    CheckTells input (codes "fails short\n" ++ game_text game) No
+a_failing_plan_fails game input has = (ending.Short, game_text game, has, refl)
+
+pub first_failing_game_is_written : (input : List ℕ) (result : Ending) → HasFailingPlan input result [] → ⊥
+unfolding game_text game_lines
+first_failing_game_is_written input result has = (let text = has.game_is in cc)
+
+pub fails_is_written : (input : List ℕ) → CheckTells input [] No → ⊥
+fails_is_written input told = (let text = told.3 in cc)
+
+pub no_problem_is_refused : (text : List ℕ) → CheckTells [] text Refused
+no_problem_is_refused text = nothing_is_no_plan
+
+pub want_of_memory : (input : List ℕ) → CheckTells input (codes "fault 11\n") Fault
+unfolding digits
+want_of_memory input = refl
+
+pub want_of_memory_is_written : (input : List ℕ) → CheckTells input [] Fault → ⊥
+want_of_memory_is_written input told = (let text = told in cc)
+
+-- ---- solve
+pub a_sure_plan_is_written : Ends at_29 → SolveTells the_problem the_plan Yes
+unfolding plan_text plan_lines digits
+a_sure_plan_is_written ends = record {
+  problem = at_29;
+  plan = ace_or_two;
+  spelled = problem_alone;
+  plan_is = refl;
+  sure = ace_or_two_is_sure;
+  goes_on = ace_or_two_goes_on;
+  ends = ends;
+}
+
+pub no_text_is_no_plan : (input : List ℕ) → IsSolvedBy input [] → ⊥
+unfolding plan_text plan_lines
+no_text_is_no_plan input is = (let text = is.plan_is in cc)
+
+pub none_where_no_plan_is_sure : (input : List ℕ) → HasNoPlan input → SolveTells input (codes "none\n") No
+none_where_no_plan_is_sure input has = (has, refl)
+
+-- there is a sure plan for this problem
+pub not_none_where_a_plan_is_sure : (is : HasNoPlan the_problem) → is.problem ≡ at_29 → ⊥
+not_none_where_a_plan_is_sure is e = is.none (subst IsWinnable (sym e) (record { plan = ace_or_two; sure = ace_or_two_is_sure }))
+
+pub none_is_written : (input : List ℕ) → SolveTells input [] No → ⊥
+none_is_written input told = (let text = told.1 in cc)
+
+pub no_problem_to_solve_is_refused : (text : List ℕ) → SolveTells [] text Refused
+no_problem_to_solve_is_refused text = nothing_is_no_problem
+
+pub want_of_memory_to_solve : (input : List ℕ) → SolveTells input (codes "fault 11\n") Fault
+unfolding digits
+want_of_memory_to_solve input = inl refl
+
+pub some_plan_too_large : SolveTells the_problem (codes "fault 50\n") Fault
+unfolding digits
+some_plan_too_large = inr (record { problem = at_29; spelled = problem_alone; some = record { plan = ace_or_two; sure = ace_or_two_is_sure } }, refl)
+
+pub fault_is_written : (input : List ℕ) → SolveTells input [] Fault → ⊥
+fault_is_written input (inl text) = cc
+fault_is_written input (inr told) = (let text = told.1 in cc)
+
+-- ---- each command by its own
+pub check_is_told : Ends at_29 → StatusTells Check (the_problem ++ the_plan) (record { output = codes "holds\n"; status = Yes })
+check_is_told ends = a_sure_plan_holds ends
+
+pub solve_is_told : Ends at_29 → StatusTells Solve the_problem (record { output = the_plan; status = Yes })
+solve_is_told ends = a_sure_plan_is_written ends
+
+pub nothing_is_not_solved : (text : List ℕ) → StatusTells Solve [] (record { output = text; status = Yes }) → ⊥
+nothing_is_not_solved text told = nothing_is_no_problem told.problem told.spelled
+
+pub replay_tells_nothing : (text : List ℕ) → StatusTells Replay [] (record { output = text; status = No })
+replay_tells_nothing text = tt

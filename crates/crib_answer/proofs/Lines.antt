@@ -1,0 +1,161 @@
+-- What is put together is the line that is stated.
+use Rattle.std.proofs.Common.{◌≡◌, ℕ, List, [], ◌∷◌, ◌++◌, codes, decimal, refl, sym, ap, ◌∙◌, append_assoc, Option, Some, None}
+use Rattle.std.specs.List.{flat_map}
+use Rattle.std.specs.Fmt.{digits}
+use Rattle.crib_text.specs.Refusals.{no_memory, read_fault}
+use Rattle.crib_text.specs.Spelling.{space, line_feed, line_text}
+use Rattle.crib_cards.specs.declared.sides.Scores.{Scores}
+use Rattle.crib_show.specs.declared.outcomes.ShowRow.{ShowRow}
+use Rattle.crib_show.specs.declared.outcomes.Outcome.{Outcome}
+use Rattle.crib_show.specs.declared.outcomes.Outcome.TheVariants.{Reached, Lost, Short}
+use Rattle.crib_problem.specs.Spelling.{side_word}
+use Rattle.crib_game.specs.declared.ending.Ending.{Ending}
+use Rattle.crib_game.specs.declared.ending.Ending.TheVariants as ending
+use Rattle.crib_board.specs.Board.{outcome_word, show_word}
+use Rattle.crib_answer.specs.Answer.{counted_line, ending_word, play_line, fault_line, refusal_reply, too_large}
+use Rattle.crib_answer.specs.Inside.Replies.{score_tail}
+
+-- ---- a fault
+pub fault_of_reader : fault_line read_fault ≡ codes "fault 9\n"
+unfolding digits
+fault_of_reader = refl
+
+pub fault_of_memory : fault_line no_memory ≡ codes "fault 11\n"
+unfolding digits
+fault_of_memory = refl
+
+pub ruleset fault_lines = (fault_of_reader, fault_of_memory)
+
+-- ---- a refusal
+regroup_refusal : (first line colon number end : List ℕ) → (((([] ++ first) ++ line) ++ colon) ++ number) ++ end ≡ first ++ (line ++ (colon ++ (number ++ end)))
+regroup_refusal first line colon number end = simp append_assoc
+
+refusal_line : (line number : List ℕ)
+    → codes "refused line " ++ (line ++ (codes ": " ++ (number ++ codes "\n"))) ≡ line_text (codes "refused" ∷ codes "line" ∷ (line ++ codes ":") ∷ number ∷ [])
+refusal_line line number =
+    ap (λ (rest : List ℕ). codes "refused line " ++ rest)
+    (ap (λ (rest : List ℕ). line ++ rest) refl
+    ∙ sym (append_assoc line (codes ":") (space ∷ (number ++ codes "\n")))
+    ∙ sym (append_assoc (line ++ codes ":") (space ∷ number) (codes "\n")))
+
+pub refusal_text : (line number : ℕ)
+    → (((([] ++ codes "refused line ") ++ decimal line) ++ codes ": ") ++ decimal number) ++ codes "\n"
+    ≡ (refusal_reply (record { line = line; number = number })).output
+refusal_text line number =
+    regroup_refusal (codes "refused line ") (decimal line) (codes ": ") (decimal number) (codes "\n") ∙ refusal_line (decimal line) (decimal number)
+
+pub ruleset refusals = (refusal_text)
+
+-- ---- scores
+pub scores_written : (old : List ℕ) (scores : Scores)
+    → ((((old ++ codes " ") ++ decimal scores.owner) ++ codes " ") ++ decimal scores.opponent) ++ codes "\n" ≡ old ++ score_tail scores
+unfolding score_tail
+scores_written old scores = regroup old (decimal scores.owner) (decimal scores.opponent)
+  where
+    regroup : (old a b : List ℕ) → ((((old ++ codes " ") ++ a) ++ codes " ") ++ b) ++ codes "\n" ≡ old ++ space ∷ ((a ++ space ∷ b) ++ line_feed ∷ [])
+    regroup old a b =
+        append_assoc (((old ++ codes " ") ++ a) ++ codes " ") b (codes "\n")
+        ∙ append_assoc ((old ++ codes " ") ++ a) (codes " ") (b ++ codes "\n")
+        ∙ append_assoc (old ++ codes " ") a (space ∷ (b ++ codes "\n"))
+        ∙ append_assoc old (codes " ") (a ++ space ∷ (b ++ codes "\n"))
+        ∙ ap (λ (rest : List ℕ). old ++ space ∷ rest) (sym (append_assoc a (space ∷ b) (codes "\n")))
+
+pub ruleset score_tails = (scores_written)
+
+-- ---- a counted hand
+pub counted_written : (old : List ℕ) (row : ShowRow)
+    → (((((old ++ show_word row.crib) ++ codes " ") ++ side_word row.side) ++ codes " ") ++ decimal row.points) ++ score_tail row.scores
+    ≡ old ++ counted_line row
+unfolding counted_line score_tail
+counted_written old row = regroup old (show_word row.crib) (side_word row.side) (decimal row.points) (decimal row.scores.owner) (decimal row.scores.opponent)
+  where
+    regroup : (old word side points a b : List ℕ)
+        → (((((old ++ word) ++ codes " ") ++ side) ++ codes " ") ++ points) ++ (space ∷ ((a ++ space ∷ b) ++ line_feed ∷ []))
+        ≡ old ++ ((word ++ space ∷ (side ++ space ∷ (points ++ space ∷ (a ++ space ∷ b)))) ++ line_feed ∷ [])
+    regroup old word side points a b =
+        let scores = a ++ space ∷ b in
+        let tail = space ∷ (scores ++ line_feed ∷ []) in
+        append_assoc ((((old ++ word) ++ codes " ") ++ side) ++ codes " ") points tail
+        ∙ append_assoc (((old ++ word) ++ codes " ") ++ side) (codes " ") (points ++ tail)
+        ∙ append_assoc ((old ++ word) ++ codes " ") side (space ∷ (points ++ tail))
+        ∙ append_assoc (old ++ word) (codes " ") (side ++ space ∷ (points ++ tail))
+        ∙ append_assoc old word (space ∷ (side ++ space ∷ (points ++ tail)))
+        ∙ ap (λ (rest : List ℕ). old ++ rest)
+        (ap (λ (rest : List ℕ). word ++ space ∷ rest)
+        (ap (λ (rest : List ℕ). side ++ space ∷ rest) (sym (append_assoc points (space ∷ scores) (line_feed ∷ [])))
+        ∙ sym (append_assoc side (space ∷ (points ++ space ∷ scores)) (line_feed ∷ [])))
+        ∙ sym (append_assoc word (space ∷ (side ++ space ∷ (points ++ space ∷ scores))) (line_feed ∷ [])))
+
+pub ruleset counted_lines = (counted_written)
+
+-- ---- the outcome
+pub outcome_open : line_text (outcome_word None ∷ []) ≡ codes "open\n"
+outcome_open = refl
+
+pub outcome_reached : line_text (outcome_word (Some Reached) ∷ []) ≡ codes "reached\n"
+outcome_reached = refl
+
+pub outcome_lost : line_text (outcome_word (Some Lost) ∷ []) ≡ codes "lost\n"
+outcome_lost = refl
+
+pub outcome_short : line_text (outcome_word (Some Short) ∷ []) ≡ codes "short\n"
+outcome_short = refl
+
+pub ruleset outcomes = (outcome_open, outcome_reached, outcome_lost, outcome_short)
+
+-- ---- a report
+play_written : (scores : Scores) → codes "play" ++ score_tail scores ≡ play_line scores
+unfolding play_line score_tail
+play_written scores = sym (append_assoc (codes "play") (space ∷ (decimal scores.owner ++ space ∷ decimal scores.opponent)) (line_feed ∷ []))
+
+pub report_written : (scores : Scores) (rows : List ShowRow) (over : Option Outcome)
+    → ((([] ++ codes "play") ++ score_tail scores) ++ flat_map counted_line rows) ++ line_text (outcome_word over ∷ [])
+    ≡ (play_line scores ++ flat_map counted_line rows) ++ line_text (outcome_word over ∷ [])
+report_written scores rows over = ap (λ (front : List ℕ). (front ++ flat_map counted_line rows) ++ line_text (outcome_word over ∷ [])) (play_written scores)
+
+pub ruleset reports = (report_written)
+
+-- ---- an ending
+pub ending_open : line_text (ending_word ending.Open ∷ []) ≡ codes "open\n"
+ending_open = refl
+
+pub ending_stuck : line_text (ending_word ending.Stuck ∷ []) ≡ codes "stuck\n"
+ending_stuck = refl
+
+pub ending_lost : line_text (ending_word ending.Lost ∷ []) ≡ codes "lost\n"
+ending_lost = refl
+
+pub ending_short : line_text (ending_word ending.Short ∷ []) ≡ codes "short\n"
+ending_short = refl
+
+pub ending_reached : line_text (ending_word ending.Reached ∷ []) ≡ codes "reached\n"
+ending_reached = refl
+
+pub ruleset endings = (ending_open, ending_stuck, ending_lost, ending_short, ending_reached)
+
+-- ---- a verdict
+pub holds_written : line_text (codes "holds" ∷ []) ≡ codes "holds\n"
+holds_written = refl
+
+fails_line : (result : Ending) → codes "fails " ++ line_text (ending_word result ∷ []) ≡ line_text (codes "fails" ∷ ending_word result ∷ [])
+fails_line ending.Open = refl
+fails_line ending.Stuck = refl
+fails_line ending.Lost = refl
+fails_line ending.Short = refl
+fails_line ending.Reached = refl
+
+pub fails_written : (result : Ending) (game : List ℕ)
+    → (([] ++ codes "fails ") ++ line_text (ending_word result ∷ [])) ++ game ≡ line_text (codes "fails" ∷ ending_word result ∷ []) ++ game
+fails_written result game = ap (λ (front : List ℕ). front ++ game) (fails_line result)
+
+pub ruleset verdicts = (holds_written, fails_written)
+
+-- ---- what is found
+pub none_written : line_text (codes "none" ∷ []) ≡ codes "none\n"
+none_written = refl
+
+pub too_large_written : fault_line too_large ≡ codes "fault 50\n"
+unfolding digits
+too_large_written = refl
+
+pub ruleset solved = (none_written, too_large_written)

@@ -1,0 +1,135 @@
+-- The answer of a command to an input: what is written, and how the program ends.
+use Rattle.std.specs.Prelude.{◌≡◌, ◌⊎◌, ℕ, List, [], ◌∷◌, ◌++◌, flat_map, codes, decimal}
+use Rattle.std.specs.Prelude.{Option, Some, None, Result, Ok, Err}
+use Rattle.crib_cards.specs.declared.sides.Scores.{Scores}
+use Rattle.crib_text.specs.Refusals.{Refusal}
+use Rattle.crib_text.specs.Spelling.{line_text}
+use Rattle.crib_show.specs.declared.outcomes.ShowRow.{ShowRow}
+use Rattle.crib_problem.specs.Spelling.{side_word}
+use Rattle.crib_game.specs.declared.ending.Ending.{Ending}
+use Rattle.crib_game.specs.declared.ending.Ending.TheVariants as ending
+use Rattle.crib_game.specs.declared.report.Report.{Report}
+use Rattle.crib_board.specs.Board.{outcome_word, show_word}
+use Rattle.crib_answer.specs.declared.job.Job.{Job}
+use Rattle.crib_answer.specs.declared.job.Job.TheVariants.{Replay, Follow, Check, Solve, Board}
+use Rattle.crib_answer.specs.declared.status.Status.{Status}
+use Rattle.crib_answer.specs.declared.status.Status.TheVariants.{Yes, No, Refused, Fault}
+use Rattle.crib_answer.specs.Reply.{Reply}
+use Rattle.crib_answer.specs.Input.{report_of_input, ending_of_input, question_of_input, problem_of_input, board_of_input}
+use Rattle.crib_problem.specs.Setup.{Setup}
+use Rattle.crib_plan.specs.declared.plan.Node.{Node}
+use Rattle.crib_plan.specs.Nodes.{most_nodes}
+use Rattle.crib_plan.specs.Spelling.{plan_text}
+use Rattle.crib_game.specs.Spelling.{game_text}
+use Rattle.crib_search.specs.Finder.{IsFound, ExceedsLimit}
+use Rattle.crib_check.specs.declared.verdict.Verdict.{Verdict}
+use Rattle.crib_check.specs.declared.verdict.Verdict.TheVariants.{Holds, Fails}
+use Rattle.crib_check.specs.Verdicts.{IsRight}
+
+-- the reply to an input that is refused
+abbrev pub refusal_reply : Refusal → Reply
+refusal_reply refusal = record {
+  output = line_text (codes "refused" ∷ codes "line" ∷ (decimal refusal.line ++ codes ":")
+      ∷ decimal refusal.number ∷ []);
+  status = Refused;
+}
+
+-- the line of a fault of the work itself
+abbrev pub fault_line : ℕ → List ℕ
+fault_line number = line_text (codes "fault" ∷ decimal number ∷ [])
+
+-- the reply to such a fault
+abbrev pub fault_reply : ℕ → Reply
+fault_reply number = record { output = fault_line number; status = Fault }
+
+-- both scores as words, the owner's first
+abbrev pub score_words : Scores → List (List ℕ)
+score_words scores = decimal scores.owner ∷ decimal scores.opponent ∷ []
+
+-- a counted hand, or the crib, as a line: whose it is, its points, and the scores after it
+unfoldable pub counted_line : ShowRow → List ℕ
+counted_line row = line_text (show_word row.crib ∷ side_word row.side ∷ decimal row.points ∷ score_words row.scores)
+
+-- the scores at the end of the play, as a line
+unfoldable pub play_line : Scores → List ℕ
+play_line scores = line_text (codes "play" ∷ score_words scores)
+
+-- the reply to a game that is replayed
+abbrev pub report_reply : Report → Reply
+report_reply report = record {
+  output = play_line report.scores ++ flat_map counted_line report.show.items
+      ++ line_text (outcome_word report.over ∷ []);
+  status = Yes;
+}
+
+-- how a game stands under a plan
+abbrev pub ending_word : Ending → List ℕ
+ending_word ending.Open = codes "open"
+ending_word ending.Stuck = codes "stuck"
+ending_word ending.Lost = codes "lost"
+ending_word ending.Short = codes "short"
+ending_word ending.Reached = codes "reached"
+
+-- the status of an ending: yes where the owner reached his goal
+abbrev pub ending_status : Ending → Status
+ending_status ending.Open = No
+ending_status ending.Stuck = No
+ending_status ending.Lost = No
+ending_status ending.Short = No
+ending_status ending.Reached = Yes
+
+-- the reply to a game through which a plan is followed
+abbrev pub ending_reply : Ending → Reply
+ending_reply result = record { output = line_text (ending_word result ∷ []); status = ending_status result }
+
+-- the reply to a verdict: that the plan holds, or how it fails and the game in which it does
+abbrev pub verdict_reply : Verdict → Reply
+verdict_reply Holds = record { output = line_text (codes "holds" ∷ []); status = Yes }
+verdict_reply (Fails result game) = record {
+  output = line_text (codes "fails" ∷ ending_word result ∷ []) ++ game_text game;
+  status = No;
+}
+
+-- the reply to a problem and a plan is that of the right verdict
+abbrev pub AnswersCheck : Result (Setup × List Node) Refusal → Reply → Type 0
+AnswersCheck (Ok question) reply =
+    (verdict : Verdict) × IsRight question.0 question.1 verdict × (reply ≡ verdict_reply verdict)
+AnswersCheck (Err refusal) reply = reply ≡ refusal_reply refusal
+
+-- the reply to what is found: the plan, or that there is none
+abbrev pub found_reply : Option (List Node) → Reply
+found_reply (Some plan) = record { output = plan_text plan; status = Yes }
+found_reply None = record { output = line_text (codes "none" ∷ []); status = No }
+
+-- the number of the fault that the finder's plan has too many nodes
+abbrev pub too_large : ℕ
+too_large = 50
+
+-- the reply to a problem: what the finder finds, or a fault where its plan has more nodes than a plan may have
+abbrev pub AnswersProblem : Setup → Reply → Type 0
+AnswersProblem problem reply =
+    ((plan : Option (List Node)) × IsFound problem plan × (¬ ExceedsLimit problem most_nodes)
+    × (reply ≡ found_reply plan))
+    ⊎ (ExceedsLimit problem most_nodes × (reply ≡ fault_reply too_large))
+
+-- the reply of `solve` to what an input spells: a problem, or its first refusal
+abbrev pub AnswersSolve : Result Setup Refusal → Reply → Type 0
+AnswersSolve (Ok problem) reply = AnswersProblem problem reply
+AnswersSolve (Err refusal) reply = reply ≡ refusal_reply refusal
+
+-- the reply to a game whose board is asked for
+abbrev pub board_reply : List ℕ → Reply
+board_reply board = record { output = board; status = Yes }
+
+-- the reply to what was read, or to its refusal
+abbrev pub reply_by : {A : Type 0} → (A → Reply) → Result A Refusal → Reply
+reply_by reply (Ok value) = reply value
+reply_by reply (Err refusal) = refusal_reply refusal
+
+-- the reply of a command to an input
+abbrev pub Answers : Job → List ℕ → Reply → Type 0
+Answers Replay input reply = reply ≡ reply_by report_reply (report_of_input input)
+Answers Follow input reply = reply ≡ reply_by ending_reply (ending_of_input input)
+Answers Check input reply = AnswersCheck (question_of_input input) reply
+Answers Solve input reply = AnswersSolve (problem_of_input input) reply
+Answers Board input reply = reply ≡ reply_by board_reply (board_of_input input)

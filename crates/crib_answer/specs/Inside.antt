@@ -1,0 +1,2 @@
+-- What private functions alone cite, and no public contract rests on.
+pub mod Replies

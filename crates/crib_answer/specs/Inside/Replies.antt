@@ -1,0 +1,54 @@
+-- What the program's own values say of a reply.
+use Rattle.std.specs.Prelude.{◌≡◌, ◌≢◌, ℕ, List, ◌∷◌, Result, Ok, Err}
+use Rattle.crib_cards.specs.declared.sides.Scores.{Scores}
+use Rattle.crib_text.specs.Refusals.{Refusal, no_memory}
+use Rattle.crib_text.specs.Spelling.{space, line_text}
+use Rattle.crib_plan.specs.declared.fault.PlanFault.{PlanFault}
+use Rattle.crib_plan.specs.Refusals.{plan_cause_number, plan_refusal}
+use Rattle.crib_answer.specs.declared.refusal.Refused as refusals
+use Rattle.crib_answer.specs.declared.refusal.Stop.{Stop}
+use Rattle.crib_answer.specs.declared.refusal.Stop.TheVariants as stops
+use Rattle.crib_answer.specs.Reply.{Reply}
+use Rattle.crib_answer.specs.Answer.{fault_reply, refusal_reply, score_words}
+use Rattle.crib_problem.specs.Setup.{Setup}
+use Rattle.crib_plan.specs.declared.plan.Node.{Node}
+use Rattle.crib_check.specs.declared.verdict.Verdict.{Verdict}
+use Rattle.crib_check.specs.Verdicts.{IsRight}
+
+-- a refusal as it is stated
+abbrev pub refusal_of : refusals.Refused → Refusal
+refusal_of refused = record { line = refused.line; number = refused.number }
+
+-- what a call answered, seen through `view`, is what the input says, or its refusal, unless memory ran out
+abbrev pub Tells : {X Y : Type 0} → (X → Y) → Result X Stop → Result Y Refusal → Type 0
+Tells view (Ok value) said = said ≡ Ok (view value)
+Tells view (Err (stops.Refused refused)) said = said ≡ Err (refusal_of refused)
+Tells view (Err stops.Memory) said = Unit {0}
+
+-- a verdict that was answered is right for the problem and the plan that the input spells
+pub record IsToldOf (said : Result (Setup × List Node) Refusal) (verdict : Verdict) : Type 0 where
+  pub problem : Setup
+  pub plan : List Node
+  pub asked : said ≡ Ok (problem, plan)
+  pub right : IsRight problem plan verdict
+
+-- what was answered of an input: a verdict that is right for it, its refusal, or nothing where there was no memory
+abbrev pub TellsVerdict : Result Verdict Stop → Result (Setup × List Node) Refusal → Type 0
+TellsVerdict (Ok verdict) said = IsToldOf said verdict
+TellsVerdict (Err (stops.Refused refused)) said = said ≡ Err (refusal_of refused)
+TellsVerdict (Err stops.Memory) said = Unit {0}
+
+-- a fault of a plan is a refusal, or want of memory
+abbrev pub StopsFor : PlanFault → Stop → Type 0
+StopsFor fault (stops.Refused refused) =
+    (refusal_of refused ≡ plan_refusal fault) × (plan_cause_number fault.cause ≢ no_memory)
+StopsFor fault stops.Memory = plan_cause_number fault.cause ≡ no_memory
+
+-- the scores at the end of a line
+unfoldable pub score_tail : Scores → List ℕ
+score_tail scores = space ∷ line_text (score_words scores)
+
+-- the reply where there is no answer
+abbrev pub stop_reply : Stop → Reply
+stop_reply (stops.Refused refused) = refusal_reply (refusal_of refused)
+stop_reply stops.Memory = fault_reply no_memory

@@ -1,0 +1,100 @@
+-- What a reader may take from what the program writes, from the bytes that come in to the bytes that go out.
+use Rattle.std.specs.Prelude.{◌≡◌, ◌⊎◌, ◌<◌, ℕ, List, ◌∷◌, ◌++◌, length, Result, Ok, codes}
+use Rattle.crib_text.specs.Refusals.{Refusal, cut_short, too_long}
+use Rattle.crib_text.specs.Words.{line_after}
+use Rattle.crib_problem.specs.Setup.{Setup}
+use Rattle.crib_plan.specs.declared.plan.Node.{Node}
+use Rattle.crib_game.specs.declared.game.Game.{Game}
+use Rattle.crib_game.specs.declared.ending.Ending.{Ending}
+use Rattle.crib_check.specs.declared.verdict.Verdict.TheVariants.{Holds, Fails}
+use Rattle.crib_check.specs.Sure.{IsSure}
+use Rattle.crib_check.specs.Failing.{IsFirstFailing}
+use Rattle.crib_answer.specs.declared.job.Job.{Job}
+use Rattle.crib_answer.specs.declared.job.Job.TheVariants.{Replay, Follow, Check, Solve, Board}
+use Rattle.crib_answer.specs.Input.{most_bytes, report_of_input, ending_of_input, question_of_input}
+use Rattle.crib_answer.specs.Input.{problem_of_input, board_of_input}
+use Rattle.crib_answer.specs.Reply.{Reply}
+use Rattle.crib_answer.specs.Answer.{Answers, refusal_reply, verdict_reply}
+use Rattle.crib_answer.specs.Telling.{SpellsPlan, HasSurePlan, HasFailingPlan, IsSolvedBy, HasNoPlan}
+use Rattle.crib_answer.specs.Telling.{holds_line, fails_line, none_line}
+
+-- ---- every command
+
+-- one reply is owed to an input
+abbrev pub OneReplyLaw : Type 0
+OneReplyLaw =
+    (job : Job) (input : List ℕ) (one other : Reply) → Answers job input one → Answers job input other → one ≡ other
+
+-- an input of more bytes than may be read is owed one refusal, whatever the command
+abbrev pub TooLongLaw : Type 0
+TooLongLaw =
+    (job : Job) (input : List ℕ) → most_bytes < length input →
+    Answers job input (refusal_reply (record { line = 0; number = too_long }))
+
+-- ---- beginnings
+
+-- an input is accepted by what a command reads of it
+abbrev pub Accepts : {A : Type 0} → Result A Refusal → Type 0
+Accepts {A = A} said = (value : A) × (said ≡ Ok value)
+
+-- an input is accepted by a command
+abbrev pub IsAccepted : Job → List ℕ → Type 0
+IsAccepted Replay input = Accepts (report_of_input input)
+IsAccepted Follow input = Accepts (ending_of_input input)
+IsAccepted Check input = Accepts (question_of_input input)
+IsAccepted Solve input = Accepts (problem_of_input input)
+IsAccepted Board input = Accepts (board_of_input input)
+
+-- each proper beginning of an accepted input is refused as cut short, at the line of the first byte that is missing
+abbrev pub CutShortLaw : Type 0
+CutShortLaw =
+    (job : Job) (front : List ℕ) (next : ℕ) (back : List ℕ) → IsAccepted job (front ++ next ∷ back) →
+    Answers job front (refusal_reply (record { line = line_after front; number = cut_short }))
+
+-- ---- check
+
+-- where `holds` is owed, the input spells a problem and a plan that is sure for it, whose play goes on until it ends
+abbrev pub HoldsLaw : Type 0
+HoldsLaw =
+    (input : List ℕ) (reply : Reply) → Answers Check input reply → reply.output ≡ holds_line → HasSurePlan input
+
+-- where `fails` and an ending are owed, the input spells a problem and a plan, and the text after this line is the
+-- spelling of the first game in which the plan fails, with this ending
+abbrev pub FailsLaw : Type 0
+FailsLaw =
+    (input : List ℕ) (reply : Reply) (result : Ending) (text : List ℕ) → Answers Check input reply →
+    reply.output ≡ fails_line result ++ text → HasFailingPlan input result text
+
+-- an input that spells a problem and a plan is owed one of the two
+abbrev pub EitherLaw : Type 0
+EitherLaw =
+    (input : List ℕ) (problem : Setup) (plan : List Node) (reply : Reply) → SpellsPlan input problem plan →
+    Answers Check input reply →
+    (reply ≡ verdict_reply Holds) ⊎ ((result : Ending) × (game : Game) × (reply ≡ verdict_reply (Fails result game)))
+
+-- `holds` is owed wherever the plan is sure
+abbrev pub SureLaw : Type 0
+SureLaw =
+    (input : List ℕ) (problem : Setup) (plan : List Node) → SpellsPlan input problem plan → IsSure problem plan →
+    Answers Check input (verdict_reply Holds)
+
+-- and `fails` wherever there is a first failing game
+abbrev pub FailingLaw : Type 0
+FailingLaw =
+    (input : List ℕ) (problem : Setup) (plan : List Node) (result : Ending) (game : Game) →
+    SpellsPlan input problem plan → IsFirstFailing problem plan game result →
+    Answers Check input (verdict_reply (Fails result game))
+
+-- ---- solve
+
+-- where a text that begins with `plan` is owed, it is the spelling of a plan that is sure for the problem that the
+-- input spells, and whose play goes on until it ends
+abbrev pub PlanLaw : Type 0
+PlanLaw =
+    (input : List ℕ) (reply : Reply) (more : List ℕ) → Answers Solve input reply →
+    reply.output ≡ codes "plan" ++ more → IsSolvedBy input reply.output
+
+-- where `none` is owed, no plan is sure for the problem that the input spells
+abbrev pub NoneLaw : Type 0
+NoneLaw =
+    (input : List ℕ) (reply : Reply) → Answers Solve input reply → reply.output ≡ none_line → HasNoPlan input

@@ -1,0 +1,10 @@
+pub mod Status
+pub mod Job
+pub mod Text
+pub mod Reply
+pub mod Input
+pub mod Answer
+pub mod Memory
+pub mod Telling
+pub mod Laws
+pub mod Inside

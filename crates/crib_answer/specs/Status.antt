@@ -1,0 +1,11 @@
+-- The exit statuses.
+use Rattle.std.specs.Prelude.{ℕ}
+use Rattle.crib_answer.specs.declared.status.Status.{Status}
+use Rattle.crib_answer.specs.declared.status.Status.TheVariants.{Yes, No, Refused, Fault}
+
+-- the exit status as a number
+abbrev pub code_of : Status → ℕ
+code_of Yes = 0
+code_of No = 1
+code_of Refused = 2
+code_of Fault = 3

@@ -1,0 +1,15 @@
+//! What is written, and how the program ends.
+ghost use Rattle.std.specs.Prelude.{◌≤◌, length};
+ghost use Rattle.crib_answer.specs.Text.{text_bytes};
+
+use crate::status::Status;
+use crate::text::Text;
+use std::alloc::Allocator;
+
+/// The whole answer, made before its first byte is written.
+#[derive(Drop)]
+pub struct Answer<A: Allocator> {
+    pub(crate) text: Text<A>,
+    pub(crate) status: Status,
+    ghost can_be_sent: { length (text_bytes text) ≤ 8388608 },
+}

@@ -1,0 +1,26 @@
+//! The reply that an answer is: its bytes, and how the program ends.
+ghost use Rattle.std.specs.Prelude.{◌≡◌, ◌≤◌, length};
+ghost use Rattle.crib_answer.specs.Reply.{reply_of};
+
+use crate::answer::Answer;
+use crate::status::Status;
+use std::alloc::Allocator;
+
+impl<A: Allocator> Answer<A> {
+    /// What is written, at most 8,388,608 bytes.
+    #[tactic(auto, unfolding(crate::specs::Reply::reply_of))]
+    pub fn as_slice(&self) -> &[u8]
+        ensures output { result.now ≡ (reply_of self.now).output }
+        ensures short { length result.now ≤ 8388608 }
+    {
+        self.text.as_slice()
+    }
+
+    /// How the program ends.
+    #[tactic(auto, unfolding(crate::specs::Reply::reply_of))]
+    pub fn status(&self) -> Status
+        ensures { result ≡ (reply_of self.now).status }
+    {
+        self.status
+    }
+}

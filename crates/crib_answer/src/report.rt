@@ -1,0 +1,110 @@
+//! The answer to a game that is replayed.
+ghost use Rattle.std.specs.Prelude.{◌≡◌, ◌+◌, ◌*◌, ◌≤◌, [], ◌∷◌, ◌++◌, length, flat_map};
+ghost use Rattle.arrayvec.specs.ArrayVec.{array_vec_len};
+ghost use Rattle.crib_text.specs.Spelling.{line_text};
+ghost use Rattle.crib_problem.specs.Spelling.{side_word};
+ghost use Rattle.crib_board.specs.Board.{outcome_word, show_word};
+ghost use Rattle.crib_answer.specs.Answer.{counted_line, report_reply};
+ghost use Rattle.crib_answer.specs.Inside.Replies.{score_tail};
+ghost use Rattle.crib_answer.specs.Reply.{reply_of};
+
+use crate::answer::Answer;
+use crate::status::Status;
+use crate::text::{ShortText, Text, add, add_number};
+use crib_cards::{Scores, Side};
+use crib_game::Report;
+use crib_show::{Outcome, ShowRow};
+use std::alloc::Allocator;
+
+/// The answer to a game that is replayed: the scores after the play, the hands that were counted, and the outcome.
+#[tactic(auto, using(crate::proofs::Lines::reports), unfolding(crate::specs::Reply::reply_of, crate::specs::Text::text_bytes))]
+pub fn report_answer<A: Allocator>(report: &Report) -> Answer<A>
+    ensures { reply_of result ≡ report_reply report.now }
+{
+    let mut text = ShortText::new();
+    add(&mut text, b"play");
+    add_scores(&mut text, report.scores);
+    add_show(&mut text, report.show.as_slice());
+    add_outcome(&mut text, report.over);
+    Answer {
+        text: Text::Short(text),
+        status: Status::Yes,
+    }
+}
+
+// A space, the owner's and the opponent's score in holes, and the end of the line.
+#[tactic(auto, using(crib_text::proofs::RoomLemmas::short, crate::proofs::Lines::score_tails))]
+fn add_scores(text: &mut ShortText, scores: Scores)
+    requires { array_vec_len text.old + 24 ≤ 282 }
+    ensures items { text.new.items ≡ text.old.items ++ score_tail scores }
+    ensures len { array_vec_len text.new ≤ array_vec_len text.old + 24 }
+{
+    add(text, b" ");
+    add_number(text, u32::from(scores.owner));
+    add(text, b" ");
+    add_number(text, u32::from(scores.opponent));
+    add(text, b"\n");
+}
+
+fn add_side(text: &mut ShortText, side: Side)
+    requires { array_vec_len text.old + 8 ≤ 282 }
+    ensures items { text.new.items ≡ text.old.items ++ side_word side }
+    ensures len { array_vec_len text.new ≤ array_vec_len text.old + 8 }
+{
+    match side {
+        Side::Owner => add(text, b"owner"),
+        Side::Opponent => add(text, b"opponent"),
+    }
+}
+
+fn add_counted(text: &mut ShortText, crib: bool)
+    requires { array_vec_len text.old + 4 ≤ 282 }
+    ensures items { text.new.items ≡ text.old.items ++ show_word crib }
+    ensures len { array_vec_len text.new ≤ array_vec_len text.old + 4 }
+{
+    if crib {
+        add(text, b"crib");
+    } else {
+        add(text, b"hand");
+    }
+}
+
+// The line of a counted hand or of the crib.
+#[tactic(auto, using(crib_text::proofs::RoomLemmas::short, crate::proofs::Lines::counted_lines))]
+fn add_row(text: &mut ShortText, row: &ShowRow)
+    requires { array_vec_len text.old + 48 ≤ 282 }
+    ensures items { text.new.items ≡ text.old.items ++ counted_line row.now }
+    ensures len { array_vec_len text.new ≤ array_vec_len text.old + 48 }
+{
+    add_counted(text, row.crib);
+    add(text, b" ");
+    add_side(text, row.side);
+    add(text, b" ");
+    add_number(text, u32::from(row.points));
+    add_scores(text, row.scores);
+}
+
+fn add_show(text: &mut ShortText, rows: &[ShowRow])
+    requires { array_vec_len text.old + 48 * length rows.now ≤ 282 }
+    ensures items { text.new.items ≡ text.old.items ++ flat_map counted_line rows.now }
+    ensures len { array_vec_len text.new ≤ array_vec_len text.old + 48 * length rows.now }
+{
+    for row in rows {
+        add_row(text, row);
+    }
+}
+
+// The line of the outcome.
+#[tactic(auto, using(crate::proofs::Lines::outcomes))]
+fn add_outcome(text: &mut ShortText, over: Option<Outcome>)
+    requires { array_vec_len text.old + 8 ≤ 282 }
+    ensures items { text.new.items ≡ text.old.items ++ line_text (outcome_word over ∷ []) }
+    ensures len { array_vec_len text.new ≤ array_vec_len text.old + 8 }
+{
+    match over {
+        None => add(text, b"open\n"),
+        Some(Outcome::Reached) => add(text, b"reached\n"),
+        Some(Outcome::Lost) => add(text, b"lost\n"),
+        Some(Outcome::Short) => add(text, b"short\n"),
+    }
+}

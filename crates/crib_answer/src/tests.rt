@@ -1,0 +1,10 @@
+//! Answers to inputs in memory.
+mod boards;
+mod checks;
+mod follows;
+mod gos;
+mod growths;
+mod inputs;
+mod replays;
+mod solves;
+mod status;

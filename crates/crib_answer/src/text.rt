@@ -1,0 +1,53 @@
+//! The text of an answer.
+ghost use Rattle.std.specs.Prelude.{◌≡◌, ◌+◌, ◌≤◌, ◌++◌, length, decimal};
+ghost use Rattle.arrayvec.specs.ArrayVec.{array_vec_len};
+ghost use Rattle.crib_answer.specs.Text.{text_bytes};
+
+use arrayvec::ArrayVec;
+use itoa::Buffer;
+use std::alloc::Allocator;
+
+/// A text that takes no memory. The longest one tells how a plan fails, in at most 14 bytes, and has the game in which
+/// it does, of at most 268.
+pub type ShortText = ArrayVec<u8, 282>;
+
+/// The text of an answer.
+#[derive(Drop)]
+pub enum Text<A: Allocator> {
+    /// A text that lies in the answer itself.
+    Short(ShortText),
+    /// A plan or a board, in the one growth that was made for it.
+    Section(Vec<u8, A>),
+}
+
+impl<A: Allocator> Text<A> {
+    /// Its bytes.
+    #[tactic(auto, unfolding(crate::specs::Text::text_bytes))]
+    pub fn as_slice(&self) -> &[u8]
+        ensures { result.now ≡ text_bytes self.now }
+    {
+        match self {
+            Text::Short(text) => text.as_slice(),
+            Text::Section(text) => text.as_slice(),
+        }
+    }
+}
+
+/// Adds bytes to a text that has room for them.
+pub fn add(text: &mut ShortText, bytes: &[u8])
+    requires { array_vec_len text.old + length bytes.now ≤ 282 }
+    ensures items { text.new.items ≡ text.old.items ++ bytes.now }
+    ensures len { array_vec_len text.new ≡ array_vec_len text.old + length bytes.now }
+{
+    text.try_extend_from_slice(bytes).unwrap();
+}
+
+/// Adds the decimal text of a number to a text that has room for it: at most ten bytes, three where the number is less
+/// than 256.
+pub fn add_number(text: &mut ShortText, number: u32)
+    requires { array_vec_len text.old + length (decimal number) ≤ 282 }
+    ensures items { text.new.items ≡ text.old.items ++ decimal number }
+    ensures len { array_vec_len text.new ≡ array_vec_len text.old + length (decimal number) }
+{
+    add(text, Buffer::new().format(number).as_bytes());
+}

@@ -1,0 +1,48 @@
+//! The answer to a problem and a plan.
+ghost use Rattle.std.specs.Prelude.{◌≡◌, ◌≢◌, ◌⊎◌, ◌≤◌, length};
+ghost use Rattle.crib_text.specs.Refusals.{no_memory};
+ghost use Rattle.crib_game.specs.Spelling.{game_text};
+ghost use Rattle.crib_answer.specs.Answer.{fault_reply, verdict_reply};
+ghost use Rattle.crib_answer.specs.Reply.{reply_of};
+
+use crate::answer::Answer;
+use crate::ending::line_of;
+use crate::line::{line_answer, memory_answer};
+use crate::status::Status;
+use crate::text::{ShortText, Text, add};
+use crib_check::Verdict;
+use crib_game::{Ending, Game, write_game};
+use std::alloc::Allocator;
+
+/// The answer to a verdict: that the plan holds, or how it fails and the game in which it does. Memory is asked for
+/// once, for the game.
+#[tactic(auto, using(crate::proofs::Lines::verdicts))]
+pub fn verdict_answer<A: Allocator + Copy>(alloc: A, verdict: &Verdict) -> Answer<A>
+    ensures { (reply_of result ≡ verdict_reply verdict.now)
+        ⊎ ((verdict.now ≢ Verdict.Holds) × (reply_of result ≡ fault_reply no_memory)) }
+{
+    match verdict {
+        Verdict::Holds => line_answer(b"holds\n", Status::Yes),
+        Verdict::Fails(ending, game) => match write_game(alloc, game) {
+            Ok(section) => failure_answer(*ending, game, section.as_slice()),
+            Err(_) => memory_answer(),
+        },
+    }
+}
+
+// The answer to a plan that fails so in the game of this section.
+#[tactic(auto, using(crate::proofs::Lines::verdicts), unfolding(crate::specs::Reply::reply_of, crate::specs::Text::text_bytes))]
+fn failure_answer<A: Allocator>(ending: Ending, game: &Game, section: &[u8]) -> Answer<A>
+    requires spelled { section.now ≡ game_text game.now }
+    requires short { length section.now ≤ 268 }
+    ensures { reply_of result ≡ verdict_reply (Verdict.Fails ending game.now) }
+{
+    let mut text = ShortText::new();
+    add(&mut text, b"fails ");
+    add(&mut text, line_of(ending));
+    add(&mut text, section);
+    Answer {
+        text: Text::Short(text),
+        status: Status::No,
+    }
+}

@@ -1,6 +1,0 @@
-use Rattle.cribplan.specs.Reply.{reply_of}
-use Rattle.cribplan.proofs.Owing.{verdict_made}
-use Rattle.cribplan.proofs.answering.check_answer.Goals as goal
-
-pub returns-in-Ok : goal.returns-in-Ok
-returns-in-Ok g c = verdict_made c.args.input.now c.in-Ok.verdict (reply_of c.verdict_answer.result) c.in-Ok.ensures.verdict c.verdict_answer.ensures

@@ -1,7 +1,0 @@
-use Rattle.cribplan.proofs.Replies.{one_reply_law}
-use Rattle.cribplan.proofs.Owing.{too_long_law}
-use Rattle.cribplan.proofs.Beginnings.{cut_short_law}
-use Rattle.cribplan.proofs.laws.reply_law.Goals as goal
-
-pub returns : goal.returns
-returns c = record { one = one_reply_law; too_long = too_long_law; cut_short = cut_short_law }

@@ -18,8 +18,8 @@ struct Refusals {
     passed_over: u32,
 }
 
-// Refuses each growth of an answer in turn, up to an answer that asks for no more. The answer is then `fault 11`, alone,
-// with its status; or, where the growth was that of a table, what it is with memory.
+// Refuses each growth of an answer in turn, up to an answer that asks for no more. The answer is then `fault 11`,
+// alone, with its status; or, where the growth was that of a table, what it is with memory.
 fn refuse_each(
     rt: &(impl Abort + AllocGlobal),
     job: Job,

@@ -31,31 +31,25 @@ pub same_knows : (one other : Knowledge) → IsKnown one → IsKnown other → D
 same_knows one other known known_other =
     Decides-like _
     (λ h i. record {
-      round = h.0 i;
-      own_left = h.1.0 i;
-      ranks_seen = h.1.1.0 i;
-      opponent_left = h.1.1.1.0 i;
-      least = h.1.1.1.1.0 i;
-      unseen = h.1.1.1.1.1.0 i;
-      fixed = h.1.1.1.1.1.1 i;
+      round = h.0.0 i;
+      own_left = h.0.1.0 i;
+      ranks_seen = h.1.0 i;
+      opponent_left = h.1.1.0 i;
+      least = h.1.1.1 i;
+      unseen = h.0.1.1.0 i;
+      fixed = h.0.1.1.1 i;
     })
     (λ e. (
-      ap (λ (k : Knowledge). k.round) e,
       (
-        ap (λ (k : Knowledge). k.own_left) e,
-        (
-          ap (λ (k : Knowledge). k.ranks_seen) e,
-          (
-            ap (λ (k : Knowledge). k.opponent_left) e,
-            (ap (λ (k : Knowledge). k.least) e, (ap (λ (k : Knowledge). k.unseen) e, ap (λ (k : Knowledge). k.fixed) e)),
-          ),
-        ),
+        ap (λ (k : Knowledge). k.round) e,
+        (ap (λ (k : Knowledge). k.own_left) e, (ap (λ (k : Knowledge). k.unseen) e, ap (λ (k : Knowledge). k.fixed) e)),
       ),
+      (ap (λ (k : Knowledge). k.ranks_seen) e, (ap (λ (k : Knowledge). k.opponent_left) e, ap (λ (k : Knowledge). k.least) e)),
     ))
+    (Decides-and _ _
     (Decides-and _ _ (same_rounds one.round other.round)
     (Decides-and _ _ (same_sets one.own_left other.own_left (own_left_set one known) (own_left_set other known_other))
-    (Decides-and _ _ (same_counts one.ranks_seen other.ranks_seen)
-    (Decides-and _ _ (Decides-eqb one.opponent_left other.opponent_left)
-    (Decides-and _ _ (Decides-eqb one.least other.least)
     (Decides-and _ _ (same_sets one.unseen other.unseen (unseen_set one known) (unseen_set other known_other))
-    (same_sets one.fixed other.fixed (fixed_set one known) (fixed_set other known_other))))))))
+    (same_sets one.fixed other.fixed (fixed_set one known) (fixed_set other known_other)))))
+    (Decides-and _ _ (same_counts one.ranks_seen other.ranks_seen)
+    (Decides-and _ _ (Decides-eqb one.opponent_left other.opponent_left) (Decides-eqb one.least other.least))))

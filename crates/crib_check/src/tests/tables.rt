@@ -86,10 +86,11 @@ impl Settled for Watched {
         if self.refused {
             return Err(NoMemory);
         }
-        if self.refuses == Refuses::None {
-            self.unasked |= !self.asked.get_mut().has(&key);
-            self.twice |= self.set.has(&key);
-        }
+        let watches = self.refuses == Refuses::None;
+        let was_asked = self.asked.get_mut().has(&key);
+        let is_held = self.set.has(&key);
+        self.unasked |= watches && !was_asked;
+        self.twice |= watches && is_held;
         self.set.put(key)
     }
 
@@ -184,9 +185,8 @@ impl Settled for Counting {
     }
 
     fn put(&mut self, key: Key) -> Result<(), NoMemory> {
-        if key == self.wanted {
-            self.met = self.met.saturating_add(1);
-        }
+        let met = if key == self.wanted { 1 } else { 0 };
+        self.met = self.met.saturating_add(met);
         self.set.put(key)
     }
 

@@ -18,7 +18,7 @@ pub returns-then-eq : goal.returns-then-eq
 returns-then-eq c =
     let know = c.args.self.now in
     let any : c.any_fits.result ≡ list_any (fits_at (count_of know.round.pile)) know.own_left =
-    c.any_fits.ensures ∙ (λ i. list_any (fits_at (c.count.ensures.value i)) c.self.inside.knowledge.own_left)
+    c.any_fits.ensures ∙ (λ i. list_any (fits_at (c.count.ensures.value i)) c.self.inside.sight.own_left)
     ∙ (λ i. list_any (fits_at (count_of (c.self.view_is i).round.pile)) (c.self.view_is i).own_left) in
     let asked : know.round.asked ≡ turns.Owner = sym c.turn.ensures ∙ owner_is c.turn.result (sym c.eq.ensures ∙ c.if-eq.true) in
     record { exact = (λ none. (asked, sym any ∙ not-true c.any_fits.result none), λ both. ap not (any ∙ both.1)) }

@@ -1,0 +1,41 @@
+//! Values that a set keeps once, under numbers.
+ghost use Rattle.std.specs.Prelude.{IfSome, IfNone, IfOk};
+ghost use Rattle.std.specs.List.{position_or_len};
+ghost use Rattle.crib_check.specs.Inside.Numbers.{IsMore, IsNumber};
+
+use crate::tables::NoMemory;
+use indexmap::IndexSet;
+use std::alloc::Allocator;
+use std::hash::{BuildHasherDefault, FoldHasher, Hash};
+
+/// Values, each of which is kept once. A value has the number of those that came before it.
+pub(crate) type Numbered<T, A> = IndexSet<T, BuildHasherDefault<FoldHasher>, A>;
+
+/// The number of a value, if it is kept.
+pub(crate) fn number_of<T: Eq + Hash, A: Allocator>(kept: &Numbered<T, A>, value: &T) -> Option<u32>
+    ensures number { IfSome result (IsNumber (T.eq value.now) kept.now.keys) }
+    ensures none { IfNone result (IsNumber (T.eq value.now) kept.now.keys
+        (position_or_len (T.eq value.now) kept.now.keys) → ⊥) }
+{
+    match u32::try_from(kept.get_index_of(value)?) {
+        Ok(number) => Some(number),
+        Err(_) => None,
+    }
+}
+
+/// The number of a value, which is kept from now on. Numbers end below 2^32, for which no machine has the memory.
+pub(crate) fn keep<T: Eq + Hash + Drop, A: Allocator>(
+    kept: &mut Numbered<T, A>,
+    value: T,
+) -> Result<u32, NoMemory>
+    ensures more { IsMore kept.old.keys kept.new.keys }
+    ensures number { IfOk result (IsNumber (T.eq value) kept.new.keys) }
+{
+    match kept.insert_full(value) {
+        Ok((number, _)) => match u32::try_from(number) {
+            Ok(number) => Ok(number),
+            Err(_) => Err(NoMemory),
+        },
+        Err(_) => Err(NoMemory),
+    }
+}

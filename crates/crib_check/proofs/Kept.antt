@@ -1,5 +1,6 @@
 -- What a table of positions holds, over the lists that it keeps.
-use Rattle.std.proofs.Common.{◌≡◌, ◌⊎◌, ◌↔◌, ℕ, ◌+◌, ◌<◌, ◌≤◌, ◌^◌, Bool, true, false, cond, not, ◌&&◌, ◌||◌, List, [], ◌∷◌, ◌++◌, length, IsTrue, OnErr, OnOk, Result, Ok, Err, inl, inr, refl, sym, ap, subst, ◌∙◌, true≢false, arith, if◌then◌else◌}
+use Rattle.std.proofs.Common.{◌≡◌, ◌⊎◌, ◌↔◌, ℕ, ◌+◌, ◌<◌, ◌≤◌, Bool, true, false, cond, not, ◌&&◌, ◌||◌, List, [], ◌∷◌}
+use Rattle.std.proofs.Common.{◌++◌, length, IsTrue, OnErr, Result, Ok, Err, inl, inr, refl, sym, ap, subst, ◌∙◌, true≢false, arith, if◌then◌else◌}
 use Rattle.std.specs.Bool.{Decides}
 use Rattle.std.specs.Cmp.{IsEquivalence}
 use Rattle.std.specs.List.{list_any, position_or_len, AllByRecursion}
@@ -10,8 +11,6 @@ use Rattle.indexmap.specs.IndexSet.{insert_key}
 use lib.Dec.{eqb}
 use Rattle.crib_know.specs.Hidden.{IsKnown}
 use Rattle.crib_know.specs.Knowledge.{sight_of, shown_of}
-use Rattle.crib_know.specs.declared.knowledge.Sight.{Sight}
-use Rattle.crib_know.specs.declared.knowledge.Shown.{Shown}
 use Rattle.crib_know.specs.contracts.knowledge.SightPartialEq.TheImpl as sights_compared
 use Rattle.crib_know.specs.contracts.knowledge.ShownPartialEq.TheImpl as shown_compared
 use Rattle.crib_know.specs.contracts.knowledge.SightEq.TheImpl.Laws.{laws-law as sights_alike}
@@ -206,11 +205,6 @@ module _ (before now after : Kept) (seen : before ≡ now) (inside : AreInside b
       pub put_stays : (other : Key) → Holds now other → Holds after other
       put_stays other is = stays_by (same_entry entry (entry_in after other)) (entry_in after other) refl (forth other is)
 
-      pub put_kept : Holds after key
-      put_kept =
-          let e : entry ≡ entry_in after key = (λ i. record { sight = sight.first i; shown = showing.first i; place = place i }) in
-          updates (entry_in after key)
-          ∙ ap (λ (c : Bool). cond c true (list_any (same_entry (entry_in after key)) before.entries)) ((same_entries entry (entry_in after key)).1 e)
 
       -- an entry that is the new one is that of the key
       is_key : (other : Key) → IsKnown key.know → IsKnown other.know → entry ≡ entry_in after other → other ≡ key

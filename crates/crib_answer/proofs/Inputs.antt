@@ -9,7 +9,7 @@ use Rattle.std.specs.List.{list_all}
 use Rattle.crib_text.specs.Refusals.{Refusal}
 use Rattle.crib_text.specs.Spelling.{line_text, line_bytes, lines_text}
 use Rattle.crib_text.specs.Words.{lines_of, is_ended}
-use Rattle.crib_text.specs.Reading.{◌>>=◌, Rest, checked, all_lines, end_at, no_line}
+use Rattle.crib_text.specs.Reading.{◌>>=◌, Rest, text_check, all_lines, end_at, no_line}
 use Rattle.crib_text.specs.Laws.{ended_line}
 use Rattle.crib_text.proofs.LineLaws.{lines_law}
 use Rattle.crib_text.proofs.SpellingLemmas.{are_words, all_lines-lines_text}
@@ -17,18 +17,18 @@ use Rattle.crib_text.proofs.ReadingLemmas.{bind_ok, ok_is}
 use Rattle.crib_problem.specs.Setup.{Setup}
 use Rattle.crib_problem.specs.Spelling.{problem_lines, problem_text}
 use Rattle.crib_problem.specs.Reading.{problem_at}
-use Rattle.crib_problem.proofs.Found.{problem_found}
-use Rattle.crib_problem.proofs.Spelled.{lines_spelled}
-use Rattle.crib_problem.proofs.Proved.{lines_are_words}
-use Rattle.crib_problem.proofs.Lengths.{problem_text-le}
+use Rattle.crib_problem.proofs.ReadIsSpelled.{problem_found}
+use Rattle.crib_problem.proofs.SpelledIsRead.{lines_spelled}
+use Rattle.crib_problem.proofs.LawProofs.{lines_are_words}
+use Rattle.crib_problem.proofs.ProblemLengths.{problem_text-le}
 use Rattle.crib_plan.specs.declared.plan.Node.{Node}
 use Rattle.crib_plan.specs.Nodes.{ArePlan}
 use Rattle.crib_plan.specs.Spelling.{plan_lines, plan_text}
 use Rattle.crib_plan.specs.Reading.{count_at, plan_at}
-use Rattle.crib_plan.proofs.Apart.{plan_are_lines}
-use Rattle.crib_plan.proofs.Found.{plan_found}
-use Rattle.crib_plan.proofs.Lengths.{plan_text-le}
-use Rattle.crib_plan.proofs.Spelled.{plan_spelled}
+use Rattle.crib_plan.proofs.SpellingsApart.{plan_are_lines}
+use Rattle.crib_plan.proofs.ReadIsSpelled.{plan_found}
+use Rattle.crib_plan.proofs.PlanLengths.{plan_text-le}
+use Rattle.crib_plan.proofs.SpelledIsRead.{plan_spelled}
 use Rattle.crib_answer.specs.Input.{most_bytes, input_lines, problem_alone_at, problem_of_input, question_at, question_of_input}
 use Rattle.crib_answer.specs.Telling.{SpellsProblem, SpellsPlan}
 use Rattle.crib_answer.proofs.Setups.{setup_read}
@@ -40,14 +40,14 @@ ended_of true true bad short u e = refl
 ended_of true false bad short u e = absurd cc
 ended_of false ended bad short u e = absurd cc
 
-ended_checked : (bytes : List ℕ) (u : Unit {0}) → checked bytes ≡ Ok u → is_ended bytes ≡ true
-unfolding checked
+ended_checked : (bytes : List ℕ) (u : Unit {0}) → text_check bytes ≡ Ok u → is_ended bytes ≡ true
+unfolding text_check
 ended_checked bytes u e = ended_of _ (is_ended bytes) _ _ u e
 
 text_taken : (bytes : List ℕ) (rest : Rest) → all_lines bytes ≡ Ok rest → flat_map ended_line rest.lines ≡ bytes
 unfolding all_lines
 text_taken bytes rest e =
-    let a = bind_ok (checked bytes) _ rest e in
+    let a = bind_ok (text_check bytes) _ rest e in
     let whole : flat_map ended_line (lines_of bytes) ≡ bytes = lines_law bytes (ended_checked bytes a.0 a.1) in
     ap (λ (r : Rest). flat_map ended_line r.lines) (sym (ok_is (record { number = 1; lines = lines_of bytes }) rest a.2)) ∙ whole
 

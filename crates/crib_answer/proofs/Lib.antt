@@ -1,8 +1,8 @@
 pub mod Lines
-pub mod Owing
+pub mod OwedReplies
 pub mod Setups
 pub mod Inputs
 pub mod Replies
-pub mod Told
-pub mod Beginnings
+pub mod ToldAnswers
+pub mod CutShortInputs
 pub mod Examples

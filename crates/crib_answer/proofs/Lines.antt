@@ -13,7 +13,7 @@ use Rattle.crib_game.specs.declared.ending.Ending.{Ending}
 use Rattle.crib_game.specs.declared.ending.Ending.TheVariants as ending
 use Rattle.crib_board.specs.Board.{outcome_word, show_word}
 use Rattle.crib_answer.specs.Answer.{counted_line, ending_word, play_line, fault_line, refusal_reply, too_large}
-use Rattle.crib_answer.specs.Inside.Replies.{score_tail}
+use Rattle.crib_answer.specs.Private.Replies.{score_tail}
 
 -- ---- a fault
 pub fault_of_reader : fault_line read_fault ≡ codes "fault 9\n"

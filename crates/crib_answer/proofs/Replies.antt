@@ -15,11 +15,11 @@ use Rattle.crib_check.specs.declared.verdict.Verdict.TheVariants.{Holds, Fails}
 use Rattle.crib_check.specs.Sure.{IsSure}
 use Rattle.crib_check.specs.Failing.{IsFirstFailing}
 use Rattle.crib_check.specs.Verdicts.{IsRight}
-use Rattle.crib_check.proofs.Sureness.{ends, sure_goes_on}
-use Rattle.crib_check.proofs.Uniqueness.{same_law}
+use Rattle.crib_check.proofs.VerdictAtStart.{ends, sure_goes_on}
+use Rattle.crib_check.proofs.OneFirstGame.{same_law}
 use Rattle.crib_search.specs.Finder.{IsFound}
-use Rattle.crib_search.proofs.Unique.{one_law}
-use Rattle.crib_search.proofs.Proved.{sure_law, none_law}
+use Rattle.crib_search.proofs.OneTree.{one_law}
+use Rattle.crib_search.proofs.LawProofs.{sure_law, none_law}
 use Rattle.crib_answer.specs.declared.job.Job.TheVariants.{Replay, Follow, Check, Solve, Board}
 use Rattle.crib_answer.specs.Input.{problem_of_input, question_of_input}
 use Rattle.crib_answer.specs.Reply.{Reply}

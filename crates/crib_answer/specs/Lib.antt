@@ -7,4 +7,4 @@ pub mod Answer
 pub mod Memory
 pub mod Telling
 pub mod Laws
-pub mod Inside
+pub mod Private

@@ -5,7 +5,7 @@ ghost use Rattle.crib_text.specs.Reading.{Gives};
 ghost use Rattle.crib_answer.specs.Input.{board_at, ending_at, ending_under, problem_alone_at, question_at, report_at};
 ghost use Rattle.crib_answer.specs.Input.{board_of_input, ending_of_input, problem_of_input, question_of_input};
 ghost use Rattle.crib_answer.specs.Input.{report_of_input};
-ghost use Rattle.crib_answer.specs.Inside.Replies.{Tells, TellsVerdict, refusal_of};
+ghost use Rattle.crib_answer.specs.Private.Replies.{Tells, TellsVerdict, refusal_of};
 ghost use Rattle.crib_answer.specs.Memory.{count_behind, count_of_input};
 
 use crate::refusal::{Refused, Stop};

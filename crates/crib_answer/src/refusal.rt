@@ -5,7 +5,7 @@ ghost use Rattle.crib_text.specs.Refusals.{text_refusal};
 ghost use Rattle.crib_problem.specs.Refusals.{problem_refusal};
 ghost use Rattle.crib_game.specs.Refusals.{game_refusal};
 ghost use Rattle.crib_answer.specs.declared.refusal.Stop.TheVariants as stops;
-ghost use Rattle.crib_answer.specs.Inside.Replies.{StopsFor, refusal_of, stop_reply};
+ghost use Rattle.crib_answer.specs.Private.Replies.{StopsFor, refusal_of, stop_reply};
 ghost use Rattle.crib_answer.specs.Reply.{reply_of};
 
 use crate::answer::Answer;

@@ -5,7 +5,7 @@ ghost use Rattle.crib_text.specs.Spelling.{line_text};
 ghost use Rattle.crib_problem.specs.Spelling.{side_word};
 ghost use Rattle.crib_board.specs.Board.{outcome_word, show_word};
 ghost use Rattle.crib_answer.specs.Answer.{counted_line, report_reply};
-ghost use Rattle.crib_answer.specs.Inside.Replies.{score_tail};
+ghost use Rattle.crib_answer.specs.Private.Replies.{score_tail};
 ghost use Rattle.crib_answer.specs.Reply.{reply_of};
 
 use crate::answer::Answer;

@@ -11,7 +11,7 @@ use Rattle.crib_game.specs.declared.ending.Ending.{Ending}
 use Rattle.crib_game.specs.declared.ending.Ending.TheVariants as ending
 use Rattle.crib_know.specs.Knowledge.{Knowledge, knowledge_after}
 use Rattle.crib_know.specs.Hidden.{KnowsAfter, IsFirstDeal}
-use Rattle.crib_know.specs.Inside.Choice.{chosen}
+use Rattle.crib_know.specs.Private.Choice.{chosen_cards}
 use Rattle.crib_know.proofs.OwnCalls.{first_is}
 use Rattle.crib_check.specs.Failing.{IsFailing, IsFirstFailing, comes_before, opponent_letters}
 use Rattle.crib_check.proofs.Examples.{four_twos, aces, aces_are_a_deal, no_acts, stuck_at_once}
@@ -45,7 +45,7 @@ known = record {
 
 -- AC AD AH AS are held and 3C 3D thrown, since the owner has all twos
 first_deal : IsFirstDeal four_twos [] aces
-unfolding set_where chosen
+unfolding set_where chosen_cards
 first_deal = first_is at_the_lead four_twos [] known aces.hold refl (set_without_all at_the_lead.unseen aces.hold) refl aces.throw refl
 
 nothing_before : (numbers : List ℕ) → is_before numbers [] ≡ false

@@ -17,7 +17,7 @@ use Rattle.crib_know.specs.contracts.knowledge.SightEq.TheImpl.Laws.{laws-law as
 use Rattle.crib_know.specs.contracts.knowledge.ShownEq.TheImpl.Laws.{laws-law as shown_alike}
 use Rattle.crib_know.proofs.Equality.{same_knows}
 use Rattle.crib_check.specs.Kept.{Kept, entry_of, IsInside, AreInside}
-use Rattle.crib_check.specs.Inside.Numbers.{IsMore, IsNumber}
+use Rattle.crib_check.specs.Private.Numbers.{IsMore, IsNumber}
 use Rattle.crib_check.specs.declared.entries.Entry.{Entry}
 use Rattle.crib_check.specs.declared.keys.Key.{Key}
 use Rattle.crib_check.specs.contracts.entries.EntryPartialEq.TheImpl as entries_compared
@@ -204,7 +204,6 @@ module _ (before now after : Kept) (seen : before ≡ now) (inside : AreInside b
 
       pub put_stays : (other : Key) → Holds now other → Holds after other
       put_stays other is = stays_by (same_entry entry (entry_in after other)) (entry_in after other) refl (forth other is)
-
 
       -- an entry that is the new one is that of the key
       is_key : (other : Key) → IsKnown key.know → IsKnown other.know → entry ≡ entry_in after other → other ≡ key

@@ -20,10 +20,10 @@ use Rattle.crib_play.specs.History.{event_of, event_by, filled_moves, AreLegal, 
 use Rattle.crib_play.proofs.CardLemmas.{none_passes}
 use Rattle.crib_problem.specs.Played.{cards_by}
 use Rattle.crib_know.proofs.Events.{events}
-use Rattle.crib_know.proofs.Cards.{left_remaining, has-filter_parts}
+use Rattle.crib_know.proofs.CardsLeft.{left_remaining, has-filter_parts}
 use Rattle.crib_check.specs.Failing.{is_in_turn, is_in_suit_order}
-use Rattle.crib_check.proofs.Orders.{same_side_of}
-use Rattle.crib_check.proofs.Suited.{theirs_with}
+use Rattle.crib_check.proofs.GameOrder.{same_side_of}
+use Rattle.crib_check.proofs.AgreeingInSuitOrder.{theirs_with}
 
 -- ---- at each turn there is one card to play
 module _ (few : ℕ) (start : Start) (hands : Hands) where

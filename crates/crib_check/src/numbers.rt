@@ -1,7 +1,7 @@
 //! Values that a set keeps once, under numbers.
 ghost use Rattle.std.specs.Prelude.{IfSome, IfNone, IfOk};
 ghost use Rattle.std.specs.List.{position_or_len};
-ghost use Rattle.crib_check.specs.Inside.Numbers.{IsMore, IsNumber};
+ghost use Rattle.crib_check.specs.Private.Numbers.{IsMore, IsNumber};
 
 use crate::tables::NoMemory;
 use indexmap::IndexSet;

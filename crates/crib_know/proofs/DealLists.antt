@@ -8,9 +8,9 @@ use Rattle.crib_cards.specs.Sets.{has, are_distinct, set_of, set_where}
 use Rattle.crib_play.proofs.CardLemmas.{filter_yes, filter_no}
 use Rattle.crib_cards.proofs.SetLemmas.{set_where_agree}
 use Rattle.crib_problem.specs.Setup.{Setup, IsSetup, known_cards, unseen_of}
-use Rattle.crib_problem.proofs.Starts.{each_has}
-use Rattle.crib_know.proofs.Choosing.{is_ten}
-use Rattle.crib_know.proofs.Lists.{count_most}
+use Rattle.crib_problem.proofs.StartLemmas.{each_has}
+use Rattle.crib_know.proofs.ChosenCards.{is_ten}
+use Rattle.crib_know.proofs.CardLists.{count_most}
 use Rattle.crib_cards.proofs.SetCounts.{count_cons, count_by-set_of}
 use Rattle.crib_cards.proofs.Members.{AreCards}
 

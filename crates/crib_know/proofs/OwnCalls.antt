@@ -17,32 +17,32 @@ use Rattle.crib_cards.proofs.SetLemmas.{has-set_where, set_where_agree, IsCardSe
 use Rattle.crib_cards.proofs.SetFacts.{has-append}
 use Rattle.crib_play.specs.declared.turns.Turn.TheVariants as turns
 use Rattle.crib_play.specs.Record.{count_of}
-use Rattle.crib_play.specs.Filled.{filled}
+use Rattle.crib_play.specs.Filled.{filled_record}
 use Rattle.crib_play.specs.Standing.{StandsFor, standing_after}
 use Rattle.crib_play.specs.History.{Event, Own, event_by, event_of, history_letters}
 use Rattle.crib_problem.specs.Setup.{Setup, IsSetup, known_cards, unseen_of, fixed_cards, start_of, target_of}
 use Rattle.crib_know.specs.Knowledge.{Knowledge, played_events, their_ranks, least_value, own_left}
-use Rattle.crib_know.specs.Inside.Knowledge.{at_first_lead}
+use Rattle.crib_know.specs.Private.Knowledge.{at_first_lead}
 use Rattle.crib_know.specs.Knowledge.{knowledge_after}
 use Rattle.crib_know.specs.Hidden.{CanShow, CanShowAt, CanComeAt, KnowsAfter, IsFirstDeal}
-use Rattle.crib_know.proofs.Leading.{MayCome, IsLed}
-use Rattle.crib_play.proofs.Plays.{filter_all}
-use Rattle.crib_know.specs.Inside.Choice.{first_hold_with}
-use Rattle.crib_know.proofs.Lists.{count_map}
-use Rattle.crib_know.proofs.Fixed.{fixed_are_cards, fixed_distinct}
-use Rattle.crib_know.proofs.Played.{setup_at_first_lead, begun_at_first_lead, played_dealt, played_agrees, may_at}
-use Rattle.crib_know.proofs.Counting.{counts_none, counts_agree, chosen_picked}
+use Rattle.crib_know.proofs.LedHistories.{MayCome, IsLed}
+use Rattle.crib_play.proofs.TurnFacts.{filter_all}
+use Rattle.crib_know.specs.Private.Choice.{first_hold_with}
+use Rattle.crib_know.proofs.CardLists.{count_map}
+use Rattle.crib_know.proofs.FixedCards.{fixed_are_cards, fixed_distinct}
+use Rattle.crib_know.proofs.OpeningLawProofs.{setup_at_first_lead, begun_at_first_lead, played_dealt, played_agrees, may_at}
+use Rattle.crib_know.proofs.RankCounting.{counts_none, counts_agree, chosen_picked}
 use Rattle.crib_know.proofs.RisingLists.{rising_distinct}
 use Rattle.crib_know.proofs.FirstDeals.{Needs, Fixes, free_cards, free_are_cards, free_chosen, first_hold, first_dealt, hold_four, hold_rising, hold_within}
 use Rattle.crib_know.proofs.FirstDeals.{two_others}
-use Rattle.crib_know.proofs.Led.{possible_led}
-use Rattle.crib_know.proofs.Knows.{led_possible, needs_history, begun_fixes}
-use Rattle.crib_know.proofs.Knows.{first_deal_is}
-use Rattle.crib_know.proofs.Calls.{same_knowledge, led_of, asked_same, count_same, least_same, seen_same, left_same, own_same}
-use Rattle.crib_know.proofs.Calls.{after_own_play, own_go_high, after_own_go, unseen_same, fixed_same, stands_before, play_shows}
-use Rattle.crib_know.proofs.Calls.{play_facts, go_shows, go_facts}
+use Rattle.crib_know.proofs.RecordTurns.{possible_led}
+use Rattle.crib_know.proofs.KnowledgeFacts.{led_possible, needs_history, begun_fixes}
+use Rattle.crib_know.proofs.KnowledgeFacts.{first_deal_is}
+use Rattle.crib_know.proofs.CallLemmas.{same_knowledge, led_of, asked_same, count_same, least_same, seen_same, left_same, own_same}
+use Rattle.crib_know.proofs.CallLemmas.{after_own_play, own_go_high, after_own_go, unseen_same, fixed_same, stands_before, play_shows}
+use Rattle.crib_know.proofs.CallLemmas.{play_facts, go_shows, go_facts}
 use Rattle.crib_cards.proofs.SetCounts.{count_by-set_of}
-use Rattle.crib_problem.proofs.Honest.{reverse_more}
+use Rattle.crib_problem.proofs.HonestTurns.{reverse_more}
 
 -- ---- two names of one knowledge
 pub moved : (know now : Knowledge) (problem : Setup) (history : List Event) → know ≡ now → KnowsAfter now problem history → KnowsAfter know problem history
@@ -106,7 +106,8 @@ start_knows problem setup dealer scores target next same_dealer same_scores same
       setup = setup_at_first_lead problem setup;
       begun = begun_at_first_lead problem [];
       possible = led_possible (at_first_lead problem) (setup_at_first_lead problem setup) [] tt (begun_at_first_lead problem []);
-      knowledge = same_knowledge next (knowledge_after (at_first_lead problem) []) (stands.shows ∙ ap (λ (s : Start). standing_after s (filled s [])) same)
+      knowledge =
+          same_knowledge next (knowledge_after (at_first_lead problem) []) (stands.shows ∙ ap (λ (s : Start). standing_after s (filled_record s [])) same)
           (own ∙ ap set_of (sym (filter_all problem.hold))) (ranks ∙ sym counts_none) left least unseen fixed;
     }
 

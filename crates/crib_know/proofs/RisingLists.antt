@@ -8,8 +8,8 @@ use Rattle.crib_cards.specs.Cards.{IsCard}
 use Rattle.crib_cards.specs.Sets.{has, are_distinct, set_of, set_where}
 use Rattle.crib_cards.specs.Order.{is_before, are_rising}
 use Rattle.crib_play.proofs.CardLemmas.{filter_yes, filter_no}
-use Rattle.crib_know.proofs.Cards.{eqb_same, has-filter_parts}
-use Rattle.crib_know.proofs.Lists.{has_range_parts}
+use Rattle.crib_know.proofs.CardsLeft.{eqb_same, has-filter_parts}
+use Rattle.crib_know.proofs.CardLists.{has_range_parts}
 use Rattle.crib_cards.proofs.SetFacts.{rising_rest, rising_above, filter_agree}
 use Rattle.crib_cards.proofs.Members.{has_here}
 use Rattle.crib_cards.proofs.DictionaryOrder.{not_before_rest}

@@ -7,7 +7,7 @@ use Rattle.crib_cards.specs.Sets.{has}
 use Rattle.crib_plan.specs.declared.plan.Next.{Next}
 use Rattle.crib_plan.specs.declared.plan.Next.TheVariants.{End, To}
 use Rattle.crib_plan.specs.Spelling.{leads_to, nodes_of}
-use Rattle.crib_plan.specs.Inside.Spelling.{seen_after}
+use Rattle.crib_plan.specs.Private.Spelling.{seen_after}
 
 -- whether some branch leads to a node
 abbrev pub leads : List Next → ℕ → Bool

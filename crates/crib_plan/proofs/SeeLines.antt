@@ -12,7 +12,7 @@ use Rattle.crib_plan.specs.declared.plan.Next.TheVariants.{End, To}
 use Rattle.crib_plan.specs.Spelling.{letter_bytes, leads_to}
 use Rattle.crib_plan.specs.Reading.{is_end, are_free, led_by, Branches, no_branches, Letters, letters_in}
 use Rattle.crib_plan.specs.SeeLaws.{Branch, AreInOrder, first_number, has_letter, has_node, IsBehindLast, IsNextSet}
-use Rattle.crib_plan.proofs.BranchFound.{chosen, led_leads, length-led, AreLetters, letters_found, end_leads_not}
+use Rattle.crib_plan.proofs.BranchReadIsSpelled.{chosen, led_leads, length-led, AreLetters, letters_found, end_leads_not}
 use Rattle.crib_plan.proofs.LeadsTo.{leads, or_rest}
 use Rattle.crib_plan.proofs.SeeSets.{chosen_in_order, number_of_first, where_leads, leads_led, free_all}
 

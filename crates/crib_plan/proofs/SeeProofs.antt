@@ -20,9 +20,9 @@ use Rattle.crib_plan.specs.Reading.{parts_in, letters_in, branch_in, branches_in
 use Rattle.crib_plan.specs.SeeLaws.{Branch, branch_spelling, first_number, IsNextSet, Pass, IsRefused, HasNoColon, IsLaterNode, ColonLaw, SetLaw, EndLaw}
 use Rattle.crib_plan.specs.SeeLaws.{NumberLaw, RangeLaw, NodeLaw, PassLaw}
 use Rattle.crib_plan.proofs.WordLemmas.{decimal_digits, decimal_not_end, digits_colon}
-use Rattle.crib_plan.proofs.BranchFound.{letters_found, read_found}
+use Rattle.crib_plan.proofs.BranchReadIsSpelled.{letters_found, read_found}
 use Rattle.crib_plan.proofs.LeadsTo.{leads}
-use Rattle.crib_plan.proofs.BranchSpelled.{later_spelled, position_there, parts_spelled}
+use Rattle.crib_plan.proofs.BranchSpelledIsRead.{later_spelled, position_there, parts_spelled}
 use Rattle.crib_plan.proofs.BranchLemmas.{branches_more, branches_stop, branches_none}
 use Rattle.crib_plan.proofs.SeeSets.{read_in_order, chosen_none, number_of_first, free_from}
 use Rattle.crib_plan.proofs.SeeLines.{Stand, none_stand, one_more, next_set_found}

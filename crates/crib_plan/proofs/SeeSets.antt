@@ -7,9 +7,9 @@ use Rattle.crib_cards.specs.Sets.{has, are_distinct}
 use Rattle.crib_text.proofs.WordLemmas.{place_here, place_later}
 use Rattle.crib_plan.specs.declared.plan.Next.{Next}
 use Rattle.crib_plan.specs.declared.plan.Next.TheVariants.{End, To}
-use Rattle.crib_plan.specs.Reading.{begins, letters_read, is_end, are_free, led_by}
+use Rattle.crib_plan.specs.Reading.{begins_with, letters_read, is_end, are_free, led_by}
 use Rattle.crib_plan.specs.SeeLaws.{AreInOrder}
-use Rattle.crib_plan.proofs.BranchFound.{chosen}
+use Rattle.crib_plan.proofs.BranchReadIsSpelled.{chosen}
 use Rattle.crib_plan.proofs.LeadsTo.{or_rest}
 
 -- ---- letters in order
@@ -37,7 +37,7 @@ read_step : (byte : ℕ) (bytes : List ℕ) (letter : ℕ) (letters : List ℕ) 
 unfolding letters_read
 read_step byte bytes letter letters holding same read = rw (same, read) refl
 
-read_past : (bytes : List ℕ) (letter : ℕ) (letters : List ℕ) (holding : List Bool) → begins bytes letter ≡ false
+read_past : (bytes : List ℕ) (letter : ℕ) (letters : List ℕ) (holding : List Bool) → begins_with bytes letter ≡ false
     → letters_read letters bytes ≡ Some holding → letters_read (letter ∷ letters) bytes ≡ Some (false ∷ holding)
 unfolding letters_read
 read_past bytes letter letters holding other read = rw (other, read) refl

@@ -9,8 +9,8 @@ use Rattle.crib_cards.specs.declared.moves.Move.{Move}
 use Rattle.crib_cards.specs.declared.moves.Move.TheVariants as move
 use Rattle.crib_play.specs.declared.turns.Turn.TheVariants as turns
 use Rattle.crib_play.specs.Record.{pile_of}
-use Rattle.crib_play.specs.Filled.{filled, points_added, visible_turns}
-use Rattle.crib_play.proofs.Seen.{asked_seen, count_seen}
+use Rattle.crib_play.specs.Filled.{filled_record, points_added, visible_turns}
+use Rattle.crib_play.proofs.VisibleTurns.{asked_seen, count_seen}
 use Rattle.crib_play.specs.Fitting.{fits_at}
 use Rattle.crib_play.specs.Legal.{MayTake, fits, cards_left}
 use Rattle.crib_play.specs.Least.{least_of}
@@ -40,7 +40,7 @@ count_after_31 = refl
 
 -- T 9 8 A, the owner says go at 28, and the opponent plays two more aces. The owner does not say go a second time: his further gos are silent. After the second
 -- ace the opponent has played his four cards, so his own go is silent too. It closes the count and brings him 1.
-one_go_is_said : filled level_start (reverse (Seen 10 ∷ Seen 9 ∷ Seen 8 ∷ Seen 1 ∷ Go ∷ Seen 1 ∷ Seen 1 ∷ []))
+one_go_is_said : filled_record level_start (reverse (Seen 10 ∷ Seen 9 ∷ Seen 8 ∷ Seen 1 ∷ Go ∷ Seen 1 ∷ Seen 1 ∷ []))
     ≡ reverse (Seen 10 ∷ Seen 9 ∷ Seen 8 ∷ Seen 1 ∷ Go ∷ Seen 1 ∷ Go ∷ Seen 1 ∷ Go ∷ Go ∷ [])
 one_go_is_said = refl
 
@@ -58,7 +58,7 @@ third_ace = refl
 -- ---- a run across a close
 
 -- K Q T A makes 31. The two and the three that come next make no run with the ace, since the pile is a new one
-pile_after_a_close : pile_of (filled level_start (reverse (Seen 13 ∷ Seen 12 ∷ Seen 10 ∷ Seen 1 ∷ Seen 2 ∷ Seen 3 ∷ [])))
+pile_after_a_close : pile_of (filled_record level_start (reverse (Seen 13 ∷ Seen 12 ∷ Seen 10 ∷ Seen 1 ∷ Seen 2 ∷ Seen 3 ∷ [])))
     ≡ 2 ∷ 3 ∷ []
 pile_after_a_close = refl
 

@@ -3,7 +3,7 @@ use Rattle.std.specs.Prelude.{◌≡◌, refl, [], ◌∷◌, List}
 use Rattle.crib_plan.specs.declared.plan.Next.TheVariants.{End, To}
 use Rattle.crib_plan.specs.declared.plan.Node.TheVariants.{Play, See}
 use Rattle.crib_search.specs.Finder.{one_of_each_rank}
-use Rattle.crib_search.specs.Trees.{Tree, Finish, Plays, Sees, branches_of, joined, walked, plan_of_tree}
+use Rattle.crib_search.specs.Trees.{Tree, Finish, Plays, Sees, branches_of, joined_tree, trees_after_walk, plan_of_tree}
 
 -- branches that are the end, except those of the ace, the two and the go
 abbrev after : Tree → Tree → Tree → List Tree
@@ -18,29 +18,29 @@ abbrev diamonds : Tree
 diamonds = Plays 5 Finish
 
 -- if each branch is the end, the joined tree is the end
-pub all_end : joined (after Finish Finish Finish) ≡ Finish
+pub all_end : joined_tree (after Finish Finish Finish) ≡ Finish
 all_end = refl
 
 -- a play that is the same for all letters needs no look
-pub one_play : joined (after Finish clubs Finish) ≡ clubs
+pub one_play : joined_tree (after Finish clubs Finish) ≡ clubs
 one_play = refl
 
-pub one_play_twice : joined (after clubs Finish clubs) ≡ clubs
+pub one_play_twice : joined_tree (after clubs Finish clubs) ≡ clubs
 one_play_twice = refl
 
 -- two different plays need a look
-pub two_plays : joined (after clubs diamonds clubs) ≡ Sees (branches_of (after clubs diamonds clubs))
+pub two_plays : joined_tree (after clubs diamonds clubs) ≡ Sees (branches_of (after clubs diamonds clubs))
 two_plays = refl
 
 -- a card that goes on in two ways is two different plays
-pub two_ways : joined (after clubs (Plays 4 diamonds) Finish) ≡ Sees (branches_of (after clubs (Plays 4 diamonds) Finish))
+pub two_ways : joined_tree (after clubs (Plays 4 diamonds) Finish) ≡ Sees (branches_of (after clubs (Plays 4 diamonds) Finish))
 two_ways = refl
 
 -- branches that are the same look are not joined into it: a new look comes before it
 abbrev look : Tree
 look = Sees (branches_of (after clubs diamonds Finish))
 
-pub one_look : joined (after look look look) ≡ Sees (branches_of (after look look look))
+pub one_look : joined_tree (after look look look) ≡ Sees (branches_of (after look look look))
 one_look = refl
 
 -- the ace and the go lead to the same play of the two of clubs; the two leads to the two of diamonds; both go on with the two of hearts
@@ -51,7 +51,7 @@ abbrev shared : Tree
 shared = Sees (branches_of (after (Plays 4 hearts) (Plays 5 hearts) (Plays 4 hearts)))
 
 -- the walk leaves the two of hearts first, and once; it leaves the look last
-pub left_in_order : walked shared [] ≡ shared ∷ Plays 5 hearts ∷ Plays 4 hearts ∷ hearts ∷ []
+pub left_in_order : trees_after_walk shared [] ≡ shared ∷ Plays 5 hearts ∷ Plays 4 hearts ∷ hearts ∷ []
 left_in_order = refl
 
 -- so the look is node 0, and the two of hearts is node 3

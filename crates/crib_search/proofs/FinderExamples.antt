@@ -20,7 +20,7 @@ use Rattle.crib_plan.specs.declared.plan.Node.TheVariants.{Play, See}
 use Rattle.crib_know.specs.Knowledge.{played_events}
 use Rattle.crib_know.specs.Hidden.{CanShow}
 use Rattle.crib_check.proofs.SureExamples.{at_29}
-use Rattle.crib_search.specs.Trees.{Tree, Finish, Plays, Sees, branches_of, joined, same_tree, plan_of_tree}
+use Rattle.crib_search.specs.Trees.{Tree, Finish, Plays, Sees, branches_of, joined_tree, same_tree, plan_of_tree}
 use Rattle.crib_search.specs.Finder.{Found, Tries, OwnerFinds, LacksBranch, BranchFinds, FindsFor, FindsTree, Finds, IsFound, IsReachedBehind}
 use Rattle.crib_search.specs.Finder.{ExceedsLimit, options, letters}
 use Rattle.crib_search.specs.declared.finder.Found.TheVariants as found
@@ -198,7 +198,7 @@ none_lacks_a_branch (inl lacks) = lacks.0
 none_lacks_a_branch (inr finds) = absurd (let is = finds.2 in cc)
 
 pub tree_joins_branches : (tree : Tree) → FindsFor turns.Opponent given at_29 three_events (Some tree) →
-    (branches : List Tree) × AllZip (BranchFinds given at_29 three_events) letters branches × (Some tree ≡ Some (joined branches))
+    (branches : List Tree) × AllZip (BranchFinds given at_29 three_events) letters branches × (Some tree ≡ Some (joined_tree branches))
 tree_joins_branches tree (inl lacks) = absurd (let is = lacks.1 in cc)
 tree_joins_branches tree (inr finds) = finds
 

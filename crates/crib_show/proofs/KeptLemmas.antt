@@ -8,11 +8,11 @@ use Rattle.crib_cards.specs.Deals.{IsDeal}
 use Rattle.crib_cards.specs.Sets.{has}
 use Rattle.crib_cards.specs.declared.sides.Dealt.{Dealt}
 use Rattle.crib_show.specs.Show.{hand_points, crib_points}
-use Rattle.crib_show.specs.Inside.Places.{IsPlace}
+use Rattle.crib_show.specs.Private.Places.{IsPlace}
 use Rattle.crib_show.specs.Places.{AreFour, place_among}
 use Rattle.crib_show.specs.Shows.{AreKept, AreKeptIn, HasCards}
 use Rattle.crib_show.proofs.PlaceLemmas.{place_of_one}
-use Rattle.crib_show.specs.Worst.{AgreesWith, IsGreatestCrib, IsGreatestHand, IsGreatestTotal, IsLeastCrib, hidden_crib, hidden_hand, hidden_total}
+use Rattle.crib_show.specs.Worst.{AgreesInShow, IsGreatestCrib, IsGreatestHand, IsGreatestTotal, IsLeastCrib, hidden_crib, hidden_hand, hidden_total}
 use Rattle.crib_show.specs.declared.deals.WorstShow.{WorstShow}
 use Rattle.crib_show.specs.declared.shows.Kept.{Kept}
 
@@ -22,14 +22,14 @@ module _ (starter : ℕ) (throw unseen fixed : List ℕ) (worst other : WorstSho
   starters : worst.starter ≡ other.starter
   starters = here.starter_is ∙ sym there.starter_is
 
-  agrees_there : (dealt : Dealt) → AgreesWith worst dealt → AgreesWith other dealt
+  agrees_there : (dealt : Dealt) → AgreesInShow worst dealt → AgreesInShow other dealt
   agrees_there dealt agrees = record {
     deal = subst (λ cards. IsDeal cards dealt) (here.unseen_is ∙ sym there.unseen_is) agrees.deal;
     ranks_held = agrees.ranks_held ∙ same;
     fixed_held = subst (λ cards. IsTrue (list_all (has dealt.hold) cards)) (here.fixed_is ∙ sym there.fixed_is) agrees.fixed_held;
   }
 
-  agrees_here : (dealt : Dealt) → AgreesWith other dealt → AgreesWith worst dealt
+  agrees_here : (dealt : Dealt) → AgreesInShow other dealt → AgreesInShow worst dealt
   agrees_here dealt agrees = record {
     deal = subst (λ cards. IsDeal cards dealt) (there.unseen_is ∙ sym here.unseen_is) agrees.deal;
     ranks_held = agrees.ranks_held ∙ sym same;

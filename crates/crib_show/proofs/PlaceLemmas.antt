@@ -2,8 +2,8 @@
 use Rattle.std.proofs.Common.{◌≡◌, ℕ, zero, suc, ◌+◌, ◌-◌, ◌<◌, ◌≤◌, List, [], ◌∷◌, length, fold, sum, replicate, refl, sym, ap, inl, inr, arith, subst}
 use Rattle.std.proofs.lemmas.Bool.{cases_lt}
 use Rattle.std.proofs.lemmas.List.{length-append, length-replicate}
-use Rattle.crib_show.specs.Inside.Extremes.{ranks_from}
-use Rattle.crib_show.specs.Inside.Places.{IsPlace}
+use Rattle.crib_show.specs.Private.Extremes.{ranks_from}
+use Rattle.crib_show.specs.Private.Places.{IsPlace}
 use Rattle.crib_show.specs.Places.{below, many, place_among}
 
 -- ---- the sum of counts

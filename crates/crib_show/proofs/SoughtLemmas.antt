@@ -9,11 +9,11 @@ use Rattle.crib_cards.specs.declared.sides.Dealt.{Dealt}
 use Rattle.crib_cards.proofs.LowestCard.{in_set}
 use Rattle.crib_cards.proofs.Members.{has_here, has_there}
 use Rattle.crib_cards.proofs.SetFacts.{IsCardSet-set_without, has-set_without}
-use Rattle.crib_show.specs.Inside.Extremes.{crib_suit_points, crib_with, has_room, is_free, most_crib_suits, most_suit_points, plain_crib, ranks_from}
-use Rattle.crib_show.specs.Inside.Extremes.{suit_points, suited}
-use Rattle.crib_show.specs.Inside.Totals.{NoneGive, SomeGive, card_gives, ranks_give, sought_points, throw_gives, without_throw}
+use Rattle.crib_show.specs.Private.Extremes.{crib_suit_points, crib_with, has_room, is_free, most_crib_suits, most_suit_points, plain_crib, ranks_from}
+use Rattle.crib_show.specs.Private.Extremes.{suit_points, cards_in_suit}
+use Rattle.crib_show.specs.Private.Totals.{NoneGive, SomeGive, card_gives, ranks_give, sought_points, throw_gives, without_throw}
 use Rattle.crib_show.specs.Show.{crib_points, plain_points}
-use Rattle.crib_show.specs.Worst.{AgreesWith, ArePlain, HasDeal, IsGreatestCrib, IsGreatestTotal, hidden_crib, hidden_hand, hidden_total}
+use Rattle.crib_show.specs.Worst.{AgreesInShow, ArePlain, HasDeal, IsGreatestCrib, IsGreatestTotal, hidden_crib, hidden_hand, hidden_total}
 use Rattle.crib_show.specs.declared.deals.WorstShow.{WorstShow}
 use Rattle.crib_show.specs.declared.totals.Sought.{Sought}
 use Rattle.crib_show.specs.declared.totals.Sought.TheVariants.{Crib, CribAndHand}
@@ -21,7 +21,7 @@ use Rattle.crib_show.proofs.CribLemmas.{deal_with, ordered, suits_most}
 use Rattle.crib_show.proofs.Exchange.{IsHold, deal_of, held_in, hold_of, throw_of}
 use Rattle.crib_show.proofs.HandLemmas.{most_held, no_more, value}
 use Rattle.crib_show.proofs.Throws.{MayThrow, crib_of_ranks, few_suits}
-use Rattle.crib_show.proofs.TriedPairs.{card_back, rank_back}
+use Rattle.crib_show.proofs.PairTrials.{card_back, rank_back}
 
 -- ---- one of four suits
 
@@ -131,7 +131,7 @@ module _ (worst : WorstShow) where
         joined : (a b c d : ℕ) → a ≡ b + c → c ≤ d → a ≤ b + d
         joined a b c d e f = omega arith
 
-    pub few_crib : (points : List ℕ) → ArePlain worst.starter worst.own_throw points → (dealt : Dealt) → AgreesWith worst dealt →
+    pub few_crib : (points : List ℕ) → ArePlain worst.starter worst.own_throw points → (dealt : Dealt) → AgreesInShow worst dealt →
         hidden_crib worst dealt ≤ 102
     few_crib points plain dealt agrees =
         let thrown = ordered worst unseen_set dealt.hold dealt.throw agrees in
@@ -148,7 +148,7 @@ module _ (worst : WorstShow) where
 
     -- ---- the greatest crib
     pub crib_greatest : HasDeal worst → (bound most : ℕ) →
-        ((dealt : Dealt) → AgreesWith worst dealt → hidden_crib worst dealt ≤ bound) →
+        ((dealt : Dealt) → AgreesInShow worst dealt → hidden_crib worst dealt ≤ bound) →
         (most ≡ 0) ⊎ SomeGive worst Crib 0 most → (most ≡ bound) ⊎ NoneGive worst Crib 0 (most + 1) → IsGreatestCrib worst most
     crib_greatest some bound most cribs give none = record {
       some = elim give [
@@ -177,7 +177,7 @@ module _ (worst : WorstShow) where
         no_more_than : (a b : ℕ) → a ≡ b → b < most + 1 → a ≤ most
         no_more_than a b c d = omega arith
 
-        all : (dealt : Dealt) → AgreesWith worst dealt → hidden_crib worst dealt ≤ most
+        all : (dealt : Dealt) → AgreesInShow worst dealt → hidden_crib worst dealt ≤ most
         all dealt agrees = elim none [
           | inl is ↦ subst (λ k. hidden_crib worst dealt ≤ k) (sym is) (cribs dealt agrees)
           | inr less ↦
@@ -270,7 +270,7 @@ module _ (worst : WorstShow) where
             gone hold apart k h = elim (cases_Bool (has hold k)) [ inl held ↦ absurd (both_ways (has (x ∷ y ∷ []) k) (apart k held) h) | inr out ↦ out ]
 
         -- the deal of this hold and throw
-        best_deal : HasDeal worst → MayThrow worst x y → (of : Best) → AgreesWith worst (record { hold = of.hold; throw = x ∷ y ∷ [] })
+        best_deal : HasDeal worst → MayThrow worst x y → (of : Best) → AgreesInShow worst (record { hold = of.hold; throw = x ∷ y ∷ [] })
         best_deal some may of =
             let deal = deal_with worst unseen_set some x y may in
             let thrown = throw_of worst (record { hold = deal.0; throw = x ∷ y ∷ [] }) deal.1 in
@@ -285,7 +285,7 @@ module _ (worst : WorstShow) where
 
       -- ---- the greatest sum
       pub total_greatest : HasDeal worst → (crib plain suits most : ℕ) → IsGreatestCrib worst crib →
-          plain ≡ plain_points (worst.starter ∷ suited 0 four) → suits ≡ most_suit_points worst four →
+          plain ≡ plain_points (worst.starter ∷ cards_in_suit 0 four) → suits ≡ most_suit_points worst four →
           (most ≡ 0) ⊎ SomeGive worst (CribAndHand four) suits most →
           (most ≡ crib + suits) ⊎ NoneGive worst (CribAndHand four) suits (most + 1) → IsGreatestTotal worst (plain + most)
       total_greatest some crib plain suits most cribs is_plain is_suits give none = record {
@@ -317,7 +317,7 @@ module _ (worst : WorstShow) where
           both : (a b c d : ℕ) → a ≡ plain + c → c ≡ d → a + b ≤ plain + most → most ≤ b + d → a + b ≡ plain + most
           both a b c d e f g h = omega arith
 
-          hand_is : (dealt : Dealt) → AgreesWith worst dealt → hidden_hand worst dealt ≡ plain + suit_points dealt.hold worst.starter
+          hand_is : (dealt : Dealt) → AgreesInShow worst dealt → hidden_hand worst dealt ≡ plain + suit_points dealt.hold worst.starter
           hand_is dealt agrees = subst (λ k. hidden_hand worst dealt ≡ k + suit_points dealt.hold worst.starter) (sym is_plain)
               (value worst unseen_set fixed_set (held_in worst some) dealt.hold (hold_of worst dealt agrees))
 
@@ -333,7 +333,7 @@ module _ (worst : WorstShow) where
           no_more_than : (a b c d e : ℕ) → a ≡ plain + c → b ≡ d → c ≤ e → d + e < most + 1 → a + b ≤ plain + most
           no_more_than a b c d e f g h i = omega arith
 
-          all : (dealt : Dealt) → AgreesWith worst dealt → hidden_total worst dealt ≤ plain + most
+          all : (dealt : Dealt) → AgreesInShow worst dealt → hidden_total worst dealt ≤ plain + most
           all dealt agrees = elim none [
             | inl is ↦ bounded (hidden_hand worst dealt) (hidden_crib worst dealt) (suit_points dealt.hold worst.starter) (hand_is dealt agrees)
                 (suits_few dealt.hold (hold_of worst dealt agrees)) (cribs.all dealt agrees) is

@@ -6,13 +6,13 @@ use Rattle.std.proofs.lemmas.Bool.{cases_Bool, and_parts, and_from, not-true, co
 use Rattle.std.proofs.lemmas.Bool.{cond-false, eqb-false, ne_eqb}
 use Rattle.std.proofs.lemmas.List.{map-append}
 use Rattle.crib_cards.specs.Cards.{IsRank, card_of, jack, rank_of, suit_of}
-use Rattle.crib_show.specs.Inside.Extremes.{crib_suit_points, crib_with, has_room, is_free, least_of_ranks}
-use Rattle.crib_show.specs.Inside.Extremes.{least_suits, least_suits_with, may_throw_flush, may_throw_jack, most_crib_suits, no_crib, plain_crib, thrown_suits}
+use Rattle.crib_show.specs.Private.Extremes.{crib_suit_points, crib_with, has_room, is_free, least_of_ranks}
+use Rattle.crib_show.specs.Private.Extremes.{least_suits, least_suits_with, may_throw_flush, may_throw_jack, most_crib_suits, no_crib, plain_crib, thrown_suits}
 use Rattle.crib_show.specs.Show.{crib_flush, crib_points, jack_points, plain_points}
 use Rattle.crib_show.specs.declared.deals.WorstShow.{WorstShow}
 use Rattle.crib_show.proofs.RankLaw.{plain_points-reordered}
-use Rattle.crib_show.proofs.Reordered.{Reordered, same_order}
-use Rattle.crib_show.proofs.TriedPairs.{four_below, four_is, card_back, rank_back}
+use Rattle.crib_show.proofs.ReorderedLists.{Reordered, same_order}
+use Rattle.crib_show.proofs.PairTrials.{four_below, four_is, card_back, rank_back}
 
 -- a flush and a jack are six points at most
 six : (flush jack_held : Bool) → cond flush 5 0 + cond jack_held 1 0 ≤ 6

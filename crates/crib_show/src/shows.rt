@@ -1,6 +1,6 @@
 //! What the shows of one problem come to, kept from one end of the play to the next.
 ghost use Rattle.std.specs.Prelude.{◌≡◌, ℕ, ◌+◌, ◌*◌, ◌<◌, ◌≤◌, List, length};
-ghost use Rattle.crib_show.specs.Inside.Places.{IsPlace};
+ghost use Rattle.crib_show.specs.Private.Places.{IsPlace};
 ghost use Rattle.crib_show.specs.Places.{below, many, place_among};
 ghost use Rattle.crib_show.specs.Shows.{AreKept, AreShows, AreShowsFor};
 ghost use Rattle.crib_show.specs.Worst.{AreOwnPoints, HasDeal, IsGreatestCrib, IsGreatestHand, IsGreatestTotal};
@@ -8,7 +8,7 @@ ghost use Rattle.crib_show.specs.Worst.{IsLeastCrib};
 
 use super::cribs::known_crib;
 use super::deals::{OwnPoints, WorstShow};
-use super::hands::is_set;
+use super::hands::know_set;
 use super::points::hand_points;
 use crib_cards::Card;
 
@@ -164,8 +164,8 @@ impl WorstShow {
         requires { HasDeal self.now }
         ensures { IsPlace self.now.ranks result }
     {
-        is_set(self.unseen);
-        is_set(self.fixed);
+        know_set(self.unseen);
+        know_set(self.fixed);
         place_among(self.ranks.as_slice(), 4)
     }
 }

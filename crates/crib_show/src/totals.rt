@@ -1,15 +1,16 @@
 //! The greatest crib, and the greatest sum of the opponent's hand and the crib of one hidden deal.
 ghost use Rattle.std.specs.Prelude.{◌≡◌, ◌⊎◌, ◌+◌, ◌≤◌, ◌∷◌, ◌++◌, [], IsFalse, IsTrue};
 ghost use Rattle.crib_cards.specs.Cards.{IsRank};
-ghost use Rattle.crib_show.specs.Inside.Extremes.{most_suit_points, plain_crib, ranks_from, suited};
-ghost use Rattle.crib_show.specs.Inside.Totals.{NoneGive, SomeGive, card_gives, ranks_give, sought_points, throw_gives};
-ghost use Rattle.crib_show.specs.Inside.Totals.{without_throw};
+ghost use Rattle.crib_show.specs.Private.Extremes.{most_suit_points, plain_crib, ranks_from, cards_in_suit};
+ghost use Rattle.crib_show.specs.Private.Totals.{NoneGive, SomeGive, card_gives, ranks_give, sought_points};
+ghost use Rattle.crib_show.specs.Private.Totals.{throw_gives};
+ghost use Rattle.crib_show.specs.Private.Totals.{without_throw};
 ghost use Rattle.crib_show.specs.Show.{crib_points, plain_points};
 ghost use Rattle.crib_show.specs.Worst.{ArePlain, HasDeal, IsGreatestCrib, IsGreatestTotal};
 
 use super::cribs::{MOST_OF_SUITS, plain_cribs};
 use super::deals::{PlainCribs, WorstShow};
-use super::hands::{is_set, rank_numbered};
+use super::hands::{know_set, rank_numbered};
 use super::points::{crib_flush, jack_points};
 use crib_cards::{Card, Rank, Suit};
 
@@ -38,7 +39,7 @@ impl WorstShow {
         requires plain { ArePlain self.now.starter self.now.own_throw plain.now }
         ensures { IsGreatestCrib self.now result }
     {
-        is_set(self.unseen);
+        know_set(self.unseen);
         self.most_sought(plain, &Sought::Crib, 0, self.high_crib(plain))
     }
 
@@ -49,8 +50,8 @@ impl WorstShow {
         requires crib { IsGreatestCrib self.now crib }
         ensures { IsGreatestTotal self.now result }
     {
-        is_set(self.unseen);
-        is_set(self.fixed);
+        know_set(self.unseen);
+        know_set(self.fixed);
         let hand = self.ranks_hand();
         let sought = Sought::CribAndHand(hand.ranks);
         hand.plain + self.most_sought(plain, &sought, hand.suits, crib + hand.suits)

@@ -12,8 +12,8 @@ use Rattle.crib_answer.specs.Answer.{refusal_reply, fault_reply}
 use Rattle.crib_answer.specs.Memory.{Makes}
 use Rattle.crib_answer.specs.Telling.{StatusTells}
 use Rattle.cribplan.specs.Run.{IsRead, AnswersRead, Sends, Delivers, RunTells}
-use Rattle.crib_answer.proofs.Owing.{long_answers}
-use Rattle.crib_answer.proofs.Told.{makes_tells, memory_tells}
+use Rattle.crib_answer.proofs.OwedReplies.{long_answers}
+use Rattle.crib_answer.proofs.ToldAnswers.{makes_tells, memory_tells}
 
 -- what a run told where it sent a reply
 sent_tells : (job : Job) (input : List ℕ) (reply : Reply) (reads writes : Type 0) (old new : Option (List ℕ)) (ended : Status) → StatusTells job input reply

@@ -1,4 +1,4 @@
-use Rattle.crib_check.proofs.Sureness.{ends, sure_goes_on}
+use Rattle.crib_check.proofs.VerdictAtStart.{ends, sure_goes_on}
 use Rattle.crib_answer.proofs.Replies.{holds_law, fails_law, either_law, sure_owed, failing_owed}
 use Rattle.crib_answer.proofs.laws.check_law.Goals as goal
 

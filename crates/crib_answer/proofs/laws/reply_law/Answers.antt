@@ -1,6 +1,6 @@
 use Rattle.crib_answer.proofs.Replies.{one_reply_law}
-use Rattle.crib_answer.proofs.Owing.{too_long_law}
-use Rattle.crib_answer.proofs.Beginnings.{cut_short_law}
+use Rattle.crib_answer.proofs.OwedReplies.{too_long_law}
+use Rattle.crib_answer.proofs.CutShortInputs.{cut_short_law}
 use Rattle.crib_answer.proofs.laws.reply_law.Goals as goal
 
 pub returns : goal.returns

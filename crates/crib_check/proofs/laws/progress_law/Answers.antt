@@ -1,4 +1,4 @@
-use Rattle.crib_check.proofs.Sureness.{ends, sure_goes_on}
+use Rattle.crib_check.proofs.VerdictAtStart.{ends, sure_goes_on}
 use Rattle.crib_check.proofs.laws.progress_law.Goals as goal
 
 pub returns : goal.returns

@@ -1,6 +1,6 @@
 use Rattle.std.proofs.Common.{◌≡◌, ℕ, List, [], ◌∷◌, length, get_or, refl, ap, sym, ◌∙◌, arith}
 use Rattle.crib_cards.specs.Cards.{card_value}
-use Rattle.crib_show.specs.Inside.Counts.{fifteens_of_three}
+use Rattle.crib_show.specs.Private.Counts.{fifteens_of_three}
 use Rattle.crib_show.proofs.FifteenLemmas.{fifteens_from, fifteens_from-three}
 use Rattle.crib_show.proofs.points.three_fifteens.Goals as goal
 

@@ -2,7 +2,7 @@ use Rattle.std.proofs.Common.{sym}
 use Rattle.std.proofs.lemmas.Nat.{or_lt}
 use Rattle.crib_cards.specs.SetBits.{cards_of_bits}
 use Rattle.crib_cards.proofs.SetLemmas.{with-bits, IsCardSet-set_where, shifted_small}
-use Rattle.crib_cards.proofs.Walks.{set_with_all-more, set_with_all-none}
+use Rattle.crib_cards.proofs.SetWalks.{set_with_all-more, set_with_all-none}
 use Rattle.crib_cards.proofs.sets.CardSet.with_all.Goals as goal
 
 pub loop-added-init : goal.loop-added-init

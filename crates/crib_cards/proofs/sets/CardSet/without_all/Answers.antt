@@ -2,7 +2,7 @@ use Rattle.std.proofs.Common.{sym, lt_of_le_of_lt}
 use Rattle.std.proofs.lemmas.Nat.{and_le_l}
 use Rattle.crib_cards.specs.SetBits.{cards_of_bits}
 use Rattle.crib_cards.proofs.SetLemmas.{without-bits, IsCardSet-set_where}
-use Rattle.crib_cards.proofs.Walks.{set_without_all-more, set_without_all-none}
+use Rattle.crib_cards.proofs.SetWalks.{set_without_all-more, set_without_all-none}
 use Rattle.crib_cards.proofs.sets.CardSet.without_all.Goals as goal
 
 pub loop-removed-init : goal.loop-removed-init

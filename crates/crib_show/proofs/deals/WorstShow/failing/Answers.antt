@@ -1,5 +1,5 @@
 use Rattle.std.proofs.Common.{◌-◌, sym, ap, ◌∙◌}
-use Rattle.crib_show.specs.Inside.Listing.{passes}
+use Rattle.crib_show.specs.Private.Listing.{passes}
 use Rattle.crib_show.specs.declared.listing.Test.TheVariants.{HandOrShort}
 use Rattle.crib_show.proofs.FailLemmas.{any_decided, any_short, by_hand, by_hand_or_crib, by_total}
 use Rattle.crib_show.proofs.deals.WorstShow.failing.Goals as goal

@@ -1,5 +1,5 @@
 use Rattle.std.proofs.Common.{◌≡◌, ◌⊎◌, ℕ, ◌+◌, ◌≤◌, List, subst, arith}
-use Rattle.crib_show.specs.Inside.Totals.{NoneGive, SomeGive}
+use Rattle.crib_show.specs.Private.Totals.{NoneGive, SomeGive}
 use Rattle.crib_show.specs.declared.totals.Sought.TheVariants.{CribAndHand}
 use Rattle.crib_show.proofs.SoughtLemmas.{few_crib, total_greatest}
 use Rattle.crib_show.proofs.deals.WorstShow.greatest_total.Goals as goal
@@ -7,14 +7,14 @@ use Rattle.crib_show.proofs.deals.WorstShow.greatest_total.Goals as goal
 pub overflow_add-crib : goal.overflow_add-crib
 overflow_add-crib c =
     let some = c.requires.crib.some in
-    let few = subst (λ k. k ≤ 102) some.2 (few_crib c.args.self.now c.is_set.ensures c.args.plain.now c.requires.plain some.0 some.1) in
+    let few = subst (λ k. k ≤ 102) some.2 (few_crib c.args.self.now c.know_set.ensures c.args.plain.now c.requires.plain some.0 some.1) in
     let range = c.ranks_hand-hand.ensures.range in
     omega (arith, few, range.1)
 
 pub overflow_add-result : goal.overflow_add-result
 overflow_add-result c =
     let some = c.requires.crib.some in
-    let few = subst (λ k. k ≤ 102) some.2 (few_crib c.args.self.now c.is_set.ensures c.args.plain.now c.requires.plain some.0 some.1) in
+    let few = subst (λ k. k ≤ 102) some.2 (few_crib c.args.self.now c.know_set.ensures c.args.plain.now c.requires.plain some.0 some.1) in
     let range = c.ranks_hand-hand.ensures.range in
     let most = c.most_sought.ensures.range in
     omega (arith, few, range.0, range.1, most)
@@ -25,7 +25,7 @@ returns c =
     let hand = c.ranks_hand-hand.ensures in
     let suits = c.ranks_hand-hand.result.suits in
     let most = c.most_sought.result in
-    total_greatest worst c.is_set.ensures c.is_set-2.ensures c.requires.deal c.args.crib c.ranks_hand-hand.result.plain suits most c.requires.crib
+    total_greatest worst c.know_set.ensures c.know_set-2.ensures c.requires.deal c.args.crib c.ranks_hand-hand.result.plain suits most c.requires.crib
     hand.plain hand.suits
     (subst (λ (ranks : List ℕ). (most ≡ 0) ⊎ SomeGive worst (CribAndHand ranks) suits most) hand.ranks c.most_sought.ensures.some)
     (subst (λ (ranks : List ℕ). (most ≡ c.args.crib + suits) ⊎ NoneGive worst (CribAndHand ranks) suits (most + 1)) hand.ranks c.most_sought.ensures.all)

@@ -1,6 +1,6 @@
 use Rattle.std.proofs.Common.{◌≤◌, ◌<◌, ap, subst, ◌∙◌}
 use Rattle.std.proofs.lemmas.Bool.{leb-true, leb-false}
-use Rattle.crib_cards.specs.Sides.{pegged}
+use Rattle.crib_cards.specs.Sides.{score_with}
 use Rattle.crib_show.proofs.FailLemmas.{apart_never, lost_by_total, stopped_never}
 use Rattle.crib_show.proofs.deals.WorstShow.is_beaten.Goals as goal
 
@@ -9,7 +9,7 @@ returns-then-apart-lt-GAME_HOLE-clause-none c = λ going.
     let crib = c.greatest_crib-crib.result in
     apart_never c.args.self.now c.requires.still c.requires.dealer c.requires.stop c.greatest_hand-hand.result crib c.greatest_hand-hand.ensures.greatest.all
     c.greatest_crib-crib.ensures.greatest.all
-    (subst (λ k. k < 121) (ap (λ s. s.opponent) c.with-apart.ensures ∙ ap (λ k. pegged k crib) (ap (λ s. s.opponent) c.with.ensures))
+    (subst (λ k. k < 121) (ap (λ s. s.opponent) c.with-apart.ensures ∙ ap (λ k. score_with k crib) (ap (λ s. s.opponent) c.with.ensures))
     c.if-apart-lt-GAME_HOLE.true)
 
 pub returns-clause-some : goal.returns-clause-some

@@ -1,6 +1,6 @@
 use Rattle.std.proofs.Common.{◌≤◌, ◌<◌, inl, inr, ap, subst, ◌∙◌}
 use Rattle.std.proofs.lemmas.Bool.{ltb-true, ltb-false}
-use Rattle.crib_cards.specs.Sides.{pegged}
+use Rattle.crib_cards.specs.Sides.{score_with}
 use Rattle.crib_show.proofs.FailLemmas.{lost_by_hand, dealer_never, short_by_crib, crib_never}
 use Rattle.crib_show.proofs.deals.WorstShow.is_lost_or_short.Goals as goal
 use Rattle.crib_show.proofs.deals.WorstShow.is_lost_or_short.Goals.{then-counted-self-via-then-counted-self, then-counted-self-via-else-counted-self+then-self}
@@ -30,7 +30,7 @@ returns-then-with-self-clause-none c = λ going.
     crib_never worst c.requires.still c.requires.dealer c.greatest_hand-hand.result known c.greatest_hand-hand.ensures.greatest.all
     (subst (λ k. k < 121) (ap (λ s. s.opponent) c.with.ensures) c.if-with-ge-GAME_HOLE.false)
     (λ dealt agrees. c.requires.own.crib dealt.throw)
-    (subst (λ k. worst.target ≤ k) (ap (λ s. s.owner) c.with-2.ensures ∙ ap (λ k. pegged k known) counted_is) c.if-with-self.true)
+    (subst (λ k. worst.target ≤ k) (ap (λ s. s.owner) c.with-2.ensures ∙ ap (λ k. score_with k known) counted_is) c.if-with-self.true)
 
 pub returns-clause-some : goal.returns-clause-some
 returns-clause-some c = λ short.
@@ -39,7 +39,7 @@ returns-clause-some c = λ short.
     let counted_is = ap (λ s. s.owner) c.counted-counted.ensures in
     short_by_crib worst c.requires.still c.requires.dealer (subst (λ k. k < worst.target) counted_is c.if-counted-self.false) c.if-self.false crib
     c.least_crib-crib.ensures.least.some
-    (subst (λ k. k < worst.target) (ap (λ s. s.owner) c.with-3.ensures ∙ ap (λ k. pegged k crib) counted_is)
+    (subst (λ k. k < worst.target) (ap (λ s. s.owner) c.with-3.ensures ∙ ap (λ k. score_with k crib) counted_is)
     (ltb-true c.with-3.result.owner worst.target short))
 
 pub returns-clause-none : goal.returns-clause-none
@@ -50,5 +50,5 @@ returns-clause-none c = λ reached.
     crib_never worst c.requires.still c.requires.dealer c.greatest_hand-hand.result crib c.greatest_hand-hand.ensures.greatest.all
     (subst (λ k. k < 121) (ap (λ s. s.opponent) c.with.ensures) c.if-with-ge-GAME_HOLE.false)
     c.least_crib-crib.ensures.least.all
-    (subst (λ k. worst.target ≤ k) (ap (λ s. s.owner) c.with-3.ensures ∙ ap (λ k. pegged k crib) counted_is)
+    (subst (λ k. worst.target ≤ k) (ap (λ s. s.owner) c.with-3.ensures ∙ ap (λ k. score_with k crib) counted_is)
     (ltb-false c.with-3.result.owner worst.target reached))

@@ -1,5 +1,5 @@
 use Rattle.std.proofs.Common.{◌≡◌, ◌⊎◌, ◌+◌, ◌≤◌}
-use Rattle.crib_show.specs.Inside.Totals.{NoneGive}
+use Rattle.crib_show.specs.Private.Totals.{NoneGive}
 use Rattle.crib_show.proofs.deals.WorstShow.most_sought.Given as goal
 
 abbrev pub invariant-loop-most : goal.invariant-loop-most

@@ -9,5 +9,5 @@ pub returns : goal.returns
 returns c =
     let worst = c.args.self.now in
     let one = held_in worst c.requires in
-    place_is_one worst.ranks c.place_among.result (ranks_many 1 worst.ranks ∙ four_long worst c.is_set.ensures c.is_set-2.ensures one)
-    (thirteen worst c.is_set.ensures c.is_set-2.ensures one) (c.place_among.ensures.place ∙ ap (place_among 4) c.as_slice.ensures)
+    place_is_one worst.ranks c.place_among.result (ranks_many 1 worst.ranks ∙ four_long worst c.know_set.ensures c.know_set-2.ensures one)
+    (thirteen worst c.know_set.ensures c.know_set-2.ensures one) (c.place_among.ensures.place ∙ ap (place_among 4) c.as_slice.ensures)

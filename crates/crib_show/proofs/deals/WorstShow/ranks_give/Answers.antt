@@ -1,6 +1,6 @@
 use Rattle.std.proofs.Common.{◌≡◌, ℕ, ◌+◌, ◌<◌, ◌≤◌, sym, ◌∙◌, arith}
 use Rattle.std.proofs.lemmas.Bool.{and_left, lt-leb}
-use Rattle.crib_show.specs.Inside.Extremes.{has_room, most_crib_suits, plain_crib}
+use Rattle.crib_show.specs.Private.Extremes.{has_room, most_crib_suits, plain_crib}
 use Rattle.crib_show.proofs.Throws.{few_most}
 use Rattle.crib_show.proofs.deals.WorstShow.ranks_give.Goals as goal
 

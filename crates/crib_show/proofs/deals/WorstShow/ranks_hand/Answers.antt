@@ -6,4 +6,4 @@ pub four_ranks-ranks-requires : goal.four_ranks-ranks-requires
 four_ranks-ranks-requires c =
     let worst = c.args.self.now in
     let one = held_in worst c.requires in
-    (four_long worst c.is_set.ensures c.is_set-2.ensures one, thirteen worst c.is_set.ensures c.is_set-2.ensures one)
+    (four_long worst c.know_set.ensures c.know_set-2.ensures one, thirteen worst c.know_set.ensures c.know_set-2.ensures one)

@@ -1,5 +1,5 @@
 use Rattle.std.proofs.Common.{sym, ◌∙◌}
-use Rattle.crib_show.proofs.TriedPairs.{none_next, none_row}
+use Rattle.crib_show.proofs.PairTrials.{none_next, none_row}
 use Rattle.crib_show.proofs.deals.WorstShow.some_give.Goals as goal
 
 pub loop-second-preserved : goal.loop-second-preserved

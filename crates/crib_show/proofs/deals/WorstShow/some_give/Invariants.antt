@@ -1,4 +1,4 @@
-use Rattle.crib_show.proofs.Tried.{NoneGiveBefore}
+use Rattle.crib_show.proofs.LoopTrials.{NoneGiveBefore}
 use Rattle.crib_show.proofs.deals.WorstShow.some_give.Given as goal
 
 abbrev pub invariant-loop-first : goal.invariant-loop-first

@@ -1,0 +1,140 @@
+-- The text that the code writes is the board.
+use Rattle.std.proofs.Common.{◌≡◌, ℕ, ◌+◌, ◌-◌, ◌<◌, ◌≤◌, List, [], ◌∷◌, ◌++◌, length, map, take, codes, decimal, get_or, refl, sym, ap, ◌∙◌, append_assoc}
+use Rattle.std.proofs.Common.{arith, Option, Some, None}
+use Rattle.std.specs.List.{range_with_len}
+use Rattle.std.proofs.lemmas.List.{append-nil, length-take-le, take_more, take-replicate}
+use Rattle.std.proofs.lemmas.List.FromFn.{map-range_with_len_more}
+use Rattle.crib_text.specs.Spelling.{space}
+use Rattle.crib_cards.specs.declared.sides.Side.{Side}
+use Rattle.crib_cards.specs.declared.sides.Side.TheVariants.{Owner, Opponent}
+use Rattle.crib_cards.specs.declared.sides.Scores.{Scores}
+use Rattle.crib_show.specs.declared.outcomes.ShowRow.{ShowRow}
+use Rattle.crib_show.specs.declared.outcomes.Outcome.TheVariants.{Reached, Lost, Short}
+use Rattle.crib_game.specs.declared.report.Row.{Row}
+use Rattle.crib_problem.specs.Spelling.{move_word}
+use Rattle.crib_board.specs.Board.{hole_byte, outcome_line, right_in, row_line, row_lines, score_columns, show_line, show_word, side_column, with_space}
+use Rattle.crib_board.specs.Board.{track_line}
+use Rattle.crib_board.specs.Board.{track_lines}
+use Rattle.crib_text.proofs.RoomLemmas.{three_digits}
+
+-- ---- columns
+
+pub right_written : (old : List ℕ) (width number : ℕ) → width ≤ 3
+    → (old ++ take (width - length (decimal number)) (codes "   ")) ++ decimal number ≡ old ++ right_in width number
+unfolding right_in
+right_written old width number narrow =
+    append_assoc old (take (width - length (decimal number)) (codes "   ")) (decimal number)
+    ∙ ap (λ (blank : List ℕ). old ++ (blank ++ decimal number)) (take-replicate (width - length (decimal number)) 3 space (omega arith))
+
+pub scores_written : (old : List ℕ) (scores : Scores) → (old ++ with_space (right_in 3 scores.owner)) ++ with_space (right_in 3 scores.opponent) ≡ old
+    ++ score_columns scores
+unfolding score_columns
+scores_written old scores = append_assoc old (with_space (right_in 3 scores.owner)) (with_space (right_in 3 scores.opponent))
+
+pub owner_column : side_column Owner ≡ codes "owner   "
+owner_column = refl
+
+pub opponent_column : side_column Opponent ≡ codes "opponent"
+opponent_column = refl
+
+pub ruleset columns = (three_digits, right_written, scores_written, owner_column, opponent_column)
+
+-- ---- rows
+regroup_row : (old number gap side what count points scores end : List ℕ)
+    → ((((((((old ++ number) ++ gap) ++ side) ++ gap) ++ what) ++ count) ++ points) ++ scores) ++ end
+    ≡ old ++ ((((((number ++ (gap ++ side)) ++ (gap ++ what)) ++ count) ++ points) ++ scores) ++ end)
+regroup_row old number gap side what count points scores end = simp append_assoc
+
+pub row_written : (old : List ℕ) (number : ℕ) (row : Row)
+    → ((((((((old ++ right_in 2 number) ++ codes " ") ++ side_column row.act.side) ++ codes " ") ++ move_word row.act.what)
+    ++ with_space (right_in 2 row.count)) ++ with_space (right_in 2 row.points)) ++ score_columns row.scores) ++ codes "\n" ≡ old ++ row_line number row
+unfolding row_line
+row_written old number row =
+    regroup_row old (right_in 2 number) (codes " ") (side_column row.act.side) (move_word row.act.what) (with_space (right_in 2 row.count))
+    (with_space (right_in 2 row.points)) (score_columns row.scores) (codes "\n")
+
+regroup_hand : (old what gap side points scores end : List ℕ)
+    → (((((old ++ what) ++ gap) ++ side) ++ points) ++ scores) ++ end ≡ old ++ ((((what ++ (gap ++ side)) ++ points) ++ scores) ++ end)
+regroup_hand old what gap side points scores end = simp append_assoc
+
+pub hand_written : (old : List ℕ) (row : ShowRow)
+    → (((((old ++ show_word row.crib) ++ codes " ") ++ side_column row.side) ++ with_space (right_in 2 row.points)) ++ score_columns row.scores) ++ codes "\n"
+    ≡ old ++ show_line row
+unfolding show_line
+hand_written old row =
+    regroup_hand old (show_word row.crib) (codes " ") (side_column row.side) (with_space (right_in 2 row.points)) (score_columns row.scores) (codes "\n")
+
+-- no rows, and one row more
+pub no_rows : (old : List ℕ) (number : ℕ) → old ≡ old ++ row_lines number []
+unfolding row_lines
+no_rows old number = sym (append-nil old)
+
+rows_and_row : (number : ℕ) (rows : List Row) (row : Row) → row_lines number (rows ++ row ∷ []) ≡ row_lines number rows ++ row_line (number + length rows) row
+unfolding row_lines
+rows_and_row number [] row = append-nil (row_line number row) ∙ ap (λ (place : ℕ). row_line place row) (omega arith)
+rows_and_row number (first ∷ rows) row =
+    ap (λ (rest : List ℕ). row_line number first ++ rest) (rows_and_row (number + 1) rows row)
+    ∙ sym (append_assoc (row_line number first) (row_lines (number + 1) rows) (row_line (number + 1 + length rows) row))
+    ∙ ap (λ (place : ℕ). row_lines number (first ∷ rows) ++ row_line place row) (omega arith)
+
+pub rows_more : (old text new : List ℕ) (rows : List Row) (number at : ℕ) (row : Row) → at < length rows → number ≡ at → row ≡ get_or rows at row
+    → text ≡ old ++ row_lines 1 (take at rows) → new ≡ text ++ row_line (number + 1) row → new ≡ old ++ row_lines 1 (take (at + 1) rows)
+rows_more old text new rows number at row inside counted is before more =
+    let so_far : List Row = take at rows in
+    let place : number + 1 ≡ 1 + length so_far = ap (λ (n : ℕ). n + 1) counted ∙ omega arith
+    ∙ ap (λ (n : ℕ). 1 + n) (sym (length-take-le at rows (omega arith))) in
+    let taken : take (at + 1) rows ≡ so_far ++ row ∷ [] = take_more rows at row inside ∙ ap (λ (last : Row). so_far ++ last ∷ []) (sym is) in
+    more ∙ ap (λ (front : List ℕ). front ++ row_line (number + 1) row) before ∙ append_assoc old (row_lines 1 so_far) (row_line (number + 1) row)
+    ∙ ap (λ (n : ℕ). old ++ (row_lines 1 so_far ++ row_line n row)) place
+    ∙ ap (λ (all : List ℕ). old ++ all) (sym (rows_and_row 1 so_far row))
+    ∙ ap (λ (all : List Row). old ++ row_lines 1 all) (sym taken)
+
+pub ruleset rows = (row_written, hand_written)
+
+-- ---- the outcome
+pub outcome_open : outcome_line None ≡ codes "open\n"
+outcome_open = refl
+
+pub outcome_reached : outcome_line (Some Reached) ≡ codes "reached\n"
+outcome_reached = refl
+
+pub outcome_lost : outcome_line (Some Lost) ≡ codes "lost\n"
+outcome_lost = refl
+
+pub outcome_short : outcome_line (Some Short) ≡ codes "short\n"
+outcome_short = refl
+
+pub ruleset outcomes = (outcome_open, outcome_reached, outcome_lost, outcome_short)
+
+-- ---- tracks
+regroup_line : (old side first gap holes end : List ℕ)
+    → ((((old ++ side) ++ first) ++ gap) ++ holes) ++ end ≡ old ++ (((side ++ first) ++ (gap ++ holes)) ++ end)
+regroup_line old side first gap holes end = simp append_assoc
+
+pub line_written : (old : List ℕ) (side : Side) (front back : Option ℕ) (first holes : ℕ)
+    → ((((old ++ side_column side) ++ with_space (right_in 3 first)) ++ codes " ") ++ map (hole_byte front back) (range_with_len first holes)) ++ codes "\n"
+    ≡ old ++ track_line side front back first holes
+unfolding track_line
+line_written old side front back first holes =
+    regroup_line old (side_column side) (with_space (right_in 3 first)) (codes " ") (map (hole_byte front back) (range_with_len first holes)) (codes "\n")
+
+regroup_track : (old a b c d : List ℕ) → (((old ++ a) ++ b) ++ c) ++ d ≡ old ++ (((a ++ b) ++ c) ++ d)
+regroup_track old a b c d = simp append_assoc
+
+pub track_written : (old : List ℕ) (side : Side) (front back : Option ℕ)
+    → (((old ++ track_line side front back 1 30) ++ track_line side front back 31 30) ++ track_line side front back 61 30) ++ track_line side front back 91 31
+    ≡ old ++ track_lines side front back
+unfolding track_lines
+track_written old side front back =
+    regroup_track old (track_line side front back 1 30) (track_line side front back 31 30) (track_line side front back 61 30) (track_line side front back 91 31)
+
+-- one hole more
+pub holes_more : (old text new : List ℕ) (front back : Option ℕ) (first holes byte : ℕ) → text ≡ old ++ map (hole_byte front back) (range_with_len first holes)
+    → byte ≡ hole_byte front back (first + holes) → new ≡ text ++ byte ∷ [] → new ≡ old ++ map (hole_byte front back) (range_with_len first (holes + 1))
+holes_more old text new front back first holes byte before shown more =
+    let so_far = map (hole_byte front back) (range_with_len first holes) in
+    more ∙ ap (λ (front : List ℕ). front ++ byte ∷ []) before ∙ append_assoc old so_far (byte ∷ [])
+    ∙ ap (λ (last : ℕ). old ++ (so_far ++ last ∷ [])) shown
+    ∙ ap (λ (all : List ℕ). old ++ all) (sym (map-range_with_len_more (hole_byte front back) first holes (first + holes) refl))
+
+pub ruleset tracks = (line_written, track_written)

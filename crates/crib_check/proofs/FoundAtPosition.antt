@@ -1,0 +1,116 @@
+-- What the walk finds at a position follows from what it finds after it.
+use Rattle.std.proofs.Common.{◌≡◌, ◌⊎◌, ℕ, ◌+◌, Bool, true, not, List, ◌∷◌, Option, Some, None, is_some, refl, sym, subst, inl, inr}
+use Rattle.crib_cards.specs.Letters.{letter_place}
+use Rattle.crib_cards.specs.declared.letters.Letter.{Letter}
+use Rattle.crib_cards.specs.declared.moves.Move.{Move}
+use Rattle.crib_cards.specs.declared.moves.Act.{Act}
+use Rattle.crib_play.specs.declared.turns.Turn.TheVariants as turns
+use Rattle.crib_play.specs.History.{Event, Own, Theirs}
+use Rattle.crib_show.specs.declared.shows.Shows.{Shows}
+use Rattle.crib_problem.specs.Setup.{Setup}
+use Rattle.crib_plan.specs.declared.plan.Node.{Node}
+use Rattle.crib_know.specs.Hidden.{CanShow, IsKnown}
+use Rattle.crib_check.specs.declared.keys.Key.{Key}
+use Rattle.crib_check.specs.declared.failure.Failure.{Failure}
+use Rattle.crib_check.specs.Private.Found.{IsFoundFrom}
+use Rattle.crib_check.specs.Private.Positions.{StandsAt, IsSettled, MayTakeAt, IsLetter}
+use Rattle.crib_check.specs.Shows.{AreShowsOf}
+use Rattle.crib_check.proofs.LettersBelow.{IsSettledBelow}
+use Rattle.crib_check.proofs.WalkConclusions.{own_first, theirs_first, settled_own, below_more}
+
+module _ (problem : Setup) (plan : List Node) (key : Key) where
+  -- two ways to write the history are equal
+  pub found_along : (history other : List Event) (trail : List Act) (found : Option Failure) → history ≡ other →
+      IsFoundFrom problem plan key history trail found → IsFoundFrom problem plan key other trail found
+  found_along history other trail found e is = let F : List Event → Type 0 = λ h. IsFoundFrom problem plan key h trail found in subst F e is
+
+  module _ (next : Key) (trail : List Act) where
+    own_by : (history : List Event) (what : Move) (found : Option Failure) → StandsAt problem plan key history → MayTakeAt plan key what →
+        ((h : List Event) → StandsAt problem plan key h → StandsAt problem plan next (Own what ∷ h)) →
+        IsFoundFrom problem plan next (Own what ∷ history) trail found → IsFoundFrom problem plan key history trail found
+    own_by history what None stands may goes settled = settled_own problem plan key next what may goes settled
+    own_by history what (Some failure) stands may goes stopped = record {
+      room = stopped.room;
+      first = λ game is. own_first problem plan key history stands what may game failure.ending (stopped.first game is);
+    }
+
+    -- after the owner's move
+    pub own_found : (history : List Event) (what : Move) (event : Event) (found : Option Failure) → StandsAt problem plan key history →
+        MayTakeAt plan key what → ((h : List Event) → StandsAt problem plan key h → StandsAt problem plan next (Own what ∷ h)) → event ≡ Own what →
+        IsFoundFrom problem plan next (event ∷ history) trail found → IsFoundFrom problem plan key history trail found
+    own_found history what event found stands may goes e is =
+        let F : Event → Type 0 = λ ev. IsFoundFrom problem plan next (ev ∷ history) trail found in
+        own_by history what found stands may goes (subst F e is)
+
+    theirs_by : (history : List Event) (letter : Letter) (failure : Failure) →
+        StandsAt problem plan key history → key.know.round.asked ≡ turns.Opponent → IsLetter letter →
+        IsSettledBelow problem plan key (letter_place letter) → IsFoundFrom problem plan next (Theirs letter ∷ history) trail (Some failure) →
+        IsFoundFrom problem plan key history trail (Some failure)
+    theirs_by history letter failure stands asked is_letter below stopped = record {
+      room = stopped.room;
+      first = λ game is. theirs_first problem plan key history stands asked letter is_letter below game failure.ending (stopped.first game is);
+    }
+
+    -- after a letter of the opponent from which the plan fails
+    pub theirs_found : (history : List Event) (letter : Letter) (event : Event) (place : ℕ) (found : Option Failure) (failure : Failure) →
+        found ≡ Some failure → StandsAt problem plan key history →
+        key.know.round.asked ≡ turns.Opponent → IsLetter letter → letter_place letter ≡ place → IsSettledBelow problem plan key place → event ≡ Theirs letter →
+        IsFoundFrom problem plan next (event ∷ history) trail found → IsFoundFrom problem plan key history trail (Some failure)
+    theirs_found history letter event place found failure fails stands asked is_letter at_place below e is =
+        let F : Event → Type 0 = λ ev. IsFoundFrom problem plan next (ev ∷ history) trail (Some failure) in
+        let O : Option Failure → Type 0 = λ o. IsFoundFrom problem plan next (event ∷ history) trail o in
+        let B : ℕ → Type 0 = λ n. IsSettledBelow problem plan key n in
+        theirs_by history letter failure stands asked is_letter (subst B (sym at_place) below) (subst F e (subst O fails is))
+
+    settled_by : (history : List Event) (found : Option Failure) → found ≡ None → IsFoundFrom problem plan next history trail found →
+        IsSettled problem plan next
+    settled_by history found e is = let O : Option Failure → Type 0 = λ o. IsFoundFrom problem plan next history trail o in subst O e is
+
+    -- after a letter of the opponent from which it holds
+    pub below_held : (history : List Event) (letter : Letter) (place : ℕ) (found : Option Failure) → found ≡ None → IsLetter letter →
+        letter_place letter ≡ place → IsSettledBelow problem plan key place →
+        ((h : List Event) → StandsAt problem plan key h → StandsAt problem plan next (Theirs letter ∷ h)) →
+        IsFoundFrom problem plan next history trail found → IsSettledBelow problem plan key (place + 1)
+    below_held history letter place found e is_letter at_place below goes is =
+        below_more problem plan key place letter is_letter at_place below
+        (λ h stands can. settled_by history found e is (Theirs letter ∷ h) (goes h stands))
+
+  -- a letter that cannot be shown
+  pub below_unshown : (letter : Letter) (place : ℕ) → IsLetter letter → letter_place letter ≡ place → IsSettledBelow problem plan key place →
+      ((h : List Event) → StandsAt problem plan key h → CanShow problem h letter → ⊥) →
+      IsSettledBelow problem plan key (place + 1)
+  below_unshown letter place is at_place below cannot =
+      below_more problem plan key place letter is at_place below (λ h stands can. absurd (cannot h stands can))
+
+-- a table with one more settled position
+pub one_more_settled : (problem : Setup) (plan : List Node) (held before : Key → Type 0) (key : Key) (history : List Event) →
+    StandsAt problem plan key history →
+    (IsKnown key.know → (other : Key) → IsKnown other.know → held other → before other ⊎ (other ≡ key)) →
+    ((other : Key) → before other → IsSettled problem plan other) → IsSettled problem plan key →
+    (other : Key) → held other → IsSettled problem plan other
+one_more_settled problem plan held before key history stands step settled here other is theirs at =
+    elim (step (known_by key history stands) other (known_by other theirs at) is) [
+      | inl old ↦ settled other old theirs at
+      | inr e ↦ (let S : Key → Type 0 = λ k. IsSettled problem plan k in (subst S (sym e) here) theirs at)
+    ]
+  where
+    known_by : (k : Key) (h : List Event) → StandsAt problem plan k h → IsKnown k.know
+    known_by k h s = record { problem = problem; history = h; knows = s.knows }
+
+-- every position that the table holds is settled, if this is known of an equal table
+pub settled_moved : {X : Type 0} (problem : Setup) (plan : List Node) (holds : X → Key → Type 0) (table new : X) → table ≡ new →
+    ((other : Key) → holds new other → IsSettled problem plan other) →
+    (other : Key) → holds table other → IsSettled problem plan other
+settled_moved {X} problem plan holds table new e settled other is = let H : X → Type 0 = λ x. holds x other in settled other (subst H e is)
+
+-- the table of counted shows is right, if this is known of an equal one
+pub shows_moved : (problem : Setup) (shows new : Shows) → shows ≡ new → AreShowsOf problem new → AreShowsOf problem shows
+shows_moved problem shows new e are = let A : Shows → Type 0 = λ kept. AreShowsOf problem kept in subst A (sym e) are
+
+pub settled_where : (problem : Setup) (plan : List Node) (key : Key) (history : List Event) (trail : List Act) (found : Option Failure) → found ≡ None →
+    IsFoundFrom problem plan key history trail found → IsSettled problem plan key
+settled_where problem plan key history trail found e is = let O : Option Failure → Type 0 = λ o. IsFoundFrom problem plan key history trail o in subst O e is
+
+pub none_by : {X : Type 0} (found : Option X) (b : Bool) → is_some found ≡ not b → b ≡ true → found ≡ None
+none_by None b e is = refl
+none_by (Some x) b e is = absurd cc

@@ -1,0 +1,139 @@
+-- The order of games by the opponent's letters.
+use Rattle.std.proofs.Common.{◌≡◌, ℕ, ◌<◌, Bool, true, false, ◌&&◌, ◌||◌, eqb, ltb, List, [], ◌∷◌, ◌++◌, map, reverse, refl, sym, ap, ◌∙◌, append_assoc}
+use Rattle.std.proofs.Common.{inl, inr, arith}
+use Rattle.std.specs.Prelude.{bytes_eq, filter}
+use Rattle.std.proofs.lemmas.Bool.{cases_Bool, both_ways, lt-ltb, le-ltb, ne_eqb}
+use Rattle.std.proofs.lemmas.Slice.Eq.{bytes_eq-Decides}
+use Rattle.std.proofs.lemmas.List.{map-append, reverse-append}
+use Rattle.crib_cards.specs.Order.{is_before}
+use Rattle.crib_cards.specs.Deals.{deal_numbers}
+use Rattle.crib_cards.specs.Letters.{letter_of, letter_place}
+use Rattle.crib_cards.specs.Sides.{same_side}
+use Rattle.crib_cards.specs.declared.sides.Side.{Side}
+use Rattle.crib_cards.specs.declared.sides.Side.TheVariants.{Owner, Opponent}
+use Rattle.crib_cards.specs.declared.letters.Letter.{Letter}
+use Rattle.crib_cards.specs.declared.moves.Move.{Move}
+use Rattle.crib_cards.specs.declared.moves.Act.{Act}
+use Rattle.crib_play.specs.History.{Event, Own, Theirs, event_by, event_of}
+use Rattle.crib_game.specs.declared.game.Game.{Game}
+use Rattle.crib_check.specs.Failing.{opponent_letters, comes_before}
+use Rattle.crib_check.specs.Private.Histories.{Extends, history_of_game}
+use Rattle.crib_know.proofs.CardsLeft.{eqb_same}
+use Rattle.crib_cards.proofs.DictionaryOrder.{not_before_self}
+
+-- an event tells whose turn it was
+pub same_side_of : (side other : Side) (what move : Move) → event_by side what ≡ event_by other move → side ≡ other
+same_side_of Owner Owner what move e = refl
+same_side_of Owner Opponent what move e = absurd cc
+same_side_of Opponent Owner what move e = absurd cc
+same_side_of Opponent Opponent what move e = refl
+
+-- the places of the opponent's letters in a history, the last one first
+abbrev pub letter_in : Event → List ℕ → List ℕ
+letter_in (Own turn) letters = letters
+letter_in (Theirs letter) letters = letter_place letter ∷ letters
+
+abbrev pub letters_in : List Event → List ℕ
+letters_in [] = []
+letters_in (event ∷ history) = letter_in event (letters_in history)
+
+letter_appended : (event : Event) (letters others : List ℕ) → letter_in event (letters ++ others) ≡ letter_in event letters ++ others
+letter_appended (Own turn) letters others = refl
+letter_appended (Theirs letter) letters others = refl
+
+letters_appended : (later history : List Event) → letters_in (later ++ history) ≡ letters_in later ++ letters_in history
+letters_appended [] history = refl
+letters_appended (event ∷ later) history = ap (letter_in event) (letters_appended later history) ∙ letter_appended event (letters_in later) (letters_in history)
+
+-- the places in the order of play are those of the history, reversed
+abbrev letters_shown : List Act → List ℕ
+letters_shown acts = map (λ (act : Act). letter_place (letter_of act.what)) (filter (λ (act : Act). same_side act.side Opponent) acts)
+
+letter_first : (side : Side) (what : Move) (acts : List Act) →
+    letters_shown (record { side = side; what = what } ∷ acts) ≡ reverse (letter_in (event_by side what) []) ++ letters_shown acts
+letter_first Owner what acts = refl
+letter_first Opponent what acts = refl
+
+letters_turned : (acts : List Act) → letters_shown acts ≡ reverse (letters_in (map event_of (reverse acts)))
+letters_turned [] = refl
+letters_turned (act ∷ acts) =
+    letter_first act.side act.what acts
+    ∙ ap (λ (letters : List ℕ). reverse (letter_in (event_of act) []) ++ letters) (letters_turned acts)
+    ∙ sym (reverse-append (letters_in (map event_of (reverse acts))) (letter_in (event_of act) []))
+    ∙ ap reverse (sym (letters_appended (map event_of (reverse acts)) (event_of act ∷ [])))
+    ∙ ap (λ (history : List Event). reverse (letters_in history))
+    (sym (map-append event_of (reverse acts) (act ∷ [])) ∙ ap (map event_of) (sym (reverse-append (act ∷ []) acts)))
+
+pub letters_of_game : (game : Game) → opponent_letters game ≡ reverse (letters_in (history_of_game game))
+letters_of_game game = letters_turned game.acts.items
+
+-- the letters of a game that goes on with a letter: the earlier ones, that one, and some others
+pub letters_go_on : (game : Game) (history : List Event) (letter : Letter) (ext : Extends (Theirs letter ∷ history) (history_of_game game)) →
+    opponent_letters game ≡ reverse (letters_in history) ++ letter_place letter ∷ reverse (letters_in ext.0)
+letters_go_on game history letter ext =
+    letters_of_game game
+    ∙ ap (λ (h : List Event). reverse (letters_in h)) ext.1
+    ∙ ap reverse (letters_appended ext.0 (Theirs letter ∷ history))
+    ∙ reverse-append (letters_in ext.0) (letter_place letter ∷ letters_in history)
+    ∙ ap (λ (front : List ℕ). front ++ reverse (letters_in ext.0)) (reverse-append (letter_place letter ∷ []) (letters_in history))
+    ∙ append_assoc (reverse (letters_in history)) (letter_place letter ∷ []) (reverse (letters_in ext.0))
+
+-- ---- dictionary order
+ltb_same : (x : ℕ) → ltb x x ≡ false
+ltb_same x = le-ltb x x (omega arith)
+
+same_head : (x : ℕ) (xs ys : List ℕ) → is_before (x ∷ xs) (x ∷ ys) ≡ is_before xs ys
+same_head x xs ys = ap (λ (b : Bool). b || (eqb x x && is_before xs ys)) (ltb_same x) ∙ ap (λ (b : Bool). b && is_before xs ys) (eqb_same x)
+
+pub larger_is_later : (before : List ℕ) (x y : ℕ) (xs ys : List ℕ) → y < x → is_before (before ++ x ∷ xs) (before ++ y ∷ ys) ≡ false
+larger_is_later [] x y xs ys less =
+    ap (λ (b : Bool). b || (eqb x y && is_before xs ys)) (le-ltb x y (omega arith)) ∙ ap (λ (b : Bool). b && is_before xs ys)
+    (ne_eqb x y (λ e. absurd (omega (arith, e))))
+larger_is_later (b ∷ before) x y xs ys less = same_head b (before ++ x ∷ xs) (before ++ y ∷ ys) ∙ larger_is_later before x y xs ys less
+
+pub smaller_is_before : (before : List ℕ) (x y : ℕ) (xs ys : List ℕ) → y < x → is_before (before ++ y ∷ ys) (before ++ x ∷ xs) ≡ true
+smaller_is_before [] x y xs ys less = ap (λ (b : Bool). b || (eqb y x && is_before ys xs)) (lt-ltb y x less)
+smaller_is_before (b ∷ before) x y xs ys less = same_head b (before ++ y ∷ ys) (before ++ x ∷ xs) ∙ smaller_is_before before x y xs ys less
+
+-- ---- games
+later_is_later : (b same c : Bool) → b ≡ false → same ≡ false → (b || (same && c)) ≡ false
+later_is_later b same c e f = ap (λ (x : Bool). x || (same && c)) e ∙ ap (λ (x : Bool). x && c) f
+
+equal_is_later : (b same c : Bool) → b ≡ false → c ≡ false → (b || (same && c)) ≡ false
+equal_is_later b true c e f = ap (λ (x : Bool). x || c) e ∙ f
+equal_is_later b false c e f = ap (λ (x : Bool). x || false) e
+
+-- a game that goes on with a later letter does not come before
+pub later_letter : (game other : Game) (history : List Event) (letter others : Letter) (ext : Extends (Theirs letter ∷ history) (history_of_game game))
+    (ext_other : Extends (Theirs others ∷ history) (history_of_game other)) →
+    letter_place letter < letter_place others → comes_before other game ≡ false
+later_letter game other history letter others ext ext_other less =
+    let before = reverse (letters_in history) in
+    let mine = letters_go_on game history letter ext in
+    let theirs = letters_go_on other history others ext_other in
+    let later : is_before (opponent_letters other) (opponent_letters game) ≡ false =
+    (λ i. is_before (theirs i) (mine i)) ∙ larger_is_later before (letter_place others) (letter_place letter) (reverse (letters_in ext_other.0))
+    (reverse (letters_in ext.0)) less in
+    let earlier : is_before (opponent_letters game) (opponent_letters other) ≡ true =
+    (λ i. is_before (mine i) (theirs i)) ∙ smaller_is_before before (letter_place others) (letter_place letter) (reverse (letters_in ext_other.0))
+    (reverse (letters_in ext.0)) less in
+    let differ : bytes_eq (opponent_letters other) (opponent_letters game) ≡ false =
+    elim (cases_Bool (bytes_eq (opponent_letters other) (opponent_letters game))) [
+      | inl same ↦
+          let letters : opponent_letters other ≡ opponent_letters game = (bytes_eq-Decides (opponent_letters other) (opponent_letters game)).0 same in
+          absurd (both_ways (is_before (opponent_letters game) (opponent_letters other))
+          (ap (is_before (opponent_letters game)) letters ∙ not_before_self (opponent_letters game)) earlier)
+      | inr apart ↦ apart
+    ] in
+    later_is_later (is_before (opponent_letters other) (opponent_letters game)) (bytes_eq (opponent_letters other) (opponent_letters game))
+    (is_before (deal_numbers other.opp) (deal_numbers game.opp)) later differ
+
+-- the deals decide between two games with the same history
+pub same_history : (game other : Game) → history_of_game other ≡ history_of_game game → is_before (deal_numbers other.opp) (deal_numbers game.opp) ≡ false →
+    comes_before other game ≡ false
+same_history game other same later =
+    let letters : opponent_letters other ≡ opponent_letters game = letters_of_game other ∙ ap (λ (h : List Event). reverse (letters_in h)) same
+    ∙ sym (letters_of_game game) in
+    equal_is_later (is_before (opponent_letters other) (opponent_letters game)) (bytes_eq (opponent_letters other) (opponent_letters game))
+    (is_before (deal_numbers other.opp) (deal_numbers game.opp))
+    (ap (λ (numbers : List ℕ). is_before numbers (opponent_letters game)) letters ∙ not_before_self (opponent_letters game)) later

@@ -1,0 +1,225 @@
+-- What the walk's answer at the first position says of the plan.
+use Rattle.std.proofs.Common.{◌≡◌, ℕ, Bool, true, false, cond, not, ◌&&◌, List, ◌∷◌, reverse, Option, Some, None, refl, sym, ap, subst, inl, inr}
+use Rattle.std.specs.List.{list_any}
+use Rattle.std.proofs.lemmas.Bool.{cases_Bool, and_parts, not-true}
+use Rattle.std.proofs.lemmas.List.{reverse-reverse}
+use Rattle.crib_cards.specs.Sets.{has}
+use Rattle.crib_cards.specs.Sides.{same_side}
+use Rattle.crib_cards.specs.Start.{Start, pone_of, Hands}
+use Rattle.crib_cards.specs.declared.sides.Dealt.{Dealt}
+use Rattle.crib_cards.specs.declared.sides.Side.{Side}
+use Rattle.crib_cards.specs.declared.sides.Side.TheVariants.{Owner, Opponent}
+use Rattle.crib_cards.specs.declared.moves.Move.{Move}
+use Rattle.crib_cards.specs.declared.moves.Move.TheVariants as move
+use Rattle.crib_cards.specs.declared.moves.Act.{Act}
+use Rattle.crib_cards.specs.Letters.{letter_of}
+use Rattle.crib_play.specs.Filled.{is_visible}
+use Rattle.crib_play.specs.Record.{mover}
+use Rattle.crib_play.specs.Legal.{letters_of, cards_left, fits, MayTake}
+use Rattle.crib_play.specs.History.{Event, acts_of, act_by}
+use Rattle.crib_play.proofs.FilledRecords.{acts_visible, acts_silent}
+use Rattle.crib_play.proofs.LawProofs.{length_law, progress_law}
+use Rattle.crib_show.specs.declared.outcomes.Outcome.{Outcome}
+use Rattle.crib_show.specs.declared.outcomes.Outcome.TheVariants as outcome
+use Rattle.crib_show.specs.Outcome.{outcome_of}
+use Rattle.crib_problem.specs.Setup.{Setup, IsSetup, start_of, hands_of, BeginsAsPlayed}
+use Rattle.crib_plan.specs.declared.plan.Node.{Node}
+use Rattle.crib_plan.specs.Places.{stated_card}
+use Rattle.crib_know.specs.Knowledge.{played_events}
+use Rattle.crib_know.proofs.Deals.{dealt_is}
+use Rattle.crib_game.specs.declared.game.Game.{Game}
+use Rattle.crib_game.specs.declared.ending.Ending.{Ending}
+use Rattle.crib_game.specs.declared.ending.Ending.TheVariants as ending
+use Rattle.crib_game.specs.Replay.{full_of, is_done_for}
+use Rattle.crib_game.specs.Following.{place_of, IsAsStated, is_playable, is_stuck}
+use Rattle.crib_game.specs.Followed.{IsRecordUnder, ending_with, ending_without}
+use Rattle.crib_check.specs.declared.keys.Key.{Key}
+use Rattle.crib_check.specs.declared.verdict.Verdict.{Verdict}
+use Rattle.crib_check.specs.declared.verdict.Verdict.TheVariants.{Holds, Fails}
+use Rattle.crib_check.specs.Sure.{IsFollowed, IsSure, GoesOn, Ends}
+use Rattle.crib_check.specs.Failing.{IsFailing, IsFirstFailing}
+use Rattle.crib_check.specs.Private.Positions.{StandsAt, HoldsFrom, IsSettled, IsFirstFrom}
+use Rattle.crib_check.specs.Verdicts.{IsRight, IsSoFollowed, KeepsOn}
+use Rattle.crib_check.proofs.ExtendedGames.{failing_begins}
+use Rattle.crib_check.proofs.FailureEndings.{failing_followed}
+
+-- a place that is not stuck, where the owner is asked and a card fits, states a card that he may play
+pub not_stuck : (d who any playable : Bool) → (not d && who && any && not playable) ≡ false → d ≡ false → who ≡ true → any ≡ true → playable ≡ true
+not_stuck true who any playable e d w a = absurd cc
+not_stuck false false any playable e d w a = absurd cc
+not_stuck false true false playable e d w a = absurd cc
+not_stuck false true true true e d w a = refl
+not_stuck false true true false e d w a = absurd cc
+
+pub first_of_all : (problem : Setup) (plan : List Node) (game : Game) (result : Ending) → IsFirstFrom problem plan (played_events problem) game result →
+    IsFirstFailing problem plan game result
+first_of_all problem plan game result first = record {
+  failing = first.failing;
+  in_pack_order = first.in_pack_order;
+  in_suit_order = first.in_suit_order;
+  first = λ other others_ending fails. first.first other others_ending fails (failing_begins problem plan other others_ending fails);
+}
+
+-- a record with one more turn begins as before
+begins_more : (problem : Setup) (pone : Side) (turn : Move) (played : List Move) → BeginsAsPlayed problem (acts_of pone played) →
+    BeginsAsPlayed problem (acts_of pone (turn ∷ played))
+begins_more problem pone turn played begins =
+    let B : List Act → Type 0 = λ acts. BeginsAsPlayed problem acts in
+    let act = act_by pone turn played in
+    elim (cases_Bool (is_visible pone (letter_of turn) (letters_of played))) [
+      | inl v ↦ subst B (sym (acts_visible pone turn played v))
+          (record { later = act ∷ begins.later; parts = ap (λ (acts : List Act). act ∷ acts) begins.parts })
+      | inr v ↦ subst B (sym (acts_silent pone turn played v)) begins
+    ]
+
+module _ (problem : Setup) (plan : List Node) (dealt : Dealt) (played : List Move) (followed : IsFollowed problem plan dealt played) where
+  abbrev start : Start
+  start = start_of problem
+
+  abbrev hands : Hands
+  hands = hands_of problem dealt
+
+  abbrev done : Bool
+  done = is_done_for problem played
+
+  abbrev stuck : Bool
+  stuck = is_stuck plan problem.played start hands played
+
+  -- the game of the record
+  abbrev game : Game
+  game = record { opp = dealt; acts = record { items = reverse (acts_of (pone_of start) played) } }
+
+  of_game : IsRecordUnder problem plan game played
+  of_game = record {
+    of_game = record {
+      deal = followed.deal;
+      legal = followed.legal;
+      acts = sym (reverse-reverse (acts_of (pone_of start) played));
+      begins = let B : List Act → Type 0 = λ acts. BeginsAsPlayed problem acts in
+          subst B (sym (reverse-reverse (acts_of (pone_of start) played))) followed.begins;
+    };
+    follows = followed.follows;
+  }
+
+  stuck_fails : HoldsFrom problem plan (played_events problem) → stuck ≡ true → ⊥
+  stuck_fails holds is =
+      let any = list_any (fits played) (cards_left hands Owner played) in
+      let who = same_side (mover (pone_of start) (letters_of played)) Owner in
+      let playable = not (is_playable hands played (stated_card plan (place_of plan problem.played (pone_of start) played))) in
+      let going = (and_parts (not done) who (and_parts (not done && who) any (and_parts (not done && who && any) playable is).0).0).0 in
+      let not_done : done ≡ false = not-true done going in
+      let failing : IsFailing problem plan game ending.Stuck = record {
+        played = played;
+        of_game = of_game;
+        ending_is = (λ i. ending_without (cond (not_done i) (Some (outcome_of (full_of problem dealt played))) None) (is i));
+        failure = inl refl;
+      } in
+      holds game ending.Stuck failing (failing_begins problem plan game ending.Stuck failing)
+
+  pub never_stuck : HoldsFrom problem plan (played_events problem) → stuck ≡ false
+  never_stuck holds = elim (cases_Bool stuck) [ inl is ↦ absurd (stuck_fails holds is) | inr is ↦ is ]
+
+  done_ends : done ≡ true → (o : Outcome) → outcome_of (full_of problem dealt played) ≡ o →
+      ending_without (cond done (Some (outcome_of (full_of problem dealt played))) None) stuck ≡ ending_with o
+  done_ends is o e = (λ i. ending_without (cond (is i) (Some (e i)) None) stuck)
+
+  reached_by : HoldsFrom problem plan (played_events problem) → done ≡ true → (o : Outcome) → outcome_of (full_of problem dealt played) ≡ o →
+      o ≡ outcome.Reached
+  reached_by holds is outcome.Reached e = refl
+  reached_by holds is outcome.Lost e =
+      let failing : IsFailing problem plan game ending.Lost = record {
+        played = played;
+        of_game = of_game;
+        ending_is = done_ends is outcome.Lost e;
+        failure =
+            inr (inl refl);
+      } in
+      absurd (holds game ending.Lost failing (failing_begins problem plan game ending.Lost failing))
+  reached_by holds is outcome.Short e =
+      let failing : IsFailing problem plan game ending.Short = record {
+        played = played;
+        of_game = of_game;
+        ending_is = done_ends is outcome.Short e;
+        failure =
+            inr (inr refl);
+      } in
+      absurd (holds game ending.Short failing (failing_begins problem plan game ending.Short failing))
+
+  pub reached : HoldsFrom problem plan (played_events problem) → done ≡ true → outcome_of (full_of problem dealt played) ≡ outcome.Reached
+  reached holds is = reached_by holds is (outcome_of (full_of problem dealt played)) refl
+
+  -- ---- the play goes on
+  abbrev NextFollowed : Type 0
+  NextFollowed = (turn : Move) × IsFollowed problem plan dealt (turn ∷ played)
+
+  goes_with : (side : Side) (turn : Move) → mover (pone_of start) (letters_of played) ≡ side → done ≡ false → MayTake hands side turn played →
+      IsAsStated plan (place_of plan problem.played (pone_of start) played) side turn → NextFollowed
+  goes_with side turn m going take as_stated =
+      let T : Side → Type 0 = λ s. MayTake hands s turn played in
+      let S : Side → Type 0 = λ s. IsAsStated plan (place_of plan problem.played (pone_of start) played) s turn in (
+        turn,
+        record {
+          deal = followed.deal;
+          legal = (followed.legal, record { not_done = going; may_take = subst T (sym m) take });
+          begins = begins_more problem (pone_of start) turn played followed.begins;
+          follows = (followed.follows, λ late. subst S (sym m) as_stated);
+        },
+      )
+
+  owner_plays : mover (pone_of start) (letters_of played) ≡ Owner → done ≡ false → (stated : Option ℕ) →
+      stated_card plan (place_of plan problem.played (pone_of start) played) ≡ stated → is_playable hands played stated ≡ true → NextFollowed
+  owner_plays m going None e is = absurd cc
+  owner_plays m going (Some card) e is =
+      let parts = and_parts (has (cards_left hands Owner played) card) (fits played card) is in
+      goes_with Owner (move.Card card) m going (parts.0, parts.1) e
+
+  goes_by : (side : Side) → mover (pone_of start) (letters_of played) ≡ side → stuck ≡ false → done ≡ false → NextFollowed
+  goes_by Owner m free going =
+      let any = list_any (fits played) (cards_left hands Owner played) in
+      let who = same_side (mover (pone_of start) (letters_of played)) Owner in
+      let place = place_of plan problem.played (pone_of start) played in
+      elim (cases_Bool any) [
+        | inl some ↦
+            owner_plays m going (stated_card plan place) refl
+            (not_stuck done who any (is_playable hands played (stated_card plan place)) free going (ap (λ (s : Side). same_side s Owner) m) some)
+        | inr none ↦ goes_with Owner move.Go m going none tt
+      ]
+  goes_by Opponent m free going =
+      let next = progress_law start hands played going in
+      let T : Side → Type 0 = λ s. MayTake hands s next.0 played in
+      goes_with Opponent next.0 m going (subst T m next.1.may_take) tt
+
+  pub goes_on : stuck ≡ false → done ≡ false → NextFollowed
+  goes_on free going = goes_by (mover (pone_of start) (letters_of played)) refl free going
+
+pub sure_from : (problem : Setup) (plan : List Node) → HoldsFrom problem plan (played_events problem) → IsSure problem plan
+sure_from problem plan holds = record {
+  never_stuck = λ dealt played followed. never_stuck problem plan dealt played followed holds;
+  reached = λ dealt played followed is. reached problem plan dealt played followed holds is;
+}
+
+-- a sure plan goes on
+pub sure_goes_on : (problem : Setup) (plan : List Node) → IsSure problem plan → GoesOn problem plan
+sure_goes_on problem plan sure dealt played followed going = goes_on problem plan dealt played followed (sure.never_stuck dealt played followed) going
+
+pub ends : (problem : Setup) → IsSetup problem → Ends problem
+ends problem setup dealt played deal legal = length_law (start_of problem) (hands_of problem dealt) played (dealt_is problem setup dealt deal) legal
+
+-- ---- the verdict at the first position
+-- if a history leads to a position, the verdict there is right
+abbrev pub IsRightFrom : Setup → List Node → Key → List Event → Verdict → Type 0
+IsRightFrom problem plan key history Holds = IsSettled problem plan key
+IsRightFrom problem plan key history (Fails result game) = IsFirstFrom problem plan history game result
+
+module _ (problem : Setup) (plan : List Node) (key : Key) (stands : StandsAt problem plan key (played_events problem)) where
+  pub right_at_start : (verdict : Verdict) → IsRightFrom problem plan key (played_events problem) verdict → IsRight problem plan verdict
+  right_at_start Holds settled = sure_from problem plan (settled (played_events problem) stands)
+  right_at_start (Fails result game) first = first_of_all problem plan game result first
+
+  pub followed_at_start : (verdict : Verdict) → IsRightFrom problem plan key (played_events problem) verdict → IsSoFollowed problem plan verdict
+  followed_at_start Holds settled = tt
+  followed_at_start (Fails result game) first = failing_followed problem plan stands.knows.setup game result first.failing
+
+  pub keeps_on_at_start : (verdict : Verdict) → IsRightFrom problem plan key (played_events problem) verdict → KeepsOn problem plan verdict
+  keeps_on_at_start Holds settled = sure_goes_on problem plan (sure_from problem plan (settled (played_events problem) stands))
+  keeps_on_at_start (Fails result game) first = tt

@@ -1,0 +1,377 @@
+-- What the walk may conclude at a position from what it found after it.
+use Rattle.std.proofs.Common.{◌≡◌, ℕ, ◌+◌, ◌<◌, ◌≤◌, Bool, true, false, cond, not, ◌&&◌, leb, List, [], ◌∷◌, Option, Some, None, refl, sym, ap, subst, ◌∙◌, inl}
+use Rattle.std.proofs.Common.{inr, arith}
+use Rattle.std.specs.List.{list_any}
+use Rattle.std.proofs.lemmas.Bool.{cases_eq, cases_lt, and_parts, and_from, both_ways, not-true, le-leb}
+use Rattle.crib_cards.specs.Cards.{card_value}
+use Rattle.crib_cards.specs.Sets.{has}
+use Rattle.crib_cards.specs.Order.{is_before}
+use Rattle.crib_cards.specs.Deals.{deal_numbers, is_in_pack_order}
+use Rattle.crib_cards.specs.Letters.{letter_place}
+use Rattle.crib_cards.specs.declared.sides.Dealt.{Dealt}
+use Rattle.crib_cards.specs.declared.sides.Side.TheVariants.{Owner}
+use Rattle.crib_cards.specs.declared.letters.Letter.{Letter}
+use Rattle.crib_cards.specs.declared.letters.Letter.TheVariants.{Seen, Go}
+use Rattle.crib_cards.specs.declared.moves.Move.{Move}
+use Rattle.crib_cards.specs.declared.moves.Move.TheVariants as move
+use Rattle.crib_play.specs.declared.turns.Turn.{Turn}
+use Rattle.crib_play.specs.declared.turns.Turn.TheVariants as turns
+use Rattle.crib_play.specs.Record.{count_of}
+use Rattle.crib_play.specs.Score.{asks}
+use Rattle.crib_play.specs.Standing.{Standing}
+use Rattle.crib_play.specs.History.{Event, Own, Theirs}
+use Rattle.crib_play.proofs.CardLemmas.{none_passes}
+use Rattle.crib_show.specs.declared.outcomes.Outcome.TheVariants as outcome
+use Rattle.crib_show.specs.Outcome.{outcome_of}
+use Rattle.crib_problem.specs.Setup.{Setup, IsSetup}
+use Rattle.crib_plan.specs.declared.plan.Node.{Node}
+use Rattle.crib_plan.specs.Places.{stated_card}
+use Rattle.crib_know.specs.Knowledge.{Knowledge, asked_now, count_after, own_left}
+use Rattle.crib_know.specs.Hidden.{AgreesWith, CanShow, KnowsAfter}
+use Rattle.crib_know.proofs.LedHistories.{MayCome}
+use Rattle.crib_know.proofs.PassingIsAgreeing.{can_play_might, can_go_might}
+use Rattle.crib_game.specs.declared.game.Game.{Game}
+use Rattle.crib_game.specs.declared.ending.Ending.{Ending}
+use Rattle.crib_game.specs.declared.ending.Ending.TheVariants as ending
+use Rattle.crib_game.specs.Replay.{acts_back}
+use Rattle.crib_game.specs.Followed.{ending_with, ending_without}
+use Rattle.crib_play.specs.Fitting.{fits_at}
+use Rattle.crib_game.specs.Following.{is_playable_at}
+use Rattle.crib_game.specs.Private.Judging.{is_over, full_at}
+use Rattle.crib_game.specs.Private.Tracing.{is_stuck_at, ending_at}
+use Rattle.crib_check.specs.declared.keys.Key.{Key}
+use Rattle.crib_check.specs.Failing.{IsFailingEnding, IsFailing, is_suited}
+use Rattle.crib_check.specs.Private.Histories.{place_by, IsStatedEvent, Extends, history_of_game}
+use Rattle.crib_check.specs.Private.Positions.{StandsAt, HoldsFrom, IsSettled, IsFirstFrom, MayTakeAt, IsStuckAt, AllReach, IsLetter}
+use Rattle.crib_check.proofs.LettersBelow.{IsSettledBelow}
+use Rattle.crib_check.proofs.ExtendedGames.{extends_less, next_turn, failing_agrees}
+use Rattle.crib_check.proofs.FailureEndings.{open_is_none, reached_is_none, failing_at}
+use Rattle.crib_check.proofs.GameOrder.{later_letter, same_history}
+
+-- ---- who is asked
+pub theirs_asked : (problem : Setup) → IsSetup problem → (history : List Event) (letter : Letter) → CanShow problem history letter →
+    asked_now problem history ≡ turns.Opponent
+theirs_asked problem setup history (Seen rank) can = (can_play_might problem setup history rank can).asked
+theirs_asked problem setup history Go can = (can_go_might problem setup history can).asked
+
+pub theirs_letter : (problem : Setup) → IsSetup problem → (history : List Event) (letter : Letter) → CanShow problem history letter → IsLetter letter
+theirs_letter problem setup history (Seen rank) can = (can_play_might problem setup history rank can).is
+theirs_letter problem setup history Go can = tt
+
+module _ (problem : Setup) (plan : List Node) (key : Key) (history : List Event) (stands : StandsAt problem plan key history) where
+  abbrev table : Standing
+  table = key.know.round
+
+  abbrev stated : Option ℕ
+  stated = stated_card plan key.place
+
+  pub asked_same : key.know.round.asked ≡ asked_now problem history
+  asked_same = ap (λ (k : Knowledge). k.round.asked) stands.knows.knowledge
+
+  count_same : count_of key.know.round.pile ≡ count_after problem history
+  count_same = ap (λ (k : Knowledge). count_of k.round.pile) stands.knows.knowledge
+
+  own_same : key.know.own_left ≡ own_left problem history
+  own_same = ap (λ (k : Knowledge). k.own_left) stands.knows.knowledge
+
+  -- the owner's turn that may come, in terms of the position
+  pub own_card_may : (card : ℕ) → MayCome problem history (Own (move.Card card)) →
+      (key.know.round.asked ≡ turns.Owner) × (has key.know.own_left card ≡ true) × (count_of key.know.round.pile + card_value card ≤ 31)
+  own_card_may card may =
+      let fits = may.2 in
+      let count = count_same in (
+        asked_same ∙ may.0,
+        ap (λ (cards : List ℕ). has cards card) own_same ∙ may.1,
+        omega (arith, fits, count),
+      )
+
+  pub own_go_may : MayCome problem history (Own move.Go) → (key.know.round.asked ≡ turns.Owner) ×
+      (list_any (λ card. leb (count_of key.know.round.pile + card_value card) 31) key.know.own_left ≡ false)
+  own_go_may may = (
+    asked_same ∙ may.0,
+    (λ i. list_any (λ card. leb (count_same i + card_value card) 31) (own_same i)) ∙ may.1,
+  )
+
+  -- ---- the deal is done
+  pub over_next : key.know.round.asked ≡ turns.Over → (event : Event) → MayCome problem history event → ⊥
+  over_next over (Own (move.Card card)) may = let e : turns.Over ≡ turns.Owner = sym over ∙ asked_same ∙ may.0 in absurd cc
+  over_next over (Own move.Go) may = let e : turns.Over ≡ turns.Owner = sym over ∙ asked_same ∙ may.0 in absurd cc
+  over_next over (Theirs letter) may = let e : turns.Over ≡ turns.Opponent = sym over ∙ asked_same
+      ∙ theirs_asked problem stands.knows.setup history letter may in absurd cc
+
+  pub over_ends : key.know.round.asked ≡ turns.Over → (dealt : Dealt) → ending_at problem dealt table key.know.own_left stated ≡ ending_with
+      (outcome_of (full_at problem dealt table))
+  over_ends over dealt =
+      ap (λ (t : Turn). ending_without (cond (is_over t) (Some (outcome_of (full_at problem dealt table))) None) (is_stuck_at table key.know.own_left stated))
+      over
+
+  -- ---- the owner is asked and stuck
+  stuck_asked : IsStuckAt plan key → key.know.round.asked ≡ turns.Owner
+  stuck_asked stuck =
+      let any = list_any (fits_at (count_of table.pile)) key.know.own_left in
+      let turn = (and_parts (asks table.asked Owner && any) (not (is_playable_at (count_of table.pile) key.know.own_left stated)) stuck).0 in
+      is_owner table.asked (and_parts (asks table.asked Owner) any turn).0
+    where
+      is_owner : (turn : Turn) → asks turn Owner ≡ true → turn ≡ turns.Owner
+      is_owner turns.Owner e = refl
+      is_owner turns.Opponent e = absurd cc
+      is_owner turns.Over e = absurd cc
+
+  pub stuck_ends : IsStuckAt plan key → (dealt : Dealt) → ending_at problem dealt table key.know.own_left stated ≡ ending.Stuck
+  stuck_ends stuck dealt =
+      (λ i. ending_without (cond (is_over (stuck_asked stuck i)) (Some (outcome_of (full_at problem dealt table))) None) (stuck i))
+
+  pub stuck_next : IsStuckAt plan key → (event : Event) → MayCome problem history event → IsStatedEvent plan (place_by plan problem.played history) event → ⊥
+  stuck_next stuck (Own (move.Card card)) may is =
+      let mine = own_card_may card may in
+      let there : stated ≡ Some card = ap (stated_card plan) stands.place ∙ is in
+      let playable : is_playable_at (count_of table.pile) key.know.own_left stated ≡ true =
+      ap (is_playable_at (count_of table.pile) key.know.own_left) there
+      ∙ and_from (has key.know.own_left card) (fits_at (count_of table.pile) card) mine.1 (le-leb (count_of table.pile + card_value card) 31 mine.2) in
+      let not_playable = (and_parts (asks table.asked Owner && list_any (fits_at (count_of table.pile)) key.know.own_left)
+      (not (is_playable_at (count_of table.pile) key.know.own_left stated)) stuck).1 in
+      both_ways (is_playable_at (count_of table.pile) key.know.own_left stated)
+      (not-true (is_playable_at (count_of table.pile) key.know.own_left stated) not_playable) playable
+  stuck_next stuck (Own move.Go) may is =
+      let none = (own_go_may may).1 in
+      let any = list_any (fits_at (count_of table.pile)) key.know.own_left in
+      let turn = (and_parts (asks table.asked Owner && any) (not (is_playable_at (count_of table.pile) key.know.own_left stated)) stuck).0 in
+      both_ways any none (and_parts (asks table.asked Owner) any turn).1
+  stuck_next stuck (Theirs letter) may is = let e : turns.Owner ≡ turns.Opponent = sym (stuck_asked stuck) ∙ asked_same
+      ∙ theirs_asked problem stands.knows.setup history letter may in absurd cc
+
+  -- ---- the first of the games that stop at the position
+  leaf_first : (game : Game) (result : Ending) →
+      ((event : Event) → MayCome problem history event → IsStatedEvent plan (place_by plan problem.played history) event → ⊥) →
+      IsFailing problem plan game result →
+      history_of_game game ≡ history → is_in_pack_order game.opp ≡ true → is_suited problem game.opp.hold (acts_back game) ≡ true →
+      ((other : Dealt) → AgreesWith problem history other → IsFailingEnding (ending_at problem other table key.know.own_left stated) →
+      is_before (deal_numbers other) (deal_numbers game.opp) ≡ false) →
+      IsFirstFrom problem plan history game result
+  leaf_first game result none failing same order suits least = record {
+    failing = failing;
+    extends = ([], same);
+    in_pack_order = order;
+    in_suit_order = suits;
+    first = λ other others_ending fails ext. elim (next_turn problem plan stands.knows.setup history stands.knows.begun other others_ending fails ext) [
+      | inl here ↦
+          let A : List Event → Type 0 = λ h. AgreesWith problem h other.opp in
+          let F : Ending → Type 0 = λ e. IsFailingEnding e in
+          same_history game other (here ∙ sym same)
+          (least other.opp (subst A here (failing_agrees problem plan other others_ending fails))
+          (subst F (sym (failing_at problem plan stands.knows.setup other others_ending fails key history stands here)) fails.failure))
+      | inr next ↦ absurd (none next.event next.may next.stated)
+    ];
+  }
+
+  pub stuck_first : IsStuckAt plan key → (game : Game) → IsFailing problem plan game ending.Stuck → history_of_game game ≡ history →
+      is_in_pack_order game.opp ≡ true →
+      is_suited problem game.opp.hold (acts_back game) ≡ true →
+      ((other : Dealt) → AgreesWith problem history other → is_before (deal_numbers other) (deal_numbers game.opp) ≡ false) →
+      IsFirstFrom problem plan history game ending.Stuck
+  stuck_first stuck game failing same order suits least = leaf_first game ending.Stuck (stuck_next stuck) failing same order suits
+      (λ other agrees fails. least other agrees)
+
+  pub over_first : key.know.round.asked ≡ turns.Over → (game : Game) (result : Ending) → IsFailing problem plan game result → history_of_game game ≡ history →
+      is_in_pack_order game.opp ≡ true →
+      is_suited problem game.opp.hold (acts_back game) ≡ true →
+      ((other : Dealt) → AgreesWith problem history other → (outcome_of (full_at problem other table) ≡ outcome.Reached → ⊥) →
+      is_before (deal_numbers other) (deal_numbers game.opp) ≡ false) →
+      IsFirstFrom problem plan history game result
+  over_first over game result failing same order suits least =
+      leaf_first game result (λ event may is. over_next over event may) failing same order suits
+      (λ other agrees fails. least other agrees (λ reached.
+      let F : Ending → Type 0 = λ e. IsFailingEnding e in
+      reached_is_none (subst F (over_ends over other ∙ ap ending_with reached) fails)))
+
+  over_holds : key.know.round.asked ≡ turns.Over → AllReach problem history table → HoldsFrom problem plan history
+  over_holds over all game result failing ext =
+      elim (next_turn problem plan stands.knows.setup history stands.knows.begun game result failing ext) [
+        | inl here ↦
+            let A : List Event → Type 0 = λ h. AgreesWith problem h game.opp in
+            let F : Ending → Type 0 = λ e. IsFailingEnding e in
+            let reached = all game.opp (subst A here (failing_agrees problem plan game result failing)) in
+            reached_is_none
+            (subst F (sym (failing_at problem plan stands.knows.setup game result failing key history stands here) ∙ over_ends over game.opp
+            ∙ ap ending_with reached) failing.failure)
+        | inr next ↦ over_next over next.event next.may
+      ]
+
+  -- ---- the owner makes the move of his plan
+  take_asked : (what : Move) → MayTakeAt plan key what → key.know.round.asked ≡ turns.Owner
+  take_asked (move.Card card) may = may.0
+  take_asked move.Go may = may.0
+
+  not_stuck : (what : Move) → MayTakeAt plan key what → is_stuck_at table key.know.own_left stated ≡ false
+  not_stuck (move.Card card) may =
+      let playable : is_playable_at (count_of table.pile) key.know.own_left stated ≡ true =
+      ap (is_playable_at (count_of table.pile) key.know.own_left) may.3
+      ∙ and_from (has key.know.own_left card) (fits_at (count_of table.pile) card) may.1 (le-leb (count_of table.pile + card_value card) 31 may.2) in
+      ap (λ (b : Bool). asks table.asked Owner && list_any (fits_at (count_of table.pile)) key.know.own_left && not b) playable
+      ∙ none_true (asks table.asked Owner && list_any (fits_at (count_of table.pile)) key.know.own_left)
+    where
+      none_true : (b : Bool) → (b && false) ≡ false
+      none_true true = refl
+      none_true false = refl
+  not_stuck move.Go may =
+      ap (λ (b : Bool). asks table.asked Owner && b && not (is_playable_at (count_of table.pile) key.know.own_left stated)) may.1
+      ∙ none_true (asks table.asked Owner) (not (is_playable_at (count_of table.pile) key.know.own_left stated))
+    where
+      none_true : (a b : Bool) → (a && false && b) ≡ false
+      none_true true b = refl
+      none_true false b = refl
+
+  own_open : (what : Move) → MayTakeAt plan key what → (dealt : Dealt) → ending_at problem dealt table key.know.own_left stated ≡ ending.Open
+  own_open what may dealt =
+      (λ i. ending_without (cond (is_over (take_asked what may i)) (Some (outcome_of (full_at problem dealt table))) None) (not_stuck what may i))
+
+  -- the turn that comes is the move of the plan
+  pub own_event : (what : Move) → MayTakeAt plan key what → (event : Event) → MayCome problem history event →
+      IsStatedEvent plan (place_by plan problem.played history) event → event ≡ Own what
+  own_event (move.Card card) may (Own (move.Card other)) come is =
+      let there : Some card ≡ Some other = sym may.3 ∙ ap (stated_card plan) stands.place ∙ is in
+      let same : card ≡ other = cc in
+      ap (λ (c : ℕ). Own (move.Card c)) (sym same)
+  own_event (move.Card card) may (Own move.Go) come is =
+      let none = (own_go_may come).1 in
+      let fails = none_passes (λ c. leb (count_of table.pile + card_value c) 31) key.know.own_left card none may.1 in
+      absurd (both_ways (leb (count_of table.pile + card_value card) 31) fails (le-leb (count_of table.pile + card_value card) 31 may.2))
+  own_event (move.Card card) may (Theirs letter) come is = let e : turns.Owner ≡ turns.Opponent = sym may.0 ∙ asked_same
+      ∙ theirs_asked problem stands.knows.setup history letter come in absurd cc
+  own_event move.Go may (Own (move.Card other)) come is =
+      let mine = own_card_may other come in
+      let fails = none_passes (λ c. leb (count_of table.pile + card_value c) 31) key.know.own_left other may.1 mine.1 in
+      absurd (both_ways (leb (count_of table.pile + card_value other) 31) fails (le-leb (count_of table.pile + card_value other) 31 mine.2))
+  own_event move.Go may (Own move.Go) come is = refl
+  own_event move.Go may (Theirs letter) come is = let e : turns.Owner ≡ turns.Opponent = sym may.0 ∙ asked_same
+      ∙ theirs_asked problem stands.knows.setup history letter come in absurd cc
+
+  own_goes_on : (what : Move) → MayTakeAt plan key what → (game : Game) (result : Ending) → IsFailing problem plan game result →
+      Extends history (history_of_game game) → Extends (Own what ∷ history) (history_of_game game)
+  own_goes_on what may game result failing ext =
+      elim (next_turn problem plan stands.knows.setup history stands.knows.begun game result failing ext) [
+        | inl here ↦
+            let F : Ending → Type 0 = λ e. IsFailingEnding e in
+            absurd (open_is_none (subst F (sym (failing_at problem plan stands.knows.setup game result failing key history stands here)
+            ∙ own_open what may game.opp) failing.failure))
+        | inr next ↦
+            let X : Event → Type 0 = λ event. Extends (event ∷ history) (history_of_game game) in
+            subst X (own_event what may next.event next.may next.stated) next.extends
+      ]
+
+  pub own_holds : (what : Move) → MayTakeAt plan key what → HoldsFrom problem plan (Own what ∷ history) → HoldsFrom problem plan history
+  own_holds what may holds game result failing ext = holds game result failing (own_goes_on what may game result failing ext)
+
+  pub own_first : (what : Move) → MayTakeAt plan key what → (game : Game) (result : Ending) → IsFirstFrom problem plan (Own what ∷ history) game result →
+      IsFirstFrom problem plan history game result
+  own_first what may game result first = record {
+    failing = first.failing;
+    extends = extends_less (Own what) history (history_of_game game) first.extends;
+    in_pack_order = first.in_pack_order;
+    in_suit_order = first.in_suit_order;
+    first = λ other others_ending fails ext. first.first other others_ending fails (own_goes_on what may other others_ending fails ext);
+  }
+
+  -- ---- the opponent shows a letter
+  record NextLetter (game : Game) : Type 0 where
+    pub letter : Letter
+    pub can : CanShow problem history letter
+    pub extends : Extends (Theirs letter ∷ history) (history_of_game game)
+
+  theirs_not_stuck : key.know.round.asked ≡ turns.Opponent → is_stuck_at table key.know.own_left stated ≡ false
+  theirs_not_stuck asked =
+      ap (λ (t : Turn). asks t Owner && list_any (fits_at (count_of table.pile)) key.know.own_left
+      && not (is_playable_at (count_of table.pile) key.know.own_left stated)) asked
+
+  pub theirs_open : key.know.round.asked ≡ turns.Opponent → (dealt : Dealt) → ending_at problem dealt table key.know.own_left stated ≡ ending.Open
+  theirs_open asked dealt =
+      (λ i. ending_without (cond (is_over (asked i)) (Some (outcome_of (full_at problem dealt table))) None) (theirs_not_stuck asked i))
+
+  next_letter : key.know.round.asked ≡ turns.Opponent → (game : Game) → (event : Event) → MayCome problem history event →
+      Extends (event ∷ history) (history_of_game game) → NextLetter game
+  next_letter asked game (Own (move.Card card)) may ext = let e : turns.Opponent ≡ turns.Owner = sym asked ∙ asked_same ∙ may.0 in absurd cc
+  next_letter asked game (Own move.Go) may ext = let e : turns.Opponent ≡ turns.Owner = sym asked ∙ asked_same ∙ may.0 in absurd cc
+  next_letter asked game (Theirs letter) may ext = record { letter = letter; can = may; extends = ext }
+
+  theirs_goes_on : key.know.round.asked ≡ turns.Opponent → (game : Game) (result : Ending) → IsFailing problem plan game result →
+      Extends history (history_of_game game) → NextLetter game
+  theirs_goes_on asked game result failing ext =
+      elim (next_turn problem plan stands.knows.setup history stands.knows.begun game result failing ext) [
+        | inl here ↦
+            let F : Ending → Type 0 = λ e. IsFailingEnding e in
+            absurd (open_is_none (subst F (sym (failing_at problem plan stands.knows.setup game result failing key history stands here)
+            ∙ theirs_open asked game.opp) failing.failure))
+        | inr next ↦ next_letter asked game next.event next.may next.extends
+      ]
+
+  place_small : (letter : Letter) → IsLetter letter → letter_place letter < 14
+  place_small (Seen rank) is = let high = is.1 in omega (arith, high)
+  place_small Go is = omega arith
+
+  theirs_holds : key.know.round.asked ≡ turns.Opponent → IsSettledBelow problem plan key 14 → HoldsFrom problem plan history
+  theirs_holds asked below game result failing ext =
+      let next = theirs_goes_on asked game result failing ext in
+      below history next.letter stands next.can (place_small next.letter (theirs_letter problem stands.knows.setup history next.letter next.can)) game result
+      failing next.extends
+
+  pub same_letter : (letter other : Letter) → IsLetter letter → IsLetter other → letter_place letter ≡ letter_place other → letter ≡ other
+  same_letter (Seen rank) (Seen other) is is_other e =
+      let low = is.0 in
+      let low_other = is_other.0 in
+      ap Seen (omega (arith, low, low_other, e))
+  same_letter (Seen rank) Go is is_other e = let high = is.1 in absurd (omega (arith, high, e))
+  same_letter Go (Seen rank) is is_other e = let high = is_other.1 in absurd (omega (arith, high, e))
+  same_letter Go Go is is_other e = refl
+
+  pub theirs_first : key.know.round.asked ≡ turns.Opponent → (letter : Letter) → IsLetter letter → IsSettledBelow problem plan key (letter_place letter) →
+      (game : Game) (result : Ending) →
+      IsFirstFrom problem plan (Theirs letter ∷ history) game result → IsFirstFrom problem plan history game result
+  theirs_first asked letter is below game result first = record {
+    failing = first.failing;
+    extends = extends_less (Theirs letter) history (history_of_game game) first.extends;
+    in_pack_order = first.in_pack_order;
+    in_suit_order = first.in_suit_order;
+    first = λ other others_ending fails ext.
+        let next = theirs_goes_on asked other others_ending fails ext in
+        let is_next = theirs_letter problem stands.knows.setup history next.letter next.can in
+        elim (cases_lt (letter_place next.letter) (letter_place letter)) [
+          | inl less ↦ absurd (below history next.letter stands next.can less other others_ending fails next.extends)
+          | inr most ↦
+              elim (cases_eq (letter_place letter) (letter_place next.letter)) [
+                | inl e ↦
+                    let X : Letter → Type 0 = λ l. Extends (Theirs l ∷ history) (history_of_game other) in
+                    first.first other others_ending fails (subst X (same_letter next.letter letter is_next is (sym e)) next.extends)
+                | inr ne ↦ later_letter game other history letter next.letter first.extends next.extends (omega (arith, most, ne))
+              ]
+        ];
+  }
+
+-- ---- the same for all histories
+pub settled_over : (problem : Setup) (plan : List Node) (key : Key) → key.know.round.asked ≡ turns.Over →
+    ((history : List Event) → KnowsAfter key.know problem history → AllReach problem history key.know.round) → IsSettled problem plan key
+settled_over problem plan key over all history stands = over_holds problem plan key history stands over (all history stands.knows)
+
+pub settled_own : (problem : Setup) (plan : List Node) (key after : Key) (what : Move) → MayTakeAt plan key what →
+    ((history : List Event) → StandsAt problem plan key history → StandsAt problem plan after (Own what ∷ history)) → IsSettled problem plan after →
+    IsSettled problem plan key
+settled_own problem plan key after what may goes settled history stands =
+    own_holds problem plan key history stands what may (settled (Own what ∷ history) (goes history stands))
+
+pub settled_theirs : (problem : Setup) (plan : List Node) (key : Key) → key.know.round.asked ≡ turns.Opponent → IsSettledBelow problem plan key 14 →
+    IsSettled problem plan key
+settled_theirs problem plan key asked below history stands = theirs_holds problem plan key history stands asked below
+
+pub below_more : (problem : Setup) (plan : List Node) (key : Key) (place : ℕ) (letter : Letter) → IsLetter letter → letter_place letter ≡ place →
+    IsSettledBelow problem plan key place →
+    ((history : List Event) → StandsAt problem plan key history → CanShow problem history letter → HoldsFrom problem plan (Theirs letter ∷ history)) →
+    IsSettledBelow problem plan key (place + 1)
+below_more problem plan key place letter is at_place below here history other stands can less =
+    elim (cases_lt (letter_place other) place) [
+      | inl before ↦ below history other stands can before
+      | inr most ↦
+          let same : other ≡ letter = same_letter problem plan key history stands other letter (theirs_letter problem stands.knows.setup history other can) is
+          (omega (arith, less, most, at_place)) in
+          let H : Letter → Type 0 = λ l. HoldsFrom problem plan (Theirs l ∷ history) in
+          let C : Letter → Type 0 = λ l. CanShow problem history l in
+          subst H (sym same) (here history stands (subst C same can))
+    ]

@@ -1,0 +1,91 @@
+-- Positions of the walk of the code, and statements about the games that go on from one.
+use Rattle.std.specs.Prelude.{◌≡◌, ◌≢◌, ◌+◌, ◌≤◌, List, Some, IsTrue, IsFalse}
+use Rattle.std.specs.List.{list_any}
+use Rattle.crib_cards.specs.Cards.{IsRank, card_value}
+use Rattle.crib_cards.specs.declared.letters.Letter.{Letter}
+use Rattle.crib_cards.specs.declared.letters.Letter.TheVariants.{Seen, Go}
+use Rattle.crib_cards.specs.Sets.{has}
+use Rattle.crib_cards.specs.Order.{is_before}
+use Rattle.crib_cards.specs.declared.sides.Dealt.{Dealt}
+use Rattle.crib_cards.specs.declared.moves.Move.{Move}
+use Rattle.crib_cards.specs.declared.moves.Move.TheVariants as move
+use Rattle.crib_play.specs.declared.turns.Turn.TheVariants as turns
+use Rattle.crib_play.specs.Record.{count_of}
+use Rattle.crib_play.specs.Fitting.{fits_at}
+use Rattle.crib_play.specs.Standing.{Standing}
+use Rattle.crib_show.specs.Outcome.{outcome_of}
+use Rattle.crib_show.specs.declared.outcomes.Outcome.TheVariants.{Reached}
+use Rattle.crib_plan.specs.Places.{stated_card}
+use Rattle.crib_game.specs.Private.Judging.{full_at}
+use Rattle.crib_game.specs.Private.Tracing.{is_stuck_at}
+use Rattle.crib_play.specs.History.{Event}
+use Rattle.crib_problem.specs.Setup.{Setup}
+use Rattle.crib_plan.specs.declared.plan.Node.{Node}
+use Rattle.crib_know.specs.Hidden.{AgreesWith, KnowsAfter}
+use Rattle.crib_game.specs.declared.game.Game.{Game}
+use Rattle.crib_game.specs.declared.ending.Ending.{Ending}
+use Rattle.crib_game.specs.Replay.{acts_back}
+use Rattle.crib_cards.specs.Deals.{deal_numbers, is_in_pack_order}
+use Rattle.crib_check.specs.declared.keys.Key.{Key}
+use Rattle.crib_check.specs.Failing.{IsFailing, comes_before, is_suited}
+use Rattle.crib_check.specs.Private.Histories.{place_by, FollowsBy, Extends, history_of_game}
+
+-- a position stands for a history: the history follows the plan, the knowledge is what the owner knows after it, and
+-- the place is that of the plan after it
+pub record StandsAt (problem : Setup) (plan : List Node) (key : Key) (history : List Event) : Type 0 where
+  pub knows : KnowsAfter key.know problem history
+  pub place : key.place ≡ place_by plan problem.played history
+  pub follows : FollowsBy plan problem.played history
+
+-- no failing game goes on from a history
+abbrev pub HoldsFrom : Setup → List Node → List Event → Type 0
+HoldsFrom problem plan history =
+    (game : Game) (result : Ending) → IsFailing problem plan game result → Extends history (history_of_game game) → ⊥
+
+-- a position is settled: no failing game goes on from a history that it stands for
+abbrev pub IsSettled : Setup → List Node → Key → Type 0
+IsSettled problem plan key =
+    (history : List Event) → StandsAt problem plan key history → HoldsFrom problem plan history
+
+-- the first failing game of those that go on from a history
+pub record IsFirstFrom (problem : Setup) (plan : List Node) (history : List Event) (game : Game) (result : Ending)
+    : Type 0 where
+  pub failing : IsFailing problem plan game result
+  pub extends : Extends history (history_of_game game)
+  pub in_pack_order : IsTrue (is_in_pack_order game.opp)
+  pub in_suit_order : IsTrue (is_suited problem game.opp.hold (acts_back game))
+  pub first : (other : Game) (others_ending : Ending) → IsFailing problem plan other others_ending →
+      Extends history (history_of_game other) → IsFalse (comes_before other game)
+
+-- the move that the plan gives the owner at a position: the stated card, if he holds it and it fits, or go, if no card
+-- of his fits
+abbrev pub MayTakeAt : List Node → Key → Move → Type 0
+MayTakeAt plan key (move.Card card) =
+    (key.know.round.asked ≡ turns.Owner) × IsTrue (has key.know.own_left card)
+    × (count_of key.know.round.pile + card_value card ≤ 31) × (stated_card plan key.place ≡ Some card)
+MayTakeAt plan key move.Go =
+    (key.know.round.asked ≡ turns.Owner)
+    × IsFalse (list_any (fits_at (count_of key.know.round.pile)) key.know.own_left)
+
+-- the owner is stuck: he is asked and a card of his fits, but no card that he holds and that fits is stated
+abbrev pub IsStuckAt : List Node → Key → Type 0
+IsStuckAt plan key = IsTrue (is_stuck_at key.know.round key.know.own_left (stated_card plan key.place))
+
+-- with the scores of this standing, each deal that agrees with a history has the outcome Reached
+abbrev pub AllReach : Setup → List Event → Standing → Type 0
+AllReach problem history table =
+    (dealt : Dealt) → AgreesWith problem history dealt → outcome_of (full_at problem dealt table) ≡ Reached
+
+-- with the scores of this standing, the first deal, by its card numbers, that agrees with a history and does not have
+-- the outcome Reached
+pub record IsFirstShortfall (problem : Setup) (history : List Event) (table : Standing) (dealt : Dealt) : Type 0 where
+  pub agrees : AgreesWith problem history dealt
+  pub fails : outcome_of (full_at problem dealt table) ≢ Reached
+  pub in_order : IsTrue (is_in_pack_order dealt)
+  pub first : (other : Dealt) → AgreesWith problem history other → outcome_of (full_at problem other table) ≢ Reached →
+      IsFalse (is_before (deal_numbers other) (deal_numbers dealt))
+
+-- a letter that can be shown: a rank from 1 to 13, or go
+abbrev pub IsLetter : Letter → Type 0
+IsLetter (Seen rank) = IsRank rank
+IsLetter Go = Unit {0}

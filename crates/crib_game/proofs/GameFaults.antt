@@ -1,0 +1,333 @@
+-- A game is refused unless its cards are a deal and its acts are the visible turns of a legal record.
+use Rattle.std.proofs.Common.{◌≡◌, ℕ, ◌+◌, ◌<◌, ◌≤◌, Bool, true, false, cond, not, ◌||◌, eqb, ltb, List, [], ◌∷◌, ◌++◌, length, reverse, Option, Some, None, Ok}
+use Rattle.std.proofs.Common.{Err, refl, sym, ap, subst, ◌∙◌, inl, inr, arith}
+use Rattle.std.specs.List.{list_all}
+use Rattle.std.specs.Option.{option_or}
+use Rattle.std.proofs.lemmas.Bool.{cases_Bool, cases_lt, cond-true, cond-false, lt-ltb, le-ltb, and_parts, and_from, or_left, or_right, or_cases, or_parts}
+use Rattle.std.proofs.lemmas.Bool.{eq-eqb, eqb-true, not-true}
+use Rattle.crib_cards.specs.Deals.{six_cards}
+use Rattle.crib_cards.specs.Sets.{has, are_distinct}
+use Rattle.crib_cards.specs.Start.{Start, pone_of, Hands}
+use Rattle.crib_cards.specs.declared.sides.Dealt.{Dealt}
+use Rattle.crib_cards.proofs.SetLemmas.{has-set_where}
+use Rattle.crib_cards.specs.declared.moves.Move.{Move}
+use Rattle.crib_cards.specs.declared.moves.Act.{Act}
+use Rattle.crib_cards.proofs.SetFacts.{has-append, in_set_where}
+use Rattle.crib_play.specs.Legal.{IsDealt}
+use Rattle.crib_play.specs.History.{moves_of, filled_moves}
+use Rattle.crib_play.proofs.LegalRecords.{legal_filled}
+use Rattle.crib_play.specs.Standing.{IsStart}
+use Rattle.crib_play.proofs.CardLemmas.{has-filter}
+use Rattle.crib_problem.specs.Setup.{Setup, IsSetup, IsGoal, goal_hole, known_cards, start_of, hands_of, unseen_of, played_back, fixed_cards, BeginsAsPlayed}
+use Rattle.crib_problem.specs.Played.{cards_by}
+use Rattle.crib_cards.specs.Deals.{IsDeal}
+use Rattle.crib_cards.specs.declared.sides.Side.{Side}
+use Rattle.crib_cards.specs.declared.sides.Side.TheVariants.{Owner, Opponent}
+use Rattle.crib_cards.specs.declared.moves.Move.TheVariants as move
+use Rattle.std.proofs.lemmas.List.{length-reverse}
+use Rattle.crib_play.specs.Record.{mover}
+use Rattle.crib_play.specs.Legal.{letters_of, cards_of, cards_left, MayTake}
+use Rattle.crib_problem.specs.declared.problem.Goal.{Goal}
+use Rattle.crib_problem.specs.declared.problem.Goal.TheVariants.{Win, Holes, Stop}
+use Rattle.crib_game.specs.declared.fault.GameFault.{GameFault}
+use Rattle.crib_game.specs.declared.game.Game.{Game}
+use Rattle.crib_game.specs.Replay.{Judge, by_rules, first_seen, deal_fault, act_fault, acts_fault, few_fault, acts_back, game_fault_by, game_fault}
+use Rattle.crib_game.specs.Replay.{record_of, unless_fault, IsRecordOf}
+use Rattle.crib_game.specs.Laws.{NoneStrays}
+use Rattle.crib_game.specs.declared.fault.GameFault.TheVariants.{NotAsPlayed}
+use Rattle.crib_game.specs.Spelling.{AreSixCards}
+use Rattle.crib_game.proofs.ActFaults.{option_or_none, act_right, legal_acts, acts_filled, acts_stay, no_fault}
+use Rattle.crib_game.proofs.OpeningActs.{AreAsPlayed, enough_begin, begin_played, none_from, none_to}
+use Rattle.crib_problem.proofs.CardLemmas.{all_parts}
+use Rattle.crib_problem.proofs.LinesReadAreSpelled.{distinct-append}
+use Rattle.crib_game.proofs.HeldSets.{card_in}
+use Rattle.crib_game.proofs.JudgeLemmas.{AreCards}
+use Rattle.crib_cards.proofs.Members.{all_has, all_from as all_of, all_from, distinct_left}
+
+-- ---- the start of a problem
+goal_above : (score : ℕ) (goal : Goal) → score ≤ 120 → IsGoal score goal → score < goal_hole score goal
+goal_above score Win low is = omega arith
+goal_above score Stop low is = omega arith
+goal_above score (Holes holes) low is = let one = is.0 in omega arith
+
+goal_in_game : (score : ℕ) (goal : Goal) → score ≤ 120 → IsGoal score goal → goal_hole score goal ≤ 121
+goal_in_game score Win low is = omega arith
+goal_in_game score Stop low is = omega arith
+goal_in_game score (Holes holes) low is = let most = is.1 in omega arith
+
+pub start_is : (problem : Setup) → IsSetup problem → IsStart (start_of problem)
+start_is problem is = record {
+  below_target = goal_above problem.scores.owner problem.goal is.owner_score is.goal_in_range;
+  target_in_game = goal_in_game problem.scores.owner problem.goal is.owner_score is.goal_in_range;
+  opponent_in_game = (let low = is.opponent_score in omega arith);
+}
+
+-- ---- cards that are all different and not known
+-- no card of a list is known or the same as an earlier one
+abbrev AreNew : List ℕ → List ℕ → Type 0
+AreNew known cards = (card : ℕ) → has cards card ≡ true → has known card ≡ false
+
+seen_parts : (b : Bool) (place : ℕ) (rest : Option ℕ) → cond b (Some place) rest ≡ None → (b ≡ false) × (rest ≡ None)
+seen_parts true place rest e = cc
+seen_parts false place rest e = (refl, e)
+
+not_here : (known cards : List ℕ) (card : ℕ) → AreNew (card ∷ known) cards → has cards card ≡ false
+not_here known cards card new =
+    elim (cases_Bool (has cards card)) [
+      | inr none ↦ none
+      | inl is ↦ (let apart = (or_parts (eqb card card) (has known card) (new card is)).0 in let self : eqb card card ≡ true = eq-eqb card card refl in cc)
+    ]
+
+pub new_distinct : (known cards : List ℕ) (place : ℕ) → first_seen known place cards ≡ None → AreNew known cards × (are_distinct cards ≡ true)
+new_distinct known [] place e = ((λ card is. cc), refl)
+new_distinct known (card ∷ cards) place e =
+    let parts = seen_parts (has known card) place (first_seen (card ∷ known) (place + 1) cards) e in
+    let later = new_distinct (card ∷ known) cards (place + 1) parts.1 in (
+      (λ other is. elim (or_cases (eqb card other) (has cards other) is) [
+        | inl here ↦ ap (has known) (sym (eqb-true card other here)) ∙ parts.0
+        | inr there ↦ (or_parts (eqb card other) (has known other) (later.0 other there)).1
+      ]),
+      and_from (not (has cards card)) (are_distinct cards) (ap not (not_here known cards card later.0)) later.1,
+    )
+
+lacks : (b : Bool) → b ≡ true → b ≡ false → ⊥
+lacks true e f = cc
+lacks false e f = cc
+
+pub none_seen : (known cards : List ℕ) (place : ℕ) → AreNew known cards → are_distinct cards ≡ true → first_seen known place cards ≡ None
+none_seen known [] place new distinct = refl
+none_seen known (card ∷ cards) place new distinct =
+    let parts = and_parts (not (has cards card)) (are_distinct cards) distinct in
+    let once : has cards card ≡ false = not-true (has cards card) parts.0 in
+    cond-false (has known card) (Some place) (first_seen (card ∷ known) (place + 1) cards)
+    (new card (or_left (eqb card card) (has cards card) (eq-eqb card card refl)))
+    ∙ none_seen (card ∷ known) cards (place + 1) (λ other is. both (eqb card other) (has known other) (apart other is)
+    (new other (or_right (eqb card other) (has cards other) is))) parts.1
+  where
+    both : (a b : Bool) → a ≡ false → b ≡ false → (a || b) ≡ false
+    both true b e f = e
+    both false b e f = f
+
+    apart : (other : ℕ) → has cards other ≡ true → eqb card other ≡ false
+    apart other is =
+        elim (cases_Bool (eqb card other)) [
+          | inr differ ↦ differ
+          | inl same ↦ (let absent : has cards other ≡ false = ap (has cards) (sym (eqb-true card other same))
+              ∙ not-true (has cards card) (and_parts (not (has cards card)) (are_distinct cards) distinct).0 in absurd (lacks (has cards other) is absent))
+        ]
+
+-- ---- deals
+pub deal_is : (problem : Setup) (dealt : Dealt) → AreSixCards dealt → first_seen (known_cards problem) 1 (six_cards dealt) ≡ None →
+    IsDeal (unseen_of problem) dealt
+deal_is problem dealt six none =
+    let known = known_cards problem in
+    let parts = new_distinct known (six_cards dealt) 1 none in
+    record {
+      held = six.held;
+      thrown = six.thrown;
+      distinct = parts.1;
+      hidden_before = all_of (has (unseen_of problem)) (six_cards dealt)
+          (λ card is. has-set_where (λ other. not (has known other)) card (card_in (six_cards dealt) card six.cards is) ∙ ap not (parts.0 card is));
+    }
+
+pub deal_unseen : (problem : Setup) (dealt : Dealt) → IsDeal (unseen_of problem) dealt → first_seen (known_cards problem) 1 (six_cards dealt) ≡ None
+deal_unseen problem dealt is =
+    let known = known_cards problem in
+    none_seen known (six_cards dealt) 1
+    (λ card held. not-true (has known card)
+    (in_set_where (λ other. not (has known other)) card (all_has (has (unseen_of problem)) (six_cards dealt) card is.hidden_before held)).1)
+    is.distinct
+
+-- ---- the hands of a deal
+pub hands_are : (problem : Setup) (dealt : Dealt) → IsSetup problem → AreSixCards dealt → AreCards (hands_of problem dealt)
+hands_are problem dealt is six = record {
+  owner = (all_parts problem.hold problem.thrown is.cards.1).0;
+  opponent = (all_parts dealt.hold dealt.throw six.cards).0;
+}
+
+pub hands_dealt : (problem : Setup) (dealt : Dealt) → IsSetup problem → length dealt.hold ≡ 4 → first_seen (known_cards problem) 1 (six_cards dealt) ≡ None →
+    IsDealt (hands_of problem dealt)
+hands_dealt problem dealt is four none =
+    let parts = new_distinct (known_cards problem) (six_cards dealt) 1 none in
+    let owner = (and_parts (not (has (problem.hold ++ problem.thrown) problem.starter)) (are_distinct (problem.hold ++ problem.thrown)) is.distinct).1 in
+    record {
+      owner_four = is.held;
+      opponent_four = four;
+      distinct = distinct-append problem.hold dealt.hold (distinct_left problem.hold problem.thrown owner) (distinct_left dealt.hold dealt.throw parts.1)
+          (λ card held.
+          let in_six : has (six_cards dealt) card ≡ true = has-append dealt.hold dealt.throw card ∙ or_left (has dealt.hold card) (has dealt.throw card) held in
+          let unknown = (or_parts (eqb problem.starter card) (has (problem.hold ++ problem.thrown) card) (parts.0 card in_six)).1 in
+          (or_parts (has problem.hold card) (has problem.thrown card) (sym (has-append problem.hold problem.thrown card) ∙ unknown)).0);
+    }
+
+-- ---- a game
+pub first_seen_none : (place : Option ℕ) → deal_fault place ≡ None → place ≡ None
+first_seen_none None e = refl
+first_seen_none (Some place) e = cc
+
+pub deal_refused : (strays : Judge) (problem : Setup) (game : Game) (fault : GameFault) → deal_fault (first_seen (known_cards problem) 1 (six_cards game.opp))
+    ≡ Some fault → game_fault_by strays problem game ≡ Some fault
+deal_refused strays problem game fault e =
+    ap (λ (first : Option GameFault). option_or first (option_or (acts_fault strays (start_of problem) (hands_of problem game.opp) (acts_back game))
+    (few_fault problem.played game.acts.items))) e
+
+pub fault_in_acts : (strays : Judge) (problem : Setup) (game : Game) (acts : List Act) (fault : GameFault) →
+    first_seen (known_cards problem) 1 (six_cards game.opp) ≡ None → acts ≡ game.acts.items →
+    acts_fault strays (start_of problem) (hands_of problem game.opp) (reverse acts) ≡ Some fault → game_fault_by strays problem game ≡ Some fault
+fault_in_acts strays problem game acts fault none is e =
+    ap (λ (place : Option ℕ). option_or (deal_fault place) (option_or (acts_fault strays (start_of problem) (hands_of problem game.opp) (acts_back game))
+    (few_fault problem.played game.acts.items))) none
+    ∙ ap (λ (first : Option GameFault). option_or first (few_fault problem.played game.acts.items))
+    (ap (λ (items : List Act). acts_fault strays (start_of problem) (hands_of problem game.opp) (reverse items)) (sym is) ∙ e)
+
+pub no_fault_in_acts : (strays : Judge) (problem : Setup) (game : Game) → first_seen (known_cards problem) 1 (six_cards game.opp) ≡ None →
+    acts_fault strays (start_of problem) (hands_of problem game.opp) (acts_back game) ≡ None →
+    game_fault_by strays problem game ≡ few_fault problem.played game.acts.items
+no_fault_in_acts strays problem game none clear =
+    ap (λ (place : Option ℕ). option_or (deal_fault place) (option_or (acts_fault strays (start_of problem) (hands_of problem game.opp) (acts_back game))
+    (few_fault problem.played game.acts.items))) none
+    ∙ ap (λ (first : Option GameFault). option_or first (few_fault problem.played game.acts.items)) clear
+
+-- there are enough acts, or too few
+pub enough_acts : (played acts : List Act) → length played ≤ length acts → few_fault played acts ≡ None
+enough_acts played acts enough = cond-false (ltb (length acts) (length played)) (Some (NotAsPlayed (length acts + 1))) None
+    (le-ltb (length acts) (length played) enough)
+
+pub acts_enough : (played acts : List Act) → few_fault played acts ≡ None → length played ≤ length acts
+acts_enough played acts e =
+    elim (cases_lt (length acts) (length played)) [
+      | inl few ↦ (let some : None ≡ Some (NotAsPlayed (length acts + 1)) =
+          sym e ∙ cond-true (ltb (length acts) (length played)) (Some (NotAsPlayed (length acts + 1))) None (lt-ltb (length acts) (length played) few) in
+          absurd cc)
+      | inr enough ↦ enough
+    ]
+
+-- the answer with a refusal, and without one
+pub refused_is : {A : Type 0} (found : Option GameFault) (fault : GameFault) (value : A) → found ≡ Some fault → Err fault ≡ unless_fault found value
+refused_is found fault value e = ap (λ (f : Option GameFault). unless_fault f value) (sym e)
+
+pub accepted_is : {A : Type 0} (found : Option GameFault) (given value : A) → found ≡ None → given ≡ value → Ok given ≡ unless_fault found value
+accepted_is found given value e is = ap Ok is ∙ ap (λ (f : Option GameFault). unless_fault f value) (sym e)
+
+-- what holds for a game that is not refused
+pub record IsClear (strays : Judge) (problem : Setup) (game : Game) : Type 0 where
+  pub unseen : first_seen (known_cards problem) 1 (six_cards game.opp) ≡ None
+  pub acts : acts_fault strays (start_of problem) (hands_of problem game.opp) (acts_back game) ≡ None
+  pub enough : length problem.played ≤ length (acts_back game)
+
+pub clear_parts : (strays : Judge) (problem : Setup) (game : Game) → game_fault_by strays problem game ≡ None → IsClear strays problem game
+clear_parts strays problem game e =
+    let first = first_seen (known_cards problem) 1 (six_cards game.opp) in
+    let acts = acts_fault strays (start_of problem) (hands_of problem game.opp) (acts_back game) in
+    let parts = option_or_none (deal_fault first) (option_or acts (few_fault problem.played game.acts.items)) e in
+    let rest = option_or_none acts (few_fault problem.played game.acts.items) parts.1 in
+    let enough = acts_enough problem.played game.acts.items rest.1 in
+    let long = length-reverse game.acts.items in
+    record { unseen = first_seen_none first parts.0; acts = rest.0; enough = omega (arith, enough, long) }
+
+-- if no act is refused, the opponent's cards among the acts are of his hold
+held_hand : (hands : Hands) (past : List Move) (card : ℕ) → has (cards_left hands Opponent past) card ≡ true → has hands.opponent card ≡ true
+held_hand hands past card h = has-filter (λ c. not (has (cards_of past) c)) hands.opponent card h
+
+take_held : (hands : Hands) (mover side : Side) (what : Move) (past : List Move) (first : ℕ) → side ≡ mover → side ≡ Opponent → what ≡ move.Card first →
+    MayTake hands mover what past → has hands.opponent first ≡ true
+take_held hands mover side what past first at is was take =
+    let T : Side → Move → Type 0 = λ s m. MayTake hands s m past in
+    let S : Side → Type 0 = λ s. T s what in
+    let M : Move → Type 0 = λ m. T Opponent m in
+    held_hand hands past first (subst M was (subst S (sym at ∙ is) take)).0
+
+theirs_held : (strays : Judge) (start : Start) (hands : Hands) (acts : List Act) → acts_fault strays start hands acts ≡ None → (card : ℕ) →
+    has (cards_by Opponent acts) card ≡ true → has hands.opponent card ≡ true
+theirs_held strays start hands [] e card h = absurd (let no : false ≡ true = h in cc)
+theirs_held strays start hands (act ∷ before) e card h =
+    let past = filled_moves start (moves_of before) in
+    let parts = option_or_none (acts_fault strays start hands before) (act_fault strays start hands act past (length before + 1)) e in
+    let right = act_right strays start hands act past (length before + 1) parts.1 in
+    by_act act.side act.what refl refl right.side right.may.may_take (theirs_held strays start hands before parts.0 card) h
+  where
+    by_act : (side : Side) (what : Move) → act.side ≡ side → act.what ≡ what →
+        act.side ≡ mover (pone_of start) (letters_of (filled_moves start (moves_of before))) →
+        MayTake hands (mover (pone_of start) (letters_of (filled_moves start (moves_of before)))) act.what (filled_moves start (moves_of before)) →
+        (has (cards_by Opponent before) card ≡ true → has hands.opponent card ≡ true) → has (cards_by Opponent (record { side = side; what = what } ∷ before))
+        card ≡ true → has hands.opponent card ≡ true
+    by_act Owner what is was at take rest k = rest k
+    by_act Opponent move.Go is was at take rest k = rest k
+    by_act Opponent (move.Card first) is was at take rest k =
+        elim (or_cases (eqb first card) (has (cards_by Opponent before) card) k) [
+          | inl here ↦ ap (has hands.opponent) (sym (eqb-true first card here))
+              ∙ take_held hands (mover (pone_of start) (letters_of (filled_moves start (moves_of before)))) act.side act.what
+              (filled_moves start (moves_of before)) first at is was take
+          | inr there ↦ rest there
+        ]
+
+cards_more : (later before : List Act) (card : ℕ) → has (cards_by Opponent before) card ≡ true → has (cards_by Opponent (later ++ before)) card ≡ true
+cards_more [] before card h = h
+cards_more (act ∷ later) before card h = by_act act.side act.what (cards_more later before card h)
+  where
+    by_act : (side : Side) (what : Move) → has (cards_by Opponent (later ++ before)) card ≡ true →
+        has (cards_by Opponent (record { side = side; what = what } ∷ later ++ before)) card ≡ true
+    by_act Owner what rest = rest
+    by_act Opponent move.Go rest = rest
+    by_act Opponent (move.Card first) rest = or_right (eqb first card) (has (cards_by Opponent (later ++ before)) card) rest
+
+fixed_held : (strays : Judge) (problem : Setup) (game : Game) → acts_fault strays (start_of problem) (hands_of problem game.opp) (acts_back game) ≡ None →
+    BeginsAsPlayed problem (acts_back game) →
+    list_all (has game.opp.hold) (fixed_cards problem) ≡ true
+fixed_held strays problem game e begins =
+    all_from (has game.opp.hold) (fixed_cards problem)
+    (λ card h. theirs_held strays (start_of problem) (hands_of problem game.opp) (acts_back game) e card
+    (ap (λ (acts : List Act). has (cards_by Opponent acts) card) begins.parts ∙ cards_more begins.later (played_back problem) card h))
+
+-- if a game is not refused, its filled record is a record of it
+pub record_is : (strays : Judge) (problem : Setup) (game : Game) → IsSetup problem → AreSixCards game.opp →
+    ((played : List Move) → NoneStrays strays (pone_of (start_of problem)) played → NoneStrays (by_rules problem) (pone_of (start_of problem)) played) →
+    game_fault_by strays problem game ≡ None → IsRecordOf problem game (record_of problem game)
+record_is strays problem game is six plays e =
+    let start = start_of problem in
+    let hands = hands_of problem game.opp in
+    let clear = clear_parts strays problem game e in
+    let dealt = hands_dealt problem game.opp is six.held clear.unseen in
+    let filled = acts_filled strays start hands (acts_back game) (start_is problem is) dealt clear.acts in
+    let A : List Act → Type 0 = λ acts. AreAsPlayed problem.played acts in
+    let as_played = subst A filled (none_to problem (record_of problem game)
+    (plays (record_of problem game) (acts_stay strays start hands (acts_back game) clear.acts))) in
+    let begins = enough_begin problem (acts_back game) as_played clear.enough in
+    record {
+      deal = record { deal = deal_is problem game.opp six clear.unseen; fixed = fixed_held strays problem game clear.acts begins };
+      legal = legal_filled start hands (moves_of (acts_back game)) dealt (legal_acts strays start hands (acts_back game) clear.acts);
+      acts = filled;
+      begins = begins;
+    }
+
+-- if a game has a legal record without remarks, it is not refused
+pub no_fault_by : (strays : Judge) (problem : Setup) (game : Game) (played : List Move) → IsSetup problem → IsRecordOf problem game played →
+    NoneStrays strays (pone_of (start_of problem)) played → game_fault_by strays problem game ≡ None
+no_fault_by strays problem game played is of stays =
+    let start = start_of problem in
+    let hands = hands_of problem game.opp in
+    let none = deal_unseen problem game.opp of.deal.deal in
+    let dealt = hands_dealt problem game.opp is of.deal.deal.held none in
+    let enough = (begin_played problem (acts_back game) of.begins).1 in
+    let long = length-reverse game.acts.items in
+    no_fault_in_acts strays problem game none
+    (ap (acts_fault strays start hands) (sym of.acts) ∙ no_fault strays start hands played (start_is problem is) dealt of.legal stays)
+    ∙ enough_acts problem.played game.acts.items (omega (arith, enough, long))
+
+-- there is no remark on a record of the game by the opening alone
+pub none_remarked : (problem : Setup) (game : Game) (played : List Move) → IsRecordOf problem game played →
+    NoneStrays (by_rules problem) (pone_of (start_of problem)) played
+none_remarked problem game played of =
+    let A : List Act → Type 0 = λ acts. AreAsPlayed problem.played acts in
+    none_from problem played (subst A (sym of.acts) (begin_played problem (acts_back game) of.begins).0)
+
+pub no_fault_is : (problem : Setup) (game : Game) (played : List Move) → IsSetup problem → IsRecordOf problem game played → game_fault problem game ≡ None
+no_fault_is problem game played is of = no_fault_by (by_rules problem) problem game played is of (none_remarked problem game played of)
+
+pub not_recorded : (problem : Setup) (game : Game) (fault : GameFault) → IsSetup problem → game_fault problem game ≡ Some fault → (played : List Move) →
+    IsRecordOf problem game played → ⊥
+not_recorded problem game fault is e played of = let none = no_fault_is problem game played is of in differ (game_fault problem game) fault e none
+  where
+    differ : (found : Option GameFault) (some : GameFault) → found ≡ Some some → found ≡ None → ⊥
+    differ None some here there = cc
+    differ (Some found) some here there = cc

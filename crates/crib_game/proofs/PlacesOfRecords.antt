@@ -1,0 +1,131 @@
+-- The place of a plan along a filled record, and the visible turns that do not stray.
+use Rattle.std.proofs.Common.{◌≡◌, ℕ, zero, suc, Bool, true, false, cond, not, eqb, List, [], ◌∷◌, Option, Some, None, refl, sym, ap, ◌∙◌, inl, inr}
+use Rattle.std.specs.Prelude.{is_some}
+use Rattle.std.proofs.lemmas.Bool.{cases_Bool, eq-eqb, eqb-true, not-false}
+use Rattle.crib_cards.specs.Letters.{letter_of}
+use Rattle.crib_cards.specs.Start.{Start, pone_of}
+use Rattle.crib_cards.specs.declared.sides.Side.{Side}
+use Rattle.crib_cards.specs.declared.sides.Side.TheVariants.{Owner, Opponent}
+use Rattle.crib_cards.specs.declared.letters.Letter.TheVariants.{Go}
+use Rattle.crib_cards.specs.declared.moves.Move.{Move}
+use Rattle.crib_cards.specs.declared.moves.Move.TheVariants as move
+use Rattle.crib_play.specs.Record.{mover}
+use Rattle.crib_play.specs.Filled.{is_visible, is_silent_next}
+use Rattle.crib_play.specs.Legal.{letters_of}
+use Rattle.crib_play.specs.History.{with_silent_moves, filled_moves, act_by}
+use Rattle.crib_play.proofs.FilledRecords.{silent_stop, silent_go}
+use Rattle.crib_play.proofs.LegalRecords.{silent_unheard}
+use Rattle.crib_plan.specs.declared.plan.Next.{Next}
+use Rattle.crib_plan.specs.declared.plan.Node.{Node}
+use Rattle.crib_plan.specs.Places.{stated_card}
+use Rattle.crib_game.specs.Laws.{NoneStrays}
+use Rattle.crib_game.specs.Following.{place_after_turn, place_of, IsAsStated, Follows}
+use Rattle.crib_cards.specs.declared.moves.Act.{Act}
+use Rattle.crib_problem.specs.Setup.{Setup, start_of}
+use Rattle.crib_game.specs.declared.remark.Remark.TheVariants.{Fine, Astray}
+use Rattle.crib_game.specs.Replay.{remark_of, next_played, by_rules}
+use Rattle.crib_game.specs.Followed.{is_stated, strays_at, by_plan}
+
+-- ---- the place
+-- a silent go leaves the place
+go_stays : (plan : List Node) (side : Side) (visible : Bool) (place : Next) → visible ≡ false → place_after_turn plan side move.Go visible place ≡ place
+go_stays plan Owner visible place unseen = refl
+go_stays plan Opponent true place unseen = cc
+go_stays plan Opponent false place unseen = refl
+
+either : (b : Bool) (place other : Next) → other ≡ place → cond b place other ≡ place
+either true place other e = refl
+either false place other e = e
+
+pub place_gos : (n : ℕ) (plan : List Node) (played : List Act) (start : Start) (past : List Move) →
+    place_of plan played (pone_of start) (with_silent_moves n start past) ≡ place_of plan played (pone_of start) past
+place_gos zero plan played start past = refl
+place_gos (suc n) plan played start past =
+    let pone = pone_of start in
+    elim (cases_Bool (is_silent_next start (letters_of past))) [
+      | inl s ↦
+          ap (place_of plan played pone) (silent_go n start past s)
+          ∙ place_gos n plan played start (move.Go ∷ past)
+          ∙ either (is_some (next_played played pone past)) (place_of plan played pone past) (place_after_turn plan (mover pone (letters_of past)) move.Go
+          (is_visible pone Go (letters_of past)) (place_of plan played pone past))
+          (go_stays plan (mover pone (letters_of past)) (is_visible pone Go (letters_of past)) (place_of plan played pone past) (silent_unheard start past s))
+      | inr s ↦ ap (place_of plan played pone) (silent_stop (suc n) start past s)
+    ]
+
+-- a visible turn after the opening moves the place
+pub place_more : (plan : List Node) (played : List Act) (start : Start) (side : Side) (turn : Move) (seen : List Move) →
+    side ≡ mover (pone_of start) (letters_of (filled_moves start seen)) →
+    is_visible (pone_of start) (letter_of turn) (letters_of (filled_moves start seen)) ≡ true →
+    cond (is_some (next_played played (pone_of start) (filled_moves start seen))) (place_of plan played (pone_of start) (filled_moves start seen))
+    (place_after_turn plan side turn true (place_of plan played (pone_of start) (filled_moves start seen)))
+    ≡ place_of plan played (pone_of start) (filled_moves start (turn ∷ seen))
+place_more plan played start side turn seen is visible =
+    let past = filled_moves start seen in
+    let here = place_of plan played (pone_of start) past in
+    (λ i. cond (is_some (next_played played (pone_of start) past)) here (place_after_turn plan (is i) turn (sym visible i) here))
+    ∙ sym (place_gos 3 plan played start (turn ∷ past))
+
+-- ---- what is stated
+stated_is : (stated : Option ℕ) (card : ℕ) → not (is_stated stated card) ≡ false → stated ≡ Some card
+stated_is None card e = cc
+stated_is (Some stated) card e = ap Some (eqb-true stated card (not-false (eqb stated card) e))
+
+is_stated_one : (stated : Option ℕ) (card : ℕ) → stated ≡ Some card → not (is_stated stated card) ≡ false
+is_stated_one stated card e = ap (λ (s : Option ℕ). not (is_stated s card)) e ∙ ap not (eq-eqb card card refl)
+
+-- ---- a record follows a plan exactly where none of its visible turns strays
+as_stated : (plan : List Node) (place : Next) (pone side : Side) (turn : Move) (past : List Move) →
+    (is_visible pone (letter_of turn) (letters_of past) ≡ true → strays_at plan place side turn ≡ false) → IsAsStated plan place side turn
+as_stated plan place pone Owner (move.Card card) past none = stated_is (stated_card plan place) card (none refl)
+as_stated plan place pone Owner move.Go past none = tt
+as_stated plan place pone Opponent turn past none = tt
+
+not_strays : (plan : List Node) (place : Next) (side : Side) (turn : Move) → IsAsStated plan place side turn → strays_at plan place side turn ≡ false
+not_strays plan place Owner (move.Card card) is = is_stated_one (stated_card plan place) card is
+not_strays plan place Owner move.Go is = refl
+not_strays plan place Opponent turn is = refl
+
+plan_fine : (next : Option Act) (astray : Bool) (act : Act) → remark_of next false act ≡ Fine → (is_some next ≡ false → astray ≡ false) →
+    remark_of next astray act ≡ Fine
+plan_fine None astray act e f = ap (λ (b : Bool). cond b Astray Fine) (f refl)
+plan_fine (Some played) astray act e f = e
+
+rules_fine : (next : Option Act) (astray : Bool) (act : Act) → remark_of next astray act ≡ Fine → remark_of next false act ≡ Fine
+rules_fine None astray act e = refl
+rules_fine (Some played) astray act e = e
+
+not_astray : (next : Option Act) (astray : Bool) (act : Act) → remark_of next astray act ≡ Fine → is_some next ≡ false → astray ≡ false
+not_astray None true act e f = cc
+not_astray None false act e f = refl
+not_astray (Some played) astray act e f = cc
+
+module _ (problem : Setup) (plan : List Node) where
+  abbrev pone : Side
+  pone = pone_of (start_of problem)
+
+  pub follows_from : (played : List Move) → NoneStrays (by_plan plan problem) pone played → Follows plan problem.played pone played
+  follows_from [] none = tt
+  follows_from (turn ∷ past) none = (
+    follows_from past none.0,
+    λ later. as_stated plan (place_of plan problem.played pone past) pone (mover pone (letters_of past)) turn past
+        (λ seen. not_astray (next_played problem.played pone past) (strays_at plan (place_of plan problem.played pone past) (mover pone (letters_of past))
+        turn) (act_by pone turn past) (none.1 seen) later),
+  )
+
+  pub as_played_from : (played : List Move) → NoneStrays (by_plan plan problem) pone played → NoneStrays (by_rules problem) pone played
+  as_played_from [] none = tt
+  as_played_from (turn ∷ past) none = (
+    as_played_from past none.0,
+    λ seen. rules_fine (next_played problem.played pone past) (strays_at plan (place_of plan problem.played pone past) (mover pone (letters_of past)) turn)
+        (act_by pone turn past) (none.1 seen),
+  )
+
+  pub none_strays_from : (played : List Move) → Follows plan problem.played pone played → NoneStrays (by_rules problem) pone played →
+      NoneStrays (by_plan plan problem) pone played
+  none_strays_from [] follows none = tt
+  none_strays_from (turn ∷ past) follows none = (
+    none_strays_from past follows.0 none.0,
+    λ seen. plan_fine (next_played problem.played pone past) (strays_at plan (place_of plan problem.played pone past) (mover pone (letters_of past)) turn)
+        (act_by pone turn past) (none.1 seen)
+        (λ later. not_strays plan (place_of plan problem.played pone past) (mover pone (letters_of past)) turn (follows.1 later)),
+  )

@@ -1,0 +1,28 @@
+-- How a plan is followed in the code: by its place, the round, and the cards that are left to the owner.
+use Rattle.std.specs.Prelude.{ℕ, Bool, not, ◌&&◌, List, Option}
+use Rattle.std.specs.List.{list_any}
+use Rattle.crib_cards.specs.declared.sides.Dealt.{Dealt}
+use Rattle.crib_cards.specs.declared.sides.Side.TheVariants.{Owner}
+use Rattle.crib_play.specs.Record.{count_of}
+use Rattle.crib_play.specs.Score.{asks}
+use Rattle.crib_play.specs.Fitting.{fits_at}
+use Rattle.crib_play.specs.Standing.{Standing}
+use Rattle.crib_problem.specs.Setup.{Setup}
+use Rattle.crib_game.specs.declared.ending.Ending.{Ending}
+use Rattle.crib_game.specs.Replay.{outcome_if_done}
+use Rattle.crib_game.specs.Following.{is_playable_at}
+use Rattle.crib_game.specs.Private.Judging.{is_over, full_at}
+use Rattle.crib_game.specs.Followed.{ending_without}
+
+-- whether the owner is stuck in a round: he is asked and a card of his fits, but no card is stated that he holds and
+-- that fits
+abbrev pub is_stuck_at : Standing → List ℕ → Option ℕ → Bool
+is_stuck_at table cards stated =
+    asks table.asked Owner && list_any (fits_at (count_of table.pile)) cards
+    && not (is_playable_at (count_of table.pile) cards stated)
+
+-- how a game stands, by its round, the cards that are left to the owner, and the stated card
+abbrev pub ending_at : Setup → Dealt → Standing → List ℕ → Option ℕ → Ending
+ending_at problem dealt table cards stated =
+    ending_without (outcome_if_done (is_over table.asked) (full_at problem dealt table))
+    (is_stuck_at table cards stated)

@@ -1,0 +1,257 @@
+-- Each hidden deal that agrees with a history passes, and the letter that it shows next can come.
+use Rattle.std.proofs.Common.{◌≡◌, ◌⊎◌, ℕ, ◌+◌, ◌<◌, ◌≤◌, Bool, true, false, not, ◌&&◌, ◌||◌, eqb, leb, List, map, length, count_by, refl, sym, ap, subst, ◌∙◌}
+use Rattle.std.proofs.Common.{inl, inr, arith}
+use Rattle.std.proofs.lemmas.Bool.{cases_lt, cond-false, and_parts, and_from, or_cases, or_left, or_right, eq-eqb, ne_eqb, leb-true}
+use Rattle.std.proofs.lemmas.Bool.{le-leb}
+use Rattle.crib_cards.specs.Cards.{IsRank, rank_of, rank_value, card_value}
+use Rattle.crib_cards.specs.Sets.{has, rank_counts, count_at, count_rank}
+use Rattle.crib_cards.specs.Start.{Start, pone_of, Hands}
+use Rattle.crib_cards.specs.declared.sides.Side.{Side}
+use Rattle.crib_cards.specs.declared.sides.Side.TheVariants.{Owner, Opponent}
+use Rattle.crib_cards.specs.declared.sides.Dealt.{Dealt}
+use Rattle.crib_cards.specs.declared.letters.Letter.{Letter}
+use Rattle.crib_cards.specs.declared.letters.Letter.TheVariants.{Seen, Go}
+use Rattle.crib_cards.specs.Letters.{letter_of}
+use Rattle.crib_cards.specs.declared.moves.Move.{Move}
+use Rattle.crib_cards.specs.declared.moves.Move.TheVariants as move
+use Rattle.crib_cards.proofs.CountLemmas.{count_at-rank_counts}
+use Rattle.crib_play.specs.declared.turns.Turn.TheVariants as turns
+use Rattle.crib_play.specs.Record.{Record, mover, is_heard, count_of, pile_of}
+use Rattle.crib_play.specs.Score.{is_done, side_asked, asked_after}
+use Rattle.crib_play.specs.Filled.{filled_record}
+use Rattle.crib_play.specs.Least.{least_of}
+use Rattle.crib_play.specs.Legal.{letters_of, cards_of, cards_left, MayTake, MayCome}
+use Rattle.crib_play.specs.History.{filled_moves, Event, Own, Theirs, event_by, history_letters}
+use Rattle.crib_play.proofs.FilledRecords.{filled_stops}
+use Rattle.crib_play.proofs.LegalRecords.{legal_filled, heard_next, taken_legal}
+use Rattle.crib_play.proofs.TurnFacts.{play_of, high_go}
+use Rattle.crib_play.proofs.LeastValues.{least_left}
+use Rattle.crib_problem.specs.Setup.{Setup, IsSetup, known_cards, unseen_of, start_of, hands_of, IsDealOf}
+use Rattle.crib_problem.proofs.StartLemmas.{started}
+use Rattle.crib_know.specs.Knowledge.{their_ranks, least_value, count_after, asked_now}
+use Rattle.crib_know.proofs.ChosenRanks.{ranks_of}
+use Rattle.crib_know.specs.Hidden.{passes_rank, passes}
+use Rattle.crib_know.proofs.Events.{Plays, plays_filled, LastPlay}
+use Rattle.crib_know.proofs.CardsLeft.{remaining, left_remaining, left_and_played, has-filter_parts}
+use Rattle.crib_know.proofs.CardLists.{count_here, count_none_of, count_map, count_within, count_all_of, all_ranks_from, all_ranks}
+use Rattle.crib_know.proofs.Deals.{dealt_is, hold_unseen, hold_cards, hold_distinct}
+use Rattle.crib_cards.proofs.Members.{rank_is}
+
+-- ---- counts of a rank
+-- a hold has as many cards of a rank as it must have after some ranks were played
+pub record PassesRank (least : ℕ) (played : List ℕ) (hold : List ℕ) (rank : ℕ) : Type 0 where
+  pub enough : ranks_of played rank ≤ count_rank rank hold
+  pub high : (least ≤ rank_value rank) ⊎ (count_rank rank hold ≤ ranks_of played rank)
+
+abbrev pub PassesRanks : ℕ → List ℕ → List ℕ → Type 0
+PassesRanks least played hold = (rank : ℕ) → IsRank rank → PassesRank least played hold rank
+
+module _ (least : ℕ) (played hold : List ℕ) where
+  seen_is : (rank : ℕ) → IsRank rank → count_at (rank_counts played) rank ≡ ranks_of played rank
+  seen_is rank is = count_at-rank_counts played rank is
+
+  held_is : (rank : ℕ) → IsRank rank → count_at (rank_counts (map rank_of hold)) rank ≡ count_rank rank hold
+  held_is rank is = count_at-rank_counts (map rank_of hold) rank is ∙ count_map rank_of rank hold
+
+  one_from : (seen held value : ℕ) → seen ≤ held → (least ≤ value) ⊎ (held ≤ seen) → (leb seen held && (leb least value || leb held seen)) ≡ true
+  one_from seen held value enough (inl low) = and_from (leb seen held) (leb least value || leb held seen) (le-leb seen held enough)
+      (or_left (leb least value) (leb held seen) (le-leb least value low))
+  one_from seen held value enough (inr same) = and_from (leb seen held) (leb least value || leb held seen) (le-leb seen held enough)
+      (or_right (leb least value) (leb held seen) (le-leb held seen same))
+
+  one_to : (seen held value : ℕ) → (leb seen held && (leb least value || leb held seen)) ≡ true → (seen ≤ held) × ((least ≤ value) ⊎ (held ≤ seen))
+  one_to seen held value e =
+      let parts = and_parts (leb seen held) (leb least value || leb held seen) e in (
+        leb-true seen held parts.0,
+        elim (or_cases (leb least value) (leb held seen) parts.1) [
+          | inl low ↦ inl (leb-true least value low)
+          | inr same ↦
+              inr (leb-true held seen same)
+        ],
+      )
+
+  pub passes_from : PassesRanks least played hold → passes least (rank_counts played) hold ≡ true
+  passes_from each =
+      all_ranks_from (passes_rank least (rank_counts played) (rank_counts (map rank_of hold)))
+      (λ rank is.
+      let one = each rank is in
+      ap (λ (n : ℕ). leb n (count_at (rank_counts (map rank_of hold)) rank)
+      && (leb least (rank_value rank) || leb (count_at (rank_counts (map rank_of hold)) rank) n)) (seen_is rank is)
+      ∙ ap (λ (n : ℕ). leb (ranks_of played rank) n && (leb least (rank_value rank) || leb n (ranks_of played rank))) (held_is rank is)
+      ∙ one_from (ranks_of played rank) (count_rank rank hold) (rank_value rank) one.enough one.high)
+
+  pub passes_to : passes least (rank_counts played) hold ≡ true → PassesRanks least played hold
+  passes_to all rank is =
+      let here = all_ranks (passes_rank least (rank_counts played) (rank_counts (map rank_of hold))) all rank is in
+      let plain = one_to (ranks_of played rank) (count_rank rank hold) (rank_value rank)
+      (sym (ap (λ (n : ℕ). leb n (count_at (rank_counts (map rank_of hold)) rank)
+      && (leb least (rank_value rank) || leb (count_at (rank_counts (map rank_of hold)) rank) n)) (seen_is rank is)
+      ∙ ap (λ (n : ℕ). leb (ranks_of played rank) n && (leb least (rank_value rank) || leb n (ranks_of played rank))) (held_is rank is))
+      ∙ here) in
+      record { enough = plain.0; high = plain.1 }
+
+-- ---- turns
+pub theirs_is : (m : Side) (turn : Move) (letter : Letter) → event_by m turn ≡ Theirs letter → (m ≡ Opponent) × (letter_of turn ≡ letter)
+theirs_is Owner turn letter e = absurd cc
+theirs_is Opponent turn letter e = (refl, cc)
+
+pub own_is : (m : Side) (turn own : Move) → event_by m turn ≡ Own own → (m ≡ Owner) × (turn ≡ own)
+own_is Owner turn own e = (refl, cc)
+own_is Opponent turn own e = absurd cc
+
+-- whom the rules ask
+pub asked_is : (start : Start) (past : Record) (side : Side) → is_done start past ≡ false → mover (pone_of start) past ≡ side →
+    asked_after start past ≡ side_asked side
+asked_is start past side d m = cond-false (is_done start past) turns.Over (side_asked (mover (pone_of start) past)) d ∙ ap side_asked m
+
+-- ---- what the opponent may do next, as the owner sees it
+pub record MightPlay (problem : Setup) (history : List Event) (rank : ℕ) : Type 0 where
+  pub is : IsRank rank
+  pub asked : asked_now problem history ≡ turns.Opponent
+  pub fits : count_after problem history + rank_value rank ≤ 31
+  pub high : least_value problem history ≤ rank_value rank
+  pub free : ranks_of (their_ranks history) rank < count_rank rank (unseen_of problem)
+
+pub record MightGo (problem : Setup) (history : List Event) : Type 0 where
+  pub asked : asked_now problem history ≡ turns.Opponent
+  pub high : 22 ≤ count_after problem history
+
+module _ (problem : Setup) (setup : IsSetup problem) (dealt : Dealt) (deal : IsDealOf problem dealt) where
+  abbrev pub the_start : Start
+  the_start = start_of problem
+
+  abbrev pub the_hands : Hands
+  the_hands = hands_of problem dealt
+
+  -- no rank of the hold has more cards than are unseen
+  pub held_unseen : (rank : ℕ) → count_rank rank dealt.hold ≤ count_rank rank (unseen_of problem)
+  held_unseen rank =
+      count_within (λ card. eqb (rank_of card) rank) (λ card. not (has (known_cards problem) card)) dealt.hold (hold_distinct problem setup dealt deal)
+      (hold_unseen problem setup dealt deal)
+
+  module _ (history : List Event) (plays : Plays the_start the_hands history) where
+    abbrev pub past : List Move
+    past = filled_moves the_start plays.seen
+
+    abbrev pub left : List ℕ
+    left = cards_left the_hands Opponent past
+
+    pub left_played : (f : ℕ → Bool) → count_by (λ card. f (rank_of card)) left + count_by f (their_ranks history) ≡ count_by (λ card. f (rank_of card))
+        dealt.hold
+    left_played f =
+        ap (λ (cards : List ℕ). count_by (λ card. f (rank_of card)) cards + count_by f (their_ranks history))
+        (left_remaining the_start the_hands Opponent plays.seen)
+        ∙ ap (λ (h : List Event). count_by (λ card. f (rank_of card)) (remaining (cards_of plays.seen) dealt.hold) + count_by f (their_ranks h))
+        (sym plays.shows)
+        ∙ left_and_played the_start the_hands (dealt_is problem setup dealt deal) f plays.seen plays.legal
+
+    pub left_high : (card : ℕ) → has left card ≡ true → least_value problem history ≤ card_value card
+    left_high card held =
+        let low = least_left the_start the_hands Opponent past card
+        (legal_filled the_start the_hands plays.seen (dealt_is problem setup dealt deal) plays.legal) held in
+        let same = ap (least_of (pone_of the_start) Opponent) (plays_filled the_start the_hands history plays) in
+        omega (arith, low, same)
+
+    -- each hidden deal that agrees passes
+    pub agreeing_passes : PassesRanks (least_value problem history) (their_ranks history) dealt.hold
+    agreeing_passes rank is =
+        let all : count_rank rank left + ranks_of (their_ranks history) rank ≡ count_rank rank dealt.hold = left_played (λ other. eqb other rank) in
+        record {
+          enough = omega (arith, all);
+          high = elim (cases_lt (rank_value rank) (least_value problem history)) [
+            | inl low ↦
+                let none : count_rank rank left ≡ 0 = count_none_of (λ card. eqb (rank_of card) rank) left
+                (λ card held.
+                let high = left_high card held in
+                ne_eqb (rank_of card) rank (λ e. let value : card_value card ≡ rank_value rank = ap rank_value e in
+                absurd (omega (arith, high, value, low)))) in
+                inr (omega (arith, all, none))
+            | inr enough ↦ inl enough
+          ];
+        }
+
+    pub played_most : length (their_ranks history) ≤ 4
+    played_most =
+        let all = left_played (λ _. true) in
+        let played = count_all_of (their_ranks history) in
+        let held = count_all_of dealt.hold in
+        let four : length dealt.hold ≡ 4 = deal.deal.held in
+        omega (arith, all, played, held, four)
+
+    pub past_same : letters_of past ≡ filled_record the_start (history_letters history)
+    past_same = plays_filled the_start the_hands history plays
+
+    pub count_same : count_of (pile_of (letters_of past)) ≡ count_after problem history
+    count_same = ap (λ (letters : Record). count_of (pile_of letters)) past_same
+
+    pub mover_same : mover (pone_of the_start) (letters_of past) ≡ mover (pone_of the_start) (filled_record the_start (history_letters history))
+    mover_same = ap (mover (pone_of the_start)) past_same
+
+    now_asked : (side : Side) (turn : Move) → MayCome the_start the_hands turn past → mover (pone_of the_start) (letters_of past) ≡ side →
+        asked_now problem history ≡ side_asked side
+    now_asked side turn may m = ap (asked_after the_start) (sym past_same) ∙ asked_is the_start (letters_of past) side may.not_done m
+
+    -- a card of the opponent
+    covers_card : (card rank : ℕ) → MayCome the_start the_hands (move.Card card) past → mover (pone_of the_start) (letters_of past) ≡ Opponent →
+        rank_of card ≡ rank → MightPlay problem history rank
+    covers_card card rank may m is =
+        let T : Side → Type 0 = λ side. MayTake the_hands side (move.Card card) past in
+        let take : MayTake the_hands Opponent (move.Card card) past = subst T m may.may_take in
+        let held : has left card ≡ true = take.0 in
+        let value : card_value card ≡ rank_value rank = ap rank_value is in
+        let fit : count_of (pile_of (letters_of past)) + card_value card ≤ 31 = leb-true (count_of (pile_of (letters_of past)) + card_value card) 31 take.1 in
+        let low = left_high card held in
+        let all : count_rank rank left + ranks_of (their_ranks history) rank ≡ count_rank rank dealt.hold = left_played (λ other. eqb other rank) in
+        let one : 1 ≤ count_rank rank left = count_here (λ c. eqb (rank_of c) rank) left card held (eq-eqb (rank_of card) rank is) in
+        let most = held_unseen rank in
+        let same = count_same in
+        let R : ℕ → Type 0 = λ r. IsRank r in
+        record {
+          is = subst R is (rank_is card (hold_cards problem setup dealt deal card (held_hold card held)));
+          asked = now_asked Opponent (move.Card card) may m;
+          fits = omega (arith, fit, same, value);
+          high = omega (arith, low, value);
+          free = omega (arith, all, one, most);
+        }
+      where
+        held_hold : (card : ℕ) → has left card ≡ true → has dealt.hold card ≡ true
+        held_hold card held = (has-filter_parts (λ c. not (has (cards_of past) c)) dealt.hold card held).0
+
+    covers_pass : MayCome the_start the_hands move.Go past → mover (pone_of the_start) (letters_of past) ≡ Opponent → MightGo problem history
+    covers_pass may m =
+        let dealt_ok = dealt_is problem setup dealt deal in
+        let T : Side → Type 0 = λ side. MayTake the_hands side move.Go past in
+        let legal = legal_filled the_start the_hands plays.seen dealt_ok plays.legal in
+        let taken = taken_legal the_start the_hands plays.seen (started problem setup) dealt_ok plays.legal in
+        let heard = heard_next the_start (letters_of past) (filled_stops the_start plays.seen (started problem setup) taken) may.not_done in
+        let high = high_go the_start the_hands past (play_of the_start the_hands dealt_ok past legal) Opponent (subst T m may.may_take)
+        (ap (λ (side : Side). is_heard (pone_of the_start) side (letters_of past)) (sym m) ∙ heard) in
+        let same = count_same in
+        record { asked = now_asked Opponent move.Go may m; high = omega (arith, high, same) }
+
+  -- the letter that an agreeing deal shows next can come
+  module _ (history : List Event) where
+    pub covers_play : (rank : ℕ) → LastPlay the_start the_hands (Theirs (Seen rank)) history → MightPlay problem history rank
+    covers_play rank last = split last.turn last.shows last.may
+      where
+        split : (turn : Move) → event_by (mover (pone_of the_start) (filled_record the_start (history_letters history))) turn ≡ Theirs (Seen rank) →
+            MayCome the_start the_hands turn (past history last.before) → MightPlay problem history rank
+        split (move.Card card) e may =
+            let is = theirs_is (mover (pone_of the_start) (filled_record the_start (history_letters history))) (move.Card card) (Seen rank) e in
+            let same : rank_of card ≡ rank = cc (is.1) in
+            covers_card history last.before card rank may (mover_same history last.before ∙ is.0) same
+        split move.Go e may =
+            let is = theirs_is (mover (pone_of the_start) (filled_record the_start (history_letters history))) move.Go (Seen rank) e in
+            let no : Go ≡ Seen rank = is.1 in absurd cc
+
+    pub covers_go : LastPlay the_start the_hands (Theirs Go) history → MightGo problem history
+    covers_go last = split last.turn last.shows last.may
+      where
+        split : (turn : Move) → event_by (mover (pone_of the_start) (filled_record the_start (history_letters history))) turn ≡ Theirs Go →
+            MayCome the_start the_hands turn (past history last.before) → MightGo problem history
+        split (move.Card card) e may =
+            let is = theirs_is (mover (pone_of the_start) (filled_record the_start (history_letters history))) (move.Card card) Go e in
+            let no : Seen (rank_of card) ≡ Go = is.1 in absurd cc
+        split move.Go e may =
+            let is = theirs_is (mover (pone_of the_start) (filled_record the_start (history_letters history))) move.Go Go e in
+            covers_pass history last.before may (mover_same history last.before ∙ is.0)

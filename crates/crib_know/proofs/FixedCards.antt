@@ -1,0 +1,137 @@
+-- The fixed cards: those that the opponent played in the opening.
+use Rattle.std.proofs.Common.{◌≡◌, ℕ, true, false, not, ◌||◌, eqb, cond, List, [], ◌∷◌, map, Some, None, refl, ap, subst, inl}
+use Rattle.std.proofs.Common.{inr}
+use Rattle.std.specs.List.{AllByRecursion}
+use Rattle.std.proofs.lemmas.Bool.{cases_Bool, and_from, or_parts, or_cases, or_left, or_right, both_ways, eqb-true}
+use Rattle.crib_cards.specs.Cards.{IsCard, IsRank, rank_of}
+use Rattle.crib_cards.specs.Sets.{has, are_distinct}
+use Rattle.crib_cards.specs.declared.sides.Side.{Side}
+use Rattle.crib_cards.specs.declared.sides.Side.TheVariants.{Owner, Opponent}
+use Rattle.crib_cards.specs.declared.moves.Move.{Move}
+use Rattle.crib_cards.specs.declared.moves.Move.TheVariants as move
+use Rattle.crib_cards.specs.declared.moves.Act.{Act}
+use Rattle.crib_play.specs.Score.{asks}
+use Rattle.crib_problem.specs.Played.{OpeningBasis, cards_with, cards_played, cards_by, seen_by, shows_seen, move_refusal, turn_refusal, asked_by}
+use Rattle.crib_problem.specs.Played.{count_by_acts, own_left_by, least_by, is_over_by, act_refusal, AreAllowed}
+use Rattle.crib_problem.specs.Refusals.{same_card, not_turn, already_over}
+use Rattle.crib_problem.specs.Setup.{Setup, IsSetup, IsMove, known_cards, unseen_of, opening_basis_of, played_back, fixed_cards}
+use Rattle.crib_problem.proofs.AskedHolds.{none_of_two, none_of_either}
+use Rattle.crib_know.proofs.CardLists.{has_set_from}
+use Rattle.crib_know.proofs.CardsLeft.{eqb_same}
+use Rattle.crib_know.proofs.RankTotals.{AreRanks}
+use Rattle.crib_problem.proofs.HonestTurns.{moves_back}
+use Rattle.crib_cards.proofs.Members.{AreCards, rank_is}
+
+-- ---- what holds of an act that is allowed
+pub record Allowed (basis : OpeningBasis) (before : List Act) (act : Act) : Type 0 where
+  pub unseen : shows_seen (seen_by basis before) act.side act.what ≡ false
+  pub asked : not (asks (asked_by basis before) act.side) ≡ false
+  pub may : move_refusal (count_by_acts basis before) (own_left_by basis before) (least_by basis before) act.side act.what ≡ None
+
+pub allowed_parts : (basis : OpeningBasis) (before : List Act) (act : Act) → act_refusal basis before act ≡ None → Allowed basis before act
+allowed_parts basis before act e =
+    let turn = (none_of_either (turn_refusal (seen_by basis before) (asked_by basis before) (count_by_acts basis before) (own_left_by basis before)
+    (least_by basis before) act) (cond (is_over_by basis (act ∷ before)) (Some already_over) None) e).0 in
+    let parts = none_of_two (shows_seen (seen_by basis before) act.side act.what) (not (asks (asked_by basis before) act.side)) same_card not_turn
+    (move_refusal (count_by_acts basis before) (own_left_by basis before) (least_by basis before) act.side act.what) turn in
+    record { unseen = parts.0; asked = parts.1; may = parts.2 }
+
+-- ---- the opponent's cards among acts
+abbrev AllMoves : List Act → Type 0
+AllMoves acts = AllByRecursion (λ (act : Act). IsMove act.what) acts
+
+-- the opponent's cards among the acts are cards of the pack, all different, and none of the known ones
+pub record AreShown (basis : OpeningBasis) (acts : List Act) : Type 0 where
+  pub cards : AreCards (cards_by Opponent acts)
+  pub distinct : are_distinct (cards_by Opponent acts) ≡ true
+  pub unknown : (card : ℕ) → has (cards_by Opponent acts) card ≡ true → has basis.known card ≡ false
+  pub played : (card : ℕ) → has (cards_by Opponent acts) card ≡ true → has (cards_played acts) card ≡ true
+
+-- a move adds its card to those played
+played_on : (what : Move) (cards : List ℕ) (card : ℕ) → has cards card ≡ true → has (cards_with what cards) card ≡ true
+played_on (move.Card first) cards card h = or_right (eqb first card) (has cards card) h
+played_on move.Go cards card h = h
+
+pub shown_card : (basis : OpeningBasis) (before : List Act) (card : ℕ) → IsCard card → has (seen_by basis before) card ≡ false → (has basis.known card ≡ false)
+    ×
+    (has (cards_played before) card ≡ false)
+shown_card basis before card is e =
+    elim (cases_Bool (has basis.known card || has (cards_played before) card)) [
+      | inl seen ↦ absurd (both_ways (has (seen_by basis before) card) e (has_set_from (λ c. has basis.known c || has (cards_played before) c) card is seen))
+      | inr unseen ↦ or_parts (has basis.known card) (has (cards_played before) card) unseen
+    ]
+
+next_shown : (basis : OpeningBasis) (before : List Act) (side : Side) (what : Move) → AreShown basis before → IsMove what →
+    shows_seen (seen_by basis before) side what ≡ false → AreShown basis (record { side = side; what = what } ∷ before)
+next_shown basis before Owner what shown is e = record {
+  cards = shown.cards;
+  distinct = shown.distinct;
+  unknown = shown.unknown;
+  played = λ card h. played_on what (cards_played before) card (shown.played card h);
+}
+next_shown basis before Opponent move.Go shown is e = record { cards = shown.cards; distinct = shown.distinct; unknown = shown.unknown; played = shown.played }
+next_shown basis before Opponent (move.Card first) shown is e =
+    let parts = shown_card basis before first is e in
+    let theirs = cards_by Opponent before in
+    let fresh : has theirs first ≡ false = elim (cases_Bool (has theirs first)) [
+      | inl there ↦ absurd (both_ways (has (cards_played before) first) parts.1 (shown.played first there))
+      | inr out ↦ out
+    ] in
+    let C : ℕ → Type 0 = λ card. IsCard card in
+    let K : ℕ → Type 0 = λ card. has basis.known card ≡ false in
+    record {
+      cards = λ card h. elim (or_cases (eqb first card) (has theirs card) h) [
+        | inl here ↦ subst C (eqb-true first card here) is
+        | inr there ↦ shown.cards card there
+      ];
+      distinct = and_from (not (has theirs first)) (are_distinct theirs) (ap not fresh) shown.distinct;
+      unknown = λ card h. elim (or_cases (eqb first card) (has theirs card) h) [
+        | inl here ↦ subst K (eqb-true first card here) parts.0
+        | inr there ↦ shown.unknown card there
+      ];
+      played = λ card h. elim (or_cases (eqb first card) (has theirs card) h) [
+        | inl here ↦ or_left (eqb first card) (has (cards_played before) card) here
+        | inr there ↦ or_right (eqb first card) (has (cards_played before) card) (shown.played card there)
+      ];
+    }
+
+pub are_shown : (basis : OpeningBasis) (acts : List Act) → AllMoves acts → AreAllowed basis acts → AreShown basis acts
+are_shown basis [] moves allowed = record {
+  cards = λ card h. absurd (both_ways false refl h);
+  distinct = refl;
+  unknown =
+      λ card h. absurd (both_ways false refl h);
+  played = λ card h. absurd (both_ways false refl h);
+}
+are_shown basis (act ∷ before) moves allowed =
+    next_shown basis before act.side act.what (are_shown basis before moves.1 allowed.0) moves.0 (allowed_parts basis before act allowed.1).unseen
+
+-- ---- the fixed cards of a problem
+module _ (problem : Setup) (setup : IsSetup problem) where
+  pub back_moves : AllMoves (played_back problem)
+  back_moves = moves_back problem.played setup.moves
+
+  shown : AreShown (opening_basis_of problem) (played_back problem)
+  shown = are_shown (opening_basis_of problem) (played_back problem) back_moves setup.allowed
+
+  pub fixed_are_cards : AreCards (fixed_cards problem)
+  fixed_are_cards = shown.cards
+
+  pub fixed_distinct : are_distinct (fixed_cards problem) ≡ true
+  fixed_distinct = shown.distinct
+
+  pub fixed_unknown : (card : ℕ) → has (fixed_cards problem) card ≡ true → not (has (known_cards problem) card) ≡ true
+  fixed_unknown card h = ap not (shown.unknown card h)
+
+  pub fixed_unseen : (card : ℕ) → has (fixed_cards problem) card ≡ true → has (unseen_of problem) card ≡ true
+  fixed_unseen card h = has_set_from (λ c. not (has (known_cards problem) c)) card (shown.cards card h) (fixed_unknown card h)
+
+-- the ranks of cards are ranks
+pub ranks_are : (cards : List ℕ) → AreCards cards → AreRanks (map rank_of cards)
+ranks_are [] are rank h = absurd (both_ways false refl h)
+ranks_are (card ∷ cards) are rank h =
+    let R : ℕ → Type 0 = λ r. IsRank r in
+    elim (or_cases (eqb (rank_of card) rank) (has (map rank_of cards) rank) h) [
+      | inl here ↦ subst R (eqb-true (rank_of card) rank here) (rank_is card (are card (or_left (eqb card card) (has cards card) (eqb_same card))))
+      | inr there ↦ ranks_are cards (λ other k. are other (or_right (eqb card other) (has cards other) k)) rank there
+    ]

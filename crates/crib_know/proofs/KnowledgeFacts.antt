@@ -1,0 +1,269 @@
+-- What a knowledge says of the histories that it stands for.
+use Rattle.std.proofs.Common.{◌≡◌, ◌⊎◌, ℕ, ◌+◌, ◌<◌, ◌≤◌, true, false, not, eqb, ltb, List, [], ◌∷◌, ◌++◌, map, length, count_by, refl, sym, ap}
+use Rattle.std.proofs.Common.{subst, ◌∙◌, inl, inr, arith}
+use Rattle.std.proofs.lemmas.Bool.{cases_eq, cases_lt, and_parts, or_cases, both_ways, eqb-true, eq-eqb, ne_eqb, ltb-true}
+use Rattle.crib_cards.specs.Cards.{IsRank, rank_of}
+use Rattle.crib_cards.specs.Sets.{has, count_rank}
+use Rattle.crib_cards.specs.Start.{pone_of}
+use Rattle.crib_cards.specs.declared.sides.Side.{Side}
+use Rattle.crib_cards.specs.declared.sides.Side.TheVariants.{Owner, Opponent}
+use Rattle.crib_cards.specs.declared.sides.Dealt.{Dealt}
+use Rattle.crib_cards.specs.declared.letters.Letter.TheVariants.{Seen, Go}
+use Rattle.crib_cards.specs.declared.moves.Move.TheVariants as move
+use Rattle.crib_play.specs.declared.turns.Turn.TheVariants as turns
+use Rattle.crib_play.specs.Record.{mover, is_heard, has_said_go, cards_played}
+use Rattle.crib_play.specs.Score.{is_done}
+use Rattle.crib_play.specs.Filled.{filled_record}
+use Rattle.crib_play.specs.Standing.{AreTaken}
+use Rattle.crib_play.specs.Legal.{letters_of, cards_left}
+use Rattle.crib_play.specs.History.{Event, Own, Theirs, history_letters}
+use Rattle.crib_play.proofs.FilledRecords.{filled_stops}
+use Rattle.crib_play.proofs.LegalRecords.{heard_next, legal_filled, taken_legal}
+use Rattle.crib_play.proofs.TurnFacts.{play_of}
+use Rattle.crib_play.proofs.RecordsReached.{asked_mover}
+use Rattle.crib_cards.specs.declared.moves.Move.{Move}
+use Rattle.crib_cards.specs.declared.moves.Act.{Act}
+use Rattle.crib_play.specs.History.{event_of}
+use Rattle.crib_problem.specs.Played.{cards_by}
+use Rattle.crib_problem.specs.Setup.{Setup, IsSetup, unseen_of, start_of, hands_of, played_back, IsDealOf}
+use Rattle.crib_problem.proofs.StartLemmas.{started}
+use Rattle.crib_know.specs.Knowledge.{played_events, their_ranks, least_value, count_after, asked_now}
+use Rattle.crib_know.specs.Hidden.{IsPossible, CanShow, BeginsAfter, IsFirstDeal}
+use Rattle.crib_know.proofs.LedHistories.{MayCome, IsLed}
+use Rattle.crib_know.proofs.ChosenRanks.{ranks_of}
+use Rattle.crib_know.proofs.Events.{Plays, plays_of, plays_taken, play_more}
+use Rattle.crib_know.proofs.CardLists.{one_if, one_counted, none_counted, found_by, count_all_of}
+use Rattle.crib_know.proofs.Deals.{dealt_is, least_after_card, least_after_own, least_after_go_most, least_before}
+use Rattle.crib_know.proofs.AgreeingIsPassing.{PassesRanks, MightPlay, MightGo, past, left_played, past_same, mover_same, agreeing_passes, played_most}
+use Rattle.crib_know.proofs.AgreeingIsPassing.{held_unseen}
+use Rattle.crib_know.proofs.PassingIsAgreeing.{can_play_might, can_go_might, passing_plays, passing_agrees, agrees_passes, shows_card, shows_go, own_turn}
+use Rattle.crib_know.proofs.RankTotals.{AreRanks}
+use Rattle.crib_know.proofs.FirstDeals.{Needs, Fixes, first_dealt, hold_passes, first_is_deal, first_in_order, other_after}
+use Rattle.crib_cards.proofs.SetCounts.{count_cons}
+
+-- a number is a rank, or a list of ranks does not have it
+some_or_none : (rank : ℕ) (listed : List ℕ) → AreRanks listed → IsRank rank ⊎ (ranks_of listed rank ≡ 0)
+some_or_none rank listed are =
+    elim (cases_lt 0 (ranks_of listed rank)) [
+      | inl some ↦
+          let found = found_by (λ r. eqb r rank) listed (omega (arith, some)) in
+          let R : ℕ → Type 0 = λ r. IsRank r in
+          inl (subst R (eqb-true found.card rank found.passes) (are found.card found.held))
+      | inr none ↦ inr (omega arith)
+    ]
+
+-- one more card of a rank is seen, of which a card is unseen
+there_more : (rank other : ℕ) (seen unseen : List ℕ) → ranks_of seen rank < count_rank rank unseen → ranks_of seen other ≤ count_rank other unseen →
+    ranks_of (rank ∷ seen) other ≤ count_rank other unseen
+there_more rank other seen unseen free there =
+    let more = count_cons (λ r. eqb r other) rank seen in
+    elim (cases_eq rank other) [
+      | inl e ↦
+          let F : ℕ → Type 0 = λ r. ranks_of seen r < count_rank r unseen in
+          let here = subst F e free in
+          let one : one_if (eqb rank other) ≡ 1 = one_counted (eqb rank other) (eq-eqb rank other e) in
+          omega (arith, here, more, one)
+      | inr ne ↦ let none : one_if (eqb rank other) ≡ 0 = none_counted (eqb rank other) (ne_eqb rank other ne) in omega (arith, there, more, none)
+    ]
+
+-- the ranks that the opponent has played are those of his cards among the acts
+pub ranks_played : (acts : List Act) (rank : ℕ) → ranks_of (their_ranks (map event_of acts)) rank ≡ count_rank rank (cards_by Opponent acts)
+ranks_played [] rank = refl
+ranks_played (act ∷ before) rank = by_act act.side act.what (ranks_played before rank)
+  where
+    by_act : (side : Side) (what : Move) → ranks_of (their_ranks (map event_of before)) rank ≡ count_rank rank (cards_by Opponent before) →
+        ranks_of (their_ranks (map event_of (record { side = side; what = what } ∷ before))) rank ≡ count_rank rank
+        (cards_by Opponent (record { side = side; what = what } ∷ before))
+    by_act Owner what rest = rest
+    by_act Opponent move.Go rest = rest
+    by_act Opponent (move.Card card) rest =
+        let one = count_cons (λ r. eqb r rank) (rank_of card) (their_ranks (map event_of before)) in
+        let other = count_cons (λ c. eqb (rank_of c) rank) card (cards_by Opponent before) in
+        omega (arith, rest, one, other)
+
+-- later turns only add ranks
+ranks_more : (later history : List Event) (rank : ℕ) → ranks_of (their_ranks history) rank ≤ ranks_of (their_ranks (later ++ history)) rank
+ranks_more [] history rank = omega arith
+ranks_more (Own turn ∷ later) history rank = ranks_more later history rank
+ranks_more (Theirs Go ∷ later) history rank = ranks_more later history rank
+ranks_more (Theirs (Seen first) ∷ later) history rank =
+    let rest = ranks_more later history rank in
+    let one = count_cons (λ r. eqb r rank) first (their_ranks (later ++ history)) in
+    omega (arith, rest, one)
+
+-- a history that begins with the opening still does so with one more turn
+pub begin_more : (problem : Setup) (event : Event) (history : List Event) → BeginsAfter problem history → BeginsAfter problem (event ∷ history)
+begin_more problem event history begun = record { later = event ∷ begun.later; parts = ap (λ (h : List Event). event ∷ h) begun.parts }
+
+module _ (problem : Setup) (setup : IsSetup problem) where
+  -- ---- what a history asks of a hold
+  needs_play : (history : List Event) (rank : ℕ) → Needs problem setup (their_ranks history) (least_value problem history) →
+      CanShow problem history (Seen rank) → Needs problem setup (rank ∷ their_ranks history) (least_value problem (Theirs (Seen rank) ∷ history))
+  needs_play history rank needs can =
+      let dealt = can.0 in
+      let deal = can.1.0 in
+      let after : List Event = Theirs (Seen rank) ∷ history in
+      let plays = plays_of (start_of problem) (hands_of problem dealt) after (started problem setup) (dealt_is problem setup dealt deal) can.1.1 in
+      let might = can_play_might problem setup history rank can in
+      let are : AreRanks (rank ∷ their_ranks history) = λ other h. elim (or_cases (eqb rank other) (has (their_ranks history) other) h) [
+        | inl here ↦ let R : ℕ → Type 0 = λ r. IsRank r in subst R (eqb-true rank other here) might.is
+        | inr there ↦ needs.are other there
+      ] in
+      record {
+        are = are;
+        most = played_most problem setup dealt deal after plays;
+        there = λ other. there_of other are (agreeing_passes problem setup dealt deal after plays) (held_unseen problem setup dealt deal other);
+        least_most = (let same = least_after_card problem history rank in let low = needs.least_most in omega (arith, same, low));
+      }
+    where
+      there_of : (other : ℕ) → AreRanks (rank ∷ their_ranks history) →
+          PassesRanks (least_value problem (Theirs (Seen rank) ∷ history)) (rank ∷ their_ranks history) can.0.hold →
+          count_rank other can.0.hold ≤ count_rank other (unseen_of problem) →
+          ranks_of (rank ∷ their_ranks history) other ≤ count_rank other (unseen_of problem)
+      there_of other are passes most =
+          elim (some_or_none other (rank ∷ their_ranks history) are) [
+            | inl is ↦ let enough = (passes other is).enough in omega (arith, enough, most)
+            | inr none ↦ omega (arith, none)
+          ]
+
+  pub needs_history : (history : List Event) → IsLed problem history → Needs problem setup (their_ranks history) (least_value problem history)
+  needs_history [] led = record { are = λ rank h. absurd (both_ways false refl h); most = omega arith; there = λ rank. omega arith; least_most = omega arith }
+  needs_history (Own turn ∷ history) led =
+      let needs = needs_history history led.0 in
+      let low = needs.least_most in
+      let same = least_after_own problem history turn (owner_asked turn led.1) in
+      record { are = needs.are; most = needs.most; there = needs.there; least_most = omega (arith, low, same) }
+    where
+      owner_asked : (own : Move) → MayCome problem history (Own own) → asked_now problem history ≡ turns.Owner
+      owner_asked (move.Card card) may = may.0
+      owner_asked move.Go may = may.0
+  needs_history (Theirs (Seen rank) ∷ history) led = needs_play history rank (needs_history history led.0) led.1
+  needs_history (Theirs Go ∷ history) led =
+      let needs = needs_history history led.0 in
+      let high = (can_go_might problem setup history led.1).high in
+      let low = needs.least_most in
+      let most = least_after_go_most problem history in
+      record { are = needs.are; most = needs.most; there = needs.there; least_most = omega (arith, high, low, most) }
+
+  pub least_low : (history : List Event) → 1 ≤ least_value problem history
+  least_low [] = omega arith
+  least_low (event ∷ history) = let low = least_low history in let less = least_before problem history event in omega (arith, low, less)
+
+  -- the ranks of the fixed cards are among those that were seen
+  pub begun_fixes : (history : List Event) → BeginsAfter problem history → Fixes problem setup (their_ranks history)
+  begun_fixes history begun rank =
+      let more = ranks_more begun.later (played_events problem) rank in
+      let played = ranks_played (played_back problem) rank in
+      let whole = ap (λ (h : List Event). ranks_of (their_ranks h) rank) begun.parts in
+      omega (arith, more, played, whole)
+
+  -- ---- some deal agrees with it
+  module _ (history : List Event) (led : IsLed problem history) (begun : BeginsAfter problem history) where
+    abbrev fixes : Fixes problem setup (their_ranks history)
+    fixes = begun_fixes history begun
+
+    abbrev needs : Needs problem setup (their_ranks history) (least_value problem history)
+    needs = needs_history history led
+
+    abbrev first : Dealt
+    first = first_dealt problem setup (their_ranks history) (least_value problem history)
+
+    first_deal : IsDealOf problem first
+    first_deal = first_is_deal problem setup (their_ranks history) (least_value problem history) needs fixes
+
+    first_plays : Plays (start_of problem) (hands_of problem first) history
+    first_plays = passing_plays problem setup first first_deal history led (hold_passes problem setup (their_ranks history) (least_value problem history) needs
+        fixes)
+
+    pub are_taken : AreTaken (start_of problem) (history_letters history)
+    are_taken = plays_taken (start_of problem) (hands_of problem first) history first_plays (started problem setup) (dealt_is problem setup first first_deal)
+
+    -- a go of the owner comes at a count of at least 22
+    pub high_own_go : MayCome problem history (Own move.Go) → 22 ≤ count_after problem history
+    high_own_go may =
+        let last = own_turn problem setup first first_deal history first_plays move.Go may in
+        let plays = play_more (start_of problem) (hands_of problem first) (Own move.Go) history last in
+        (plays_taken (start_of problem) (hands_of problem first) (Own move.Go ∷ history) plays (started problem setup)
+        (dealt_is problem setup first first_deal)).1.may_show
+
+    -- an opponent who is asked holds a card
+    pub holds_one : asked_now problem history ≡ turns.Opponent → length (their_ranks history) < 4
+    holds_one asked =
+        let start = start_of problem in
+        let hands = hands_of problem first in
+        let dealt_ok = dealt_is problem setup first first_deal in
+        let moves = past problem setup first first_deal history first_plays in
+        let is_open = asked_mover start (filled_record start (history_letters history)) Opponent asked in
+        let mover_is : mover (pone_of start) (letters_of moves) ≡ Opponent = mover_same problem setup first first_deal history first_plays ∙ is_open.1 in
+        let not_done : is_done start (letters_of moves) ≡ false = ap (is_done start) (past_same problem setup first first_deal history first_plays)
+        ∙ is_open.0 in
+        let taken = taken_legal start hands first_plays.seen (started problem setup) dealt_ok first_plays.legal in
+        let heard = heard_next start (letters_of moves) (filled_stops start first_plays.seen (started problem setup) taken) not_done in
+        let mine : is_heard (pone_of start) Opponent (letters_of moves) ≡ true = ap (λ (side : Side). is_heard (pone_of start) side (letters_of moves))
+        (sym mover_is) ∙ heard in
+        let few = ltb-true (cards_played (pone_of start) Opponent (letters_of moves)) 4
+        (and_parts (ltb (cards_played (pone_of start) Opponent (letters_of moves)) 4) (not (has_said_go (pone_of start) Opponent (letters_of moves)))
+        mine).0 in
+        let whole = (play_of start hands dealt_ok moves (legal_filled start hands first_plays.seen dealt_ok first_plays.legal)).left Opponent in
+        let all = left_played problem setup first first_deal history first_plays (λ _. true) in
+        let four : length first.hold ≡ 4 = first_deal.deal.held in
+        count_up (length (cards_left hands Opponent moves)) (cards_played (pone_of start) Opponent (letters_of moves)) (length (their_ranks history))
+        (length first.hold) whole
+        (sym (ap (λ (n : ℕ). n + length (their_ranks history)) (count_all_of (cards_left hands Opponent moves)))
+        ∙ sym (ap (λ (n : ℕ). count_by (λ _. true) (cards_left hands Opponent moves) + n) (count_all_of (their_ranks history))) ∙ all
+        ∙ count_all_of first.hold)
+        four few
+      where
+        count_up : (left played ranks hold : ℕ) → left + played ≡ 4 → left + ranks ≡ hold → hold ≡ 4 → played < 4 → ranks < 4
+        count_up left played ranks hold a b c d = omega arith
+
+    -- ---- a letter can be shown exactly where it might come
+    pub shows_play : (rank : ℕ) → MightPlay problem history rank → CanShow problem history (Seen rank)
+    shows_play rank might =
+        let free = might.free in
+        let few = holds_one might.asked in
+        let more : Needs problem setup (rank ∷ their_ranks history) (least_value problem history) = record {
+          are = λ other h. elim (or_cases (eqb rank other) (has (their_ranks history) other) h) [
+            | inl here ↦ let R : ℕ → Type 0 = λ r. IsRank r in subst R (eqb-true rank other here) might.is
+            | inr there ↦ needs.are other there
+          ];
+          most = omega (arith, few);
+          there = λ other. there_more rank other (their_ranks history) (unseen_of problem) free (needs.there other);
+          least_most = needs.least_most;
+        } in
+        let fixes_more : Fixes problem setup (rank ∷ their_ranks history) =
+        begun_fixes (Theirs (Seen rank) ∷ history) (begin_more problem (Theirs (Seen rank)) history begun) in
+        let dealt = first_dealt problem setup (rank ∷ their_ranks history) (least_value problem history) in
+        shows_card problem setup dealt (first_is_deal problem setup (rank ∷ their_ranks history) (least_value problem history) more fixes_more) history rank
+        led might
+        (hold_passes problem setup (rank ∷ their_ranks history) (least_value problem history) more fixes_more)
+
+    pub shows_pass : MightGo problem history → CanShow problem history Go
+    shows_pass might =
+        let high = might.high in
+        let low = needs.least_most in
+        let most = least_after_go_most problem history in
+        let least = least_value problem (Theirs Go ∷ history) in
+        let more : Needs problem setup (their_ranks history) least = record {
+          are = needs.are;
+          most = needs.most;
+          there = needs.there;
+          least_most =
+              omega (arith, high, low, most);
+        } in
+        let dealt = first_dealt problem setup (their_ranks history) least in
+        shows_go problem setup dealt (first_is_deal problem setup (their_ranks history) least more fixes) history led might
+        (hold_passes problem setup (their_ranks history) least more fixes)
+
+    -- ---- the first deal
+    pub first_deal_is : IsFirstDeal problem history first
+    first_deal_is = record {
+      agrees = passing_agrees problem setup first first_deal history led (hold_passes problem setup (their_ranks history) (least_value problem history) needs
+          fixes);
+      in_order = first_in_order problem setup (their_ranks history) (least_value problem history) needs fixes;
+      first = λ other agrees. other_after problem setup (their_ranks history) (least_value problem history) needs fixes other agrees.0
+          (agrees_passes problem setup other agrees.0 history agrees);
+    }
+
+    pub led_possible : IsPossible problem history
+    led_possible = (first, first_deal_is.agrees)

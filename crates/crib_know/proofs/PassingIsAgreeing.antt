@@ -1,0 +1,256 @@
+-- Each hidden deal that passes agrees with the history.
+use Rattle.std.proofs.Common.{◌≡◌, ℕ, ◌+◌, ◌-◌, ◌≤◌, max, true, false, not, eqb, leb, List, [], ◌∷◌, refl, sym, ap, subst, ◌∙◌, inl, inr, arith}
+use Rattle.std.specs.List.{filter}
+use Rattle.std.proofs.lemmas.Bool.{cases_eq, eqb-true, eq-eqb, ne_eqb, leb-true, le-leb, lt-leb}
+use Rattle.crib_cards.specs.Cards.{rank_of, rank_value, card_value}
+use Rattle.crib_cards.specs.Sets.{has, count_rank}
+use Rattle.crib_cards.specs.Start.{Start, pone_of, Hands}
+use Rattle.crib_cards.specs.declared.sides.Side.{Side}
+use Rattle.crib_cards.specs.declared.sides.Side.TheVariants.{Owner, Opponent}
+use Rattle.crib_cards.specs.declared.sides.Dealt.{Dealt}
+use Rattle.crib_cards.specs.declared.letters.Letter.TheVariants.{Seen, Go}
+use Rattle.crib_cards.specs.declared.moves.Move.{Move}
+use Rattle.crib_cards.specs.declared.moves.Move.TheVariants as move
+use Rattle.crib_cards.proofs.SetFacts.{in_set_where}
+use Rattle.crib_play.specs.declared.turns.Turn.TheVariants as turns
+use Rattle.crib_play.specs.Record.{mover}
+use Rattle.crib_play.specs.Score.{is_done, side_asked, asked_after}
+use Rattle.crib_play.specs.Filled.{filled_record}
+use Rattle.crib_play.specs.Legal as legal
+use Rattle.crib_play.specs.Legal.{letters_of, cards_of, cards_left, fits, MayTake}
+use Rattle.crib_play.specs.History.{Event, Own, Theirs, event_by, history_letters}
+use Rattle.crib_play.proofs.CardLemmas.{none_passes}
+use Rattle.crib_play.proofs.RecordsReached.{asked_mover}
+use Rattle.crib_problem.specs.Setup.{Setup, IsSetup, start_of, hands_of, IsDealOf}
+use Rattle.crib_problem.proofs.StartLemmas.{started, hold_is_card}
+use Rattle.crib_know.specs.Knowledge.{own_cards, their_ranks, least_value, count_after, asked_now, own_left}
+use Rattle.crib_know.specs.Hidden.{AgreesWith, CanShow}
+use Rattle.crib_know.proofs.LedHistories.{MayCome, IsLed}
+use Rattle.crib_know.proofs.Events.{Plays, plays_of, plays_taken, agrees_of, LastPlay, last_play, play_more}
+use Rattle.crib_know.proofs.CardsLeft.{has-filter_parts, has-filter_from, left_remaining, own_played}
+use Rattle.crib_know.proofs.CardLists.{one_if, one_counted, none_counted, found_by, count_here, has_set_from}
+use Rattle.crib_know.proofs.Deals.{dealt_is, hold_cards, least_after_go, least_before}
+use Rattle.crib_know.proofs.ChosenRanks.{ranks_of}
+use Rattle.crib_know.proofs.AgreeingIsPassing.{PassesRanks, asked_is, MightPlay, MightGo, past, left, left_played, past_same, count_same, mover_same}
+use Rattle.crib_know.proofs.AgreeingIsPassing.{agreeing_passes, covers_play, covers_go}
+use Rattle.crib_problem.proofs.HonestTurns.{none_any}
+use Rattle.crib_cards.proofs.SetCounts.{count_cons}
+use Rattle.crib_cards.proofs.Members.{rank_is}
+
+module _ (problem : Setup) (setup : IsSetup problem) (dealt : Dealt) (deal : IsDealOf problem dealt) (history : List Event) where
+  abbrev start : Start
+  start = start_of problem
+
+  abbrev hands : Hands
+  hands = hands_of problem dealt
+
+  module _ (plays : Plays start hands history) where
+    abbrev before : List Move
+    before = past problem setup dealt deal history plays
+
+    own_unplayed : (card : ℕ) → has problem.hold card ≡ true → has (cards_of plays.seen) card ≡ has (own_cards history) card
+    own_unplayed card mine = own_played start hands (dealt_is problem setup dealt deal) card mine plays.seen plays.legal
+        ∙ ap (λ (h : List Event). has (own_cards h) card) plays.shows
+
+    pub own_to : (card : ℕ) → has (own_left problem history) card ≡ true → has (cards_left hands Owner before) card ≡ true
+    own_to card h =
+        let kept = in_set_where (has (filter_own history)) card h in
+        let parts = has-filter_parts (λ c. not (has (own_cards history) c)) problem.hold card kept.1 in
+        ap (λ (xs : List ℕ). has xs card) (left_remaining start hands Owner plays.seen)
+        ∙ has-filter_from (λ c. not (has (cards_of plays.seen) c)) problem.hold card parts.0 (ap not (own_unplayed card parts.0) ∙ parts.1)
+      where
+        filter_own : List Event → List ℕ
+        filter_own h = filter (λ c. not (has (own_cards h) c)) problem.hold
+
+    pub own_from : (card : ℕ) → has (cards_left hands Owner before) card ≡ true → has (own_left problem history) card ≡ true
+    own_from card h =
+        let parts = has-filter_parts (λ c. not (has (cards_of plays.seen) c)) problem.hold card
+        (ap (λ (xs : List ℕ). has xs card) (sym (left_remaining start hands Owner plays.seen)) ∙ h) in
+        has_set_from (has (filter (λ c. not (has (own_cards history) c)) problem.hold)) card (hold_is_card problem setup card parts.0)
+        (has-filter_from (λ c. not (has (own_cards history) c)) problem.hold card parts.0 (ap not (sym (own_unplayed card parts.0)) ∙ parts.1))
+
+    -- a turn of the side that is asked, as the last turn of a history
+    unfoldable pub turn_of : (side : Side) (turn : Move) → asked_now problem history ≡ side_asked side → MayTake hands side turn before →
+        LastPlay start hands (event_by side turn) history
+    turn_of side turn asked take =
+        let is_open = asked_mover start (filled_record start (history_letters history)) side asked in
+        let mover_is : mover (pone_of start) (letters_of before) ≡ side = mover_same problem setup dealt deal history plays ∙ is_open.1 in
+        let T : Side → Type 0 = λ s. MayTake hands s turn before in
+        record {
+          before = plays;
+          turn = turn;
+          shows = ap (λ (s : Side). event_by s turn) is_open.1;
+          may = record {
+            not_done = ap (is_done start) (past_same problem setup dealt deal history plays) ∙ is_open.0;
+            may_take = subst T (sym mover_is) take;
+          };
+        }
+
+    pub fits_same : (card : ℕ) → fits before card ≡ leb (count_after problem history + card_value card) 31
+    fits_same card = ap (λ (n : ℕ). leb (n + card_value card) 31) (count_same problem setup dealt deal history plays)
+
+    -- a turn of the owner that can come, as the last turn of a history
+    unfoldable pub own_turn : (turn : Move) → MayCome problem history (Own turn) → LastPlay start hands (Own turn) history
+    own_turn (move.Card card) may =
+        turn_of Owner (move.Card card) may.0 (own_to card may.1, fits_same card ∙ le-leb (count_after problem history + card_value card) 31 may.2)
+    own_turn move.Go may =
+        turn_of Owner move.Go may.0
+        (none_any (fits before) (cards_left hands Owner before)
+        (λ card held. fits_same card ∙ none_passes (λ c. leb (count_after problem history + card_value c) 31) (own_left problem history) card may.1
+        (own_from card held)))
+
+    -- a turn that the owner takes can come
+    own_asked : mover (pone_of start) (letters_of before) ≡ Owner → is_done start (letters_of before) ≡ false → asked_now problem history ≡ turns.Owner
+    own_asked m d = ap (asked_after start) (sym (past_same problem setup dealt deal history plays)) ∙ asked_is start (letters_of before) Owner d m
+
+    own_may_take : (turn : Move) → asked_now problem history ≡ turns.Owner → MayTake hands Owner turn before → MayCome problem history (Own turn)
+    own_may_take (move.Card card) asked take =
+        (asked, own_from card take.0, leb-true (count_after problem history + card_value card) 31 (sym (fits_same card) ∙ take.1))
+    own_may_take move.Go asked take = (
+      asked,
+      none_any (λ c. leb (count_after problem history + card_value c) 31) (own_left problem history)
+          (λ card held. sym (fits_same card) ∙ none_passes (fits before) (cards_left hands Owner before) card take (own_to card held)),
+    )
+
+    pub own_may : (turn : Move) → mover (pone_of start) (letters_of before) ≡ Owner → legal.MayCome start hands turn before → MayCome problem history (Own turn)
+    own_may turn m may =
+        let T : Side → Type 0 = λ side. MayTake hands side turn before in
+        own_may_take turn (own_asked m may.not_done) (subst T m may.may_take)
+
+    -- the opponent plays a card of a rank, with which his hold passes
+    unfoldable pub their_card : (rank : ℕ) → MightPlay problem history rank → PassesRanks (least_value problem history) (rank ∷ their_ranks history)
+        dealt.hold → LastPlay start hands (Theirs (Seen rank)) history
+    unfolding turn_of
+    their_card rank might passes =
+        let all : count_rank rank (left problem setup dealt deal history plays) + ranks_of (their_ranks history) rank ≡ count_rank rank dealt.hold =
+        left_played problem setup dealt deal history plays (λ other. eqb other rank) in
+        let enough = (passes rank might.is).enough in
+        let one : one_if (eqb rank rank) ≡ 1 = one_counted (eqb rank rank) (eq-eqb rank rank refl) in
+        let found = found_by (λ c. eqb (rank_of c) rank) (left problem setup dealt deal history plays)
+        (omega (arith, all, enough, count_cons (λ other. eqb other rank) rank (their_ranks history), one)) in
+        let is : rank_of found.card ≡ rank = eqb-true (rank_of found.card) rank found.passes in
+        let value : card_value found.card ≡ rank_value rank = ap rank_value is in
+        let last = turn_of Opponent (move.Card found.card) might.asked (
+          found.held,
+          fits_same found.card ∙ le-leb (count_after problem history + card_value found.card) 31 (let fit = might.fits in
+              omega (arith, fit, value)),
+        ) in
+        record { before = plays; turn = move.Card found.card; shows = last.shows ∙ ap (λ (r : ℕ). Theirs (Seen r)) is; may = last.may }
+
+    -- the opponent says go, and holds no card that fits
+    unfoldable pub their_go : MightGo problem history → PassesRanks (least_value problem (Theirs Go ∷ history)) (their_ranks history) dealt.hold →
+        LastPlay start hands (Theirs Go) history
+    their_go might passes =
+        turn_of Opponent move.Go might.asked
+        (none_any (fits before) (left problem setup dealt deal history plays) (λ card held. fits_same card ∙ too_high card held))
+      where
+        told : least_value problem (Theirs Go ∷ history) ≡ max (32 - count_after problem history) (least_value problem history)
+        told = least_after_go problem history (started problem setup)
+            (plays_taken start hands history plays (started problem setup) (dealt_is problem setup dealt deal)) might.asked
+
+        too_high : (card : ℕ) → has (left problem setup dealt deal history plays) card ≡ true → leb (count_after problem history + card_value card) 31 ≡ false
+        too_high card held =
+            let mine = (has-filter_parts (λ c. not (has (cards_of before) c)) dealt.hold card held).0 in
+            let passed = passes (rank_of card) (rank_is card (hold_cards problem setup dealt deal card mine)) in
+            let all : count_rank (rank_of card) (left problem setup dealt deal history plays) + ranks_of (their_ranks history) (rank_of card) ≡ count_rank
+            (rank_of card) dealt.hold =
+            left_played problem setup dealt deal history plays (λ other. eqb other (rank_of card)) in
+            let some : 1 ≤ count_rank (rank_of card) (left problem setup dealt deal history plays) =
+            count_here (λ c. eqb (rank_of c) (rank_of card)) (left problem setup dealt deal history plays) card held
+            (eq-eqb (rank_of card) (rank_of card) refl) in
+            elim passed.high [
+              | inl high ↦ let same = told in lt-leb (count_after problem history + card_value card) 31 (omega (arith, high, same))
+              | inr same ↦ absurd (omega (arith, same, all, some))
+            ]
+
+-- ---- fewer turns ask less of a hold
+pub shrink_card : (least : ℕ) (played hold : List ℕ) (card_rank : ℕ) → least ≤ rank_value card_rank → PassesRanks least (card_rank ∷ played) hold →
+    PassesRanks least played hold
+shrink_card least played hold card_rank high passes rank is =
+    let now = passes rank is in
+    let enough = now.enough in
+    let more = count_cons (λ other. eqb other rank) card_rank played in
+    elim (cases_eq card_rank rank) [
+      | inl e ↦ record { enough = omega (arith, enough, more); high = inl (let V : ℕ → Type 0 = λ r. least ≤ rank_value r in subst V e high) }
+      | inr ne ↦
+          let none : one_if (eqb card_rank rank) ≡ 0 = none_counted (eqb card_rank rank) (ne_eqb card_rank rank ne) in
+          record { enough = omega (arith, enough, more); high = elim now.high [ inl low ↦ inl low | inr same ↦ inr (omega (arith, same, more, none)) ] }
+    ]
+
+pub passes_before : (problem : Setup) (event : Event) (history : List Event) (played hold : List ℕ) →
+    PassesRanks (least_value problem (event ∷ history)) played hold → PassesRanks (least_value problem history) played hold
+passes_before problem event history played hold passes rank is =
+    let now = passes rank is in
+    let less = least_before problem history event in
+    record { enough = now.enough; high = elim now.high [ inl low ↦ inl (omega (arith, low, less)) | inr same ↦ inr same ] }
+
+-- ---- a letter that can be shown might come
+pub can_play_might : (problem : Setup) → IsSetup problem → (history : List Event) (rank : ℕ) → CanShow problem history (Seen rank) →
+    MightPlay problem history rank
+can_play_might problem setup history rank can =
+    let dealt = can.0 in
+    let deal = can.1.0 in
+    let plays = plays_of (start_of problem) (hands_of problem dealt) (Theirs (Seen rank) ∷ history) (started problem setup) (dealt_is problem setup dealt deal)
+    can.1.1 in
+    covers_play problem setup dealt deal history rank (last_play (start_of problem) (hands_of problem dealt) (Theirs (Seen rank)) history plays)
+
+pub can_go_might : (problem : Setup) → IsSetup problem → (history : List Event) → CanShow problem history Go → MightGo problem history
+can_go_might problem setup history can =
+    let dealt = can.0 in
+    let deal = can.1.0 in
+    let plays = plays_of (start_of problem) (hands_of problem dealt) (Theirs Go ∷ history) (started problem setup) (dealt_is problem setup dealt deal)
+    can.1.1 in
+    covers_go problem setup dealt deal history (last_play (start_of problem) (hands_of problem dealt) (Theirs Go) history plays)
+
+-- ---- each deal that passes agrees
+module _ (problem : Setup) (setup : IsSetup problem) (dealt : Dealt) (deal : IsDealOf problem dealt) where
+  pub passing_plays : (history : List Event) → IsLed problem history → PassesRanks (least_value problem history) (their_ranks history) dealt.hold →
+      Plays (start_of problem) (hands_of problem dealt) history
+  passing_plays [] led passes = record { seen = []; legal = tt; shows = refl }
+  passing_plays (Own turn ∷ history) led passes =
+      let before = passing_plays history led.0 (passes_before problem (Own turn) history (their_ranks history) dealt.hold passes) in
+      play_more (start_of problem) (hands_of problem dealt) (Own turn) history (own_turn problem setup dealt deal history before turn led.1)
+  passing_plays (Theirs (Seen rank) ∷ history) led passes =
+      let might = can_play_might problem setup history rank led.1 in
+      let here = passes_before problem (Theirs (Seen rank)) history (rank ∷ their_ranks history) dealt.hold passes in
+      let before = passing_plays history led.0 (shrink_card (least_value problem history) (their_ranks history) dealt.hold rank might.high here) in
+      play_more (start_of problem) (hands_of problem dealt) (Theirs (Seen rank)) history (their_card problem setup dealt deal history before rank might here)
+  passing_plays (Theirs Go ∷ history) led passes =
+      let might = can_go_might problem setup history led.1 in
+      let before = passing_plays history led.0 (passes_before problem (Theirs Go) history (their_ranks history) dealt.hold passes) in
+      play_more (start_of problem) (hands_of problem dealt) (Theirs Go) history (their_go problem setup dealt deal history before might passes)
+
+  pub agrees_from : (history : List Event) → Plays (start_of problem) (hands_of problem dealt) history → AgreesWith problem history dealt
+  agrees_from history plays = (
+    deal,
+    agrees_of (start_of problem) (hands_of problem dealt) history (started problem setup) (dealt_is problem setup dealt deal)
+        plays,
+  )
+
+  pub passing_agrees : (history : List Event) → IsLed problem history → PassesRanks (least_value problem history) (their_ranks history) dealt.hold →
+      AgreesWith problem history dealt
+  passing_agrees history led passes = agrees_from history (passing_plays history led passes)
+
+  pub agrees_passes : (history : List Event) → AgreesWith problem history dealt → PassesRanks (least_value problem history) (their_ranks history) dealt.hold
+  agrees_passes history agrees =
+      agreeing_passes problem setup dealt deal history (plays_of (start_of problem) (hands_of problem dealt) history (started problem setup)
+      (dealt_is problem setup dealt deal) agrees.1)
+
+  -- a letter that can come is shown by a hidden deal that passes with it
+  pub shows_card : (history : List Event) (rank : ℕ) → IsLed problem history → MightPlay problem history rank →
+      PassesRanks (least_value problem history) (rank ∷ their_ranks history) dealt.hold → CanShow problem history (Seen rank)
+  shows_card history rank led might passes =
+      let before = passing_plays history led (shrink_card (least_value problem history) (their_ranks history) dealt.hold rank might.high passes) in (
+        dealt,
+        agrees_from (Theirs (Seen rank) ∷ history) (play_more (start_of problem) (hands_of problem dealt) (Theirs (Seen rank)) history
+            (their_card problem setup dealt deal history before rank might passes)),
+      )
+
+  pub shows_go : (history : List Event) → IsLed problem history → MightGo problem history →
+      PassesRanks (least_value problem (Theirs Go ∷ history)) (their_ranks history) dealt.hold → CanShow problem history Go
+  shows_go history led might passes =
+      let before = passing_plays history led (passes_before problem (Theirs Go) history (their_ranks history) dealt.hold passes) in (
+        dealt,
+        agrees_from (Theirs Go ∷ history) (play_more (start_of problem) (hands_of problem dealt) (Theirs Go) history
+            (their_go problem setup dealt deal history before might passes)),
+      )

@@ -1,0 +1,317 @@
+-- The text that the code writes is the spelling, and no line is longer than the room that was made.
+use Rattle.std.proofs.Common.{◌≡◌, ℕ, zero, suc, ◌+◌, ◌*◌, ◌<◌, ◌≤◌, Bool, true, false, not, cond, eqb, List, [], ◌∷◌, ◌++◌, length, map, get_or, take, drop}
+use Rattle.std.proofs.Common.{codes, decimal, refl, sym, ap, subst, ◌∙◌, append_assoc, arith, inl, inr}
+use Rattle.std.proofs.lemmas.Grind.{flat_map-append}
+use Rattle.std.specs.List.{flat_map, AllByRecursion}
+use Rattle.std.proofs.lemmas.Bool.{cases_Bool, cases_eq, eq-eqb, ne_eqb, and_parts, not-true, or_left, or_right}
+use Rattle.std.proofs.lemmas.List.{append-nil, length-append, take_more, drop_more}
+use Rattle.crib_cards.specs.Sets.{has, are_distinct}
+use Rattle.crib_cards.specs.CardText.{card_text}
+use Rattle.crib_text.specs.Spelling.{space, line_bytes, line_text, lines_text}
+use Rattle.crib_text.proofs.RoomLemmas.{five_digits}
+use Rattle.crib_plan.specs.declared.plan.Next.{Next}
+use Rattle.crib_plan.specs.declared.plan.Next.TheVariants.{End, To}
+use Rattle.crib_plan.specs.declared.plan.Node.{Node}
+use Rattle.crib_plan.specs.declared.plan.Node.TheVariants.{Play, See}
+use Rattle.crib_plan.specs.Nodes.{most_nodes, IsLater, IsNode, AreNodes, ArePlan}
+use Rattle.crib_plan.specs.Spelling.{letter_bytes, colon, next_word, leads_to, letters_to, branch_word, nodes_of, node_line}
+use Rattle.crib_plan.specs.Private.Spelling.{seen_after, spaced_branch}
+use Rattle.crib_plan.specs.Spelling.{node_lines, plan_lines, plan_text}
+use Rattle.crib_plan.proofs.BranchReadIsSpelled.{nodes_in}
+use Rattle.crib_plan.proofs.LeadsTo.{leads, nodes_of-append, has-seen_after}
+
+-- the letters that are still to be written
+pub letters_next : (node : ℕ) (letters : List ℕ) (nexts : List Next) (i : ℕ) (d : Next) → i < length letters → i < length nexts
+    → letters_to node (drop i letters) (drop i nexts) ≡ cond (leads_to node (get_or nexts i d))
+    (get_or letters i 0 ∷ letters_to node (drop (i + 1) letters) (drop (i + 1) nexts)) (letters_to node (drop (i + 1) letters) (drop (i + 1) nexts))
+letters_next node [] nexts i d inside inside2 = absurd (omega arith)
+letters_next node (letter ∷ letters) [] i d inside inside2 = absurd (omega arith)
+letters_next node (letter ∷ letters) (next ∷ nexts) zero d inside inside2 = refl
+letters_next node (letter ∷ letters) (next ∷ nexts) (suc i) d inside inside2 =
+    let k : suc i + 1 ≡ suc (i + 1) = omega arith in
+    rw k (letters_next node letters nexts i d (omega arith) (omega arith))
+
+pub letters_here : (node : ℕ) (letters : List ℕ) (nexts : List Next) (i : ℕ) (d : Next) → i < length letters → i < length nexts →
+    leads_to node (get_or nexts i d) ≡ true
+    → letters_to node (drop i letters) (drop i nexts) ≡ get_or letters i 0 ∷ letters_to node (drop (i + 1) letters) (drop (i + 1) nexts)
+letters_here node letters nexts i d inside inside2 e =
+    letters_next node letters nexts i d inside inside2
+    ∙ ap (λ (b : Bool). cond b (get_or letters i 0 ∷ letters_to node (drop (i + 1) letters) (drop (i + 1) nexts))
+    (letters_to node (drop (i + 1) letters) (drop (i + 1) nexts))) e
+
+pub letters_past : (node : ℕ) (letters : List ℕ) (nexts : List Next) (i : ℕ) (d : Next) → i < length letters → i < length nexts →
+    leads_to node (get_or nexts i d) ≡ false
+    → letters_to node (drop i letters) (drop i nexts) ≡ letters_to node (drop (i + 1) letters) (drop (i + 1) nexts)
+letters_past node letters nexts i d inside inside2 e =
+    letters_next node letters nexts i d inside inside2
+    ∙ ap (λ (b : Bool). cond b (get_or letters i 0 ∷ letters_to node (drop (i + 1) letters) (drop (i + 1) nexts))
+    (letters_to node (drop (i + 1) letters) (drop (i + 1) nexts))) e
+
+-- what is left to write after a piece was written
+pub piece_items : (old now new piece left rest total : List ℕ) → new ≡ now ++ piece → left ≡ piece ++ rest → now ++ left ≡ old ++ total → new ++ rest ≡ old
+    ++ total
+piece_items old now new piece left rest total is parts so_far =
+    ap (λ (bs : List ℕ). bs ++ rest) is ∙ append_assoc now piece rest ∙ ap (λ (bs : List ℕ). now ++ bs) (sym parts) ∙ so_far
+
+pub piece_len : (piece left rest : List ℕ) → left ≡ piece ++ rest → length left ≡ length piece + length rest
+piece_len piece left rest parts = ap length parts ∙ length-append piece rest
+
+-- the nodes that are still to be written, after some branches
+pub seen_after-append : (before : List ℕ) (xs ys : List Next) → seen_after before (xs ++ ys) ≡ seen_after (seen_after before xs) ys
+seen_after-append before [] ys = refl
+seen_after-append before (End ∷ xs) ys = seen_after-append before xs ys
+seen_after-append before (To node ∷ xs) ys =
+    elim (cases_Bool (has before node)) [
+      | inl e ↦ rw e (seen_after-append before xs ys)
+      | inr e ↦ rw e (seen_after-append (node ∷ before) xs ys)
+    ]
+
+-- one branch of the list
+one_here : (nexts : List Next) (i : ℕ) (d : Next) → i < length nexts → take 1 (drop i nexts) ≡ get_or nexts i d ∷ []
+one_here nexts i d inside = ap (take 1) (drop_more nexts i d inside)
+
+take_one : (nexts : List Next) (i : ℕ) → i < length nexts → take (i + 1) nexts ≡ take i nexts ++ take 1 (drop i nexts)
+take_one nexts i inside = take_more nexts i End inside ∙ ap (λ (ns : List Next). take i nexts ++ ns) (sym (one_here nexts i End inside))
+
+drop_one : (nexts : List Next) (i : ℕ) → i < length nexts → drop i nexts ≡ take 1 (drop i nexts) ++ drop (i + 1) nexts
+drop_one nexts i inside = drop_more nexts i End inside ∙ ap (λ (ns : List Next). ns ++ drop (i + 1) nexts) (sym (one_here nexts i End inside))
+
+pub nodes_next : (nexts : List Next) (i : ℕ) → i < length nexts
+    → nodes_of (seen_after [] (take i nexts)) (drop i nexts) ≡ nodes_of (seen_after [] (take i nexts)) (take 1 (drop i nexts))
+    ++ nodes_of (seen_after [] (take (i + 1) nexts)) (drop (i + 1) nexts)
+nodes_next nexts i inside =
+    let before : List ℕ = seen_after [] (take i nexts) in
+    let after : seen_after before (take 1 (drop i nexts)) ≡ seen_after [] (take (i + 1) nexts) =
+    sym (ap (seen_after []) (take_one nexts i inside) ∙ seen_after-append [] (take i nexts) (take 1 (drop i nexts))) in
+    ap (nodes_of before) (drop_one nexts i inside) ∙ nodes_of-append before (take 1 (drop i nexts)) (drop (i + 1) nexts)
+    ∙ ap (λ (ns : List ℕ). nodes_of before (take 1 (drop i nexts)) ++ nodes_of ns (drop (i + 1) nexts)) after
+
+-- the words of the branches that are still to be written
+pub words_next : (all nexts : List Next) (i : ℕ) → i < length nexts
+    → flat_map (spaced_branch all) (nodes_of (seen_after [] (take i nexts)) (drop i nexts))
+    ≡ flat_map (spaced_branch all) (nodes_of (seen_after [] (take i nexts)) (take 1 (drop i nexts)))
+    ++ flat_map (spaced_branch all) (nodes_of (seen_after [] (take (i + 1) nexts)) (drop (i + 1) nexts))
+words_next all nexts i inside = ap (flat_map (spaced_branch all)) (nodes_next nexts i inside) ∙ flat_map-append (spaced_branch all) _ _
+
+pub words_next-len : (all nexts : List Next) (i : ℕ) → i < length nexts
+    → length (flat_map (spaced_branch all) (nodes_of (seen_after [] (take i nexts)) (drop i nexts)))
+    ≡ length (flat_map (spaced_branch all) (nodes_of (seen_after [] (take i nexts)) (take 1 (drop i nexts)))) + length
+    (flat_map (spaced_branch all) (nodes_of (seen_after [] (take (i + 1) nexts)) (drop (i + 1) nexts)))
+words_next-len all nexts i inside = piece_len _ _ _ (words_next all nexts i inside)
+
+pub words_next-items : (old now new : List ℕ) (all : List Next) (i : ℕ) → i < length all → new ≡ now
+    ++ flat_map (spaced_branch all) (nodes_of (seen_after [] (take i all)) (take 1 (drop i all)))
+    → now ++ flat_map (spaced_branch all) (nodes_of (seen_after [] (take i all)) (drop i all)) ≡ old ++ flat_map (spaced_branch all) (nodes_of [] all)
+    → new ++ flat_map (spaced_branch all) (nodes_of (seen_after [] (take (i + 1) all)) (drop (i + 1) all)) ≡ old
+    ++ flat_map (spaced_branch all) (nodes_of [] all)
+words_next-items old now new all i inside is so_far =
+    piece_items old now new (flat_map (spaced_branch all) (nodes_of (seen_after [] (take i all)) (take 1 (drop i all))))
+    (flat_map (spaced_branch all) (nodes_of (seen_after [] (take i all)) (drop i all)))
+    (flat_map (spaced_branch all) (nodes_of (seen_after [] (take (i + 1) all)) (drop (i + 1) all))) (flat_map (spaced_branch all) (nodes_of [] all)) is
+    (words_next all all i inside) so_far
+
+pub words-old : (all nexts : List Next) (i node : ℕ) (d : Next) → i < length nexts → get_or nexts i d ≡ To node → leads (take i nexts) node ≡ true →
+    flat_map (spaced_branch all) (nodes_of (seen_after [] (take i nexts)) (take 1 (drop i nexts))) ≡ []
+words-old all nexts i node d inside is led =
+    let before : List ℕ = seen_after [] (take i nexts) in
+    let seen : has before node ≡ true = has-seen_after [] (take i nexts) node ∙ led in
+    ap (λ (ns : List Next). flat_map (spaced_branch all) (nodes_of before ns)) (one_here nexts i d inside ∙ ap (λ (x : Next). x ∷ []) is) ∙ rw seen refl
+
+pub words-new : (all nexts : List Next) (i node : ℕ) (d : Next) → i < length nexts → get_or nexts i d ≡ To node → leads (take i nexts) node ≡ false
+    → flat_map (spaced_branch all) (nodes_of (seen_after [] (take i nexts)) (take 1 (drop i nexts))) ≡ spaced_branch all node
+words-new all nexts i node d inside is led =
+    let before : List ℕ = seen_after [] (take i nexts) in
+    let seen : has before node ≡ false = has-seen_after [] (take i nexts) node ∙ led in
+    ap (λ (ns : List Next). flat_map (spaced_branch all) (nodes_of before ns)) (one_here nexts i d inside ∙ ap (λ (x : Next). x ∷ []) is)
+    ∙ rw seen (append-nil (spaced_branch all node))
+
+-- the numbers of nodes in a plan are below 65,536
+pub small_nodes : (place : ℕ) (nexts : List Next) → AllByRecursion (IsLater place most_nodes) nexts → (node : ℕ) → leads nexts node ≡ true → node < 65536
+small_nodes place [] all node e = absurd cc
+small_nodes place (End ∷ nexts) all node e = small_nodes place nexts all.1 node e
+small_nodes place (To other ∷ nexts) all node e =
+    elim (cases_eq other node) [
+      | inl is ↦ (let h = all.0.1 in omega arith)
+      | inr differs ↦ (let f : leads nexts node ≡ true = rw (ne_eqb other node differs) at e in small_nodes place nexts all.1 node f)
+    ]
+
+all_fewer : (place count more : ℕ) → count ≤ more → (nexts : List Next) → AllByRecursion (IsLater place count) nexts → AllByRecursion (IsLater place more) nexts
+all_fewer place count more fewer [] all = tt
+all_fewer place count more fewer (End ∷ nexts) all = (tt, all_fewer place count more fewer nexts all.1)
+all_fewer place count more fewer (To node ∷ nexts) all = ((all.0.0, let h = all.0.1 in omega arith), all_fewer place count more fewer nexts all.1)
+
+pub node_fewer : (place count more : ℕ) → count ≤ more → (node : Node) → IsNode place count node → IsNode place more node
+node_fewer place count more fewer (Play card End) is = is
+node_fewer place count more fewer (Play card (To node)) is = (is.0, (is.1.0, let h = is.1.1 in omega arith))
+node_fewer place count more fewer (See nexts) is = (is.0, all_fewer place count more fewer nexts is.1)
+
+node_there : (place count : ℕ) (nodes : List Node) (i : ℕ) (d : Node) → AreNodes place count nodes → i < length nodes →
+    IsNode (place + i) count (get_or nodes i d)
+node_there place count [] i d are inside = absurd (omega arith)
+node_there place count (node ∷ nodes) zero d are inside = let e : place ≡ place + 0 = omega arith in subst (λ (k : ℕ). IsNode k count node) e are.0
+node_there place count (node ∷ nodes) (suc i) d are inside =
+    let e : place + 1 + i ≡ place + suc i = omega arith in
+    subst (λ (k : ℕ). IsNode k count (get_or nodes i d)) e (node_there (place + 1) count nodes i d are.1 (omega arith))
+
+-- the node at a place of a plan
+pub plan_node : (nodes : List Node) (i : ℕ) (d : Node) → ArePlan nodes → i < length nodes → IsNode i most_nodes (get_or nodes i d)
+plan_node nodes i d plan inside =
+    let e : 0 + i ≡ i = omega arith in
+    node_fewer i (length nodes) most_nodes plan.0 (get_or nodes i d) (subst (λ (k : ℕ). IsNode k (length nodes) (get_or nodes i d)) e
+    (node_there 0 (length nodes) nodes i d plan.1 inside))
+
+-- ---- no line of branches is longer than 112 bytes
+
+total_letters : List ℕ → List ℕ → List Next → ℕ
+total_letters [] letters nexts = 0
+total_letters (node ∷ nodes) letters nexts = length (letters_to node letters nexts) + total_letters nodes letters nexts
+
+hits : List ℕ → Next → ℕ
+hits [] next = 0
+hits (node ∷ nodes) next = cond (leads_to node next) 1 0 + hits nodes next
+
+total_none : (nodes letters : List ℕ) → total_letters nodes letters [] ≡ 0
+unfolding total_letters
+total_none [] letters = refl
+total_none (node ∷ nodes) [] = omega (arith, total_none nodes [])
+total_none (node ∷ nodes) (letter ∷ letters) = omega (arith, total_none nodes (letter ∷ letters))
+
+total_empty : (nodes : List ℕ) (nexts : List Next) → total_letters nodes [] nexts ≡ 0
+unfolding total_letters
+total_empty [] nexts = refl
+total_empty (node ∷ nodes) nexts = omega (arith, total_empty nodes nexts)
+
+total_cons : (nodes : List ℕ) (letter : ℕ) (letters : List ℕ) (next : Next) (nexts : List Next) → total_letters nodes (letter ∷ letters) (next ∷ nexts)
+    ≡ hits nodes next + total_letters nodes letters nexts
+unfolding total_letters hits
+total_cons [] letter letters next nexts = refl
+total_cons (node ∷ nodes) letter letters next nexts =
+    let rest = total_cons nodes letter letters next nexts in
+    elim (cases_Bool (leads_to node next)) [
+      | inl e ↦ rw e (omega arith)
+      | inr e ↦ rw e (omega arith)
+    ]
+
+hits_end : (nodes : List ℕ) → hits nodes End ≡ 0
+unfolding hits
+hits_end [] = refl
+hits_end (node ∷ nodes) = omega (arith, hits_end nodes)
+
+hits_none : (nodes : List ℕ) (node : ℕ) → has nodes node ≡ false → hits nodes (To node) ≡ 0
+unfolding hits
+hits_none [] node none = refl
+hits_none (other ∷ nodes) node none =
+    elim (cases_eq other node) [
+      | inl is ↦ (let f : has (other ∷ nodes) node ≡ true = or_left (eqb other node) (has nodes node) (eq-eqb other node is) in absurd cc)
+      | inr differs ↦
+          let f : eqb other node ≡ false = ne_eqb other node differs in
+          let g : eqb node other ≡ false = ne_eqb node other (λ e. differs (sym e)) in
+          let rest : has nodes node ≡ false = rw f at none in
+          rw g (omega (arith, hits_none nodes node rest))
+    ]
+
+hits_one : (nodes : List ℕ) (next : Next) → are_distinct nodes ≡ true → hits nodes next ≤ 1
+unfolding hits
+hits_one nodes End distinct = omega (arith, hits_end nodes)
+hits_one [] (To node) distinct = omega arith
+hits_one (other ∷ nodes) (To node) distinct =
+    let parts = and_parts (not (has nodes other)) (are_distinct nodes) distinct in
+    elim (cases_eq node other) [
+      | inl is ↦
+          let none : has nodes node ≡ false = ap (has nodes) is ∙ not-true _ parts.0 in
+          let f : eqb node other ≡ true = eq-eqb node other is in
+          rw f (omega (arith, hits_none nodes node none))
+      | inr differs ↦
+          let f : eqb node other ≡ false = ne_eqb node other differs in
+          let rest = hits_one nodes (To node) parts.1 in
+          rw f (omega arith)
+    ]
+
+total_small : (nodes letters : List ℕ) (nexts : List Next) → are_distinct nodes ≡ true → total_letters nodes letters nexts ≤ length nexts
+total_small nodes letters [] distinct = omega (arith, total_none nodes letters)
+total_small nodes [] (next ∷ nexts) distinct = omega (arith, total_empty nodes (next ∷ nexts))
+total_small nodes (letter ∷ letters) (next ∷ nexts) distinct =
+    omega (arith, total_cons nodes letter letters next nexts, hits_one nodes next distinct, total_small nodes letters nexts distinct)
+
+old_nodes : (before : List ℕ) (nexts : List Next) (node : ℕ) → has before node ≡ true → has (nodes_of before nexts) node ≡ false
+old_nodes before [] node e = refl
+old_nodes before (End ∷ nexts) node e = old_nodes before nexts node e
+old_nodes before (To other ∷ nexts) node e =
+    elim (cases_Bool (has before other)) [
+      | inl h ↦ rw h (old_nodes before nexts node e)
+      | inr h ↦
+          elim (cases_eq other node) [
+            | inl is ↦ (let f : has before node ≡ false = ap (has before) (sym is) ∙ h in absurd cc)
+            | inr differs ↦ rw (h, ne_eqb other node differs) (old_nodes (other ∷ before) nexts node (or_right (eqb other node) (has before node) e))
+          ]
+    ]
+
+distinct_nodes : (before : List ℕ) (nexts : List Next) → are_distinct (nodes_of before nexts) ≡ true
+distinct_nodes before [] = refl
+distinct_nodes before (End ∷ nexts) = distinct_nodes before nexts
+distinct_nodes before (To node ∷ nexts) =
+    elim (cases_Bool (has before node)) [
+      | inl h ↦ rw h (distinct_nodes before nexts)
+      | inr h ↦
+          let none = old_nodes (node ∷ before) nexts node (or_left (eqb node node) (has before node) (eq-eqb node node refl)) in
+          rw (h, none) (distinct_nodes (node ∷ before) nexts)
+    ]
+
+few_nodes : (before : List ℕ) (nexts : List Next) → length (nodes_of before nexts) ≤ length nexts
+few_nodes before [] = omega arith
+few_nodes before (End ∷ nexts) = omega (arith, few_nodes before nexts)
+few_nodes before (To node ∷ nexts) =
+    elim (cases_Bool (has before node)) [
+      | inl h ↦ rw h (omega (arith, few_nodes before nexts))
+      | inr h ↦ rw h (omega (arith, few_nodes (node ∷ before) nexts))
+    ]
+
+-- each branch takes a space, its letters, a colon and a number
+words_len : (all : List Next) (nodes : List ℕ) → ((node : ℕ) → has nodes node ≡ true → node < 65536) →
+    length (flat_map (spaced_branch all) nodes) ≤ total_letters nodes letter_bytes all + 7 * length nodes
+unfolding total_letters
+words_len all [] small = omega arith
+words_len all (node ∷ nodes) small =
+    let here : node < 65536 = small node (or_left (eqb node node) (has nodes node) (eq-eqb node node refl)) in
+    let rest = words_len all nodes (λ other h. small other (or_right (eqb node other) (has nodes other) h)) in
+    let digits = five_digits node here in
+    let one : length (spaced_branch all node) ≡ length (letters_to node letter_bytes all) + length (decimal node) + 2 =
+    omega (arith, length-append (letters_to node letter_bytes all) (colon ∷ decimal node)) in
+    omega (arith, length-append (spaced_branch all node) (flat_map (spaced_branch all) nodes))
+
+pub branches_len : (nexts : List Next) → length nexts ≡ 14 → ((node : ℕ) → leads nexts node ≡ true → node < 65536) →
+    length (flat_map (spaced_branch nexts) (nodes_of [] nexts)) ≤ 112
+branches_len nexts long small =
+    let words = words_len nexts (nodes_of [] nexts) (λ node h. small node (nodes_in [] nexts node h)) in
+    omega (arith, total_small (nodes_of [] nexts) letter_bytes nexts (distinct_nodes [] nexts), few_nodes [] nexts)
+
+-- the text of a line is the pieces that the code writes
+pub play_text : (place card : ℕ) (next : Next) (old : List ℕ) → (((((old ++ decimal place) ++ codes " play ") ++ card_text card) ++ codes " ")
+    ++ next_word next) ++ codes "\n" ≡ old ++ line_text (node_line place (Play card next))
+play_text place card next old = simp append_assoc
+
+spaced_words : (all : List Next) (word : List ℕ) (nodes : List ℕ) → line_bytes (word ∷ map (branch_word all) nodes) ≡ word ++ flat_map (spaced_branch all) nodes
+spaced_words all word [] = sym (append-nil word)
+spaced_words all word (node ∷ nodes) = ap (λ (rest : List ℕ). word ++ space ∷ rest) (spaced_words all (branch_word all node) nodes)
+
+pub see_text : (place : ℕ) (nexts : List Next) (old : List ℕ) →
+    (((old ++ decimal place) ++ codes " see") ++ flat_map (spaced_branch nexts) (nodes_of [] nexts)) ++ codes "\n" ≡ old
+    ++ line_text (node_line place (See nexts))
+see_text place nexts old =
+    let words = spaced_words nexts (codes "see") (nodes_of [] nexts) in
+    rw words (simp append_assoc)
+
+-- the lines that are still to be written
+pub lines_next : (nodes : List Node) (i : ℕ) (d : Node) → i < length nodes → lines_text (node_lines i (drop i nodes)) ≡ line_text
+    (node_line i (get_or nodes i d)) ++ lines_text (node_lines (i + 1) (drop (i + 1) nodes))
+lines_next nodes i d inside = ap (λ (ns : List Node). lines_text (node_lines i ns)) (drop_more nodes i d inside)
+
+regroup : (a b c d : List ℕ) → ((([] ++ a) ++ b) ++ c) ++ d ≡ a ++ ((b ++ c) ++ d)
+regroup a b c d = simp append_assoc
+
+pub head_text : (plan : List Node) → ((([] ++ codes "plan 1\nnodes ") ++ decimal (length plan)) ++ codes "\n")
+    ++ lines_text (node_lines 0 plan) ≡ plan_text plan
+unfolding plan_text plan_lines
+head_text plan = regroup (codes "plan 1\nnodes ") (decimal (length plan)) (codes "\n") (lines_text (node_lines 0 plan))
+
+pub ruleset lines = (lines_next, head_text)

@@ -1,0 +1,48 @@
+-- Proves that the visible turns of a filled record are those that it was filled from.
+use Rattle.std.proofs.Common.{◌≡◌, ℕ, zero, suc, Bool, true, false, cond, not, List, [], ◌∷◌, refl, ap, ◌∙◌, inl, inr}
+use Rattle.std.proofs.lemmas.Bool.{cases_Bool, cond-true, cond-false, and_parts, not-true}
+use Rattle.crib_cards.specs.declared.letters.Letter.{Letter}
+use Rattle.crib_cards.specs.declared.letters.Letter.TheVariants.{Seen, Go}
+use Rattle.crib_cards.specs.Start.{Start, pone_of}
+use Rattle.crib_play.specs.Record.{Record, mover, is_heard}
+use Rattle.crib_play.specs.Score.{is_done}
+use Rattle.crib_play.specs.Filled.{visible_turns, is_silent_next, with_silent_gos, filled_record}
+use Rattle.crib_play.specs.Standing.{AreTaken, IsStart}
+use Rattle.crib_play.proofs.RecordStates.{heard_after}
+use Rattle.crib_play.proofs.RecordsReached.{Open, open_after, reached}
+
+visible_turns-gos : (n : ℕ) (start : Start) (past : Record) → visible_turns (pone_of start) (with_silent_gos n start past) ≡ visible_turns (pone_of start) past
+visible_turns-gos zero start past = refl
+visible_turns-gos (suc n) start past =
+    elim (cases_Bool (is_silent_next start past)) [
+      | inl is ↦
+          let quiet : is_heard (pone_of start) (mover (pone_of start) past) past ≡ false =
+          not-true _ (and_parts (not (is_heard (pone_of start) (mover (pone_of start) past) past)) (not (is_done start past)) is).0 in
+          ap (λ (b : Bool). visible_turns (pone_of start) (cond b (with_silent_gos n start (Go ∷ past)) past)) is
+          ∙ visible_turns-gos n start (Go ∷ past)
+          ∙ cond-false (is_heard (pone_of start) (mover (pone_of start) past) past) (Go ∷ visible_turns (pone_of start) past)
+          (visible_turns (pone_of start) past) quiet
+      | inr is ↦ ap (λ (b : Bool). visible_turns (pone_of start) (cond b (with_silent_gos n start (Go ∷ past)) past)) is
+    ]
+
+visible_turns-turn : (start : Start) (turn : Letter) (past : Record) → Open start past →
+    visible_turns (pone_of start) (turn ∷ past) ≡ turn ∷ visible_turns (pone_of start) past
+visible_turns-turn start (Seen rank) past o = refl
+visible_turns-turn start Go past o =
+    cond-true (is_heard (pone_of start) (mover (pone_of start) past) past) (Go ∷ visible_turns (pone_of start) past) (visible_turns (pone_of start) past)
+    (heard_after start (mover (pone_of start) past) past ∙ o.held)
+
+pub visible_turns-filled_record : (start : Start) (seen : List Letter) → IsStart start → AreTaken start seen →
+    visible_turns (pone_of start) (filled_record start seen) ≡ seen
+visible_turns-filled_record start [] is taken = refl
+visible_turns-filled_record start (turn ∷ seen) is taken =
+    visible_turns-gos 3 start (turn ∷ filled_record start seen)
+    ∙ visible_turns-turn start turn (filled_record start seen) (open_after start (filled_record start seen) (reached start seen is taken.0) taken.1.not_done)
+    ∙ ap (λ rest. turn ∷ rest) (visible_turns-filled_record start seen is taken.0)
+
+-- after a filled record the deal is done, or the side to move is heard
+pub heard-filled_record : (start : Start) (seen : List Letter) → IsStart start → AreTaken start seen → is_done start (filled_record start seen) ≡ false →
+    is_heard (pone_of start) (mover (pone_of start) (filled_record start seen)) (filled_record start seen) ≡ true
+heard-filled_record start seen is taken d =
+    heard_after start (mover (pone_of start) (filled_record start seen)) (filled_record start seen)
+    ∙ (open_after start (filled_record start seen) (reached start seen is taken) d).held

@@ -1,0 +1,162 @@
+-- Proves that visible turns which may come one by one fill to a legal record, and that the visible turns of a legal record may come so.
+use Rattle.std.proofs.Common.{◌≡◌, ℕ, zero, suc, Bool, true, false, not, List, [], ◌∷◌, refl, sym, ap, subst, ◌∙◌, inl, inr}
+use Rattle.std.proofs.lemmas.Bool.{cases_Bool, and_parts, and_cases, not-true, not-false, both_ways}
+use Rattle.crib_cards.specs.Start.{Start, pone_of, Hands}
+use Rattle.crib_play.specs.Record.{Record, mover, is_heard}
+use Rattle.crib_play.specs.Score.{is_done}
+use Rattle.crib_play.specs.Filled.{is_visible, visible_turns, is_silent_next, with_silent_gos, filled_record}
+use Rattle.crib_play.specs.Standing.{AreTaken, IsStart}
+use Rattle.crib_cards.specs.declared.moves.Move.{Move}
+use Rattle.crib_cards.specs.declared.moves.Move.TheVariants as move
+use Rattle.crib_cards.specs.Letters.{letter_of}
+use Rattle.crib_play.specs.Legal.{IsDealt, letters_of, MayCome, IsLegal}
+use Rattle.crib_play.specs.History.{acts_of, moves_of, visible_moves, with_silent_moves, filled_moves, AreLegal, act_by}
+use Rattle.crib_play.proofs.TurnFacts.{play_of, none_unheard}
+use Rattle.crib_play.proofs.FilledRecords.{fills, filled_law, filled_stops, heard_visible, letters_filled, letters_silent, letters_visible, not_silent_heard}
+use Rattle.crib_play.proofs.FilledRecords.{silent_stop, silent_go, acts_visible, acts_silent, moves_visible, moves_silent}
+
+-- ---- a record with its silent gos is legal
+module _ (start : Start) (past : List Move) (s : is_silent_next start (letters_of past) ≡ true) where
+  abbrev heard : Bool
+  heard = is_heard (pone_of start) (mover (pone_of start) (letters_of past)) (letters_of past)
+
+  pub silent_unheard : heard ≡ false
+  silent_unheard = not-true heard (and_parts (not heard) (not (is_done start (letters_of past))) s).0
+
+  pub silent_not_done : is_done start (letters_of past) ≡ false
+  silent_not_done = not-true (is_done start (letters_of past)) (and_parts (not heard) (not (is_done start (letters_of past))) s).1
+
+pub legal_gos : (n : ℕ) (start : Start) (hands : Hands) (past : List Move) → IsDealt hands → IsLegal start hands past →
+    IsLegal start hands (with_silent_moves n start past)
+legal_gos zero start hands past dealt legal = legal
+legal_gos (suc n) start hands past dealt legal =
+    let L : List Move → Type 0 = λ moves. IsLegal start hands moves in
+    elim (cases_Bool (is_silent_next start (letters_of past))) [
+      | inl s ↦
+          let may : MayCome start hands move.Go past = record {
+            not_done = silent_not_done start past s;
+            may_take = none_unheard start hands past (play_of start hands dealt past legal) (mover (pone_of start) (letters_of past))
+                (silent_unheard start past s);
+          } in
+          subst L (sym (silent_go n start past s)) (legal_gos n start hands (move.Go ∷ past) dealt (legal, may))
+      | inr s ↦ subst L (sym (silent_stop (suc n) start past s)) legal
+    ]
+
+pub legal_filled : (start : Start) (hands : Hands) (seen : List Move) → IsDealt hands → AreLegal start hands seen →
+    IsLegal start hands (filled_moves start seen)
+legal_filled start hands [] dealt are = tt
+legal_filled start hands (turn ∷ seen) dealt are =
+    legal_gos 3 start hands (turn ∷ filled_moves start seen) dealt (legal_filled start hands seen dealt are.0, are.1)
+
+-- ---- the visible turns of a filled record are those that it was filled from
+acts_gos : (n : ℕ) (start : Start) (past : List Move) → acts_of (pone_of start) (with_silent_moves n start past) ≡ acts_of (pone_of start) past
+acts_gos zero start past = refl
+acts_gos (suc n) start past =
+    elim (cases_Bool (is_silent_next start (letters_of past))) [
+      | inl s ↦
+          ap (acts_of (pone_of start)) (silent_go n start past s)
+          ∙ acts_gos n start (move.Go ∷ past)
+          ∙ acts_silent (pone_of start) move.Go past (silent_unheard start past s)
+      | inr s ↦ ap (acts_of (pone_of start)) (silent_stop (suc n) start past s)
+    ]
+
+-- where no silent go follows and the deal is not done, the player to move is heard
+pub heard_next : (start : Start) (past : Record) → is_silent_next start past ≡ false → is_done start past ≡ false →
+    is_heard (pone_of start) (mover (pone_of start) past) past ≡ true
+heard_next start past s d =
+    elim (and_cases (not (is_heard (pone_of start) (mover (pone_of start) past) past)) (not (is_done start past)) s) [
+      | inl h ↦ not-false (is_heard (pone_of start) (mover (pone_of start) past) past) h
+      | inr e ↦ absurd (both_ways (is_done start past) d (not-false (is_done start past) e))
+    ]
+
+pub visible_heard : (start : Start) (turn : Move) (past : Record) → is_heard (pone_of start) (mover (pone_of start) past) past ≡ true →
+    is_visible (pone_of start) (letter_of turn) past ≡ true
+visible_heard start (move.Card card) past h = refl
+visible_heard start move.Go past h = h
+
+taken_before : (start : Start) (hands : Hands) (seen : List Move) → IsStart start → IsDealt hands → AreLegal start hands seen →
+    visible_moves (pone_of start) (filled_moves start seen) ≡ seen → AreTaken start (letters_of seen)
+taken_before start hands seen is dealt are same =
+    let T : List Move → Type 0 = λ moves. AreTaken start (letters_of moves) in
+    subst T same (fills start hands (filled_moves start seen) is dealt (legal_filled start hands seen dealt are)).taken
+
+-- a turn that may come after a filled record is visible
+visible_come : (start : Start) (hands : Hands) (turn : Move) (seen : List Move) → IsStart start → AreTaken start (letters_of seen) →
+    MayCome start hands turn (filled_moves start seen) →
+    is_visible (pone_of start) (letter_of turn) (letters_of (filled_moves start seen)) ≡ true
+visible_come start hands turn seen is taken may =
+    visible_heard start turn (letters_of (filled_moves start seen))
+    (heard_next start (letters_of (filled_moves start seen)) (filled_stops start seen is taken) may.not_done)
+
+pub visible_filled : (start : Start) (hands : Hands) (seen : List Move) → IsStart start → IsDealt hands → AreLegal start hands seen →
+    visible_moves (pone_of start) (filled_moves start seen) ≡ seen
+visible_filled start hands [] is dealt are = refl
+visible_filled start hands (turn ∷ seen) is dealt are =
+    let before = visible_filled start hands seen is dealt are.0 in
+    let past = filled_moves start seen in
+    ap moves_of (acts_gos 3 start (turn ∷ past))
+    ∙ moves_visible (pone_of start) turn past (visible_come start hands turn seen is (taken_before start hands seen is dealt are.0 before) are.1)
+    ∙ ap (λ (rest : List Move). turn ∷ rest) before
+
+pub taken_legal : (start : Start) (hands : Hands) (seen : List Move) → IsStart start → IsDealt hands → AreLegal start hands seen →
+    AreTaken start (letters_of seen)
+taken_legal start hands seen is dealt are = taken_before start hands seen is dealt are (visible_filled start hands seen is dealt are)
+
+-- the same, for turns that may come one by one
+pub visible_after : (start : Start) (hands : Hands) (turn : Move) (seen : List Move) → IsStart start → IsDealt hands → AreLegal start hands seen →
+    MayCome start hands turn (filled_moves start seen) →
+    is_visible (pone_of start) (letter_of turn) (letters_of (filled_moves start seen)) ≡ true
+visible_after start hands turn seen is dealt are may = visible_come start hands turn seen is (taken_legal start hands seen is dealt are) may
+
+-- with such a turn, the filled record has one visible turn more
+pub acts_more : (start : Start) (hands : Hands) (turn : Move) (seen : List Move) → IsStart start → IsDealt hands → AreLegal start hands (turn ∷ seen) →
+    acts_of (pone_of start) (filled_moves start (turn ∷ seen))
+    ≡ act_by (pone_of start) turn (filled_moves start seen) ∷ acts_of (pone_of start) (filled_moves start seen)
+acts_more start hands turn seen is dealt are =
+    acts_gos 3 start (turn ∷ filled_moves start seen)
+    ∙ acts_visible (pone_of start) turn (filled_moves start seen) (visible_after start hands turn seen is dealt are.0 are.1)
+
+-- ---- the visible turns of a legal record
+-- the record before a visible turn is a filled record
+pub filled_before : (start : Start) (hands : Hands) (turn : Move) (past : List Move) → IsStart start → IsDealt hands → IsLegal start hands past →
+    MayCome start hands turn past →
+    is_visible (pone_of start) (letter_of turn) (letters_of past) ≡ true → filled_moves start (visible_moves (pone_of start) past) ≡ past
+filled_before start hands turn past is dealt legal may v =
+    filled_law start hands past is dealt legal
+    ∙ silent_stop 3 start past (not_silent_heard start (letters_of past) (heard_visible start hands turn past (play_of start hands dealt past legal) may v))
+
+pub visible_legal : (start : Start) (hands : Hands) (played : List Move) → IsStart start → IsDealt hands → IsLegal start hands played →
+    AreLegal start hands (visible_moves (pone_of start) played)
+visible_legal start hands [] is dealt legal = tt
+visible_legal start hands (turn ∷ past) is dealt legal =
+    let pone = pone_of start in
+    let A : List Move → Type 0 = λ moves. AreLegal start hands moves in
+    let C : List Move → Type 0 = λ moves. MayCome start hands turn moves in
+    elim (cases_Bool (is_visible pone (letter_of turn) (letters_of past))) [
+      | inl v ↦
+          subst A (sym (moves_visible pone turn past v))
+          (visible_legal start hands past is dealt legal.0, subst C (sym (filled_before start hands turn past is dealt legal.0 legal.1 v)) legal.1)
+      | inr v ↦ subst A (sym (moves_silent pone turn past v)) (visible_legal start hands past is dealt legal.0)
+    ]
+
+-- ---- records with the same visible turns
+pub same_filled : (start : Start) (hands others : Hands) (played other : List Move) → IsStart start → IsDealt hands → IsDealt others →
+    IsLegal start hands played → IsLegal start others other →
+    visible_turns (pone_of start) (letters_of played) ≡ visible_turns (pone_of start) (letters_of other) →
+    with_silent_gos 3 start (letters_of played) ≡ with_silent_gos 3 start (letters_of other)
+same_filled start hands others played other is dealt dealt_other legal legal_other same =
+    sym (filled_letters hands played dealt legal) ∙ ap (filled_record start) same ∙ filled_letters others other dealt_other legal_other
+  where
+    filled_letters : (hands : Hands) (played : List Move) → IsDealt hands → IsLegal start hands played →
+        filled_record start (visible_turns (pone_of start) (letters_of played)) ≡ with_silent_gos 3 start (letters_of played)
+    filled_letters hands played dealt legal =
+        ap (filled_record start) (sym (letters_visible (pone_of start) played))
+        ∙ sym (letters_filled start (visible_moves (pone_of start) played))
+        ∙ ap letters_of (filled_law start hands played is dealt legal)
+        ∙ letters_silent 3 start played
+
+pub same_moves : (start : Start) (hands others : Hands) (played other : List Move) → IsStart start → IsDealt hands → IsDealt others →
+    IsLegal start hands played → IsLegal start others other →
+    visible_moves (pone_of start) played ≡ visible_moves (pone_of start) other → with_silent_moves 3 start played ≡ with_silent_moves 3 start other
+same_moves start hands others played other is dealt dealt_other legal legal_other same =
+    sym (filled_law start hands played is dealt legal) ∙ ap (filled_moves start) same ∙ filled_law start others other is dealt_other legal_other

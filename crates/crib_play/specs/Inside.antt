@@ -1,2 +1,0 @@
--- What private functions alone cite. No public contract rests on it.
-pub mod Steps

@@ -1,0 +1,2 @@
+-- What private functions alone cite. No public contract rests on it.
+pub mod TableChanges

@@ -1,0 +1,161 @@
+-- Worked examples of openings, held against the rules: tens and small clubs lead. Both scores are 0 unless an example says otherwise. A card is a number below
+-- 52: 36 is TC, 37 is TD, 32 is 9C.
+use Rattle.std.specs.Prelude.{◌≡◌, refl, [], ◌∷◌, ℕ, List, Option, Some, None, reverse}
+use Rattle.crib_cards.specs.Sets.{set_where}
+use Rattle.crib_cards.specs.declared.sides.Side.TheVariants.{Owner, Opponent}
+use Rattle.crib_cards.specs.declared.moves.Act.{Act}
+use Rattle.crib_cards.specs.declared.moves.Move.TheVariants.{Card, Go}
+use Rattle.crib_problem.specs.Played.{AreAllowed, OpeningBasis, act_refusal, least_by, move_refusal}
+
+-- the owner holds TC 9C 2C 8C and threw 4S 6S; the starter is 3H, the opponent deals and is at the given score, and the goal is to win
+abbrev basis_at : ℕ → OpeningBasis
+basis_at score = record {
+  start = record { dealer = Opponent; scores = record { owner = 0; opponent = score }; target = 121 };
+  hold = 36 ∷ 32 ∷ 4 ∷ 28 ∷ [];
+  known = 10 ∷ 36 ∷ 32 ∷ 4 ∷ 28 ∷ 15 ∷ 23 ∷ [];
+}
+
+abbrev own : ℕ → Act
+own card = record { side = Owner; what = Card card }
+
+abbrev theirs : ℕ → Act
+theirs card = record { side = Opponent; what = Card card }
+
+abbrev own_go : Act
+own_go = record { side = Owner; what = Go }
+
+abbrev their_go : Act
+their_go = record { side = Opponent; what = Go }
+
+-- the refusal of an act after some acts, if there is one; here the acts have the first one first
+abbrev refusal : ℕ → List Act → Act → Option ℕ
+refusal score acts act = act_refusal (basis_at score) (reverse acts) act
+
+-- TC TD 9C make the count 29
+abbrev at_29 : List Act
+at_29 = own 36 ∷ theirs 37 ∷ own 32 ∷ []
+
+-- after a go at 29, each card left to the opponent counts 3 or more
+pub least_3 : least_by (basis_at 0) (reverse (own 36 ∷ theirs 37 ∷ own 32 ∷ their_go ∷ [])) ≡ 3
+least_3 = refl
+
+-- the owner may not say go while his 2C fits; it makes 31
+pub must_play_at_29 : refusal 0 (own 36 ∷ theirs 37 ∷ own 32 ∷ their_go ∷ []) own_go ≡ Some 43
+unfolding set_where
+must_play_at_29 = refl
+
+pub plays_at_29 : refusal 0 (own 36 ∷ theirs 37 ∷ own 32 ∷ their_go ∷ []) (own 4) ≡ None
+unfolding set_where
+plays_at_29 = refl
+
+-- after that 31 the opponent leads: no hidden deal lets him show 2D after his go at 29, and 3C may be his
+pub no_two : refusal 0 (own 36 ∷ theirs 37 ∷ own 32 ∷ their_go ∷ own 4 ∷ []) (theirs 5) ≡ Some 23
+unfolding set_where
+no_two = refl
+
+pub a_three : refusal 0 (own 36 ∷ theirs 37 ∷ own 32 ∷ their_go ∷ own 4 ∷ []) (theirs 8) ≡ None
+unfolding set_where
+a_three = refl
+
+-- at 30, after AD, neither 2C nor 8C fits, so the owner may say go; at 29 it is not his turn
+pub go_at_30 : refusal 0 (own 36 ∷ theirs 37 ∷ own 32 ∷ theirs 1 ∷ []) own_go ≡ None
+unfolding set_where
+go_at_30 = refl
+
+pub not_asked_at_29 : refusal 0 at_29 own_go ≡ Some 44
+unfolding set_where
+not_asked_at_29 = refl
+
+-- the other side's turn (44) comes before a card that is not held (41): the opponent's TD at the first lead, and the owner's KD after TC
+pub turn_first : refusal 0 [] (theirs 37) ≡ Some 44
+unfolding set_where
+turn_first = refl
+
+pub turn_before_hand : refusal 0 (own 36 ∷ []) (own 49) ≡ Some 44
+unfolding set_where
+turn_before_hand = refl
+
+-- a card that was seen (20) comes before the other side's turn (44)
+pub seen_first : refusal 0 [] (theirs 36) ≡ Some 20
+unfolding set_where
+seen_first = refl
+
+-- the opponent is at 118: he pegs 2 for the pair of tens, and the close after two gos at 30 takes him to hole 121
+pub over_by_go : refusal 118 (own 36 ∷ theirs 37 ∷ own 32 ∷ theirs 1 ∷ own_go ∷ []) their_go ≡ Some 24
+unfolding set_where
+over_by_go = refl
+
+pub not_over_by_go : refusal 117 (own 36 ∷ theirs 37 ∷ own 32 ∷ theirs 1 ∷ own_go ∷ []) their_go ≡ None
+unfolding set_where
+not_over_by_go = refl
+
+-- a card that was played is not held any more, and it cannot be the opponent's
+pub own_card_again : refusal 0 (own 36 ∷ theirs 37 ∷ []) (own 36) ≡ Some 41
+unfolding set_where
+own_card_again = refl
+
+pub their_card_again : refusal 0 (own 36 ∷ theirs 37 ∷ own 4 ∷ []) (theirs 37) ≡ Some 20
+unfolding set_where
+their_card_again = refl
+
+-- the cards thrown are not held, and neither they nor the starter can be the opponent's
+pub thrown_is_not_held : refusal 0 [] (own 15) ≡ Some 41
+unfolding set_where
+thrown_is_not_held = refl
+
+pub thrown_is_not_theirs : refusal 0 (own 36 ∷ []) (theirs 15) ≡ Some 20
+unfolding set_where
+thrown_is_not_theirs = refl
+
+pub starter_is_not_theirs : refusal 0 (own 36 ∷ []) (theirs 10) ≡ Some 20
+unfolding set_where
+starter_is_not_theirs = refl
+
+-- a king does not fit at 29, and an eight does not fit at 30
+pub king_at_29 : refusal 0 at_29 (theirs 49) ≡ Some 42
+unfolding set_where
+king_at_29 = refl
+
+pub eight_at_30 : refusal 0 (own 36 ∷ theirs 37 ∷ own 32 ∷ theirs 1 ∷ []) (own 28) ≡ Some 42
+unfolding set_where
+eight_at_30 = refl
+
+-- at 21, after 9C 2D TC, each card fits, so no hidden deal lets the opponent say go; at 22, after TC JD 2C, no ten fits, so he may
+pub no_go_at_21 : refusal 0 (own 32 ∷ theirs 5 ∷ own 36 ∷ []) their_go ≡ Some 23
+unfolding set_where
+no_go_at_21 = refl
+
+pub go_at_22 : refusal 0 (own 36 ∷ theirs 41 ∷ own 4 ∷ []) their_go ≡ None
+unfolding set_where
+go_at_22 = refl
+
+-- a king counts ten: it is no card that counts eleven or more
+pub king_counts_ten : move_refusal 0 [] 11 Opponent (Card 49) ≡ Some 23
+king_counts_ten = refl
+
+-- once the deal is done it is nobody's turn
+pub after_the_end : refusal 118 (own 36 ∷ theirs 37 ∷ own 32 ∷ theirs 1 ∷ own_go ∷ their_go ∷ []) (own 28) ≡ Some 44
+unfolding set_where
+after_the_end = refl
+
+-- TC TD 9C, a go, 2C for 31; KD 8C KH make 28: the owner holds no card, so his go is silent, and the opponent says his
+pub go_after_a_silent_go : refusal 0 (own 36 ∷ theirs 37 ∷ own 32 ∷ their_go ∷ own 4 ∷ theirs 49 ∷ own 28 ∷ theirs 50 ∷ []) their_go ≡ None
+unfolding set_where
+go_after_a_silent_go = refl
+
+-- 3C 9D 3D make 15 for the owner; the opponent is at 119, and this is no pair for him
+abbrev threes : OpeningBasis
+threes = record {
+  start = record { dealer = Opponent; scores = record { owner = 0; opponent = 119 }; target = 121 };
+  hold = 8 ∷ 9 ∷ 4 ∷ 28 ∷ [];
+  known = 49 ∷ 8 ∷ 9 ∷ 4 ∷ 28 ∷ 15 ∷ 23 ∷ [];
+}
+
+pub fifteen_between_threes : act_refusal threes (reverse (own 8 ∷ theirs 33 ∷ [])) (own 9) ≡ None
+unfolding set_where
+fifteen_between_threes = refl
+
+-- the dealer may not lead
+pub dealer_leads_not : AreAllowed (basis_at 0) (theirs 37 ∷ []) → ⊥
+unfolding set_where
+dealer_leads_not are = (let refused = are.1 in cc)

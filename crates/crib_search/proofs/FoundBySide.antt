@@ -1,0 +1,120 @@
+-- What is found after a history, by who is asked.
+use Rattle.std.proofs.Common.{◌≡◌, ℕ, zero, suc, true, false, eqb, List, [], ◌∷◌, Option, Some, None, slice_get, refl, subst, inl, inr}
+use Rattle.std.specs.Prelude.{MatchOption}
+use Rattle.std.specs.List.{AllZip}
+use Rattle.std.proofs.lemmas.Bool.{or_cases, or_right, both_ways, eqb-true}
+use Rattle.crib_cards.specs.Cards.{IsRank}
+use Rattle.crib_cards.specs.Sets.{has}
+use Rattle.crib_cards.specs.Letters.{letter_place}
+use Rattle.crib_cards.specs.declared.letters.Letter.{Letter}
+use Rattle.crib_cards.specs.declared.letters.Letter.TheVariants.{Seen, Go}
+use Rattle.crib_cards.specs.declared.moves.Move.TheVariants as move
+use Rattle.crib_cards.proofs.EachRank.{each_rank}
+use Rattle.crib_play.specs.declared.turns.Turn.{Turn}
+use Rattle.crib_play.specs.declared.turns.Turn.TheVariants as turns
+use Rattle.crib_play.specs.History.{Event, Own, Theirs}
+use Rattle.crib_problem.specs.Setup.{Setup, IsSetup}
+use Rattle.crib_know.specs.Knowledge.{played_events, asked_now}
+use Rattle.crib_know.specs.Hidden.{CanShow}
+use Rattle.crib_know.proofs.PassingIsAgreeing.{can_play_might, can_go_might}
+use Rattle.crib_search.specs.Trees.{Tree, Plays, joined_tree}
+use Rattle.crib_search.specs.Finder.{Found, Tries, BranchFinds, LacksBranch, FindsFor, Finds, FindsTree, letters}
+use Rattle.crib_cards.proofs.Members.{has_here}
+
+-- what is found, if it is known who is asked
+pub for_turn : (more : ℕ) (problem : Setup) (history : List Event) (found : Option Tree) (turn : Turn) → asked_now problem history ≡ turn →
+    Finds (suc more) problem history found →
+    FindsFor turn (λ further after. Finds more problem further after) problem history found
+for_turn more problem history found turn e finds =
+    let F : Turn → Type 0 = λ t. FindsFor t (λ further after. Finds more problem further after) problem history found in
+    subst F e finds
+
+-- ---- the owner
+-- a tree that the owner finds plays one of the cards
+pub tries_some : (finds : Found) (history : List Event) (cards : List ℕ) (tree : Tree) → Tries finds history cards (Some tree) →
+    (card : ℕ) × (next : Tree) × (has cards card ≡ true) × finds (Own (move.Card card) ∷ history) (Some next) × (tree ≡ Plays card next)
+tries_some finds history [] tree tries = absurd cc
+tries_some finds history (first ∷ cards) tree tries = one (tries_some finds history cards tree) tries.0 tries.1 tries.2
+  where
+    one : (Tries finds history cards (Some tree) → (card : ℕ) × (next : Tree) × (has cards card ≡ true) × finds (Own (move.Card card) ∷ history) (Some next) ×
+        (tree ≡ Plays card next)) →
+        (after : Option Tree) → finds (Own (move.Card first) ∷ history) after → MatchOption after (Tries finds history cards (Some tree))
+        (λ t. Some tree ≡ Some (Plays first t)) →
+        (card : ℕ) × (next : Tree) × (has (first ∷ cards) card ≡ true) × finds (Own (move.Card card) ∷ history) (Some next) × (tree ≡ Plays card next)
+    one later None found rest = let deep = later rest in (deep.0, deep.1, or_right (eqb first deep.0) (has cards deep.0) deep.2, deep.3, deep.4)
+    one later (Some next) found e = (first, next, has_here first cards, found, cc)
+
+-- one of the cards after which a tree is found
+pub tries_there : (finds : Found) (history : List Event) (cards : List ℕ) (found : Option Tree) (card : ℕ) → Tries finds history cards found →
+    has cards card ≡ true →
+    ((after : Option Tree) → finds (Own (move.Card card) ∷ history) after → after ≡ None → ⊥) → found ≡ None → ⊥
+tries_there finds history [] found card tries h some none = both_ways false refl h
+tries_there finds history (first ∷ cards) found card tries h some none =
+    one (λ rest there. tries_there finds history cards found card rest there some none) tries.0 tries.1 tries.2
+  where
+    one : (Tries finds history cards found → has cards card ≡ true → ⊥) → (after : Option Tree) → finds (Own (move.Card first) ∷ history) after →
+        MatchOption after (Tries finds history cards found) (λ t. found ≡ Some (Plays first t)) → ⊥
+    one later None here rest =
+        elim (or_cases (eqb first card) (has cards card) h) [
+          | inl same ↦ let F : ℕ → Type 0 = λ c. finds (Own (move.Card c) ∷ history) None in some None (subst F (eqb-true first card same) here) refl
+          | inr there ↦ later rest there
+        ]
+    one later (Some next) here e = absurd cc
+
+-- ---- the opponent
+-- what is true of each letter by its place
+pub zip_at : (P : Letter → Tree → Type 0) (shown : List Letter) (trees : List Tree) (place : ℕ) (letter : Letter) → AllZip P shown trees →
+    slice_get shown place ≡ Some letter →
+    (tree : Tree) × (slice_get trees place ≡ Some tree) × P letter tree
+zip_at P [] trees place letter all e = absurd cc
+zip_at P (first ∷ shown) [] place letter all e = absurd all
+zip_at P (first ∷ shown) (tree ∷ trees) zero letter all e =
+    let same : first ≡ letter = cc in
+    let Q : Letter → Type 0 = λ l. P l tree in
+    (tree, refl, subst Q same all.0)
+zip_at P (first ∷ shown) (tree ∷ trees) (suc place) letter all e = zip_at P shown trees place letter all.1 e
+
+rank_at : (rank : ℕ) → IsRank rank → slice_get letters (letter_place (Seen rank)) ≡ Some (Seen rank)
+rank_at = each_rank (λ r. slice_get letters (letter_place (Seen r)) ≡ Some (Seen r)) refl refl refl refl refl refl refl refl refl refl refl refl refl
+
+module _ (problem : Setup) (setup : IsSetup problem) (history : List Event) where
+  -- a letter that can be shown is a letter, and the opponent is asked
+  pub shown_at : (letter : Letter) → CanShow problem history letter → slice_get letters (letter_place letter) ≡ Some letter
+  shown_at (Seen rank) can = rank_at rank (can_play_might problem setup history rank can).is
+  shown_at Go can = refl
+
+  pub shown_asked : (letter : Letter) → CanShow problem history letter → asked_now problem history ≡ turns.Opponent
+  shown_asked (Seen rank) can = (can_play_might problem setup history rank can).asked
+  shown_asked Go can = (can_go_might problem setup history can).asked
+
+  -- the branch of a letter that can be shown
+  pub branch_found : (finds : Found) (trees : List Tree) (letter : Letter) → CanShow problem history letter →
+      AllZip (BranchFinds finds problem history) letters trees →
+      (tree : Tree) × (slice_get trees (letter_place letter) ≡ Some tree) × finds (Theirs letter ∷ history) (Some tree)
+  branch_found finds trees letter can all =
+      let at = zip_at (BranchFinds finds problem history) letters trees (letter_place letter) letter all (shown_at letter can) in
+      elim at.2 [
+        | inl found ↦ (at.0, at.1, found.1)
+        | inr not ↦ absurd (not.0 can)
+      ]
+
+-- if a tree is found, it joins some branches
+pub opponent_some : (finds : Found) (problem : Setup) (history : List Event) (tree : Tree) → FindsFor turns.Opponent finds problem history (Some tree) →
+    (trees : List Tree) × AllZip (BranchFinds finds problem history) letters trees × (tree ≡ joined_tree trees)
+opponent_some finds problem history tree (inl lacks) = let e = lacks.1 in absurd cc
+opponent_some finds problem history tree (inr found) = let e = found.2 in (found.0, found.1, cc)
+
+-- if none is found, some letter can be shown after which none is found
+pub opponent_none : (finds : Found) (problem : Setup) (history : List Event) → FindsFor turns.Opponent finds problem history None →
+    LacksBranch finds problem history
+opponent_none finds problem history (inl lacks) = lacks.0
+opponent_none finds problem history (inr found) = let e = found.2 in absurd cc
+
+-- ---- from the start
+pub finds_of_tree : (problem : Setup) (found : Option Tree) → FindsTree problem found → Finds 30 problem (played_events problem) found
+unfolding FindsTree
+finds_of_tree problem found finds = finds
+
+pub tree_of_finds : (problem : Setup) (found : Option Tree) → Finds 30 problem (played_events problem) found → FindsTree problem found
+unfolding FindsTree
+tree_of_finds problem found finds = finds

@@ -1,0 +1,181 @@
+-- The kept nodes, and the trees that they stand for.
+use Rattle.std.proofs.Common.{◌≡◌, ◌⊎◌, ℕ, zero, suc, Bool, true, false, cond, List, [], ◌∷◌, ◌++◌, length, Some, slice_get, refl, sym, ap, subst, ◌∙◌, inl}
+use Rattle.std.proofs.Common.{inr, arith}
+use Rattle.std.specs.List.{AllByRecursion, IsDistinct}
+use Rattle.std.proofs.lemmas.Bool.{both_ways}
+use Rattle.crib_search.specs.declared.nodes.DraftPlace.{DraftPlace}
+use Rattle.crib_search.specs.declared.nodes.DraftPlace.TheVariants.{At}
+use Rattle.crib_search.specs.declared.nodes.DraftNode.{DraftNode}
+use Rattle.crib_search.specs.declared.nodes.DraftNode.TheVariants.{Play, See}
+use Rattle.crib_search.specs.contracts.nodes.DraftNodePartialEq.TheImpl as compared
+use Rattle.crib_search.specs.Trees.{Tree, Finish, Plays, Sees, Branches, NoBranch, Branch}
+use Rattle.crib_search.specs.Private.Nodes.{IsBelow, AreKept, IsMore, Names, NameAll}
+use Rattle.crib_search.proofs.Equality.{same_draft_nodes}
+
+-- the nodes with one more at the end, or the same nodes if it was among them
+abbrev pub IsAdded : List DraftNode → DraftNode → List DraftNode → Type 0
+IsAdded before draft_node after = (after ≡ before) ⊎ (after ≡ before ++ draft_node ∷ [])
+
+-- ---- places
+all_at : (P : DraftNode → Type 0) (draft_nodes : List DraftNode) (place : ℕ) (draft_node : DraftNode) → AllByRecursion P draft_nodes →
+    slice_get draft_nodes place ≡ Some draft_node → P draft_node
+all_at P [] place draft_node all e = absurd cc
+all_at P (first ∷ draft_nodes) zero draft_node all e = let same : first ≡ draft_node = cc in subst P same all.0
+all_at P (first ∷ draft_nodes) (suc place) draft_node all e = all_at P draft_nodes place draft_node all.1 e
+
+-- each node stands once if the nodes are distinct
+once_of : (draft_nodes : List DraftNode) → IsDistinct compared.ghosts.eq draft_nodes → (place other : ℕ) (draft_node : DraftNode) →
+    slice_get draft_nodes place ≡ Some draft_node →
+    slice_get draft_nodes other ≡ Some draft_node → place ≡ other
+unfolding IsDistinct
+once_of [] distinct place other draft_node e f = absurd cc
+once_of (first ∷ draft_nodes) distinct zero zero draft_node e f = refl
+once_of (first ∷ draft_nodes) distinct zero (suc other) draft_node e f =
+    let same : first ≡ draft_node = cc in
+    absurd (both_ways (compared.ghosts.eq first draft_node) (all_at (λ y. compared.ghosts.eq first y ≡ false) draft_nodes other draft_node distinct.0 f)
+    ((same_draft_nodes first draft_node).1 same))
+once_of (first ∷ draft_nodes) distinct (suc place) zero draft_node e f =
+    let same : first ≡ draft_node = cc in
+    absurd (both_ways (compared.ghosts.eq first draft_node) (all_at (λ y. compared.ghosts.eq first y ≡ false) draft_nodes place draft_node distinct.0 e)
+    ((same_draft_nodes first draft_node).1 same))
+once_of (first ∷ draft_nodes) distinct (suc place) (suc other) draft_node e f = ap suc (once_of draft_nodes distinct.1 place other draft_node e f)
+
+-- a node of a list with one more
+push_get : (draft_nodes : List DraftNode) (new : DraftNode) (place : ℕ) (draft_node : DraftNode) → slice_get (draft_nodes ++ new ∷ []) place ≡ Some draft_node →
+    (slice_get draft_nodes place ≡ Some draft_node) ⊎ ((place ≡ length draft_nodes) × (new ≡ draft_node))
+push_get [] new zero draft_node e = let same : new ≡ draft_node = cc in inr (refl, same)
+push_get [] new (suc place) draft_node e = absurd cc
+push_get (first ∷ draft_nodes) new zero draft_node e = inl e
+push_get (first ∷ draft_nodes) new (suc place) draft_node e =
+    elim (push_get draft_nodes new place draft_node e) [
+      | inl there ↦ inl there
+      | inr last ↦ let at = last.0 in inr (omega (arith, at), last.1)
+    ]
+
+get_push : (draft_nodes : List DraftNode) (new : DraftNode) (place : ℕ) (draft_node : DraftNode) → slice_get draft_nodes place ≡ Some draft_node →
+    slice_get (draft_nodes ++ new ∷ []) place ≡ Some draft_node
+get_push [] new place draft_node e = absurd cc
+get_push (first ∷ draft_nodes) new zero draft_node e = e
+get_push (first ∷ draft_nodes) new (suc place) draft_node e = get_push draft_nodes new place draft_node e
+
+pub more_added : (before : List DraftNode) (draft_node : DraftNode) (after : List DraftNode) → IsAdded before draft_node after → IsMore before after
+more_added before draft_node after (inl e) place other there = ap (λ (draft_nodes : List DraftNode). slice_get draft_nodes place) e ∙ there
+more_added before draft_node after (inr e) place other there =
+    ap (λ (draft_nodes : List DraftNode). slice_get draft_nodes place) e ∙ get_push before draft_node place other there
+
+pub added_by : (before : List DraftNode) (draft_node : DraftNode) (after : List DraftNode) (there : Bool) →
+    after ≡ cond there before (before ++ draft_node ∷ []) →
+    IsAdded before draft_node after
+added_by before draft_node after true e = inl e
+added_by before draft_node after false e = inr e
+
+-- ---- one more node is kept
+pub kept_added : (before : List DraftNode) (draft_node : DraftNode) (after : List DraftNode) → AreKept before → IsBelow (length before) draft_node →
+    IsAdded before draft_node after →
+    IsDistinct compared.ghosts.eq after → AreKept after
+kept_added before draft_node after kept below added distinct = record { earlier = earlier added; once = once_of after distinct }
+  where
+    earlier : IsAdded before draft_node after → (place : ℕ) (other : DraftNode) → slice_get after place ≡ Some other → IsBelow place other
+    earlier (inl e) place other there = kept.earlier place other (ap (λ (draft_nodes : List DraftNode). slice_get draft_nodes place) (sym e) ∙ there)
+    earlier (inr e) place other there =
+        elim (push_get before draft_node place other (ap (λ (draft_nodes : List DraftNode). slice_get draft_nodes place) (sym e) ∙ there)) [
+          | inl old ↦ kept.earlier place other old
+          | inr last ↦
+              let B : ℕ → Type 0 = λ count. IsBelow count draft_node in
+              let C : DraftNode → Type 0 = λ s. IsBelow place s in
+              subst C last.1 (subst B (sym last.0) below)
+        ]
+
+-- ---- trees
+mutual
+  pub names_more : (before after : List DraftNode) → IsMore before after → (tree : Tree) (draft_place : DraftPlace) → Names before tree draft_place →
+      Names after tree draft_place
+  names_more before after more Finish draft_place names = names
+  names_more before after more (Plays card next) draft_place names =
+      (names.0, names.1, names.2, more names.0 (Play card names.1) names.3, names_more before after more next names.1 names.4)
+  names_more before after more (Sees branches) draft_place names =
+      (names.0, names.1, names.2, more names.0 (See names.1) names.3, all_more before after more branches names.1 names.4)
+
+  pub all_more : (before after : List DraftNode) → IsMore before after → (branches : Branches) (nexts : List DraftPlace) → NameAll before branches nexts →
+      NameAll after branches nexts
+  all_more before after more NoBranch nexts names = names
+  all_more before after more (Branch tree branches) nexts names =
+      (names.0, names.1, names.2, names_more before after more tree names.0 names.3, all_more before after more branches names.1 names.4)
+
+same_place : (one other : ℕ) → At one ≡ At other → one ≡ other
+same_place one other e = cc
+
+play_parts : (card other : ℕ) (next after : DraftPlace) → Some (Play card next) ≡ Some (Play other after) → (card ≡ other) × (next ≡ after)
+play_parts card other next after e = (cc, cc)
+
+see_parts : (nexts others : List DraftPlace) → Some (See nexts) ≡ Some (See others) → nexts ≡ others
+see_parts nexts others e = cc
+
+apart : (card : ℕ) (next : DraftPlace) (nexts : List DraftPlace) → Some (Play card next) ≡ Some (See nexts) → ⊥
+apart card next nexts e = cc
+
+list_parts : (one other : DraftPlace) (ones others : List DraftPlace) → one ∷ ones ≡ other ∷ others → (one ≡ other) × (ones ≡ others)
+list_parts one other ones others e = (cc, cc)
+
+-- a place names one tree
+mutual
+  pub names_tree : (draft_nodes : List DraftNode) (one other : Tree) (draft_place : DraftPlace) → Names draft_nodes one draft_place →
+      Names draft_nodes other draft_place → one ≡ other
+  names_tree draft_nodes Finish Finish draft_place a b = refl
+  names_tree draft_nodes Finish (Plays card next) draft_place a b = let e = b.2 in absurd cc
+  names_tree draft_nodes Finish (Sees branches) draft_place a b = let e = b.2 in absurd cc
+  names_tree draft_nodes (Plays card next) Finish draft_place a b = let e = a.2 in absurd cc
+  names_tree draft_nodes (Plays card next) (Plays other after) draft_place a b =
+      let place = same_place a.0 b.0 (sym a.2 ∙ b.2) in
+      let same = play_parts card other a.1 b.1 (sym a.3 ∙ ap (slice_get draft_nodes) place ∙ b.3) in
+      let N : DraftPlace → Type 0 = λ s. Names draft_nodes next s in
+      ap (λ (c : ℕ). Plays c next) same.0 ∙ ap (Plays other) (names_tree draft_nodes next after b.1 (subst N same.1 a.4) b.4)
+  names_tree draft_nodes (Plays card next) (Sees branches) draft_place a b =
+      let place = same_place a.0 b.0 (sym a.2 ∙ b.2) in
+      let e = sym a.3 ∙ ap (slice_get draft_nodes) place ∙ b.3 in absurd (apart card a.1 b.1 e)
+  names_tree draft_nodes (Sees branches) Finish draft_place a b = let e = a.2 in absurd cc
+  names_tree draft_nodes (Sees branches) (Plays card next) draft_place a b =
+      let place = same_place a.0 b.0 (sym a.2 ∙ b.2) in
+      let e = sym a.3 ∙ ap (slice_get draft_nodes) place ∙ b.3 in absurd (apart card b.1 a.1 (sym e))
+  names_tree draft_nodes (Sees branches) (Sees others) draft_place a b =
+      let place = same_place a.0 b.0 (sym a.2 ∙ b.2) in
+      let same = see_parts a.1 b.1 (sym a.3 ∙ ap (slice_get draft_nodes) place ∙ b.3) in
+      let N : List DraftPlace → Type 0 = λ s. NameAll draft_nodes branches s in
+      ap Sees (names_trees draft_nodes branches others b.1 (subst N same a.4) b.4)
+
+  pub names_trees : (draft_nodes : List DraftNode) (ones others : Branches) (nexts : List DraftPlace) → NameAll draft_nodes ones nexts →
+      NameAll draft_nodes others nexts → ones ≡ others
+  names_trees draft_nodes NoBranch NoBranch nexts a b = refl
+  names_trees draft_nodes NoBranch (Branch tree others) nexts a b = let e = b.2 in absurd cc
+  names_trees draft_nodes (Branch tree branches) NoBranch nexts a b = let e = a.2 in absurd cc
+  names_trees draft_nodes (Branch one ones) (Branch other others) nexts a b =
+      let same = list_parts a.0 b.0 a.1 b.1 (sym a.2 ∙ b.2) in
+      let N : DraftPlace → Type 0 = λ s. Names draft_nodes one s in
+      let M : List DraftPlace → Type 0 = λ s. NameAll draft_nodes ones s in
+      ap (λ (t : Tree). Branch t ones) (names_tree draft_nodes one other b.0 (subst N same.0 a.3) b.3)
+      ∙ ap (Branch other) (names_trees draft_nodes ones others b.1 (subst M same.1 a.4) b.4)
+
+-- one place among kept nodes names a tree
+mutual
+  pub names_draft_place : (draft_nodes : List DraftNode) → AreKept draft_nodes → (tree : Tree) (one other : DraftPlace) → Names draft_nodes tree one →
+      Names draft_nodes tree other → one ≡ other
+  names_draft_place draft_nodes kept Finish one other a b = a ∙ sym b
+  names_draft_place draft_nodes kept (Plays card next) one other a b =
+      let after = names_draft_place draft_nodes kept next a.1 b.1 a.4 b.4 in
+      a.2 ∙ ap At (kept.once a.0 b.0 (Play card b.1) (a.3 ∙ ap (λ (s : DraftPlace). Some (Play card s)) after) b.3) ∙ sym b.2
+  names_draft_place draft_nodes kept (Sees branches) one other a b =
+      let after = names_draft_places draft_nodes kept branches a.1 b.1 a.4 b.4 in
+      a.2 ∙ ap At (kept.once a.0 b.0 (See b.1) (a.3 ∙ ap (λ (s : List DraftPlace). Some (See s)) after) b.3) ∙ sym b.2
+
+  pub names_draft_places : (draft_nodes : List DraftNode) → AreKept draft_nodes → (branches : Branches) (ones others : List DraftPlace) →
+      NameAll draft_nodes branches ones →
+      NameAll draft_nodes branches others → ones ≡ others
+  names_draft_places draft_nodes kept NoBranch ones others a b = a ∙ sym b
+  names_draft_places draft_nodes kept (Branch tree branches) ones others a b =
+      a.2 ∙ ap (λ (s : DraftPlace). s ∷ a.1) (names_draft_place draft_nodes kept tree a.0 b.0 a.3 b.3)
+      ∙ ap (λ (s : List DraftPlace). b.0 ∷ s) (names_draft_places draft_nodes kept branches a.1 b.1 a.4 b.4) ∙ sym b.2
+
+-- the stored node is the one that was asked for
+pub stored_is : (draft_nodes : List DraftNode) (place : ℕ) (draft_node : DraftNode) → (there : DraftNode) × (slice_get draft_nodes place ≡ Some there) ×
+    (compared.ghosts.eq draft_node there ≡ true) → slice_get draft_nodes place ≡ Some draft_node
+stored_is draft_nodes place draft_node stored = stored.1 ∙ ap (λ (s : DraftNode). Some s) (sym ((same_draft_nodes draft_node stored.0).0 stored.2))

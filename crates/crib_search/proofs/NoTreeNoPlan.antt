@@ -1,0 +1,259 @@
+-- If no tree is found, no plan is sure.
+use Rattle.std.proofs.Common.{◌≡◌, ℕ, zero, suc, ◌+◌, true, false, List, [], ◌∷◌, Option, Some, None, refl, sym, ap, subst, ◌∙◌, inl, inr}
+use Rattle.std.specs.List.{list_any}
+use Rattle.std.proofs.lemmas.Bool.{cases_Bool, cond-false, and_parts, both_ways, leb-true}
+use Rattle.crib_cards.specs.Cards.{card_value}
+use Rattle.crib_cards.specs.Sets.{has}
+use Rattle.crib_cards.specs.Sides.{same_side}
+use Rattle.crib_cards.specs.Start.{Start, pone_of, Hands}
+use Rattle.crib_cards.specs.declared.sides.Side.{Side}
+use Rattle.crib_cards.specs.declared.sides.Side.TheVariants.{Owner, Opponent}
+use Rattle.crib_cards.specs.declared.sides.Dealt.{Dealt}
+use Rattle.crib_cards.specs.declared.letters.Letter.{Letter}
+use Rattle.crib_cards.specs.declared.letters.Letter.TheVariants.{Seen}
+use Rattle.crib_cards.specs.declared.moves.Move.{Move}
+use Rattle.crib_cards.specs.declared.moves.Move.TheVariants as move
+use Rattle.crib_play.specs.declared.turns.Turn.{Turn}
+use Rattle.crib_play.specs.declared.turns.Turn.TheVariants as turns
+use Rattle.crib_play.specs.Record.{Record, mover}
+use Rattle.crib_play.specs.Score.{scores_after, is_done, side_asked, asked_after}
+use Rattle.crib_play.specs.Filled.{filled_record}
+use Rattle.crib_play.specs.Legal.{letters_of, cards_left, fits, MayTake, MayCome, IsLegal}
+use Rattle.crib_play.specs.History.{filled_moves, Event, Own, Theirs, event_by, acts_of, history_of, history_letters}
+use Rattle.crib_play.proofs.LegalRecords.{legal_filled, visible_filled}
+use Rattle.crib_play.proofs.RecordsReached.{asked_mover}
+use Rattle.crib_show.specs.Outcome.{outcome_of}
+use Rattle.crib_show.specs.declared.outcomes.Outcome.TheVariants.{Reached}
+use Rattle.crib_problem.specs.Setup.{Setup, IsSetup, start_of, hands_of, IsDealOf, BeginsAsPlayed}
+use Rattle.crib_problem.proofs.StartLemmas.{started}
+use Rattle.crib_plan.specs.declared.plan.Node.{Node}
+use Rattle.crib_plan.specs.Places.{stated_card}
+use Rattle.crib_game.specs.Replay.{full_with}
+use Rattle.crib_game.specs.Following.{place_of, is_playable}
+use Rattle.crib_know.specs.Knowledge.{played_events, their_ranks, count_after, least_value, asked_now}
+use Rattle.crib_know.proofs.LedHistories as know
+use Rattle.crib_know.specs.Hidden.{AgreesWith, BeginsAfter}
+use Rattle.crib_know.proofs.LedHistories.{IsLed}
+use Rattle.crib_know.proofs.Events.{Plays, plays_of, events, history_events}
+use Rattle.crib_know.proofs.AgreeingIsPassing.{PassesRanks}
+use Rattle.crib_know.proofs.PassingIsAgreeing.{agrees_passes, passing_plays}
+use Rattle.crib_know.proofs.Deals.{dealt_is}
+use Rattle.crib_know.proofs.KnowledgeFacts.{begin_more, first_deal_is}
+use Rattle.crib_know.proofs.OpeningLawProofs.{played_led}
+use Rattle.crib_check.specs.Sure.{IsFollowed, IsSure}
+use Rattle.crib_search.specs.Trees.{Tree}
+use Rattle.crib_search.specs.Finder.{Found, full_behind, options, OwnerFinds, Tries, Finds}
+use Rattle.crib_check.specs.Private.Histories.{place_by, FollowsBy}
+use Rattle.crib_check.proofs.PlaceByHistory.{follows_at_start, place_history, follows_from}
+use Rattle.crib_check.proofs.RecordsFromOpening.{begun_plays}
+use Rattle.crib_search.proofs.Options.{IsOption, option_is, option_from, no_option, option_left, left_option}
+use Rattle.crib_search.proofs.RecordHistories.{letters_past, left_of, fits_past, led_by_record}
+use Rattle.crib_search.proofs.FoundBySide.{for_turn, tries_there, opponent_none}
+use Rattle.crib_search.proofs.AlikeHistories.{AreAlike, alike_self, alike_back, letters_alike, asked_alike, theirs_alike, least_alike, option_alike, show_alike}
+use Rattle.crib_cards.proofs.Members.{has_here}
+use Rattle.crib_show.proofs.Jacks.{any_from}
+use Rattle.crib_check.proofs.VerdictAtStart.{not_stuck}
+use Rattle.crib_search.proofs.CardsToTry.{none_left_fits}
+
+-- a deal whose play is over is done
+pub over_done : (start : Start) (past : Record) → asked_after start past ≡ turns.Over → is_done start past ≡ true
+over_done start past e =
+    elim (cases_Bool (is_done start past)) [
+      | inl d ↦ d
+      | inr d ↦ absurd (asked_some (mover (pone_of start) past) (sym (cond-false (is_done start past) turns.Over (side_asked (mover (pone_of start) past)) d)
+          ∙ e))
+    ]
+  where
+    asked_some : (side : Side) → side_asked side ≡ turns.Over → ⊥
+    asked_some Owner h = cc
+    asked_some Opponent h = cc
+
+playable_some : (hands : Hands) (past : List Move) (stated : Option ℕ) → is_playable hands past stated ≡ true → (card : ℕ) × (stated ≡ Some card) ×
+    (has (cards_left hands Owner past) card ≡ true) × (fits past card ≡ true)
+playable_some hands past None e = absurd (both_ways false refl e)
+playable_some hands past (Some card) e = let parts = and_parts (has (cards_left hands Owner past) card) (fits past card) e in (card, refl, parts.0, parts.1)
+
+module _ (problem : Setup) (setup : IsSetup problem) (plan : List Node) (sure : IsSure problem plan) where
+  abbrev start : Start
+  start = start_of problem
+
+  -- ---- visible turns of a deal that follow the plan
+  module _ (dealt : Dealt) (deal : IsDealOf problem dealt) (history : List Event) (plays : Plays start (hands_of problem dealt) history)
+      (begins : BeginsAsPlayed problem (acts_of (pone_of start) (filled_moves start plays.seen))) (follows : FollowsBy plan problem.played history) where
+    abbrev hands : Hands
+    hands = hands_of problem dealt
+
+    abbrev past : List Move
+    past = filled_moves start plays.seen
+
+    legal : IsLegal start hands past
+    legal = legal_filled start hands plays.seen (dealt_is problem setup dealt deal) plays.legal
+
+    shows : history_of (pone_of start) past ≡ history
+    shows =
+        history_events start hands past (started problem setup) (dealt_is problem setup dealt deal) legal
+        ∙ ap (events start) (visible_filled start hands plays.seen (started problem setup) (dealt_is problem setup dealt deal) plays.legal)
+        ∙ plays.shows
+
+    followed : IsFollowed problem plan dealt past
+    followed =
+        let F : List Event → Type 0 = λ h. FollowsBy plan problem.played h in
+        record { deal = deal; legal = legal; begins = begins; follows = follows_from plan problem.played (pone_of start) past (subst F (sym shows) follows) }
+
+    letters_are : letters_of past ≡ filled_record start (history_letters history)
+    letters_are = letters_past problem setup dealt deal history plays
+
+    reached_here : asked_now problem history ≡ turns.Over → outcome_of (full_behind problem history dealt) ≡ Reached
+    reached_here over =
+        let done : is_done start (letters_of past) ≡ true = ap (is_done start) letters_are
+        ∙ over_done start (filled_record start (history_letters history)) over in
+        ap (λ (letters : Record). outcome_of (full_with problem dealt (scores_after start letters))) (sym letters_are)
+        ∙ sure.reached dealt past followed done
+
+    module _ (asked : asked_now problem history ≡ turns.Owner) (card : ℕ) (option : IsOption problem history card) where
+      not_done : is_done start (letters_of past) ≡ false
+      not_done = ap (is_done start) letters_are ∙ (asked_mover start (filled_record start (history_letters history)) Owner asked).0
+
+      mine : mover (pone_of start) (letters_of past) ≡ Owner
+      mine = ap (mover (pone_of start)) letters_are ∙ (asked_mover start (filled_record start (history_letters history)) Owner asked).1
+
+      some_fits : list_any (fits past) (cards_left hands Owner past) ≡ true
+      some_fits =
+          any_from (fits past) (cards_left hands Owner past) card (left_of problem setup dealt deal history plays card option.held option.free)
+          (fits_past problem setup dealt deal history plays card ∙ option.fits)
+
+      plays_one : is_playable hands past (stated_card plan (place_of plan problem.played (pone_of start) past)) ≡ true
+      plays_one =
+          not_stuck (is_done start (letters_of past)) (same_side (mover (pone_of start) (letters_of past)) Owner)
+          (list_any (fits past) (cards_left hands Owner past))
+          (is_playable hands past (stated_card plan (place_of plan problem.played (pone_of start) past))) (sure.never_stuck dealt past followed) not_done
+          (ap (λ (side : Side). same_side side Owner) mine) some_fits
+
+      place_is : place_of plan problem.played (pone_of start) past ≡ place_by plan problem.played history
+      place_is = place_history plan problem.played (pone_of start) past ∙ ap (place_by plan problem.played) shows
+
+      -- the plan states a card, and the card may come
+      stated_here : (stated : ℕ) × (stated_card plan (place_by plan problem.played history) ≡ Some stated) ×
+          know.MayCome problem history (Own (move.Card stated))
+      stated_here =
+          let one = playable_some hands past (stated_card plan (place_of plan problem.played (pone_of start) past)) plays_one in
+          let T : Side → Type 0 = λ side. MayTake hands side (move.Card one.0) past in
+          let may : MayCome start hands (move.Card one.0) past = record { not_done = not_done; may_take = subst T (sym mine) (one.2, one.3) } in
+          let C : Side → Type 0 = λ side. know.MayCome problem (history_of (pone_of start) past) (event_by side (move.Card one.0)) in
+          let H : List Event → Type 0 = λ h. know.MayCome problem h (Own (move.Card one.0)) in
+          let led = led_by_record problem setup dealt deal (move.Card one.0 ∷ past) (legal, may) in
+          (one.0, ap (stated_card plan) (sym place_is) ∙ one.1, subst H shows (subst C mine led.1))
+
+  -- ---- some deal has a history that can come
+  stated_at : (history : List Event) → IsLed problem history → BeginsAfter problem history → FollowsBy plan problem.played history →
+      asked_now problem history ≡ turns.Owner → (card : ℕ) → IsOption problem history card →
+      (stated : ℕ) × (stated_card plan (place_by plan problem.played history) ≡ Some stated) × know.MayCome problem history (Own (move.Card stated))
+  stated_at history led begun follows asked card option = for_deal _ (first_deal_is problem setup history led begun).agrees
+    where
+      for_deal : (dealt : Dealt) → AgreesWith problem history dealt → (stated : ℕ) × (stated_card plan (place_by plan problem.played history) ≡ Some stated) ×
+          know.MayCome problem history (Own (move.Card stated))
+      for_deal dealt agrees =
+          let some = begun_plays problem setup dealt agrees.0 history begun (plays_of start (hands_of problem dealt) history (started problem setup)
+          (dealt_is problem setup dealt agrees.0) agrees.1) in
+          stated_here dealt agrees.0 history some.plays some.begins follows asked card option
+
+  -- if no card is an option, the owner may say go
+  go_may : (history : List Event) → asked_now problem history ≡ turns.Owner → ((card : ℕ) → IsOption problem history card → ⊥) →
+      know.MayCome problem history (Own move.Go)
+  go_may history asked none = (
+    asked,
+    none_left_fits problem history none,
+  )
+
+  -- ---- a tree is found after each history that is alike to one that follows the plan
+  module _ (more : ℕ) (later : (one other : List Event) → Finds more problem one None → IsLed problem one → IsLed problem other → BeginsAfter problem one →
+      BeginsAfter problem other → AreAlike one other → FollowsBy plan problem.played other → ⊥)
+      (one other : List Event) (finds : Finds (suc more) problem one None) (led_one : IsLed problem one) (led_other : IsLed problem other)
+      (begun_one : BeginsAfter problem one) (begun_other : BeginsAfter problem other) (alike : AreAlike one other)
+      (follows : FollowsBy plan problem.played other) where
+    abbrev find : Found
+    find = λ further after. Finds more problem further after
+
+    asked_other : (turn : Turn) → asked_now problem one ≡ turn → asked_now problem other ≡ turn
+    asked_other turn e = sym (asked_alike problem setup one other alike led_one led_other) ∙ e
+
+    reached : asked_now problem one ≡ turns.Over → (dealt : Dealt) → AgreesWith problem one dealt → outcome_of (full_behind problem one dealt) ≡ Reached
+    reached over dealt agrees =
+        let P : ℕ → Type 0 = λ n. PassesRanks n (their_ranks one) dealt.hold in
+        let R : List ℕ → Type 0 = λ ranks. PassesRanks (least_value problem other) ranks dealt.hold in
+        let passes = subst R (theirs_alike one other alike)
+        (subst P (least_alike problem one other alike) (agrees_passes problem setup dealt agrees.0 one agrees)) in
+        let some = begun_plays problem setup dealt agrees.0 other begun_other (passing_plays problem setup dealt agrees.0 other led_other passes) in
+        ap (λ (letters : List Letter). outcome_of (full_with problem dealt (scores_after start (filled_record start letters)))) (letters_alike one other alike)
+        ∙ reached_here dealt agrees.0 other some.plays some.begins follows (asked_other turns.Over over)
+
+    goes : asked_now problem one ≡ turns.Owner → options problem one ≡ [] → Finds more problem (Own move.Go ∷ one) None → ⊥
+    goes asked none found =
+        later (Own move.Go ∷ one) (Own move.Go ∷ other) found
+        (led_one, go_may one asked (no_option problem one none)) (
+          led_other,
+          go_may other (asked_other turns.Owner asked)
+              (λ card is. let twin = option_alike problem setup other one (alike_back one other alike) led_other led_one card is in
+              no_option problem one none twin.0 twin.1),
+        )
+        (begin_more problem (Own move.Go) one begun_one)
+        (begin_more problem (Own move.Go) other begun_other)
+        (alike, refl)
+        (follows, λ late. tt)
+
+    tries : asked_now problem one ≡ turns.Owner → (card : ℕ) → IsOption problem one card → Tries find one (options problem one) None → ⊥
+    tries asked card is tried =
+        let mine = option_alike problem setup one other alike led_one led_other card is in
+        let stated = stated_at other led_other begun_other follows (asked_other turns.Owner asked) mine.0 mine.1 in
+        let option = option_left problem other stated.0 stated.2.1 stated.2.2 in
+        let twin = option_alike problem setup other one (alike_back one other alike) led_other led_one stated.0 option in
+        let first = option_from problem one twin.0 twin.1 in
+        let fit = option_is problem one first.first first.among in
+        tries_there find one (options problem one) None first.first tried first.among
+        (λ after found e.
+        let F : Option Tree → Type 0 = λ result. Finds more problem (Own (move.Card first.first) ∷ one) result in
+        later (Own (move.Card first.first) ∷ one) (Own (move.Card stated.0) ∷ other) (subst F e found)
+        (led_one, (asked, left_option problem one first.first setup fit, leb-true (count_after problem one + card_value first.first) 31 fit.fits))
+        (led_other, stated.2)
+        (begin_more problem (Own (move.Card first.first)) one begun_one)
+        (begin_more problem (Own (move.Card stated.0)) other begun_other)
+        (alike, ap Seen (first.same ∙ twin.2))
+        (follows, λ late. stated.1))
+        refl
+
+    owner : asked_now problem one ≡ turns.Owner → (cards : List ℕ) → options problem one ≡ cards → OwnerFinds find one cards None → ⊥
+    owner asked [] e found = goes asked e found
+    owner asked (first ∷ cards) e found =
+        let T : List ℕ → Type 0 = λ xs. Tries find one xs None in
+        tries asked first (option_is problem one first (ap (λ (xs : List ℕ). has xs first) e ∙ has_here first cards)) (subst T (sym e) found)
+
+    by_turn : (turn : Turn) → asked_now problem one ≡ turn → ⊥
+    by_turn turns.Over e =
+        elim (for_turn more problem one None turns.Over e finds) [
+          | inl some ↦ let no_is = some.1 in absurd cc
+          | inr lacks ↦ lacks.0 (reached e)
+        ]
+    by_turn turns.Owner e = owner e (options problem one) refl (for_turn more problem one None turns.Owner e finds)
+    by_turn turns.Opponent e =
+        let lacks = opponent_none find problem one (for_turn more problem one None turns.Opponent e finds) in
+        later (Theirs lacks.0 ∷ one) (Theirs lacks.0 ∷ other) lacks.2
+        (led_one, lacks.1)
+        (led_other, show_alike problem setup one other alike led_one led_other begun_other lacks.0 lacks.1)
+        (begin_more problem (Theirs lacks.0) one begun_one)
+        (begin_more problem (Theirs lacks.0) other begun_other)
+        (alike, refl)
+        (follows, λ late. tt)
+
+  none_after : (more : ℕ) (one other : List Event) → Finds more problem one None → IsLed problem one → IsLed problem other → BeginsAfter problem one →
+      BeginsAfter problem other → AreAlike one other → FollowsBy plan problem.played other → ⊥
+  none_after zero one other finds led_one led_other begun_one begun_other alike follows = finds
+  none_after (suc more) one other finds led_one led_other begun_one begun_other alike follows =
+      by_turn more (none_after more) one other finds led_one led_other begun_one begun_other alike follows (asked_now problem one) refl
+
+  -- so a tree is found at the start
+  pub none_is_found : Finds 30 problem (played_events problem) None → ⊥
+  none_is_found finds =
+      let start_led = played_led problem setup in
+      let begun : BeginsAfter problem (played_events problem) = record { later = []; parts = refl } in
+      none_after 30 (played_events problem) (played_events problem) finds start_led start_led begun begun (alike_self (played_events problem))
+      (follows_at_start plan problem)

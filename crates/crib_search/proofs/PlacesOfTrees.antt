@@ -1,0 +1,103 @@
+-- The places of a plan that stand for a tree.
+use Rattle.std.proofs.Common.{◌≡◌, ◌⊎◌, ℕ, zero, suc, Bool, true, false, not, ◌&&◌, cond, List, [], ◌∷◌, Option, Some, slice_get, refl, sym, ap, subst, ◌∙◌}
+use Rattle.std.proofs.Common.{inl, inr}
+use Rattle.std.specs.Prelude.{unwrap_or}
+use Rattle.std.specs.List.{filter, list_all}
+use Rattle.std.proofs.lemmas.Bool.{cases_Bool, and_parts, both_ways}
+use Rattle.crib_cards.specs.Letters.{letter_place}
+use Rattle.crib_cards.specs.declared.letters.Letter.{Letter}
+use Rattle.crib_plan.specs.declared.plan.Next.{Next}
+use Rattle.crib_plan.specs.declared.plan.Next.TheVariants.{End}
+use Rattle.crib_plan.specs.declared.plan.Node.{Node}
+use Rattle.crib_plan.specs.declared.plan.Node.TheVariants.{Play, See}
+use Rattle.crib_plan.specs.Places.{node_at, after_letter, place_after_letter}
+use Rattle.crib_search.specs.Trees.{Tree, Finish, Plays, Sees, Branches, NoBranch, Branch, branches_of, same_tree, is_finish, is_play, joined_tree}
+use Rattle.crib_search.specs.Trees.{joined_tree_from}
+use Rattle.crib_search.proofs.Trees.{In, in_get, in_filter, in_all, finish_is}
+
+-- a place of a plan stands for a tree: from there on the plan is the tree
+abbrev mutual
+  pub Stands : List Node → Tree → Next → Type 0
+  Stands plan Finish place = place ≡ End
+  Stands plan (Plays card next) place = (after : Next) × (node_at plan place ≡ Some (Play card after)) × Stands plan next after
+  Stands plan (Sees branches) place = (nexts : List Next) × (node_at plan place ≡ Some (See nexts)) × StandAll plan branches nexts
+
+  pub StandAll : List Node → Branches → List Next → Type 0
+  StandAll plan NoBranch nexts = nexts ≡ []
+  StandAll plan (Branch tree branches) nexts = (next : Next) × (others : List Next) × (nexts ≡ next ∷ others) × Stands plan tree next ×
+      StandAll plan branches others
+
+-- a place will do for a tree: it stands for the tree, or the tree is the end
+abbrev pub Does : List Node → Tree → Next → Type 0
+Does plan tree place = (tree ≡ Finish) ⊎ Stands plan tree place
+
+module _ (plan : List Node) where
+  -- the place of one branch
+  record BranchStands (tree : Tree) (nexts : List Next) (place : ℕ) : Type 0 where
+    next : Next
+    is : slice_get nexts place ≡ Some next
+    stands : Stands plan tree next
+
+  branch_stands : (trees : List Tree) (nexts : List Next) (place : ℕ) (tree : Tree) → StandAll plan (branches_of trees) nexts →
+      slice_get trees place ≡ Some tree → BranchStands tree nexts place
+  branch_stands [] nexts place tree all e = absurd cc
+  branch_stands (first ∷ trees) nexts zero tree all e =
+      let same : first ≡ tree = cc in
+      let S : Tree → Type 0 = λ t. Stands plan t all.0 in
+      record { next = all.0; is = ap (λ (xs : List Next). slice_get xs 0) all.2; stands = subst S same all.3 }
+  branch_stands (first ∷ trees) nexts (suc place) tree all e =
+      let rest = branch_stands trees all.1 place tree all.4 e in
+      record { next = rest.next; is = ap (λ (xs : List Next). slice_get xs (suc place)) all.2 ∙ rest.is; stands = rest.stands }
+
+  -- at a play node, a letter does not move the place
+  play_stays : (tree : Tree) (place : Next) (letter : Letter) → is_play tree ≡ true → Does plan tree place →
+      Stands plan tree (place_after_letter plan place letter)
+  play_stays Finish place letter p d = absurd (both_ways false refl p)
+  play_stays (Sees branches) place letter p d = absurd (both_ways false refl p)
+  play_stays (Plays card next) place letter p (inl e) = absurd cc
+  play_stays (Plays card next) place letter p (inr stands) =
+      let stays : place_after_letter plan place letter ≡ place = ap (λ (node : Option Node). after_letter node letter place) stands.1 in
+      let S : Next → Type 0 = λ there. Stands plan (Plays card next) there in
+      subst S (sym stays) stands
+
+  module _ (trees : List Tree) (letter : Letter) (tree : Tree) (is : slice_get trees (letter_place letter) ≡ Some tree) (place : Next) where
+    abbrev further : Next
+    further = place_after_letter plan place letter
+
+    see_does : Does plan (Sees (branches_of trees)) place → Does plan tree further
+    see_does (inl e) = absurd cc
+    see_does (inr stands) =
+        let found = branch_stands trees stands.0 (letter_place letter) tree stands.2 is in
+        let goes : further ≡ found.next = ap (λ (node : Option Node). after_letter node letter place) stands.1
+        ∙ ap (λ (next : Option Next). unwrap_or next End) found.is in
+        let S : Next → Type 0 = λ next. Stands plan tree next in
+        inr (subst S (sym goes) found.stands)
+
+    does_from : (left : List Tree) → filter (λ t. not (is_finish t)) trees ≡ left → Does plan (joined_tree_from trees left) place → Does plan tree further
+    does_from left e does =
+        elim (cases_Bool (is_finish tree)) [
+          | inl f ↦ inl (finish_is tree f)
+          | inr n ↦
+              let I : List Tree → Type 0 = λ kept. In tree kept in
+              does_in left (subst I e (in_filter (λ t. not (is_finish t)) trees tree (in_get trees (letter_place letter) tree is) (ap not n))) does
+        ]
+      where
+        one_play : (first : Tree) (others : List Tree) → In tree (first ∷ others) → is_play first ≡ true → list_all (same_tree first) others ≡ true →
+            Does plan first place → Does plan tree further
+        one_play first others (inl here) p all does = let S : Tree → Type 0 = λ t. Stands plan t further in
+            inr (subst S here (play_stays first place letter p does))
+        one_play first others (inr there) p all does = let S : Tree → Type 0 = λ t. Stands plan t further in
+            inr (subst S (in_all first others tree all there) (play_stays first place letter p does))
+
+        does_in : (left : List Tree) → In tree left → Does plan (joined_tree_from trees left) place → Does plan tree further
+        does_in [] h does = absurd h
+        does_in (first ∷ others) h does = choose (is_play first && list_all (same_tree first) others) refl does
+          where
+            choose : (b : Bool) → (is_play first && list_all (same_tree first) others) ≡ b → Does plan (cond b first (Sees (branches_of trees))) place →
+                Does plan tree further
+            choose true c does = let parts = and_parts (is_play first) (list_all (same_tree first) others) c in one_play first others h parts.0 parts.1 does
+            choose false c does = see_does does
+
+    -- if a place will do for the joined tree, its place after a letter will do for the branch of that letter
+    pub joined_does : Does plan (joined_tree trees) place → Does plan tree further
+    joined_does does = does_from (filter (λ t. not (is_finish t)) trees) refl does

@@ -1,0 +1,159 @@
+-- The plan that is made of the nodes that a walk left, and the answers of the finder.
+use Rattle.std.proofs.Common.{◌≡◌, ℕ, ◌<◌, ◌≤◌, List, [], ◌∷◌, ◌++◌, length, reverse, Option, Some, None, refl, sym, ap, subst, ◌∙◌, arith}
+use Rattle.std.specs.Prelude.{Result, Ok, Err, IsErrAnd}
+use Rattle.std.specs.List.{AllByRecursion}
+use Rattle.std.proofs.lemmas.List.{length-reverse, reverse-append}
+use Rattle.crib_problem.specs.Setup.{Setup, IsSetup}
+use Rattle.crib_plan.specs.declared.plan.Node.{Node}
+use Rattle.crib_plan.specs.Nodes.{ArePlan}
+use Rattle.crib_know.specs.Knowledge.{Knowledge, played_events, knowledge_after}
+use Rattle.crib_know.specs.Hidden.{KnowsAfter}
+use Rattle.crib_know.proofs.LedHistories.{IsLed}
+use Rattle.crib_know.proofs.RecordTurns.{possible_led}
+use Rattle.crib_check.specs.Sure.{IsSure}
+use Rattle.crib_search.specs.declared.nodes.DraftPlace.{DraftPlace}
+use Rattle.crib_search.specs.declared.nodes.DraftNode.{DraftNode}
+use Rattle.crib_search.specs.Trees.{Tree, trees_after_walk, plan_of_tree}
+use Rattle.crib_search.specs.Private.Nodes.{AreKept, Names, NamesFound}
+use Rattle.crib_search.specs.Private.Numbers.{AreLeft, AreMarks, IsWalk, nodes_of_places}
+use Rattle.crib_search.specs.Finder.{FindsTree, IsFound, ExceedsLimit}
+use Rattle.crib_search.specs.Winnable.{IsWinnable}
+use Rattle.crib_search.specs.Private.Ahead.{turns_ahead}
+use Rattle.crib_search.specs.Private.Search.{IsAnswer}
+use Rattle.crib_play.specs.History.{Event}
+use Rattle.crib_search.proofs.TurnsAhead.{turn_falls}
+use Rattle.crib_search.proofs.Trees.{same_self}
+use Rattle.crib_search.proofs.TreeWalks.{walk_closed, leads_in}
+use Rattle.crib_search.proofs.NumberedNodes.{nodes_are, are_nodes, plan_count, are_fine, all_kept, same_count}
+use Rattle.crib_search.proofs.FoundBySide.{tree_of_finds}
+use Rattle.crib_search.proofs.LawProofs.{sure_law, none_law}
+use Rattle.crib_search.proofs.OneTree.{one_law}
+
+all_split : (P : ℕ → Type 0) (xs ys : List ℕ) → AllByRecursion P (xs ++ ys) → AllByRecursion P xs × AllByRecursion P ys
+all_split P [] ys all = (tt, all)
+all_split P (x ∷ xs) ys all = let rest = all_split P xs ys all.1 in ((all.0, rest.0), rest.1)
+
+all_back : (P : ℕ → Type 0) (xs : List ℕ) → AllByRecursion P (reverse xs) → AllByRecursion P xs
+all_back P [] all = tt
+all_back P (x ∷ xs) all =
+    let A : List ℕ → Type 0 = λ ys. AllByRecursion P ys in
+    let parts = all_split P (reverse xs) (x ∷ []) (subst A (reverse-append (x ∷ []) xs) all) in
+    (parts.1.0, all_back P xs parts.0)
+
+-- ---- the plan
+module _ (draft_nodes : List DraftNode) (kept : AreKept draft_nodes) (first : DraftPlace) (order : List ℕ) (marks : List (Option ℕ))
+    (walk : IsWalk draft_nodes first [] (reverse order)) (marked : AreMarks marks (reverse order)) (whole : length marks ≡ length draft_nodes) (tree : Tree)
+    (names : Names draft_nodes tree first) where
+  abbrev all : List Tree
+  all = trees_after_walk tree []
+
+  are : AreLeft draft_nodes all (reverse order)
+  are = walk tree [] names tt
+
+  pub size_is : length (plan_of_tree tree) ≡ length order
+  size_is = plan_count all all (walk_closed tree) ∙ same_count draft_nodes kept all (reverse order) are ∙ length-reverse order
+
+  pub order_kept : AllByRecursion (λ place. place < length draft_nodes) order
+  order_kept = all_back (λ place. place < length draft_nodes) order (all_kept draft_nodes kept all (reverse order) are)
+
+  pub plan_is : nodes_of_places draft_nodes marks (length order) (reverse order) ≡ plan_of_tree tree
+  plan_is =
+      nodes_are draft_nodes kept all (reverse order) are marks (length order) marked whole (sym (length-reverse order)) all (reverse order) are
+      (λ other h. leads_in all (walk_closed tree) other h) same_self
+
+  pub plan_keeps : (plan : List Node) → plan ≡ nodes_of_places draft_nodes marks (length order) (reverse order) → length order ≤ 65535 → ArePlan plan
+  plan_keeps plan made few =
+      let same : plan ≡ plan_of_tree tree = made ∙ plan_is in
+      let P : List Node → Type 0 = λ nodes. ArePlan nodes in
+      let size = size_is in
+      subst P (sym same) (
+        omega (arith, size, few),
+        are_nodes all (length (plan_of_tree tree)) (plan_count all all (walk_closed tree)) (walk_closed tree)
+            (are_fine draft_nodes kept all (reverse order) are),
+      )
+
+-- ---- from the start
+first_ahead : (problem : Setup) → turns_ahead (knowledge_after problem []) ≡ 24
+first_ahead problem = refl
+
+-- no more turns may come than at the first lead
+ahead_led : (problem : Setup) → IsSetup problem → (history : List Event) → IsLed problem history → turns_ahead (knowledge_after problem history) ≤ 24
+ahead_led problem setup [] led = let e = first_ahead problem in omega (arith, e)
+ahead_led problem setup (event ∷ history) led =
+    let falls = turn_falls problem setup event history led in
+    let before = ahead_led problem setup history led.0 in
+    omega (arith, falls, before)
+
+module _ (draft_nodes : List DraftNode) (problem : Setup) (start : Knowledge) (knows : KnowsAfter start problem (played_events problem)) where
+  abbrev at : List Event
+  at = played_events problem
+
+  less : turns_ahead start < 30
+  less =
+      let most = ahead_led problem knows.setup at (possible_led problem knows.setup at knows.possible) in
+      let same : turns_ahead start ≡ turns_ahead (knowledge_after problem at) = ap turns_ahead knows.knowledge in
+      omega (arith, most, same)
+
+  pub finds_none : IsAnswer draft_nodes problem start None → FindsTree problem None
+  finds_none answer = named (answer at 30 knows less).0 (answer at 30 knows less).1
+      (tree_of_finds problem (answer at 30 knows less).0 (answer at 30 knows less).2)
+    where
+      named : (tree : Option Tree) → NamesFound draft_nodes tree None → FindsTree problem tree → FindsTree problem None
+      named None names finds = finds
+      named (Some tree) names finds = let e = names.1 in absurd cc
+
+  pub finds_some : (draft_place : DraftPlace) → IsAnswer draft_nodes problem start (Some draft_place) → (tree : Tree) × Names draft_nodes tree draft_place
+      × FindsTree problem (Some tree)
+  finds_some draft_place answer = named (answer at 30 knows less).0 (answer at 30 knows less).1
+      (tree_of_finds problem (answer at 30 knows less).0 (answer at 30 knows less).2)
+    where
+      some_draft_place : (one other : DraftPlace) → Some one ≡ Some other → one ≡ other
+      some_draft_place one other e = cc
+
+      named : (tree : Option Tree) → NamesFound draft_nodes tree (Some draft_place) → FindsTree problem tree → (tree : Tree)
+          × Names draft_nodes tree draft_place ×
+          FindsTree problem (Some tree)
+      named None names finds = absurd cc
+      named (Some tree) names finds =
+          let N : DraftPlace → Type 0 = λ s. Names draft_nodes tree s in
+          (tree, subst N (some_draft_place names.0 draft_place (sym names.1)) names.2, finds)
+
+-- ---- what an answer says
+module _ (problem : Setup) (setup : IsSetup problem) (limit : ℕ) where
+  pub is_none : FindsTree problem None → IsFound problem None
+  is_none finds = (None, finds, refl)
+
+  pub none_says : IsFound problem None → ¬ IsWinnable problem
+  none_says found = none_law problem setup found
+
+  pub none_small : IsFound problem None → ExceedsLimit problem limit → ⊥
+  none_small found large = let e = one_law problem None (Some large.0) setup found large.1 in cc
+
+  pub is_some_plan : (tree : Tree) (plan : List Node) → FindsTree problem (Some tree) → plan ≡ plan_of_tree tree → IsFound problem (Some plan)
+  is_some_plan tree plan finds same = (Some tree, finds, ap (λ (nodes : List Node). Some nodes) same)
+
+  pub plan_sure : (plan : List Node) → IsFound problem (Some plan) → (other : List Node) → Some plan ≡ Some other → IsSure problem other
+  plan_sure plan found other e =
+      let S : List Node → Type 0 = λ nodes. IsSure problem nodes in
+      subst S (some_same plan other e) (sure_law problem plan setup found)
+    where
+      some_same : (a b : List Node) → Some a ≡ Some b → a ≡ b
+      some_same a b e = cc
+
+  pub plan_small : (plan : List Node) → IsFound problem (Some plan) → length plan ≤ limit → ExceedsLimit problem limit → ⊥
+  plan_small plan found few large =
+      let same : plan ≡ large.0 = some_same plan large.0 (one_law problem (Some plan) (Some large.0) setup found large.1) in
+      let size : length plan ≡ length large.0 = ap length same in
+      let more = large.2 in
+      absurd (omega (arith, few, size, more))
+    where
+      some_same : (a b : List Node) → Some a ≡ Some b → a ≡ b
+      some_same a b e = cc
+
+  pub exceeds : (tree : Tree) → FindsTree problem (Some tree) → limit < length (plan_of_tree tree) → ExceedsLimit problem limit
+  exceeds tree finds more = (plan_of_tree tree, (Some tree, finds, refl), more)
+
+-- a fault that is passed on
+pub err_is : {T E : Type 0} (result : Result T E) (fault large : E) → IsErrAnd result (λ y. y ≡ fault) → result ≡ Err large → fault ≡ large
+err_is (Ok value) fault large same e = absurd same
+err_is (Err other) fault large same e = sym same ∙ cc

@@ -1,0 +1,75 @@
+-- The nodes that the code keeps of plans in the making, and the trees that they stand for.
+use Rattle.std.specs.Prelude.{◌≡◌, ℕ, ◌<◌, ◌==◌, Bool, true, false, List, [], ◌∷◌, length, slice_get, Option}
+use Rattle.std.specs.Prelude.{Some, None}
+use Rattle.std.specs.List.{AllByRecursion}
+use Rattle.crib_cards.specs.Cards.{IsCard}
+use Rattle.crib_search.specs.declared.nodes.DraftPlace.{DraftPlace}
+use Rattle.crib_search.specs.declared.nodes.DraftPlace.TheVariants.{End, At}
+use Rattle.crib_search.specs.declared.nodes.DraftNode.{DraftNode}
+use Rattle.crib_search.specs.declared.nodes.DraftNode.TheVariants.{Play, See}
+use Rattle.crib_search.specs.Trees.{Tree, Finish, Plays, Sees, Branches, NoBranch, Branch}
+
+-- a place is the end, or a place below a number
+abbrev pub IsEarlier : ℕ → DraftPlace → Type 0
+IsEarlier count End = Unit {0}
+IsEarlier count (At place) = place < count
+
+-- a node leads only to places below a number: it plays a card, or it has fourteen branches
+abbrev pub IsBelow : ℕ → DraftNode → Type 0
+IsBelow count (Play card next) = IsCard card × IsEarlier count next
+IsBelow count (See nexts) = (length nexts ≡ 14) × AllByRecursion (IsEarlier count) nexts
+
+-- kept nodes: each leads only to nodes before it, and each stands once
+pub record AreKept (draft_nodes : List DraftNode) : Type 0 where
+  pub earlier : (place : ℕ) (draft_node : DraftNode) → slice_get draft_nodes place ≡ Some draft_node →
+      IsBelow place draft_node
+  pub once : (place other : ℕ) (draft_node : DraftNode) → slice_get draft_nodes place ≡ Some draft_node →
+      slice_get draft_nodes other ≡ Some draft_node → place ≡ other
+
+-- each kept node stays at its place
+abbrev pub IsMore : List DraftNode → List DraftNode → Type 0
+IsMore before after =
+    (place : ℕ) (draft_node : DraftNode) → slice_get before place ≡ Some draft_node →
+    slice_get after place ≡ Some draft_node
+
+-- a place names a tree: from the place on, the plan in the making is the tree
+abbrev mutual
+  pub Names : List DraftNode → Tree → DraftPlace → Type 0
+  Names draft_nodes Finish draft_place = draft_place ≡ End
+  Names draft_nodes (Plays card next) draft_place =
+      (place : ℕ) × (after : DraftPlace) × (draft_place ≡ At place)
+      × (slice_get draft_nodes place ≡ Some (Play card after))
+      × Names draft_nodes next after
+  Names draft_nodes (Sees branches) draft_place =
+      (place : ℕ) × (nexts : List DraftPlace) × (draft_place ≡ At place)
+      × (slice_get draft_nodes place ≡ Some (See nexts))
+      × NameAll draft_nodes branches nexts
+
+  pub NameAll : List DraftNode → Branches → List DraftPlace → Type 0
+  NameAll draft_nodes NoBranch nexts = nexts ≡ []
+  NameAll draft_nodes (Branch tree branches) nexts =
+      (next : DraftPlace) × (others : List DraftPlace) × (nexts ≡ next ∷ others) × Names draft_nodes tree next
+      × NameAll draft_nodes branches others
+
+-- an answer names what was found: a place that names the tree, or none
+abbrev pub NamesFound : List DraftNode → Option Tree → Option DraftPlace → Type 0
+NamesFound draft_nodes None found = found ≡ None
+NamesFound draft_nodes (Some tree) found =
+    (draft_place : DraftPlace) × (found ≡ Some draft_place) × Names draft_nodes tree draft_place
+
+-- the place of the first node among some places, if one is no end
+abbrev pub first_place : List DraftPlace → Option ℕ
+first_place [] = None
+first_place (End ∷ draft_places) = first_place draft_places
+first_place (At place ∷ draft_places) = Some place
+
+-- whether a place is the end or this node
+abbrev pub goes_to : ℕ → DraftPlace → Bool
+goes_to place End = true
+goes_to place (At other) = other == place
+
+-- whether there is a node and it plays a card
+abbrev pub is_play_at : Option DraftNode → Bool
+is_play_at None = false
+is_play_at (Some (Play card next)) = true
+is_play_at (Some (See nexts)) = false

@@ -1,0 +1,85 @@
+-- The numbers that the code gives to the nodes of a plan, from a walk over the kept nodes. `plan_of_tree` says the same
+-- of trees. A walk leaves a node after all nodes that the node leads to.
+use Rattle.std.specs.Prelude.{◌≡◌, ℕ, ◌-◌, ◌<◌, ◌==◌, List, [], ◌∷◌, ◌++◌, length, map, slice_get, Bool, false, is_some}
+use Rattle.std.specs.Prelude.{Option, Some, None, if◌then◌else◌}
+use Rattle.std.specs.List.{AllZip}
+use Rattle.crib_plan.specs.declared.plan.Next.{Next}
+use Rattle.crib_plan.specs.declared.plan.Next.TheVariants as next
+use Rattle.crib_plan.specs.declared.plan.Node.{Node}
+use Rattle.crib_plan.specs.declared.plan.Node.TheVariants as node
+use Rattle.crib_search.specs.declared.nodes.DraftPlace.{DraftPlace}
+use Rattle.crib_search.specs.declared.nodes.DraftPlace.TheVariants.{End, At}
+use Rattle.crib_search.specs.declared.nodes.DraftNode.{DraftNode}
+use Rattle.crib_search.specs.declared.nodes.DraftNode.TheVariants.{Play, See}
+use Rattle.crib_search.specs.Trees.{Tree, Branches, trees_after_walk, trees_after_walks}
+use Rattle.crib_search.specs.Private.Nodes.{Names, NameAll}
+
+-- the places that a walk left name these trees; both lists have the last one first
+abbrev pub AreLeft : List DraftNode → List Tree → List ℕ → Type 0
+AreLeft draft_nodes trees left = AllZip (λ tree place. Names draft_nodes tree (At place)) trees left
+
+-- how many places the walk left before it left this one; none, if it did not leave it. The list has the last place
+-- first
+abbrev pub mark_of : ℕ → List ℕ → Option ℕ
+mark_of place [] = None
+mark_of place (other ∷ left) = if other == place then Some (length left) else mark_of place left
+
+-- each place is marked with how many places were left before it, or with none if it was not left
+abbrev pub AreMarks : List (Option ℕ) → List ℕ → Type 0
+AreMarks marks left = (place : ℕ) → place < length marks → slice_get marks place ≡ Some (mark_of place left)
+
+-- a walk from a place: for each tree that the place names, it leaves the places of what the walk of the tree leaves
+abbrev pub IsWalk : List DraftNode → DraftPlace → List ℕ → List ℕ → Type 0
+IsWalk draft_nodes draft_place before after =
+    (tree : Tree) (trees : List Tree) → Names draft_nodes tree draft_place → AreLeft draft_nodes trees before →
+    AreLeft draft_nodes (trees_after_walk tree trees) after
+
+-- a walk from some places, one after another: the same, for the branches that they name
+abbrev pub IsWalkAll : List DraftNode → List DraftPlace → List ℕ → List ℕ → Type 0
+IsWalkAll draft_nodes draft_places before after =
+    (branches : Branches) (trees : List Tree) → NameAll draft_nodes branches draft_places →
+    AreLeft draft_nodes trees before →
+    AreLeft draft_nodes (trees_after_walks branches trees) after
+
+-- a walk from all places that a node leads to
+abbrev pub WalksDraftNode : List DraftNode → DraftNode → List ℕ → List ℕ → Type 0
+WalksDraftNode draft_nodes (Play card next) before after = IsWalk draft_nodes next before after
+WalksDraftNode draft_nodes (See nexts) before after = IsWalkAll draft_nodes nexts before after
+
+-- a walk from all places that the node at a place leads to
+abbrev pub IsWalkBelow : List DraftNode → ℕ → List ℕ → List ℕ → Type 0
+IsWalkBelow draft_nodes place before after =
+    (draft_node : DraftNode) → slice_get draft_nodes place ≡ Some draft_node →
+    WalksDraftNode draft_nodes draft_node before after
+
+-- whether a place is marked
+abbrev pub is_marked : Option (Option ℕ) → Bool
+is_marked None = false
+is_marked (Some mark) = is_some mark
+
+-- where a plan goes on for a mark. The node that was left last has number 0
+abbrev pub number_for : ℕ → Option (Option ℕ) → Next
+number_for count None = next.End
+number_for count (Some None) = next.End
+number_for count (Some (Some mark)) = next.To (count - 1 - mark)
+
+-- where the plan goes on for a place
+abbrev pub next_for : List (Option ℕ) → ℕ → DraftPlace → Next
+next_for marks count End = next.End
+next_for marks count (At place) = number_for count (slice_get marks place)
+
+-- the node of the plan for a kept node
+abbrev pub node_for : List (Option ℕ) → ℕ → DraftNode → Node
+node_for marks count (Play card next) = node.Play card (next_for marks count next)
+node_for marks count (See nexts) = node.See (map (next_for marks count) nexts)
+
+-- the node of the plan as a list: empty, if no node is kept there
+abbrev pub nodes_at : List (Option ℕ) → ℕ → Option DraftNode → List Node
+nodes_at marks count None = []
+nodes_at marks count (Some draft_node) = node_for marks count draft_node ∷ []
+
+-- the nodes of the plan for some places
+abbrev pub nodes_of_places : List DraftNode → List (Option ℕ) → ℕ → List ℕ → List Node
+nodes_of_places draft_nodes marks count [] = []
+nodes_of_places draft_nodes marks count (place ∷ left) =
+    nodes_at marks count (slice_get draft_nodes place) ++ nodes_of_places draft_nodes marks count left

@@ -1,0 +1,249 @@
+-- The first choice of some cards that gives a deal.
+use Rattle.std.proofs.Common.{◌≡◌, ◌⊎◌, ℕ, zero, suc, ◌+◌, ◌-◌, ◌<◌, ◌≤◌, Bool, true, false, cond, List, [], ◌∷◌, ◌++◌, length, take, set, Some, None, refl}
+use Rattle.std.proofs.Common.{sym, ap, ◌∙◌, inl, inr, subst, append_assoc, append-nil, arith}
+use Rattle.std.specs.Prelude.{Option}
+use Rattle.std.specs.Option.{option_or}
+use Rattle.std.proofs.lemmas.Bool.{cases_eq, both_ways, cond-true, cond-false}
+use Rattle.std.proofs.lemmas.List.{take_all}
+use Rattle.crib_cards.specs.Order.{is_before}
+use Rattle.crib_cards.specs.Sets.{has}
+use Rattle.crib_cards.specs.declared.sides.Dealt.{Dealt}
+use Rattle.crib_show.specs.Private.Listing.{first_choice}
+use Rattle.crib_cards.proofs.Members.{AreAmong, has_here, has_there, has_cases}
+use Rattle.crib_show.proofs.RisingLists.{RisesFrom, none_below, rises_lower}
+use Rattle.crib_cards.proofs.SetWalks.{take_set}
+use Rattle.crib_cards.proofs.DictionaryOrder.{before_first, before_rest}
+
+-- ---- one card after another
+
+module _ (gives : List ℕ → Option Dealt) (may : ℕ → Bool) (taken : List ℕ) (n : ℕ) where
+  first_choice-cons : (card : ℕ) (cards : List ℕ) → first_choice gives may taken (suc n) (card ∷ cards) ≡ option_or
+      (cond (may card) (first_choice gives may (taken ++ card ∷ []) n cards) None) (first_choice gives may taken (suc n) cards)
+  unfolding first_choice
+  first_choice-cons card cards = refl
+
+  pub choice_none : (cards : List ℕ) → cards ≡ [] → first_choice gives may taken (suc n) cards ≡ None
+  unfolding first_choice
+  choice_none cards is = ap (first_choice gives may taken (suc n)) is
+
+  pub choice_found : (cards rest : List ℕ) (card : ℕ) (found : Dealt) → cards ≡ card ∷ rest → may card ≡ true →
+      first_choice gives may (taken ++ card ∷ []) n rest ≡ Some found → first_choice gives may taken (suc n) cards ≡ Some found
+  choice_found cards rest card found is may_it gives_it =
+      ap (first_choice gives may taken (suc n)) is ∙ first_choice-cons card rest
+      ∙ ap (λ o. option_or o (first_choice gives may taken (suc n) rest)) (cond-true (may card) _ None may_it ∙ gives_it)
+
+  pub choice_barred : (cards rest : List ℕ) (card : ℕ) → cards ≡ card ∷ rest → may card ≡ false → first_choice gives may taken (suc n) cards
+      ≡ first_choice gives may taken (suc n) rest
+  choice_barred cards rest card is may_not =
+      ap (first_choice gives may taken (suc n)) is ∙ first_choice-cons card rest
+      ∙ ap (λ o. option_or o (first_choice gives may taken (suc n) rest))
+      (cond-false (may card) (first_choice gives may (taken ++ card ∷ []) n rest) None may_not)
+
+  pub choice_passed : (cards rest : List ℕ) (card : ℕ) → cards ≡ card ∷ rest → first_choice gives may (taken ++ card ∷ []) n rest ≡ None →
+      first_choice gives may taken (suc n) cards ≡ first_choice gives may taken (suc n) rest
+  choice_passed cards rest card is none =
+      ap (first_choice gives may taken (suc n)) is ∙ first_choice-cons card rest
+      ∙ ap (λ o. option_or o (first_choice gives may taken (suc n) rest)) (ap (λ o. cond (may card) o None) none ∙ none_both (may card))
+    where
+      none_both : (b : Bool) → ◌≡◌ {A = Option Dealt} (cond b None None) None
+      none_both true = refl
+      none_both false = refl
+
+-- ---- the cards chosen so far, in an array of four
+
+module _ (gives : List ℕ → Option Dealt) (may : ℕ → Bool) (hold : List ℕ) (len : ℕ) (four : length hold ≡ 4) where
+  abbrev chosen : List ℕ → Option Dealt
+  chosen cards = first_choice gives may (take len hold) (4 - len) cards
+
+  left : len < 4 → 4 - len ≡ suc (4 - (len + 1))
+  left less = omega arith
+
+  abbrev with_card : ℕ → List ℕ → Option Dealt
+  with_card card cards = first_choice gives may (take (len + 1) (set hold len card)) (4 - (len + 1)) cards
+
+  with_card-is : (card : ℕ) (cards : List ℕ) → len < 4 → with_card card cards ≡ first_choice gives may (take len hold ++ card ∷ []) (4 - (len + 1)) cards
+  with_card-is card cards less = ap (λ taken. first_choice gives may taken (4 - (len + 1)) cards) (take_set hold len card (omega (arith, four)))
+
+  pub all_chosen : (cards : List ℕ) → len ≡ 4 → chosen cards ≡ gives hold
+  unfolding first_choice
+  all_chosen cards is =
+      let none : 4 - len ≡ 0 = omega arith in
+      ap (λ n. first_choice gives may (take len hold) n cards) none ∙ ap gives (take_all len hold (omega (arith, four)))
+
+  pub none_left : (cards : List ℕ) → len < 4 → cards ≡ [] → chosen cards ≡ None
+  none_left cards less is = ap (λ n. first_choice gives may (take len hold) n cards) (left less)
+      ∙ choice_none gives may (take len hold) (4 - (len + 1)) cards is
+
+  pub card_found : (cards rest : List ℕ) (card : ℕ) (found : Dealt) → len < 4 → cards ≡ card ∷ rest → may card ≡ true → with_card card rest ≡ Some found →
+      chosen cards ≡ Some found
+  card_found cards rest card found less is may_it gives_it =
+      ap (λ n. first_choice gives may (take len hold) n cards) (left less)
+      ∙ choice_found gives may (take len hold) (4 - (len + 1)) cards rest card found is may_it (sym (with_card-is card rest less) ∙ gives_it)
+
+  pub card_barred : (cards rest : List ℕ) (card : ℕ) → len < 4 → cards ≡ card ∷ rest → may card ≡ false → chosen cards ≡ chosen rest
+  card_barred cards rest card less is may_not =
+      ap (λ n. first_choice gives may (take len hold) n cards) (left less)
+      ∙ choice_barred gives may (take len hold) (4 - (len + 1)) cards rest card is may_not
+      ∙ ap (λ n. first_choice gives may (take len hold) n rest) (sym (left less))
+
+  pub card_passed : (cards rest : List ℕ) (card : ℕ) → len < 4 → cards ≡ card ∷ rest → with_card card rest ≡ None → chosen cards ≡ chosen rest
+  card_passed cards rest card less is none =
+      ap (λ n. first_choice gives may (take len hold) n cards) (left less)
+      ∙ choice_passed gives may (take len hold) (4 - (len + 1)) cards rest card is (sym (with_card-is card rest less) ∙ none)
+      ∙ ap (λ n. first_choice gives may (take len hold) n rest) (sym (left less))
+
+-- ---- if a deal is given, some choice gives it
+
+option_or_cases : (o p : Option Dealt) (found : Dealt) → option_or o p ≡ Some found → (o ≡ Some found) ⊎ ((o ≡ None) × (p ≡ Some found))
+option_or_cases (Some dealt) p found e = inl e
+option_or_cases None p found e = inr (refl, e)
+
+pub cond_some : (b : Bool) (o : Option Dealt) (found : Dealt) → cond b o None ≡ Some found → (b ≡ true) × (o ≡ Some found)
+cond_some true o found e = (refl, e)
+cond_some false o found e = absurd cc
+
+-- n rising cards of a list, each of which may be chosen
+pub record IsChoice (may : ℕ → Bool) (low n : ℕ) (cards more : List ℕ) : Type 0 where
+  pub number : length more ≡ n
+  pub rises : RisesFrom low more
+  pub among : AreAmong cards more
+  pub each_may : (x : ℕ) → has more x ≡ true → may x ≡ true
+
+module _ (may : ℕ → Bool) where
+  pub choice_only : (low : ℕ) (cards : List ℕ) → IsChoice may low 0 cards []
+  choice_only low cards = record {
+    number = refl;
+    rises = tt;
+    among = λ x h. absurd (both_ways false refl h);
+    each_may =
+        λ x h. absurd (both_ways false refl h);
+  }
+
+  pub choice_first : (low n card : ℕ) (cards more : List ℕ) → low ≤ card → may card ≡ true → IsChoice may (card + 1) n cards more →
+      IsChoice may low (suc n) (card ∷ cards) (card ∷ more)
+  choice_first low n card cards more above may_it choice = record {
+    number = ap suc choice.number;
+    rises = (above, choice.rises);
+    among = λ x h. elim (has_cases card x more h) [
+      | inl here ↦ subst (λ k. has (card ∷ cards) k ≡ true) here (has_here card cards)
+      | inr there ↦
+          has_there card x cards (choice.among x there)
+    ];
+    each_may = λ x h. elim (has_cases card x more h) [ inl here ↦ ap may (sym here) ∙ may_it | inr there ↦ choice.each_may x there ];
+  }
+
+  pub choice_later : (low n card : ℕ) (cards more : List ℕ) → low ≤ card → IsChoice may (card + 1) n cards more → IsChoice may low n (card ∷ cards) more
+  choice_later low n card cards more above choice = record {
+    number = choice.number;
+    rises = rises_lower (card + 1) low more (omega (arith, above)) choice.rises;
+    among = λ x h. has_there card x cards (choice.among x h);
+    each_may = choice.each_may;
+  }
+
+  -- a choice without its first card, which is the first of the list
+  pub choice_rest : (low n card first : ℕ) (cards more : List ℕ) → card ≡ first → IsChoice may low (suc n) (card ∷ cards) (first ∷ more) →
+      IsChoice may (card + 1) n cards more
+  choice_rest low n card first cards more same choice =
+      let number = choice.number in
+      let rises_more : RisesFrom (card + 1) more = subst (λ k. RisesFrom (k + 1) more) (sym same) choice.rises.1 in
+      record {
+        number = omega (arith, number);
+        rises = rises_more;
+        among = λ x h. elim (has_cases card x cards (choice.among x (has_there first x more h))) [
+          | inl here ↦ let above = none_below (card + 1) more x rises_more h in absurd (omega (arith, above, here))
+          | inr there ↦ there
+        ];
+        each_may = λ x h. choice.each_may x (has_there first x more h);
+      }
+
+  below : (card first low : ℕ) (cards : List ℕ) → RisesFrom low (card ∷ cards) → has (card ∷ cards) first ≡ true → (card ≡ first → ⊥) → card < first
+  below card first low cards rises h apart = elim (has_cases card first cards h) [
+    | inl here ↦ absurd (apart here)
+    | inr there ↦ let above = none_below (card + 1) cards first rises.1 there in omega (arith, above)
+  ]
+
+  -- a choice whose first card is not the first of the list
+  pub choice_beyond : (low n card first : ℕ) (cards more : List ℕ) → RisesFrom low (card ∷ cards) → (card ≡ first → ⊥) →
+      IsChoice may low (suc n) (card ∷ cards) (first ∷ more) →
+      (card < first) × IsChoice may (card + 1) (suc n) cards (first ∷ more)
+  choice_beyond low n card first cards more rises apart choice =
+      let less : card < first = below card first low cards rises (choice.among first (has_here first more)) apart in
+      let rises_more : RisesFrom (card + 1) (first ∷ more) = (omega (arith, less), choice.rises.1) in (
+        less,
+        record {
+          number = choice.number;
+          rises = rises_more;
+          among = λ x h. elim (has_cases card x cards (choice.among x h)) [
+            | inl here ↦ let above = none_below (card + 1) (first ∷ more) x rises_more h in absurd (omega (arith, above, here))
+            | inr there ↦ there
+          ];
+          each_may = choice.each_may;
+        },
+      )
+
+pub record Gave (gives : List ℕ → Option Dealt) (may : ℕ → Bool) (taken : List ℕ) (low n : ℕ) (cards : List ℕ) (found : Dealt) : Type 0 where
+  pub more : List ℕ
+  pub choice : IsChoice may low n cards more
+  pub gave : gives (taken ++ more) ≡ Some found
+
+module _ (gives : List ℕ → Option Dealt) (may : ℕ → Bool) where
+  pub gave_from : (taken : List ℕ) (low n : ℕ) (cards : List ℕ) (found : Dealt) → RisesFrom low cards → first_choice gives may taken n cards ≡ Some found →
+      Gave gives may taken low n cards found
+  unfolding first_choice
+  gave_from taken low zero cards found rises e = record { more = []; choice = choice_only may low cards; gave = ap gives (append-nil taken) ∙ e }
+  gave_from taken low (suc n) [] found rises e = absurd cc
+  gave_from taken low (suc n) (card ∷ cards) found rises e =
+      elim (option_or_cases (cond (may card) (first_choice gives may (taken ++ card ∷ []) n cards) None) (first_choice gives may taken (suc n) cards) found e) [
+        | inl first ↦
+            let parts = cond_some (may card) (first_choice gives may (taken ++ card ∷ []) n cards) found first in
+            let rest = gave_from (taken ++ card ∷ []) (card + 1) n cards found rises.1 parts.1 in
+            record {
+              more = card ∷ rest.more;
+              choice = choice_first may low n card cards rest.more rises.0 parts.0 rest.choice;
+              gave = ap gives (sym (append_assoc taken (card ∷ []) rest.more)) ∙ rest.gave;
+            }
+        | inr later ↦
+            let rest = gave_from taken (card + 1) (suc n) cards found rises.1 later.1 in
+            record { more = rest.more; choice = choice_later may low (suc n) card cards rest.more rises.0 rest.choice; gave = rest.gave }
+      ]
+
+  -- ---- Q holds of what some choice gives, and of all that earlier choices give: then it holds of what the first choice gives
+  module _ (Q : Option Dealt → Type 0) (never : Q None → ⊥) where
+    option_or_first : (o p : Option Dealt) → Q o → Q (option_or o p)
+    option_or_first (Some dealt) p is = is
+    option_or_first None p is = absurd (never is)
+
+    option_or_later : (o p : Option Dealt) → ((found : Dealt) → o ≡ Some found → Q (Some found)) → Q p → Q (option_or o p)
+    option_or_later (Some dealt) p earlier is = earlier dealt refl
+    option_or_later None p earlier is = is
+
+    pub first_gives : (taken : List ℕ) (low n : ℕ) (cards more : List ℕ) → RisesFrom low cards → IsChoice may low n cards more → Q (gives (taken ++ more)) →
+        ((other : List ℕ) (found : Dealt) → length other ≡ n → is_before other more ≡ true → gives (taken ++ other) ≡ Some found → Q (Some found)) →
+        Q (first_choice gives may taken n cards)
+    unfolding first_choice
+    first_gives taken low zero cards [] rises choice is earlier = subst (λ xs. Q (gives xs)) (append-nil taken) is
+    first_gives taken low zero cards (first ∷ more) rises choice is earlier = let number = choice.number in absurd (omega (arith, number))
+    first_gives taken low (suc n) cards [] rises choice is earlier = let number = choice.number in absurd (omega (arith, number))
+    first_gives taken low (suc n) [] (first ∷ more) rises choice is earlier = absurd (both_ways false refl (choice.among first (has_here first more)))
+    first_gives taken low (suc n) (card ∷ cards) (first ∷ more) rises choice is earlier =
+        elim (cases_eq card first) [
+          | inl same ↦
+              let start : Q (gives ((taken ++ card ∷ []) ++ more)) = subst (λ xs. Q (gives xs)) (sym (append_assoc taken (card ∷ []) more))
+              (subst (λ k. Q (gives (taken ++ k ∷ more))) (sym same) is) in
+              let with_it : Q (first_choice gives may (taken ++ card ∷ []) n cards) = first_gives (taken ++ card ∷ []) (card + 1) n cards more rises.1
+              (choice_rest may low n card first cards more same choice) start
+              (λ other found len before gave. earlier (card ∷ other) found (ap suc len) (subst (λ k. is_before (card ∷ other) (k ∷ more) ≡ true) same
+              (before_rest card other more before)) (ap gives (sym (append_assoc taken (card ∷ []) other)) ∙ gave)) in
+              let is_may : may card ≡ true = ap may same ∙ choice.each_may first (has_here first more) in
+              option_or_first (cond (may card) (first_choice gives may (taken ++ card ∷ []) n cards) None) (first_choice gives may taken (suc n) cards)
+              (subst Q (sym (cond-true (may card) (first_choice gives may (taken ++ card ∷ []) n cards) None is_may)) with_it)
+          | inr apart ↦
+              let beyond = choice_beyond may low n card first cards more rises apart choice in
+              option_or_later (cond (may card) (first_choice gives may (taken ++ card ∷ []) n cards) None) (first_choice gives may taken (suc n) cards)
+              (λ found e.
+              let parts = cond_some (may card) (first_choice gives may (taken ++ card ∷ []) n cards) found e in
+              let sooner = gave_from (taken ++ card ∷ []) (card + 1) n cards found rises.1 parts.1 in
+              earlier (card ∷ sooner.more) found (ap suc sooner.choice.number) (before_first card first sooner.more more beyond.0)
+              (ap gives (sym (append_assoc taken (card ∷ []) sooner.more)) ∙ sooner.gave))
+              (first_gives taken (card + 1) (suc n) cards (first ∷ more) rises.1 beyond.1 is earlier)
+        ]

@@ -1,0 +1,166 @@
+-- Every list of five ranks, each in rising order only.
+use Rattle.std.proofs.Common.{◌≡◌, ℕ, zero, suc, ◌+◌, ◌-◌, ◌*◌, ◌<◌, ◌≤◌, eqb, ◌&&◌, Bool, true, false, List, [], ◌∷◌, length, sum, refl, sym, ap, ◌∙◌, inl}
+use Rattle.std.proofs.Common.{inr, subst, arith, eqb-true}
+use Rattle.std.specs.List.{list_all, range_with_len}
+use Rattle.std.proofs.lemmas.Bool.{cases_lt}
+use Rattle.std.proofs.lemmas.Bool.Decides.{nat_tests}
+use Rattle.crib_cards.specs.Cards.{IsRank}
+use Rattle.crib_cards.specs.Sets.{rank_counts}
+use Rattle.crib_cards.proofs.EachRank.{each_rank}
+use Rattle.crib_show.proofs.ReorderedLists.{Reordered, nothing, behind, front, both, same_order, length-reordered, rank_counts-reordered}
+use Rattle.std.specs.Prelude.{nat_le}
+use Rattle.crib_show.specs.Private.Counts.{AreRanks, pairs_in, runs_in}
+use Rattle.crib_show.proofs.RankTotals.{pair_total, run_total, pair_total-reordered, run_total-reordered}
+
+-- ranks in rising order, from some rank on
+abbrev pub Rises : ℕ → List ℕ → Type 0
+Rises low [] = Unit {0}
+Rises low (rank ∷ ranks) = (low ≤ rank) × (rank ≤ 13) × Rises rank ranks
+
+pub inserted : (rank low : ℕ) (ranks : List ℕ) → low ≤ rank → rank ≤ 13 → Rises low ranks → (sorted : List ℕ) × Reordered (rank ∷ ranks) sorted ×
+    Rises low sorted
+inserted rank low [] least most rises = (rank ∷ [], same_order (rank ∷ []), (least, most, tt))
+inserted rank low (next ∷ ranks) least most rises =
+    elim (cases_lt rank next) [
+      | inl below ↦ (rank ∷ next ∷ ranks, same_order (rank ∷ next ∷ ranks), (least, most, (omega arith, rises.1, rises.2)))
+      | inr above ↦
+          let more = inserted rank next ranks above most rises.2 in (
+            next ∷ more.0,
+            both (rank ∷ next ∷ ranks) (next ∷ rank ∷ ranks) (next ∷ more.0) (front rank next ranks) (behind next (rank ∷ ranks) more.0 more.1),
+            (rises.0, rises.1, more.2),
+          )
+    ]
+
+pub sorted_of : (ranks : List ℕ) → AreRanks ranks → (sorted : List ℕ) × Reordered ranks sorted × Rises 1 sorted
+sorted_of [] are = ([], nothing, tt)
+sorted_of (rank ∷ ranks) are =
+    let rest = sorted_of ranks are.1 in
+    let all = inserted rank 1 rest.0 are.0.0 are.0.1 rest.2 in
+    (all.0, both (rank ∷ ranks) (rank ∷ rest.0) all.0 (behind rank ranks rest.0 rest.1) all.1, all.2)
+
+-- whether all lists of some length pass a test, where the ranks rise from some rank on
+abbrev pub each_rising : ℕ → ℕ → (List ℕ → Bool) → Bool
+each_rising zero low test = test []
+each_rising (suc n) low test = list_all (λ rank. each_rising n rank (λ ranks. test (rank ∷ ranks))) (range_with_len low (14 - low))
+
+pub and-left : (a b : Bool) → (a && b) ≡ true → a ≡ true
+and-left true b is = refl
+and-left false b is = is
+
+pub and-right : (a b : Bool) → (a && b) ≡ true → b ≡ true
+and-right true b is = is
+and-right false b is = absurd cc
+
+list_all-range : (p : ℕ → Bool) (start n k : ℕ) → list_all p (range_with_len start n) ≡ true → start ≤ k → k < start + n → p k ≡ true
+list_all-range p start zero k all low high = absurd (omega arith)
+list_all-range p start (suc n) k all low high =
+    elim (cases_lt start k) [
+      | inl below ↦ list_all-range p (start + 1) n k (and-right (p start) (list_all p (range_with_len (start + 1) n)) all) (omega arith) (omega arith)
+      | inr above ↦ let e : k ≡ start = omega arith in ap p e ∙ and-left (p start) (list_all p (range_with_len (start + 1) n)) all
+    ]
+
+pub each_rising-at : (n low : ℕ) (test : List ℕ → Bool) (ranks : List ℕ) → each_rising n low test ≡ true → Rises low ranks → length ranks ≡ n →
+    test ranks ≡ true
+each_rising-at zero low test [] all rises is = all
+each_rising-at zero low test (rank ∷ ranks) all rises is = absurd (omega arith)
+each_rising-at (suc n) low test [] all rises is = absurd (omega arith)
+each_rising-at (suc n) low test (rank ∷ ranks) all rises is =
+    each_rising-at n rank (λ more. test (rank ∷ more)) ranks
+    (list_all-range (λ first. each_rising n first (λ more. test (first ∷ more))) low (14 - low) rank all rises.0 (omega arith))
+    rises.2 (omega arith)
+
+-- the totals of five ranks are those of the numbers of cards of each rank
+abbrev agree_in : ℕ → ℕ → ℕ → ℕ → ℕ → Bool
+agree_in pairs pairs_counted runs runs_counted number =
+    eqb (2 * pairs) pairs_counted && (eqb runs runs_counted && (nat_le pairs_counted 20 && (nat_le runs_counted 12 && eqb number 5)))
+
+abbrev agree_with : List ℕ → List ℕ → Bool
+agree_with ranks counts = agree_in (pair_total ranks) (pairs_in counts) (run_total ranks) (runs_in counts) (sum counts)
+
+abbrev agree : List ℕ → Bool
+agree ranks = agree_with ranks (rank_counts ranks)
+
+abbrev AgreeFrom : ℕ → Type 0
+AgreeFrom rank = each_rising 4 rank (λ ranks. agree (rank ∷ ranks)) ≡ true
+
+from_1 : AgreeFrom 1
+from_1 = refl
+
+from_2 : AgreeFrom 2
+from_2 = refl
+
+from_3 : AgreeFrom 3
+from_3 = refl
+
+from_4 : AgreeFrom 4
+from_4 = refl
+
+from_5 : AgreeFrom 5
+from_5 = refl
+
+from_6 : AgreeFrom 6
+from_6 = refl
+
+from_7 : AgreeFrom 7
+from_7 = refl
+
+from_8 : AgreeFrom 8
+from_8 = refl
+
+from_9 : AgreeFrom 9
+from_9 = refl
+
+from_10 : AgreeFrom 10
+from_10 = refl
+
+from_11 : AgreeFrom 11
+from_11 = refl
+
+from_12 : AgreeFrom 12
+from_12 = refl
+
+from_13 : AgreeFrom 13
+from_13 = refl
+
+from_each : (rank : ℕ) → IsRank rank → AgreeFrom rank
+from_each rank is = each_rank AgreeFrom from_1 from_2 from_3 from_4 from_5 from_6 from_7 from_8 from_9 from_10 from_11 from_12 from_13 rank is
+
+-- the totals of five ranks, from their counts
+pub record IsCounted (ranks counts : List ℕ) : Type 0 where
+  pub pairs : 2 * pair_total ranks ≡ pairs_in counts
+  pub runs : run_total ranks ≡ runs_in counts
+  pub few_pairs : pairs_in counts ≤ 20
+  pub few_runs : runs_in counts ≤ 12
+  pub number : sum counts ≡ 5
+
+le_from : (a b : ℕ) → nat_le a b ≡ true → a ≤ b
+le_from a b is = grind (arith, nat_tests)
+
+IsCounted-agree : (ranks counts : List ℕ) → agree_with ranks counts ≡ true → IsCounted ranks counts
+IsCounted-agree ranks counts all =
+    let second = and-right _ _ all in
+    let third = and-right _ _ second in
+    let fourth = and-right _ _ third in record {
+      pairs = eqb-true _ _ (and-left _ _ all);
+      runs = eqb-true _ _ (and-left _ _ second);
+      few_pairs = le_from _ _ (and-left _ _ third);
+      few_runs = le_from _ _ (and-left _ _ fourth);
+      number = eqb-true _ _ (and-right _ _ fourth);
+    }
+
+agree_rising : (ranks : List ℕ) → Rises 1 ranks → length ranks ≡ 5 → agree ranks ≡ true
+agree_rising [] rises five = absurd (omega arith)
+agree_rising (rank ∷ ranks) rises five = each_rising-at 4 rank (λ more. agree (rank ∷ more)) ranks (from_each rank (rises.0, rises.1)) rises.2 (omega arith)
+
+pub IsCounted-ranks : (ranks : List ℕ) → AreRanks ranks → length ranks ≡ 5 → IsCounted ranks (rank_counts ranks)
+IsCounted-ranks ranks are five =
+    let sorted = sorted_of ranks are in
+    let counted : IsCounted sorted.0 (rank_counts sorted.0) =
+    IsCounted-agree sorted.0 (rank_counts sorted.0) (agree_rising sorted.0 sorted.2 (sym (length-reordered ranks sorted.0 sorted.1) ∙ five)) in
+    let counts : rank_counts ranks ≡ rank_counts sorted.0 = rank_counts-reordered ranks sorted.0 sorted.1 in record {
+      pairs = ap (λ n. 2 * n) (pair_total-reordered ranks sorted.0 sorted.1) ∙ counted.pairs ∙ sym (ap pairs_in counts);
+      runs = run_total-reordered ranks sorted.0 sorted.1 ∙ counted.runs ∙ sym (ap runs_in counts);
+      few_pairs = subst (λ c. pairs_in c ≤ 20) (sym counts) counted.few_pairs;
+      few_runs = subst (λ c. runs_in c ≤ 12) (sym counts) counted.few_runs;
+      number = ap sum counts ∙ counted.number;
+    }

@@ -1,0 +1,57 @@
+-- The greatest crib, and the greatest sum of hand and crib, sought among the throws of two cards. These definitions
+-- follow the code. Worst says what the public call answers.
+use Rattle.std.specs.Prelude.{ℕ, ◌+◌, ◌≤◌, ◌==◌, nat_le, Bool, not, ◌&&◌, ◌||◌, IsTrue, IsFalse}
+use Rattle.crib_cards.specs.Cards.{IsRank, card_of}
+use Rattle.crib_cards.specs.Sets.{set_without}
+use Rattle.crib_show.specs.declared.deals.WorstShow.{WorstShow}
+use Rattle.crib_show.specs.declared.totals.Sought.{Sought}
+use Rattle.crib_show.specs.declared.totals.Sought.TheVariants.{Crib, CribAndHand}
+use Rattle.crib_show.specs.Private.Extremes.{crib_with, has_room, is_free, most_crib_suits, most_suit_points}
+use Rattle.crib_show.specs.Private.Extremes.{plain_crib}
+use Rattle.crib_show.specs.Show.{crib_points}
+
+-- the show without two cards among the unseen ones. The opponent threw them, so he cannot hold them
+abbrev pub without_throw : WorstShow → ℕ → ℕ → WorstShow
+without_throw worst first second = record worst { unseen = set_without (set_without worst.unseen first) second }
+
+-- the points that are sought with these two cards thrown: those of the crib alone, or with the most that suits can add
+-- to the hand of some ranks
+abbrev pub sought_points : WorstShow → Sought → ℕ → ℕ → ℕ
+sought_points worst Crib first second = crib_points (crib_with worst first second) worst.starter
+sought_points worst (CribAndHand ranks) first second =
+    crib_points (crib_with worst first second) worst.starter + most_suit_points (without_throw worst first second) ranks
+
+-- whether the second of two cards may be thrown with the first, and this throw gives enough points
+abbrev pub throw_gives : WorstShow → Sought → ℕ → ℕ → ℕ → Bool
+throw_gives worst sought enough first second =
+    is_free worst second && not (first == second) && nat_le enough (sought_points worst sought first second)
+
+-- whether a card may be thrown with one of a rank, and some such throw gives enough points
+abbrev pub card_gives : WorstShow → Sought → ℕ → ℕ → ℕ → Bool
+card_gives worst sought enough first rank =
+    is_free worst first
+    && (throw_gives worst sought enough first (card_of rank 0) || throw_gives worst sought enough first (card_of rank 1)
+    || throw_gives worst sought enough first (card_of rank 2) || throw_gives worst sought enough first (card_of rank 3))
+
+-- whether some throw of two ranks gives enough points. A bound is tried first: the points of the ranks, the most that
+-- suits add to the crib, and some spare points
+abbrev pub ranks_give : WorstShow → Sought → ℕ → ℕ → ℕ → ℕ → Bool
+ranks_give worst sought spare enough first second =
+    nat_le enough (plain_crib worst first second + most_crib_suits worst first second + spare)
+    && has_room worst first second
+    && (card_gives worst sought enough (card_of first 0) second
+    || card_gives worst sought enough (card_of first 1) second
+    || card_gives worst sought enough (card_of first 2) second
+    || card_gives worst sought enough (card_of first 3) second)
+
+-- some throw of two ranks gives enough points
+abbrev pub SomeGive : WorstShow → Sought → ℕ → ℕ → Type 0
+SomeGive worst sought spare enough =
+    (first : ℕ) × (second : ℕ) × IsRank first × IsRank second
+    × IsTrue (ranks_give worst sought spare enough first second)
+
+-- no throw of two ranks gives enough points
+abbrev pub NoneGive : WorstShow → Sought → ℕ → ℕ → Type 0
+NoneGive worst sought spare enough =
+    (first second : ℕ) → IsRank first → IsRank second → first ≤ second
+    → IsFalse (ranks_give worst sought spare enough first second)

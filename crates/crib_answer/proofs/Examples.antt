@@ -1,5 +1,5 @@
 -- Worked examples of what a run tells by its text and its status.
-use Rattle.std.proofs.Common.{arith, ◌≡◌, refl, sym, subst, inl, inr, ℕ, List, [], ◌++◌, Some, codes}
+use Rattle.std.proofs.Common.{arith, ◌≡◌, refl, sym, subst, inl, inr, ℕ, List, [], ◌++◌, codes}
 use Rattle.std.specs.Fmt.{digits}
 use Rattle.crib_cards.specs.Sets.{set_where}
 use Rattle.crib_problem.specs.Setup.{Setup, IsSetup}

@@ -1,5 +1,5 @@
 -- Worked examples of what a run tells.
-use Rattle.std.proofs.Common.{◌≡◌, refl, sym, subst, inl, inr, List, [], Some}
+use Rattle.std.proofs.Common.{refl, sym, subst, inl, inr, [], Some}
 use Rattle.crib_answer.specs.declared.job.Job.TheVariants.{Check}
 use Rattle.crib_answer.specs.declared.status.Status.TheVariants.{Yes, Fault}
 use Rattle.crib_answer.specs.Telling.{CheckTells}

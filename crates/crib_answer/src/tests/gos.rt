@@ -32,7 +32,7 @@ fn refuses_a_false_go(rt: HostRuntime) {
     refuses_each_beginning(&rt, Job::Replay, input.as_slice());
 }
 
-// The same turns as those that are played already: nobody who says go at 29 has a two, so no deal agrees.
+// The same turns as an opening: nobody who says go at 29 has a two, so no hidden deal agrees.
 #[test]
 fn refuses_turns_after_a_false_go(rt: HostRuntime) {
     let lines = [

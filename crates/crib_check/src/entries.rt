@@ -2,9 +2,10 @@
 
 use crib_plan::Next;
 
-/// A position, by the numbers under which a table keeps what the owner sees and what the opponent has shown.
+/// A position as a table keeps it: the number of what the owner sees, the number of what the opponent has shown, and
+/// the place of the plan.
 ///
-/// These are hashed. They leave few places of the plan.
+/// Only the numbers are hashed. Few positions have the same two numbers.
 #[derive(Clone, Copy, PartialEq, Eq)]
 #[derive_where(Hash)]
 pub struct Entry {

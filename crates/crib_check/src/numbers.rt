@@ -8,10 +8,10 @@ use indexmap::IndexSet;
 use std::alloc::Allocator;
 use std::hash::{BuildHasherDefault, FoldHasher, Hash};
 
-/// Values, each of which is kept once. A value has the number of those that came before it.
+// Values, each of which is kept once. The number of a value is how many came before it.
 pub(crate) type Numbered<T, A> = IndexSet<T, BuildHasherDefault<FoldHasher>, A>;
 
-/// The number of a value, if it is kept.
+// The number of a value, if it is kept.
 pub(crate) fn number_of<T: Eq + Hash, A: Allocator>(kept: &Numbered<T, A>, value: &T) -> Option<u32>
     ensures number { IfSome result (IsNumber (T.eq value.now) kept.now.keys) }
     ensures none { IfNone result (IsNumber (T.eq value.now) kept.now.keys
@@ -23,7 +23,7 @@ pub(crate) fn number_of<T: Eq + Hash, A: Allocator>(kept: &Numbered<T, A>, value
     }
 }
 
-/// The number of a value, which is kept from now on. Numbers end below 2^32, for which no machine has the memory.
+// Keeps a value, and returns its number. It is refused if memory is, or if the number would be 2^32 or more.
 pub(crate) fn keep<T: Eq + Hash + Drop, A: Allocator>(
     kept: &mut Numbered<T, A>,
     value: T,

@@ -1,12 +1,12 @@
-//! What the owner knows, in two halves.
+//! What the owner knows, in two halves: what he sees, and what the opponent has shown.
 ghost use Rattle.std.specs.Prelude.{◌≡◌};
 
 use crib_cards::{CardSet, RankCounts};
 use crib_play::Round;
 
-/// What the owner sees: what lies on the table, and which cards are his, unseen and known.
+/// What the owner sees: the round, his cards left, the unseen cards and the fixed cards.
 ///
-/// The round is hashed. Under a plan it leaves few choices of the rest.
+/// Only the round is hashed. In one problem few of these values have the same round.
 #[derive(PartialEq, Eq, Drop, Debug)]
 #[derive_where(Hash)]
 pub struct Sight {
@@ -18,7 +18,7 @@ pub struct Sight {
     /// The cards that the owner does not see at the first lead.
     #[derive_where(skip(Hash))]
     pub unseen: CardSet,
-    /// The opponent's cards that are known by suit, since they were played before the problem begins.
+    /// The fixed cards: those that the opponent played in the opening. The owner knows them with their suits.
     #[derive_where(skip(Hash))]
     pub fixed: CardSet,
 }
@@ -29,15 +29,15 @@ pub struct Sight {
 pub struct Shown {
     /// How many cards of each rank he has played.
     pub ranks_seen: RankCounts,
-    /// How many cards he has not played, 0 to 4.
+    /// How many cards he has left, 0 to 4.
     #[derive_where(skip(Hash))]
     pub opponent_left: u8,
-    /// The least value of each of these, 1 to 10.
+    /// The least value that each card left to him can have, 1 to 10.
     pub least: u8,
 }
 
 impl Sight {
-    /// The same value.
+    // A copy of the value.
     pub(crate) fn copy(&self) -> Self
         ensures { result ≡ self.now }
     {

@@ -1,4 +1,4 @@
-//! What the shows of one problem come to, kept from one end of the play to the next.
+//! The counted shows of one problem, kept from one end of the play to the next.
 ghost use Rattle.std.specs.Prelude.{◌≡◌, ℕ, ◌+◌, ◌*◌, ◌<◌, ◌≤◌, List, length};
 ghost use Rattle.crib_show.specs.Private.Places.{IsPlace};
 ghost use Rattle.crib_show.specs.Places.{below, many, place_among};
@@ -15,20 +15,20 @@ use crib_cards::Card;
 /// How many choices of four ranks there are.
 const PLACES: usize = 1820;
 
-/// Stands where nothing has been worked out.
+/// The value of points that have not been worked out.
 const NOT_KEPT: u8 = 255;
 
-/// What the shows of one problem come to, kept from one end of the play to the next.
+/// The counted shows of one problem, kept from one end of the play to the next.
 ///
-/// Within a problem the starter, the owner's cards, the unseen and the fixed cards stay as they are. What has been
-/// worked out for some ranks of the opponent then holds at every end with these ranks, whatever the scores are.
+/// Within a problem the starter, the owner's cards, the unseen and the fixed cards stay the same. So what has been
+/// worked out for some ranks of the opponent holds at every end with these ranks, whatever the scores are.
 #[derive(Clone, Debug, Drop)]
 pub struct Shows {
     pub(crate) own: OwnPoints,
     kept: [Kept; PLACES],
 }
 
-/// What has been worked out of the shows with some ranks of the opponent, four bytes.
+/// The points that have been worked out for some ranks of the opponent, in four bytes.
 #[derive(Clone, Copy, Debug)]
 pub struct Kept {
     /// The points of the greatest hand.
@@ -42,7 +42,7 @@ pub struct Kept {
 }
 
 impl Kept {
-    /// Nothing has been worked out.
+    // Nothing has been worked out.
     fn new() -> Self
         ensures { (worst : WorstShow) → AreKept worst result }
     {
@@ -54,7 +54,7 @@ impl Kept {
         }
     }
 
-    /// The points of the greatest hand, worked out where they are not kept. Some deal must agree.
+    // The points of the greatest hand. They are worked out if they are not kept. Some hidden deal must agree.
     pub(crate) fn greatest_hand(&mut self, worst: &WorstShow) -> u8
         requires deal { HasDeal worst.now }
         requires kept { AreKept worst.now self.old }
@@ -69,7 +69,7 @@ impl Kept {
         points
     }
 
-    /// The points of the least crib, worked out where they are not kept. Some deal must agree.
+    // The points of the least crib. They are worked out if they are not kept. Some hidden deal must agree.
     pub(crate) fn least_crib(&mut self, worst: &WorstShow, own: &mut OwnPoints) -> u8
         requires deal { HasDeal worst.now }
         requires own { AreOwnPoints worst.now.starter worst.now.own_hold worst.now.own_throw own.old }
@@ -86,7 +86,7 @@ impl Kept {
         points
     }
 
-    /// The points of the greatest crib, worked out where they are not kept. Some deal must agree.
+    // The points of the greatest crib. They are worked out if they are not kept. Some hidden deal must agree.
     pub(crate) fn greatest_crib(&mut self, worst: &WorstShow, own: &mut OwnPoints) -> u8
         requires deal { HasDeal worst.now }
         requires own { AreOwnPoints worst.now.starter worst.now.own_hold worst.now.own_throw own.old }
@@ -103,7 +103,8 @@ impl Kept {
         points
     }
 
-    /// The points of the greatest sum of hand and crib, worked out where they are not kept. Some deal must agree.
+    // The points of the greatest sum of hand and crib. They are worked out if they are not kept. Some hidden deal must
+    // agree.
     pub(crate) fn greatest_total(&mut self, worst: &WorstShow, own: &mut OwnPoints) -> u8
         requires deal { HasDeal worst.now }
         requires own { AreOwnPoints worst.now.starter worst.now.own_hold worst.now.own_throw own.old }

@@ -4,8 +4,8 @@ ghost use Rattle.std.specs.Bool.{Decides};
 ghost use Rattle.std.specs.Prelude.{◌≡◌, ℕ, List};
 ghost use Rattle.crib_cards.specs.Sets.{IsCardSet};
 
-use super::counts::RankCounts;
-use super::sets::CardSet;
+use crate::counts::RankCounts;
+use crate::sets::CardSet;
 
 /// `==` answers yes exactly where two values are the same.
 ///

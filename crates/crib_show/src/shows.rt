@@ -6,10 +6,10 @@ ghost use Rattle.crib_show.specs.Shows.{AreKept, AreShows, AreShowsFor};
 ghost use Rattle.crib_show.specs.Worst.{AreOwnPoints, HasDeal, IsGreatestCrib, IsGreatestHand, IsGreatestTotal};
 ghost use Rattle.crib_show.specs.Worst.{IsLeastCrib};
 
-use super::cribs::known_crib;
-use super::deals::{OwnPoints, WorstShow};
-use super::hands::know_set;
-use super::points::hand_points;
+use crate::cribs::known_crib;
+use crate::deals::{OwnPoints, WorstShow};
+use crate::hands::know_set;
+use crate::points::hand_points;
 use crib_cards::Card;
 
 /// How many choices of four ranks there are.

@@ -8,10 +8,10 @@ ghost use Rattle.crib_show.specs.Private.Totals.{without_throw};
 ghost use Rattle.crib_show.specs.Show.{crib_points, plain_points};
 ghost use Rattle.crib_show.specs.Worst.{ArePlain, HasDeal, IsGreatestCrib, IsGreatestTotal};
 
-use super::cribs::{MOST_OF_SUITS, plain_cribs};
-use super::deals::{PlainCribs, WorstShow};
-use super::hands::{know_set, rank_numbered};
-use super::points::{crib_flush, jack_points};
+use crate::cribs::{MOST_OF_SUITS, plain_cribs};
+use crate::deals::{PlainCribs, WorstShow};
+use crate::hands::{know_set, rank_numbered};
+use crate::points::{crib_flush, jack_points};
 use crib_cards::{Card, Rank, Suit};
 
 /// The points that the search makes as great as possible.

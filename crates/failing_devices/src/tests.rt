@@ -1,4 +1,4 @@
-use super::{Feed, Tray, Trouble};
+use crate::{Feed, Tray, Trouble};
 use std::io::{ErrorKind, Read, Write};
 
 const BYTES: &[u8] = b"fifteen two";

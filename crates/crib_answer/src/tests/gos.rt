@@ -1,5 +1,5 @@
 //! Gos that are false.
-use super::inputs::{gives, refuses_each_beginning, text_of};
+use crate::tests::inputs::{gives, refuses_each_beginning, text_of};
 use crate::job::Job;
 use crate::status::Status;
 

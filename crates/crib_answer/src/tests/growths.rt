@@ -1,10 +1,10 @@
 //! Growths that are refused, each in turn.
-use super::boards::LAST_CARD_BOARD;
-use super::checks::{FALLS_SHORT, ONE_HOLE_SHORT, TWOS};
-use super::follows::ONE_GAME;
-use super::inputs::text_of;
-use super::replays::{LAST_CARD, LAST_CARD_ANSWER};
-use super::solves::{FOUR_PLAYS, TWELVE};
+use crate::tests::boards::LAST_CARD_BOARD;
+use crate::tests::checks::{FALLS_SHORT, ONE_HOLE_SHORT, TWOS};
+use crate::tests::follows::ONE_GAME;
+use crate::tests::inputs::text_of;
+use crate::tests::replays::{LAST_CARD, LAST_CARD_ANSWER};
+use crate::tests::solves::{FOUR_PLAYS, TWELVE};
 use crate::answering::answer_to;
 use crate::job::Job;
 use crate::status::Status;

@@ -1,4 +1,4 @@
-use super::*;
+use crate::tests::*;
 use crib_cards::{Card, Rank};
 use crib_know::Know;
 use crib_plan::{Next, start};

@@ -1,7 +1,7 @@
 //! The points of all 12,994,800 choices of four cards and a starter.
 //!
 //! `rt test` counts them in a second or two. `rt try --test` doesn't optimise, and gives up on them.
-use super::*;
+use crate::tests::*;
 use crib_cards::{Rank, Suit};
 
 // How many hands have 0, 1, 2 .. 29 points. Books print this table: four hands have 29, and none has 19, 25, 26 or 27.

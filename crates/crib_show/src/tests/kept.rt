@@ -1,7 +1,7 @@
 //! Answers with what is kept of the shows of one problem.
 ghost use Rattle.crib_show.specs.Shows.{AreShowsFor};
 
-use super::{ACES, counted, twos_against};
+use crate::tests::{ACES, counted, twos_against};
 use crate::{Shows, WorstShow};
 use crib_cards::Side;
 use std::process::Abort;

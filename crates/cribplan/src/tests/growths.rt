@@ -1,5 +1,5 @@
 //! Growths that are refused, each in turn.
-use super::inputs::{FALLS_SHORT, LAST_CARD, LAST_CARD_ANSWER, ONE_HOLE_SHORT, text_of};
+use crate::tests::inputs::{FALLS_SHORT, LAST_CARD, LAST_CARD_ANSWER, ONE_HOLE_SHORT, text_of};
 use crate::run::run;
 use crib_answer::{Job, Status};
 use crib_text::Counted;

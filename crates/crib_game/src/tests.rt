@@ -1,0 +1,5 @@
+//! Tests against outside examples.
+
+mod follows;
+mod replays;
+mod texts;

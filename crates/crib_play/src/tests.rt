@@ -1,0 +1,5 @@
+//! Tests against outside examples.
+
+mod fitting;
+mod points;
+mod rounds;

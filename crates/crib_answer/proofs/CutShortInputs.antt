@@ -1,4 +1,4 @@
--- Each beginning of an accepted input is refused as cut short, whatever the command.
+-- A proper beginning of an accepted input is refused as cut short by each job.
 use Rattle.std.proofs.Common.{◌≡◌, ℕ, ◌≤◌, Bool, true, false, cond, List, [], ◌∷◌, ◌++◌, length, Result, Ok, Err}
 use Rattle.std.proofs.Common.{refl, sym, ap, ◌∙◌, subst, arith, length-append}
 use Rattle.std.specs.Prelude.{nat_le}
@@ -23,7 +23,7 @@ use Rattle.crib_answer.specs.Input.{most_bytes, input_lines, judgement_of, repor
 use Rattle.crib_answer.specs.Input.{problem_alone_at, problem_of_input, ending_at, ending_under, ending_of_input, board_at, board_of_input}
 use Rattle.crib_answer.specs.Laws.{Accepts, CutShortLaw}
 
--- ---- the sections of an input, whatever they say
+-- ---- reading the sections of an input, without their values
 
 abbrev Passes : Type 0
 Passes = Rest → Result (Unit {0} × Rest) Refusal
@@ -31,14 +31,14 @@ Passes = Rest → Result (Unit {0} × Rest) Refusal
 abbrev done : Passes
 done rest = Ok (tt, rest)
 
--- a section, and then more of them
+-- a section, and then further sections
 abbrev section : {A : Type 0} → (Rest → Result (A × Rest) Refusal) → Passes → Passes
 section read more rest = read rest >>= λ next. more next.1
 
 section_steady : {A : Type 0} (read : Rest → Result (A × Rest) Refusal) (more : Passes) → IsSteady read → IsSteady more → IsSteady (section read more)
 section_steady read more one other = steady_then read (λ next. more next.1) one (λ value. other)
 
--- a reader that takes these sections and no line more, and refuses what they refuse
+-- a reader takes some sections: if it reads a value, no line is left after them, and it refuses what they refuse
 record Takes {C : Type 0} (sections : Passes) (read : Rest → Result C Refusal) : Type 0 where
   all : (rest : Rest) (value : C) → read rest ≡ Ok value → (number : ℕ) × (sections rest ≡ Ok (tt, from_line number []))
   refuses : (rest : Rest) (refusal : Refusal) → sections rest ≡ Err refusal → read rest ≡ Err refusal
@@ -52,7 +52,7 @@ none_left : (rest : Rest) (u : Unit {0}) → end_at rest ≡ Ok u → rest ≡ f
 unfolding end_at
 none_left rest u e = ap (from_line rest.number) (no_line_left rest.number rest.lines u e)
 
--- the end of the input, and then what the sections say together
+-- the end of the input, and then a judgement that reads no further line
 takes_end : {C : Type 0} (judge : Rest → Result C Refusal) → Takes done (λ rest. end_at rest >>= λ _. judge rest)
 takes_end {C = C} judge = record {
   all = λ rest value e.
@@ -83,7 +83,7 @@ err_read : {C : Type 0} (r : Result Rest Refusal) (sections : Passes) (read : Re
 err_read (Ok rest) sections read refusal takes e = takes.refuses rest refusal e
 err_read (Err other) sections read refusal takes e = let same : other ≡ refusal = cc in ap Err same
 
--- an input whose lines are taken is not too long
+-- an input whose lines are read is not too long, and its text is not refused
 record IsWhole (input : List ℕ) (rest : Rest) : Type 0 where
   few : length input ≤ most_bytes
   lines : all_lines input ≡ Ok rest
@@ -101,7 +101,7 @@ short_input : (input : List ℕ) → length input ≤ most_bytes → input_lines
 unfolding input_lines
 short_input input few = rw (le-leb (length input) most_bytes few) refl
 
--- the beginning of an input that a reader of these sections takes to its end
+-- a proper beginning of an input from which a reader of some sections reads a value
 beginning_cut : {C : Type 0} (sections : Passes) (read : Rest → Result C Refusal) (front : List ℕ) (next : ℕ) (back : List ℕ) (value : C) → IsSteady sections →
     Takes sections read
     → (input_lines (front ++ next ∷ back) >>= read) ≡ Ok value → (input_lines front >>= read) ≡ Err (missing (line_after front))
@@ -117,7 +117,7 @@ beginning_cut {C = C} sections read front next back value steady takes e =
     let small : length front ≤ most_bytes = omega (arith, longer, few) in
     ap (λ (r : Result Rest Refusal). r >>= read) (short_input front small) ∙ err_read (all_lines front) sections read (missing (line_after front)) takes cut
 
--- ---- what each command reads
+-- ---- the sections that each job reads
 
 report_takes : Takes (section problem_at (section game_at done)) report_at
 unfolding report_at
@@ -166,14 +166,14 @@ unfolding problem_alone_at
 problem_takes =
     takes_section problem_at done (λ first problem. end_at problem.1 >>= λ _. Ok problem.0) (λ first problem. takes_end (λ rest. Ok problem))
 
--- what is read of this beginning: it is cut short, at the line of the first byte that is missing
+-- what is read of a beginning is the refusal that it is cut short. The line is that of the first missing byte
 abbrev IsCutShort : {C : Type 0} → List ℕ → Result C Refusal → Type 0
 IsCutShort front read = read ≡ Err (missing (line_after front))
 
 game_section : IsSteady (section game_at done)
 game_section = section_steady game_at done game_steady (steady_ok tt)
 
--- ---- each command
+-- ---- each job
 
 report_cut : (front : List ℕ) (next : ℕ) (back : List ℕ) (accepted : Accepts (report_of_input (front ++ next ∷ back))) →
     IsCutShort front (report_of_input front)

@@ -1,4 +1,4 @@
--- Worked examples of what a run tells by its text and its status.
+-- Worked examples of what a reply tells by its text and its status.
 use Rattle.std.proofs.Common.{arith, ◌≡◌, refl, sym, subst, inl, inr, ℕ, List, [], ◌++◌, codes}
 use Rattle.std.specs.Fmt.{digits}
 use Rattle.crib_cards.specs.Sets.{set_where}
@@ -34,7 +34,7 @@ fails_lost = refl
 pub fails_short : fails_line ending.Short ≡ codes "fails short\n"
 fails_short = refl
 
--- a first failing game is never open or reached, but `follow` writes these words
+-- no first failing game has the ending open or reached, but `follow` writes these words
 pub open_is_written : fails_line ending.Open ≡ codes "fails open\n"
 open_is_written = refl
 
@@ -52,7 +52,7 @@ pub plan_too_large : fault_line too_large ≡ codes "fault 50\n"
 unfolding digits
 plan_too_large = refl
 
--- ---- what is spelled: three turns are played and make 29, and the plan has an answer to an ace and to a go
+-- ---- the input: an opening of three turns with the count 29, and a plan with a card after an ace and one after a go
 abbrev the_problem : List ℕ
 the_problem = codes "problem 2\ndealer opponent\nscore 0 0\nstarter 2S\nhold TC 9C 2C AC\nthrow 2D 2H\ngoal holes 2\nplayed 3\nown TC\nopp TD\nown 9C\n"
 
@@ -92,7 +92,7 @@ pub problem_and_plan : SpellsPlan (the_problem ++ the_plan) at_29 ace_or_two
 unfolding problem_text problem_lines plan_text plan_lines digits
 problem_and_plan = record { problem_is = at_29_is_a_setup; plan_is = are_a_plan; text = refl }
 
--- nothing spells nothing
+-- an empty input spells no problem
 pub nothing_is_no_problem : (problem : Setup) → SpellsProblem [] problem → ⊥
 unfolding problem_text problem_lines
 nothing_is_no_problem problem is = (let text = is.text in cc)
@@ -101,7 +101,7 @@ pub nothing_is_no_plan : (problem : Setup) (plan : List Node) → SpellsPlan [] 
 unfolding problem_text problem_lines
 nothing_is_no_plan problem plan is = (let text = is.text in cc)
 
--- ---- check; the bound on the play is that of the law
+-- ---- check. `Ends` is assumed here. check_law states it
 pub a_sure_plan_holds : Ends at_29 → CheckTells (the_problem ++ the_plan) (codes "holds\n") Yes
 a_sure_plan_holds ends = (
   record { problem = at_29; plan = ace_or_two; spelled = problem_and_plan; sure = ace_or_two_is_sure; goes_on = ace_or_two_goes_on; ends = ends },
@@ -152,7 +152,7 @@ no_text_is_no_plan input is = (let text = is.plan_is in cc)
 pub none_where_no_plan_is_sure : (input : List ℕ) → HasNoPlan input → SolveTells input (codes "none\n") No
 none_where_no_plan_is_sure input has = (has, refl)
 
--- there is a sure plan for this problem
+-- the problem has a sure plan, so it is wrong to say that it has none
 pub not_none_where_a_plan_is_sure : (is : HasNoPlan the_problem) → is.problem ≡ at_29 → ⊥
 not_none_where_a_plan_is_sure is e = is.none (subst IsWinnable (sym e) (record { plan = ace_or_two; sure = ace_or_two_is_sure }))
 
@@ -174,7 +174,7 @@ pub fault_is_written : (input : List ℕ) → SolveTells input [] Fault → ⊥
 fault_is_written input (inl text) = cc
 fault_is_written input (inr told) = (let text = told.1 in cc)
 
--- ---- each command by its own
+-- ---- what each job tells
 pub check_is_told : Ends at_29 → StatusTells Check (the_problem ++ the_plan) (record { output = codes "holds\n"; status = Yes })
 check_is_told ends = a_sure_plan_holds ends
 

@@ -1,4 +1,4 @@
--- What the inputs that are accepted spell, and that such spellings are accepted.
+-- An accepted input spells what was read of it, and an input that spells a problem, or a problem and a plan, is accepted.
 use Rattle.std.proofs.Common.{◌≡◌, ℕ, ◌+◌, ◌≤◌, Bool, true, false, not, cond, List, [], ◌∷◌, ◌++◌, length, map, flat_map, Result, Ok, Err}
 use Rattle.std.proofs.Common.{refl, sym, ap, ◌∙◌, subst, append_assoc, arith}
 use Rattle.std.proofs.lemmas.Bool.{le-leb, and_from}
@@ -55,12 +55,12 @@ of_length : (small : Bool) (read : Result Rest Refusal) (long : Refusal) (rest :
 of_length true read long rest e = e
 of_length false read long rest e = absurd cc
 
--- the lines of an input, each with its end, are the input
+-- the lines of an input, each with its LF, make the input
 input_taken : (input : List ℕ) (rest : Rest) → input_lines input ≡ Ok rest → flat_map ended_line rest.lines ≡ input
 unfolding input_lines
 input_taken input rest e = text_taken input rest (of_length (nat_le (length input) most_bytes) (all_lines input) _ rest e)
 
--- lines of words, each with its end, are their text
+-- lines of words, each with its LF, make their text
 spelled_text : (lines : List (List (List ℕ))) (rest : List (List ℕ))
     → flat_map ended_line (map line_bytes lines ++ rest) ≡ lines_text lines ++ flat_map ended_line rest
 spelled_text [] rest = refl
@@ -76,7 +76,7 @@ at_end : (rest : Rest) (u : Unit {0}) → end_at rest ≡ Ok u → rest.lines �
 unfolding end_at
 at_end rest u e = none_left rest.lines rest.number u e
 
--- ---- what is accepted is spelled so
+-- ---- an accepted input spells what was read
 
 plan_of_lines : (rest : Rest) (read : List Node × Rest) → plan_at rest ≡ Ok read
     → ArePlan read.0 × (rest.lines ≡ map line_bytes (plan_lines read.0) ++ read.1.lines)
@@ -85,7 +85,7 @@ plan_of_lines rest read e =
     let a = bind_ok (count_at rest) _ read e in
     plan_found rest a.0.1 read.1 a.0.0 read.0 a.1 a.2
 
--- an input that is a problem for `solve`
+-- if `solve` reads a problem in an input, the input spells this problem
 pub problem_accepted : (input : List ℕ) (problem : Setup) → problem_of_input input ≡ Ok problem → SpellsProblem input problem
 unfolding problem_of_input problem_alone_at problem_text
 problem_accepted input problem e =
@@ -100,7 +100,7 @@ problem_accepted input problem e =
       text = sym (input_taken input a.0 a.1) ∙ ap (flat_map ended_line) lines ∙ spelled_text (problem_lines b.0.0) [] ∙ append-nil (problem_text b.0.0);
     })
 
--- an input that is a problem and a plan for `check`
+-- if `check` reads a problem and a plan in an input, the input spells them
 pub question_accepted : (input : List ℕ) (question : Setup × List Node) → question_of_input input ≡ Ok question → SpellsPlan input question.0 question.1
 unfolding question_of_input question_at problem_text plan_text
 question_accepted input question e =
@@ -122,7 +122,7 @@ question_accepted input question e =
           ∙ ap (λ (more : List ℕ). problem_text b.0.0 ++ more) text;
     })
 
--- ---- what is spelled so is accepted
+-- ---- an input that spells something is accepted
 
 texts_joined : (lines more : List (List (List ℕ))) → lines_text (lines ++ more) ≡ lines_text lines ++ lines_text more
 texts_joined [] more = refl
@@ -133,7 +133,7 @@ maps_joined : (lines more : List (List (List ℕ))) → map line_bytes (lines ++
 maps_joined [] more = refl
 maps_joined (words ∷ lines) more = ap (λ (ls : List (List ℕ)). line_bytes words ∷ ls) (maps_joined lines more)
 
--- the lines of an input that is spelled and not too long
+-- the lines of an input that is the text of some lines and is not too long
 lines_taken : (input : List ℕ) (lines : List (List (List ℕ))) → length input ≤ most_bytes → input ≡ lines_text lines → list_all are_words lines ≡ true
     → input_lines input ≡ Ok (record { number = 1; lines = map line_bytes lines })
 unfolding input_lines
@@ -151,7 +151,7 @@ question_asked : (rest : Rest) (problem : Setup) (plan : List Node) (after last 
 unfolding question_at
 question_asked rest problem plan after last e f none = rw (e, f, none) refl
 
--- a problem and the longest plan take no more bytes than an input may have
+-- a problem and a plan have no more bytes than an input may have
 spelled_fits : (input : List ℕ) (problem : Setup) (plan : List Node) → SpellsPlan input problem plan → length input ≤ most_bytes
 spelled_fits input problem plan spelled = omega (
   arith,
@@ -162,7 +162,7 @@ spelled_fits input problem plan spelled = omega (
   spelled.plan_is.0,
 )
 
--- the spelling of a problem and a plan asks `check` of them
+-- if an input spells a problem and a plan, `check` reads them
 pub question_spelled : (input : List ℕ) (problem : Setup) (plan : List Node) → SpellsPlan input problem plan
     → question_of_input input ≡ Ok (problem, plan)
 unfolding question_of_input problem_text plan_text
@@ -186,7 +186,7 @@ problem_asked_alone : (rest : Rest) (problem : Setup) (last : Rest) → problem_
 unfolding problem_alone_at
 problem_asked_alone rest problem last e none = rw (e, none) refl
 
--- the spelling of a problem asks `solve` of it
+-- if an input spells a problem, `solve` reads it
 pub problem_spelled : (input : List ℕ) (problem : Setup) → SpellsProblem input problem → problem_of_input input ≡ Ok problem
 unfolding problem_of_input problem_text
 problem_spelled input problem spelled =

@@ -1,4 +1,4 @@
--- What is owed for an input that is too long, and that an answer is sent as its reply.
+-- The replies that are owed to an input that is too long, to a verdict, and to what the finder finds.
 use Rattle.std.proofs.Common.{◌≡◌, ◌≢◌, ◌⊎◌, ℕ, ◌<◌, List, Option, Some, inl, inr, Result, IsOk, length, Ok, Err, refl, sym, ap, ◌∙◌, cond, subst}
 use Rattle.std.proofs.lemmas.Bool.{lt-leb}
 use Rattle.crib_text.specs.Refusals.{Refusal, no_memory, too_long}
@@ -47,7 +47,7 @@ board_of_long : (input : List ℕ) → 8388608 < length input → board_of_input
 unfolding board_of_input
 board_of_long input long = ap (λ (read : Result Rest Refusal). read >>= board_at) (long_lines input long)
 
--- the reply to an input that is too long is one refusal, whatever the job
+-- each job owes the same refusal to an input that is too long
 pub long_answers : (job : Job) (input : List ℕ) (reply : Reply) → 8388608 < length input → reply ≡ refusal_reply (record { line = 0; number = too_long })
     → Answers job input reply
 long_answers Replay input reply long is = is ∙ sym (ap (reply_by report_reply) (report_of_long input long))
@@ -63,14 +63,14 @@ long_answers Board input reply long is = is ∙ sym (ap (reply_by board_reply) (
 pub too_long_law : TooLongLaw
 too_long_law job input long = long_answers job input _ long refl
 
--- what is answered to a verdict is owed
+-- the reply to a verdict that is right is the one that `check` owes
 pub verdict_owed : (input : List ℕ) (verdict : Verdict) (reply : Reply) → IsToldOf (question_of_input input) verdict → reply ≡ verdict_reply verdict
     → Answers Check input reply
 verdict_owed input verdict reply told is =
     let A : Result (Setup × List Node) Refusal → Type 0 = λ said. AnswersCheck said reply in
     subst A (sym told.asked) (verdict, told.right, is)
 
--- a plan that was read has a number of nodes
+-- if a problem and a plan are read, the number of nodes is read
 counted : (input : List ℕ) (question : Setup × List Node) → question_of_input input ≡ Ok question → IsOk (count_of_input input)
 unfolding question_of_input question_at plan_at count_of_input count_behind
 counted input question asked =
@@ -80,18 +80,18 @@ counted input question asked =
     let k = bind_ok (count_at b.0.1) _ d.0 d.1 in
     rw (a.1, b.1, k.1) refl
 
--- the reply to a verdict, or want of memory for the game of one that is not that the plan holds
+-- the reply to a right verdict is one that `check` makes, and so is the fault that memory was refused, if the plan fails
 pub verdict_made : (input : List ℕ) (verdict : Verdict) (reply : Reply) → IsToldOf (question_of_input input) verdict
     → (reply ≡ verdict_reply verdict) ⊎ ((verdict ≢ Holds) × (reply ≡ fault_reply no_memory)) → Makes Check input reply
 verdict_made input verdict reply told (inl is) = inl (verdict_owed input verdict reply told is)
 verdict_made input verdict reply told (inr want) = inr (counted input (told.problem, told.plan) told.asked, want.1)
 
--- what is answered to what is found is owed
+-- the reply to what the finder finds is the one that is owed to the problem
 pub found_owed : (problem : Setup) (plan : Option (List Node)) (reply : Reply) → IsFound problem plan → ¬ ExceedsLimit problem most_nodes
     → reply ≡ found_reply plan → AnswersProblem problem reply
 found_owed problem plan reply found small is = inl (plan, found, small, is)
 
--- the reply to a plan that is found, or want of memory for its text
+-- the reply to the plan that was found, as the checker passed it, is owed to the problem. Or it is the fault that memory was refused
 pub plan_made : (problem : Setup) (plan passed : List Node) (reply : Reply) → IsFound problem (Some plan) → ¬ ExceedsLimit problem most_nodes → passed ≡ plan
     → (reply ≡ found_reply (Some passed)) ⊎ (reply ≡ fault_reply no_memory) → AnswersProblem problem reply ⊎ (reply ≡ fault_reply no_memory)
 plan_made problem plan passed reply found small same (inl is) =

@@ -1,4 +1,4 @@
--- What the replies say of the inputs that they are owed to.
+-- The laws of the replies, as `specs/Laws` states them.
 use Rattle.std.proofs.Common.{◌≡◌, ◌⊎◌, inl, inr, ℕ, eqb, cond, List, [], ◌∷◌, ◌++◌, drop, Option, Some, None, Result, Ok, Err, codes, refl}
 use Rattle.std.proofs.Common.{sym, ap, ◌∙◌, subst, arith}
 use Rattle.std.proofs.lemmas.List.{append_cancel_left}
@@ -34,11 +34,11 @@ abbrev first_byte : List ℕ → ℕ
 first_byte [] = 0
 first_byte (byte ∷ bytes) = byte
 
--- the first byte of a reply whose output is a text
+-- the first byte of a reply that has a text as its output
 first_of : (reply stated : Reply) (text : List ℕ) → reply ≡ stated → reply.output ≡ text → first_byte stated.output ≡ first_byte text
 first_of reply stated text is e = ap (λ (r : Reply). first_byte r.output) (sym is) ∙ ap first_byte e
 
--- ---- endings are told apart by the second letter of their words
+-- ---- the words of endings are told apart by their second letter
 
 abbrev ending_with : ℕ → Ending
 ending_with letter =
@@ -57,7 +57,7 @@ same_ending one other text more e = sym (ending_in one text) ∙ ap (λ (bytes :
 
 -- ---- check
 
--- a question, and the right verdict of it
+-- a problem and a plan were read, and the plan is sure
 record IsHeld (said : Result (Setup × List Node) Refusal) : Type 0 where
   question : Setup × List Node
   asked : said ≡ Ok question

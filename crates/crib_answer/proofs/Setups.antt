@@ -1,4 +1,4 @@
--- What a problem section that is read keeps.
+-- A problem that is read has what each problem has (`IsSetup`).
 use Rattle.std.proofs.Common.{◌≡◌, ◌≤◌, List, [], length, reverse, Ok, codes, refl, sym, ap, ◌∙◌, subst, arith}
 use Rattle.std.proofs.lemmas.List.{reverse-reverse}
 use Rattle.crib_cards.specs.declared.moves.Act.{Act}
@@ -12,7 +12,7 @@ use Rattle.crib_problem.specs.Reading.{acts_count_in, allowed_at, seven_lines_at
 use Rattle.crib_problem.proofs.TurnLemmas.{AllMoves, acts_count_found, turns_found}
 use Rattle.crib_problem.proofs.ReadIsSpelled.{seven_found}
 
--- seven lines with turns that may stand after them
+-- the seven lines of a problem, with an opening that is allowed after them
 setup_with : (seven : Setup) (acts : List Act) → seven.version ≡ Two → IsSetup seven → length (reverse acts) ≤ 32 → AllMoves (reverse acts)
     → AreAllowed (opening_basis_of seven) acts → IsSetup (with_played seven acts)
 setup_with seven acts two is few moves allowed =
@@ -51,7 +51,7 @@ unfolding played_at
 setup_by_version read seven One is setup e = subst (λ (r : Setup × Rest). IsSetup r.0) (ok_is seven read e) setup
 setup_by_version read seven Two is setup e = setup_of_turns seven.0 seven.1 read is setup e
 
--- the problem that is read keeps what a problem keeps
+-- a problem that is read has what each problem has
 pub setup_read : (rest : Rest) (read : Setup × Rest) → problem_at rest ≡ Ok read → IsSetup read.0
 unfolding problem_at
 setup_read rest read e =

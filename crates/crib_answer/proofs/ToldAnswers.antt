@@ -1,4 +1,4 @@
--- What answers tell of the input that they were given.
+-- A reply that a job makes of an input tells of it what `specs/Telling` states.
 use Rattle.std.proofs.Common.{◌≡◌, inl, inr, ℕ, List, Option, Some, None, Result, Ok, Err}
 use Rattle.std.proofs.Common.{refl, sym, ◌∙◌, subst}
 use Rattle.crib_text.specs.Refusals.{Refusal, no_memory}
@@ -92,7 +92,7 @@ solve_tells input (Err refusal) reply asked is = subst (Solves input) (sym is) (
 
 -- ---- each command
 
--- that memory ran out tells nothing else
+-- the fault that memory was refused tells nothing of the input
 pub memory_tells : (job : Job) (input : List ℕ) → StatusTells job input (fault_reply no_memory)
 memory_tells Replay input = tt
 memory_tells Follow input = tt
@@ -100,7 +100,7 @@ memory_tells Check input = refl
 memory_tells Solve input = inl refl
 memory_tells Board input = tt
 
--- what the reply that is made of an input tells of it
+-- a reply that a job makes of an input tells of it what `StatusTells` states
 pub makes_tells : (job : Job) (input : List ℕ) (reply : Reply) → Makes job input reply → StatusTells job input reply
 makes_tells Replay input reply made = tt
 makes_tells Follow input reply made = tt

@@ -1,4 +1,4 @@
--- The answer of a command to an input: what is written, and how the program ends.
+-- The reply that each job owes to an input: the text that is written, and the exit status.
 use Rattle.std.specs.Prelude.{◌≡◌, ◌⊎◌, ℕ, List, [], ◌∷◌, ◌++◌, flat_map, codes, decimal}
 use Rattle.std.specs.Prelude.{Option, Some, None, Result, Ok, Err}
 use Rattle.crib_cards.specs.declared.sides.Scores.{Scores}
@@ -27,7 +27,7 @@ use Rattle.crib_check.specs.declared.verdict.Verdict.{Verdict}
 use Rattle.crib_check.specs.declared.verdict.Verdict.TheVariants.{Holds, Fails}
 use Rattle.crib_check.specs.Verdicts.{IsRight}
 
--- the reply to an input that is refused
+-- the reply to a refused input: the line and the number of its refusal
 abbrev pub refusal_reply : Refusal → Reply
 refusal_reply refusal = record {
   output = line_text (codes "refused" ∷ codes "line" ∷ (decimal refusal.line ++ codes ":")
@@ -35,27 +35,27 @@ refusal_reply refusal = record {
   status = Refused;
 }
 
--- the line of a fault of the work itself
+-- the line of a fault, with its number
 abbrev pub fault_line : ℕ → List ℕ
 fault_line number = line_text (codes "fault" ∷ decimal number ∷ [])
 
--- the reply to such a fault
+-- the reply of a fault: the line with its number, and nothing else
 abbrev pub fault_reply : ℕ → Reply
 fault_reply number = record { output = fault_line number; status = Fault }
 
--- both scores as words, the owner's first
+-- both scores as words: the owner's, and then the opponent's
 abbrev pub score_words : Scores → List (List ℕ)
 score_words scores = decimal scores.owner ∷ decimal scores.opponent ∷ []
 
--- a counted hand, or the crib, as a line: whose it is, its points, and the scores after it
+-- the line of a counted hand or of the crib: which of the two it is, its side, its points, and the scores after it
 unfoldable pub counted_line : ShowRow → List ℕ
 counted_line row = line_text (show_word row.crib ∷ side_word row.side ∷ decimal row.points ∷ score_words row.scores)
 
--- the scores at the end of the play, as a line
+-- the line of the scores after the last act
 unfoldable pub play_line : Scores → List ℕ
 play_line scores = line_text (codes "play" ∷ score_words scores)
 
--- the reply to a game that is replayed
+-- the reply to a replayed game: the scores after the last act, the counted hands and crib, and the outcome or `open`
 abbrev pub report_reply : Report → Reply
 report_reply report = record {
   output = play_line report.scores ++ flat_map counted_line report.show.items
@@ -63,7 +63,7 @@ report_reply report = record {
   status = Yes;
 }
 
--- how a game stands under a plan
+-- the word of an ending
 abbrev pub ending_word : Ending → List ℕ
 ending_word ending.Open = codes "open"
 ending_word ending.Stuck = codes "stuck"
@@ -71,7 +71,7 @@ ending_word ending.Lost = codes "lost"
 ending_word ending.Short = codes "short"
 ending_word ending.Reached = codes "reached"
 
--- the status of an ending: yes where the owner reached his goal
+-- the status of an ending: yes if the owner reached his goal, and no otherwise
 abbrev pub ending_status : Ending → Status
 ending_status ending.Open = No
 ending_status ending.Stuck = No
@@ -79,11 +79,11 @@ ending_status ending.Lost = No
 ending_status ending.Short = No
 ending_status ending.Reached = Yes
 
--- the reply to a game through which a plan is followed
+-- the reply to a game and a plan, by the ending of the game under the plan
 abbrev pub ending_reply : Ending → Reply
 ending_reply result = record { output = line_text (ending_word result ∷ []); status = ending_status result }
 
--- the reply to a verdict: that the plan holds, or how it fails and the game in which it does
+-- the reply to a verdict: `holds`, or `fails` with the ending and the game
 abbrev pub verdict_reply : Verdict → Reply
 verdict_reply Holds = record { output = line_text (codes "holds" ∷ []); status = Yes }
 verdict_reply (Fails result game) = record {
@@ -91,43 +91,45 @@ verdict_reply (Fails result game) = record {
   status = No;
 }
 
--- the reply to a problem and a plan is that of the right verdict
+-- a reply is the one that `check` owes to what was read: that of a right verdict on the problem and the plan, or that
+-- of the refusal
 abbrev pub AnswersCheck : Result (Setup × List Node) Refusal → Reply → Type 0
 AnswersCheck (Ok question) reply =
     (verdict : Verdict) × IsRight question.0 question.1 verdict × (reply ≡ verdict_reply verdict)
 AnswersCheck (Err refusal) reply = reply ≡ refusal_reply refusal
 
--- the reply to what is found: the plan, or that there is none
+-- the reply to what the finder finds: the plan, or `none`
 abbrev pub found_reply : Option (List Node) → Reply
 found_reply (Some plan) = record { output = plan_text plan; status = Yes }
 found_reply None = record { output = line_text (codes "none" ∷ []); status = No }
 
--- the number of the fault that the finder's plan has too many nodes
+-- the number of the fault for a plan that was found and has too many nodes
 abbrev pub too_large : ℕ
 too_large = 50
 
--- the reply to a problem: what the finder finds, or a fault where its plan has more nodes than a plan may have
+-- a reply is the one that is owed to a problem: that of what the finder finds, or a fault if the plan that was found
+-- has more nodes than a plan may have
 abbrev pub AnswersProblem : Setup → Reply → Type 0
 AnswersProblem problem reply =
     ((plan : Option (List Node)) × IsFound problem plan × (¬ ExceedsLimit problem most_nodes)
     × (reply ≡ found_reply plan))
     ⊎ (ExceedsLimit problem most_nodes × (reply ≡ fault_reply too_large))
 
--- the reply of `solve` to what an input spells: a problem, or its first refusal
+-- a reply is the one that `solve` owes to what was read: the one that is owed to the problem, or that of the refusal
 abbrev pub AnswersSolve : Result Setup Refusal → Reply → Type 0
 AnswersSolve (Ok problem) reply = AnswersProblem problem reply
 AnswersSolve (Err refusal) reply = reply ≡ refusal_reply refusal
 
--- the reply to a game whose board is asked for
+-- the reply with a board: its text, and the status yes
 abbrev pub board_reply : List ℕ → Reply
 board_reply board = record { output = board; status = Yes }
 
--- the reply to what was read, or to its refusal
+-- the reply to what was read: that of the value, or that of the refusal
 abbrev pub reply_by : {A : Type 0} → (A → Reply) → Result A Refusal → Reply
 reply_by reply (Ok value) = reply value
 reply_by reply (Err refusal) = refusal_reply refusal
 
--- the reply of a command to an input
+-- a reply is the one that a job owes to an input
 abbrev pub Answers : Job → List ℕ → Reply → Type 0
 Answers Replay input reply = reply ≡ reply_by report_reply (report_of_input input)
 Answers Follow input reply = reply ≡ reply_by ending_reply (ending_of_input input)

@@ -5,7 +5,7 @@ use Rattle.crib_answer.specs.declared.job.Job.{Job}
 use Rattle.crib_answer.specs.declared.job.Job.TheVariants.{Replay, Follow, Check, Solve, Board}
 use Rattle.crib_answer.specs.declared.job.UnknownJob.{UnknownJob}
 
--- the name of a job, as it is typed
+-- the name of a job: the command that is typed for it
 abbrev pub name_of : Job → List ℕ
 name_of Replay = codes "replay"
 name_of Follow = codes "follow"
@@ -13,14 +13,14 @@ name_of Check = codes "check"
 name_of Solve = codes "solve"
 name_of Board = codes "board"
 
--- the jobs, in the order in which help lists them
+-- the jobs, in the order in which the help text lists them
 abbrev pub all_jobs : List Job
 all_jobs = Check ∷ Solve ∷ Replay ∷ Board ∷ Follow ∷ []
 
--- the names of all jobs
+-- the names of the jobs, in the same order
 abbrev pub job_names : List (List ℕ)
 job_names = map name_of all_jobs
 
--- the job of a name
+-- the job with a name, or an error if no job has this name
 abbrev pub job_called : List ℕ → Result Job UnknownJob
 job_called text = ok_or (find (λ job. bytes_eq text (name_of job)) all_jobs) (record {})

@@ -1,4 +1,4 @@
--- What a reader may take from what the program writes, from the bytes that come in to the bytes that go out.
+-- The laws of the replies. They say what the bytes of an input spell, by the bytes of the reply that is owed to it.
 use Rattle.std.specs.Prelude.{◌≡◌, ◌⊎◌, ◌<◌, ℕ, List, ◌∷◌, ◌++◌, length, Result, Ok, codes}
 use Rattle.crib_text.specs.Refusals.{Refusal, cut_short, too_long}
 use Rattle.crib_text.specs.Words.{line_after}
@@ -18,14 +18,14 @@ use Rattle.crib_answer.specs.Answer.{Answers, refusal_reply, verdict_reply}
 use Rattle.crib_answer.specs.Telling.{SpellsPlan, HasSurePlan, HasFailingPlan, IsSolvedBy, HasNoPlan}
 use Rattle.crib_answer.specs.Telling.{holds_line, fails_line, none_line}
 
--- ---- every command
+-- ---- every job
 
--- one reply is owed to an input
+-- at most one reply of a job is owed to an input
 abbrev pub OneReplyLaw : Type 0
 OneReplyLaw =
     (job : Job) (input : List ℕ) (one other : Reply) → Answers job input one → Answers job input other → one ≡ other
 
--- an input of more bytes than may be read is owed one refusal, whatever the command
+-- to an input of more bytes than an input may have, each job owes the refusal that it is too long, with line 0
 abbrev pub TooLongLaw : Type 0
 TooLongLaw =
     (job : Job) (input : List ℕ) → most_bytes < length input →
@@ -33,11 +33,11 @@ TooLongLaw =
 
 -- ---- beginnings
 
--- an input is accepted by what a command reads of it
+-- what was read is a value and no refusal
 abbrev pub Accepts : {A : Type 0} → Result A Refusal → Type 0
 Accepts {A = A} said = (value : A) × (said ≡ Ok value)
 
--- an input is accepted by a command
+-- a job accepts an input: what it reads is a value and no refusal
 abbrev pub IsAccepted : Job → List ℕ → Type 0
 IsAccepted Replay input = Accepts (report_of_input input)
 IsAccepted Follow input = Accepts (ending_of_input input)
@@ -45,7 +45,7 @@ IsAccepted Check input = Accepts (question_of_input input)
 IsAccepted Solve input = Accepts (problem_of_input input)
 IsAccepted Board input = Accepts (board_of_input input)
 
--- each proper beginning of an accepted input is refused as cut short, at the line of the first byte that is missing
+-- each proper beginning of an accepted input is refused as cut short. The line is that of the first missing byte
 abbrev pub CutShortLaw : Type 0
 CutShortLaw =
     (job : Job) (front : List ℕ) (next : ℕ) (back : List ℕ) → IsAccepted job (front ++ next ∷ back) →
@@ -53,32 +53,33 @@ CutShortLaw =
 
 -- ---- check
 
--- where `holds` is owed, the input spells a problem and a plan that is sure for it, whose play goes on until it ends
+-- if `holds` is owed, the input spells a problem and a plan that is sure for it, and the play goes on until the deal is
+-- done
 abbrev pub HoldsLaw : Type 0
 HoldsLaw =
     (input : List ℕ) (reply : Reply) → Answers Check input reply → reply.output ≡ holds_line → HasSurePlan input
 
--- where `fails` and an ending are owed, the input spells a problem and a plan, and the text after this line is the
--- spelling of the first game in which the plan fails, with this ending
+-- if `fails` with an ending is owed, the input spells a problem and a plan. The text after that line spells the first
+-- failing game of the plan, and this game has this ending
 abbrev pub FailsLaw : Type 0
 FailsLaw =
     (input : List ℕ) (reply : Reply) (result : Ending) (text : List ℕ) → Answers Check input reply →
     reply.output ≡ fails_line result ++ text → HasFailingPlan input result text
 
--- an input that spells a problem and a plan is owed one of the two
+-- if an input spells a problem and a plan, each reply that is owed is `holds`, or `fails` with an ending and a game
 abbrev pub EitherLaw : Type 0
 EitherLaw =
     (input : List ℕ) (problem : Setup) (plan : List Node) (reply : Reply) → SpellsPlan input problem plan →
     Answers Check input reply →
     (reply ≡ verdict_reply Holds) ⊎ ((result : Ending) × (game : Game) × (reply ≡ verdict_reply (Fails result game)))
 
--- `holds` is owed wherever the plan is sure
+-- if an input spells a problem and a plan that is sure for it, `holds` is owed
 abbrev pub SureLaw : Type 0
 SureLaw =
     (input : List ℕ) (problem : Setup) (plan : List Node) → SpellsPlan input problem plan → IsSure problem plan →
     Answers Check input (verdict_reply Holds)
 
--- and `fails` wherever there is a first failing game
+-- if an input spells a problem and a plan that has a first failing game, `fails` is owed with its ending and this game
 abbrev pub FailingLaw : Type 0
 FailingLaw =
     (input : List ℕ) (problem : Setup) (plan : List Node) (result : Ending) (game : Game) →
@@ -87,14 +88,14 @@ FailingLaw =
 
 -- ---- solve
 
--- where a text that begins with `plan` is owed, it is the spelling of a plan that is sure for the problem that the
--- input spells, and whose play goes on until it ends
+-- if a text that begins with `plan` is owed, the input spells a problem, the text spells a plan that is sure for it,
+-- and the play goes on until the deal is done
 abbrev pub PlanLaw : Type 0
 PlanLaw =
     (input : List ℕ) (reply : Reply) (more : List ℕ) → Answers Solve input reply →
     reply.output ≡ codes "plan" ++ more → IsSolvedBy input reply.output
 
--- where `none` is owed, no plan is sure for the problem that the input spells
+-- if `none` is owed, the input spells a problem for which no plan is sure
 abbrev pub NoneLaw : Type 0
 NoneLaw =
     (input : List ℕ) (reply : Reply) → Answers Solve input reply → reply.output ≡ none_line → HasNoPlan input

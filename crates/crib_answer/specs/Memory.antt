@@ -1,4 +1,4 @@
--- Where a command asks for memory, once its input is in memory.
+-- Where a job asks for memory, once its input is in memory.
 use Rattle.std.specs.Prelude.{◌≡◌, ◌⊎◌, ℕ, List, Result, Ok, IsOk}
 use Rattle.crib_text.specs.Refusals.{Refusal, no_memory}
 use Rattle.crib_text.specs.Reading.{◌>>=◌, Rest}
@@ -10,19 +10,20 @@ use Rattle.crib_answer.specs.Input.{input_lines, problem_of_input, board_of_inpu
 use Rattle.crib_answer.specs.Reply.{Reply}
 use Rattle.crib_answer.specs.Answer.{Answers, fault_reply}
 
--- the number of nodes that is stated behind a problem
+-- the number of nodes that the plan after a problem states, or the first refusal. Only the first two lines of the plan
+-- are read
 unfoldable pub count_behind : Rest → Result ℕ Refusal
 count_behind rest = do
   problem ← problem_at rest
   count ← count_at problem.1
   Ok count.0
 
--- the number of nodes that an input states behind its problem
+-- the number of nodes that an input states after its problem, or the first refusal
 unfoldable pub count_of_input : List ℕ → Result ℕ Refusal
 count_of_input bytes = input_lines bytes >>= count_behind
 
--- where a command asks for memory: never to replay a game; where a plan is read, once its first two lines have passed;
--- to find a plan, once the problem has; and to draw a board, once the game has
+-- a job may ask for memory for an input: `replay` never, `follow` and `check` if the problem and the first two lines of
+-- the plan are not refused, `solve` and `board` if the input is not refused
 abbrev pub AsksForMemory : Job → List ℕ → Type 0
 AsksForMemory Replay input = ⊥
 AsksForMemory Follow input = IsOk (count_of_input input)
@@ -30,7 +31,8 @@ AsksForMemory Check input = IsOk (count_of_input input)
 AsksForMemory Solve input = IsOk (problem_of_input input)
 AsksForMemory Board input = IsOk (board_of_input input)
 
--- the reply that is made of an input in memory: the one that is owed; or that memory ran out, where it is asked for
+-- a reply is one that a job makes of an input in memory: it is the one that is owed, or the fault that memory was
+-- refused, if the job may ask for memory
 abbrev pub Makes : Job → List ℕ → Reply → Type 0
 Makes job input reply =
     Answers job input reply ⊎ (AsksForMemory job input × (reply ≡ fault_reply no_memory))

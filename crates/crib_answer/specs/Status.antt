@@ -3,7 +3,7 @@ use Rattle.std.specs.Prelude.{ℕ}
 use Rattle.crib_answer.specs.declared.status.Status.{Status}
 use Rattle.crib_answer.specs.declared.status.Status.TheVariants.{Yes, No, Refused, Fault}
 
--- the exit status as a number
+-- the number of an exit status
 abbrev pub code_of : Status → ℕ
 code_of Yes = 0
 code_of No = 1

@@ -1,4 +1,4 @@
--- What the answers of `check` and `solve` tell of the input that they were given.
+-- What the replies of `check` and `solve` tell of the input.
 use Rattle.std.specs.Prelude.{◌≡◌, ◌⊎◌, ℕ, List, [], ◌∷◌, ◌++◌, codes}
 use Rattle.crib_text.specs.Refusals.{no_memory}
 use Rattle.crib_text.specs.Spelling.{line_text}
@@ -22,18 +22,18 @@ use Rattle.crib_answer.specs.Answer.{ending_word, fault_line, too_large}
 
 -- ---- what an input spells
 
--- an input is the spelling of a problem and nothing else
+-- an input spells a problem: it is the text of the problem and nothing else
 pub record SpellsProblem (input : List ℕ) (problem : Setup) : Type 0 where
   pub problem_is : IsSetup problem
   pub text : input ≡ problem_text problem
 
--- an input is the spelling of a problem, then that of a plan, and nothing else
+-- an input spells a problem and a plan: it is the text of the problem, then that of the plan, and nothing else
 pub record SpellsPlan (input : List ℕ) (problem : Setup) (plan : List Node) : Type 0 where
   pub problem_is : IsSetup problem
   pub plan_is : ArePlan plan
   pub text : input ≡ problem_text problem ++ plan_text plan
 
--- an input spells a problem, and a plan that is sure for it, whose play goes on until it ends
+-- an input spells a problem and a plan. The plan is sure for the problem, and the play goes on until the deal is done
 pub record HasSurePlan (input : List ℕ) : Type 0 where
   pub problem : Setup
   pub plan : List Node
@@ -42,8 +42,8 @@ pub record HasSurePlan (input : List ℕ) : Type 0 where
   pub goes_on : GoesOn problem plan
   pub ends : Ends problem
 
--- an input spells a problem and a plan, and a text is the spelling of the first game in which this plan fails, with
--- this ending
+-- an input spells a problem and a plan. A text is that of the first failing game of the plan, and this game has this
+-- ending
 pub record HasFailingPlan (input : List ℕ) (result : Ending) (text : List ℕ) : Type 0 where
   pub problem : Setup
   pub plan : List Node
@@ -52,8 +52,8 @@ pub record HasFailingPlan (input : List ℕ) (result : Ending) (text : List ℕ)
   pub game_is : text ≡ game_text game
   pub first : IsFirstFailing problem plan game result
 
--- an input spells a problem, and a text is the spelling of a plan that is sure for it, whose play goes on until it
--- ends
+-- an input spells a problem. A text is that of a plan that is sure for this problem, and the play goes on until the
+-- deal is done
 pub record IsSolvedBy (input text : List ℕ) : Type 0 where
   pub problem : Setup
   pub plan : List Node
@@ -75,24 +75,25 @@ pub record HasSomePlan (input : List ℕ) : Type 0 where
   pub spelled : SpellsProblem input problem
   pub some : IsWinnable problem
 
--- ---- the lines that tell it
+-- ---- the lines of the replies
 
--- the line of a plan that is sure
+-- the line that says that a plan is sure
 abbrev pub holds_line : List ℕ
 holds_line = line_text (codes "holds" ∷ [])
 
--- the line of a plan that fails, with how it ends
+-- the line that says that a plan fails, with the ending of its first failing game
 abbrev pub fails_line : Ending → List ℕ
 fails_line result = line_text (codes "fails" ∷ ending_word result ∷ [])
 
--- the line of a problem for which no plan is sure
+-- the line that says that no plan is sure
 abbrev pub none_line : List ℕ
 none_line = line_text (codes "none" ∷ [])
 
--- ---- what text and status tell
+-- ---- what the text and the status tell
 
--- what the answer of `check` tells: the plan is sure, or it fails first in the game that is written, or the input
--- spells no problem and plan, or there was no memory
+-- what the reply of `check` tells, by its status. Yes: the text is `holds`, and the plan is sure. No: the text is
+-- `fails`, the ending and the first failing game of the plan. Refused: the input spells no problem and plan. Fault: the
+-- text says that memory was refused
 abbrev pub CheckTells : List ℕ → List ℕ → Status → Type 0
 CheckTells input text Yes = HasSurePlan input × (text ≡ holds_line)
 CheckTells input text No =
@@ -100,8 +101,9 @@ CheckTells input text No =
 CheckTells input text Refused = (problem : Setup) (plan : List Node) → ¬ SpellsPlan input problem plan
 CheckTells input text Fault = text ≡ fault_line no_memory
 
--- what the answer of `solve` tells: the plan that is written is sure, or no plan is, or the input spells no problem, or
--- there was no memory, or there is a sure plan but the one that was found has too many nodes
+-- what the reply of `solve` tells, by its status. Yes: the text spells a plan that is sure. No: the text is `none`, and
+-- no plan is sure. Refused: the input spells no problem. Fault: the text says that memory was refused; or it says that
+-- the plan that was found has too many nodes, and some plan is sure
 abbrev pub SolveTells : List ℕ → List ℕ → Status → Type 0
 SolveTells input text Yes = IsSolvedBy input text
 SolveTells input text No = HasNoPlan input × (text ≡ none_line)
@@ -109,7 +111,7 @@ SolveTells input text Refused = (problem : Setup) → ¬ SpellsProblem input pro
 SolveTells input text Fault =
     (text ≡ fault_line no_memory) ⊎ (HasSomePlan input × (text ≡ fault_line too_large))
 
--- what an answer tells of the input by its text and its status
+-- what the text and the status of a reply tell of the input. For a job other than `check` and `solve` this says nothing
 abbrev pub StatusTells : Job → List ℕ → Reply → Type 0
 StatusTells Check input reply = CheckTells input reply.output reply.status
 StatusTells Solve input reply = SolveTells input reply.output reply.status

@@ -1,4 +1,4 @@
-//! What is written, and how the program ends.
+//! The answer to an input: its text and its status.
 ghost use Rattle.std.specs.Prelude.{◌≤◌, length};
 ghost use Rattle.crib_answer.specs.Text.{text_bytes};
 
@@ -6,7 +6,8 @@ use crate::status::Status;
 use crate::text::Text;
 use std::alloc::Allocator;
 
-/// The whole answer, made before its first byte is written.
+/// The whole answer to an input: a text of at most 8,388,608 bytes, and a status. It is made before its first byte is
+/// written.
 #[derive(Drop)]
 pub struct Answer<A: Allocator> {
     pub(crate) text: Text<A>,

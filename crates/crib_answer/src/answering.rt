@@ -1,4 +1,4 @@
-//! From the bytes of the input to the whole answer, in memory.
+//! Makes the whole answer of a job to the bytes of an input.
 ghost use Rattle.std.specs.Prelude.{◌≡◌, ◌≤◌, length, vec_len};
 ghost use Rattle.crib_text.specs.Refusals.{too_long};
 ghost use Rattle.crib_answer.specs.Answer.{board_reply, refusal_reply};
@@ -19,15 +19,19 @@ use crate::verdict::verdict_answer;
 use crib_text::MAX_INPUT;
 use std::alloc::Allocator;
 
-/// The whole answer of a command to an input of any length: its text and its status.
+/// Returns the whole answer of a job to an input of any length: its text and its status (docs/FORMATS.md, "Answers").
 ///
-/// - `owed`: it is the reply that is owed to these bytes; or it tells that memory ran out, where the command asks for
-///   it.
-/// - `told`: what text and status tell of these bytes, for `check` and `solve`. Of `check`, `Yes` goes with `holds`,
-///   and the plan of the input is sure; `No` goes with `fails`, how, and the first game in which the plan fails. Of
-///   `solve`, `Yes` goes with a plan that is sure; `No` goes with `none`, and no plan is sure. `Refused` tells that the
-///   bytes spell nothing of the kind. `Fault` tells that memory ran out, or of `solve`, that there is a sure plan and
-///   the one that was found has too many nodes.
+/// - `owed`: the answer is the reply that the job owes to these bytes, or it is `fault 11` because memory was refused.
+///   `replay` never asks for memory. `follow` and `check` ask for it only if the problem and the first two lines of the
+///   plan are not refused. `solve` and `board` ask for it only if the input is not refused.
+/// - `told`: the status and the text tell this of the input:
+///   - `check`, `Yes`: the text is `holds`, and the plan of the input is sure.
+///   - `check`, `No`: the text is `fails`, the ending, and the first failing game of the plan.
+///   - `solve`, `Yes`: the text is a plan that is sure for the problem of the input.
+///   - `solve`, `No`: the text is `none`, and no plan is sure for the problem of the input.
+///   - `Refused`: the bytes spell no problem and plan (`check`), or no problem (`solve`).
+///   - `Fault`: memory was refused. Or the job is `solve`, some plan is sure, and the plan that was found has more than
+///     65,535 nodes.
 pub fn answer_to<A: Allocator + Copy>(alloc: A, job: Job, input: &[u8]) -> Answer<A>
     ensures owed { Makes job input.now (reply_of result) }
     ensures told { StatusTells job input.now (reply_of result) }
@@ -44,7 +48,7 @@ pub fn answer_to<A: Allocator + Copy>(alloc: A, job: Job, input: &[u8]) -> Answe
     }
 }
 
-/// The answer to an input of more than 8,388,608 bytes.
+/// Returns the answer to an input of more than 8,388,608 bytes: `refused line 0: 2`, with the status `Refused`.
 pub fn too_long_answer<A: Allocator>() -> Answer<A>
     ensures { reply_of result ≡ refusal_reply (record { line = 0; number = too_long }) }
 {
@@ -52,6 +56,7 @@ pub fn too_long_answer<A: Allocator>() -> Answer<A>
     refusal_answer(too_long)
 }
 
+// The answer of `replay`: the report of the game, or the refusal of the input.
 fn replay_answer<A: Allocator>(input: &[u8]) -> Answer<A>
     requires { length input.now ≤ 8388608 }
     ensures { Makes Job.Replay input.now (reply_of result) }
@@ -62,6 +67,7 @@ fn replay_answer<A: Allocator>(input: &[u8]) -> Answer<A>
     }
 }
 
+// The answer of `follow`: the ending of the game, the refusal of the input, or `fault 11` if memory was refused.
 fn follow_answer<A: Allocator + Copy>(alloc: A, input: &[u8]) -> Answer<A>
     requires { length input.now ≤ 8388608 }
     ensures { Makes Job.Follow input.now (reply_of result) }
@@ -72,6 +78,7 @@ fn follow_answer<A: Allocator + Copy>(alloc: A, input: &[u8]) -> Answer<A>
     }
 }
 
+// The answer of `check`: the verdict on the plan, the refusal of the input, or `fault 11` if memory was refused.
 fn check_answer<A: Allocator + Copy>(alloc: A, input: &[u8]) -> Answer<A>
     requires { length input.now ≤ 8388608 }
     ensures { Makes Job.Check input.now (reply_of result) }
@@ -82,6 +89,7 @@ fn check_answer<A: Allocator + Copy>(alloc: A, input: &[u8]) -> Answer<A>
     }
 }
 
+// The answer of `solve`: a plan, `none`, the refusal of the input, or a fault.
 fn problem_answer<A: Allocator + Copy>(alloc: A, input: &[u8]) -> Answer<A>
     requires { length input.now ≤ 8388608 }
     ensures { Makes Job.Solve input.now (reply_of result) }
@@ -92,6 +100,7 @@ fn problem_answer<A: Allocator + Copy>(alloc: A, input: &[u8]) -> Answer<A>
     }
 }
 
+// The answer of `board`: the board of the game, the refusal of the input, or `fault 11` if memory was refused.
 fn board_answer<A: Allocator + Copy>(alloc: A, input: &[u8]) -> Answer<A>
     requires { length input.now ≤ 8388608 }
     ensures { Makes Job.Board input.now (reply_of result) }
@@ -102,7 +111,7 @@ fn board_answer<A: Allocator + Copy>(alloc: A, input: &[u8]) -> Answer<A>
     }
 }
 
-// The answer that is a board.
+// The answer with this board as its text. The status is `Yes`.
 #[tactic(auto, unfolding(crate::specs::Reply::reply_of, crate::specs::Text::text_bytes))]
 fn section_answer<A: Allocator>(text: Vec<u8, A>) -> Answer<A>
     requires { vec_len text ≤ 8388608 }

@@ -1,4 +1,4 @@
-//! The answer to a game through which a plan is followed.
+//! The answer of `follow`.
 ghost use Rattle.std.specs.Prelude.{◌≡◌, ◌≤◌, [], ◌∷◌, length};
 ghost use Rattle.crib_text.specs.Spelling.{line_text};
 ghost use Rattle.crib_answer.specs.Answer.{ending_reply, ending_status, ending_word};
@@ -10,14 +10,15 @@ use crate::status::Status;
 use crib_game::Ending;
 use std::alloc::Allocator;
 
-/// The answer to a game through which a plan is followed: how it stands, and yes where the owner reached his goal.
+/// Returns the answer to a game with this ending under a plan (docs/FORMATS.md, "follow"): the word of the ending. The
+/// status is `Yes` for `reached`, and `No` for every other ending.
 pub fn ending_answer<A: Allocator>(ending: Ending) -> Answer<A>
     ensures { reply_of result ≡ ending_reply ending }
 {
     line_answer(line_of(ending), status_of(ending))
 }
 
-/// The line of how a game stands.
+/// Returns the line with the word of an ending, at most 8 bytes with its LF.
 #[tactic(auto, using(crate::proofs::Lines::endings))]
 pub fn line_of(ending: Ending) -> &'static [u8]
     ensures line { result.now ≡ line_text (ending_word ending ∷ []) }
@@ -32,6 +33,7 @@ pub fn line_of(ending: Ending) -> &'static [u8]
     }
 }
 
+// The status of an ending: `Yes` if the owner reached his goal, and `No` otherwise.
 fn status_of(ending: Ending) -> Status
     ensures { result ≡ ending_status ending }
 {

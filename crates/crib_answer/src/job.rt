@@ -1,25 +1,25 @@
-//! What the program is asked to do.
+//! The jobs that the program can do.
 ghost use Rattle.std.specs.Prelude.{◌≡◌};
 ghost use Rattle.crib_answer.specs.Job.{job_called};
 
 use std::str::FromStr;
 
-/// What the program is asked to do with its input.
+/// What the program does with its input. Each command of the command line names one job (docs/FORMATS.md, "Answers").
 #[derive(Clone, Copy, Debug, PartialEq, Eq)]
 pub enum Job {
-    /// To score a game.
+    /// `replay`: reads a problem and a game, and reports the scores, the counted hands and the outcome.
     Replay,
-    /// To say how a game stands under a plan.
+    /// `follow`: reads a problem, a plan and a game, and says how the game stands under the plan.
     Follow,
-    /// To say whether a plan is sure.
+    /// `check`: reads a problem and a plan, and says whether the plan is sure.
     Check,
-    /// To find a plan that is sure.
+    /// `solve`: reads a problem, and finds a plan that is sure if there is one.
     Solve,
-    /// To write the board of a game.
+    /// `board`: reads a problem and a game, and draws the board of the game.
     Board,
 }
 
-/// A word that names no job.
+/// The error of a word that is not the name of a job.
 #[derive(Clone, Copy, Debug, PartialEq, Eq)]
 pub struct UnknownJob;
 

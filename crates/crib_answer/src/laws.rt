@@ -1,28 +1,31 @@
-//! The laws of what the program answers. Each function does nothing; its contract is the laws.
+//! The laws of the answers. Each function does nothing. Its contract states the laws.
 ghost use Rattle.crib_answer.specs.Laws.{CutShortLaw, EitherLaw, FailingLaw, FailsLaw, HoldsLaw, OneReplyLaw, SureLaw};
 ghost use Rattle.crib_answer.specs.Laws.{NoneLaw, PlanLaw, TooLongLaw};
 ghost use Rattle.crib_check.specs.Laws.{EndLaw, ProgressLaw};
 
-/// What holds of every command.
+/// The laws of every job.
 ///
-/// - `one`: its reply is determined by the bytes of its input.
-/// - `too_long`: an input of more than 8,388,608 bytes is owed one refusal (2, of no line).
-/// - `cut_short`: each proper beginning of an accepted input is refused as cut short, at the line of what is missing.
+/// - `one`: at most one reply is owed to an input.
+/// - `too_long`: to an input of more than 8,388,608 bytes the refusal 2 of line 0 is owed.
+/// - `cut_short`: a proper beginning of an accepted input is refused as cut short (3). The line is that of the first
+///   missing byte.
 pub fn reply_law()
     ensures one { OneReplyLaw }
     ensures too_long { TooLongLaw }
     ensures cut_short { CutShortLaw }
 {}
 
-/// What `check` owes, from bytes to bytes.
+/// The laws of `check`. They say what the bytes of an input spell, by the bytes that are owed to it.
 ///
-/// - `holds`: where it owes `holds`, the input spells a problem and a plan that is sure for it.
-/// - `fails`: where it owes `fails` and an ending, the text after this line spells the first game in which the plan
-///   fails, with this ending.
-/// - `either`: an input that spells a problem and a plan is owed one of the two.
-/// - `goes_on`, `ends`: and that is no empty promise. Each legal record that follows a sure plan and is not done has a
-///   further turn with which it is legal and follows it, and no legal record has more than 29 turns.
-/// - `sure`, `failing`: `holds` is owed wherever the plan is sure, and `fails` wherever there is a first failing game.
+/// - `holds`: if `holds` is owed, the input spells a problem and a plan that is sure for it.
+/// - `fails`: if `fails` with an ending is owed, the input spells a problem and a plan. The text after that line spells
+///   the first failing game of the plan, and this game has this ending.
+/// - `either`: if the input spells a problem and a plan, each reply that is owed is one of these two.
+/// - `goes_on`, `ends`: under a sure plan the play goes on until the deal is done. A legal record that follows the plan
+///   and is not done has a further turn, with which it is still legal and still follows the plan. No legal record has
+///   more than 29 turns.
+/// - `sure`, `failing`: if the plan is sure, `holds` is owed. If there is a first failing game, `fails` is owed with
+///   its ending and this game.
 pub fn check_law()
     ensures holds { HoldsLaw }
     ensures fails { FailsLaw }
@@ -33,8 +36,10 @@ pub fn check_law()
     ensures failing { FailingLaw }
 {}
 
-/// What `solve` owes, from bytes to bytes: a plan section spells a plan that is sure for the problem that the input
-/// spells, and `none` tells that no plan is.
+/// The laws of `solve`. They say what the bytes of an input spell, by the bytes that are owed to it.
+///
+/// - `plan`: if a text that begins with `plan` is owed, it spells a plan that is sure for the problem of the input.
+/// - `none`: if `none` is owed, no plan is sure for the problem of the input.
 pub fn solve_law()
     ensures plan { PlanLaw }
     ensures none { NoneLaw }

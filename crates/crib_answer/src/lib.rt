@@ -1,4 +1,4 @@
-//! The answer of a job to the bytes of an input, in memory.
+//! The answer of a job to an input: from bytes in memory to a text and a status in memory.
 #![tactic(auto)]
 
 mod answer;

@@ -1,4 +1,4 @@
-//! Answers of one line that is known beforehand.
+//! Answers of one line.
 ghost use Rattle.std.specs.Prelude.{◌≡◌, ◌≤◌, length};
 ghost use Rattle.crib_text.specs.Refusals.{no_memory, read_fault};
 ghost use Rattle.crib_answer.specs.Answer.{fault_reply};
@@ -9,7 +9,7 @@ use crate::status::Status;
 use crate::text::{ShortText, Text, add};
 use std::alloc::Allocator;
 
-/// The answer that is this line.
+/// Returns the answer with this line as its text, at most 282 bytes, and this status.
 #[tactic(auto, unfolding(crate::specs::Reply::reply_of, crate::specs::Text::text_bytes))]
 pub fn line_answer<A: Allocator>(line: &[u8], status: Status) -> Answer<A>
     requires { length line.now ≤ 282 }
@@ -23,7 +23,7 @@ pub fn line_answer<A: Allocator>(line: &[u8], status: Status) -> Answer<A>
     }
 }
 
-/// The answer where the reader failed.
+/// Returns the answer for a reader that failed: `fault 9`, with the status `Fault` (docs/FORMATS.md, "Faults").
 #[tactic(auto, using(crate::proofs::Lines::fault_lines))]
 pub fn read_fault_answer<A: Allocator>() -> Answer<A>
     ensures { reply_of result ≡ fault_reply read_fault }
@@ -31,7 +31,8 @@ pub fn read_fault_answer<A: Allocator>() -> Answer<A>
     line_answer(b"fault 9\n", Status::Fault)
 }
 
-/// The answer where memory ran out. It takes none.
+/// Returns the answer for memory that was refused: `fault 11`, with the status `Fault` (docs/FORMATS.md, "Faults"). The
+/// call takes no memory.
 #[tactic(auto, using(crate::proofs::Lines::fault_lines))]
 pub fn memory_answer<A: Allocator>() -> Answer<A>
     ensures { reply_of result ≡ fault_reply no_memory }

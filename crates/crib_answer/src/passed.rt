@@ -1,4 +1,4 @@
-//! Plans that the checker has passed.
+//! Plans that the checker found to be sure.
 ghost use Rattle.std.specs.Prelude.{◌≡◌, ◌≢◌, None, IfSome};
 ghost use Rattle.crib_check.specs.Sure.{IsSure};
 
@@ -7,8 +7,8 @@ use crib_plan::Plan;
 use crib_problem::Problem;
 use std::alloc::Allocator;
 
-/// A plan that the checker has passed for a problem. Only [`passed`] makes one, and only of one is the answer of a plan
-/// made.
+/// A plan that the checker found to be sure for a problem. Only [`passed`] makes a value of this type. `solve` prints
+/// no plan without one.
 #[derive(Drop)]
 pub struct PassedPlan<'a, A: Allocator> {
     problem: &'a Problem,
@@ -17,7 +17,7 @@ pub struct PassedPlan<'a, A: Allocator> {
 }
 
 impl<'a, A: Allocator> PassedPlan<'a, A> {
-    /// The plan.
+    /// Returns the plan.
     pub fn plan(&self) -> &'a Plan<A>
         ensures { result.now ≡ self.now.plan.now }
     {
@@ -25,7 +25,8 @@ impl<'a, A: Allocator> PassedPlan<'a, A> {
     }
 }
 
-/// The plan, if the checker passes it. The checker's table keeps what memory there is for.
+/// Checks a plan. Returns it if it is sure for the problem, and `None` if it is not. Memory is for the checker's table
+/// of positions alone. If it is refused, the result is the same.
 pub fn passed<'a, A: Allocator + Copy>(
     alloc: A,
     problem: &'a Problem,

@@ -1,4 +1,5 @@
-//! What an input says: the sections that it spells, and what they say together.
+//! Reads an input for each job: its sections, and then what the job asks of them. Each public call takes an input of at
+//! most 8,388,608 bytes.
 ghost use Rattle.std.specs.Prelude.{◌≡◌, ◌≤◌, Err, IfOk, IsOk, length, vec_len};
 ghost use Rattle.crib_text.specs.Lines.{rest_of};
 ghost use Rattle.crib_text.specs.Reading.{Gives};
@@ -17,7 +18,7 @@ use crib_problem::{Problem, read_problem};
 use crib_text::Lines;
 use std::alloc::Allocator;
 
-// The report of the problem and the game that the lines spell.
+// Reads a problem and a game, with no line after them. Returns the report of the game, or the first refusal.
 #[tactic(auto, unfolding(crate::specs::Input::report_at))]
 fn read_report(mut lines: Lines<'_>) -> Result<Report, Refused>
     ensures { Gives (λ report. report) refusal_of result (report_at (rest_of lines.entry)) }
@@ -32,7 +33,7 @@ fn read_report(mut lines: Lines<'_>) -> Result<Report, Refused>
     }
 }
 
-/// The report that the input asks for.
+/// Reads the input of `replay`, a problem and a game. Returns the report of the game, or the first refusal.
 #[tactic(auto, unfolding(crate::specs::Input::report_of_input, crate::specs::Input::input_lines))]
 pub fn report_of(input: &[u8]) -> Result<Report, Refused>
     requires { length input.now ≤ 8388608 }
@@ -42,7 +43,7 @@ pub fn report_of(input: &[u8]) -> Result<Report, Refused>
     read_report(lines)
 }
 
-// How the game that the lines spell stands under a plan.
+// Reads a game, with no line after it. Returns how it stands under a plan, or the first refusal.
 #[tactic(auto, unfolding(crate::specs::Input::ending_under))]
 fn read_ending_under<A: Allocator>(
     problem: &Problem,
@@ -60,8 +61,8 @@ fn read_ending_under<A: Allocator>(
     }
 }
 
-// How the game stands under the plan, of the problem, the plan and the game that the lines spell. Once the plan is read
-// nothing can want memory.
+// Reads a problem, a plan and a game, with no line after them. Returns how the game stands under the plan. Memory is
+// asked for only after the first two lines of the plan, to keep its nodes.
 #[tactic(auto, unfolding(crate::specs::Input::ending_at, crate::specs::Memory::count_behind))]
 fn read_ending<A: Allocator + Copy>(alloc: A, mut lines: Lines<'_>) -> Result<Ending, Stop>
     ensures ending { Tells (λ ending. ending) result (ending_at (rest_of lines.entry)) }
@@ -73,7 +74,9 @@ fn read_ending<A: Allocator + Copy>(alloc: A, mut lines: Lines<'_>) -> Result<En
     Ok(ending)
 }
 
-/// The ending that the input asks for.
+/// Reads the input of `follow`: a problem, a plan and a game. Returns how the game stands under the plan. Fails with
+/// the first refusal, or with [`Stop::Memory`] if memory is refused. Memory is asked for only if the problem and the
+/// first two lines of the plan are not refused.
 #[tactic(auto, unfolding(crate::specs::Input::ending_of_input, crate::specs::Input::input_lines, crate::specs::Memory::count_of_input))]
 pub fn ending_of<A: Allocator + Copy>(alloc: A, input: &[u8]) -> Result<Ending, Stop>
     requires { length input.now ≤ 8388608 }
@@ -84,8 +87,8 @@ pub fn ending_of<A: Allocator + Copy>(alloc: A, input: &[u8]) -> Result<Ending, 
     read_ending(alloc, lines)
 }
 
-// The verdict on the plan, of the problem and the plan that the lines spell. A growth that is refused to the table of
-// settled positions changes nothing.
+// Reads a problem and a plan, with no line after them, and checks the plan. The plan and the table of positions take
+// memory. A growth that the table is refused does not change the verdict.
 #[tactic(auto, unfolding(crate::specs::Input::question_at, crate::specs::Memory::count_behind))]
 fn read_verdict<A: Allocator + Copy>(alloc: A, mut lines: Lines<'_>) -> Result<Verdict, Stop>
     ensures verdict { TellsVerdict result (question_at (rest_of lines.entry)) }
@@ -98,7 +101,9 @@ fn read_verdict<A: Allocator + Copy>(alloc: A, mut lines: Lines<'_>) -> Result<V
     Ok(check_with(&problem, &plan, &mut settled))
 }
 
-/// The verdict that the input asks for.
+/// Reads the input of `check`, a problem and a plan, and checks the plan. Returns the verdict. Fails with the first
+/// refusal, or with [`Stop::Memory`] if memory for the plan is refused. That memory is asked for only if the problem
+/// and the first two lines of the plan are not refused.
 #[tactic(auto, unfolding(crate::specs::Input::question_of_input, crate::specs::Input::input_lines, crate::specs::Memory::count_of_input))]
 pub fn verdict_of<A: Allocator + Copy>(alloc: A, input: &[u8]) -> Result<Verdict, Stop>
     requires { length input.now ≤ 8388608 }
@@ -109,7 +114,7 @@ pub fn verdict_of<A: Allocator + Copy>(alloc: A, input: &[u8]) -> Result<Verdict
     read_verdict(alloc, lines)
 }
 
-// The problem that the lines spell, and nothing else.
+// Reads a problem, with no line after it. Returns it, or the first refusal.
 #[tactic(auto, unfolding(crate::specs::Input::problem_alone_at))]
 fn read_problem_alone(mut lines: Lines<'_>) -> Result<Problem, Refused>
     ensures { Gives (λ problem. problem) refusal_of result (problem_alone_at (rest_of lines.entry)) }
@@ -119,7 +124,7 @@ fn read_problem_alone(mut lines: Lines<'_>) -> Result<Problem, Refused>
     Ok(problem)
 }
 
-/// The problem of the input.
+/// Reads the input of `solve`, a problem. Returns it, or the first refusal.
 #[tactic(auto, unfolding(crate::specs::Input::problem_of_input, crate::specs::Input::input_lines))]
 pub fn problem_of(input: &[u8]) -> Result<Problem, Refused>
     requires { length input.now ≤ 8388608 }
@@ -129,7 +134,8 @@ pub fn problem_of(input: &[u8]) -> Result<Problem, Refused>
     read_problem_alone(lines)
 }
 
-// The board of the problem and the game that the lines spell.
+// Reads a problem and a game, with no line after them. Returns the board of the game. Memory is asked for only if the
+// game is not refused.
 #[tactic(auto, unfolding(crate::specs::Input::board_at))]
 fn read_board<A: Allocator + Copy>(alloc: A, mut lines: Lines<'_>) -> Result<Vec<u8, A>, Stop>
     ensures board { Tells (λ text. text.items) result (board_at (rest_of lines.entry)) }
@@ -149,7 +155,9 @@ fn read_board<A: Allocator + Copy>(alloc: A, mut lines: Lines<'_>) -> Result<Vec
     }
 }
 
-/// The board that the input asks for.
+/// Reads the input of `board`, a problem and a game. Returns the text of the board, at most 8,388,608 bytes. Fails with
+/// the first refusal, or with [`Stop::Memory`] if memory is refused. Memory is asked for only if the input is not
+/// refused.
 #[tactic(auto, unfolding(crate::specs::Input::board_of_input, crate::specs::Input::input_lines))]
 pub fn board_of<A: Allocator + Copy>(alloc: A, input: &[u8]) -> Result<Vec<u8, A>, Stop>
     requires { length input.now ≤ 8388608 }

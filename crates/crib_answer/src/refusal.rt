@@ -1,4 +1,4 @@
-//! Why there is no answer, and the line that tells it.
+//! Why a job stopped, and the answer that says so.
 ghost use Rattle.std.specs.Prelude.{◌≡◌, ◌+◌, ◌≤◌};
 ghost use Rattle.crib_answer.specs.Answer.{refusal_reply};
 ghost use Rattle.crib_text.specs.Refusals.{text_refusal};
@@ -18,7 +18,7 @@ use crib_problem::ProblemFault;
 use crib_text::TextFault;
 use std::alloc::Allocator;
 
-/// The answer to an input that is refused: two numbers of at most ten digits, and the words between them.
+/// Returns the answer to a refused input: `refused line L: N`, with the status `Refused` (docs/FORMATS.md, "Refusals").
 #[tactic(auto, using(crib_text::proofs::RoomLemmas::short, crate::proofs::Lines::refusals), unfolding(crate::specs::Reply::reply_of, crate::specs::Text::text_bytes))]
 pub fn refusal_answer<A: Allocator>(refused: Refused) -> Answer<A>
     ensures { reply_of result ≡ refusal_reply (refusal_of refused) }
@@ -35,7 +35,7 @@ pub fn refusal_answer<A: Allocator>(refused: Refused) -> Answer<A>
     }
 }
 
-/// The answer where an input is refused, or where memory ran out before it was known what the input says.
+/// Returns the answer for a job that stopped: the refusal of the input, or `fault 11` if memory was refused.
 pub fn stop_answer<A: Allocator>(stop: Stop) -> Answer<A>
     ensures { reply_of result ≡ stop_reply stop }
 {
@@ -45,17 +45,17 @@ pub fn stop_answer<A: Allocator>(stop: Stop) -> Answer<A>
     }
 }
 
-/// A refusal of the input.
+/// The refusal of an input, as it is printed (docs/FORMATS.md, "Refusals").
 #[derive(Clone, Copy, Debug, PartialEq, Eq)]
 pub struct Refused {
-    /// The line, from 1, or 0 where no line is to blame.
+    /// The line of the input, counted from 1. It is 0 if the refusal is of no line.
     pub line: u32,
-    /// The number of the cause.
+    /// The number of the refusal.
     pub number: u8,
 }
 
 impl Refused {
-    /// The refusal of a game whose section begins at the line `first` and has so many acts.
+    /// Returns the refusal of a game for `fault`. The section of the game begins at line `first` and has `acts` acts.
     pub fn of_game(fault: GameFault, first: u32, acts: usize) -> Refused
         requires { first + 258 ≤ u32.MAX }
         ensures { refusal_of result ≡ game_refusal first acts fault }
@@ -89,12 +89,12 @@ impl From<ProblemFault> for Refused {
     }
 }
 
-/// Why an input that asks for memory is not answered.
+/// Why a job stopped.
 #[derive(Clone, Copy, Debug, PartialEq, Eq)]
 pub enum Stop {
     /// The input is refused.
     Refused(Refused),
-    /// Memory ran out.
+    /// Memory was refused.
     Memory,
 }
 

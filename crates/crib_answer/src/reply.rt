@@ -1,4 +1,4 @@
-//! The reply that an answer is: its bytes, and how the program ends.
+//! What an answer says: the bytes of its text, and its status.
 ghost use Rattle.std.specs.Prelude.{◌≡◌, ◌≤◌, length};
 ghost use Rattle.crib_answer.specs.Reply.{reply_of};
 
@@ -7,7 +7,7 @@ use crate::status::Status;
 use std::alloc::Allocator;
 
 impl<A: Allocator> Answer<A> {
-    /// What is written, at most 8,388,608 bytes.
+    /// Returns the text of the answer, at most 8,388,608 bytes. It is what the program writes.
     #[tactic(auto, unfolding(crate::specs::Reply::reply_of))]
     pub fn as_slice(&self) -> &[u8]
         ensures output { result.now ≡ (reply_of self.now).output }
@@ -16,7 +16,7 @@ impl<A: Allocator> Answer<A> {
         self.text.as_slice()
     }
 
-    /// How the program ends.
+    /// Returns the status of the answer. The program ends with it once the text is written.
     #[tactic(auto, unfolding(crate::specs::Reply::reply_of))]
     pub fn status(&self) -> Status
         ensures { result ≡ (reply_of self.now).status }

@@ -1,4 +1,4 @@
-//! The answer to a game that is replayed.
+//! The answer of `replay`.
 ghost use Rattle.std.specs.Prelude.{◌≡◌, ◌+◌, ◌*◌, ◌≤◌, [], ◌∷◌, ◌++◌, length, flat_map};
 ghost use Rattle.arrayvec.specs.ArrayVec.{array_vec_len};
 ghost use Rattle.crib_text.specs.Spelling.{line_text};
@@ -16,7 +16,9 @@ use crib_game::Report;
 use crib_show::{Outcome, ShowRow};
 use std::alloc::Allocator;
 
-/// The answer to a game that is replayed: the scores after the play, the hands that were counted, and the outcome.
+/// Returns the answer to a replayed game (docs/FORMATS.md, "replay"). It has a line with the scores after the last act,
+/// a line for each hand or crib that was counted, and a line with the outcome, or `open` if the deal is not done. The
+/// status is `Yes`.
 #[tactic(auto, using(crate::proofs::Lines::reports), unfolding(crate::specs::Reply::reply_of, crate::specs::Text::text_bytes))]
 pub fn report_answer<A: Allocator>(report: &Report) -> Answer<A>
     ensures { reply_of result ≡ report_reply report.now }
@@ -32,7 +34,8 @@ pub fn report_answer<A: Allocator>(report: &Report) -> Answer<A>
     }
 }
 
-// A space, the owner's and the opponent's score in holes, and the end of the line.
+// Adds the end of a line: the owner's score and then the opponent's, in holes, each after a space, and LF. That is at
+// most 24 bytes.
 #[tactic(auto, using(crib_text::proofs::RoomLemmas::short, crate::proofs::Lines::score_tails))]
 fn add_scores(text: &mut ShortText, scores: Scores)
     requires { array_vec_len text.old + 24 ≤ 282 }
@@ -46,6 +49,7 @@ fn add_scores(text: &mut ShortText, scores: Scores)
     add(text, b"\n");
 }
 
+// Adds `owner` or `opponent`.
 fn add_side(text: &mut ShortText, side: Side)
     requires { array_vec_len text.old + 8 ≤ 282 }
     ensures items { text.new.items ≡ text.old.items ++ side_word side }
@@ -57,6 +61,7 @@ fn add_side(text: &mut ShortText, side: Side)
     }
 }
 
+// Adds `crib` or `hand`.
 fn add_counted(text: &mut ShortText, crib: bool)
     requires { array_vec_len text.old + 4 ≤ 282 }
     ensures items { text.new.items ≡ text.old.items ++ show_word crib }
@@ -69,7 +74,7 @@ fn add_counted(text: &mut ShortText, crib: bool)
     }
 }
 
-// The line of a counted hand or of the crib.
+// Adds the line of a hand or crib that was counted, at most 48 bytes.
 #[tactic(auto, using(crib_text::proofs::RoomLemmas::short, crate::proofs::Lines::counted_lines))]
 fn add_row(text: &mut ShortText, row: &ShowRow)
     requires { array_vec_len text.old + 48 ≤ 282 }
@@ -84,6 +89,7 @@ fn add_row(text: &mut ShortText, row: &ShowRow)
     add_scores(text, row.scores);
 }
 
+// Adds a line for each hand or crib that was counted.
 fn add_show(text: &mut ShortText, rows: &[ShowRow])
     requires { array_vec_len text.old + 48 * length rows.now ≤ 282 }
     ensures items { text.new.items ≡ text.old.items ++ flat_map counted_line rows.now }
@@ -94,7 +100,7 @@ fn add_show(text: &mut ShortText, rows: &[ShowRow])
     }
 }
 
-// The line of the outcome.
+// Adds the line of the outcome, or `open` if there is none.
 #[tactic(auto, using(crate::proofs::Lines::outcomes))]
 fn add_outcome(text: &mut ShortText, over: Option<Outcome>)
     requires { array_vec_len text.old + 8 ≤ 282 }

@@ -1,4 +1,4 @@
-//! The answer to a problem alone.
+//! The answer of `solve`.
 ghost use Rattle.std.specs.Prelude.{◌≡◌, ◌⊎◌, Some};
 ghost use Rattle.crib_text.specs.Refusals.{no_memory};
 ghost use Rattle.crib_search.specs.Answer.{search_fault_number};
@@ -15,8 +15,12 @@ use crib_problem::Problem;
 use crib_search::{Found, SearchFault, find};
 use std::alloc::Allocator;
 
-/// The answer to a problem: the finder's plan, once the checker has passed it; or that no plan is sure; or, as
-/// `fault 50`, that the finder's plan has more than 65,535 nodes; or that memory ran out.
+/// Returns the answer to a problem (docs/FORMATS.md, "solve"). It is one of these:
+///
+/// - the plan that was found, with the status `Yes`, after the checker has found it to be sure;
+/// - `none` with the status `No`, if no plan is sure;
+/// - `fault 50` with the status `Fault`, if the plan that was found has more than 65,535 nodes;
+/// - `fault 11` with the status `Fault`, if memory was refused.
 #[tactic(auto, using(crate::proofs::Lines::solved))]
 pub fn solve_answer<A: Allocator + Copy>(alloc: A, problem: &Problem) -> Answer<A>
     ensures { AnswersProblem problem.now (reply_of result) ⊎ (reply_of result ≡ fault_reply no_memory) }
@@ -31,7 +35,8 @@ pub fn solve_answer<A: Allocator + Copy>(alloc: A, problem: &Problem) -> Answer<
     }
 }
 
-// The answer where the finder has none.
+// The answer for a search that failed: `fault 50` if the plan that was found has more than 65,535 nodes, `fault 11` if
+// memory was refused.
 #[tactic(auto, using(crate::proofs::Lines::solved, crate::proofs::Lines::fault_lines))]
 fn unfound_answer<A: Allocator>(fault: SearchFault) -> Answer<A>
     ensures { reply_of result ≡ fault_reply (search_fault_number fault) }
@@ -42,7 +47,7 @@ fn unfound_answer<A: Allocator>(fault: SearchFault) -> Answer<A>
     }
 }
 
-// The answer that is a plan, which the checker has passed.
+// The answer with this plan as its text. It is `fault 11` if memory for the text is refused.
 #[tactic(auto, unfolding(crate::specs::Reply::reply_of, crate::specs::Text::text_bytes))]
 fn plan_answer<A: Allocator + Copy>(alloc: A, passed: &PassedPlan<'_, A>) -> Answer<A>
     ensures { (reply_of result ≡ found_reply (Some passed.now.plan.now)) ⊎ (reply_of result ≡ fault_reply no_memory) }

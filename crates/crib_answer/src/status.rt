@@ -1,22 +1,22 @@
-//! How a run ends.
+//! The exit statuses.
 ghost use Rattle.std.specs.Prelude.{◌≡◌};
 ghost use Rattle.crib_answer.specs.Status.{code_of};
 
-/// What the program says by its exit status.
+/// What the exit status says (docs/FORMATS.md, "Exit statuses").
 #[derive(Clone, Copy, Debug, PartialEq, Eq)]
 pub enum Status {
-    /// The answer is there, or is yes.
+    /// The answer is given, or it is yes.
     Yes,
     /// The answer is no.
     No,
-    /// The input is refused.
+    /// The input or the command line is refused.
     Refused,
-    /// A device or memory failed.
+    /// A device failed, memory was refused, or the plan that was found is too large.
     Fault,
 }
 
 impl Status {
-    /// The exit status: 0, 1, 2 or 3, in the order of the variants.
+    /// Returns the number of the exit status: 0, 1, 2 or 3, in the order of the variants.
     pub fn code(self) -> u8
         ensures { result ≡ code_of self }
     {

@@ -1,4 +1,4 @@
-//! Answers to inputs in memory.
+//! Tests of the answers to inputs in memory.
 mod boards;
 mod checks;
 mod follows;

@@ -7,21 +7,21 @@ use arrayvec::ArrayVec;
 use itoa::Buffer;
 use std::alloc::Allocator;
 
-/// A text that takes no memory. The longest one tells how a plan fails, in at most 14 bytes, and has the game in which
-/// it does, of at most 268.
+/// A text of at most 282 bytes, which takes no memory. The longest one is that of a plan that fails: a line of at most
+/// 14 bytes, and a game of at most 268.
 pub type ShortText = ArrayVec<u8, 282>;
 
 /// The text of an answer.
 #[derive(Drop)]
 pub enum Text<A: Allocator> {
-    /// A text that lies in the answer itself.
+    /// A text of at most 282 bytes. It is a part of the answer and takes no memory.
     Short(ShortText),
-    /// A plan or a board, in the one growth that was made for it.
+    /// The text of a plan or of a board. It takes memory, which is asked for once.
     Section(Vec<u8, A>),
 }
 
 impl<A: Allocator> Text<A> {
-    /// Its bytes.
+    /// Returns the bytes of the text.
     #[tactic(auto, unfolding(crate::specs::Text::text_bytes))]
     pub fn as_slice(&self) -> &[u8]
         ensures { result.now ≡ text_bytes self.now }
@@ -42,8 +42,8 @@ pub fn add(text: &mut ShortText, bytes: &[u8])
     text.try_extend_from_slice(bytes).unwrap();
 }
 
-/// Adds the decimal text of a number to a text that has room for it: at most ten bytes, three where the number is less
-/// than 256.
+/// Adds the decimal digits of a number to a text that has room for them. These are at most ten bytes, and at most three
+/// if the number is less than 256.
 pub fn add_number(text: &mut ShortText, number: u32)
     requires { array_vec_len text.old + length (decimal number) ≤ 282 }
     ensures items { text.new.items ≡ text.old.items ++ decimal number }

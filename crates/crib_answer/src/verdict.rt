@@ -1,4 +1,4 @@
-//! The answer to a problem and a plan.
+//! The answer of `check`.
 ghost use Rattle.std.specs.Prelude.{◌≡◌, ◌≢◌, ◌⊎◌, ◌≤◌, length};
 ghost use Rattle.crib_text.specs.Refusals.{no_memory};
 ghost use Rattle.crib_game.specs.Spelling.{game_text};
@@ -14,8 +14,9 @@ use crib_check::Verdict;
 use crib_game::{Ending, Game, write_game};
 use std::alloc::Allocator;
 
-/// The answer to a verdict: that the plan holds, or how it fails and the game in which it does. Memory is asked for
-/// once, for the game.
+/// Returns the answer to a verdict (docs/FORMATS.md, "check"): `holds` with the status `Yes`, or `fails`, the ending
+/// and the first failing game with the status `No`. Only the text of the game takes memory. If it is refused, the
+/// answer is `fault 11`.
 #[tactic(auto, using(crate::proofs::Lines::verdicts))]
 pub fn verdict_answer<A: Allocator + Copy>(alloc: A, verdict: &Verdict) -> Answer<A>
     ensures { (reply_of result ≡ verdict_reply verdict.now)
@@ -30,7 +31,7 @@ pub fn verdict_answer<A: Allocator + Copy>(alloc: A, verdict: &Verdict) -> Answe
     }
 }
 
-// The answer to a plan that fails so in the game of this section.
+// The answer to a plan that fails: `fails` with the ending, and then the section of the game.
 #[tactic(auto, using(crate::proofs::Lines::verdicts), unfolding(crate::specs::Reply::reply_of, crate::specs::Text::text_bytes))]
 fn failure_answer<A: Allocator>(ending: Ending, game: &Game, section: &[u8]) -> Answer<A>
     requires spelled { section.now ≡ game_text game.now }

@@ -1,4 +1,4 @@
--- What the program's own values say of a reply.
+-- What the results of private functions say of what was read, and their replies.
 use Rattle.std.specs.Prelude.{◌≡◌, ◌≢◌, ℕ, List, ◌∷◌, Result, Ok, Err}
 use Rattle.crib_cards.specs.declared.sides.Scores.{Scores}
 use Rattle.crib_text.specs.Refusals.{Refusal, no_memory}
@@ -15,40 +15,43 @@ use Rattle.crib_plan.specs.declared.plan.Node.{Node}
 use Rattle.crib_check.specs.declared.verdict.Verdict.{Verdict}
 use Rattle.crib_check.specs.Verdicts.{IsRight}
 
--- a refusal as it is stated
+-- the refusal that a value of the code stands for
 abbrev pub refusal_of : refusals.Refused → Refusal
 refusal_of refused = record { line = refused.line; number = refused.number }
 
--- what a call answered, seen through `view`, is what the input says, or its refusal, unless memory ran out
+-- a result tells what was read: its value is the one that was read, seen through `view`, or it has the same refusal. If
+-- memory was refused, it tells nothing
 abbrev pub Tells : {X Y : Type 0} → (X → Y) → Result X Stop → Result Y Refusal → Type 0
 Tells view (Ok value) said = said ≡ Ok (view value)
 Tells view (Err (stops.Refused refused)) said = said ≡ Err (refusal_of refused)
 Tells view (Err stops.Memory) said = Unit {0}
 
--- a verdict that was answered is right for the problem and the plan that the input spells
+-- a verdict is right for the problem and the plan that were read
 pub record IsToldOf (said : Result (Setup × List Node) Refusal) (verdict : Verdict) : Type 0 where
   pub problem : Setup
   pub plan : List Node
   pub asked : said ≡ Ok (problem, plan)
   pub right : IsRight problem plan verdict
 
--- what was answered of an input: a verdict that is right for it, its refusal, or nothing where there was no memory
+-- a result tells what was read: its verdict is right for the problem and the plan, or it has the same refusal. If
+-- memory was refused, it tells nothing
 abbrev pub TellsVerdict : Result Verdict Stop → Result (Setup × List Node) Refusal → Type 0
 TellsVerdict (Ok verdict) said = IsToldOf said verdict
 TellsVerdict (Err (stops.Refused refused)) said = said ≡ Err (refusal_of refused)
 TellsVerdict (Err stops.Memory) said = Unit {0}
 
--- a fault of a plan is a refusal, or want of memory
+-- a stop is the one for a fault of a plan: that memory was refused if the fault has this number, and otherwise its
+-- refusal
 abbrev pub StopsFor : PlanFault → Stop → Type 0
 StopsFor fault (stops.Refused refused) =
     (refusal_of refused ≡ plan_refusal fault) × (plan_cause_number fault.cause ≢ no_memory)
 StopsFor fault stops.Memory = plan_cause_number fault.cause ≡ no_memory
 
--- the scores at the end of a line
+-- the end of a line: a space, both scores, and LF
 unfoldable pub score_tail : Scores → List ℕ
 score_tail scores = space ∷ line_text (score_words scores)
 
--- the reply where there is no answer
+-- the reply of a job that stopped: that of the refusal, or the fault that memory was refused
 abbrev pub stop_reply : Stop → Reply
 stop_reply (stops.Refused refused) = refusal_reply (refusal_of refused)
 stop_reply stops.Memory = fault_reply no_memory

@@ -1,9 +1,9 @@
-//! Gos that are false.
+//! Gos of a player who holds a card that fits.
 use crate::tests::inputs::{gives, refuses_each_beginning, text_of};
 use crate::job::Job;
 use crate::status::Status;
 
-// A two of the opponent's fits at 29, so that his go is false.
+// The opponent says go at 29, but his two fits.
 const FALSE_GO: [&str; 17] = [
     "problem 1",
     "dealer opponent",
@@ -32,7 +32,8 @@ fn refuses_a_false_go(rt: HostRuntime) {
     refuses_each_beginning(&rt, Job::Replay, input.as_slice());
 }
 
-// The same turns as an opening: nobody who says go at 29 has a two, so no hidden deal agrees.
+// The same turns as the opening of a problem. Whoever says go at 29 holds no two. So no hidden deal agrees with the two
+// that he plays later.
 #[test]
 fn refuses_turns_after_a_false_go(rt: HostRuntime) {
     let lines = [

@@ -1,4 +1,4 @@
-//! Growths that are refused, each in turn.
+//! Answers while memory is refused, one growth after another.
 use crate::tests::boards::LAST_CARD_BOARD;
 use crate::tests::checks::{FALLS_SHORT, ONE_HOLE_SHORT, TWOS};
 use crate::tests::follows::ONE_GAME;
@@ -11,15 +11,15 @@ use crate::status::Status;
 use refusing_alloc::Refusing;
 use std::process::Abort;
 
-// What the refused growths of some answers came to: `fault 11`, or the answer that there is with memory.
+// How many refused growths led to `fault 11`, and how many changed nothing in the answer.
 #[derive(Clone, Copy, Debug, PartialEq, Eq)]
 struct Refusals {
     told: u32,
     passed_over: u32,
 }
 
-// Refuses each growth of an answer in turn, up to an answer that asks for no more. The answer is then `fault 11`,
-// alone, with its status; or, where the growth was that of a table, what it is with memory.
+// Refuses the first growth of a job, then the second, and so on, until no growth is refused. Asserts that each answer
+// is `fault 11` alone, or `wanted` with `status`. Returns how many there were of each.
 fn refuse_each(
     rt: &(impl Abort + AllocGlobal),
     job: Job,
@@ -55,7 +55,7 @@ fn refuse_each(
     panic!(rt; "an answer that never ends to grow")
 }
 
-// A replay grows nothing, and a board is one growth.
+// `replay` asks for no memory, and `board` asks once.
 #[test]
 fn of_replay_and_board(rt: HostRuntime) {
     let replayed = refuse_each(&rt, Job::Replay, &LAST_CARD, LAST_CARD_ANSWER, Status::Yes);
@@ -72,7 +72,7 @@ fn of_replay_and_board(rt: HostRuntime) {
     assert_eq!(rt; drawn, wanted);
 }
 
-// The plan.
+// `follow` asks once, for the plan.
 #[test]
 fn of_follow(rt: HostRuntime) {
     let followed = refuse_each(&rt, Job::Follow, &ONE_GAME, "short\n", Status::No);
@@ -83,7 +83,7 @@ fn of_follow(rt: HostRuntime) {
     assert_eq!(rt; followed, wanted);
 }
 
-// The plan. The table of settled positions grows, and is passed over.
+// `check` asks for the plan, and its refusal is told. The table of positions asks too, and its refusals change nothing.
 #[test]
 fn of_check(rt: HostRuntime) {
     let checked = refuse_each(&rt, Job::Check, &TWOS, "holds\n", Status::Yes);
@@ -91,8 +91,8 @@ fn of_check(rt: HostRuntime) {
     assert!(rt; checked.passed_over > 0);
 }
 
-// The plan and the game, which is written whole or not at all. The first game fails, so that no position is
-// settled.
+// `check` asks for the plan and for the text of the failing game. The first game fails, so the table of positions keeps
+// nothing.
 #[test]
 fn of_check_that_fails(rt: HostRuntime) {
     let checked = refuse_each(&rt, Job::Check, &ONE_HOLE_SHORT, FALLS_SHORT, Status::No);
@@ -103,7 +103,8 @@ fn of_check_that_fails(rt: HostRuntime) {
     assert_eq!(rt; checked, wanted);
 }
 
-// The table of positions that were searched grows, and is passed over.
+// `solve` asks for the nodes and for the text of the plan, and their refusals are told. Its tables ask too, and their
+// refusals change nothing.
 #[test]
 fn of_solve(rt: HostRuntime) {
     let solved = refuse_each(&rt, Job::Solve, &TWELVE, FOUR_PLAYS, Status::Yes);
@@ -111,8 +112,8 @@ fn of_solve(rt: HostRuntime) {
     assert!(rt; solved.passed_over > 0);
 }
 
-// What a job answers to an input in memory, where the first growth that it asks for is refused, and whether it asks
-// for one.
+// Refuses the first growth of a job. Asserts that the answer is `wanted`, and that `asks` says whether the job asked
+// for memory.
 fn answers_without_memory(
     rt: &(impl Abort + AllocGlobal),
     job: Job,
@@ -127,7 +128,7 @@ fn answers_without_memory(
     assert_eq!(rt; heap.has_refused(), asks);
 }
 
-// What has a bound and no section takes no memory, and no refusal is lost for want of it.
+// `replay` and the refusal of an input take no memory. So an input is refused even if there is no memory.
 #[test]
 fn of_answers_in_memory(rt: HostRuntime) {
     answers_without_memory(&rt, Job::Replay, &LAST_CARD, LAST_CARD_ANSWER, false);

@@ -1,4 +1,4 @@
-//! Inputs in memory, and what is answered to them.
+//! Inputs in memory, and assertions about the answers to them.
 use crate::answering::answer_to;
 use crate::job::Job;
 use crate::status::Status;
@@ -6,7 +6,7 @@ use std::alloc::Global;
 use std::process::Abort;
 use std::{io, str};
 
-/// The answer of a job to an input is this text, with this status.
+/// Asserts that the answer of a job to an input is this text, with this status.
 pub fn gives(
     rt: &(impl Abort + AllocGlobal),
     job: Job,
@@ -19,7 +19,7 @@ pub fn gives(
     assert_eq!(rt; answer.status(), status);
 }
 
-/// The text of these lines.
+/// The text of some lines, each with its LF.
 pub fn text_of(alloc: Global, lines: &[&str]) -> io::Result<Vec<u8>> {
     let mut text = Vec::new(alloc);
     for line in lines {
@@ -29,7 +29,7 @@ pub fn text_of(alloc: Global, lines: &[&str]) -> io::Result<Vec<u8>> {
     Ok(text)
 }
 
-/// The text of these lines with another one in the place of one of them, counted from 1.
+/// The text of some lines, with `changed` in the place of line `number`. Lines are counted from 1.
 pub fn text_with(
     alloc: Global,
     lines: &[&str],
@@ -45,19 +45,19 @@ pub fn text_with(
     Ok(text)
 }
 
-// How many lines end in a text.
+// The number of LFs in a text.
 fn count_lines(text: &[u8]) -> usize {
     text.iter().filter(|byte| **byte == b'\n').count()
 }
 
-// The refusal of the line after a front of a text, for a cause.
+// The answer that refuses the line after the last LF of a text, with a number.
 fn refusal_after(alloc: Global, front: &[u8], number: u32) -> io::Result<String> {
     let line = count_lines(front).saturating_add(1);
     let text = format!(in alloc; "refused line {line}: {number}\n")?;
     Ok(text)
 }
 
-/// Each text that an accepted input begins with is cut short at the line after its last LF.
+/// Asserts that each proper beginning of an input is refused as cut short, at the line after its last LF.
 pub fn refuses_each_beginning(rt: &(impl Abort + AllocGlobal), job: Job, input: &[u8]) {
     for len in 0..input.len() {
         let front = &input[..len];
@@ -72,7 +72,7 @@ pub fn refuses_each_beginning(rt: &(impl Abort + AllocGlobal), job: Job, input: 
     }
 }
 
-/// A CR at any place of an accepted input is refused at its line.
+/// Asserts that an input with any one byte replaced by CR is refused, at the line of the CR.
 pub fn refuses_each_carriage_return(rt: &(impl Abort + AllocGlobal), job: Job, input: &[u8]) {
     for place in 0..input.len() {
         let mut changed = Vec::from_slice(rt.alloc(), input).expect(rt, "memory");

@@ -1,4 +1,4 @@
--- The command as clap reads it.
+-- The command line of this program, as clap's definitions describe it.
 use Rattle.std.specs.Prelude.{Some, true, codes}
 use Rattle.clap.specs.Simple.{filled, help_rule}
 use Rattle.clap.specs.Walk.{Rule}
@@ -14,6 +14,6 @@ cribplan_app parser = with_rule (new_app (codes "cribplan")) (record (new_rule (
   required = true;
 })
 
--- the flag for help, as building the command makes it
+-- the help option, as clap completes it when it builds the command
 abbrev pub help_flag : Rule
 help_flag = filled help_rule

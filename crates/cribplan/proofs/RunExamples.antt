@@ -6,7 +6,7 @@ use Rattle.crib_answer.specs.Telling.{CheckTells}
 use Rattle.cribplan.specs.Run.{RunTells}
 use Rattle.crib_answer.proofs.Examples.{nothing_is_no_plan}
 
--- ---- a run tells what its answer tells; where a device failed, it ends with 3
+-- ---- a run tells what its reply tells. If a device failed, the status is `Fault`
 pub no_yes_of_nothing : RunTells Check [] (Some []) (Some []) (Unit {0}) Yes → ⊥
 no_yes_of_nothing (inl told) = (let sure = subst (λ status. CheckTells [] told.0.output status) (sym told.3) told.1 in
     nothing_is_no_plan sure.0.problem sure.0.plan sure.0.spelled)

@@ -1,4 +1,4 @@
--- What runs tell of the input that they were given.
+-- A run tells of its input what `specs/Run` states.
 use Rattle.std.proofs.Common.{◌≡◌, ◌⊎◌, inl, inr, ℕ, ◌<◌, List, [], length, replicate, Option, Some, None, IfSome, Result, Ok, Err}
 use Rattle.std.proofs.Common.{refl, sym, ◌∙◌, subst, arith}
 use Rattle.std.proofs.lemmas.List.{length-replicate}
@@ -15,19 +15,19 @@ use Rattle.cribplan.specs.Run.{IsRead, AnswersRead, Sends, Delivers, RunTells}
 use Rattle.crib_answer.proofs.OwedReplies.{long_answers}
 use Rattle.crib_answer.proofs.ToldAnswers.{makes_tells, memory_tells}
 
--- what a run told where it sent a reply
+-- a run that sent a reply tells what the reply tells
 sent_tells : (job : Job) (input : List ℕ) (reply : Reply) (reads writes : Type 0) (old new : Option (List ℕ)) (ended : Status) → StatusTells job input reply
     → Sends reply old new writes ended → RunTells job input old new (reads ⊎ writes) ended
 sent_tells job input reply reads writes old new ended tells (inl whole) = inl (reply, tells, whole.0, whole.1)
 sent_tells job input reply reads writes old new ended tells (inr front) = inr (front.3, inr front.4)
 
--- and where the reader failed
+-- a run that sent a fault because the reader failed
 failed_tells : (job : Job) (input : List ℕ) (number : ℕ) (reads writes : Type 0) (old new : Option (List ℕ)) (ended : Status) → reads
     → Sends (fault_reply number) old new writes ended → RunTells job input old new (reads ⊎ writes) ended
 failed_tells job input number reads writes old new ended failed (inl whole) = inr (whole.1, inl failed)
 failed_tells job input number reads writes old new ended failed (inr front) = inr (front.3, inr front.4)
 
--- the bytes that are told, or others where none are
+-- the bytes that a device tells, or other bytes if it tells none
 abbrev told_or : Option (List ℕ) → List ℕ → List ℕ
 told_or None other = other
 told_or (Some bytes) other = bytes
@@ -36,7 +36,7 @@ told_is : (known : Option (List ℕ)) (other : List ℕ) → IfSome known (λ by
 told_is None other = tt
 told_is (Some bytes) other = refl
 
--- an input of so many bytes
+-- an input of `count` bytes, all of them 0
 unfoldable zeros : ℕ → List ℕ
 zeros count = replicate count 0
 
@@ -73,7 +73,7 @@ read_tells job known reads writes old new ended (Err cause) reply (inr (inr memo
     let T : Reply → Type 0 = λ r. StatusTells job input r in
     (input, told_is known [], sent_tells job input reply reads writes old new ended (subst T (sym is) (memory_tells job input)) sent)
 
--- what a run tells, whether or not its device told what it gave
+-- a run tells what `RunTells` states, whether or not its device tells its bytes
 pub run_tells : (job : Job) (known : Option (List ℕ)) (reads writes : Type 0) (old new : Option (List ℕ)) (ended : Status)
     → Delivers job known reads old new writes ended → TellsOf job known old new (reads ⊎ writes) ended
 run_tells job known reads writes old new ended d = read_tells job known reads writes old new ended d.read d.reply d.gave d.owed d.sent

@@ -1,4 +1,4 @@
--- What some words come to, by hand.
+-- Worked examples of the words of command lines.
 use Rattle.std.proofs.Common.{◌≡◌, List, [], ◌∷◌, Some, None, codes, refl}
 use Rattle.std.specs.Str.{chars}
 use Rattle.clap.specs.Walk.{Text}
@@ -7,7 +7,7 @@ use Rattle.clap.specs.declared.error.kind.ErrorKind.TheVariants.{TooManyValues, 
 use Rattle.crib_answer.specs.declared.job.Job.TheVariants.{Check, Replay}
 use Rattle.cribplan.specs.Command.{IsJobWords, refusal_from, words_refusal, without_mark}
 
--- `cribplan`, and these words
+-- a command line: `cribplan`, and then some words
 abbrev typed : List Text → List Text
 typed words = codes "cribplan" ∷ words
 
@@ -15,7 +15,7 @@ check_alone : IsJobWords (typed (codes "check" ∷ [])) Check
 unfolding without_mark
 check_alone = refl
 
--- another name of the program is as good
+-- the program may have another name
 another_program : IsJobWords (codes "./plans" ∷ codes "replay" ∷ []) Replay
 unfolding without_mark
 another_program = refl
@@ -44,7 +44,7 @@ another_name : words_refusal (typed (codes "play" ∷ [])) ≡ Some InvalidValue
 unfolding refusal_from chars
 another_name = refl
 
--- large letters make another name
+-- a name with a capital letter is another name
 large_letters : words_refusal (typed (codes "Check" ∷ [])) ≡ Some InvalidValue
 unfolding refusal_from chars
 large_letters = refl
@@ -81,12 +81,12 @@ no_letter : words_refusal (typed (codes "-v" ∷ [])) ≡ Some UnknownArgument
 unfolding refusal_from chars
 no_letter = refl
 
--- a hyphen alone is a name as any other
+-- a hyphen alone is no option
 a_hyphen : words_refusal (typed (codes "-" ∷ [])) ≡ Some InvalidValue
 unfolding refusal_from chars
 a_hyphen = refl
 
--- behind `--` nothing is an option
+-- no word after `--` is an option
 help_behind_a_mark : words_refusal (typed (codes "--" ∷ codes "--help" ∷ [])) ≡ Some InvalidValue
 unfolding refusal_from
 help_behind_a_mark = refl

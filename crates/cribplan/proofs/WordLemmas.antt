@@ -1,4 +1,4 @@
--- The words that clap's parser walks over, by the definitions of this crate.
+-- clap's parser refuses the words that `specs/Command` refuses, and finds the name of the job in the others.
 use Rattle.std.proofs.Common.{Option, None, ◌≡◌, ◌∙◌, ℕ, List, [], ◌∷◌, ◌||◌, ◌==◌, not, Bool, true, false, Some, map, length}
 use Rattle.std.proofs.Common.{refl, sym, subst, ap, ap₂, codes, fold, drop, is_some}
 use Rattle.std.specs.Prelude.{option_map, slice_get, option_and_then, if◌then◌else◌}
@@ -25,12 +25,12 @@ use Rattle.cribplan.specs.Command.{IsJobWords, end_refusal, help_refusal, is_job
 use Rattle.cribplan.specs.Command.{first_of, plain_refusal, refusal_from, words_refusal, short_refusal, without_mark}
 use Rattle.cribplan.proofs.ClapApp.{cribplan_app, help_flag}
 
--- a refusal as clap lists it
+-- a refusal as clap's definitions have it: a list of at most one kind
 abbrev pub kinds_of : Option ErrorKind → Kinds
 kinds_of None = []
 kinds_of (Some kind) = kind ∷ []
 
--- the words that a job's name is looked for in: a name that was read before them, and they without a `--`
+-- the words in which the name of a job is looked for: the name that was read before, if there is one, and the words that are left, without the first `--`
 abbrev pub left_of : Bool → List Text → List Text
 left_of true words = words
 left_of false words = without_mark words
@@ -57,7 +57,7 @@ module _ (names : Bor (List (Bor Text))) (listed : map (λ s. s.now) names.now �
   place None = 1
   place (Some word) = 2
 
-  -- where the walk stands after a name or none, and after a `--` or none
+  -- where clap's walk stands, by whether a `--` came before and the name that was read
   abbrev at : Bool → Option Text → Walk
   at ended name = record { held = held name; waiting = idle; position = place name; is_trailing = ended; stopped = None }
 
@@ -69,7 +69,7 @@ module _ (names : Bor (List (Bor Text))) (listed : map (λ s. s.now) names.now �
       (then_kinds (settle_fault rules false end.held) (then_kinds (defaults_fault (settled rules end.held).rows rules)
       (check_fault app.top (finished rules end.held) (is_some (entered app end.stopped)))))
 
-  -- the kinds of error of a walk that goes on from there
+  -- the kinds of error that a walk meets in some words
   abbrev from : Walk → List Text → Kinds
   from w words = then_kinds (walk_fault app.top [] w words) (ending (walk_on w words))
 
@@ -88,7 +88,7 @@ module _ (names : Bor (List (Bor Text))) (listed : map (λ s. s.now) names.now �
   accepted : (word : Text) → list_any (λ s. bytes_eq s.now word) names.now ≡ is_job_name word
   accepted word = sym (any-map (λ name. bytes_eq name word) names.now) ∙ ap (list_any (λ name. bytes_eq name word)) listed
 
-  -- a wrong name is told where its value is used
+  -- clap refuses a wrong name when it settles the value
   settles : (name : Option Text) → settle_fault rules false (held name) ≡ (if is_wrong name then InvalidValue ∷ [] else [])
   settles None = refl
   settles (Some word) = go (is_job_name word) (accepted word)
@@ -135,7 +135,7 @@ module _ (names : Bor (List (Bor Text))) (listed : map (λ s. s.now) names.now �
       go None = refl
       go (Some letter) = short_fails name letter _ _
 
-  -- what a word comes to that is no `--`
+  -- clap's refusal of a word that is not `--`
   word_fails : (name : Option Text) (word : Text) → is_mark word ≡ false
       → word_fault app.top [] false idle word (held name) ≡ kinds_of (option_refusal name word)
   word_fails name word mark = rw mark (go (long_of word))
@@ -181,7 +181,7 @@ module _ (names : Bor (List (Bor Text))) (listed : map (λ s. s.now) names.now �
       go None e = shorts (short_of word) e
       go (Some option) e = cc
 
-  -- a word that is no option is the name, or one too many
+  -- a word that is no option is the name of a job, or it is refused if a name was read before
   turns : (name : Option Text) (word : Text) → is_mark word ≡ false → option_refusal name word ≡ None
       → turn_fault app.top [] (at false name) word ≡ (if is_some name then UnknownArgument ∷ [] else [])
   turns name word mark none =
@@ -216,7 +216,7 @@ module _ (names : Bor (List (Bor Text))) (listed : map (λ s. s.now) names.now �
       go true = refl
       go false = refl
 
-  -- clap's kinds of error are the refusal
+  -- clap's kinds of error are those of the refusal
   agrees : (words : List Text) (ended : Bool) (name : Option Text) → from (at ended name) words ≡ kinds_of (refusal_from words ended name)
   unfolding refusal_from walk_fault
   agrees [] ended name = ends ended name
@@ -245,7 +245,7 @@ module _ (names : Bor (List (Bor Text))) (listed : map (λ s. s.now) names.now �
   pub fault_is : (words : List Text) → fault_of (cribplan_app (Names names)) words ≡ kinds_of (words_refusal words)
   fault_is words = agrees (drop 1 words) false None
 
-  -- what is found where nothing is refused: the one word that is left, a job's name
+  -- if no word is refused, one word is left, it is the name of a job, and clap finds it
   abbrev Finds : Walk → List Text → Type 0
   Finds w words = (word : Text) × (words ≡ word ∷ []) × (is_job_name word ≡ true) × (one_of (codes "command") (finished rules w.held) ≡ Some word)
 
@@ -291,7 +291,7 @@ module _ (names : Bor (List (Bor Text))) (listed : map (λ s. s.now) names.now �
       × (one_of (codes "command") (matches_of (cribplan_app (Names names)) words) ≡ Some word)
   found_word words e = finds (drop 1 words) false None e
 
--- ---- a job's words are not refused
+-- ---- words that name a job are not refused
 
 name_is_plain : (job : Job) → option_refusal None (name_of job) ≡ None
 unfolding chars
@@ -334,6 +334,6 @@ takes job (word ∷ rest) false (Some name) e = go (is_mark word) refl (takes jo
     go true mark rec = rec true (Some name) (rw mark at e)
     go false mark rec = let here : name ∷ word ∷ without_mark rest ≡ name_of job ∷ [] = rw mark at e in cc
 
--- words that name a job are taken
+-- words that name a job are not refused
 pub job_words_taken : (words : List Text) (job : Job) → IsJobWords words job → words_refusal words ≡ None
 job_words_taken words job e = takes job (drop 1 words) false None e

@@ -1,2 +1,2 @@
--- What private functions alone cite, and no public contract rests on.
+-- What private functions alone cite. No public contract rests on it.
 pub mod Command

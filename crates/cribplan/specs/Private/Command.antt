@@ -1,4 +1,4 @@
--- What the command-line parser found.
+-- What the command-line parser found in the words.
 use Rattle.std.specs.Prelude.{◌≡◌, List, [], ◌∷◌, Some, None, Result, true, codes, drop, MatchResult, ◌⊎◌}
 use Rattle.clap.specs.Values.{kind_of}
 use Rattle.clap.specs.Words.{Text, one_text}
@@ -7,14 +7,16 @@ use Rattle.clap.specs.declared.error.kind.ErrorKind.TheVariants.{OutOfMemory}
 use Rattle.clap.specs.declared.parser.matches.Found.{Found}
 use Rattle.cribplan.specs.Command.{is_job_name, words_refusal, without_mark}
 
--- the one word after the program's name is a job's name, and what clap found as the value of `command`
+-- after the name of the program stands one word, apart from one `--`. It is the name of a job, and clap found it as the
+-- value of `command`
 pub record HasCommand (words : List Text) (found : Found) : Type 0 where
   pub name : Text
   pub only : without_mark (drop 1 words) ≡ name ∷ []
   pub is_name : is_job_name name ≡ true
   pub read : one_text found (codes "command") ≡ Some name
 
--- the words are refused with just that kind, want of memory aside, and with none where there is no error
+-- if a result is an error, the words are refused with the same kind, or memory was refused. If it is none, the words
+-- are not refused
 abbrev pub IsRefusedFor : {T : Type 0} → List Text → Result T Error → Type 0
 IsRefusedFor words r = MatchResult r (λ _. words_refusal words ≡ None)
     (λ error. (kind_of error ≡ OutOfMemory) ⊎ (words_refusal words ≡ Some (kind_of error)))

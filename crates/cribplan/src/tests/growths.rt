@@ -1,4 +1,4 @@
-//! Growths that are refused, each in turn.
+//! Runs while memory is refused, one growth after another.
 use crate::tests::inputs::{FALLS_SHORT, LAST_CARD, LAST_CARD_ANSWER, ONE_HOLE_SHORT, text_of};
 use crate::run::run;
 use crib_answer::{Job, Status};
@@ -7,15 +7,15 @@ use failing_devices::{Feed, Tray, Trouble};
 use refusing_alloc::Refusing;
 use std::process::Abort;
 
-// What the refused growths of some runs came to: `fault 11`, or the answer that there is with memory.
+// How many refused growths led to `fault 11`, and how many changed nothing in the answer.
 #[derive(Clone, Copy, Debug, PartialEq, Eq)]
 struct Refusals {
     told: u32,
     passed_over: u32,
 }
 
-// Refuses each growth of a run in turn, up to a run that asks for no more. The answer is then `fault 11`, alone, with
-// its status; or, where the growth was that of a table, what it is with memory.
+// Refuses the first growth of a run, then the second, and so on, until no growth is refused. Asserts that each answer
+// is `fault 11` alone, or `wanted` with `status`. Returns how many there were of each.
 fn refuse_each(
     rt: &(impl Abort + AllocGlobal),
     job: Job,
@@ -54,7 +54,7 @@ fn refuse_each(
     panic!(rt; "a run that never ends to grow")
 }
 
-// The input is one growth.
+// `replay` asks once, for the input.
 #[test]
 fn of_replay(rt: HostRuntime) {
     let replayed = refuse_each(&rt, Job::Replay, &LAST_CARD, LAST_CARD_ANSWER, Status::Yes);
@@ -65,8 +65,8 @@ fn of_replay(rt: HostRuntime) {
     assert_eq!(rt; replayed, wanted);
 }
 
-// The input, the plan and the game, which is written whole or not at all. The first game fails, so that no position is
-// settled.
+// `check` asks for the input, for the plan, and for the text of the failing game. The first game fails, so the table of
+// positions keeps nothing.
 #[test]
 fn of_check_that_fails(rt: HostRuntime) {
     let checked = refuse_each(&rt, Job::Check, &ONE_HOLE_SHORT, FALLS_SHORT, Status::No);

@@ -1,4 +1,4 @@
-//! Inputs over memory, and what a run writes for them.
+//! Inputs in memory, and what a run writes for them.
 use crate::run::run;
 use crib_answer::{Job, Status};
 use crib_text::Counted;
@@ -7,7 +7,7 @@ use std::alloc::Global;
 use std::io;
 use std::io::Read;
 
-// Tens and a nine against tens and kings: a go at 29, a 31, a close at 28, and the last card.
+// The opponent says go at 29, the owner makes 31, two gos close the count at 28, and the opponent plays the last card.
 pub const LAST_CARD: [&str; 21] = [
     "problem 1",
     "dealer opponent",
@@ -35,7 +35,7 @@ pub const LAST_CARD: [&str; 21] = [
 pub const LAST_CARD_ANSWER: &str =
     "play 2 4\nhand owner 9 11 4\nhand opponent 2 11 6\ncrib opponent 9 11 15\nshort\n";
 
-/// The same where thirteen are asked.
+/// The owner holds four twos and wants thirteen holes. The plan plays the twos one after another. It fails.
 pub const ONE_HOLE_SHORT: [&str; 13] = [
     "problem 1",
     "dealer opponent",
@@ -52,11 +52,11 @@ pub const ONE_HOLE_SHORT: [&str; 13] = [
     "3 play 2S end",
 ];
 
-/// What is written then.
+/// The answer of `check` to `ONE_HOLE_SHORT`.
 pub const FALLS_SHORT: &str = "fails short\ngame 1\nhold AC AD AH AS\nthrow 3C 3D\nacts 8\n\
     own 2C\nopp AC\nown 2D\nopp AD\nown 2H\nopp AH\nown 2S\nopp AS\n";
 
-/// Runs a job from a reader into a writer that takes all, and tells what was written and the status.
+/// Runs a job with a reader and a writer that takes all bytes. Returns what was written, and the status.
 pub fn outcome<R: Read + Drop>(
     alloc: Global,
     job: Job,
@@ -67,7 +67,7 @@ pub fn outcome<R: Read + Drop>(
     (sink.into_inner().into_bytes(), status)
 }
 
-/// The text of these lines.
+/// The text of some lines, each with its LF.
 pub fn text_of(alloc: Global, lines: &[&str]) -> io::Result<Vec<u8>> {
     let mut text = Vec::new(alloc);
     for line in lines {

@@ -42,8 +42,8 @@ pub record HasSurePlan (input : List ℕ) : Type 0 where
   pub goes_on : GoesOn problem plan
   pub ends : Ends problem
 
--- an input spells a problem and a plan. A text is that of the first failing game of the plan, and this game has this
--- ending
+-- an input spells a problem and a plan, and `text` is the text of the first failing game of the plan. This game has the
+-- ending `result`
 pub record HasFailingPlan (input : List ℕ) (result : Ending) (text : List ℕ) : Type 0 where
   pub problem : Setup
   pub plan : List Node
@@ -52,7 +52,7 @@ pub record HasFailingPlan (input : List ℕ) (result : Ending) (text : List ℕ)
   pub game_is : text ≡ game_text game
   pub first : IsFirstFailing problem plan game result
 
--- an input spells a problem. A text is that of a plan that is sure for this problem, and the play goes on until the
+-- an input spells a problem, and `text` is the text of a plan that is sure for this problem. The play goes on until the
 -- deal is done
 pub record IsSolvedBy (input text : List ℕ) : Type 0 where
   pub problem : Setup

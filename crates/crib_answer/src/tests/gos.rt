@@ -1,7 +1,7 @@
 //! Gos of a player who holds a card that fits.
-use crate::tests::inputs::{gives, refuses_each_beginning, text_of};
 use crate::job::Job;
 use crate::status::Status;
+use crate::tests::inputs::{gives, refuses_each_beginning, text_of};
 
 // The opponent says go at 29, but his two fits.
 const FALSE_GO: [&str; 17] = [

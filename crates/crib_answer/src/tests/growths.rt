@@ -1,13 +1,13 @@
 //! Answers while memory is refused, one growth after another.
+use crate::answering::answer_to;
+use crate::job::Job;
+use crate::status::Status;
 use crate::tests::boards::LAST_CARD_BOARD;
 use crate::tests::checks::{FALLS_SHORT, ONE_HOLE_SHORT, TWOS};
 use crate::tests::follows::ONE_GAME;
 use crate::tests::inputs::text_of;
 use crate::tests::replays::{LAST_CARD, LAST_CARD_ANSWER};
 use crate::tests::solves::{FOUR_PLAYS, TWELVE};
-use crate::answering::answer_to;
-use crate::job::Job;
-use crate::status::Status;
 use refusing_alloc::Refusing;
 use std::process::Abort;
 

@@ -1,6 +1,6 @@
 //! Runs while memory is refused, one growth after another.
-use crate::tests::inputs::{FALLS_SHORT, LAST_CARD, LAST_CARD_ANSWER, ONE_HOLE_SHORT, text_of};
 use crate::run::run;
+use crate::tests::inputs::{FALLS_SHORT, LAST_CARD, LAST_CARD_ANSWER, ONE_HOLE_SHORT, text_of};
 use crib_answer::{Job, Status};
 use crib_text::Counted;
 use failing_devices::{Feed, Tray, Trouble};

@@ -4,7 +4,7 @@ use Rattle.std.proofs.Common.{arith, ◌≡◌, ◌⊎◌, ◌<◌, refl, sym, a
 use Rattle.std.proofs.Common.{List, [], ◌∷◌, ◌++◌, length, filter, replicate, Option, Some, None}
 use Rattle.std.specs.Prelude.{IsTrue, IsFalse, is_some, if◌then◌else◌}
 use Rattle.std.specs.List.{list_all, list_any}
-use Rattle.std.proofs.lemmas.Bool.{both_ways, cases_Bool, eqb-true, and_parts, or_cases}
+use Rattle.std.proofs.lemmas.Bool.{both_ways, cases_Bool, eqb-true, eq-eqb, and_parts, or_cases, or_left, or_right}
 use Rattle.crib_cards.specs.Sets.{has, set_where}
 use Rattle.crib_cards.specs.declared.sides.Dealt.{Dealt}
 use Rattle.crib_cards.specs.declared.sides.Side.TheVariants.{Owner, Opponent}
@@ -31,8 +31,24 @@ use Rattle.crib_check.specs.Verdicts.{KeepsOn}
 use Rattle.crib_check.specs.declared.verdict.Verdict.TheVariants.{Fails}
 use Rattle.crib_game.specs.declared.game.Game.{Game}
 use Rattle.crib_game.specs.declared.ending.Ending.TheVariants as ending
-use Rattle.crib_cards.proofs.Members.{all_has}
-use Rattle.crib_show.proofs.Jacks.{any_found}
+
+-- ---- steps that stand here too, so that the examples rest on definitions alone
+has_passed : (p : ℕ → Bool) (cards : List ℕ) (card : ℕ) → list_all p cards ≡ true → has cards card ≡ true → p card ≡ true
+has_passed p [] card all h = absurd (both_ways false refl h)
+has_passed p (first ∷ cards) card all h =
+    let parts = and_parts (p first) (list_all p cards) all in
+    elim (or_cases (eqb first card) (has cards card) h) [
+      | inl here ↦ ap p (sym (eqb-true first card here)) ∙ parts.0
+      | inr there ↦ has_passed p cards card parts.1 there
+    ]
+
+any_of : (p : ℕ → Bool) (cards : List ℕ) → list_any p cards ≡ true → (card : ℕ) × (has cards card ≡ true) × (p card ≡ true)
+any_of p [] any = absurd (both_ways false refl any)
+any_of p (first ∷ cards) any =
+    elim (or_cases (p first) (list_any p cards) any) [
+      | inl here ↦ (first, or_left (eqb first first) (has cards first) (eq-eqb first first refl), here)
+      | inr there ↦ let found = any_of p cards there in (found.0, or_right (eqb first found.0) (has cards found.0) found.1, found.2)
+    ]
 
 -- the owner holds TC 9C 2C AC and threw 2D 2H; the starter is 2S and the goal is two holes
 abbrev pub at_29 : Setup
@@ -152,7 +168,7 @@ an_ace : (dealt : Dealt) (card : ℕ) → IsDealOf at_29 dealt → has (cards_le
     fits three_turns card ≡ true → (eqb 1 card || (eqb 2 card || eqb 3 card)) ≡ true
 an_ace dealt card deal left fit =
     let hidden = passes (has (unseen_of at_29)) (λ card. not (has (cards_of three_turns) card)) dealt.hold dealt.throw card deal.deal.hidden_before left in
-    ap (λ b. is_ace_if b card) (sym fit) ∙ all_has (λ card. is_ace_if (fits three_turns card) card) (unseen_of at_29) card only_aces_fit hidden
+    ap (λ b. is_ace_if b card) (sym fit) ∙ has_passed (λ card. is_ace_if (fits three_turns card) card) (unseen_of at_29) card only_aces_fit hidden
 
 -- ---- each record that follows the plan is a course
 stated : (number card : ℕ) → Some number ≡ Some card → number ≡ card
@@ -281,7 +297,7 @@ next_turn dealt played two_tens all is on = absurd (both_ways false refl (ap is_
 next_turn dealt played at_count_29 all is on =
     elim (cases_Bool (list_any (fits three_turns) (cards_left (hands_of at_29 dealt) Opponent three_turns))) [
       | inl any ↦
-          let found = any_found (fits three_turns) (cards_left (hands_of at_29 dealt) Opponent three_turns) any in
+          let found = any_of (fits three_turns) (cards_left (hands_of at_29 dealt) Opponent three_turns) any in
           (Card found.0, with_turn dealt (Card found.0) three_turns is refl (record { not_done = refl; may_take = (found.1, found.2) }) (λ late. tt))
       | inr none ↦ (Go, with_turn dealt Go three_turns is refl (record { not_done = refl; may_take = none }) (λ late. tt))
     ]

@@ -1,4 +1,4 @@
--- Worked examples of the words of command lines.
+-- Command lines by example: the job that the words name, and the refusals.
 use Rattle.std.proofs.Common.{◌≡◌, List, [], ◌∷◌, Some, None, codes, refl}
 use Rattle.std.specs.Str.{chars}
 use Rattle.clap.specs.Walk.{Text}

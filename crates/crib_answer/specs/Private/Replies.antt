@@ -1,9 +1,10 @@
 -- What the results of private functions say of what was read, and their replies.
 use Rattle.std.specs.Prelude.{◌≡◌, ◌≢◌, ℕ, List, ◌∷◌, Result, Ok, Err}
 use Rattle.crib_cards.specs.declared.sides.Scores.{Scores}
+use Rattle.crib_text.specs.declared.fault.Fault.{Fault}
 use Rattle.crib_text.specs.Refusals.{Refusal, no_memory}
 use Rattle.crib_text.specs.Spelling.{space, line_text}
-use Rattle.crib_plan.specs.declared.fault.PlanFault.{PlanFault}
+use Rattle.crib_plan.specs.declared.fault.PlanCause.{PlanCause}
 use Rattle.crib_plan.specs.Refusals.{plan_cause_number, plan_refusal}
 use Rattle.crib_answer.specs.declared.refusal.Refused as refusals
 use Rattle.crib_answer.specs.declared.refusal.Stop.{Stop}
@@ -42,7 +43,7 @@ TellsVerdict (Err stops.Memory) said = Unit {0}
 
 -- a stop is the one for a fault of a plan: that memory was refused if the fault has this number, and otherwise its
 -- refusal
-abbrev pub StopsFor : PlanFault → Stop → Type 0
+abbrev pub StopsFor : Fault PlanCause → Stop → Type 0
 StopsFor fault (stops.Refused refused) =
     (refusal_of refused ≡ plan_refusal fault) × (plan_cause_number fault.cause ≢ no_memory)
 StopsFor fault stops.Memory = plan_cause_number fault.cause ≡ no_memory

@@ -1,0 +1,134 @@
+//! Cards and acts as text: the words and lines that the sections of problems and games share.
+ghost use Rattle.std.specs.Prelude.{◌≡◌, ◌+◌, ◌*◌, ◌≤◌, ◌++◌, length, vec_len, vec_capacity, map, IfOk};
+ghost use Rattle.std.specs.List.{flat_map};
+ghost use Rattle.crib_cards.specs.CardText as cards;
+ghost use Rattle.crib_text.specs.Lines.{line_of};
+ghost use Rattle.crib_text.specs.Refusals.{cause_number};
+ghost use Rattle.crib_text.specs.Reading.{Gives};
+ghost use Rattle.crib_text.specs.Spelling.{line_text};
+ghost use Rattle.crib_problem.specs.Reading.{act_in, actor_in, acts_count_in, card_in, most_acts, move_in};
+ghost use Rattle.crib_problem.specs.Spelling.{act_line, actor_word, spaced_card};
+ghost use Rattle.crib_problem.specs.Private.Spelling.{move_end};
+
+use crib_cards::{Act, Card, Move, Side, card_text, read_card};
+use crib_text::{Line, TextCause, append, check_keyword, number_of, word_at};
+use std::alloc::Allocator;
+
+// The greatest number of acts in a section.
+const MOST_ACTS: u32 = 32;
+
+/// Returns the card that a word spells. The word is refused with 5 where it is no card.
+pub fn card_of(word: &[u8]) -> Result<Card, TextCause>
+    ensures { Gives (λ card. card) cause_number result (card_in word.now) }
+{
+    match read_card(word) {
+        Some(card) => Ok(card),
+        None => Err(TextCause::BadCard),
+    }
+}
+
+/// Returns the number of acts that a line announces: the keyword, and then a number up to 32. The line is refused with
+/// 4 for another keyword or another number of words. It is refused with 6 where the second word is not a number up to
+/// 32.
+#[tactic(auto, using(crate::proofs::LineLemmas::words_after), unfolding(crate::specs::Reading::acts_count_in))]
+pub fn acts_count_of(line: &Line<'_>, keyword: &[u8]) -> Result<u32, TextCause>
+    ensures count { Gives (λ count. count) cause_number result (acts_count_in keyword.now (line_of line.now).words) }
+    ensures range { IfOk result (λ count. count ≤ most_acts) }
+{
+    check_keyword(line, keyword, 1)?;
+    let count = number_of(word_at(line, 1))?;
+    if count > MOST_ACTS {
+        return Err(TextCause::BadNumber);
+    }
+    Ok(count)
+}
+
+#[tactic(auto, unfolding(crate::specs::Reading::actor_in))]
+fn actor_of(word: &[u8]) -> Result<Side, TextCause>
+    ensures { Gives (λ side. side) cause_number result (actor_in word.now) }
+{
+    if word == b"own".as_slice() {
+        Ok(Side::Owner)
+    } else if word == b"opp".as_slice() {
+        Ok(Side::Opponent)
+    } else {
+        Err(TextCause::BadLine)
+    }
+}
+
+#[tactic(auto, unfolding(crate::specs::Reading::move_in))]
+fn move_of(word: &[u8]) -> Result<Move, TextCause>
+    ensures { Gives (λ what. what) cause_number result (move_in word.now) }
+{
+    if word == b"go".as_slice() {
+        return Ok(Move::Go);
+    }
+    Ok(Move::Card(card_of(word)?))
+}
+
+/// Returns the act of a line such as `own 2C` or `opp go`. The line is refused with 4 where it has not two words or the
+/// first is neither `own` nor `opp`. It is refused with 5 where the second word is neither `go` nor a card.
+#[tactic(auto, using(crate::proofs::ActLemmas::two_in_act))]
+pub fn act_of(line: &Line<'_>) -> Result<Act, TextCause>
+    ensures { Gives (λ act. act) cause_number result (act_in (line_of line.now).words) }
+{
+    if line.word_count() != 2 {
+        return Err(TextCause::BadLine);
+    }
+    let side = actor_of(word_at(line, 0))?;
+    let what = move_of(word_at(line, 1))?;
+    Ok(Act { side, what })
+}
+
+/// Appends the lines of acts. The text must have room for seven bytes for each act.
+pub fn append_acts<A: Allocator>(text: &mut Vec<u8, A>, acts: &[Act])
+    requires { vec_len text.old + 7 * length acts.now ≤ vec_capacity text.old }
+    ensures items { text.new.items ≡ text.old.items ++ flat_map line_text (map act_line acts.now) }
+    ensures len { vec_len text.new ≤ vec_len text.old + 7 * length acts.now }
+{
+    for act in acts {
+        put_actor(text, act.side);
+        put_move(text, act.what);
+    }
+}
+
+fn put_actor<A: Allocator>(text: &mut Vec<u8, A>, side: Side)
+    requires { vec_len text.old + 3 ≤ vec_capacity text.old }
+    ensures items { text.new.items ≡ text.old.items ++ actor_word side }
+    ensures room { vec_capacity text.old ≤ vec_capacity text.new }
+    ensures len { vec_len text.new ≡ vec_len text.old + 3 }
+{
+    match side {
+        Side::Owner => append(text, b"own"),
+        Side::Opponent => append(text, b"opp"),
+    }
+}
+
+// Appends a space, the word of the move, and LF.
+fn put_move<A: Allocator>(text: &mut Vec<u8, A>, what: Move)
+    requires { vec_len text.old + 4 ≤ vec_capacity text.old }
+    ensures items { text.new.items ≡ text.old.items ++ move_end what }
+    ensures room { vec_capacity text.old ≤ vec_capacity text.new }
+    ensures len { vec_len text.new ≡ vec_len text.old + 4 }
+{
+    match what {
+        Move::Card(card) => {
+            append_cards(text, &[card]);
+            append(text, b"\n");
+        }
+        Move::Go => append(text, b" go\n"),
+    }
+}
+
+/// Appends each card's text after a space. The text must have room for three bytes for each card.
+pub fn append_cards<A: Allocator>(text: &mut Vec<u8, A>, cards: &[Card])
+    requires { vec_len text.old + 3 * length cards.now ≤ vec_capacity text.old }
+    ensures items { text.new.items ≡ text.old.items ++ flat_map spaced_card cards.now }
+    ensures room { vec_capacity text.old ≤ vec_capacity text.new }
+    ensures len { vec_len text.new ≡ vec_len text.old + 3 * length cards.now }
+{
+    for card in cards {
+        append(text, b" ");
+        append(text, &card_text(*card));
+    }
+}

@@ -12,6 +12,7 @@ use Rattle.crib_problem.specs.Reading.{problem_at}
 use Rattle.crib_problem.proofs.CutShortProofs.{problem_steady}
 use Rattle.crib_plan.specs.Reading.{plan_at}
 use Rattle.crib_plan.proofs.CutShortProofs.{plan_steady}
+use Rattle.crib_game.specs.declared.game.Game.{Game}
 use Rattle.crib_game.specs.Reading.{game_at}
 use Rattle.crib_game.proofs.CutShortProofs.{game_steady}
 use Rattle.crib_game.specs.Replay.{replay_result}
@@ -19,8 +20,8 @@ use Rattle.crib_game.specs.Followed.{follow_result}
 use Rattle.crib_board.specs.Board.{board_text}
 use Rattle.crib_answer.specs.declared.job.Job.TheVariants.{Replay, Follow, Check, Solve, Board}
 use Rattle.crib_answer.specs.Answer.{AnswersCheck, AnswersSolve, refusal_reply, reply_by, report_reply, ending_reply, board_reply}
-use Rattle.crib_answer.specs.Input.{most_bytes, input_lines, judgement_of, report_at, report_of_input, question_at, question_of_input}
-use Rattle.crib_answer.specs.Input.{problem_alone_at, problem_of_input, ending_at, ending_under, ending_of_input, board_at, board_of_input}
+use Rattle.crib_answer.specs.Input.{most_bytes, input_lines, last_game_at, last_judged, report_at, report_of_input, question_at, question_of_input}
+use Rattle.crib_answer.specs.Input.{problem_alone_at, problem_of_input, ending_at, ending_of_input, board_at, board_of_input}
 use Rattle.crib_answer.specs.Laws.{Accepts, CutShortLaw}
 
 -- ---- reading the sections of an input, without their values
@@ -119,38 +120,53 @@ beginning_cut {C = C} sections read front next back value steady takes e =
 
 -- ---- the sections that each job reads
 
+takes_same : {C : Type 0} (sections : Passes) (read other : Rest → Result C Refusal) → ((rest : Rest) → read rest ≡ other rest) → Takes sections read →
+    Takes sections other
+takes_same sections read other same takes = record {
+  all = λ rest value e. takes.all rest value (same rest ∙ e);
+  refuses = λ rest refusal e. sym (same rest) ∙ takes.refuses rest refusal e;
+}
+
+then_judged : {C : Type 0} (end : Result (Unit {0}) Refusal) (last : Game × ℕ) (judge : Game × ℕ → Result C Refusal)
+    → (end >>= λ _. judge last) ≡ ((end >>= λ _. Ok last) >>= judge)
+then_judged (Ok u) last judge = refl
+then_judged (Err refusal) last judge = refl
+
+judged_last : {C : Type 0} (read : Result (Game × Rest) Refusal) (first : ℕ) (judge : Game × ℕ → Result C Refusal)
+    → (read >>= λ game. end_at game.1 >>= λ _. judge (game.0, first)) ≡ ((read >>= λ game. end_at game.1 >>= λ _. Ok (game.0, first)) >>= judge)
+judged_last (Ok game) first judge = then_judged (end_at game.1) (game.0, first) judge
+judged_last (Err refusal) first judge = refl
+
+-- the last game of an input, and then its judgement
+judged_takes : {C : Type 0} (judge : Game × ℕ → Result C Refusal) → Takes (section game_at done) (λ rest. last_game_at rest >>= judge)
+unfolding last_game_at
+judged_takes judge =
+    takes_same (section game_at done) _ _ (λ rest. judged_last (game_at rest) rest.number judge) (takes_section game_at done
+    (λ before game. end_at game.1 >>= λ _. judge (game.0, before.number))
+    (λ before game. takes_end (λ rest. judge (game, before.number))))
+
 report_takes : Takes (section problem_at (section game_at done)) report_at
 unfolding report_at
 report_takes =
     takes_section problem_at (section game_at done)
-    (λ first problem. game_at problem.1 >>= λ game. end_at game.1 >>= λ _. judgement_of problem.1.number (length game.0.acts.items)
-    (replay_result problem.0 game.0))
-    (λ first problem. takes_section game_at done
-    (λ before game. end_at game.1 >>= λ _. judgement_of before.number (length game.0.acts.items) (replay_result problem game.0))
-    (λ before game. takes_end (λ rest. judgement_of before.number (length game.acts.items) (replay_result problem game))))
+    (λ first problem. last_game_at problem.1 >>= λ last. last_judged last (replay_result problem.0 last.0))
+    (λ first problem. judged_takes (λ last. last_judged last (replay_result problem last.0)))
 
 board_takes : Takes (section problem_at (section game_at done)) board_at
 unfolding board_at
 board_takes =
     takes_section problem_at (section game_at done)
-    (λ first problem. game_at problem.1 >>= λ game. end_at game.1 >>= λ _. judgement_of problem.1.number (length game.0.acts.items)
-    (board_text problem.0 game.0))
-    (λ first problem. takes_section game_at done
-    (λ before game. end_at game.1 >>= λ _. judgement_of before.number (length game.0.acts.items) (board_text problem game.0))
-    (λ before game. takes_end (λ rest. judgement_of before.number (length game.acts.items) (board_text problem game))))
+    (λ first problem. last_game_at problem.1 >>= λ last. last_judged last (board_text problem.0 last.0))
+    (λ first problem. judged_takes (λ last. last_judged last (board_text problem last.0)))
 
 ending_takes : Takes (section problem_at (section plan_at (section game_at done))) ending_at
-unfolding ending_at ending_under
+unfolding ending_at
 ending_takes =
     takes_section problem_at (section plan_at (section game_at done))
-    (λ first problem. plan_at problem.1 >>= λ plan. game_at plan.1 >>= λ game. end_at game.1 >>= λ _. judgement_of plan.1.number (length game.0.acts.items)
-    (follow_result problem.0 plan.0 game.0))
+    (λ first problem. plan_at problem.1 >>= λ plan. last_game_at plan.1 >>= λ last. last_judged last (follow_result problem.0 plan.0 last.0))
     (λ first problem. takes_section plan_at (section game_at done)
-    (λ before plan. game_at plan.1 >>= λ game. end_at game.1 >>= λ _. judgement_of plan.1.number (length game.0.acts.items)
-    (follow_result problem plan.0 game.0))
-    (λ before plan. takes_section game_at done
-    (λ place game. end_at game.1 >>= λ _. judgement_of place.number (length game.0.acts.items) (follow_result problem plan game.0))
-    (λ place game. takes_end (λ rest. judgement_of place.number (length game.acts.items) (follow_result problem plan game)))))
+    (λ before plan. last_game_at plan.1 >>= λ last. last_judged last (follow_result problem plan.0 last.0))
+    (λ before plan. judged_takes (λ last. last_judged last (follow_result problem plan last.0))))
 
 question_takes : Takes (section problem_at (section plan_at done)) question_at
 unfolding question_at

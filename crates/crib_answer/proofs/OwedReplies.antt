@@ -27,38 +27,23 @@ long_lines : (input : List ℕ) → 8388608 < length input → input_lines input
 unfolding input_lines
 long_lines input long = ap (λ b. cond b (all_lines input) (Err (record { line = 0; number = too_long }))) (lt-leb (length input) 8388608 long)
 
-report_of_long : (input : List ℕ) → 8388608 < length input → report_of_input input ≡ Err (record { line = 0; number = too_long })
-unfolding report_of_input
-report_of_long input long = ap (λ (read : Result Rest Refusal). read >>= report_at) (long_lines input long)
-
-ending_of_long : (input : List ℕ) → 8388608 < length input → ending_of_input input ≡ Err (record { line = 0; number = too_long })
-unfolding ending_of_input
-ending_of_long input long = ap (λ (read : Result Rest Refusal). read >>= ending_at) (long_lines input long)
-
-question_of_long : (input : List ℕ) → 8388608 < length input → question_of_input input ≡ Err (record { line = 0; number = too_long })
-unfolding question_of_input
-question_of_long input long = ap (λ (read : Result Rest Refusal). read >>= question_at) (long_lines input long)
-
-problem_of_long : (input : List ℕ) → 8388608 < length input → problem_of_input input ≡ Err (record { line = 0; number = too_long })
-unfolding problem_of_input
-problem_of_long input long = ap (λ (read : Result Rest Refusal). read >>= problem_alone_at) (long_lines input long)
-
-board_of_long : (input : List ℕ) → 8388608 < length input → board_of_input input ≡ Err (record { line = 0; number = too_long })
-unfolding board_of_input
-board_of_long input long = ap (λ (read : Result Rest Refusal). read >>= board_at) (long_lines input long)
+read_of_long : {A : Type 0} (read : Rest → Result A Refusal) (input : List ℕ) → 8388608 < length input
+    → (input_lines input >>= read) ≡ Err (record { line = 0; number = too_long })
+read_of_long read input long = ap (λ (lines : Result Rest Refusal). lines >>= read) (long_lines input long)
 
 -- each job owes the same refusal to an input that is too long
 pub long_answers : (job : Job) (input : List ℕ) (reply : Reply) → 8388608 < length input → reply ≡ refusal_reply (record { line = 0; number = too_long })
     → Answers job input reply
-long_answers Replay input reply long is = is ∙ sym (ap (reply_by report_reply) (report_of_long input long))
-long_answers Follow input reply long is = is ∙ sym (ap (reply_by ending_reply) (ending_of_long input long))
+unfolding report_of_input ending_of_input question_of_input problem_of_input board_of_input
+long_answers Replay input reply long is = is ∙ sym (ap (reply_by report_reply) (read_of_long report_at input long))
+long_answers Follow input reply long is = is ∙ sym (ap (reply_by ending_reply) (read_of_long ending_at input long))
 long_answers Check input reply long is =
     let A : Result (Setup × List Node) Refusal → Type 0 = λ said. AnswersCheck said reply in
-    subst A (sym (question_of_long input long)) is
+    subst A (sym (read_of_long question_at input long)) is
 long_answers Solve input reply long is =
     let A : Result Setup Refusal → Type 0 = λ said. AnswersSolve said reply in
-    subst A (sym (problem_of_long input long)) is
-long_answers Board input reply long is = is ∙ sym (ap (reply_by board_reply) (board_of_long input long))
+    subst A (sym (read_of_long problem_alone_at input long)) is
+long_answers Board input reply long is = is ∙ sym (ap (reply_by board_reply) (read_of_long board_at input long))
 
 pub too_long_law : TooLongLaw
 too_long_law job input long = long_answers job input _ long refl

@@ -1,5 +1,5 @@
 -- The text that the code puts together is the line that the definition states.
-use Rattle.std.proofs.Common.{◌≡◌, ℕ, List, [], ◌∷◌, ◌++◌, codes, decimal, refl, sym, ap, ◌∙◌, append_assoc, Option, Some, None}
+use Rattle.std.proofs.Common.{◌≡◌, ℕ, List, [], ◌∷◌, ◌++◌, codes, decimal, refl, sym, ap, ◌∙◌, append_assoc, Option}
 use Rattle.std.specs.List.{flat_map}
 use Rattle.std.specs.Fmt.{digits}
 use Rattle.crib_text.specs.Refusals.{no_memory, read_fault}
@@ -7,12 +7,12 @@ use Rattle.crib_text.specs.Spelling.{space, line_feed, line_text}
 use Rattle.crib_cards.specs.declared.sides.Scores.{Scores}
 use Rattle.crib_show.specs.declared.outcomes.ShowRow.{ShowRow}
 use Rattle.crib_show.specs.declared.outcomes.Outcome.{Outcome}
-use Rattle.crib_show.specs.declared.outcomes.Outcome.TheVariants.{Reached, Lost, Short}
-use Rattle.crib_problem.specs.Spelling.{side_word}
+use Rattle.crib_show.specs.Words.{outcome_word, show_word}
+use Rattle.crib_cards.specs.Words.{side_word}
 use Rattle.crib_game.specs.declared.ending.Ending.{Ending}
 use Rattle.crib_game.specs.declared.ending.Ending.TheVariants as ending
-use Rattle.crib_board.specs.Board.{outcome_word, show_word}
-use Rattle.crib_answer.specs.Answer.{counted_line, ending_word, play_line, fault_line, refusal_reply, too_large}
+use Rattle.crib_game.specs.Words.{ending_word}
+use Rattle.crib_answer.specs.Answer.{counted_line, play_line, fault_line, refusal_reply, too_large}
 use Rattle.crib_answer.specs.Private.Replies.{score_tail}
 
 -- ---- a fault
@@ -88,20 +88,11 @@ counted_written old row = regroup old (show_word row.crib) (side_word row.side) 
 
 pub ruleset counted_lines = (counted_written)
 
--- ---- the outcome
-pub outcome_open : line_text (outcome_word None ∷ []) ≡ codes "open\n"
-outcome_open = refl
+-- ---- a line of one word
+pub word_written : (old word : List ℕ) → (old ++ word) ++ codes "\n" ≡ old ++ line_text (word ∷ [])
+word_written old word = append_assoc old word (codes "\n")
 
-pub outcome_reached : line_text (outcome_word (Some Reached) ∷ []) ≡ codes "reached\n"
-outcome_reached = refl
-
-pub outcome_lost : line_text (outcome_word (Some Lost) ∷ []) ≡ codes "lost\n"
-outcome_lost = refl
-
-pub outcome_short : line_text (outcome_word (Some Short) ∷ []) ≡ codes "short\n"
-outcome_short = refl
-
-pub ruleset outcomes = (outcome_open, outcome_reached, outcome_lost, outcome_short)
+pub ruleset words = (word_written)
 
 -- ---- a report
 play_written : (scores : Scores) → codes "play" ++ score_tail scores ≡ play_line scores
@@ -114,24 +105,6 @@ pub report_written : (scores : Scores) (rows : List ShowRow) (over : Option Outc
 report_written scores rows over = ap (λ (front : List ℕ). (front ++ flat_map counted_line rows) ++ line_text (outcome_word over ∷ [])) (play_written scores)
 
 pub ruleset reports = (report_written)
-
--- ---- an ending
-pub ending_open : line_text (ending_word ending.Open ∷ []) ≡ codes "open\n"
-ending_open = refl
-
-pub ending_stuck : line_text (ending_word ending.Stuck ∷ []) ≡ codes "stuck\n"
-ending_stuck = refl
-
-pub ending_lost : line_text (ending_word ending.Lost ∷ []) ≡ codes "lost\n"
-ending_lost = refl
-
-pub ending_short : line_text (ending_word ending.Short ∷ []) ≡ codes "short\n"
-ending_short = refl
-
-pub ending_reached : line_text (ending_word ending.Reached ∷ []) ≡ codes "reached\n"
-ending_reached = refl
-
-pub ruleset endings = (ending_open, ending_stuck, ending_lost, ending_short, ending_reached)
 
 -- ---- a verdict
 pub holds_written : line_text (codes "holds" ∷ []) ≡ codes "holds\n"

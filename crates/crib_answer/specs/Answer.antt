@@ -2,14 +2,15 @@
 use Rattle.std.specs.Prelude.{◌≡◌, ◌⊎◌, ℕ, List, [], ◌∷◌, ◌++◌, flat_map, codes, decimal}
 use Rattle.std.specs.Prelude.{Option, Some, None, Result, Ok, Err}
 use Rattle.crib_cards.specs.declared.sides.Scores.{Scores}
+use Rattle.crib_cards.specs.Words.{side_word}
 use Rattle.crib_text.specs.Refusals.{Refusal}
 use Rattle.crib_text.specs.Spelling.{line_text}
 use Rattle.crib_show.specs.declared.outcomes.ShowRow.{ShowRow}
-use Rattle.crib_problem.specs.Spelling.{side_word}
+use Rattle.crib_show.specs.Words.{outcome_word, show_word}
 use Rattle.crib_game.specs.declared.ending.Ending.{Ending}
 use Rattle.crib_game.specs.declared.ending.Ending.TheVariants as ending
 use Rattle.crib_game.specs.declared.report.Report.{Report}
-use Rattle.crib_board.specs.Board.{outcome_word, show_word}
+use Rattle.crib_game.specs.Words.{ending_word}
 use Rattle.crib_answer.specs.declared.job.Job.{Job}
 use Rattle.crib_answer.specs.declared.job.Job.TheVariants.{Replay, Follow, Check, Solve, Board}
 use Rattle.crib_answer.specs.declared.status.Status.{Status}
@@ -62,14 +63,6 @@ report_reply report = record {
       ++ line_text (outcome_word report.over ∷ []);
   status = Yes;
 }
-
--- the word of an ending
-abbrev pub ending_word : Ending → List ℕ
-ending_word ending.Open = codes "open"
-ending_word ending.Stuck = codes "stuck"
-ending_word ending.Lost = codes "lost"
-ending_word ending.Short = codes "short"
-ending_word ending.Reached = codes "reached"
 
 -- the status of an ending: yes if the owner reached his goal, and no otherwise
 abbrev pub ending_status : Ending → Status

@@ -18,7 +18,8 @@ use Rattle.crib_answer.specs.declared.job.Job.TheVariants.{Replay, Follow, Check
 use Rattle.crib_answer.specs.declared.status.Status.{Status}
 use Rattle.crib_answer.specs.declared.status.Status.TheVariants.{Yes, No, Refused, Fault}
 use Rattle.crib_answer.specs.Reply.{Reply}
-use Rattle.crib_answer.specs.Answer.{ending_word, fault_line, too_large}
+use Rattle.crib_game.specs.Words.{ending_word}
+use Rattle.crib_answer.specs.Answer.{fault_line, too_large}
 
 -- ---- what an input spells
 

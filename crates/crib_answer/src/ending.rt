@@ -1,36 +1,40 @@
 //! The answer of `follow`.
-ghost use Rattle.std.specs.Prelude.{◌≡◌, ◌≤◌, [], ◌∷◌, length};
+ghost use Rattle.std.specs.Prelude.{◌≡◌, ◌+◌, ◌≤◌, [], ◌∷◌, ◌++◌};
+ghost use Rattle.arrayvec.specs.ArrayVec.{array_vec_len};
 ghost use Rattle.crib_text.specs.Spelling.{line_text};
-ghost use Rattle.crib_answer.specs.Answer.{ending_reply, ending_status, ending_word};
+ghost use Rattle.crib_game.specs.Words.{ending_word};
+ghost use Rattle.crib_answer.specs.Answer.{ending_reply, ending_status};
 ghost use Rattle.crib_answer.specs.Reply.{reply_of};
 
 use crate::answer::Answer;
-use crate::line::line_answer;
 use crate::status::Status;
+use crate::text::{ShortText, Text, add};
 use crib_game::Ending;
 use std::alloc::Allocator;
 
 /// Returns the answer to a game with this ending under a plan (docs/FORMATS.md, "follow"): the word of the ending. The
 /// status is `Yes` for `reached`, and `No` for every other ending.
+#[tactic(auto, unfolding(crate::specs::Reply::reply_of, crate::specs::Text::text_bytes))]
 pub fn ending_answer<A: Allocator>(ending: Ending) -> Answer<A>
     ensures { reply_of result ≡ ending_reply ending }
 {
-    line_answer(line_of(ending), status_of(ending))
+    let mut text = ShortText::new();
+    add_ending(&mut text, ending);
+    Answer {
+        text: Text::Short(text),
+        status: status_of(ending),
+    }
 }
 
-/// Returns the line with the word of an ending, at most 8 bytes with its LF.
-#[tactic(auto, using(crate::proofs::Lines::endings))]
-pub fn line_of(ending: Ending) -> &'static [u8]
-    ensures line { result.now ≡ line_text (ending_word ending ∷ []) }
-    ensures short { length result.now ≤ 8 }
+/// Adds the line with the word of an ending, at most 8 bytes with its LF.
+#[tactic(auto, using(crate::proofs::Lines::words))]
+pub fn add_ending(text: &mut ShortText, ending: Ending)
+    requires { array_vec_len text.old + 8 ≤ 282 }
+    ensures items { text.new.items ≡ text.old.items ++ line_text (ending_word ending ∷ []) }
+    ensures len { array_vec_len text.new ≤ array_vec_len text.old + 8 }
 {
-    match ending {
-        Ending::Open => b"open\n",
-        Ending::Stuck => b"stuck\n",
-        Ending::Lost => b"lost\n",
-        Ending::Short => b"short\n",
-        Ending::Reached => b"reached\n",
-    }
+    add(text, ending.word());
+    add(text, b"\n");
 }
 
 // The status of an ending: `Yes` if the owner reached his goal, and `No` otherwise.

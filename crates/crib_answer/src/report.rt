@@ -2,8 +2,7 @@
 ghost use Rattle.std.specs.Prelude.{◌≡◌, ◌+◌, ◌*◌, ◌≤◌, [], ◌∷◌, ◌++◌, length, flat_map};
 ghost use Rattle.arrayvec.specs.ArrayVec.{array_vec_len};
 ghost use Rattle.crib_text.specs.Spelling.{line_text};
-ghost use Rattle.crib_problem.specs.Spelling.{side_word};
-ghost use Rattle.crib_board.specs.Board.{outcome_word, show_word};
+ghost use Rattle.crib_show.specs.Words.{outcome_word};
 ghost use Rattle.crib_answer.specs.Answer.{counted_line, report_reply};
 ghost use Rattle.crib_answer.specs.Private.Replies.{score_tail};
 ghost use Rattle.crib_answer.specs.Reply.{reply_of};
@@ -11,7 +10,7 @@ ghost use Rattle.crib_answer.specs.Reply.{reply_of};
 use crate::answer::Answer;
 use crate::status::Status;
 use crate::text::{ShortText, Text, add, add_number};
-use crib_cards::{Scores, Side};
+use crib_cards::Scores;
 use crib_game::Report;
 use crib_show::{Outcome, ShowRow};
 use std::alloc::Allocator;
@@ -49,31 +48,6 @@ fn add_scores(text: &mut ShortText, scores: Scores)
     add(text, b"\n");
 }
 
-// Adds `owner` or `opponent`.
-fn add_side(text: &mut ShortText, side: Side)
-    requires { array_vec_len text.old + 8 ≤ 282 }
-    ensures items { text.new.items ≡ text.old.items ++ side_word side }
-    ensures len { array_vec_len text.new ≤ array_vec_len text.old + 8 }
-{
-    match side {
-        Side::Owner => add(text, b"owner"),
-        Side::Opponent => add(text, b"opponent"),
-    }
-}
-
-// Adds `crib` or `hand`.
-fn add_counted(text: &mut ShortText, crib: bool)
-    requires { array_vec_len text.old + 4 ≤ 282 }
-    ensures items { text.new.items ≡ text.old.items ++ show_word crib }
-    ensures len { array_vec_len text.new ≤ array_vec_len text.old + 4 }
-{
-    if crib {
-        add(text, b"crib");
-    } else {
-        add(text, b"hand");
-    }
-}
-
 // Adds the line of a hand or crib that was counted, at most 48 bytes.
 #[tactic(auto, using(crib_text::proofs::RoomLemmas::short, crate::proofs::Lines::counted_lines))]
 fn add_row(text: &mut ShortText, row: &ShowRow)
@@ -81,9 +55,9 @@ fn add_row(text: &mut ShortText, row: &ShowRow)
     ensures items { text.new.items ≡ text.old.items ++ counted_line row.now }
     ensures len { array_vec_len text.new ≤ array_vec_len text.old + 48 }
 {
-    add_counted(text, row.crib);
+    add(text, row.word());
     add(text, b" ");
-    add_side(text, row.side);
+    add(text, row.side.word());
     add(text, b" ");
     add_number(text, u32::from(row.points));
     add_scores(text, row.scores);
@@ -101,16 +75,12 @@ fn add_show(text: &mut ShortText, rows: &[ShowRow])
 }
 
 // Adds the line of the outcome, or `open` if there is none.
-#[tactic(auto, using(crate::proofs::Lines::outcomes))]
+#[tactic(auto, using(crate::proofs::Lines::words))]
 fn add_outcome(text: &mut ShortText, over: Option<Outcome>)
     requires { array_vec_len text.old + 8 ≤ 282 }
     ensures items { text.new.items ≡ text.old.items ++ line_text (outcome_word over ∷ []) }
     ensures len { array_vec_len text.new ≤ array_vec_len text.old + 8 }
 {
-    match over {
-        None => add(text, b"open\n"),
-        Some(Outcome::Reached) => add(text, b"reached\n"),
-        Some(Outcome::Lost) => add(text, b"lost\n"),
-        Some(Outcome::Short) => add(text, b"short\n"),
-    }
+    add(text, Outcome::word_of(over));
+    add(text, b"\n");
 }

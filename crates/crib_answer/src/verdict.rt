@@ -6,7 +6,7 @@ ghost use Rattle.crib_answer.specs.Answer.{fault_reply, verdict_reply};
 ghost use Rattle.crib_answer.specs.Reply.{reply_of};
 
 use crate::answer::Answer;
-use crate::ending::line_of;
+use crate::ending::add_ending;
 use crate::line::{line_answer, memory_answer};
 use crate::status::Status;
 use crate::text::{ShortText, Text, add};
@@ -40,7 +40,7 @@ fn failure_answer<A: Allocator>(ending: Ending, game: &Game, section: &[u8]) -> 
 {
     let mut text = ShortText::new();
     add(&mut text, b"fails ");
-    add(&mut text, line_of(ending));
+    add_ending(&mut text, ending);
     add(&mut text, section);
     Answer {
         text: Text::Short(text),

@@ -1,6 +1,6 @@
 -- The text that the code writes is the board.
 use Rattle.std.proofs.Common.{◌≡◌, ℕ, ◌+◌, ◌-◌, ◌<◌, ◌≤◌, List, [], ◌∷◌, ◌++◌, length, map, take, codes, decimal, get_or, refl, sym, ap, ◌∙◌, append_assoc}
-use Rattle.std.proofs.Common.{arith, Option, Some, None}
+use Rattle.std.proofs.Common.{arith, Option}
 use Rattle.std.specs.List.{range_with_len}
 use Rattle.std.proofs.lemmas.List.{append-nil, length-take-le, take_more, take-replicate}
 use Rattle.std.proofs.lemmas.List.FromFn.{map-range_with_len_more}
@@ -9,10 +9,11 @@ use Rattle.crib_cards.specs.declared.sides.Side.{Side}
 use Rattle.crib_cards.specs.declared.sides.Side.TheVariants.{Owner, Opponent}
 use Rattle.crib_cards.specs.declared.sides.Scores.{Scores}
 use Rattle.crib_show.specs.declared.outcomes.ShowRow.{ShowRow}
-use Rattle.crib_show.specs.declared.outcomes.Outcome.TheVariants.{Reached, Lost, Short}
+use Rattle.crib_show.specs.declared.outcomes.Outcome.{Outcome}
+use Rattle.crib_show.specs.Words.{outcome_word, show_word}
 use Rattle.crib_game.specs.declared.report.Row.{Row}
 use Rattle.crib_problem.specs.Spelling.{move_word}
-use Rattle.crib_board.specs.Board.{hole_byte, outcome_line, right_in, row_line, row_lines, score_columns, show_line, show_word, side_column, with_space}
+use Rattle.crib_board.specs.Board.{hole_byte, outcome_line, right_in, row_line, row_lines, score_columns, show_line, side_column, with_space}
 use Rattle.crib_board.specs.Board.{track_line}
 use Rattle.crib_board.specs.Board.{track_lines}
 use Rattle.crib_text.proofs.RoomLemmas.{three_digits}
@@ -92,19 +93,10 @@ rows_more old text new rows number at row inside counted is before more =
 pub ruleset rows = (row_written, hand_written)
 
 -- ---- the outcome
-pub outcome_open : outcome_line None ≡ codes "open\n"
-outcome_open = refl
+pub outcome_written : (old : List ℕ) (over : Option Outcome) → (old ++ outcome_word over) ++ codes "\n" ≡ old ++ outcome_line over
+outcome_written old over = append_assoc old (outcome_word over) (codes "\n")
 
-pub outcome_reached : outcome_line (Some Reached) ≡ codes "reached\n"
-outcome_reached = refl
-
-pub outcome_lost : outcome_line (Some Lost) ≡ codes "lost\n"
-outcome_lost = refl
-
-pub outcome_short : outcome_line (Some Short) ≡ codes "short\n"
-outcome_short = refl
-
-pub ruleset outcomes = (outcome_open, outcome_reached, outcome_lost, outcome_short)
+pub ruleset outcomes = (outcome_written)
 
 -- ---- tracks
 regroup_line : (old side first gap holes end : List ℕ)

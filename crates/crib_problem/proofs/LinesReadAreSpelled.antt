@@ -22,7 +22,8 @@ use Rattle.crib_problem.specs.declared.problem.Goal.TheVariants.{Win, Holes, Sto
 use Rattle.crib_problem.specs.declared.problem.Version.{Version}
 use Rattle.crib_problem.specs.declared.problem.Version.TheVariants.{One, Two}
 use Rattle.crib_problem.specs.Setup.{IsSetup, IsGoal, CanSay}
-use Rattle.crib_problem.specs.Spelling.{side_word, goal_words, version_word}
+use Rattle.crib_cards.specs.Words.{side_word}
+use Rattle.crib_problem.specs.Spelling.{goal_words, version_word}
 use Rattle.crib_problem.specs.Refusals.{same_card, bad_score, bad_goal}
 use Rattle.crib_problem.specs.Reading.{version_of_number, version_in, side_in, dealer_in, score_in, both_scores, scores_in, card_in, new_card, new_cards}
 use Rattle.crib_problem.specs.Reading.{cards_in_line, starter_in, holes_in, stop_goal, plain_goal, holes_goal, win_in, target_in, goal_in}

@@ -14,7 +14,8 @@ use Rattle.crib_problem.specs.declared.problem.Goal.TheVariants.{Win, Holes, Sto
 use Rattle.crib_problem.specs.declared.problem.Version.{Version}
 use Rattle.crib_problem.specs.declared.problem.Version.TheVariants.{One, Two}
 use Rattle.crib_problem.specs.Setup.{Setup, IsSetup, IsGoal}
-use Rattle.crib_problem.specs.Spelling.{version_word, side_word, goal_words, actor_word, move_word, act_line, played_lines, problem_text, problem_lines}
+use Rattle.crib_cards.specs.Words.{side_word}
+use Rattle.crib_problem.specs.Spelling.{version_word, goal_words, actor_word, move_word, act_line, played_lines, problem_text, problem_lines}
 
 line_of_two : (first second : List ℕ) → length (line_text (first ∷ second ∷ [])) ≡ length first + length second + 2
 line_of_two first second = omega (

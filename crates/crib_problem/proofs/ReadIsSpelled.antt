@@ -13,7 +13,8 @@ use Rattle.crib_problem.specs.declared.problem.Version.TheVariants.{One, Two}
 use Rattle.crib_problem.specs.Setup.{Setup, IsSetup}
 use Rattle.crib_cards.specs.declared.moves.Act.{Act}
 use Rattle.crib_problem.specs.Setup.{opening_basis_of}
-use Rattle.crib_problem.specs.Spelling.{side_word, goal_words, version_word, act_line, played_lines, problem_lines}
+use Rattle.crib_cards.specs.Words.{side_word}
+use Rattle.crib_problem.specs.Spelling.{goal_words, version_word, act_line, played_lines, problem_lines}
 use Rattle.crib_problem.specs.Reading.{version_in, dealer_in, scores_in}
 use Rattle.crib_problem.specs.Reading.{cards_in_line, starter_in, goal_in, seven_lines_at, turns_at}
 use Rattle.crib_problem.specs.Reading.{played_at, problem_at, with_played, acts_count_in, allowed_at}

@@ -23,7 +23,8 @@ use Rattle.crib_problem.specs.declared.problem.Version.TheVariants.{One, Two}
 use Rattle.crib_cards.specs.declared.moves.Act.{Act}
 use Rattle.crib_problem.specs.Setup.{Setup, IsSetup, IsGoal, CanSay, opening_basis_of}
 use Rattle.crib_problem.specs.Played.{AreAllowed}
-use Rattle.crib_problem.specs.Spelling.{side_word, goal_words, version_number, version_word, act_line, played_lines, problem_lines}
+use Rattle.crib_cards.specs.Words.{side_word}
+use Rattle.crib_problem.specs.Spelling.{goal_words, version_number, version_word, act_line, played_lines, problem_lines}
 use Rattle.crib_problem.specs.Reading.{version_of_number, version_in, side_in, dealer_in, score_in, both_scores, scores_in, new_card, new_cards, cards_in_line}
 use Rattle.crib_problem.specs.Reading.{starter_in, holes_in, stop_goal, plain_goal, holes_goal, win_in, target_in, goal_in, seven_lines_at, acts_count_in}
 use Rattle.crib_problem.specs.Reading.{played_at}

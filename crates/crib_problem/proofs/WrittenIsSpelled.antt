@@ -7,7 +7,8 @@ use Rattle.crib_text.specs.Spelling.{space, line_feed, line_bytes, line_text}
 use Rattle.crib_problem.specs.declared.problem.Goal.{Goal}
 use Rattle.crib_problem.specs.declared.problem.Goal.TheVariants.{Win, Holes, Stop}
 use Rattle.crib_problem.specs.Setup.{Setup}
-use Rattle.crib_problem.specs.Spelling.{side_word, goal_words, version_word, played_lines, spaced_card, problem_lines, problem_text}
+use Rattle.crib_cards.specs.Words.{side_word}
+use Rattle.crib_problem.specs.Spelling.{goal_words, version_word, played_lines, spaced_card, problem_lines, problem_text}
 use Rattle.crib_problem.specs.Private.Spelling.{goal_end}
 
 pub goal_end-win : goal_end Win ≡ codes "win\n"

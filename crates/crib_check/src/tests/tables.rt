@@ -1,3 +1,5 @@
+use crate::tests::inputs::{TWELVE, TWICE, TWO_AND_ACE, TWOS};
+use crate::tests::rows::{BEGUN_ROWS, LOST, Row, SHORT, STOPPING, STUCK, SURE};
 use crate::tests::*;
 use crib_cards::{Card, Rank};
 use crib_know::Know;
@@ -136,22 +138,16 @@ fn all_come_out_with<T: Settled>(rt: &(impl Abort + AllocGlobal), table: &mut T)
 
 #[test]
 fn names_the_game_that_falls_short_with_a_set_of_keys(rt: HostRuntime) {
-    let [(of, by, _), _] = SHORT;
-    let named = b"game 1\nhold AC AD AH AS\nthrow 3C 3D\nacts 8\n\
-        own 2C\nopp AC\nown 2D\nopp AD\nown 2H\nopp AH\nown 2S\nopp AS\n";
-    let mut table = KeySet::new(rt.alloc());
-    let verdict = check_with(&problem(&rt, of), &plan(&rt, by), &mut table);
-    assert!(rt; verdict == Verdict::Fails(Ending::Short, game(&rt, named)));
+    come_out_with(&rt, &SHORT, &mut KeySet::new(rt.alloc()));
 }
 
 #[test]
 fn forgets_the_keys_of_another_plan(rt: HostRuntime) {
     let problem = problem(&rt, TWELVE);
-    let named = b"game 1\nhold AC AD AH AS\nthrow 3C 3D\nacts 2\nown 2C\nopp AC\n";
     let mut table = KeySet::new(rt.alloc());
     assert!(rt; check_with(&problem, &plan(&rt, TWOS), &mut table) == Verdict::Holds);
     let verdict = check_with(&problem, &plan(&rt, TWICE), &mut table);
-    assert!(rt; verdict == Verdict::Fails(Ending::Stuck, game(&rt, named)));
+    assert!(rt; verdict == Verdict::Fails(Ending::Stuck, game(&rt, TWO_AND_ACE)));
 }
 
 #[test]

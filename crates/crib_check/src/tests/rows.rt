@@ -1,0 +1,55 @@
+//! Problems and plans with their verdicts.
+use crate::tests::inputs::*;
+use crib_game::Ending;
+
+/// A problem, a plan, and the first failing game with its ending, if there is one.
+pub type Row = (&'static str, &'static str, Option<(Ending, &'static str)>);
+
+pub const SURE: [Row; 4] = [
+    (TWELVE, TWOS, None),
+    (NEAR, TWOS, None),
+    (TWELVE, LOOK, None),
+    (DEALERS_THIRTEEN, TWOS, None),
+];
+
+pub const SHORT: [Row; 2] = [
+    (THIRTEEN, TWOS, Some((Ending::Short, OWNER_LEADS))),
+    (
+        DEALERS_FOURTEEN,
+        TWOS,
+        Some((Ending::Short, OPPONENT_LEADS_TO_NOTHING)),
+    ),
+];
+
+pub const LOST: [Row; 2] = [
+    (CLOSE, ACE, Some((Ending::Lost, PAIRED))),
+    (RACE, TWOS, Some((Ending::Lost, OPPONENT_LEADS))),
+];
+
+pub const STUCK: [Row; 5] = [
+    (TWELVE, NO_PLAN, Some((Ending::Stuck, NO_ACTS))),
+    (NEAR, NO_PLAN, Some((Ending::Stuck, ONE_ACE))),
+    (TWELVE, TWICE, Some((Ending::Stuck, TWO_AND_ACE))),
+    (TWELVE, LATE_LOOK, Some((Ending::Stuck, GO_AT_22))),
+    (TWELVE, NO_KING, Some((Ending::Stuck, KING))),
+];
+
+pub const BEGUN_ROWS: [Row; 6] = [
+    (BEGUN, REST, None),
+    (BEGUN_SHORT, REST, Some((Ending::Short, DIAMOND_FIRST))),
+    (BEGUN_SHORT, NO_PLAN, Some((Ending::Stuck, TWO_AND_DIAMOND))),
+    (LAST_TWO, LOOKS, None),
+    (LAST_TWO, SEVEN_FIRST, Some((Ending::Lost, RUN_LOST))),
+    (LAST_TWO_STOP, SEVEN_FIRST, Some((Ending::Lost, RUN_LOST))),
+];
+
+pub const STOPPING: [Row; 4] = [
+    (STOP_FAR, TWOS, None),
+    (STOP_FAR, NO_PLAN, Some((Ending::Stuck, NO_ACTS))),
+    (STOP_NEAR, TWOS, Some((Ending::Lost, OWNER_LEADS))),
+    (
+        STOP_SHOW,
+        TWOS,
+        Some((Ending::Lost, OWNER_LEADS_TO_SIXTEEN)),
+    ),
+];

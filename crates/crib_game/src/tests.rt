@@ -1,5 +1,6 @@
 //! Tests against outside examples.
 
 mod follows;
+mod inputs;
 mod replays;
 mod texts;

@@ -1,4 +1,5 @@
 //! Tests of the answers to inputs in memory.
+mod answers;
 mod boards;
 mod checks;
 mod follows;

@@ -16,7 +16,8 @@ macro_rules! last_two {
     ($score:literal) => {
         concat!(
             "problem 2\ndealer owner\nscore ", $score,
-            " 117\nstarter 2C\nhold 7S 3D 9S 6H\nthrow 8C 2H\ngoal win\nplayed 5\nopp KD\nown 3D\nopp KS\nown 6H\nopp go\n"
+            " 117\nstarter 2C\nhold 7S 3D 9S 6H\nthrow 8C 2H\ngoal win\n",
+            "played 5\nopp KD\nown 3D\nopp KS\nown 6H\nopp go\n"
         )
     };
 }

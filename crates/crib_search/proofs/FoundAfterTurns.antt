@@ -2,6 +2,7 @@
 use Rattle.std.proofs.Common.{◌≡◌, ◌⊎◌, ◌↔◌, ℕ, zero, suc, ◌+◌, ◌-◌, ◌<◌, ◌≤◌, Bool, true, false, not, cond, eqb, List, [], ◌∷◌, ◌++◌, length, get_or, take}
 use Rattle.std.proofs.Common.{drop, Option, Some, None, slice_get, refl, sym, ap, subst, ◌∙◌, inl, inr, arith}
 use Rattle.std.specs.Prelude.{Result, Ok, Err, IfOk, OnOk, OnErr}
+use Rattle.std.specs.Bool.{then_some}
 use Rattle.std.specs.List.{AllZip, filter}
 use Rattle.std.proofs.lemmas.Bool.{both_ways, or_left, or_right, eq-eqb}
 use Rattle.std.proofs.lemmas.List.{take_rest}
@@ -23,27 +24,56 @@ use Rattle.crib_search.specs.declared.nodes.DraftNode.{DraftNode}
 use Rattle.crib_search.specs.declared.nodes.DraftNode.TheVariants.{Play}
 use Rattle.crib_search.specs.Trees.{Tree, Finish, Plays, joined_tree}
 use Rattle.crib_search.specs.Private.Nodes.{IsEarlier, IsMore, Names, NamesFound}
-use Rattle.crib_search.specs.Finder.{Found, IsReachedBehind, FindsFor, OwnerFinds, Tries, LacksBranch, BranchFinds, Finds, letters, options}
+use Rattle.crib_search.specs.Finder.{Found, IsReachedBehind, FindsFor, OwnerFinds, Tries, BranchFinds, Finds, letters, options}
 use Rattle.crib_search.specs.Private.Ahead.{turns_ahead}
-use Rattle.crib_search.specs.Private.Search.{AreAnswers, IsHere, IsAnswer, IsTried, IsBranch}
+use Rattle.crib_search.specs.Private.Search.{AreAnswers, Drafts, IsHere, IsAnswer, IsBranch, IsLater, IsTried, Steps}
 use Rattle.crib_know.specs.contracts.know.KnowPartialEq.TheImpl as knows_compared
 use Rattle.crib_search.proofs.TurnsAhead.{turn_falls}
 use Rattle.crib_know.proofs.Equality.{same_knows}
 use Rattle.crib_search.proofs.JoinedTrees.{draft_place_earlier}
 use Rattle.crib_search.proofs.KeptNodes.{names_more}
 
--- the branches of some letters are named, in the order of the letters
-abbrev pub AreBranches : List DraftNode → Setup → Knowledge → List Letter → List DraftPlace → Type 0
-AreBranches draft_nodes problem know shown draft_places =
-    (history : List Event) (more : ℕ) → KnowsAfter know problem history → turns_ahead know ≤ more →
-    (trees : List Tree) × AllZip (Names draft_nodes) trees draft_places
-    × AllZip (BranchFinds (λ further after. Finds more problem further after) problem history) shown trees
+-- ---- a search that has come further
+pub later_trans : (one two three : Drafts) → IsLater one two → IsLater two three → IsLater one three
+later_trans one two three first second = record {
+  same = second.same ∙ first.same;
+  more = λ place draft_node there. second.more place draft_node (first.more place draft_node there);
+}
 
--- some branch is lacking
-abbrev pub IsLacking : Setup → Knowledge → Type 0
-IsLacking problem know =
-    (history : List Event) (more : ℕ) → KnowsAfter know problem history → turns_ahead know ≤ more →
-    LacksBranch (λ further after. Finds more problem further after) problem history
+-- what is said of the problem before is said of it after
+pub at_later : (before after : Drafts) → IsLater before after → (P : Setup → Type 0) → P before.problem → P after.problem
+at_later before after later P holds = subst P (sym later.same) holds
+
+named_later : (before after : Drafts) → IsLater before after → (tree : Option Tree) (found : Option DraftPlace) →
+    NamesFound before.draft_nodes tree found → NamesFound after.draft_nodes tree found
+named_later before after later None found names = names
+named_later before after later (Some tree) found names = (names.0, names.1, names_more before.draft_nodes after.draft_nodes later.more tree names.0 names.2)
+
+pub answer_later : (before after : Drafts) → IsLater before after → (know : Knowledge) (found : Option DraftPlace) → IsAnswer before know found →
+    IsAnswer after know found
+answer_later before after later know found answer =
+    at_later before after later (λ problem. IsAnswer (record { problem = problem; draft_nodes = after.draft_nodes }) know found)
+    (λ history more knows less. let old = answer history more knows less in (old.0, named_later before after later old.0 found old.1, old.2))
+
+pub answers_more : (problem : Setup) (before after : List DraftNode) → IsMore before after → (answers : Knowledge → Option (Option DraftPlace)) →
+    AreAnswers (record { problem = problem; draft_nodes = before }) answers → AreAnswers (record { problem = problem; draft_nodes = after }) answers
+answers_more problem before after more answers are = record {
+  each = λ know found here there.
+      answer_later (record { problem = problem; draft_nodes = before }) (record { problem = problem; draft_nodes = after })
+      (record { same = refl; more = more }) know found (are.each know found here there);
+}
+
+-- ---- what an answer names
+pub none_named : (draft_nodes : List DraftNode) (tree : Option Tree) → NamesFound draft_nodes tree None → tree ≡ None
+none_named draft_nodes None names = refl
+none_named draft_nodes (Some tree) names = let e = names.1 in absurd cc
+
+pub some_named : (draft_nodes : List DraftNode) (tree : Option Tree) (draft_place : DraftPlace) → NamesFound draft_nodes tree (Some draft_place) →
+    (found : Tree) × (tree ≡ Some found) × Names draft_nodes found draft_place
+some_named draft_nodes None draft_place names = absurd cc
+some_named draft_nodes (Some tree) draft_place names =
+    let same : names.0 ≡ draft_place = let e = names.1 in cc in
+    (tree, refl, subst (λ place. Names draft_nodes tree place) same names.2)
 
 -- ---- one turn further
 pub know_falls : (know next : Knowledge) (problem : Setup) (event : Event) (history : List Event) → KnowsAfter know problem history →
@@ -54,248 +84,204 @@ know_falls know next problem event history before after =
     let b : turns_ahead next ≡ _ = ap turns_ahead after.knowledge in
     omega (arith, falls, a, b)
 
-finds_from : (more : ℕ) (problem : Setup) (history : List Event) (found : Option Tree) (turn : Turn) → asked_now problem history ≡ turn →
-    FindsFor turn (λ further after. Finds more problem further after) problem history found →
-    Finds (suc more) problem history found
-finds_from more problem history found turn e finds =
-    let F : Turn → Type 0 = λ t. FindsFor t (λ further after. Finds more problem further after) problem history found in
-    subst F (sym e) finds
+-- for each history that the knowledge belongs to, what is found after a turn, and the answer names it
+abbrev AnswersAfter : Drafts → Knowledge → Event → Option DraftPlace → Type 0
+AnswersAfter drafts know event found =
+    (history : List Event) (more : ℕ) → KnowsAfter know drafts.problem history → turns_ahead know ≤ more →
+    (tree : Option Tree) × NamesFound drafts.draft_nodes tree found × Finds more drafts.problem (event ∷ history) tree
 
-asked_is : (know : Knowledge) (problem : Setup) (history : List Event) (turn : Turn) → KnowsAfter know problem history → know.round.asked ≡ turn →
-    asked_now problem history ≡ turn
-asked_is know problem history turn knows e = sym (ap (λ (k : Knowledge). k.round.asked) knows.knowledge) ∙ e
+answer_after : (drafts : Drafts) (know next : Knowledge) (event : Event) (found : Option DraftPlace) → Steps drafts.problem know event next →
+    IsAnswer drafts next found → AnswersAfter drafts know event found
+answer_after drafts know next event found step answer history more knows less =
+    let falls = know_falls know next drafts.problem event history knows (step history knows) in
+    answer (event ∷ history) more (step history knows) (omega (arith, less, falls))
 
-module _ (problem : Setup) (know : Knowledge) where
+-- none is found after the turn if the answer is none; otherwise a tree is found, and the answer names it
+none_after : (drafts : Drafts) (know : Knowledge) (event : Event) → AnswersAfter drafts know event None →
+    (history : List Event) (more : ℕ) → KnowsAfter know drafts.problem history → turns_ahead know ≤ more → Finds more drafts.problem (event ∷ history) None
+none_after drafts know event after history more knows less =
+    let found = after history more knows less in
+    subst (λ tree. Finds more drafts.problem (event ∷ history) tree) (none_named drafts.draft_nodes found.0 found.1) found.2
+
+some_after : (drafts : Drafts) (know : Knowledge) (event : Event) (draft_place : DraftPlace) → AnswersAfter drafts know event (Some draft_place) →
+    (history : List Event) (more : ℕ) → KnowsAfter know drafts.problem history → turns_ahead know ≤ more →
+    (tree : Tree) × Names drafts.draft_nodes tree draft_place × Finds more drafts.problem (event ∷ history) (Some tree)
+some_after drafts know event draft_place after history more knows less =
+    let found = after history more knows less in
+    let named = some_named drafts.draft_nodes found.0 draft_place found.1 in
+    (named.0, named.2, subst (λ tree. Finds more drafts.problem (event ∷ history) tree) named.1 found.2)
+
+-- ---- who is asked
+-- an answer is right if it is for each history that the knowledge belongs to, by who is asked
+answer_for : (drafts : Drafts) (know : Knowledge) (found : Option DraftPlace) (turn : Turn) → know.round.asked ≡ turn →
+    ((history : List Event) (more : ℕ) → KnowsAfter know drafts.problem history → turns_ahead know ≤ more → (tree : Option Tree)
+    × NamesFound drafts.draft_nodes tree found
+    × FindsFor turn (λ further after. Finds more drafts.problem further after) drafts.problem history tree) → IsAnswer drafts know found
+answer_for drafts know found turn asked each history zero knows less = absurd (omega (arith, less))
+answer_for drafts know found turn asked each history (suc more) knows less =
+    let here = each history more knows (omega (arith, less)) in
+    let now : asked_now drafts.problem history ≡ turn = sym (ap (λ (k : Knowledge). k.round.asked) knows.knowledge) ∙ asked in
+    let F : Turn → Type 0 = λ t. FindsFor t (λ further after. Finds more drafts.problem further after) drafts.problem history here.0 in
+    (here.0, here.1, subst F (sym now) here.2)
+
+module _ (drafts : Drafts) (know : Knowledge) where
   -- ---- the deal is done
-  pub over_some : (draft_nodes : List DraftNode) → know.round.asked ≡ turns.Over → (reached : Bool) → true ≡ reached →
-      ((history : List Event) → KnowsAfter know problem history → (reached ≡ true) ↔ IsReachedBehind problem history) →
-      IsAnswer draft_nodes problem know (Some End)
-  over_some draft_nodes over reached e each history zero knows less = absurd (omega (arith, less))
-  over_some draft_nodes over reached e each history (suc more) knows less = (
-    Some Finish,
-    (End, refl, refl),
-    finds_from more problem history (Some Finish) turns.Over (asked_is know problem history turns.Over knows over)
-        (inl ((each history knows).0 (sym e), refl)),
-  )
-
-  pub over_none : (draft_nodes : List DraftNode) → know.round.asked ≡ turns.Over → (reached : Bool) → false ≡ reached →
-      ((history : List Event) → KnowsAfter know problem history → (reached ≡ true) ↔ IsReachedBehind problem history) → IsAnswer draft_nodes problem know None
-  over_none draft_nodes over reached e each history zero knows less = absurd (omega (arith, less))
-  over_none draft_nodes over reached e each history (suc more) knows less = (
-    None,
-    refl,
-    finds_from more problem history None turns.Over (asked_is know problem history turns.Over knows over)
-        (inr (λ all. both_ways reached (sym e) ((each history knows).1 all), refl)),
-  )
+  pub over_found : know.round.asked ≡ turns.Over → (reached : Bool) →
+      ((history : List Event) → KnowsAfter know drafts.problem history → (reached ≡ true) ↔ IsReachedBehind drafts.problem history) →
+      IsAnswer drafts know (then_some reached End)
+  over_found over true each = answer_for drafts know (Some End) turns.Over over
+      (λ history more knows less. (Some Finish, (End, refl, refl), inl ((each history knows).0 refl, refl)))
+  over_found over false each = answer_for drafts know None turns.Over over
+      (λ history more knows less. (None, refl, inr (λ all. both_ways false refl ((each history knows).1 all), refl)))
 
   -- ---- the owner
-  pub own_go : (draft_nodes : List DraftNode) (found : Option DraftPlace) (next : Knowledge) → know.round.asked ≡ turns.Owner →
-      ((history : List Event) → KnowsAfter know problem history → options problem history ≡ []) →
-      ((history : List Event) → KnowsAfter know problem history → KnowsAfter next problem (Own move.Go ∷ history)) → IsAnswer draft_nodes problem next found →
-      IsAnswer draft_nodes problem know found
-  own_go draft_nodes found next asked none step answer history zero knows less = absurd (omega (arith, less))
-  own_go draft_nodes found next asked none step answer history (suc more) knows less =
-      let falls = know_falls know next problem (Own move.Go) history knows (step history knows) in
-      let after = answer (Own move.Go ∷ history) more (step history knows) (omega (arith, less, falls)) in
-      let O : List ℕ → Type 0 = λ cards. OwnerFinds (λ further tree. Finds more problem further tree) history cards after.0 in (
-        after.0,
-        after.1,
-        finds_from more problem history after.0 turns.Owner (asked_is know problem history turns.Owner knows asked)
-            (subst O (sym (none history knows)) after.2),
-      )
+  module _ (asked : know.round.asked ≡ turns.Owner) where
+    pub own_go : (next : Knowledge) (found : Option DraftPlace) →
+        ((history : List Event) → KnowsAfter know drafts.problem history → options drafts.problem history ≡ []) →
+        Steps drafts.problem know (Own move.Go) next → IsAnswer drafts next found → IsAnswer drafts know found
+    own_go next found none step answer =
+        answer_for drafts know found turns.Owner asked
+        (λ history more knows less.
+        let after = answer_after drafts know next (Own move.Go) found step answer history more knows less in
+        let O : List ℕ → Type 0 = λ cards. OwnerFinds (λ further tree. Finds more drafts.problem further tree) history cards after.0 in
+        (after.0, after.1, subst O (sym (none history knows)) after.2))
 
-  pub own_tried : (draft_nodes : List DraftNode) (found : Option DraftPlace) (cards : List ℕ) → know.round.asked ≡ turns.Owner → 0 < length cards →
-      ((history : List Event) → KnowsAfter know problem history → cards ≡ options problem history) →
-      IsTried draft_nodes problem know cards found → IsAnswer draft_nodes problem know found
-  own_tried draft_nodes found cards asked some same tried history zero knows less = absurd (omega (arith, less))
-  own_tried draft_nodes found cards asked some same tried history (suc more) knows less =
-      let after = tried history more knows (omega (arith, less)) in
-      let O : List ℕ → Type 0 = λ xs. OwnerFinds (λ further tree. Finds more problem further tree) history xs after.0 in (
-        after.0,
-        after.1,
-        finds_from more problem history after.0 turns.Owner (asked_is know problem history turns.Owner knows asked)
-            (subst O (same history knows) (owner_of (λ further tree. Finds more problem further tree) after.0 cards some after.2)),
-      )
-    where
-      owner_of : (find : Found) (found : Option Tree) (cards : List ℕ) → 0 < length cards → Tries find history cards found → OwnerFinds find history cards found
-      owner_of find found [] some tries = absurd (omega (arith, some))
-      owner_of find found (card ∷ others) some tries = tries
-
-  module _ (card : ℕ) (others : List ℕ) (next : Knowledge) (step : (history : List Event) → KnowsAfter know problem history →
-      KnowsAfter next problem (Own (move.Card card) ∷ history)) where
-    pub tried_some : (draft_nodes after : List DraftNode) (draft_place : DraftPlace) (place : ℕ) → IsAnswer draft_nodes problem next (Some draft_place) →
-        IsMore draft_nodes after →
-        slice_get after place ≡ Some (Play card draft_place) →
-        IsTried after problem know (card ∷ others) (Some (At place))
-    tried_some draft_nodes after draft_place place answer more_draft_nodes there history more knows less =
-        let falls = know_falls know next problem (Own (move.Card card)) history knows (step history knows) in
-        let found = answer (Own (move.Card card) ∷ history) more (step history knows) (omega (arith, less, falls)) in
-        plays found.0 found.1 found.2
+    pub own_tried : (found : Option DraftPlace) (cards : List ℕ) → 0 < length cards →
+        ((history : List Event) → KnowsAfter know drafts.problem history → cards ≡ options drafts.problem history) → IsTried drafts know cards found →
+        IsAnswer drafts know found
+    own_tried found cards some same tried =
+        answer_for drafts know found turns.Owner asked
+        (λ history more knows less.
+        let after = tried history more knows less in
+        let O : List ℕ → Type 0 = λ xs. OwnerFinds (λ further tree. Finds more drafts.problem further tree) history xs after.0 in
+        (after.0, after.1, subst O (same history knows) (owner_of (λ further tree. Finds more drafts.problem further tree) history after.0 cards some after.2)))
       where
-        plays : (tree : Option Tree) → NamesFound draft_nodes tree (Some draft_place) → Finds more problem (Own (move.Card card) ∷ history) tree →
-            (tree : Option Tree) × NamesFound after tree (Some (At place)) × Tries (λ further tree. Finds more problem further tree) history
-            (card ∷ others) tree
-        plays None names finds = absurd cc
-        plays (Some tree) names finds =
-            let same : names.0 ≡ draft_place = some_draft_place names.0 draft_place (sym names.1) in
-            let N : DraftPlace → Type 0 = λ s. Names after tree s in (
-              Some (Plays card tree),
-              (At place, refl, (place, draft_place, refl, there, subst N same (names_more draft_nodes after more_draft_nodes tree names.0 names.2))),
-              (Some tree, finds, refl),
-            )
-          where
-            some_draft_place : (one other : DraftPlace) → Some one ≡ Some other → one ≡ other
-            some_draft_place one other e = cc
+        owner_of : (find : Found) (history : List Event) (found : Option Tree) (cards : List ℕ) → 0 < length cards → Tries find history cards found →
+            OwnerFinds find history cards found
+        owner_of find history found [] some tries = absurd (omega (arith, some))
+        owner_of find history found (card ∷ others) some tries = tries
 
-    pub tried_next : (draft_nodes after : List DraftNode) (found : Option DraftPlace) → IsAnswer draft_nodes problem next None →
-        IsTried after problem know others found →
-        IsTried after problem know (card ∷ others) found
-    tried_next draft_nodes after found answer tried history more knows less =
-        let falls = know_falls know next problem (Own (move.Card card)) history knows (step history knows) in
-        let here = answer (Own (move.Card card) ∷ history) more (step history knows) (omega (arith, less, falls)) in
+  module _ (card : ℕ) (others : List ℕ) (next : Knowledge) (step : Steps drafts.problem know (Own (move.Card card)) next) where
+    pub tried_some : (draft_place : DraftPlace) (place : ℕ) → IsAnswer drafts next (Some draft_place) →
+        slice_get drafts.draft_nodes place ≡ Some (Play card draft_place) → IsTried drafts know (card ∷ others) (Some (At place))
+    tried_some draft_place place answer there history more knows less =
+        let after = some_after drafts know (Own (move.Card card)) draft_place
+        (answer_after drafts know next (Own (move.Card card)) (Some draft_place) step answer) history more knows less in (
+          Some (Plays card after.0),
+          (At place, refl, (place, draft_place, refl, there, after.1)),
+          (Some after.0, after.2, refl),
+        )
+
+    pub tried_next : (found : Option DraftPlace) → IsAnswer drafts next None → IsTried drafts know others found → IsTried drafts know (card ∷ others) found
+    tried_next found answer tried history more knows less =
+        let after = none_after drafts know (Own (move.Card card)) (answer_after drafts know next (Own (move.Card card)) None step answer)
+        history more knows less in
         let later = tried history more knows less in
-        (later.0, later.1, (None, none_of here.0 here.1 here.2, later.2))
-      where
-        none_of : (tree : Option Tree) → NamesFound draft_nodes tree None → Finds more problem (Own (move.Card card) ∷ history) tree →
-            Finds more problem (Own (move.Card card) ∷ history) None
-        none_of None names finds = finds
-        none_of (Some tree) names finds = let e = names.1 in absurd cc
+        (later.0, later.1, (None, after, later.2))
 
   -- ---- the opponent
   module _ (letter : Letter) where
-    pub branch_end : (draft_nodes : List DraftNode) (can : Bool) → can ≡ false →
-        ((history : List Event) → KnowsAfter know problem history → (can ≡ true) ↔ CanShow problem history letter) →
-        IsBranch draft_nodes problem know letter (Some End)
-    branch_end draft_nodes can e exact history more knows less = (
-      Finish,
-      refl,
-      inr (λ shown. both_ways can e ((exact history knows).1 shown), refl),
+    pub branch_end : (can : Bool) → can ≡ false →
+        ((history : List Event) → KnowsAfter know drafts.problem history → (can ≡ true) ↔ CanShow drafts.problem history letter) →
+        IsBranch drafts know letter (Some End)
+    branch_end can e exact history more knows less = (Finish, refl, inr (λ shown. both_ways can e ((exact history knows).1 shown), refl))
+
+    module _ (next : Knowledge) (can : (history : List Event) → KnowsAfter know drafts.problem history → CanShow drafts.problem history letter)
+        (step : Steps drafts.problem know (Theirs letter) next) where
+      pub branch_after : (found : Option DraftPlace) → IsAnswer drafts next found → IsBranch drafts know letter found
+      branch_after None answer = λ history more knows less. (
+        can history knows,
+        none_after drafts know (Theirs letter) (answer_after drafts know next (Theirs letter) None step answer) history more knows less,
+      )
+      branch_after (Some draft_place) answer = λ history more knows less.
+          let after = some_after drafts know (Theirs letter) draft_place
+          (answer_after drafts know next (Theirs letter) (Some draft_place) step answer) history more knows less in
+          (after.0, after.1, inl (can history knows, after.2))
+
+-- the branches of some letters are named, in the order of the letters
+abbrev pub AreBranches : Drafts → Knowledge → List Letter → List DraftPlace → Type 0
+AreBranches drafts know shown draft_places =
+    (history : List Event) (more : ℕ) → KnowsAfter know drafts.problem history → turns_ahead know ≤ more →
+    (trees : List Tree) × AllZip (Names drafts.draft_nodes) trees draft_places
+    × AllZip (BranchFinds (λ further after. Finds more drafts.problem further after) drafts.problem history) shown trees
+
+branches_later : (before after : Drafts) → IsLater before after → (know : Knowledge) (shown : List Letter) (draft_places : List DraftPlace) →
+    AreBranches before know shown draft_places → AreBranches after know shown draft_places
+branches_later before after later know shown draft_places branches =
+    at_later before after later (λ problem. AreBranches (record { problem = problem; draft_nodes = after.draft_nodes }) know shown draft_places)
+    (λ history more knows less. let old = branches history more knows less in (old.0, all_later old.0 draft_places old.1, old.2))
+  where
+    all_later : (trees : List Tree) (draft_places : List DraftPlace) → AllZip (Names before.draft_nodes) trees draft_places →
+        AllZip (Names after.draft_nodes) trees draft_places
+    all_later [] [] all = tt
+    all_later [] (draft_place ∷ draft_places) all = absurd all
+    all_later (tree ∷ trees) [] all = absurd all
+    all_later (tree ∷ trees) (draft_place ∷ draft_places) all =
+        (names_more before.draft_nodes after.draft_nodes later.more tree draft_place all.0, all_later trees draft_places all.1)
+
+-- one branch more
+pub branches_more : (before after : Drafts) → IsLater before after → (know : Knowledge) (letter : Letter) (shown : List Letter)
+    (draft_places : List DraftPlace) (next : DraftPlace) → AreBranches before know shown draft_places → IsBranch after know letter (Some next) →
+    AreBranches after know (shown ++ letter ∷ []) (draft_places ++ next ∷ [])
+branches_more before after later know letter shown draft_places next branches branch history more knows less =
+    let old = branches_later before after later know shown draft_places branches history more knows less in
+    let here = branch history more knows less in (
+      old.0 ++ here.0 ∷ [],
+      zip_push (Names after.draft_nodes) old.0 draft_places here.0 next old.1 here.1,
+      zip_push (BranchFinds (λ further tree. Finds more after.problem further tree) after.problem history) shown old.0 letter here.0 old.2 here.2,
     )
+  where
+    zip_push : {X Y : Type 0} (R : X → Y → Type 0) (xs : List X) (ys : List Y) (x : X) (y : Y) → AllZip R xs ys → R x y →
+        AllZip R (xs ++ x ∷ []) (ys ++ y ∷ [])
+    zip_push R [] [] x y all last = (last, tt)
+    zip_push R [] (b ∷ ys) x y all last = absurd all
+    zip_push R (a ∷ xs) [] x y all last = absurd all
+    zip_push R (a ∷ xs) (b ∷ ys) x y all last = (all.0, zip_push R xs ys x y all.1 last)
 
-    none_of : (draft_nodes : List DraftNode) (tree : Option Tree) (more : ℕ) (history : List Event) → NamesFound draft_nodes tree None →
-        Finds more problem history tree →
-        Finds more problem history None
-    none_of draft_nodes None more history names finds = finds
-    none_of draft_nodes (Some tree) more history names finds = let e = names.1 in absurd cc
+-- the branches of all letters
+pub all_branches : (drafts : Drafts) (know : Knowledge) (place : ℕ) (shown : List Letter) (draft_places : List DraftPlace) → place ≡ 14 → shown ≡ letters →
+    AreBranches drafts know (take place shown) draft_places → AreBranches drafts know letters draft_places
+all_branches drafts know place shown draft_places end all branches =
+    let B : List Letter → Type 0 = λ xs. AreBranches drafts know xs draft_places in
+    subst B (ap (λ n. take n shown) end ∙ ap (λ (xs : List Letter). take 14 xs) all) branches
 
-    some_draft_place : (one other : DraftPlace) → Some one ≡ Some other → one ≡ other
-    some_draft_place one other e = cc
+module _ (drafts : Drafts) (know : Knowledge) where
+  -- some branch is lacking
+  pub theirs_none : know.round.asked ≡ turns.Opponent → (letter : Letter) → IsBranch drafts know letter None → IsAnswer drafts know None
+  theirs_none asked letter branch =
+      answer_for drafts know None turns.Opponent asked
+      (λ history more knows less. let here = branch history more knows less in (None, refl, inl ((letter, here.0, here.1), refl)))
 
-    some_of : (draft_nodes : List DraftNode) (draft_place : DraftPlace) (tree : Option Tree) (more : ℕ) (history : List Event) →
-        CanShow problem history letter →
-        NamesFound draft_nodes tree (Some draft_place) → Finds more problem (Theirs letter ∷ history) tree →
-        (tree : Tree) × Names draft_nodes tree draft_place × BranchFinds (λ further tree. Finds more problem further tree) problem history letter tree
-    some_of draft_nodes draft_place None more history can names finds = absurd cc
-    some_of draft_nodes draft_place (Some tree) more history can names finds =
-        let N : DraftPlace → Type 0 = λ s. Names draft_nodes tree s in
-        (tree, subst N (some_draft_place names.0 draft_place (sym names.1)) names.2, inl (can, finds))
+  module _ (draft_places now : List DraftPlace) (same : now ≡ draft_places) (branches : AreBranches drafts know letters draft_places) where
+    -- the branches name trees, one for each letter
+    pub branches_named : IsHere drafts.problem know → (trees : List Tree) × AllZip (Names drafts.draft_nodes) trees now
+    branches_named here =
+        let all = branches here.0 (turns_ahead know) here.1 (omega arith) in
+        let Z : List DraftPlace → Type 0 = λ xs. AllZip (Names drafts.draft_nodes) all.0 xs in
+        (all.0, subst Z (sym same) all.1)
 
-    module _ (can : (history : List Event) → KnowsAfter know problem history → CanShow problem history letter) (next : Knowledge)
-        (step : (history : List Event) → KnowsAfter know problem history → KnowsAfter next problem (Theirs letter ∷ history)) where
-      pub branch_after : (draft_nodes : List DraftNode) (found : Option DraftPlace) → IsAnswer draft_nodes problem next found →
-          IsBranch draft_nodes problem know letter found
-      branch_after draft_nodes None answer = λ history more knows less.
-          let falls = know_falls know next problem (Theirs letter) history knows (step history knows) in
-          let found = answer (Theirs letter ∷ history) more (step history knows) (omega (arith, less, falls)) in
-          (can history knows, none_of draft_nodes found.0 more (Theirs letter ∷ history) found.1 found.2)
-      branch_after draft_nodes (Some draft_place) answer = λ history more knows less.
-          let falls = know_falls know next problem (Theirs letter) history knows (step history knows) in
-          let found = answer (Theirs letter ∷ history) more (step history knows) (omega (arith, less, falls)) in
-          some_of draft_nodes draft_place found.0 more history (can history knows) found.1 found.2
-
-    pub lacking_here : (draft_nodes : List DraftNode) → IsBranch draft_nodes problem know letter None → IsLacking problem know
-    lacking_here draft_nodes branch history more knows less = let here = branch history more knows less in (letter, here.0, here.1)
-
-    -- one branch more
-    pub branches_more : (draft_nodes after : List DraftNode) (shown : List Letter) (draft_places : List DraftPlace) (next : DraftPlace) →
-        AreBranches draft_nodes problem know shown draft_places →
-        IsMore draft_nodes after → IsBranch after problem know letter (Some next) →
-        AreBranches after problem know (shown ++ letter ∷ []) (draft_places ++ next ∷ [])
-    branches_more draft_nodes after shown draft_places next branches more_draft_nodes branch history more knows less =
-        let before = branches history more knows less in
-        let here = branch history more knows less in (
-          before.0 ++ here.0 ∷ [],
-          zip_push (Names after) before.0 draft_places here.0 next (names_all before.0 draft_places before.1) here.1,
-          zip_push (BranchFinds (λ further tree. Finds more problem further tree) problem history) shown before.0 letter here.0 before.2 here.2,
-        )
-      where
-        zip_push : {X Y : Type 0} (R : X → Y → Type 0) (xs : List X) (ys : List Y) (x : X) (y : Y) → AllZip R xs ys → R x y →
-            AllZip R (xs ++ x ∷ []) (ys ++ y ∷ [])
-        zip_push R [] [] x y all last = (last, tt)
-        zip_push R [] (b ∷ ys) x y all last = absurd all
-        zip_push R (a ∷ xs) [] x y all last = absurd all
-        zip_push R (a ∷ xs) (b ∷ ys) x y all last = (all.0, zip_push R xs ys x y all.1 last)
-
-        names_all : (trees : List Tree) (draft_places : List DraftPlace) → AllZip (Names draft_nodes) trees draft_places →
-            AllZip (Names after) trees draft_places
-        names_all [] [] all = tt
-        names_all [] (draft_place ∷ draft_places) all = absurd all
-        names_all (tree ∷ trees) [] all = absurd all
-        names_all (tree ∷ trees) (draft_place ∷ draft_places) all =
-            (names_more draft_nodes after more_draft_nodes tree draft_place all.0, names_all trees draft_places all.1)
-
-  -- the branches of all letters
-  pub all_branches : (draft_nodes : List DraftNode) (place : ℕ) (shown : List Letter) (draft_places : List DraftPlace) → place ≡ 14 → shown ≡ letters →
-      AreBranches draft_nodes problem know (take place shown) draft_places → AreBranches draft_nodes problem know letters draft_places
-  all_branches draft_nodes place shown draft_places end all branches =
-      let B : List Letter → Type 0 = λ xs. AreBranches draft_nodes problem know xs draft_places in
-      subst B (ap (λ n. take n shown) end ∙ ap (λ (xs : List Letter). take 14 xs) all) branches
-
-  module _ (asked : know.round.asked ≡ turns.Opponent) where
-    pub theirs_none : (draft_nodes : List DraftNode) → IsLacking problem know → IsAnswer draft_nodes problem know None
-    theirs_none draft_nodes lacking history zero knows less = absurd (omega (arith, less))
-    theirs_none draft_nodes lacking history (suc more) knows less = (
-      None,
-      refl,
-      finds_from more problem history None turns.Opponent (asked_is know problem history turns.Opponent knows asked)
-          (inl (lacking history more knows (omega (arith, less)), refl)),
-    )
-
-    pub theirs_some : (draft_nodes after : List DraftNode) (draft_places now : List DraftPlace) (draft_place : DraftPlace) → now ≡ draft_places →
-        AreBranches draft_nodes problem know letters draft_places →
-        ((trees : List Tree) → AllZip (Names draft_nodes) trees now → Names after (joined_tree trees) draft_place) →
-        IsAnswer after problem know (Some draft_place)
-    theirs_some draft_nodes after draft_places now draft_place same branches names history zero knows less = absurd (omega (arith, less))
-    theirs_some draft_nodes after draft_places now draft_place same branches names history (suc more) knows less =
-        let all = branches history more knows (omega (arith, less)) in
-        let Z : List DraftPlace → Type 0 = λ xs. AllZip (Names draft_nodes) all.0 xs in (
-          Some (joined_tree all.0),
-          (draft_place, refl, names all.0 (subst Z (sym same) all.1)),
-          finds_from more problem history (Some (joined_tree all.0)) turns.Opponent (asked_is know problem history turns.Opponent knows asked)
-              (inr (all.0, all.2, refl)),
-        )
-
-  -- the branches name trees, one for each letter
-  pub branches_named : (draft_nodes : List DraftNode) (draft_places now : List DraftPlace) → now ≡ draft_places → IsHere problem know →
-      AreBranches draft_nodes problem know letters draft_places →
-      (trees : List Tree) × AllZip (Names draft_nodes) trees now
-  branches_named draft_nodes draft_places now same here branches =
-      let all = branches here.0 (turns_ahead know) here.1 (omega arith) in
-      let Z : List DraftPlace → Type 0 = λ xs. AllZip (Names draft_nodes) all.0 xs in
-      (all.0, subst Z (sym same) all.1)
+    pub theirs_some : (after : List DraftNode) (draft_place : DraftPlace) → know.round.asked ≡ turns.Opponent →
+        ((trees : List Tree) → AllZip (Names drafts.draft_nodes) trees now → Names after (joined_tree trees) draft_place) →
+        IsAnswer (record { problem = drafts.problem; draft_nodes = after }) know (Some draft_place)
+    theirs_some after draft_place asked names =
+        answer_for (record { problem = drafts.problem; draft_nodes = after }) know (Some draft_place) turns.Opponent asked
+        (λ history more knows less.
+        let all = branches history more knows less in
+        let Z : List DraftPlace → Type 0 = λ xs. AllZip (Names drafts.draft_nodes) all.0 xs in
+        (Some (joined_tree all.0), (draft_place, refl, names all.0 (subst Z (sym same) all.1)), inr (all.0, all.2, refl)))
 
 -- ---- answers
 pub ok_map : {T E : Type 0} (result : Result T E) (P Q : T → Type 0) → ((value : T) → P value → Q value) → IfOk result P → IfOk result Q
 ok_map (Ok value) P Q step ok = step value ok
 ok_map (Err error) P Q step ok = tt
 
-pub more_trans : (one two three : List DraftNode) → IsMore one two → IsMore two three → IsMore one three
-more_trans one two three first second place draft_node there = second place draft_node (first place draft_node there)
-
 -- the place of an answer is kept
-pub answer_earlier : (draft_nodes : List DraftNode) (problem : Setup) (know : Knowledge) (draft_place : DraftPlace) → IsHere problem know →
-    IsAnswer draft_nodes problem know (Some draft_place) → IsEarlier (length draft_nodes) draft_place
-answer_earlier draft_nodes problem know draft_place here answer = named (answer here.0 (turns_ahead know + 1) here.1 (omega arith)).0
-    (answer here.0 (turns_ahead know + 1) here.1 (omega arith)).1
-  where
-    named : (tree : Option Tree) → NamesFound draft_nodes tree (Some draft_place) → IsEarlier (length draft_nodes) draft_place
-    named None names = absurd cc
-    named (Some tree) names =
-        let E : DraftPlace → Type 0 = λ s. IsEarlier (length draft_nodes) s in
-        subst E (some_draft_place names.0 draft_place (sym names.1)) (draft_place_earlier draft_nodes tree names.0 names.2)
-      where
-        some_draft_place : (one other : DraftPlace) → Some one ≡ Some other → one ≡ other
-        some_draft_place one other e = cc
+pub answer_earlier : (drafts : Drafts) (know : Knowledge) (draft_place : DraftPlace) → IsHere drafts.problem know →
+    IsAnswer drafts know (Some draft_place) → IsEarlier (length drafts.draft_nodes) draft_place
+answer_earlier drafts know draft_place here answer =
+    let found = answer here.0 (turns_ahead know + 1) here.1 (omega arith) in
+    let named = some_named drafts.draft_nodes found.0 draft_place found.1 in
+    draft_place_earlier drafts.draft_nodes named.0 draft_place named.2
 
 -- a list with a first item, and the rest of it
 abbrev pub rest_of : {T : Type 0} → List T → List T
@@ -331,44 +317,24 @@ card_is problem know card here held =
     ∙ held)).0
 
 -- ---- the table
-pub answers_more : (before after : List DraftNode) (problem : Setup) (table : Knowledge → Option (Option DraftPlace)) → IsMore before after →
-    AreAnswers before problem table → AreAnswers after problem table
-answers_more before after problem table more answers = record {
-  each = λ know found here kept. λ history turns knows less.
-      let old = answers.each know found here kept history turns knows less in
-      (old.0, names old.0 found old.1, old.2);
-}
-  where
-    names : (tree : Option Tree) (found : Option DraftPlace) → NamesFound before tree found → NamesFound after tree found
-    names None found named = named
-    names (Some tree) found named = (named.0, named.1, names_more before after more tree named.0 named.2)
-
-pub no_answers : (draft_nodes : List DraftNode) (problem : Setup) (table : Knowledge → Option (Option DraftPlace)) → ((know : Knowledge) → table know ≡ None) →
-    AreAnswers draft_nodes problem table
-no_answers draft_nodes problem table none = record { each = λ know found here kept. absurd (apart found (table know) (none know) kept) }
-  where
-    apart : (found : Option DraftPlace) (value : Option (Option DraftPlace)) → value ≡ None → value ≡ Some found → ⊥
-    apart found value a b = cc
-
-pub answers_kept : (draft_nodes : List DraftNode) (problem : Setup) (know copy : Knowledge) (found : Option DraftPlace)
-    (before after : Knowledge → Option (Option DraftPlace)) →
-    copy ≡ know → IsHere problem know → IsAnswer draft_nodes problem know found → AreAnswers draft_nodes problem before →
+pub answers_kept : (drafts : Drafts) (know copy : Knowledge) (found : Option DraftPlace) (before after : Knowledge → Option (Option DraftPlace)) →
+    copy ≡ know → IsHere drafts.problem know → IsAnswer drafts know found → AreAnswers drafts before →
     ((other : Knowledge) (draft_place : Option DraftPlace) → after other ≡ Some draft_place → (before other ≡ Some draft_place) ⊎
-    ((knows_compared.ghosts.eq copy other ≡ true) × (draft_place ≡ found))) → AreAnswers draft_nodes problem after
-answers_kept draft_nodes problem know copy found before after same here answer answers kept = record {
+    ((knows_compared.ghosts.eq copy other ≡ true) × (draft_place ≡ found))) → AreAnswers drafts after
+answers_kept drafts know copy found before after same here answer answers kept = record {
   each = λ other draft_place there is.
       elim (kept other draft_place is) [
         | inl old ↦ answers.each other draft_place there old
         | inr new ↦
-            let A : Knowledge → Type 0 = λ k. IsAnswer draft_nodes problem k draft_place in
-            let B : Option DraftPlace → Type 0 = λ s. IsAnswer draft_nodes problem know s in
+            let A : Knowledge → Type 0 = λ k. IsAnswer drafts k draft_place in
+            let B : Option DraftPlace → Type 0 = λ s. IsAnswer drafts know s in
             let C : Knowledge → Type 0 = λ k. knows_compared.ghosts.eq k other ≡ true in
             subst A ((same_knows know other (known know here) (known other there)).0 (subst C same new.0)) (subst B (sym new.1) answer)
       ];
 }
   where
-    known : (k : Knowledge) → IsHere problem k → IsKnown k
-    known k there = record { problem = problem; history = there.0; knows = there.1 }
+    known : (k : Knowledge) → IsHere drafts.problem k → IsKnown k
+    known k there = record { problem = drafts.problem; history = there.0; knows = there.1 }
 
 -- a put changes the table only at its key, and a refused put does not change it
 pub kept_by : {T E : Type 0} (result : Result T E) (old new : Knowledge → Option (Option DraftPlace)) (know : Knowledge) (found : Option DraftPlace) →

@@ -19,13 +19,14 @@ use Rattle.crib_search.specs.Private.Numbers.{AreLeft, AreMarks, IsWalk, nodes_o
 use Rattle.crib_search.specs.Finder.{FindsTree, IsFound, ExceedsLimit}
 use Rattle.crib_search.specs.Winnable.{IsWinnable}
 use Rattle.crib_search.specs.Private.Ahead.{turns_ahead}
-use Rattle.crib_search.specs.Private.Search.{IsAnswer}
+use Rattle.crib_search.specs.Private.Search.{Drafts, IsAnswer}
 use Rattle.crib_play.specs.History.{Event}
 use Rattle.crib_search.proofs.TurnsAhead.{turn_falls}
 use Rattle.crib_search.proofs.Trees.{same_self}
 use Rattle.crib_search.proofs.TreeWalks.{walk_closed, leads_in}
 use Rattle.crib_search.proofs.NumberedNodes.{nodes_are, are_nodes, plan_count, are_fine, all_kept, same_count}
 use Rattle.crib_search.proofs.FoundBySide.{tree_of_finds}
+use Rattle.crib_search.proofs.FoundAfterTurns.{none_named, some_named}
 use Rattle.crib_search.proofs.LawProofs.{sure_law, none_law}
 use Rattle.crib_search.proofs.OneTree.{one_law}
 
@@ -84,74 +85,67 @@ ahead_led problem setup (event ∷ history) led =
     let before = ahead_led problem setup history led.0 in
     omega (arith, falls, before)
 
-module _ (draft_nodes : List DraftNode) (problem : Setup) (start : Knowledge) (knows : KnowsAfter start problem (played_events problem)) where
-  abbrev at : List Event
-  at = played_events problem
+module _ (problem : Setup) (drafts : Drafts) (same : drafts.problem ≡ problem) (start : Knowledge) (knows : KnowsAfter start problem (played_events problem))
+    (limit : ℕ) (found : Option DraftPlace) (answer : IsAnswer drafts start found) where
+  tree_found : (tree : Option Tree) × NamesFound drafts.draft_nodes tree found × FindsTree problem tree
+  tree_found =
+      let most = ahead_led problem knows.setup (played_events problem) (possible_led problem knows.setup (played_events problem) knows.possible) in
+      let ahead : turns_ahead start ≡ turns_ahead (knowledge_after problem (played_events problem)) = ap turns_ahead knows.knowledge in
+      let A : Setup → Type 0 = λ p. IsAnswer (record { problem = p; draft_nodes = drafts.draft_nodes }) start found in
+      let here = (subst A same answer) (played_events problem) 30 knows (omega (arith, most, ahead)) in
+      (here.0, here.1, tree_of_finds problem here.0 here.2)
 
-  less : turns_ahead start < 30
-  less =
-      let most = ahead_led problem knows.setup at (possible_led problem knows.setup at knows.possible) in
-      let same : turns_ahead start ≡ turns_ahead (knowledge_after problem at) = ap turns_ahead knows.knowledge in
-      omega (arith, most, same)
+  -- ---- no plan is found
+  module _ (none : found ≡ None) where
+    pub none_found : IsFound problem None
+    none_found =
+        let N : Option DraftPlace → Type 0 = λ f. NamesFound drafts.draft_nodes tree_found.0 f in
+        let F : Option Tree → Type 0 = λ tree. FindsTree problem tree in
+        (None, subst F (none_named drafts.draft_nodes tree_found.0 (subst N none tree_found.1)) tree_found.2, refl)
 
-  pub finds_none : IsAnswer draft_nodes problem start None → FindsTree problem None
-  finds_none answer = named (answer at 30 knows less).0 (answer at 30 knows less).1
-      (tree_of_finds problem (answer at 30 knows less).0 (answer at 30 knows less).2)
-    where
-      named : (tree : Option Tree) → NamesFound draft_nodes tree None → FindsTree problem tree → FindsTree problem None
-      named None names finds = finds
-      named (Some tree) names finds = let e = names.1 in absurd cc
+    pub none_wins : ¬ IsWinnable problem
+    none_wins = none_law problem knows.setup none_found
 
-  pub finds_some : (draft_place : DraftPlace) → IsAnswer draft_nodes problem start (Some draft_place) → (tree : Tree) × Names draft_nodes tree draft_place
-      × FindsTree problem (Some tree)
-  finds_some draft_place answer = named (answer at 30 knows less).0 (answer at 30 knows less).1
-      (tree_of_finds problem (answer at 30 knows less).0 (answer at 30 knows less).2)
-    where
-      some_draft_place : (one other : DraftPlace) → Some one ≡ Some other → one ≡ other
-      some_draft_place one other e = cc
+    pub none_exceeds : ExceedsLimit problem limit → ⊥
+    none_exceeds large = let e = one_law problem None (Some large.0) knows.setup none_found large.1 in cc
 
-      named : (tree : Option Tree) → NamesFound draft_nodes tree (Some draft_place) → FindsTree problem tree → (tree : Tree)
-          × Names draft_nodes tree draft_place ×
-          FindsTree problem (Some tree)
-      named None names finds = absurd cc
-      named (Some tree) names finds =
-          let N : DraftPlace → Type 0 = λ s. Names draft_nodes tree s in
-          (tree, subst N (some_draft_place names.0 draft_place (sym names.1)) names.2, finds)
+  -- ---- a plan is found
+  module _ (first : DraftPlace) (some : found ≡ Some first) (draft_nodes : List DraftNode) (are : draft_nodes ≡ drafts.draft_nodes) where
+    first_names : (tree : Tree) × (tree_found.0 ≡ Some tree) × Names drafts.draft_nodes tree first
+    first_names =
+        let N : Option DraftPlace → Type 0 = λ f. NamesFound drafts.draft_nodes tree_found.0 f in
+        some_named drafts.draft_nodes tree_found.0 first (subst N some tree_found.1)
 
--- ---- what an answer says
-module _ (problem : Setup) (setup : IsSetup problem) (limit : ℕ) where
-  pub is_none : FindsTree problem None → IsFound problem None
-  is_none finds = (None, finds, refl)
+    finds_first : FindsTree problem (Some first_names.0)
+    finds_first = let F : Option Tree → Type 0 = λ tree. FindsTree problem tree in subst F first_names.1 tree_found.2
 
-  pub none_says : IsFound problem None → ¬ IsWinnable problem
-  none_says found = none_law problem setup found
+    named : Names draft_nodes first_names.0 first
+    named = subst (λ (nodes : List DraftNode). Names nodes first_names.0 first) (sym are) first_names.2
 
-  pub none_small : IsFound problem None → ExceedsLimit problem limit → ⊥
-  none_small found large = let e = one_law problem None (Some large.0) setup found large.1 in cc
+    pub first_named : (tree : Tree) × Names draft_nodes tree first
+    first_named = (first_names.0, named)
 
-  pub is_some_plan : (tree : Tree) (plan : List Node) → FindsTree problem (Some tree) → plan ≡ plan_of_tree tree → IsFound problem (Some plan)
-  is_some_plan tree plan finds same = (Some tree, finds, ap (λ (nodes : List Node). Some nodes) same)
+    pub first_exceeds : ((tree : Tree) → Names draft_nodes tree first → limit < length (plan_of_tree tree)) → ExceedsLimit problem limit
+    first_exceeds more = (plan_of_tree first_names.0, (Some first_names.0, finds_first, refl), more first_names.0 named)
 
-  pub plan_sure : (plan : List Node) → IsFound problem (Some plan) → (other : List Node) → Some plan ≡ Some other → IsSure problem other
-  plan_sure plan found other e =
-      let S : List Node → Type 0 = λ nodes. IsSure problem nodes in
-      subst S (some_same plan other e) (sure_law problem plan setup found)
-    where
+    module _ (plan : List Node) (made : (tree : Tree) → Names draft_nodes tree first → plan ≡ plan_of_tree tree) where
+      pub some_found : IsFound problem (Some plan)
+      some_found = (Some first_names.0, finds_first, ap (λ (nodes : List Node). Some nodes) (made first_names.0 named))
+
       some_same : (a b : List Node) → Some a ≡ Some b → a ≡ b
       some_same a b e = cc
 
-  pub plan_small : (plan : List Node) → IsFound problem (Some plan) → length plan ≤ limit → ExceedsLimit problem limit → ⊥
-  plan_small plan found few large =
-      let same : plan ≡ large.0 = some_same plan large.0 (one_law problem (Some plan) (Some large.0) setup found large.1) in
-      let size : length plan ≡ length large.0 = ap length same in
-      let more = large.2 in
-      absurd (omega (arith, few, size, more))
-    where
-      some_same : (a b : List Node) → Some a ≡ Some b → a ≡ b
-      some_same a b e = cc
+      pub some_sure : (other : List Node) → Some plan ≡ Some other → IsSure problem other
+      some_sure other e =
+          let S : List Node → Type 0 = λ nodes. IsSure problem nodes in
+          subst S (some_same plan other e) (sure_law problem plan knows.setup some_found)
 
-  pub exceeds : (tree : Tree) → FindsTree problem (Some tree) → limit < length (plan_of_tree tree) → ExceedsLimit problem limit
-  exceeds tree finds more = (plan_of_tree tree, (Some tree, finds, refl), more)
+      pub some_exceeds : length plan ≤ limit → ExceedsLimit problem limit → ⊥
+      some_exceeds few large =
+          let size : length plan ≡ length large.0 =
+          ap length (some_same plan large.0 (one_law problem (Some plan) (Some large.0) knows.setup some_found large.1)) in
+          let more = large.2 in
+          absurd (omega (arith, few, size, more))
 
 -- a fault that is passed on
 pub err_is : {T E : Type 0} (result : Result T E) (fault large : E) → IsErrAnd result (λ y. y ≡ fault) → result ≡ Err large → fault ≡ large

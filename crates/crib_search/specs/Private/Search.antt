@@ -9,46 +9,67 @@ use Rattle.crib_play.specs.History.{Event, Theirs}
 use Rattle.crib_problem.specs.Setup.{Setup}
 use Rattle.crib_know.specs.Knowledge.{Knowledge}
 use Rattle.crib_know.specs.Hidden.{CanShow, KnowsAfter}
+use Rattle.crib_know.specs.contracts.know.KnowPartialEq.TheImpl as knows_compared
+use Rattle.indexmap.specs.IndexMap.{get}
 use Rattle.crib_search.specs.declared.nodes.DraftPlace.{DraftPlace}
 use Rattle.crib_search.specs.declared.nodes.DraftNode.{DraftNode}
 use Rattle.crib_search.specs.Trees.{Tree}
-use Rattle.crib_search.specs.Private.Nodes.{Names, NamesFound}
+use Rattle.crib_search.specs.declared.table.FoundTable.{FoundTable}
+use Rattle.crib_search.specs.Private.Nodes.{IsMore, Names, NamesFound}
 use Rattle.crib_search.specs.Finder.{Tries, BranchFinds, Finds}
 use Rattle.crib_search.specs.Private.Ahead.{turns_ahead}
+
+-- what a search has so far: its problem, and the nodes that it keeps of plans in the making
+pub record Drafts : Type 0 where
+  pub problem : Setup
+  pub draft_nodes : List DraftNode
+
+-- the search has come further: its problem is the same, and each kept node stays at its place
+pub record IsLater (before after : Drafts) : Type 0 where
+  pub same : after.problem ≡ before.problem
+  pub more : IsMore before.draft_nodes after.draft_nodes
 
 -- the knowledge is what the owner knows after some history of the problem
 abbrev pub IsHere : Setup → Knowledge → Type 0
 IsHere problem know = (history : List Event) × KnowsAfter know problem history
 
--- for each history that the knowledge belongs to, a tree or none is found, and the answer names it
-abbrev pub IsAnswer : List DraftNode → Setup → Knowledge → Option DraftPlace → Type 0
-IsAnswer draft_nodes problem know found =
-    (history : List Event) (more : ℕ) → KnowsAfter know problem history → turns_ahead know < more →
-    (tree : Option Tree) × NamesFound draft_nodes tree found × Finds more problem history tree
+-- what is known after a visible turn, whatever came before it
+abbrev pub Steps : Setup → Knowledge → Event → Knowledge → Type 0
+Steps problem know event next =
+    (history : List Event) → KnowsAfter know problem history → KnowsAfter next problem (event ∷ history)
 
--- each answer that the table has for a knowledge of the problem is right
-pub record AreAnswers (draft_nodes : List DraftNode) (problem : Setup)
-    (table : Knowledge → Option (Option DraftPlace)) : Type 0 where
-  pub each : (know : Knowledge) (found : Option DraftPlace) → IsHere problem know → table know ≡ Some found →
-      IsAnswer draft_nodes problem know found
+-- for each history that the knowledge belongs to, a tree or none is found, and the answer names it
+abbrev pub IsAnswer : Drafts → Knowledge → Option DraftPlace → Type 0
+IsAnswer drafts know found =
+    (history : List Event) (more : ℕ) → KnowsAfter know drafts.problem history → turns_ahead know < more →
+    (tree : Option Tree) × NamesFound drafts.draft_nodes tree found × Finds more drafts.problem history tree
+
+-- the answer that a table has for a knowledge
+abbrev pub answer_in : {A : Type 0} → FoundTable A → Knowledge → Option (Option DraftPlace)
+answer_in table = get knows_compared.ghosts.eq table.found
+
+-- each answer that a table has for a knowledge of the problem is right
+pub record AreAnswers (drafts : Drafts) (answers : Knowledge → Option (Option DraftPlace)) : Type 0 where
+  pub each : (know : Knowledge) (found : Option DraftPlace) → IsHere drafts.problem know → answers know ≡ Some found →
+      IsAnswer drafts know found
 
 -- the same as `IsAnswer`, where the owner tries some cards in their order
-abbrev pub IsTried : List DraftNode → Setup → Knowledge → List ℕ → Option DraftPlace → Type 0
-IsTried draft_nodes problem know cards found =
-    (history : List Event) (more : ℕ) → KnowsAfter know problem history → turns_ahead know ≤ more →
-    (tree : Option Tree) × NamesFound draft_nodes tree found
-    × Tries (λ further after. Finds more problem further after) history cards tree
+abbrev pub IsTried : Drafts → Knowledge → List ℕ → Option DraftPlace → Type 0
+IsTried drafts know cards found =
+    (history : List Event) (more : ℕ) → KnowsAfter know drafts.problem history → turns_ahead know ≤ more →
+    (tree : Option Tree) × NamesFound drafts.draft_nodes tree found
+    × Tries (λ further after. Finds more drafts.problem further after) history cards tree
 
 -- the answer for a letter is right: it names the branch, or it is none, the letter can be shown, and no tree is found
 -- after it
-abbrev pub IsBranch : List DraftNode → Setup → Knowledge → Letter → Option DraftPlace → Type 0
-IsBranch draft_nodes problem know letter None =
-    (history : List Event) (more : ℕ) → KnowsAfter know problem history → turns_ahead know ≤ more →
-    CanShow problem history letter × Finds more problem (Theirs letter ∷ history) None
-IsBranch draft_nodes problem know letter (Some draft_place) =
-    (history : List Event) (more : ℕ) → KnowsAfter know problem history → turns_ahead know ≤ more →
-    (tree : Tree) × Names draft_nodes tree draft_place
-    × BranchFinds (λ further after. Finds more problem further after) problem history letter tree
+abbrev pub IsBranch : Drafts → Knowledge → Letter → Option DraftPlace → Type 0
+IsBranch drafts know letter None =
+    (history : List Event) (more : ℕ) → KnowsAfter know drafts.problem history → turns_ahead know ≤ more →
+    CanShow drafts.problem history letter × Finds more drafts.problem (Theirs letter ∷ history) None
+IsBranch drafts know letter (Some draft_place) =
+    (history : List Event) (more : ℕ) → KnowsAfter know drafts.problem history → turns_ahead know ≤ more →
+    (tree : Tree) × Names drafts.draft_nodes tree draft_place
+    × BranchFinds (λ further after. Finds more drafts.problem further after) drafts.problem history letter tree
 
 -- whether a card is left to the owner and fits
 abbrev pub may_play : Knowledge → ℕ → Bool

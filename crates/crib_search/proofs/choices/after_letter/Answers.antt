@@ -6,13 +6,13 @@ use Rattle.crib_know.proofs.OwnCalls.{moved}
 use Rattle.crib_search.proofs.choices.after_letter.Goals as goal
 
 pub returns-in-Seen : goal.returns-in-Seen
-returns-in-Seen c = λ history knows.
-    let K : Letter → Type 0 = λ letter. KnowsAfter c.saw_play.new.self c.args.problem.now (Theirs letter ∷ history) in
+returns-in-Seen c = λ problem history knows.
+    let K : Letter → Type 0 = λ letter. KnowsAfter c.saw_play.new.self problem (Theirs letter ∷ history) in
     subst K (sym c.in-Seen.is)
-    (c.saw_play.ensures c.args.problem.now history (moved c.copy-next.result c.args.know.now c.args.problem.now history c.copy-next.ensures knows))
+    (c.saw_play.ensures problem history (moved c.copy-next.result c.args.know.now problem history c.copy-next.ensures knows))
 
 pub returns-in-Go : goal.returns-in-Go
-returns-in-Go c = λ history knows.
-    let K : Letter → Type 0 = λ letter. KnowsAfter c.saw_go.new.self c.args.problem.now (Theirs letter ∷ history) in
+returns-in-Go c = λ problem history knows.
+    let K : Letter → Type 0 = λ letter. KnowsAfter c.saw_go.new.self problem (Theirs letter ∷ history) in
     subst K (sym c.in-Go.is)
-    (c.saw_go.ensures c.args.problem.now history (moved c.copy-next.result c.args.know.now c.args.problem.now history c.copy-next.ensures knows))
+    (c.saw_go.ensures problem history (moved c.copy-next.result c.args.know.now problem history c.copy-next.ensures knows))

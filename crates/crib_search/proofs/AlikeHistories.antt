@@ -6,10 +6,11 @@ use Rattle.crib_cards.specs.Cards.{rank_of, rank_value, card_value}
 use Rattle.crib_cards.specs.Sets.{has, are_distinct, count_rank}
 use Rattle.crib_cards.specs.Letters.{letter_of}
 use Rattle.crib_cards.specs.Start.{pone_of}
-use Rattle.crib_cards.specs.declared.sides.Side.TheVariants.{Opponent}
+use Rattle.crib_cards.specs.Sides.{same_side}
+use Rattle.crib_cards.specs.declared.sides.Side.{Side}
+use Rattle.crib_cards.specs.declared.sides.Side.TheVariants.{Owner, Opponent}
 use Rattle.crib_cards.specs.declared.letters.Letter.{Letter}
 use Rattle.crib_cards.specs.declared.letters.Letter.TheVariants.{Seen, Go}
-use Rattle.crib_cards.specs.declared.moves.Move.{Move}
 use Rattle.crib_cards.specs.declared.moves.Move.TheVariants as move
 use Rattle.crib_cards.proofs.SetFacts.{in_set_where}
 use Rattle.crib_play.specs.Record.{count_of, pile_of}
@@ -32,90 +33,53 @@ use Rattle.crib_search.proofs.Options.{IsOption}
 use Rattle.crib_cards.proofs.Members.{distinct_left}
 use Rattle.crib_cards.proofs.SetCounts.{count_cons}
 
+-- an event without the suit of a card of the owner
+abbrev pub sight_of : Event → Side × Letter
+sight_of (Own turn) = (Owner, letter_of turn)
+sight_of (Theirs letter) = (Opponent, letter)
+
 abbrev pub AreAlike : List Event → List Event → Type 0
-AreAlike [] [] = Unit {0}
-AreAlike [] (Own turn ∷ others) = ⊥
-AreAlike [] (Theirs letter ∷ others) = ⊥
-AreAlike (Own turn ∷ history) [] = ⊥
-AreAlike (Own turn ∷ history) (Own other ∷ others) = AreAlike history others × (letter_of turn ≡ letter_of other)
-AreAlike (Own turn ∷ history) (Theirs letter ∷ others) = ⊥
-AreAlike (Theirs letter ∷ history) [] = ⊥
-AreAlike (Theirs letter ∷ history) (Own turn ∷ others) = ⊥
-AreAlike (Theirs letter ∷ history) (Theirs other ∷ others) = AreAlike history others × (letter ≡ other)
+AreAlike one other = map sight_of one ≡ map sight_of other
 
-pub alike_self : (history : List Event) → AreAlike history history
-alike_self [] = tt
-alike_self (Own turn ∷ history) = (alike_self history, refl)
-alike_self (Theirs letter ∷ history) = (alike_self history, refl)
-
-pub alike_back : (one other : List Event) → AreAlike one other → AreAlike other one
-alike_back [] [] alike = tt
-alike_back [] (Own turn ∷ others) alike = absurd alike
-alike_back [] (Theirs letter ∷ others) alike = absurd alike
-alike_back (Own turn ∷ history) [] alike = absurd alike
-alike_back (Own turn ∷ history) (Own other ∷ others) alike = (alike_back history others alike.0, sym alike.1)
-alike_back (Own turn ∷ history) (Theirs letter ∷ others) alike = absurd alike
-alike_back (Theirs letter ∷ history) [] alike = absurd alike
-alike_back (Theirs letter ∷ history) (Own turn ∷ others) alike = absurd alike
-alike_back (Theirs letter ∷ history) (Theirs other ∷ others) alike = (alike_back history others alike.0, sym alike.1)
+pub alike_more : (event twin : Event) (one other : List Event) → sight_of event ≡ sight_of twin → AreAlike one other → AreAlike (event ∷ one) (twin ∷ other)
+alike_more event twin one other same alike =
+    ap (λ (sight : Side × Letter). sight ∷ map sight_of one) same ∙ ap (λ (rest : List (Side × Letter)). sight_of twin ∷ rest) alike
 
 -- ---- what they share
-pub letters_alike : (one other : List Event) → AreAlike one other → history_letters one ≡ history_letters other
-letters_alike [] [] alike = refl
-letters_alike [] (Own turn ∷ others) alike = absurd alike
-letters_alike [] (Theirs letter ∷ others) alike = absurd alike
-letters_alike (Own turn ∷ history) [] alike = absurd alike
-letters_alike (Own turn ∷ history) (Own other ∷ others) alike =
-    ap (λ (letter : Letter). letter ∷ history_letters history) alike.1 ∙ ap (λ (rest : List Letter). letter_of other ∷ rest)
-    (letters_alike history others alike.0)
-letters_alike (Own turn ∷ history) (Theirs letter ∷ others) alike = absurd alike
-letters_alike (Theirs letter ∷ history) [] alike = absurd alike
-letters_alike (Theirs letter ∷ history) (Own turn ∷ others) alike = absurd alike
-letters_alike (Theirs letter ∷ history) (Theirs other ∷ others) alike =
-    ap (λ (letter : Letter). letter ∷ history_letters history) alike.1 ∙ ap (λ (rest : List Letter). other ∷ rest) (letters_alike history others alike.0)
+letters_seen : (history : List Event) → history_letters history ≡ map (λ sight. sight.1) (map sight_of history)
+letters_seen [] = refl
+letters_seen (Own turn ∷ history) = ap (λ (rest : List Letter). letter_of turn ∷ rest) (letters_seen history)
+letters_seen (Theirs letter ∷ history) = ap (λ (rest : List Letter). letter ∷ rest) (letters_seen history)
 
--- the ranks that a letter adds
+pub letters_alike : (one other : List Event) → AreAlike one other → history_letters one ≡ history_letters other
+letters_alike one other alike = letters_seen one ∙ ap (map (λ sight. sight.1)) alike ∙ sym (letters_seen other)
+
+-- the ranks that a side has shown
 abbrev ranks_with : Letter → List ℕ → List ℕ
 ranks_with (Seen rank) ranks = rank ∷ ranks
 ranks_with Go ranks = ranks
 
-their_with : (letter : Letter) (history : List Event) → their_ranks (Theirs letter ∷ history) ≡ ranks_with letter (their_ranks history)
-their_with (Seen rank) history = refl
-their_with Go history = refl
+abbrev ranks_by : Side → List (Side × Letter) → List ℕ
+ranks_by side [] = []
+ranks_by side (sight ∷ rest) = cond (same_side sight.0 side) (ranks_with sight.1 (ranks_by side rest)) (ranks_by side rest)
 
-own_with : (turn : Move) (history : List Event) → map rank_of (own_cards (Own turn ∷ history)) ≡ ranks_with (letter_of turn) (map rank_of (own_cards history))
-own_with (move.Card card) history = refl
-own_with move.Go history = refl
+theirs_seen : (history : List Event) → their_ranks history ≡ ranks_by Opponent (map sight_of history)
+theirs_seen [] = refl
+theirs_seen (Own turn ∷ history) = theirs_seen history
+theirs_seen (Theirs (Seen rank) ∷ history) = ap (λ (rest : List ℕ). rank ∷ rest) (theirs_seen history)
+theirs_seen (Theirs Go ∷ history) = theirs_seen history
 
 pub theirs_alike : (one other : List Event) → AreAlike one other → their_ranks one ≡ their_ranks other
-theirs_alike [] [] alike = refl
-theirs_alike [] (Own turn ∷ others) alike = absurd alike
-theirs_alike [] (Theirs letter ∷ others) alike = absurd alike
-theirs_alike (Own turn ∷ history) [] alike = absurd alike
-theirs_alike (Own turn ∷ history) (Own other ∷ others) alike = theirs_alike history others alike.0
-theirs_alike (Own turn ∷ history) (Theirs letter ∷ others) alike = absurd alike
-theirs_alike (Theirs letter ∷ history) [] alike = absurd alike
-theirs_alike (Theirs letter ∷ history) (Own turn ∷ others) alike = absurd alike
-theirs_alike (Theirs letter ∷ history) (Theirs other ∷ others) alike =
-    their_with letter history
-    ∙ ap (λ (l : Letter). ranks_with l (their_ranks history)) alike.1
-    ∙ ap (ranks_with other) (theirs_alike history others alike.0)
-    ∙ sym (their_with other others)
+theirs_alike one other alike = theirs_seen one ∙ ap (ranks_by Opponent) alike ∙ sym (theirs_seen other)
+
+owns_seen : (history : List Event) → map rank_of (own_cards history) ≡ ranks_by Owner (map sight_of history)
+owns_seen [] = refl
+owns_seen (Own (move.Card card) ∷ history) = ap (λ (rest : List ℕ). rank_of card ∷ rest) (owns_seen history)
+owns_seen (Own move.Go ∷ history) = owns_seen history
+owns_seen (Theirs letter ∷ history) = owns_seen history
 
 owns_alike : (one other : List Event) → AreAlike one other → map rank_of (own_cards one) ≡ map rank_of (own_cards other)
-owns_alike [] [] alike = refl
-owns_alike [] (Own turn ∷ others) alike = absurd alike
-owns_alike [] (Theirs letter ∷ others) alike = absurd alike
-owns_alike (Own turn ∷ history) [] alike = absurd alike
-owns_alike (Own turn ∷ history) (Own other ∷ others) alike =
-    own_with turn history
-    ∙ ap (λ (l : Letter). ranks_with l (map rank_of (own_cards history))) alike.1
-    ∙ ap (ranks_with (letter_of other)) (owns_alike history others alike.0)
-    ∙ sym (own_with other others)
-owns_alike (Own turn ∷ history) (Theirs letter ∷ others) alike = absurd alike
-owns_alike (Theirs letter ∷ history) [] alike = absurd alike
-owns_alike (Theirs letter ∷ history) (Own turn ∷ others) alike = absurd alike
-owns_alike (Theirs letter ∷ history) (Theirs other ∷ others) alike = owns_alike history others alike.0
+owns_alike one other alike = owns_seen one ∙ ap (ranks_by Owner) alike ∙ sym (owns_seen other)
 
 -- the owner's four cards are different
 hold_apart : (problem : Setup) → IsSetup problem → are_distinct problem.hold ≡ true

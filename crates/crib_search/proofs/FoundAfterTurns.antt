@@ -31,6 +31,7 @@ use Rattle.crib_know.specs.contracts.know.KnowPartialEq.TheImpl as knows_compare
 use Rattle.crib_search.proofs.TurnsAhead.{turn_falls}
 use Rattle.crib_know.proofs.Equality.{same_knows}
 use Rattle.crib_search.proofs.JoinedTrees.{draft_place_earlier}
+use Rattle.crib_search.proofs.Trees.{some_same}
 use Rattle.crib_search.proofs.KeptNodes.{names_more}
 
 -- ---- a search that has come further
@@ -72,8 +73,7 @@ pub some_named : (draft_nodes : List DraftNode) (tree : Option Tree) (draft_plac
     (found : Tree) × (tree ≡ Some found) × Names draft_nodes found draft_place
 some_named draft_nodes None draft_place names = absurd cc
 some_named draft_nodes (Some tree) draft_place names =
-    let same : names.0 ≡ draft_place = let e = names.1 in cc in
-    (tree, refl, subst (λ place. Names draft_nodes tree place) same names.2)
+    (tree, refl, subst (λ place. Names draft_nodes tree place) (some_same names.0 draft_place (sym names.1)) names.2)
 
 -- ---- one turn further
 pub know_falls : (know next : Knowledge) (problem : Setup) (event : Event) (history : List Event) → KnowsAfter know problem history →
@@ -345,9 +345,6 @@ pub kept_by : {T E : Type 0} (result : Result T E) (old new : Knowledge → Opti
     (old other ≡ Some draft_place) ⊎ ((knows_compared.ghosts.eq know other ≡ true) × (draft_place ≡ found))
 kept_by (Ok value) old new know found U W put same ok err other draft_place e = by (knows_compared.ghosts.eq know other) refl
   where
-    some_same : (a b : Option DraftPlace) → Some a ≡ Some b → a ≡ b
-    some_same a b h = cc
-
     by : (b : Bool) → knows_compared.ghosts.eq know other ≡ b → (old other ≡ Some draft_place)
         ⊎ ((knows_compared.ghosts.eq know other ≡ true) × (draft_place ≡ found))
     by true is = inr (is, some_same draft_place found (sym e ∙ put ok other ∙ ap (λ (c : Bool). cond c (Some found) (old other)) is))

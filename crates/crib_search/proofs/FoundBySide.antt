@@ -29,6 +29,12 @@ for_turn more problem history found turn e finds =
     let F : Turn → Type 0 = λ t. FindsFor t (λ further after. Finds more problem further after) problem history found in
     subst F e finds
 
+-- the same at any bound: something is found only at one that is not zero
+pub for_asked : (more : ℕ) (problem : Setup) (history : List Event) (found : Option Tree) (turn : Turn) → asked_now problem history ≡ turn →
+    Finds more problem history found → (less : ℕ) × FindsFor turn (λ further after. Finds less problem further after) problem history found
+for_asked zero problem history found turn e finds = absurd finds
+for_asked (suc more) problem history found turn e finds = (more, for_turn more problem history found turn e finds)
+
 -- ---- the owner
 -- a tree that the owner finds plays one of the cards
 pub tries_some : (finds : Found) (history : List Event) (cards : List ℕ) (tree : Tree) → Tries finds history cards (Some tree) →

@@ -1,5 +1,5 @@
 -- A plan that stands for the tree that is found is sure.
-use Rattle.std.proofs.Common.{◌≡◌, ℕ, zero, suc, true, false, not, ◌&&◌, List, [], ◌∷◌, ◌++◌, map, Option, Some, refl, sym, ap, subst, ◌∙◌, inl, inr}
+use Rattle.std.proofs.Common.{◌≡◌, ℕ, Bool, true, false, not, ◌&&◌, List, [], ◌∷◌, ◌++◌, map, Option, Some, refl, sym, ap, subst, ◌∙◌, inl, inr}
 use Rattle.std.specs.List.{list_any}
 use Rattle.std.proofs.lemmas.List.{map-append}
 use Rattle.std.proofs.lemmas.Bool.{cases_Bool, cond-true, and_parts, and_from, both_ways, not-true}
@@ -36,13 +36,14 @@ use Rattle.crib_know.proofs.LedHistories.{IsLed}
 use Rattle.crib_know.proofs.Deals.{dealt_is}
 use Rattle.crib_check.specs.Sure.{IsFollowed, IsSure}
 use Rattle.crib_search.specs.Trees.{Tree, Plays}
-use Rattle.crib_search.specs.Finder.{Found, full_behind, options, OwnerFinds, Finds, FindsTree}
+use Rattle.crib_search.specs.Finder.{Found, options, OwnerFinds, Finds, FindsTree}
 use Rattle.crib_check.specs.Private.Histories.{place_by, IsStatedEvent, FollowsBy}
 use Rattle.crib_check.proofs.PlaceByHistory.{begun_late, place_at_start, place_later, place_history, follows_to}
 use Rattle.crib_search.proofs.Options.{IsOption, option_is, no_option, option_left, none_left}
 use Rattle.crib_search.proofs.RecordHistories.{letters_whole, led_by_record, agrees_of_record, is_whole, shown_by, left_of, fits_past}
 use Rattle.crib_search.proofs.PlacesOfTrees.{Stands, Does, joined_does}
-use Rattle.crib_search.proofs.FoundBySide.{finds_of_tree, for_turn, tries_some, shown_asked, branch_found, opponent_some}
+use Rattle.crib_search.proofs.Trees.{some_same}
+use Rattle.crib_search.proofs.FoundBySide.{finds_of_tree, for_asked, tries_some, shown_asked, branch_found, opponent_some}
 use Rattle.crib_cards.proofs.Members.{has_here}
 use Rattle.crib_show.proofs.Jacks.{any_found}
 
@@ -91,12 +92,9 @@ module _ (problem : Setup) (setup : IsSetup problem) (plan : List Node) where
       }
 
   stated_at : (history : List Event) → At history → asked_now problem history ≡ turns.Owner → (card : ℕ) → IsOption problem history card → Stated history
-  stated_at history at asked card is = in_more at.more at.finds
-    where
-      in_more : (more : ℕ) → Finds more problem history (Some at.tree) → Stated history
-      in_more zero finds = absurd finds
-      in_more (suc more) finds =
-          stated_in history more at.tree (options problem history) refl card is (for_turn more problem history (Some at.tree) turns.Owner asked finds) at.does
+  stated_at history at asked card is =
+      let now = for_asked at.more problem history (Some at.tree) turns.Owner asked at.finds in
+      stated_in history now.0 at.tree (options problem history) refl card is now.1 at.does
 
   -- ---- one turn further
   own_card_at : (history : List Event) → BeginsAfter problem history → (card : ℕ) → Stated history → stated_card plan (place_by plan problem.played history)
@@ -112,13 +110,11 @@ module _ (problem : Setup) (setup : IsSetup problem) (plan : List Node) where
         does = inr (subst S (sym (place_later plan problem (Own (move.Card card)) history begun
             ∙ ap (λ (node : Option Node). after_play node (place_by plan problem.played history)) stated.node)) stated.stands);
       }
-    where
-      some_same : (a b : ℕ) → Some a ≡ Some b → a ≡ b
-      some_same a b e = cc
 
   own_go_at : (history : List Event) → BeginsAfter problem history → At history → asked_now problem history ≡ turns.Owner →
       ((card : ℕ) → IsOption problem history card → ⊥) → At (Own move.Go ∷ history)
-  own_go_at history begun at asked none = in_more at.more at.finds
+  own_go_at history begun at asked none =
+      let now = for_asked at.more problem history (Some at.tree) turns.Owner asked at.finds in goes now.0 (options problem history) refl now.1
     where
       goes : (more : ℕ) (cards : List ℕ) → options problem history ≡ cards → OwnerFinds (λ further after. Finds more problem further after) history cards
           (Some at.tree) → At (Own move.Go ∷ history)
@@ -128,30 +124,22 @@ module _ (problem : Setup) (setup : IsSetup problem) (plan : List Node) where
       goes more (first ∷ cards) e finds =
           absurd (none first (option_is problem history first (ap (λ (xs : List ℕ). has xs first) e ∙ has_here first cards)))
 
-      in_more : (more : ℕ) → Finds more problem history (Some at.tree) → At (Own move.Go ∷ history)
-      in_more zero finds = absurd finds
-      in_more (suc more) finds = goes more (options problem history) refl (for_turn more problem history (Some at.tree) turns.Owner asked finds)
-
   theirs_at : (history : List Event) → BeginsAfter problem history → (letter : Letter) → At history → CanShow problem history letter →
       At (Theirs letter ∷ history)
-  theirs_at history begun letter at can = in_more at.more at.finds
-    where
-      in_more : (more : ℕ) → Finds more problem history (Some at.tree) → At (Theirs letter ∷ history)
-      in_more zero finds = absurd finds
-      in_more (suc more) finds =
-          let find : Found = λ further after. Finds more problem further after in
-          let some = opponent_some find problem history at.tree (for_turn more problem history (Some at.tree) turns.Opponent
-          (shown_asked problem setup history letter can) finds) in
-          let branch = branch_found problem setup history find some.0 letter can some.1 in
-          let D : Tree → Type 0 = λ t. Does plan t (place_by plan problem.played history) in
-          let P : Next → Type 0 = λ place. Does plan branch.0 place in
-          record {
-            more = more;
-            tree = branch.0;
-            finds = branch.2;
-            does = subst P (sym (place_later plan problem (Theirs letter) history begun))
-                (joined_does plan some.0 letter branch.0 branch.1 (place_by plan problem.played history) (subst D some.2 at.does));
-          }
+  theirs_at history begun letter at can =
+      let now = for_asked at.more problem history (Some at.tree) turns.Opponent (shown_asked problem setup history letter can) at.finds in
+      let find : Found = λ further after. Finds now.0 problem further after in
+      let some = opponent_some find problem history at.tree now.1 in
+      let branch = branch_found problem setup history find some.0 letter can some.1 in
+      let D : Tree → Type 0 = λ t. Does plan t (place_by plan problem.played history) in
+      let P : Next → Type 0 = λ place. Does plan branch.0 place in
+      record {
+        more = now.0;
+        tree = branch.0;
+        finds = branch.2;
+        does = subst P (sym (place_later plan problem (Theirs letter) history begun))
+            (joined_does plan some.0 letter branch.0 branch.1 (place_by plan problem.played history) (subst D some.2 at.does));
+      }
 
   module _ (tree : Tree) (found : FindsTree problem (Some tree)) (stands : Stands plan tree (plan_start plan)) where
     -- the same after every history that can come and follows the plan
@@ -200,16 +188,10 @@ module _ (problem : Setup) (setup : IsSetup problem) (plan : List Node) where
           ap (asked_after start) (sym whole) ∙ cond-true (is_done start (letters_of played)) turns.Over
           (side_asked (mover (pone_of start) (letters_of played))) done in
           ap (λ (letters : Record). outcome_of (full_with problem dealt (scores_after start letters))) whole
-          ∙ in_more at_record.more over at_record.finds
-        where
-          in_more : (more : ℕ) → asked_now problem history ≡ turns.Over → Finds more problem history (Some at_record.tree) →
-              outcome_of (full_behind problem history dealt) ≡ Reached
-          in_more zero over finds = absurd finds
-          in_more (suc more) over finds =
-              elim (for_turn more problem history (Some at_record.tree) turns.Over over finds) [
-                | inl all ↦ all.0 dealt (agrees_of_record problem setup dealt followed.deal played followed.legal)
-                | inr lacks ↦ let e = lacks.1 in absurd cc
-              ]
+          ∙ (elim (for_asked at_record.more problem history (Some at_record.tree) turns.Over over at_record.finds).1 [
+            | inl all ↦ all.0 dealt (agrees_of_record problem setup dealt followed.deal played followed.legal)
+            | inr lacks ↦ let e = lacks.1 in absurd cc
+          ])
 
       -- ---- a record where a card of the owner fits
       module _ (card : ℕ) (not_done : is_done start (letters_of played) ≡ false) (mine : mover (pone_of start) (letters_of played) ≡ Owner)
@@ -253,18 +235,16 @@ module _ (problem : Setup) (setup : IsSetup problem) (plan : List Node) where
           elim (cases_Bool (is_stuck plan problem.played start hands played)) [
             | inr e ↦ e
             | inl stuck ↦
-                let last = and_parts (not (is_done start (letters_of played)) && same_side (mover (pone_of start) (letters_of played)) Owner
-                && list_any (fits played) (cards_left hands Owner played))
-                (not (is_playable hands played (stated_card plan (place_of plan problem.played (pone_of start) played)))) stuck in
-                let some = and_parts (not (is_done start (letters_of played)) && same_side (mover (pone_of start) (letters_of played)) Owner)
-                (list_any (fits played) (cards_left hands Owner played)) last.0 in
-                let first = and_parts (not (is_done start (letters_of played))) (same_side (mover (pone_of start) (letters_of played)) Owner) some.0 in
-                let found = any_found (fits played) (cards_left hands Owner played) some.1 in
-                absurd
-                (both_ways (is_playable hands played (stated_card plan (place_of plan problem.played (pone_of start) played)))
-                (not-true (is_playable hands played (stated_card plan (place_of plan problem.played (pone_of start) played))) last.1)
-                (playable found.0 (not-true (is_done start (letters_of played)) first.0) (same_is (mover (pone_of start) (letters_of played)) Owner first.1)
-                found.1 found.2))
+                let done : Bool = is_done start (letters_of played) in
+                let owner : Bool = same_side (mover (pone_of start) (letters_of played)) Owner in
+                let some : Bool = list_any (fits played) (cards_left hands Owner played) in
+                let plays : Bool = is_playable hands played (stated_card plan (place_of plan problem.played (pone_of start) played)) in
+                let last = and_parts (not done && owner && some) (not plays) stuck in
+                let both = and_parts (not done && owner) some last.0 in
+                let first = and_parts (not done) owner both.0 in
+                let found = any_found (fits played) (cards_left hands Owner played) both.1 in
+                absurd (both_ways plays (not-true plays last.1)
+                (playable found.0 (not-true done first.0) (same_is (mover (pone_of start) (letters_of played)) Owner first.1) found.1 found.2))
           ]
 
     pub sure_from : IsSure problem plan

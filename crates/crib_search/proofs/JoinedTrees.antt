@@ -11,7 +11,7 @@ use Rattle.crib_search.specs.declared.nodes.DraftNode.TheVariants.{Play, See}
 use Rattle.crib_search.specs.Trees.{Tree, Finish, Plays, Sees, branches_of, same_tree, is_finish, is_play, joined_tree, joined_tree_from}
 use Rattle.crib_search.specs.Private.Nodes.{IsEarlier, AreKept, IsMore, Names, NameAll, first_place, goes_to, is_play_at}
 use Rattle.crib_search.proofs.Trees.{same_is, same_self}
-use Rattle.crib_search.proofs.KeptNodes.{all_more, names_tree, names_draft_place}
+use Rattle.crib_search.proofs.KeptNodes.{all_more, names_tree, names_draft_place, same_place}
 
 abbrev goes_on : Tree → Bool
 goes_on tree = not (is_finish tree)
@@ -28,15 +28,12 @@ module _ (draft_nodes : List DraftNode) where
   node_goes_on (Plays card next) place names = refl
   node_goes_on (Sees branches) place names = refl
 
-  same_at : (place other : ℕ) → At place ≡ At other → place ≡ other
-  same_at place other e = cc
-
   node_within : (tree : Tree) (place : ℕ) → Names draft_nodes tree (At place) → place < length draft_nodes
   node_within Finish place names = absurd cc
   node_within (Plays card next) place names =
-      let e = same_at place names.0 names.2 in let h = slice_get_within draft_nodes names.0 (Play card names.1) names.3 in omega (arith, e, h)
+      let e = same_place place names.0 names.2 in let h = slice_get_within draft_nodes names.0 (Play card names.1) names.3 in omega (arith, e, h)
   node_within (Sees branches) place names =
-      let e = same_at place names.0 names.2 in let h = slice_get_within draft_nodes names.0 (See names.1) names.3 in omega (arith, e, h)
+      let e = same_place place names.0 names.2 in let h = slice_get_within draft_nodes names.0 (See names.1) names.3 in omega (arith, e, h)
 
   pub draft_place_earlier : (tree : Tree) (draft_place : DraftPlace) → Names draft_nodes tree draft_place → IsEarlier (length draft_nodes) draft_place
   draft_place_earlier tree End names = tt
@@ -45,8 +42,8 @@ module _ (draft_nodes : List DraftNode) where
   play_is : (tree : Tree) (place : ℕ) → Names draft_nodes tree (At place) → is_play tree ≡ is_play_at (slice_get draft_nodes place)
   play_is Finish place names = absurd cc
   play_is (Plays card next) place names =
-      ap is_play_at (sym names.3) ∙ ap (λ (n : ℕ). is_play_at (slice_get draft_nodes n)) (sym (same_at place names.0 names.2))
-  play_is (Sees branches) place names = ap is_play_at (sym names.3) ∙ ap (λ (n : ℕ). is_play_at (slice_get draft_nodes n)) (sym (same_at place names.0 names.2))
+      ap is_play_at (sym names.3) ∙ ap (λ (n : ℕ). is_play_at (slice_get draft_nodes n)) (sym (same_place place names.0 names.2))
+  play_is (Sees branches) place names = ap is_play_at (sym names.3) ∙ ap (λ (n : ℕ). is_play_at (slice_get draft_nodes n)) (sym (same_place place names.0 names.2))
 
   -- ---- all places
   pub all_named : (trees : List Tree) (nexts : List DraftPlace) → AllZip (Names draft_nodes) trees nexts → NameAll draft_nodes (branches_of trees) nexts
@@ -97,7 +94,7 @@ module _ (draft_nodes : List DraftNode) where
             elim (cases_Bool (same_tree one other)) [
               | inl s ↦
                   let N : Tree → Type 0 = λ t. Names draft_nodes t (At at) in
-                  absurd (ne (same_at at place (sym (names_draft_place draft_nodes kept one (At place) (At at) a (subst N (sym (same_is one other s)) b)))))
+                  absurd (ne (same_place at place (sym (names_draft_place draft_nodes kept one (At place) (At at) a (subst N (sym (same_is one other s)) b)))))
               | inr s ↦ s ∙ sym (ne_eqb at place ne)
             ]
 

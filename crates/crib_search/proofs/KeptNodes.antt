@@ -102,7 +102,7 @@ mutual
   all_more before after more (Branch tree branches) nexts names =
       (names.0, names.1, names.2, names_more before after more tree names.0 names.3, all_more before after more branches names.1 names.4)
 
-same_place : (one other : ℕ) → At one ≡ At other → one ≡ other
+pub same_place : (one other : ℕ) → At one ≡ At other → one ≡ other
 same_place one other e = cc
 
 play_parts : (card other : ℕ) (next after : DraftPlace) → Some (Play card next) ≡ Some (Play other after) → (card ≡ other) × (next ≡ after)

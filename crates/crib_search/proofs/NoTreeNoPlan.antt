@@ -49,7 +49,7 @@ use Rattle.crib_check.proofs.RecordsFromOpening.{begun_plays}
 use Rattle.crib_search.proofs.Options.{IsOption, option_is, option_from, no_option, option_left, left_option}
 use Rattle.crib_search.proofs.RecordHistories.{letters_past, left_of, fits_past, led_by_record}
 use Rattle.crib_search.proofs.FoundBySide.{for_turn, tries_there, opponent_none}
-use Rattle.crib_search.proofs.AlikeHistories.{AreAlike, alike_self, alike_back, letters_alike, asked_alike, theirs_alike, least_alike, option_alike, show_alike}
+use Rattle.crib_search.proofs.AlikeHistories.{AreAlike, alike_more, letters_alike, asked_alike, theirs_alike, least_alike, option_alike, show_alike}
 use Rattle.crib_cards.proofs.Members.{has_here}
 use Rattle.crib_show.proofs.Jacks.{any_from}
 use Rattle.crib_check.proofs.VerdictAtStart.{not_stuck}
@@ -193,12 +193,12 @@ module _ (problem : Setup) (setup : IsSetup problem) (plan : List Node) (sure : 
         (led_one, go_may one asked (no_option problem one none)) (
           led_other,
           go_may other (asked_other turns.Owner asked)
-              (λ card is. let twin = option_alike problem setup other one (alike_back one other alike) led_other led_one card is in
+              (λ card is. let twin = option_alike problem setup other one (sym alike) led_other led_one card is in
               no_option problem one none twin.0 twin.1),
         )
         (begin_more problem (Own move.Go) one begun_one)
         (begin_more problem (Own move.Go) other begun_other)
-        (alike, refl)
+        (alike_more (Own move.Go) (Own move.Go) one other refl alike)
         (follows, λ late. tt)
 
     tries : asked_now problem one ≡ turns.Owner → (card : ℕ) → IsOption problem one card → Tries find one (options problem one) None → ⊥
@@ -206,7 +206,7 @@ module _ (problem : Setup) (setup : IsSetup problem) (plan : List Node) (sure : 
         let mine = option_alike problem setup one other alike led_one led_other card is in
         let stated = stated_at other led_other begun_other follows (asked_other turns.Owner asked) mine.0 mine.1 in
         let option = option_left problem other stated.0 stated.2.1 stated.2.2 in
-        let twin = option_alike problem setup other one (alike_back one other alike) led_other led_one stated.0 option in
+        let twin = option_alike problem setup other one (sym alike) led_other led_one stated.0 option in
         let first = option_from problem one twin.0 twin.1 in
         let fit = option_is problem one first.first first.among in
         tries_there find one (options problem one) None first.first tried first.among
@@ -217,7 +217,7 @@ module _ (problem : Setup) (setup : IsSetup problem) (plan : List Node) (sure : 
         (led_other, stated.2)
         (begin_more problem (Own (move.Card first.first)) one begun_one)
         (begin_more problem (Own (move.Card stated.0)) other begun_other)
-        (alike, ap Seen (first.same ∙ twin.2))
+        (alike_more (Own (move.Card first.first)) (Own (move.Card stated.0)) one other (ap (λ (rank : ℕ). (Owner, Seen rank)) (first.same ∙ twin.2)) alike)
         (follows, λ late. stated.1))
         refl
 
@@ -241,7 +241,7 @@ module _ (problem : Setup) (setup : IsSetup problem) (plan : List Node) (sure : 
         (led_other, show_alike problem setup one other alike led_one led_other begun_other lacks.0 lacks.1)
         (begin_more problem (Theirs lacks.0) one begun_one)
         (begin_more problem (Theirs lacks.0) other begun_other)
-        (alike, refl)
+        (alike_more (Theirs lacks.0) (Theirs lacks.0) one other refl alike)
         (follows, λ late. tt)
 
   none_after : (more : ℕ) (one other : List Event) → Finds more problem one None → IsLed problem one → IsLed problem other → BeginsAfter problem one →
@@ -255,5 +255,5 @@ module _ (problem : Setup) (setup : IsSetup problem) (plan : List Node) (sure : 
   none_is_found finds =
       let start_led = played_led problem setup in
       let begun : BeginsAfter problem (played_events problem) = record { later = []; parts = refl } in
-      none_after 30 (played_events problem) (played_events problem) finds start_led start_led begun begun (alike_self (played_events problem))
+      none_after 30 (played_events problem) (played_events problem) finds start_led start_led begun begun refl
       (follows_at_start plan problem)

@@ -2,7 +2,7 @@
 use Rattle.std.proofs.Common.{◌≡◌, ℕ, zero, suc, ◌<◌, ◌≤◌, Bool, true, false, ◌||◌, cond, eqb, is_some, List, [], ◌∷◌, ◌++◌, length, get_or, Option, Some, None}
 use Rattle.std.proofs.Common.{slice_get, refl, sym, ap, subst, ◌∙◌, inl, inr, arith}
 use Rattle.std.specs.List.{AllByRecursion}
-use Rattle.std.proofs.Math.ListN.{set}
+use Rattle.std.proofs.Math.ListN.{set, length-set}
 use Rattle.std.proofs.lemmas.List.{take_rest}
 use Rattle.std.proofs.lemmas.Bool.{cases_eq, cond-true, cond-false, eq-eqb, ne_eqb}
 use Rattle.crib_search.specs.declared.nodes.DraftPlace.{DraftPlace}
@@ -16,6 +16,7 @@ use Rattle.crib_search.proofs.WalkHeights.{height, highest}
 use Rattle.crib_search.proofs.JoinedTrees.{end_names, same_for}
 use Rattle.crib_search.proofs.FoundAfterTurns.{rest_of}
 use Rattle.crib_search.proofs.TreeWalks.{is_in}
+use Rattle.crib_search.proofs.KeptNodes.{same_place}
 
 -- ---- marks
 marked_here : (place : ℕ) (left : List ℕ) (b : Bool) (rest : Option ℕ) → is_some (cond b (Some (length left)) rest) ≡ (b || is_some rest)
@@ -47,11 +48,6 @@ get_set_other (first ∷ marks) zero (suc other) mark apart = refl
 get_set_other (first ∷ marks) (suc place) zero mark apart = refl
 get_set_other (first ∷ marks) (suc place) (suc other) mark apart = get_set_other marks place other mark (λ e. apart (ap suc e))
 
-length_set : (marks : List (Option ℕ)) (place : ℕ) (mark : Option ℕ) → length (set marks place mark) ≡ length marks
-length_set [] place mark = refl
-length_set (first ∷ marks) zero mark = refl
-length_set (first ∷ marks) (suc place) mark = ap suc (length_set marks place mark)
-
 pub marks_left : (marks : List (Option ℕ)) (place : ℕ) (left after : List ℕ) (count : ℕ) → AreMarks marks left → place < length marks → count ≡ length left →
     after ≡ place ∷ left → AreMarks (set marks place (Some count)) after
 marks_left marks place left after count are within same goes other inside =
@@ -61,7 +57,7 @@ marks_left marks place left after count are within same goes other inside =
           subst H (sym goes) (subst G e (get_set_same marks place (Some count) within ∙ ap (λ (n : ℕ). Some (Some n)) same
           ∙ ap (λ (m : Option ℕ). Some m) (sym (cond-true (eqb place place) (Some (length left)) (mark_of place left) (eq-eqb place place refl)))))
       | inr ne ↦
-          let size = length_set marks place (Some count) in
+          let size = length-set marks place (Some count) in
           subst H (sym goes)
           (get_set_other marks place other (Some count) ne ∙ are other (omega (arith, inside, size))
           ∙ ap (λ (m : Option ℕ). Some m) (sym (cond-false (eqb place other) (Some (length left)) (mark_of other left) (ne_eqb place other ne))))
@@ -110,20 +106,17 @@ module _ (draft_nodes : List DraftNode) (kept : AreKept draft_nodes) (place : �
       let G : List ℕ → Type 0 = λ xs. AreLeft draft_nodes (trees_after_walk tree trees) xs in
       subst G (sym goes) (by_tree tree names (left_in draft_nodes kept tree place names trees before left ∙ sym mark_is ∙ new))
     where
-      same_at : (one other : ℕ) → At one ≡ At other → one ≡ other
-      same_at one other e = cc
-
       by_tree : (tree : Tree) → Names draft_nodes tree (At place) → is_in tree trees ≡ false →
           AreLeft draft_nodes (trees_after_walk tree trees) (place ∷ inside)
       by_tree Finish names absent = absurd cc
       by_tree (Plays card next) names absent =
-          let at = same_at place names.0 names.2 in
+          let at = same_place place names.0 names.2 in
           let L : List Tree → Type 0 = λ xs. AreLeft draft_nodes xs (place ∷ inside) in
           let walk : IsWalk draft_nodes names.1 before inside = below (Play card names.1) (ap (slice_get draft_nodes) at ∙ names.3) in
           subst L (sym (cond-false (is_in (Plays card next) trees) trees (Plays card next ∷ trees_after_walk next trees) absent))
           (names, walk next trees names.4 left)
       by_tree (Sees branches) names absent =
-          let at = same_at place names.0 names.2 in
+          let at = same_place place names.0 names.2 in
           let L : List Tree → Type 0 = λ xs. AreLeft draft_nodes xs (place ∷ inside) in
           let walk : IsWalkAll draft_nodes names.1 before inside = below (See names.1) (ap (slice_get draft_nodes) at ∙ names.3) in
           subst L (sym (cond-false (is_in (Sees branches) trees) trees (Sees branches ∷ trees_after_walks branches trees) absent))

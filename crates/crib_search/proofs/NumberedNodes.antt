@@ -1,9 +1,9 @@
 -- The nodes that a walk numbers are the plan of the tree.
-use Rattle.std.proofs.Common.{◌≡◌, ℕ, suc, ◌+◌, ◌-◌, ◌<◌, ◌≤◌, Bool, true, false, cond, eqb, is_some, List, [], ◌∷◌, ◌++◌, length, map, get_or, drop, reverse}
+use Rattle.std.proofs.Common.{◌≡◌, ℕ, suc, ◌+◌, ◌-◌, ◌<◌, ◌≤◌, Bool, true, false, ◌||◌, cond, eqb, is_some, List, [], ◌∷◌, ◌++◌, length, map, get_or, drop, reverse}
 use Rattle.std.proofs.Common.{Option, Some, None, slice_get, add-one, append_assoc, drop-cons, length-append, refl, sym, ap, subst, ◌∙◌, inl, inr, arith}
 use Rattle.std.specs.List.{AllByRecursion, flat_map}
-use Rattle.std.proofs.lemmas.Bool.{cases_Bool, cond-true, cond-false, or_cases, or_left, or_right, both_ways}
-use Rattle.std.proofs.lemmas.List.{length-map, reverse-append}
+use Rattle.std.proofs.lemmas.Bool.{cases_Bool, cond-true, cond-false, or_left, or_right, both_ways}
+use Rattle.std.proofs.lemmas.List.{append-nil, length-map, reverse-append}
 use Rattle.std.proofs.lemmas.Option.{slice_get_within}
 use Rattle.crib_cards.specs.Cards.{IsCard}
 use Rattle.crib_plan.specs.declared.plan.Next.{Next}
@@ -19,7 +19,8 @@ use Rattle.crib_search.specs.Trees.{Tree, Finish, Plays, Sees, Branches, NoBranc
 use Rattle.crib_search.specs.Trees.{plan_of_trees}
 use Rattle.crib_search.specs.Private.Nodes.{AreKept, Names, NameAll}
 use Rattle.crib_search.specs.Private.Numbers.{AreLeft, AreMarks, mark_of, number_for, next_for, node_for, nodes_at, nodes_of_places}
-use Rattle.crib_search.proofs.Trees.{same_is}
+use Rattle.crib_search.proofs.Trees.{same_is, some_same}
+use Rattle.crib_search.proofs.KeptNodes.{same_place}
 use Rattle.crib_search.proofs.JoinedTrees.{same_for, draft_place_earlier}
 use Rattle.crib_search.proofs.NodeWalks.{left_in}
 use Rattle.crib_search.proofs.TreeWalks.{is_in, Placed, AllPlaced, Leads, IsClosed}
@@ -28,11 +29,7 @@ use Rattle.crib_search.proofs.TreeWalks.{is_in, Placed, AllPlaced, Leads, IsClos
 places_push : (draft_nodes : List DraftNode) (marks : List (Option ℕ)) (count : ℕ) (places : List ℕ) (place : ℕ) →
     nodes_of_places draft_nodes marks count (places ++ place ∷ []) ≡ nodes_of_places draft_nodes marks count places
     ++ nodes_at marks count (slice_get draft_nodes place)
-places_push draft_nodes marks count [] place = append_nil (nodes_at marks count (slice_get draft_nodes place))
-  where
-    append_nil : (xs : List Node) → xs ++ [] ≡ xs
-    append_nil [] = refl
-    append_nil (x ∷ xs) = ap (λ (rest : List Node). x ∷ rest) (append_nil xs)
+places_push draft_nodes marks count [] place = append-nil (nodes_at marks count (slice_get draft_nodes place))
 places_push draft_nodes marks count (first ∷ places) place =
     ap (λ (rest : List Node). nodes_at marks count (slice_get draft_nodes first) ++ rest) (places_push draft_nodes marks count places place)
     ∙ sym (append_assoc (nodes_at marks count (slice_get draft_nodes first)) (nodes_of_places draft_nodes marks count places)
@@ -86,9 +83,6 @@ module _ (draft_nodes : List DraftNode) (kept : AreKept draft_nodes) where
             ap (λ (b : Bool). cond b 0 (number_of tree trees + 1)) (same_for draft_nodes kept tree other place at names are.0 ∙ apart) in
             omega (arith, rest, later)
       ]
-    where
-      some_same : (a b : ℕ) → Some a ≡ Some b → a ≡ b
-      some_same a b e = cc
 
   module _ (all : List Tree) (left : List ℕ) (are : AreLeft draft_nodes all left) (marks : List (Option ℕ)) (count : ℕ) (marked : AreMarks marks left)
       (whole : length marks ≡ length draft_nodes) (counted : count ≡ length left) where
@@ -99,9 +93,6 @@ module _ (draft_nodes : List DraftNode) (kept : AreKept draft_nodes) where
         let number = number_mark tree place names all left are found.0 found.1 in
         let e : count - 1 - found.0 ≡ number_of tree all = omega (arith, number, counted) in
         ap (number_for count) (marked place (omega (arith, within, whole)) ∙ ap (λ (m : Option ℕ). Some m) found.1) ∙ ap next.To e
-
-    same_at : (one other : ℕ) → At one ≡ At other → one ≡ other
-    same_at one other e = cc
 
     next_is : (tree : Tree) (draft_place : DraftPlace) → Names draft_nodes tree draft_place → Placed tree all →
         next_for marks count draft_place ≡ place_of_tree all tree
@@ -127,10 +118,10 @@ module _ (draft_nodes : List DraftNode) (kept : AreKept draft_nodes) where
         nodes_at marks count (slice_get draft_nodes place) ≡ nodes_for all tree
     node_is Finish place names leads = absurd leads
     node_is (Plays card next) place names leads =
-        ap (nodes_at marks count) (ap (slice_get draft_nodes) (same_at place names.0 names.2) ∙ names.3)
+        ap (nodes_at marks count) (ap (slice_get draft_nodes) (same_place place names.0 names.2) ∙ names.3)
         ∙ ap (λ (n : Next). node.Play card n ∷ []) (next_is next names.1 names.4 leads)
     node_is (Sees branches) place names leads =
-        ap (nodes_at marks count) (ap (slice_get draft_nodes) (same_at place names.0 names.2) ∙ names.3)
+        ap (nodes_at marks count) (ap (slice_get draft_nodes) (same_place place names.0 names.2) ∙ names.3)
         ∙ ap (λ (ns : List Next). node.See ns ∷ []) (nexts_are branches names.1 names.4 leads)
 
     pub nodes_are : (trees : List Tree) (places : List ℕ) → AreLeft draft_nodes trees places → ((tree : Tree) → is_in tree trees ≡ true → Leads tree all) →
@@ -153,12 +144,7 @@ number_below tree (first ∷ trees) h =
       | inl here ↦ let e : number_of tree (first ∷ trees) ≡ 0 = cond-true (same_tree tree first) 0 (number_of tree trees + 1) here in omega (arith, e)
       | inr apart ↦
           let e : number_of tree (first ∷ trees) ≡ number_of tree trees + 1 = cond-false (same_tree tree first) 0 (number_of tree trees + 1) apart in
-          let there : is_in tree trees ≡ true = elim (or_cases (same_tree tree first) (is_in tree trees) h) [
-            | inl here ↦
-                absurd (both_ways (same_tree tree first) apart here)
-            | inr there ↦ there
-          ] in
-          let rest = number_below tree trees there in
+          let rest = number_below tree trees (sym (ap (λ (b : Bool). b || is_in tree trees) apart) ∙ h) in
           omega (arith, e, rest)
     ]
 

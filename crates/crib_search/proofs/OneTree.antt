@@ -13,13 +13,11 @@ use Rattle.crib_search.specs.Trees.{Tree, Plays, joined_tree, plan_of_tree}
 use Rattle.crib_search.specs.Finder.{Found, Tries, OwnerFinds, LacksBranch, BranchFinds, FindsFor, Finds, letters, options}
 use Rattle.crib_search.specs.Laws.{OneLaw}
 use Rattle.crib_search.proofs.FoundBySide.{finds_of_tree, branch_found}
+use Rattle.crib_search.proofs.Trees.{some_same}
 
 -- one answer at a history
 abbrev IsOne : Found → Type 0
 IsOne finds = (history : List Event) (one other : Option Tree) → finds history one → finds history other → one ≡ other
-
-some_one : (one other : Tree) → Some one ≡ Some other → one ≡ other
-some_one one other e = cc
 
 module _ (finds : Found) (single : IsOne finds) where
   tries_one : (history : List Event) (cards : List ℕ) (one other : Option Tree) → Tries finds history cards one → Tries finds history cards other → one ≡ other
@@ -42,7 +40,7 @@ module _ (finds : Found) (single : IsOne finds) where
   module _ (problem : Setup) (setup : IsSetup problem) (history : List Event) where
     branch_one : (letter : Letter) (one other : Tree) → BranchFinds finds problem history letter one → BranchFinds finds problem history letter other →
         one ≡ other
-    branch_one letter one other (inl a) (inl b) = some_one one other (single (Theirs letter ∷ history) (Some one) (Some other) a.1 b.1)
+    branch_one letter one other (inl a) (inl b) = some_same one other (single (Theirs letter ∷ history) (Some one) (Some other) a.1 b.1)
     branch_one letter one other (inl a) (inr b) = absurd (b.0 a.0)
     branch_one letter one other (inr a) (inl b) = absurd (a.0 b.0)
     branch_one letter one other (inr a) (inr b) = a.1 ∙ sym b.1

@@ -22,7 +22,7 @@ use Rattle.crib_search.specs.Private.Ahead.{turns_ahead}
 use Rattle.crib_search.specs.Private.Search.{Drafts, IsAnswer}
 use Rattle.crib_play.specs.History.{Event}
 use Rattle.crib_search.proofs.TurnsAhead.{turn_falls}
-use Rattle.crib_search.proofs.Trees.{same_self}
+use Rattle.crib_search.proofs.Trees.{same_self, some_same}
 use Rattle.crib_search.proofs.TreeWalks.{walk_closed, leads_in}
 use Rattle.crib_search.proofs.NumberedNodes.{nodes_are, are_nodes, plan_count, are_fine, all_kept, same_count}
 use Rattle.crib_search.proofs.FoundBySide.{tree_of_finds}
@@ -131,9 +131,6 @@ module _ (problem : Setup) (drafts : Drafts) (same : drafts.problem ≡ problem)
     module _ (plan : List Node) (made : (tree : Tree) → Names draft_nodes tree first → plan ≡ plan_of_tree tree) where
       pub some_found : IsFound problem (Some plan)
       some_found = (Some first_names.0, finds_first, ap (λ (nodes : List Node). Some nodes) (made first_names.0 named))
-
-      some_same : (a b : List Node) → Some a ≡ Some b → a ≡ b
-      some_same a b e = cc
 
       pub some_sure : (other : List Node) → Some plan ≡ Some other → IsSure problem other
       some_sure other e =

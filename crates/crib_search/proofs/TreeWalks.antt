@@ -1,5 +1,5 @@
 -- The walk of a tree, and the plan that it numbers.
-use Rattle.std.proofs.Common.{◌≡◌, ◌⊎◌, ℕ, suc, ◌+◌, ◌<◌, ◌≤◌, Bool, true, false, List, [], ◌∷◌, ◌++◌, map, Some, slice_get, add-one, refl, sym, ap, subst, ◌∙◌}
+use Rattle.std.proofs.Common.{◌≡◌, ◌⊎◌, ℕ, suc, ◌+◌, ◌<◌, ◌≤◌, Bool, true, false, ◌||◌, List, [], ◌∷◌, ◌++◌, map, Some, slice_get, add-one, refl, sym, ap, subst, ◌∙◌}
 use Rattle.std.proofs.Common.{inl, inr, arith}
 use Rattle.std.specs.List.{list_any, flat_map}
 use Rattle.std.proofs.lemmas.Bool.{cases_Bool, cond-true, cond-false, or_cases, or_left, or_right, both_ways}
@@ -170,15 +170,10 @@ module _ (all : List Tree) where
             ∙ ap (λ (nodes : List Node). slice_get (nodes ++ flat_map (nodes_for all) trees) 0) (ap (nodes_for all) (sym (same_is tree first here)) ∙ is)
         | inr other ↦
             let one = one_node first trees closed.1 in
-            let there : is_in tree trees ≡ true = elim (or_cases (same_tree tree first) (is_in tree trees) h) [
-              | inl here ↦
-                  absurd (both_ways (same_tree tree first) other here)
-              | inr there ↦ there
-            ] in
             ap (slice_get (flat_map (nodes_for all) (first ∷ trees))) (cond-false (same_tree tree first) 0 (number_of tree trees + 1) other
             ∙ add-one (number_of tree trees))
             ∙ ap (λ (nodes : List Node). slice_get (nodes ++ flat_map (nodes_for all) trees) (suc (number_of tree trees))) one.1
-            ∙ node_in trees closed.2 tree there node is
+            ∙ node_in trees closed.2 tree (sym (ap (λ (b : Bool). b || is_in tree trees) other) ∙ h) node is
       ]
 
   module _ (closed : IsClosed all) where

@@ -19,7 +19,7 @@ use Rattle.crib_know.proofs.CardsLeft.{has-filter_parts, has-filter_from}
 use Rattle.crib_know.proofs.CardLists.{has_set_from}
 use Rattle.crib_search.specs.Finder.{one_of_each_rank, options}
 use Rattle.crib_search.specs.Private.Search.{may_play}
-use Rattle.crib_search.proofs.Options.{first_has, no_option, option_left, IsOption}
+use Rattle.crib_search.proofs.Options.{other_rank, first_has, no_option, option_left, IsOption}
 use Rattle.crib_check.proofs.FailureEndings.{filter_same}
 use Rattle.crib_problem.proofs.HonestTurns.{none_any}
 
@@ -51,9 +51,6 @@ filter_push test (x ∷ cards) card =
 -- ---- one of each rank
 abbrev of_rank : ℕ → ℕ → Bool
 of_rank rank card = eqb (rank_of card) rank
-
-abbrev other_rank : ℕ → ℕ → Bool
-other_rank rank card = not (eqb (rank_of card) rank)
 
 any_kept : (rank other : ℕ) → eqb rank other ≡ false → (cards : List ℕ) → list_any (of_rank other) (filter (other_rank rank) cards) ≡ list_any
     (of_rank other) cards

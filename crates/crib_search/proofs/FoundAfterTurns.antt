@@ -318,18 +318,16 @@ card_is problem know card here held =
 
 -- ---- the table
 pub answers_kept : (drafts : Drafts) (know copy : Knowledge) (found : Option DraftPlace) (before after : Knowledge → Option (Option DraftPlace)) →
-    copy ≡ know → IsHere drafts.problem know → IsAnswer drafts know found → AreAnswers drafts before →
-    ((other : Knowledge) (draft_place : Option DraftPlace) → after other ≡ Some draft_place → (before other ≡ Some draft_place) ⊎
-    ((knows_compared.ghosts.eq copy other ≡ true) × (draft_place ≡ found))) → AreAnswers drafts after
+    copy ≡ know → IsHere drafts.problem know → IsAnswer drafts know found → AreAnswers drafts before → ((other : Knowledge) →
+    (after other ≡ before other) ⊎ ((knows_compared.ghosts.eq copy other ≡ true) × (after other ≡ Some found))) → AreAnswers drafts after
 answers_kept drafts know copy found before after same here answer answers kept = record {
   each = λ other draft_place there is.
-      elim (kept other draft_place is) [
-        | inl old ↦ answers.each other draft_place there old
+      elim (kept other) [
+        | inl old ↦ answers.each other draft_place there (sym old ∙ is)
         | inr new ↦
-            let A : Knowledge → Type 0 = λ k. IsAnswer drafts k draft_place in
-            let B : Option DraftPlace → Type 0 = λ s. IsAnswer drafts know s in
             let C : Knowledge → Type 0 = λ k. knows_compared.ghosts.eq k other ≡ true in
-            subst A ((same_knows know other (known know here) (known other there)).0 (subst C same new.0)) (subst B (sym new.1) answer)
+            subst (λ k. IsAnswer drafts k draft_place) ((same_knows know other (known know here) (known other there)).0 (subst C same new.0))
+            (subst (λ f. IsAnswer drafts know f) (some_same found draft_place (sym new.1 ∙ is)) answer)
       ];
 }
   where
@@ -337,16 +335,14 @@ answers_kept drafts know copy found before after same here answer answers kept =
     known k there = record { problem = drafts.problem; history = there.0; knows = there.1 }
 
 -- a put changes the table only at its key, and a refused put does not change it
-pub kept_by : {T E : Type 0} (result : Result T E) (old new : Knowledge → Option (Option DraftPlace)) (know : Knowledge) (found : Option DraftPlace) →
-    (U W : Type 0) →
-    (U → (other : Knowledge) → new other ≡ cond (knows_compared.ghosts.eq know other) (Some found) (old other)) →
-    (W → (other : Knowledge) → new other ≡ old other) → OnOk result U → OnErr result W → (other : Knowledge) (draft_place : Option DraftPlace) →
-    new other ≡ Some draft_place →
-    (old other ≡ Some draft_place) ⊎ ((knows_compared.ghosts.eq know other ≡ true) × (draft_place ≡ found))
-kept_by (Ok value) old new know found U W put same ok err other draft_place e = by (knows_compared.ghosts.eq know other) refl
+pub kept_by : {T E : Type 0} (result : Result T E) (old new : Knowledge → Option (Option DraftPlace)) (know : Knowledge) (found : Option DraftPlace)
+    (U W : Type 0) → (U → (other : Knowledge) → new other ≡ cond (knows_compared.ghosts.eq know other) (Some found) (old other)) →
+    (W → (other : Knowledge) → new other ≡ old other) → OnOk result U → OnErr result W → (other : Knowledge) →
+    (new other ≡ old other) ⊎ ((knows_compared.ghosts.eq know other ≡ true) × (new other ≡ Some found))
+kept_by (Ok value) old new know found U W put same ok err other = by (knows_compared.ghosts.eq know other) refl
   where
-    by : (b : Bool) → knows_compared.ghosts.eq know other ≡ b → (old other ≡ Some draft_place)
-        ⊎ ((knows_compared.ghosts.eq know other ≡ true) × (draft_place ≡ found))
-    by true is = inr (is, some_same draft_place found (sym e ∙ put ok other ∙ ap (λ (c : Bool). cond c (Some found) (old other)) is))
-    by false is = inl (sym (put ok other ∙ ap (λ (c : Bool). cond c (Some found) (old other)) is) ∙ e)
-kept_by (Err error) old new know found U W put same ok err other draft_place e = inl (sym (same err other) ∙ e)
+    by : (b : Bool) → knows_compared.ghosts.eq know other ≡ b →
+        (new other ≡ old other) ⊎ ((knows_compared.ghosts.eq know other ≡ true) × (new other ≡ Some found))
+    by true is = inr (is, put ok other ∙ ap (λ (c : Bool). cond c (Some found) (old other)) is)
+    by false is = inl (put ok other ∙ ap (λ (c : Bool). cond c (Some found) (old other)) is)
+kept_by (Err error) old new know found U W put same ok err other = inl (same err other)

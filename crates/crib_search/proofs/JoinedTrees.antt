@@ -43,7 +43,8 @@ module _ (draft_nodes : List DraftNode) where
   play_is Finish place names = absurd cc
   play_is (Plays card next) place names =
       ap is_play_at (sym names.3) ∙ ap (λ (n : ℕ). is_play_at (slice_get draft_nodes n)) (sym (same_place place names.0 names.2))
-  play_is (Sees branches) place names = ap is_play_at (sym names.3) ∙ ap (λ (n : ℕ). is_play_at (slice_get draft_nodes n)) (sym (same_place place names.0 names.2))
+  play_is (Sees branches) place names =
+      ap is_play_at (sym names.3) ∙ ap (λ (n : ℕ). is_play_at (slice_get draft_nodes n)) (sym (same_place place names.0 names.2))
 
   -- ---- all places
   pub all_named : (trees : List Tree) (nexts : List DraftPlace) → AllZip (Names draft_nodes) trees nexts → NameAll draft_nodes (branches_of trees) nexts

@@ -1,6 +1,7 @@
 -- The nodes that a walk numbers are the plan of the tree.
-use Rattle.std.proofs.Common.{◌≡◌, ℕ, suc, ◌+◌, ◌-◌, ◌<◌, ◌≤◌, Bool, true, false, ◌||◌, cond, eqb, is_some, List, [], ◌∷◌, ◌++◌, length, map, get_or, drop, reverse}
-use Rattle.std.proofs.Common.{Option, Some, None, slice_get, add-one, append_assoc, drop-cons, length-append, refl, sym, ap, subst, ◌∙◌, inl, inr, arith}
+use Rattle.std.proofs.Common.{◌≡◌, ℕ, suc, ◌+◌, ◌-◌, ◌<◌, ◌≤◌, Bool, true, false, ◌||◌, cond, eqb, is_some, List, [], ◌∷◌, ◌++◌, length, map, get_or}
+use Rattle.std.proofs.Common.{drop, reverse, Option, Some, None, slice_get, add-one, append_assoc, drop-cons}
+use Rattle.std.proofs.Common.{length-append, refl, sym, ap, subst, ◌∙◌, inl, inr, arith}
 use Rattle.std.specs.List.{AllByRecursion, flat_map}
 use Rattle.std.proofs.lemmas.Bool.{cases_Bool, cond-true, cond-false, or_left, or_right, both_ways}
 use Rattle.std.proofs.lemmas.List.{append-nil, length-map, reverse-append}
@@ -203,28 +204,23 @@ module _ (all : List Tree) (count : ℕ) (long : count ≡ length all) where
   nodes_from : (front trees : List Tree) → IsClosed (front ++ trees) → IsClosed trees → front ++ trees ≡ all → AreFine trees →
       AreNodes (length front) count (flat_map (nodes_for all) trees)
   nodes_from front [] closed rest same fine = tt
-  nodes_from front (Finish ∷ trees) closed rest same fine = absurd rest.1
-  nodes_from front (Plays card next ∷ trees) closed rest same fine =
-      let tree : Tree = Plays card next in
+  nodes_from front (tree ∷ trees) closed rest same fine =
       let regroup : (front ++ tree ∷ []) ++ trees ≡ front ++ tree ∷ trees = append_assoc front (tree ∷ []) trees in
-      let C : List Tree → Type 0 = λ xs. IsClosed xs in
       let one : length (front ++ tree ∷ []) ≡ length front + 1 = length-append front (tree ∷ []) in
-      let N : ℕ → Type 0 = λ n. AreNodes n count (flat_map (nodes_for all) trees) in (
-        (fine.0, later_is (front ++ tree ∷ []) trees next (subst C (sym regroup) closed) (regroup ∙ same) (length front) (omega (arith, one)) rest.1),
-        subst N one (nodes_from (front ++ tree ∷ []) trees (subst C (sym regroup) closed) rest.2 (regroup ∙ same) fine.1),
-      )
-  nodes_from front (Sees branches ∷ trees) closed rest same fine =
-      let tree : Tree = Sees branches in
-      let regroup : (front ++ tree ∷ []) ++ trees ≡ front ++ tree ∷ trees = append_assoc front (tree ∷ []) trees in
-      let C : List Tree → Type 0 = λ xs. IsClosed xs in
-      let one : length (front ++ tree ∷ []) ≡ length front + 1 = length-append front (tree ∷ []) in
-      let N : ℕ → Type 0 = λ n. AreNodes n count (flat_map (nodes_for all) trees) in (
-        (
-          length-map (trees_of branches) (place_of_tree all) ∙ fine.0,
-          all_later (front ++ tree ∷ []) trees branches (subst C (sym regroup) closed) (regroup ∙ same) (length front) (omega (arith, one)) rest.1,
-        ),
-        subst N one (nodes_from (front ++ tree ∷ []) trees (subst C (sym regroup) closed) rest.2 (regroup ∙ same) fine.1),
-      )
+      let below : length front < length (front ++ tree ∷ []) = omega (arith, one) in
+      let now : IsClosed ((front ++ tree ∷ []) ++ trees) = subst (λ (xs : List Tree). IsClosed xs) (sym regroup) closed in
+      first tree rest.1 fine.0 (λ next placed. later_is (front ++ tree ∷ []) trees next now (regroup ∙ same) (length front) below placed)
+      (λ branches placed. all_later (front ++ tree ∷ []) trees branches now (regroup ∙ same) (length front) below placed)
+      (subst (λ (n : ℕ). AreNodes n count (flat_map (nodes_for all) trees)) one (nodes_from (front ++ tree ∷ []) trees now rest.2 (regroup ∙ same) fine.1))
+    where
+      first : (tree : Tree) → Leads tree trees → IsFine tree → ((next : Tree) → Placed next trees → IsLater (length front) count (place_of_tree all next)) →
+          ((branches : Branches) → AllPlaced branches trees →
+          AllByRecursion (IsLater (length front) count) (map (place_of_tree all) (trees_of branches))) →
+          AreNodes (length front + 1) count (flat_map (nodes_for all) trees) →
+          AreNodes (length front) count (nodes_for all tree ++ flat_map (nodes_for all) trees)
+      first Finish leads fine one each rest = absurd leads
+      first (Plays card next) leads fine one each rest = ((fine, one next leads), rest)
+      first (Sees branches) leads fine one each rest = ((length-map (trees_of branches) (place_of_tree all) ∙ fine, each branches leads), rest)
 
   pub are_nodes : IsClosed all → AreFine all → AreNodes 0 count (plan_of_trees all)
   are_nodes closed fine = nodes_from [] all closed closed refl fine

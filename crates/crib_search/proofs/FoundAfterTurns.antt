@@ -231,8 +231,7 @@ branches_more before after later know letter shown draft_places next branches br
       zip_push (BranchFinds (λ further tree. Finds more after.problem further tree) after.problem history) shown old.0 letter here.0 old.2 here.2,
     )
   where
-    zip_push : {X Y : Type 0} (R : X → Y → Type 0) (xs : List X) (ys : List Y) (x : X) (y : Y) → AllZip R xs ys → R x y →
-        AllZip R (xs ++ x ∷ []) (ys ++ y ∷ [])
+    zip_push : {X Y : Type 0} (R : X → Y → Type 0) (xs : List X) (ys : List Y) (x : X) (y : Y) → AllZip R xs ys → R x y → AllZip R (xs ++ x ∷ []) (ys ++ y ∷ [])
     zip_push R [] [] x y all last = (last, tt)
     zip_push R [] (b ∷ ys) x y all last = absurd all
     zip_push R (a ∷ xs) [] x y all last = absurd all

@@ -86,8 +86,7 @@ module _ (problem : Setup) (setup : IsSetup problem) (plan : List Node) where
         after = stands.0;
         option = option;
         finds = found;
-        node =
-            stands.1;
+        node = stands.1;
         stands = stands.2;
       }
 
@@ -121,8 +120,7 @@ module _ (problem : Setup) (setup : IsSetup problem) (plan : List Node) where
       goes more [] e finds =
           let D : Next → Type 0 = λ place. Does plan at.tree place in
           record { more = more; tree = at.tree; finds = finds; does = subst D (sym (place_later plan problem (Own move.Go) history begun)) at.does }
-      goes more (first ∷ cards) e finds =
-          absurd (none first (option_is problem history first (ap (λ (xs : List ℕ). has xs first) e ∙ has_here first cards)))
+      goes more (first ∷ cards) e finds = absurd (none first (option_is problem history first (ap (λ (xs : List ℕ). has xs first) e ∙ has_here first cards)))
 
   theirs_at : (history : List Event) → BeginsAfter problem history → (letter : Letter) → At history → CanShow problem history letter →
       At (Theirs letter ∷ history)
@@ -248,7 +246,4 @@ module _ (problem : Setup) (setup : IsSetup problem) (plan : List Node) where
           ]
 
     pub sure_from : IsSure problem plan
-    sure_from = record {
-      never_stuck = unstuck;
-      reached = reached;
-    }
+    sure_from = record { never_stuck = unstuck; reached = reached }

@@ -132,8 +132,7 @@ module _ (draft_nodes : List DraftNode) where
           others = later.others;
           left = drop_first tree trees (end_names tree zip.0) ∙ later.left;
           names = later.names;
-          all =
-              later.all;
+          all = later.all;
         }
     first_of (tree ∷ trees) (At at ∷ nexts) place zip e =
         let same : at ≡ place = cc in

@@ -126,8 +126,7 @@ led_bare : (problem : Setup) (history : List Event) → IsLed problem history �
 led_bare problem [] led = tt
 led_bare problem (Own (move.Card card) ∷ history) led = (led_bare problem history led.0, led.1)
 led_bare problem (Own move.Go ∷ history) led = (led_bare problem history led.0, led.1)
-led_bare problem (Theirs letter ∷ history) led =
-    (led_bare problem history led.0, (led.1.0, (record { deal = led.1.1.0.deal; fixed = refl }, led.1.1.1)))
+led_bare problem (Theirs letter ∷ history) led = (led_bare problem history led.0, (led.1.0, (record { deal = led.1.1.0.deal; fixed = refl }, led.1.1.1)))
 
 taken_bare : (problem : Setup) → IsSetup problem → (history : List Event) → IsLed problem history → AreTaken (start_of problem) (history_letters history)
 taken_bare problem setup history led =

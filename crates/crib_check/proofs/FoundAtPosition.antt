@@ -3,7 +3,6 @@ use Rattle.std.proofs.Common.{◌≡◌, ◌⊎◌, ℕ, ◌+◌, Bool, true, no
 use Rattle.crib_cards.specs.Letters.{letter_place}
 use Rattle.crib_cards.specs.declared.letters.Letter.{Letter}
 use Rattle.crib_cards.specs.declared.moves.Move.{Move}
-use Rattle.crib_cards.specs.declared.moves.Act.{Act}
 use Rattle.crib_play.specs.declared.turns.Turn.TheVariants as turns
 use Rattle.crib_play.specs.History.{Event, Own, Theirs}
 use Rattle.crib_show.specs.declared.shows.Shows.{Shows}
@@ -12,6 +11,7 @@ use Rattle.crib_plan.specs.declared.plan.Node.{Node}
 use Rattle.crib_know.specs.Hidden.{CanShow, IsKnown}
 use Rattle.crib_check.specs.declared.keys.Key.{Key}
 use Rattle.crib_check.specs.declared.failure.Failure.{Failure}
+use Rattle.crib_check.specs.declared.trails.Event.{Event as TrailEvent}
 use Rattle.crib_check.specs.Private.Found.{IsFoundFrom}
 use Rattle.crib_check.specs.Private.Positions.{StandsAt, IsSettled, MayTakeAt, IsLetter}
 use Rattle.crib_check.specs.Shows.{AreShowsOf}
@@ -20,11 +20,11 @@ use Rattle.crib_check.proofs.WalkConclusions.{own_first, theirs_first, settled_o
 
 module _ (problem : Setup) (plan : List Node) (key : Key) where
   -- two ways to write the history are equal
-  pub found_along : (history other : List Event) (trail : List Act) (found : Option Failure) → history ≡ other →
+  pub found_along : (history other : List Event) (trail : List TrailEvent) (found : Option Failure) → history ≡ other →
       IsFoundFrom problem plan key history trail found → IsFoundFrom problem plan key other trail found
   found_along history other trail found e is = let F : List Event → Type 0 = λ h. IsFoundFrom problem plan key h trail found in subst F e is
 
-  module _ (next : Key) (trail : List Act) where
+  module _ (next : Key) (trail : List TrailEvent) where
     own_by : (history : List Event) (what : Move) (found : Option Failure) → StandsAt problem plan key history → MayTakeAt plan key what →
         ((h : List Event) → StandsAt problem plan key h → StandsAt problem plan next (Own what ∷ h)) →
         IsFoundFrom problem plan next (Own what ∷ history) trail found → IsFoundFrom problem plan key history trail found
@@ -107,7 +107,7 @@ settled_moved {X} problem plan holds table new e settled other is = let H : X �
 pub shows_moved : (problem : Setup) (shows new : Shows) → shows ≡ new → AreShowsOf problem new → AreShowsOf problem shows
 shows_moved problem shows new e are = let A : Shows → Type 0 = λ kept. AreShowsOf problem kept in subst A (sym e) are
 
-pub settled_where : (problem : Setup) (plan : List Node) (key : Key) (history : List Event) (trail : List Act) (found : Option Failure) → found ≡ None →
+pub settled_where : (problem : Setup) (plan : List Node) (key : Key) (history : List Event) (trail : List TrailEvent) (found : Option Failure) → found ≡ None →
     IsFoundFrom problem plan key history trail found → IsSettled problem plan key
 settled_where problem plan key history trail found e is = let O : Option Failure → Type 0 = λ o. IsFoundFrom problem plan key history trail o in subst O e is
 

@@ -4,7 +4,6 @@ use Rattle.std.proofs.Common.{◌≡◌, ℕ, List, [], ◌∷◌, Some, sym, ap
 use Rattle.crib_cards.specs.declared.letters.Letter.{Letter}
 use Rattle.crib_cards.specs.declared.moves.Move.{Move}
 use Rattle.crib_cards.specs.declared.moves.Move.TheVariants as move
-use Rattle.crib_cards.specs.declared.moves.Act.{Act}
 use Rattle.crib_play.specs.History.{Event, Own, Theirs}
 use Rattle.crib_problem.specs.Setup.{Setup}
 use Rattle.crib_plan.specs.declared.plan.Next.{Next}
@@ -13,16 +12,17 @@ use Rattle.crib_plan.specs.Places.{plan_start, stated_card, place_after_card, pl
 use Rattle.crib_know.specs.Knowledge.{Knowledge, played_events}
 use Rattle.crib_know.specs.Hidden.{KnowsAfter}
 use Rattle.crib_check.specs.declared.keys.Key.{Key}
+use Rattle.crib_check.specs.declared.trails.Event.{Event as TrailEvent}
 use Rattle.crib_check.specs.Private.Histories.{place_after_event, IsStatedEvent, history_of_trail}
 use Rattle.crib_check.specs.Private.Positions.{StandsAt, MayTakeAt}
 use Rattle.crib_check.proofs.PlaceByHistory.{place_at_start, follows_at_start, place_later}
 
 -- the position after the opening
-pub stands_at_start : (problem : Setup) (plan : List Node) (know : Knowledge) (place : Next) (acts : List Act) → acts ≡ [] →
+pub stands_at_start : (problem : Setup) (plan : List Node) (know : Knowledge) (place : Next) (events : List TrailEvent) → events ≡ [] →
     KnowsAfter know problem (played_events problem) → place ≡ plan_start plan →
-    StandsAt problem plan (record { know = know; place = place }) (history_of_trail problem acts)
-stands_at_start problem plan know place acts none knows at_start =
-    let S : List Act → Type 0 = λ xs. StandsAt problem plan (record { know = know; place = place }) (history_of_trail problem xs) in
+    StandsAt problem plan (record { know = know; place = place }) (history_of_trail problem events)
+stands_at_start problem plan know place events none knows at_start =
+    let S : List TrailEvent → Type 0 = λ xs. StandsAt problem plan (record { know = know; place = place }) (history_of_trail problem xs) in
     subst S (sym none) (record { knows = knows; place = at_start ∙ sym (place_at_start plan problem); follows = follows_at_start plan problem })
 
 module _ (problem : Setup) (plan : List Node) (key : Key) (history : List Event) (stands : StandsAt problem plan key history) where

@@ -5,7 +5,6 @@ use Rattle.std.proofs.Math.Seq.{take-append_seam}
 use Rattle.crib_cards.specs.Start.{pone_of}
 use Rattle.crib_cards.specs.declared.sides.Dealt.{Dealt}
 use Rattle.crib_cards.specs.declared.moves.Move.{Move}
-use Rattle.crib_cards.specs.declared.moves.Act.{Act}
 use Rattle.crib_play.specs.History.{Event, event_of, acts_of, history_of}
 use Rattle.crib_play.proofs.FilledRecords.{acts_fewer}
 use Rattle.crib_play.proofs.LawProofs.{length_law}
@@ -15,21 +14,22 @@ use Rattle.crib_know.specs.Hidden.{KnowsAfter, IsFirstDeal}
 use Rattle.crib_know.proofs.Deals.{dealt_is}
 use Rattle.crib_know.proofs.RecordTurns.{possible_led}
 use Rattle.crib_know.proofs.KnowledgeFacts.{first_deal_is}
-use Rattle.crib_check.specs.Private.Histories.{later_of_trail, history_of_trail}
+use Rattle.crib_check.specs.declared.trails.Event.{Event as TrailEvent}
+use Rattle.crib_check.specs.Private.Histories.{as_event, later_of_trail, history_of_trail}
 
-pub trail_more : (problem : Setup) (acts more : List Act) (act : Act) → more ≡ acts ++ act ∷ [] →
-    history_of_trail problem more ≡ event_of act ∷ history_of_trail problem acts
-trail_more problem acts more act e =
-    ap (history_of_trail problem) e ∙ ap (λ (listed : List Act). map event_of listed ++ played_events problem) (reverse-append acts (act ∷ []))
+pub trail_more : (problem : Setup) (events more : List TrailEvent) (event : TrailEvent) → more ≡ events ++ event ∷ [] →
+    history_of_trail problem more ≡ as_event event ∷ history_of_trail problem events
+trail_more problem events more event e =
+    ap (history_of_trail problem) e ∙ ap (λ (listed : List TrailEvent). map as_event listed ++ played_events problem) (reverse-append events (event ∷ []))
 
--- an act is pushed onto the trail, and popped again
-pub trail_back : (acts more before after : List Act) (act : Act) → more ≡ acts ++ act ∷ [] → before ≡ more → after ≡ take (length before - 1) before →
-    after ≡ acts
-trail_back acts more before after act e same rest =
-    let T : List Act → Type 0 = λ xs. after ≡ take (length xs - 1) xs in
-    let long : length (acts ++ act ∷ []) ≡ length acts + 1 = length-append acts (act ∷ []) in
-    let few : length (acts ++ act ∷ []) - 1 ≡ length acts = omega (arith, long) in
-    subst T (same ∙ e) rest ∙ ap (λ (n : ℕ). take n (acts ++ act ∷ [])) few ∙ take-append_seam acts (act ∷ [])
+-- an event is pushed onto the trail, and popped again
+pub trail_back : (events more before after : List TrailEvent) (event : TrailEvent) → more ≡ events ++ event ∷ [] → before ≡ more →
+    after ≡ take (length before - 1) before → after ≡ events
+trail_back events more before after event e same rest =
+    let T : List TrailEvent → Type 0 = λ xs. after ≡ take (length xs - 1) xs in
+    let long : length (events ++ event ∷ []) ≡ length events + 1 = length-append events (event ∷ []) in
+    let few : length (events ++ event ∷ []) - 1 ≡ length events = omega (arith, long) in
+    subst T (same ∙ e) rest ∙ ap (λ (n : ℕ). take n (events ++ event ∷ [])) few ∙ take-append_seam events (event ∷ [])
 
 short_by : (problem : Setup) → IsSetup problem → (history : List Event) (dealt : Dealt) → IsFirstDeal problem history dealt → length history ≤ 29
 short_by problem setup history dealt some =
@@ -46,22 +46,22 @@ pub history_short : (know : Knowledge) (problem : Setup) (history : List Event) 
 history_short know problem history knows =
     short_by problem knows.setup history _ (first_deal_is problem knows.setup history (possible_led problem knows.setup history knows.possible) knows.begun)
 
--- the acts of a trail and of the opening, in terms of the history
-trail_long : (problem : Setup) (acts : List Act) → length (history_of_trail problem acts) ≡ length acts + length problem.played
-trail_long problem acts =
-    length-append (later_of_trail acts) (played_events problem)
-    ∙ (λ i. (length-map (reverse acts) event_of ∙ length-reverse acts) i + (length-map (played_back problem) event_of ∙ length-reverse problem.played) i)
+-- the length of a history is that of the trail and of the opening
+trail_long : (problem : Setup) (events : List TrailEvent) → length (history_of_trail problem events) ≡ length events + length problem.played
+trail_long problem events =
+    length-append (later_of_trail events) (played_events problem)
+    ∙ (λ i. (length-map (reverse events) as_event ∙ length-reverse events) i + (length-map (played_back problem) event_of ∙ length-reverse problem.played) i)
 
-pub trail_room : (know : Knowledge) (problem : Setup) (event : Event) (acts : List Act) → KnowsAfter know problem (event ∷ history_of_trail problem acts) →
-    length acts < 32
-trail_room know problem event acts knows =
-    let short : length (event ∷ history_of_trail problem acts) ≤ 29 = history_short know problem (event ∷ history_of_trail problem acts) knows in
-    let long = trail_long problem acts in
+pub trail_room : (know : Knowledge) (problem : Setup) (event : Event) (events : List TrailEvent) →
+    KnowsAfter know problem (event ∷ history_of_trail problem events) → length events < 29
+trail_room know problem event events knows =
+    let short : length (event ∷ history_of_trail problem events) ≤ 29 = history_short know problem (event ∷ history_of_trail problem events) knows in
+    let long = trail_long problem events in
     omega (arith, short, long)
 
-pub game_room : (know : Knowledge) (problem : Setup) (acts : List Act) → KnowsAfter know problem (history_of_trail problem acts) →
-    length problem.played + length acts ≤ 32
-game_room know problem acts knows =
-    let short : length (history_of_trail problem acts) ≤ 29 = history_short know problem (history_of_trail problem acts) knows in
-    let long = trail_long problem acts in
+pub game_room : (know : Knowledge) (problem : Setup) (events : List TrailEvent) → KnowsAfter know problem (history_of_trail problem events) →
+    length problem.played + length events ≤ 32
+game_room know problem events knows =
+    let short : length (history_of_trail problem events) ≤ 29 = history_short know problem (history_of_trail problem events) knows in
+    let long = trail_long problem events in
     omega (arith, short, long)

@@ -5,16 +5,15 @@ use Rattle.crib_cards.specs.declared.letters.Letter.{Letter}
 use Rattle.crib_cards.specs.declared.moves.Move.{Move}
 use Rattle.crib_play.specs.declared.turns.Turn.TheVariants as turns
 use Rattle.crib_play.specs.History.{Event, Own, Theirs}
-use Rattle.crib_show.specs.declared.shows.Shows.{Shows}
 use Rattle.crib_problem.specs.Setup.{Setup}
 use Rattle.crib_plan.specs.declared.plan.Node.{Node}
 use Rattle.crib_know.specs.Hidden.{CanShow, IsKnown}
+use Rattle.crib_game.specs.declared.game.Game.{Game}
 use Rattle.crib_check.specs.declared.keys.Key.{Key}
 use Rattle.crib_check.specs.declared.failure.Failure.{Failure}
 use Rattle.crib_check.specs.declared.trails.Event.{Event as TrailEvent}
-use Rattle.crib_check.specs.Private.Found.{IsFoundFrom}
-use Rattle.crib_check.specs.Private.Positions.{StandsAt, IsSettled, MayTakeAt, IsLetter}
-use Rattle.crib_check.specs.Shows.{AreShowsOf}
+use Rattle.crib_check.specs.Private.Found.{IsFoundFrom, IsGameOf, IsStoppedBy}
+use Rattle.crib_check.specs.Private.Positions.{StandsAt, IsSettled, IsFirstFrom, MayTakeAt, IsLetter}
 use Rattle.crib_check.proofs.LettersBelow.{IsSettledBelow}
 use Rattle.crib_check.proofs.WalkConclusions.{own_first, theirs_first, settled_own, below_more}
 
@@ -24,47 +23,46 @@ module _ (problem : Setup) (plan : List Node) (key : Key) where
       IsFoundFrom problem plan key history trail found → IsFoundFrom problem plan key other trail found
   found_along history other trail found e is = let F : List Event → Type 0 = λ h. IsFoundFrom problem plan key h trail found in subst F e is
 
+  -- the game of a failure is the first failing one
+  pub first_found : (history other : List Event) (trail : List TrailEvent) (found : Option Failure) (failure : Failure) → history ≡ other →
+      found ≡ Some failure → IsFoundFrom problem plan key history trail found → (game : Game) → IsGameOf problem failure.dealt trail game →
+      IsFirstFrom problem plan other game failure.ending
+  first_found history other trail found failure same e is game is_of =
+      let F : Option Failure → Type 0 = λ o. IsFoundFrom problem plan key other trail o in
+      let stopped : IsStoppedBy problem plan other trail failure = subst F e (found_along history other trail found same is) in
+      stopped.first game is_of
+
+  -- where nothing fails, the trail does not matter
+  pub found_none : (history other : List Event) (trail others : List TrailEvent) (found : Option Failure) → found ≡ None →
+      IsFoundFrom problem plan key history trail found → IsFoundFrom problem plan key other others found
+  found_none history other trail others None e is = is
+  found_none history other trail others (Some failure) e is = absurd cc
+
   module _ (next : Key) (trail : List TrailEvent) where
-    own_by : (history : List Event) (what : Move) (found : Option Failure) → StandsAt problem plan key history → MayTakeAt plan key what →
+    -- after the owner's move
+    pub own_found : (history : List Event) (what : Move) (found : Option Failure) → StandsAt problem plan key history → MayTakeAt plan key what →
         ((h : List Event) → StandsAt problem plan key h → StandsAt problem plan next (Own what ∷ h)) →
         IsFoundFrom problem plan next (Own what ∷ history) trail found → IsFoundFrom problem plan key history trail found
-    own_by history what None stands may goes settled = settled_own problem plan key next what may goes settled
-    own_by history what (Some failure) stands may goes stopped = record {
+    own_found history what None stands may goes settled = settled_own problem plan key next what may goes settled
+    own_found history what (Some failure) stands may goes stopped = record {
       room = stopped.room;
       first = λ game is. own_first problem plan key history stands what may game failure.ending (stopped.first game is);
     }
 
-    -- after the owner's move
-    pub own_found : (history : List Event) (what : Move) (event : Event) (found : Option Failure) → StandsAt problem plan key history →
-        MayTakeAt plan key what → ((h : List Event) → StandsAt problem plan key h → StandsAt problem plan next (Own what ∷ h)) → event ≡ Own what →
-        IsFoundFrom problem plan next (event ∷ history) trail found → IsFoundFrom problem plan key history trail found
-    own_found history what event found stands may goes e is =
-        let F : Event → Type 0 = λ ev. IsFoundFrom problem plan next (ev ∷ history) trail found in
-        own_by history what found stands may goes (subst F e is)
-
-    theirs_by : (history : List Event) (letter : Letter) (failure : Failure) →
-        StandsAt problem plan key history → key.know.round.asked ≡ turns.Opponent → IsLetter letter →
-        IsSettledBelow problem plan key (letter_place letter) → IsFoundFrom problem plan next (Theirs letter ∷ history) trail (Some failure) →
-        IsFoundFrom problem plan key history trail (Some failure)
-    theirs_by history letter failure stands asked is_letter below stopped = record {
-      room = stopped.room;
-      first = λ game is. theirs_first problem plan key history stands asked letter is_letter below game failure.ending (stopped.first game is);
-    }
-
     -- after a letter of the opponent from which the plan fails
-    pub theirs_found : (history : List Event) (letter : Letter) (event : Event) (place : ℕ) (found : Option Failure) (failure : Failure) →
-        found ≡ Some failure → StandsAt problem plan key history →
-        key.know.round.asked ≡ turns.Opponent → IsLetter letter → letter_place letter ≡ place → IsSettledBelow problem plan key place → event ≡ Theirs letter →
-        IsFoundFrom problem plan next (event ∷ history) trail found → IsFoundFrom problem plan key history trail (Some failure)
-    theirs_found history letter event place found failure fails stands asked is_letter at_place below e is =
-        let F : Event → Type 0 = λ ev. IsFoundFrom problem plan next (ev ∷ history) trail (Some failure) in
-        let O : Option Failure → Type 0 = λ o. IsFoundFrom problem plan next (event ∷ history) trail o in
+    pub theirs_found : (history : List Event) (letter : Letter) (place : ℕ) (found : Option Failure) (failure : Failure) → found ≡ Some failure →
+        StandsAt problem plan key history → key.know.round.asked ≡ turns.Opponent → IsLetter letter → letter_place letter ≡ place →
+        IsSettledBelow problem plan key place → IsFoundFrom problem plan next (Theirs letter ∷ history) trail found →
+        IsFoundFrom problem plan key history trail (Some failure)
+    theirs_found history letter place found failure fails stands asked is_letter at_place below is =
+        let O : Option Failure → Type 0 = λ o. IsFoundFrom problem plan next (Theirs letter ∷ history) trail o in
         let B : ℕ → Type 0 = λ n. IsSettledBelow problem plan key n in
-        theirs_by history letter failure stands asked is_letter (subst B (sym at_place) below) (subst F e (subst O fails is))
-
-    settled_by : (history : List Event) (found : Option Failure) → found ≡ None → IsFoundFrom problem plan next history trail found →
-        IsSettled problem plan next
-    settled_by history found e is = let O : Option Failure → Type 0 = λ o. IsFoundFrom problem plan next history trail o in subst O e is
+        let stopped : IsFoundFrom problem plan next (Theirs letter ∷ history) trail (Some failure) = subst O fails is in
+        record {
+          room = stopped.room;
+          first = λ game is_of.
+              theirs_first problem plan key history stands asked letter is_letter (subst B (sym at_place) below) game failure.ending (stopped.first game is_of);
+        }
 
     -- after a letter of the opponent from which it holds
     pub below_held : (history : List Event) (letter : Letter) (place : ℕ) (found : Option Failure) → found ≡ None → IsLetter letter →
@@ -72,8 +70,9 @@ module _ (problem : Setup) (plan : List Node) (key : Key) where
         ((h : List Event) → StandsAt problem plan key h → StandsAt problem plan next (Theirs letter ∷ h)) →
         IsFoundFrom problem plan next history trail found → IsSettledBelow problem plan key (place + 1)
     below_held history letter place found e is_letter at_place below goes is =
+        let O : Option Failure → Type 0 = λ o. IsFoundFrom problem plan next history trail o in
         below_more problem plan key place letter is_letter at_place below
-        (λ h stands can. settled_by history found e is (Theirs letter ∷ h) (goes h stands))
+        (λ h stands can. (subst O e is) (Theirs letter ∷ h) (goes h stands))
 
   -- a letter that cannot be shown
   pub below_unshown : (letter : Letter) (place : ℕ) → IsLetter letter → letter_place letter ≡ place → IsSettledBelow problem plan key place →
@@ -96,16 +95,6 @@ one_more_settled problem plan held before key history stands step settled here o
   where
     known_by : (k : Key) (h : List Event) → StandsAt problem plan k h → IsKnown k.know
     known_by k h s = record { problem = problem; history = h; knows = s.knows }
-
--- every position that the table holds is settled, if this is known of an equal table
-pub settled_moved : {X : Type 0} (problem : Setup) (plan : List Node) (holds : X → Key → Type 0) (table new : X) → table ≡ new →
-    ((other : Key) → holds new other → IsSettled problem plan other) →
-    (other : Key) → holds table other → IsSettled problem plan other
-settled_moved {X} problem plan holds table new e settled other is = let H : X → Type 0 = λ x. holds x other in settled other (subst H e is)
-
--- the table of counted shows is right, if this is known of an equal one
-pub shows_moved : (problem : Setup) (shows new : Shows) → shows ≡ new → AreShowsOf problem new → AreShowsOf problem shows
-shows_moved problem shows new e are = let A : Shows → Type 0 = λ kept. AreShowsOf problem kept in subst A (sym e) are
 
 pub settled_where : (problem : Setup) (plan : List Node) (key : Key) (history : List Event) (trail : List TrailEvent) (found : Option Failure) → found ≡ None →
     IsFoundFrom problem plan key history trail found → IsSettled problem plan key

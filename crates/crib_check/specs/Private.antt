@@ -4,3 +4,4 @@ pub mod Histories
 pub mod Numbers
 pub mod Positions
 pub mod Suits
+pub mod Walks

@@ -1,0 +1,30 @@
+use Rattle.std.proofs.Common.{refl}
+use Rattle.crib_check.specs.Private.Histories.{later_of_trail}
+use Rattle.crib_check.specs.Private.Walks.{history_at}
+use Rattle.crib_check.proofs.TrailLengths.{game_room}
+use Rattle.crib_check.proofs.NamedGames.{over_named}
+use Rattle.crib_check.proofs.WalkConclusions.{settled_over}
+use Rattle.crib_check.proofs.walk.Walk.over.Goals as goal
+
+pub returns-in-Some : goal.returns-in-Some
+returns-in-Some g c =
+    let walk = c.args.self.now in
+    let stands = c.requires.here.here in
+    record {
+      kept = record { same_problem = refl; same_plan = refl; settled = c.requires.here.kept.settled; shows = c.first_shortfall.ensures.shows };
+      back = λ none. refl;
+      found = record {
+        room = game_room c.args.key.now.know walk.problem.now walk.trail.items stands.knows;
+        first = λ game is. over_named walk.problem.now walk.plan.now c.args.key.now (later_of_trail walk.trail.items) stands game c.in-Some.dealt is.deal
+            is.acts c.requires.over c.ending_of.result c.ending_of.ensures (c.in-Some.ensures.first (history_at walk) stands.knows);
+      };
+    }
+
+pub returns-in-None : goal.returns-in-None
+returns-in-None g c =
+    let walk = c.args.self.now in
+    record {
+      kept = record { same_problem = refl; same_plan = refl; settled = c.requires.here.kept.settled; shows = c.first_shortfall.ensures.shows };
+      back = λ none. refl;
+      found = settled_over walk.problem.now walk.plan.now c.args.key.now c.requires.over (λ history knows. c.in-None.ensures.first history knows);
+    }

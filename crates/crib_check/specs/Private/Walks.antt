@@ -1,0 +1,46 @@
+-- The walk of the code: what it keeps, what it needs at a position, and what it has done from there.
+use Rattle.std.specs.Prelude.{◌≡◌, List, Option, None}
+use Rattle.crib_play.specs.History.{Event}
+use Rattle.crib_problem.specs.Setup.{Setup}
+use Rattle.crib_plan.specs.declared.plan.Node.{Node}
+use Rattle.crib_check.specs.declared.failure.Failure.{Failure}
+use Rattle.crib_check.specs.declared.keys.Key.{Key}
+use Rattle.crib_check.specs.declared.trails.Event.{Event as TrailEvent}
+use Rattle.crib_check.specs.declared.walk.Walk.{Walk}
+use Rattle.crib_check.specs.Private.Found.{IsFoundFrom}
+use Rattle.crib_check.specs.Private.Histories.{history_of_trail}
+use Rattle.crib_check.specs.Private.Positions.{IsSettled, StandsAt}
+use Rattle.crib_check.specs.Shows.{AreShowsOf}
+
+-- a walk of a problem and a plan: its table of positions holds settled ones alone, and its table of shows is right. The
+-- first argument is what it is for a table to hold a position
+pub record IsWalkOf {A T : Type 0} (holds : T → Key → Type 0) (problem : Setup) (plan : List Node) (walk : Walk A T)
+    : Type 0 where
+  pub same_problem : walk.problem.now ≡ problem
+  pub same_plan : walk.plan.now ≡ plan
+  pub settled : (other : Key) → holds walk.table.now other → IsSettled problem plan other
+  pub shows : AreShowsOf problem walk.shows
+
+-- the history where a walk is: that of the opening and of its trail
+abbrev pub history_at : {A T : Type 0} → Walk A T → List Event
+history_at walk = history_of_trail walk.problem.now walk.trail.items
+
+-- a walk may go on from a position, which stands for a history
+pub record MayWalk {A T : Type 0} (holds : T → Key → Type 0) (walk : Walk A T) (key : Key) (history : List Event)
+    : Type 0 where
+  pub kept : IsWalkOf holds walk.problem.now walk.plan.now walk
+  pub here : StandsAt walk.problem.now walk.plan.now key history
+
+-- a walk has gone over all games from a position, up to the first failing one: it is still one of the problem and the
+-- plan, its trail is as before if there is no failure, and the result is right
+pub record HasWalkedOf {A T : Type 0} (holds : T → Key → Type 0) (problem : Setup) (plan : List Node)
+    (trail : List TrailEvent) (key : Key) (history : List Event) (after : Walk A T) (result : Option Failure)
+    : Type 0 where
+  pub kept : IsWalkOf holds problem plan after
+  pub back : result ≡ None → after.trail.items ≡ trail
+  pub found : IsFoundFrom problem plan key history after.trail.items result
+
+-- the same of a walk as it was before
+abbrev pub HasWalked :
+    {A T : Type 0} → (T → Key → Type 0) → Walk A T → Key → List Event → Walk A T → Option Failure → Type 0
+HasWalked holds before = HasWalkedOf holds before.problem.now before.plan.now before.trail.items

@@ -1,5 +1,7 @@
 -- The points of the fifteens and pairs of some cards count also where other cards are added.
-use Rattle.std.proofs.Common.{ℕ, ◌+◌, ◌*◌, ◌≤◌, cond, List, [], ◌∷◌, ◌++◌, sum_by, arith}
+use Rattle.std.proofs.Common.{ℕ, ◌+◌, ◌*◌, ◌≤◌, cond, List, [], ◌∷◌, ◌++◌, map, sum_by, sym, subst, ◌≡◌, arith}
+use Rattle.std.proofs.lemmas.List.{map-append}
+use Rattle.crib_cards.specs.Cards.{rank_of}
 use Rattle.crib_show.specs.Show.{choices, crib_flush, crib_points, fifteen_points, is_fifteen, is_pair, jack_points, pair_points, run_points}
 use Rattle.crib_show.proofs.Choices.{sum_by-choices}
 
@@ -17,17 +19,19 @@ more_choices f (x ∷ xs) ys =
     omega (arith, with_it, without, few, all)
 
 -- each crib has the points of the starter and the owner's throw
-pub known_in_crib : (starter : ℕ) (throw theirs : List ℕ) → fifteen_points (starter ∷ throw) + pair_points (starter ∷ throw) ≤
+pub known_in_crib : (starter : ℕ) (throw theirs : List ℕ) → fifteen_points (map rank_of (starter ∷ throw)) + pair_points (map rank_of (starter ∷ throw)) ≤
     crib_points (throw ++ theirs) starter
 unfolding crib_points
 known_in_crib starter throw theirs =
-    let known : List ℕ = starter ∷ throw in
-    sums (fifteen_points known) (pair_points known) (fifteen_points (known ++ theirs)) (pair_points (known ++ theirs)) (run_points (known ++ theirs))
+    let known : List ℕ = map rank_of (starter ∷ throw) in
+    let all : List ℕ = map rank_of (starter ∷ throw ++ theirs) in
+    let whole : all ≡ known ++ map rank_of theirs = map-append rank_of (starter ∷ throw) theirs in
+    let fifteens = more_choices (λ chosen. cond (is_fifteen chosen) 1 0) known (map rank_of theirs) in
+    let pairs = more_choices (λ chosen. cond (is_pair chosen) 1 0) known (map rank_of theirs) in
+    sums (fifteen_points known) (pair_points known) (fifteen_points all) (pair_points all) (run_points all)
     (crib_flush (throw ++ theirs) starter) (jack_points (throw ++ theirs) starter)
-    (twice (sum_by (λ chosen. cond (is_fifteen chosen) 1 0) (choices known)) (sum_by (λ chosen. cond (is_fifteen chosen) 1 0) (choices (known ++ theirs)))
-    (more_choices (λ chosen. cond (is_fifteen chosen) 1 0) known theirs))
-    (twice (sum_by (λ chosen. cond (is_pair chosen) 1 0) (choices known)) (sum_by (λ chosen. cond (is_pair chosen) 1 0) (choices (known ++ theirs)))
-    (more_choices (λ chosen. cond (is_pair chosen) 1 0) known theirs))
+    (subst (λ ranks. fifteen_points known ≤ fifteen_points ranks) (sym whole) (twice _ _ fifteens))
+    (subst (λ ranks. pair_points known ≤ pair_points ranks) (sym whole) (twice _ _ pairs))
   where
     twice : (a b : ℕ) → a ≤ b → 2 * a ≤ 2 * b
     twice a b less = omega arith

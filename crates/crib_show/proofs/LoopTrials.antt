@@ -1,16 +1,16 @@
 -- What the loops over pairs of ranks have tried so far.
 use Rattle.std.specs.Prelude.{◌≡◌, ◌⊎◌, ℕ, ◌+◌, ◌<◌, ◌≤◌, IsTrue, IsFalse, List}
 use Rattle.std.specs.Prelude.{◌∷◌}
-use Rattle.crib_cards.specs.Cards.{IsRank}
+use Rattle.crib_cards.specs.Cards.{IsRank, rank_of}
 use Rattle.crib_show.specs.declared.deals.WorstShow.{WorstShow}
-use Rattle.crib_show.specs.Show.{plain_points}
+use Rattle.crib_show.specs.Show.{plain_of_ranks}
 use Rattle.crib_show.specs.declared.totals.Sought.{Sought}
 use Rattle.crib_show.specs.Private.Totals.{ranks_give}
-use Rattle.crib_show.specs.Private.Extremes.{cards_in_suit, most_crib_suits, most_suit_points, has_room, no_crib, least_suits, plain_crib, least_of_ranks}
+use Rattle.crib_show.specs.Private.Extremes.{most_crib_suits, most_suit_points, has_room, no_crib, least_suits, plain_crib, least_of_ranks}
 
 -- the points of the greatest hand of some ranks
 abbrev pub greatest_hand : WorstShow → List ℕ → ℕ
-greatest_hand worst ranks = plain_points (worst.starter ∷ cards_in_suit 0 ranks) + most_suit_points worst ranks
+greatest_hand worst ranks = plain_of_ranks (rank_of worst.starter ∷ ranks) + most_suit_points worst ranks
 
 -- two ranks are tried before two others
 abbrev pub AreTried : ℕ → ℕ → ℕ → ℕ → Type 0

@@ -10,14 +10,14 @@ use Rattle.crib_cards.specs.Sets.{rank_counts}
 use Rattle.crib_cards.proofs.EachRank.{each_rank}
 use Rattle.crib_show.specs.Private.Counts.{AreRanks, pairs_in, runs_in}
 use Rattle.crib_show.specs.Laws.{is_possible}
-use Rattle.crib_show.specs.Show.{plain_points}
+use Rattle.crib_show.specs.Show.{fifteen_points, pair_points, plain_points}
 use Rattle.crib_show.proofs.ReorderedLists.{Reordered, length-reordered, list_any-reordered, rank_counts-reordered}
-use Rattle.crib_show.proofs.RankTotals.{fifteen_total, pair_total, fifteen_points-ranks, pair_points-ranks, run_points-ranks, fifteen_total-reordered}
+use Rattle.crib_show.proofs.RankLaw.{fifteen_points-reordered}
 use Rattle.crib_show.proofs.RankTables.{Rises, and-left, and-right, sorted_of, each_rising, each_rising-at, IsCounted-ranks}
 
 -- the points of five ranks, from the numbers of cards of each rank where these decide them
 abbrev pub counted_points : ℕ → List ℕ → ℕ
-counted_points fifteens counts = 2 * fifteens + pairs_in counts + runs_in counts
+counted_points fifteens counts = fifteens + pairs_in counts + runs_in counts
 
 abbrev pub has_jack : List ℕ → Bool
 has_jack ranks = list_any (λ rank. eqb rank jack) ranks
@@ -34,7 +34,7 @@ abbrev allows_counts : ℕ → Bool → List ℕ → Bool
 allows_counts fifteens with_jack counts = allows (pairs_in counts) with_jack (counted_points fifteens counts)
 
 abbrev pub is_allowed : List ℕ → Bool
-is_allowed ranks = allows_counts (fifteen_total ranks) (has_jack ranks) (rank_counts ranks)
+is_allowed ranks = allows_counts (fifteen_points ranks) (has_jack ranks) (rank_counts ranks)
 
 abbrev AllowedFrom : ℕ → Type 0
 AllowedFrom rank = each_rising 4 rank (λ ranks. is_allowed (rank ∷ ranks)) ≡ true
@@ -87,7 +87,7 @@ allowed_rising (rank ∷ ranks) rises five = each_rising-at 4 rank (λ more. is_
     (omega arith)
 
 is_allowed-reordered : (xs ys : List ℕ) → Reordered xs ys → is_allowed xs ≡ is_allowed ys
-is_allowed-reordered xs ys r = λ i. allows_counts (fifteen_total-reordered xs ys r i) (list_any-reordered (λ rank. eqb rank jack) xs ys r i)
+is_allowed-reordered xs ys r = λ i. allows_counts (fifteen_points-reordered xs ys r i) (list_any-reordered (λ rank. eqb rank jack) xs ys r i)
     (rank_counts-reordered xs ys r i)
 
 pub is_allowed-ranks : (ranks : List ℕ) → AreRanks ranks → length ranks ≡ 5 → is_allowed ranks ≡ true
@@ -97,21 +97,15 @@ is_allowed-ranks ranks are five =
 
 -- of five cards
 pub record IsAllowed (cards : List ℕ) : Type 0 where
-  pub allowed : allows (2 * pair_total (map rank_of cards)) (has_jack (map rank_of cards)) (plain_points cards) ≡ true
-
-plain_points-counted : (cards counts : List ℕ) → AreRanks (map rank_of cards) → length cards ≡ 5 → counts ≡ rank_counts (map rank_of cards) →
-    plain_points cards ≡ counted_points (fifteen_total (map rank_of cards)) counts
-plain_points-counted cards counts are five counted =
-    let totals = IsCounted-ranks (map rank_of cards) are (length-map cards rank_of ∙ five) in
-    λ i. fifteen_points-ranks cards i + (pair_points-ranks cards ∙ totals.pairs ∙ sym (ap pairs_in counted)) i + (run_points-ranks cards ∙ totals.runs
-    ∙ sym (ap runs_in counted)) i
+  pub allowed : allows (pair_points (map rank_of cards)) (has_jack (map rank_of cards)) (plain_points cards) ≡ true
 
 pub IsAllowed-cards : (cards : List ℕ) → AreRanks (map rank_of cards) → length cards ≡ 5 → IsAllowed cards
 IsAllowed-cards cards are five =
-    let totals = IsCounted-ranks (map rank_of cards) are (length-map cards rank_of ∙ five) in record {
+    let ranks = map rank_of cards in
+    let long = length-map cards rank_of ∙ five in
+    let counted = IsCounted-ranks ranks are long in record {
       allowed =
-          (λ i. allows (totals.pairs i) (has_jack (map rank_of cards)) (plain_points-counted cards (rank_counts (map rank_of cards)) are five refl i))
-          ∙ is_allowed-ranks (map rank_of cards) are (length-map cards rank_of ∙ five);
+          (λ i. allows (counted.pairs i) (has_jack ranks) (fifteen_points ranks + counted.pairs i + counted.runs i)) ∙ is_allowed-ranks ranks are long;
     }
 
 -- which points are possible, case by case

@@ -9,8 +9,9 @@ use Rattle.crib_cards.specs.Sets.{rank_counts}
 use Rattle.crib_cards.proofs.EachRank.{each_rank}
 use Rattle.crib_show.proofs.ReorderedLists.{Reordered, nothing, behind, front, both, same_order, length-reordered, rank_counts-reordered}
 use Rattle.std.specs.Prelude.{nat_le}
-use Rattle.crib_show.specs.Private.Counts.{AreRanks, pairs_in, runs_in}
-use Rattle.crib_show.proofs.RankTotals.{pair_total, run_total, pair_total-reordered, run_total-reordered}
+use Rattle.crib_show.specs.Private.Counts.{AreRanks, IsCounted, pairs_in, runs_in}
+use Rattle.crib_show.specs.Show.{pair_points, run_points}
+use Rattle.crib_show.proofs.RankLaw.{pair_points-reordered, run_points-reordered}
 
 -- ranks in rising order, from some rank on
 abbrev pub Rises : ℕ → List ℕ → Type 0
@@ -69,13 +70,13 @@ each_rising-at (suc n) low test (rank ∷ ranks) all rises is =
     (list_all-range (λ first. each_rising n first (λ more. test (first ∷ more))) low (14 - low) rank all rises.0 (omega arith))
     rises.2 (omega arith)
 
--- the totals of five ranks are those of the numbers of cards of each rank
+-- the points of five ranks are those of how many there are of each rank
 abbrev agree_in : ℕ → ℕ → ℕ → ℕ → ℕ → Bool
 agree_in pairs pairs_counted runs runs_counted number =
-    eqb (2 * pairs) pairs_counted && (eqb runs runs_counted && (nat_le pairs_counted 20 && (nat_le runs_counted 12 && eqb number 5)))
+    eqb pairs pairs_counted && (eqb runs runs_counted && (nat_le pairs_counted 20 && (nat_le runs_counted 12 && eqb number 5)))
 
 abbrev agree_with : List ℕ → List ℕ → Bool
-agree_with ranks counts = agree_in (pair_total ranks) (pairs_in counts) (run_total ranks) (runs_in counts) (sum counts)
+agree_with ranks counts = agree_in (pair_points ranks) (pairs_in counts) (run_points ranks) (runs_in counts) (sum counts)
 
 abbrev agree : List ℕ → Bool
 agree ranks = agree_with ranks (rank_counts ranks)
@@ -125,14 +126,6 @@ from_13 = refl
 from_each : (rank : ℕ) → IsRank rank → AgreeFrom rank
 from_each rank is = each_rank AgreeFrom from_1 from_2 from_3 from_4 from_5 from_6 from_7 from_8 from_9 from_10 from_11 from_12 from_13 rank is
 
--- the totals of five ranks, from their counts
-pub record IsCounted (ranks counts : List ℕ) : Type 0 where
-  pub pairs : 2 * pair_total ranks ≡ pairs_in counts
-  pub runs : run_total ranks ≡ runs_in counts
-  pub few_pairs : pairs_in counts ≤ 20
-  pub few_runs : runs_in counts ≤ 12
-  pub number : sum counts ≡ 5
-
 le_from : (a b : ℕ) → nat_le a b ≡ true → a ≤ b
 le_from a b is = grind (arith, nat_tests)
 
@@ -158,8 +151,8 @@ IsCounted-ranks ranks are five =
     let counted : IsCounted sorted.0 (rank_counts sorted.0) =
     IsCounted-agree sorted.0 (rank_counts sorted.0) (agree_rising sorted.0 sorted.2 (sym (length-reordered ranks sorted.0 sorted.1) ∙ five)) in
     let counts : rank_counts ranks ≡ rank_counts sorted.0 = rank_counts-reordered ranks sorted.0 sorted.1 in record {
-      pairs = ap (λ n. 2 * n) (pair_total-reordered ranks sorted.0 sorted.1) ∙ counted.pairs ∙ sym (ap pairs_in counts);
-      runs = run_total-reordered ranks sorted.0 sorted.1 ∙ counted.runs ∙ sym (ap runs_in counts);
+      pairs = pair_points-reordered ranks sorted.0 sorted.1 ∙ counted.pairs ∙ sym (ap pairs_in counts);
+      runs = run_points-reordered ranks sorted.0 sorted.1 ∙ counted.runs ∙ sym (ap runs_in counts);
       few_pairs = subst (λ c. pairs_in c ≤ 20) (sym counts) counted.few_pairs;
       few_runs = subst (λ c. runs_in c ≤ 12) (sym counts) counted.few_runs;
       number = ap sum counts ∙ counted.number;

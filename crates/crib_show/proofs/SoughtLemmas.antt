@@ -10,9 +10,9 @@ use Rattle.crib_cards.proofs.LowestCard.{in_set}
 use Rattle.crib_cards.proofs.Members.{has_here, has_there}
 use Rattle.crib_cards.proofs.SetFacts.{IsCardSet-set_without, has-set_without}
 use Rattle.crib_show.specs.Private.Extremes.{crib_suit_points, crib_with, has_room, is_free, most_crib_suits, most_suit_points, plain_crib, ranks_from}
-use Rattle.crib_show.specs.Private.Extremes.{suit_points, cards_in_suit}
+use Rattle.crib_show.specs.Private.Extremes.{suit_points}
 use Rattle.crib_show.specs.Private.Totals.{NoneGive, SomeGive, card_gives, ranks_give, sought_points, throw_gives, without_throw}
-use Rattle.crib_show.specs.Show.{crib_points, plain_points}
+use Rattle.crib_show.specs.Show.{crib_points, plain_of_ranks}
 use Rattle.crib_show.specs.Worst.{AgreesInShow, ArePlain, HasDeal, IsGreatestCrib, IsGreatestTotal, hidden_crib, hidden_hand, hidden_total}
 use Rattle.crib_show.specs.declared.deals.WorstShow.{WorstShow}
 use Rattle.crib_show.specs.declared.totals.Sought.{Sought}
@@ -121,12 +121,12 @@ module _ (worst : WorstShow) where
 
   module _ (unseen_set : IsCardSet worst.unseen) where
     -- the crib with two cards thrown has at most the points of their ranks and the most of their suits
-    crib_low : (x y : ℕ) → MayThrow worst x y → IsRank (rank_of x) → IsRank (rank_of y) → crib_points (crib_with worst x y) worst.starter
+    crib_low : (x y : ℕ) → MayThrow worst x y → crib_points (crib_with worst x y) worst.starter
         ≤ plain_crib worst (rank_of x) (rank_of y) + most_crib_suits worst (rank_of x) (rank_of y)
-    crib_low x y may range_x range_y =
+    crib_low x y may =
         joined (crib_points (crib_with worst x y) worst.starter) (plain_crib worst (rank_of x) (rank_of y)) (crib_suit_points worst x y)
         (most_crib_suits worst (rank_of x) (rank_of y))
-        (crib_of_ranks worst x y (rank_of x) (rank_of y) refl refl range_x range_y) (suits_most worst unseen_set x y may range_x range_y)
+        (crib_of_ranks worst x y) (suits_most worst unseen_set x y may)
       where
         joined : (a b c d : ℕ) → a ≡ b + c → c ≤ d → a ≤ b + d
         joined a b c d e f = omega arith
@@ -139,7 +139,7 @@ module _ (worst : WorstShow) where
         let q = rank_of thrown.y in
         joined (hidden_crib worst dealt) (crib_points (crib_with worst thrown.x thrown.y) worst.starter) (plain_crib worst p q)
         (crib_suit_points worst thrown.x thrown.y)
-        thrown.crib (crib_of_ranks worst thrown.x thrown.y p q refl refl thrown.range_x thrown.range_y)
+        thrown.crib (crib_of_ranks worst thrown.x thrown.y)
         (subst (λ k. k ≤ 96) (plain.each p q thrown.range_x thrown.range_y) (plain.few p q thrown.range_x thrown.range_y))
         (few_suits worst thrown.x thrown.y)
       where
@@ -185,7 +185,7 @@ module _ (worst : WorstShow) where
               no_more_than (hidden_crib worst dealt) (crib_points (crib_with worst thrown.x thrown.y) worst.starter) thrown.crib
               (too_little Crib 0 (most + 1) thrown.x thrown.y less thrown.may thrown.order thrown.range_x thrown.range_y
               (none_more (crib_points (crib_with worst thrown.x thrown.y) worst.starter) (plain_crib worst (rank_of thrown.x) (rank_of thrown.y)
-              + most_crib_suits worst (rank_of thrown.x) (rank_of thrown.y)) (crib_low thrown.x thrown.y thrown.may thrown.range_x thrown.range_y)))
+              + most_crib_suits worst (rank_of thrown.x) (rank_of thrown.y)) (crib_low thrown.x thrown.y thrown.may)))
         ]
 
     -- ---- holds beside a throw
@@ -285,7 +285,7 @@ module _ (worst : WorstShow) where
 
       -- ---- the greatest sum
       pub total_greatest : HasDeal worst → (crib plain suits most : ℕ) → IsGreatestCrib worst crib →
-          plain ≡ plain_points (worst.starter ∷ cards_in_suit 0 four) → suits ≡ most_suit_points worst four →
+          plain ≡ plain_of_ranks (rank_of worst.starter ∷ four) → suits ≡ most_suit_points worst four →
           (most ≡ 0) ⊎ SomeGive worst (CribAndHand four) suits most →
           (most ≡ crib + suits) ⊎ NoneGive worst (CribAndHand four) suits (most + 1) → IsGreatestTotal worst (plain + most)
       total_greatest some crib plain suits most cribs is_plain is_suits give none = record {
@@ -346,6 +346,6 @@ module _ (worst : WorstShow) where
                 (too_little (CribAndHand four) suits (most + 1) thrown.x thrown.y less thrown.may thrown.order thrown.range_x thrown.range_y
                 (sought_few (crib_points (crib_with worst thrown.x thrown.y) worst.starter) (plain_crib worst (rank_of thrown.x) (rank_of thrown.y)
                 + most_crib_suits worst (rank_of thrown.x) (rank_of thrown.y)) (most_suit_points (beside thrown.x thrown.y) four)
-                (crib_low thrown.x thrown.y thrown.may thrown.range_x thrown.range_y)
+                (crib_low thrown.x thrown.y thrown.may)
                 (subst (λ k. k ≤ suits) of.suits (suits_few of.hold of.is_hold))))
           ]

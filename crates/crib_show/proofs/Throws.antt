@@ -8,10 +8,8 @@ use Rattle.std.proofs.lemmas.List.{map-append}
 use Rattle.crib_cards.specs.Cards.{IsRank, card_of, jack, rank_of, suit_of}
 use Rattle.crib_show.specs.Private.Extremes.{crib_suit_points, crib_with, has_room, is_free, least_of_ranks}
 use Rattle.crib_show.specs.Private.Extremes.{least_suits, least_suits_with, may_throw_flush, may_throw_jack, most_crib_suits, no_crib, plain_crib, thrown_suits}
-use Rattle.crib_show.specs.Show.{crib_flush, crib_points, jack_points, plain_points}
+use Rattle.crib_show.specs.Show.{crib_flush, crib_points, jack_points, plain_of_ranks, plain_points}
 use Rattle.crib_show.specs.declared.deals.WorstShow.{WorstShow}
-use Rattle.crib_show.proofs.RankLaw.{plain_points-reordered}
-use Rattle.crib_show.proofs.ReorderedLists.{Reordered, same_order}
 use Rattle.crib_show.proofs.PairTrials.{four_below, four_is, card_back, rank_back}
 
 -- a flush and a jack are six points at most
@@ -56,40 +54,27 @@ module _ (worst : WorstShow) where
       joined a b c d e f g = omega arith
 
   -- ---- the points of the crib
-  plain_same : (x y p q : ℕ) → rank_of x ≡ p → rank_of y ≡ q → IsRank p → IsRank q → plain_points (worst.starter ∷ crib_with worst x y) ≡ plain_crib worst p q
-  plain_same x y p q is_p is_q range_p range_q =
-      plain_points-reordered (worst.starter ∷ crib_with worst x y) (worst.starter ∷ crib_with worst (card_of p 0) (card_of q 0))
-      (subst (Reordered (map rank_of (worst.starter ∷ crib_with worst x y))) same (same_order (map rank_of (worst.starter ∷ crib_with worst x y))))
-    where
-      same : map rank_of (worst.starter ∷ crib_with worst x y) ≡ map rank_of (worst.starter ∷ crib_with worst (card_of p 0) (card_of q 0))
-      same =
-          ap (λ ranks. rank_of worst.starter ∷ ranks)
-          (map-append rank_of worst.own_throw (x ∷ y ∷ [])
-          ∙ (λ i. map rank_of worst.own_throw ++ (is_p ∙ sym (rank_back p 0 (omega arith) range_p.0)) i ∷ (is_q ∙ sym (rank_back q 0 (omega arith) range_q.0))
-          i ∷ [])
-          ∙ sym (map-append rank_of worst.own_throw (card_of p 0 ∷ card_of q 0 ∷ [])))
-
-  pub crib_of_ranks : (x y p q : ℕ) → rank_of x ≡ p → rank_of y ≡ q → IsRank p → IsRank q → crib_points (crib_with worst x y) worst.starter
-      ≡ plain_crib worst p q + crib_suit_points worst x y
+  pub crib_of_ranks : (x y : ℕ) → crib_points (crib_with worst x y) worst.starter
+      ≡ plain_crib worst (rank_of x) (rank_of y) + crib_suit_points worst x y
   unfolding crib_points
-  crib_of_ranks x y p q is_p is_q range_p range_q =
-      regroup (plain_points (worst.starter ∷ crib_with worst x y)) (plain_crib worst p q) (crib_flush (crib_with worst x y) worst.starter)
+  crib_of_ranks x y =
+      regroup (plain_points (worst.starter ∷ crib_with worst x y)) (plain_crib worst (rank_of x) (rank_of y)) (crib_flush (crib_with worst x y) worst.starter)
       (jack_points (crib_with worst x y) worst.starter)
-      (plain_same x y p q is_p is_q range_p range_q)
+      (ap (λ ranks. plain_of_ranks (rank_of worst.starter ∷ ranks)) (map-append rank_of worst.own_throw (x ∷ y ∷ [])))
     where
       regroup : (a b c d : ℕ) → a ≡ b → a + c + d ≡ b + (c + d)
       regroup a b c d same = omega arith
 
   -- the crib with two cards that may be thrown has no fewer points than the least crib of their ranks
-  pub above_least : (x y : ℕ) → MayThrow x y → IsRank (rank_of x) → IsRank (rank_of y) → least_of_ranks worst (rank_of x) (rank_of y) ≤ crib_points
+  pub above_least : (x y : ℕ) → MayThrow x y → least_of_ranks worst (rank_of x) (rank_of y) ≤ crib_points
       (crib_with worst x y) worst.starter
-  above_least x y may range_x range_y =
+  above_least x y may =
       joined (least_of_ranks worst (rank_of x) (rank_of y)) (plain_crib worst (rank_of x) (rank_of y)) (least_suits worst (rank_of x) (rank_of y))
       (thrown_suits worst x y) (crib_suit_points worst x y)
       (crib_points (crib_with worst x y) worst.starter)
       (cond-true (has_room worst (rank_of x) (rank_of y)) (plain_crib worst (rank_of x) (rank_of y) + least_suits worst (rank_of x) (rank_of y)) no_crib
       may.room)
-      (least_suits_below x y) (suits_of x y may) (crib_of_ranks x y (rank_of x) (rank_of y) refl refl range_x range_y)
+      (least_suits_below x y) (suits_of x y may) (crib_of_ranks x y)
     where
       joined : (a b c d e f : ℕ) → a ≡ b + c → c ≤ d → d ≡ e → f ≡ b + e → a ≤ f
       joined a b c d e f h i j k = omega arith
@@ -143,7 +128,7 @@ module _ (worst : WorstShow) where
                     };
                     crib = exactly (crib_points (crib_with worst x y) worst.starter) (plain_crib worst p q) (crib_suit_points worst x y) points
                         (least_of_ranks worst p q) (least_suits worst p q) (least_suits_with worst x q) (thrown_suits worst x y)
-                        (crib_of_ranks x y p q rank_x rank_y range_p range_q) is sum first.2 second.2
+                        (crib_of_ranks x y ∙ (λ i. plain_crib worst (rank_x i) (rank_y i) + crib_suit_points worst x y)) is sum first.2 second.2
                         (cond-true test (crib_suit_points worst x y) no_crib passes);
                   }
             ]

@@ -5,7 +5,7 @@ ghost use Rattle.crib_show.specs.Private.Extremes.{most_suit_points, plain_crib,
 ghost use Rattle.crib_show.specs.Private.Totals.{NoneGive, SomeGive, card_gives, ranks_give, sought_points};
 ghost use Rattle.crib_show.specs.Private.Totals.{throw_gives};
 ghost use Rattle.crib_show.specs.Private.Totals.{without_throw};
-ghost use Rattle.crib_show.specs.Show.{crib_points, plain_points};
+ghost use Rattle.crib_show.specs.Show.{crib_points, plain_of_ranks};
 ghost use Rattle.crib_show.specs.Worst.{ArePlain, HasDeal, IsGreatestCrib, IsGreatestTotal};
 
 use crate::cribs::{MOST_OF_SUITS, plain_cribs};

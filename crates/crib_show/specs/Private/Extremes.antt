@@ -6,7 +6,8 @@ use Rattle.std.specs.List.{list_all}
 use Rattle.crib_cards.specs.Cards.{card_of, suit_of, jack}
 use Rattle.crib_cards.specs.Sets.{has, are_distinct, count_at, count_rank}
 use Rattle.crib_show.specs.declared.deals.WorstShow.{WorstShow}
-use Rattle.crib_show.specs.Show.{are_of_suit, crib_flush, hand_flush, jack_points, plain_points}
+use Rattle.crib_show.specs.Show.{are_of_suit, crib_flush, hand_flush, jack_points}
+use Rattle.crib_show.specs.Worst.{plain_with}
 
 -- the ranks of cards, from how many there are of each rank. The counts begin with some rank
 abbrev pub ranks_from : ℕ → List ℕ → List ℕ
@@ -104,7 +105,7 @@ least_suits worst first second =
 
 -- the points of fifteens, pairs and runs of the crib with these two ranks thrown
 abbrev pub plain_crib : WorstShow → ℕ → ℕ → ℕ
-plain_crib worst first second = plain_points (worst.starter ∷ crib_with worst (card_of first 0) (card_of second 0))
+plain_crib worst first second = plain_with worst.starter worst.own_throw first second
 
 -- the points of the least crib with these two ranks thrown, or no_crib if no such throw is left
 abbrev pub least_of_ranks : WorstShow → ℕ → ℕ → ℕ

@@ -25,26 +25,17 @@ min_is a b = elim (cases_lt a b) [ inl less ↦ inl (omega arith) | inr more ↦
 abbrev least_of_four : (ℕ → ℕ) → ℕ
 least_of_four f = min (min (min (f 0) (f 1)) (f 2)) (f 3)
 
+least_le : (a b c d k : ℕ) → (k ≡ a) ⊎ ((k ≡ b) ⊎ ((k ≡ c) ⊎ (k ≡ d))) → min (min (min a b) c) d ≤ k
+least_le a b c d k (inl is) = omega arith
+least_le a b c d k (inr (inl is)) = omega arith
+least_le a b c d k (inr (inr (inl is))) = omega arith
+least_le a b c d k (inr (inr (inr is))) = omega arith
+
 pub four_below : (f : ℕ → ℕ) (suit : ℕ) → suit < 4 → least_of_four f ≤ f suit
 four_below f zero small = least_le (f 0) (f 1) (f 2) (f 3) (f 0) (inl refl)
-  where
-    least_le : (a b c d k : ℕ) → (k ≡ a) ⊎ ((k ≡ b) ⊎ ((k ≡ c) ⊎ (k ≡ d))) → min (min (min a b) c) d ≤ k
-    least_le a b c d k (inl is) = omega arith
-    least_le a b c d k (inr (inl is)) = omega arith
-    least_le a b c d k (inr (inr (inl is))) = omega arith
-    least_le a b c d k (inr (inr (inr is))) = omega arith
-four_below f (suc zero) small = min_le (f 0) (f 1) (f 2) (f 3)
-  where
-    min_le : (a b c d : ℕ) → min (min (min a b) c) d ≤ b
-    min_le a b c d = omega arith
-four_below f (suc (suc zero)) small = min_le (f 0) (f 1) (f 2) (f 3)
-  where
-    min_le : (a b c d : ℕ) → min (min (min a b) c) d ≤ c
-    min_le a b c d = omega arith
-four_below f (suc (suc (suc zero))) small = min_le (f 0) (f 1) (f 2) (f 3)
-  where
-    min_le : (a b c d : ℕ) → min (min (min a b) c) d ≤ d
-    min_le a b c d = omega arith
+four_below f (suc zero) small = least_le (f 0) (f 1) (f 2) (f 3) (f 1) (inr (inl refl))
+four_below f (suc (suc zero)) small = least_le (f 0) (f 1) (f 2) (f 3) (f 2) (inr (inr (inl refl)))
+four_below f (suc (suc (suc zero))) small = least_le (f 0) (f 1) (f 2) (f 3) (f 3) (inr (inr (inr refl)))
 four_below f (suc (suc (suc (suc n)))) small = absurd (omega arith)
 
 pub four_is : (f : ℕ → ℕ) → (suit : ℕ) × (suit < 4) × (least_of_four f ≡ f suit)

@@ -1,5 +1,5 @@
 -- The points that five cards can have, from their ranks.
-use Rattle.std.proofs.Common.{◌≡◌, ◌≢◌, ℕ, ◌+◌, ◌*◌, ◌≤◌, eqb, not, ◌&&◌, ◌||◌, Bool, true, false, List, [], ◌∷◌, length, map, refl, sym, ap, ◌∙◌, arith}
+use Rattle.std.proofs.Common.{◌≡◌, ◌≢◌, ℕ, ◌+◌, ◌≤◌, eqb, not, ◌&&◌, ◌||◌, Bool, true, false, List, [], ◌∷◌, length, map, refl, sym, ap, ◌∙◌, arith}
 use Rattle.std.proofs.Common.{ne_eqb}
 use Rattle.std.specs.Prelude.{nat_lt}
 use Rattle.std.specs.List.{list_any}
@@ -51,35 +51,8 @@ from_3 = refl
 from_4 : AllowedFrom 4
 from_4 = refl
 
-from_5 : AllowedFrom 5
-from_5 = refl
-
-from_6 : AllowedFrom 6
-from_6 = refl
-
-from_7 : AllowedFrom 7
-from_7 = refl
-
-from_8 : AllowedFrom 8
-from_8 = refl
-
-from_9 : AllowedFrom 9
-from_9 = refl
-
-from_10 : AllowedFrom 10
-from_10 = refl
-
-from_11 : AllowedFrom 11
-from_11 = refl
-
-from_12 : AllowedFrom 12
-from_12 = refl
-
-from_13 : AllowedFrom 13
-from_13 = refl
-
 from_each : (rank : ℕ) → IsRank rank → AllowedFrom rank
-from_each rank is = each_rank AllowedFrom from_1 from_2 from_3 from_4 from_5 from_6 from_7 from_8 from_9 from_10 from_11 from_12 from_13 rank is
+from_each rank is = each_rank AllowedFrom from_1 from_2 from_3 from_4 refl refl refl refl refl refl refl refl refl rank is
 
 allowed_rising : (ranks : List ℕ) → Rises 1 ranks → length ranks ≡ 5 → is_allowed ranks ≡ true
 allowed_rising [] rises five = absurd (omega arith)

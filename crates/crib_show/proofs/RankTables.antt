@@ -1,5 +1,5 @@
 -- Every list of five ranks, each in rising order only.
-use Rattle.std.proofs.Common.{◌≡◌, ℕ, zero, suc, ◌+◌, ◌-◌, ◌*◌, ◌<◌, ◌≤◌, eqb, ◌&&◌, Bool, true, false, List, [], ◌∷◌, length, sum, refl, sym, ap, ◌∙◌, inl}
+use Rattle.std.proofs.Common.{◌≡◌, ℕ, zero, suc, ◌+◌, ◌-◌, ◌<◌, ◌≤◌, eqb, ◌&&◌, Bool, true, false, List, [], ◌∷◌, length, sum, refl, sym, ap, ◌∙◌, inl}
 use Rattle.std.proofs.Common.{inr, subst, arith, eqb-true}
 use Rattle.std.specs.List.{list_all, range_with_len}
 use Rattle.std.proofs.lemmas.Bool.{cases_lt}
@@ -96,35 +96,8 @@ from_3 = refl
 from_4 : AgreeFrom 4
 from_4 = refl
 
-from_5 : AgreeFrom 5
-from_5 = refl
-
-from_6 : AgreeFrom 6
-from_6 = refl
-
-from_7 : AgreeFrom 7
-from_7 = refl
-
-from_8 : AgreeFrom 8
-from_8 = refl
-
-from_9 : AgreeFrom 9
-from_9 = refl
-
-from_10 : AgreeFrom 10
-from_10 = refl
-
-from_11 : AgreeFrom 11
-from_11 = refl
-
-from_12 : AgreeFrom 12
-from_12 = refl
-
-from_13 : AgreeFrom 13
-from_13 = refl
-
 from_each : (rank : ℕ) → IsRank rank → AgreeFrom rank
-from_each rank is = each_rank AgreeFrom from_1 from_2 from_3 from_4 from_5 from_6 from_7 from_8 from_9 from_10 from_11 from_12 from_13 rank is
+from_each rank is = each_rank AgreeFrom from_1 from_2 from_3 from_4 refl refl refl refl refl refl refl refl refl rank is
 
 le_from : (a b : ℕ) → nat_le a b ≡ true → a ≤ b
 le_from a b is = grind (arith, nat_tests)

@@ -81,7 +81,8 @@ impl Kept {
         if self.least_crib != NOT_KEPT {
             return self.least_crib;
         }
-        let points = worst.low_crib(&own.plain(worst));
+        own.work_out_plain(worst);
+        let points = worst.low_crib(own.plain());
         self.least_crib = points;
         points
     }
@@ -98,7 +99,8 @@ impl Kept {
         if self.greatest_crib != NOT_KEPT {
             return self.greatest_crib;
         }
-        let points = worst.greatest_crib(&own.plain(worst));
+        own.work_out_plain(worst);
+        let points = worst.greatest_crib(own.plain());
         self.greatest_crib = points;
         points
     }
@@ -117,7 +119,8 @@ impl Kept {
             return self.greatest_total;
         }
         let crib = self.greatest_crib(worst, own);
-        let points = worst.greatest_total(&own.plain(worst), crib);
+        own.work_out_plain(worst);
+        let points = worst.greatest_total(own.plain(), crib);
         self.greatest_total = points;
         points
     }

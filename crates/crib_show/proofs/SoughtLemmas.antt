@@ -1,7 +1,7 @@
 -- The points that the search finds among the throws are the greatest of the hidden deals that agree.
 use Rattle.std.proofs.Common.{◌≡◌, ◌≢◌, ◌⊎◌, ℕ, ◌+◌, ◌<◌, ◌≤◌, suc, zero, Bool, true, false, not, eqb, leb, ◌&&◌, ◌||◌, List, [], ◌∷◌, refl, sym, ap, ◌∙◌}
 use Rattle.std.proofs.Common.{inl, inr, subst, arith}
-use Rattle.std.proofs.lemmas.Bool.{cases_Bool, cases_lt, and_parts, and_from, or_cases, or_from, or_left, or_right, both_ways, not-true, eqb-false, ne_eqb}
+use Rattle.std.proofs.lemmas.Bool.{cases_Bool, cases_lt, and_parts, and_from, or_cases, or_left, or_right, both_ways, not-true, eqb-false, ne_eqb}
 use Rattle.std.proofs.lemmas.Bool.{le-leb, leb-true}
 use Rattle.crib_cards.specs.Cards.{IsRank, card_of, rank_of, suit_of}
 use Rattle.crib_cards.specs.Sets.{has, set_without, IsCardSet}
@@ -17,7 +17,7 @@ use Rattle.crib_show.specs.Worst.{AgreesInShow, ArePlain, HasDeal, IsGreatestCri
 use Rattle.crib_show.specs.declared.deals.WorstShow.{WorstShow}
 use Rattle.crib_show.specs.declared.totals.Sought.{Sought}
 use Rattle.crib_show.specs.declared.totals.Sought.TheVariants.{Crib, CribAndHand}
-use Rattle.crib_show.proofs.CribLemmas.{deal_with, ordered, suits_most}
+use Rattle.crib_show.proofs.CribLemmas.{deal_with, ordered, suits_most, throw_beside}
 use Rattle.crib_show.proofs.Exchange.{IsHold, deal_of, held_in, hold_of, throw_of}
 use Rattle.crib_show.proofs.HandLemmas.{most_held, no_more, value}
 use Rattle.crib_show.proofs.Throws.{MayThrow, crib_of_ranks, few_suits}
@@ -270,18 +270,8 @@ module _ (worst : WorstShow) where
             gone hold apart k h = elim (cases_Bool (has hold k)) [ inl held ↦ absurd (both_ways (has (x ∷ y ∷ []) k) (apart k held) h) | inr out ↦ out ]
 
         -- the deal of this hold and throw
-        best_deal : HasDeal worst → MayThrow worst x y → (of : Best) → AgreesInShow worst (record { hold = of.hold; throw = x ∷ y ∷ [] })
-        best_deal some may of =
-            let deal = deal_with worst unseen_set some x y may in
-            let thrown = throw_of worst (record { hold = deal.0; throw = x ∷ y ∷ [] }) deal.1 in
-            deal_of worst of.hold (x ∷ y ∷ []) of.is_hold (record {
-              two = refl;
-              distinct = thrown.distinct;
-              unseen = thrown.unseen;
-              apart = λ k h. or_from (eqb x k) (has (y ∷ []) k)
-                  (ne_eqb x k (λ is. both_ways (has of.hold k) (ap (has of.hold) (sym is) ∙ of.out_x) h))
-                  (or_from (eqb y k) false (ne_eqb y k (λ is. both_ways (has of.hold k) (ap (has of.hold) (sym is) ∙ of.out_y) h)) refl);
-            })
+        best_deal : MayThrow worst x y → (of : Best) → AgreesInShow worst (record { hold = of.hold; throw = x ∷ y ∷ [] })
+        best_deal may of = deal_of worst of.hold (x ∷ y ∷ []) of.is_hold (throw_beside worst unseen_set x y may of.hold of.out_x of.out_y)
 
       -- ---- the greatest sum
       pub total_greatest : HasDeal worst → (crib plain suits most : ℕ) → IsGreatestCrib worst crib →
@@ -300,7 +290,7 @@ module _ (worst : WorstShow) where
               let pair = found (CribAndHand four) suits most two in
               let of = best_of_throw pair.x pair.y some pair.may in
               let dealt : Dealt = record { hold = of.hold; throw = pair.x ∷ pair.y ∷ [] } in
-              let agrees = best_deal pair.x pair.y some pair.may of in (
+              let agrees = best_deal pair.x pair.y pair.may of in (
                 dealt,
                 agrees,
                 both (hidden_hand worst dealt) (hidden_crib worst dealt) (suit_points of.hold worst.starter)

@@ -41,7 +41,7 @@ use Rattle.crib_game.proofs.Endings.{ending_is}
 use Rattle.crib_game.proofs.FollowLawProofs.{ended_law, answer_law}
 use Rattle.crib_game.proofs.GameFaults.{hands_are}
 use Rattle.crib_cards.proofs.SetFacts.{in_set_where}
-use Rattle.crib_game.proofs.JudgeLemmas.{left_by}
+use Rattle.crib_game.specs.Private.Judging.{left_by}
 use Rattle.crib_play.proofs.CardLemmas.{filter_yes, filter_no}
 use Rattle.crib_check.specs.declared.keys.Key.{Key}
 use Rattle.crib_check.specs.Failing.{IsFailingEnding, IsFailing}

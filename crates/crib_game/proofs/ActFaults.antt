@@ -30,9 +30,9 @@ use Rattle.crib_game.specs.Laws.{NoneStrays}
 use Rattle.crib_game.specs.Replay.{Judge, first_fault, move_fault, act_fault, acts_fault}
 
 -- ---- one act
-cond_none : (b : Bool) (fault : GameFault) (rest : Option GameFault) → cond b (Some fault) rest ≡ None → (b ≡ false) × (rest ≡ None)
-cond_none true fault rest e = cc
-cond_none false fault rest e = (refl, e)
+pub cond_none : {A : Type 0} (b : Bool) (first : A) (rest : Option A) → cond b (Some first) rest ≡ None → (b ≡ false) × (rest ≡ None)
+cond_none true first rest e = cc
+cond_none false first rest e = (refl, e)
 
 none_cond : (b : Bool) (fault : GameFault) (rest : Option GameFault) → b ≡ false → rest ≡ None → cond b (Some fault) rest ≡ None
 none_cond b fault rest e f = cond-false b (Some fault) rest e ∙ f

@@ -1,10 +1,10 @@
 -- A game is refused unless its cards are a deal and its acts are the visible turns of a legal record.
-use Rattle.std.proofs.Common.{◌≡◌, ℕ, ◌+◌, ◌<◌, ◌≤◌, Bool, true, false, cond, not, ◌||◌, eqb, ltb, List, [], ◌∷◌, ◌++◌, length, reverse, Option, Some, None, Ok}
-use Rattle.std.proofs.Common.{Err, refl, sym, ap, subst, ◌∙◌, inl, inr, arith}
+use Rattle.std.proofs.Common.{◌≡◌, ℕ, ◌+◌, ◌<◌, ◌≤◌, Bool, true, false, cond, not, ◌||◌, eqb, ltb, List, [], ◌∷◌, ◌++◌, length, Option, Some, None, Ok}
+use Rattle.std.proofs.Common.{refl, sym, ap, subst, ◌∙◌, inl, inr, arith}
 use Rattle.std.specs.List.{list_all}
 use Rattle.std.specs.Option.{option_or}
 use Rattle.std.proofs.lemmas.Bool.{cases_Bool, cases_lt, cond-true, cond-false, lt-ltb, le-ltb, and_parts, and_from, or_left, or_right, or_cases, or_parts}
-use Rattle.std.proofs.lemmas.Bool.{eq-eqb, eqb-true, not-true}
+use Rattle.std.proofs.lemmas.Bool.{eq-eqb, eqb-true, not-true, both_ways}
 use Rattle.crib_cards.specs.Deals.{six_cards}
 use Rattle.crib_cards.specs.Sets.{has, are_distinct}
 use Rattle.crib_cards.specs.Start.{Start, pone_of, Hands}
@@ -36,7 +36,7 @@ use Rattle.crib_game.specs.Replay.{record_of, unless_fault, IsRecordOf}
 use Rattle.crib_game.specs.Laws.{NoneStrays}
 use Rattle.crib_game.specs.declared.fault.GameFault.TheVariants.{NotAsPlayed}
 use Rattle.crib_game.specs.Spelling.{AreSixCards}
-use Rattle.crib_game.proofs.ActFaults.{option_or_none, act_right, legal_acts, acts_filled, acts_stay, no_fault}
+use Rattle.crib_game.proofs.ActFaults.{cond_none, option_or_none, act_right, legal_acts, acts_filled, acts_stay, no_fault}
 use Rattle.crib_game.proofs.OpeningActs.{AreAsPlayed, enough_begin, begin_played, none_from, none_to}
 use Rattle.crib_problem.proofs.CardLemmas.{all_parts}
 use Rattle.crib_problem.proofs.LinesReadAreSpelled.{distinct-append}
@@ -67,10 +67,6 @@ start_is problem is = record {
 abbrev AreNew : List ℕ → List ℕ → Type 0
 AreNew known cards = (card : ℕ) → has cards card ≡ true → has known card ≡ false
 
-seen_parts : (b : Bool) (place : ℕ) (rest : Option ℕ) → cond b (Some place) rest ≡ None → (b ≡ false) × (rest ≡ None)
-seen_parts true place rest e = cc
-seen_parts false place rest e = (refl, e)
-
 not_here : (known cards : List ℕ) (card : ℕ) → AreNew (card ∷ known) cards → has cards card ≡ false
 not_here known cards card new =
     elim (cases_Bool (has cards card)) [
@@ -81,7 +77,7 @@ not_here known cards card new =
 pub new_distinct : (known cards : List ℕ) (place : ℕ) → first_seen known place cards ≡ None → AreNew known cards × (are_distinct cards ≡ true)
 new_distinct known [] place e = ((λ card is. cc), refl)
 new_distinct known (card ∷ cards) place e =
-    let parts = seen_parts (has known card) place (first_seen (card ∷ known) (place + 1) cards) e in
+    let parts = cond_none (has known card) place (first_seen (card ∷ known) (place + 1) cards) e in
     let later = new_distinct (card ∷ known) cards (place + 1) parts.1 in (
       (λ other is. elim (or_cases (eqb card other) (has cards other) is) [
         | inl here ↦ ap (has known) (sym (eqb-true card other here)) ∙ parts.0
@@ -89,10 +85,6 @@ new_distinct known (card ∷ cards) place e =
       ]),
       and_from (not (has cards card)) (are_distinct cards) (ap not (not_here known cards card later.0)) later.1,
     )
-
-lacks : (b : Bool) → b ≡ true → b ≡ false → ⊥
-lacks true e f = cc
-lacks false e f = cc
 
 pub none_seen : (known cards : List ℕ) (place : ℕ) → AreNew known cards → are_distinct cards ≡ true → first_seen known place cards ≡ None
 none_seen known [] place new distinct = refl
@@ -113,7 +105,7 @@ none_seen known (card ∷ cards) place new distinct =
         elim (cases_Bool (eqb card other)) [
           | inr differ ↦ differ
           | inl same ↦ (let absent : has cards other ≡ false = ap (has cards) (sym (eqb-true card other same))
-              ∙ not-true (has cards card) (and_parts (not (has cards card)) (are_distinct cards) distinct).0 in absurd (lacks (has cards other) is absent))
+              ∙ not-true (has cards card) (and_parts (not (has cards card)) (are_distinct cards) distinct).0 in absurd (both_ways (has cards other) absent is))
         ]
 
 -- ---- deals
@@ -165,21 +157,6 @@ pub first_seen_none : (place : Option ℕ) → deal_fault place ≡ None → pla
 first_seen_none None e = refl
 first_seen_none (Some place) e = cc
 
-pub deal_refused : (strays : Judge) (problem : Setup) (game : Game) (fault : GameFault) → deal_fault (first_seen (known_cards problem) 1 (six_cards game.opp))
-    ≡ Some fault → game_fault_by strays problem game ≡ Some fault
-deal_refused strays problem game fault e =
-    ap (λ (first : Option GameFault). option_or first (option_or (acts_fault strays (start_of problem) (hands_of problem game.opp) (acts_back game))
-    (few_fault problem.played game.acts.items))) e
-
-pub fault_in_acts : (strays : Judge) (problem : Setup) (game : Game) (acts : List Act) (fault : GameFault) →
-    first_seen (known_cards problem) 1 (six_cards game.opp) ≡ None → acts ≡ game.acts.items →
-    acts_fault strays (start_of problem) (hands_of problem game.opp) (reverse acts) ≡ Some fault → game_fault_by strays problem game ≡ Some fault
-fault_in_acts strays problem game acts fault none is e =
-    ap (λ (place : Option ℕ). option_or (deal_fault place) (option_or (acts_fault strays (start_of problem) (hands_of problem game.opp) (acts_back game))
-    (few_fault problem.played game.acts.items))) none
-    ∙ ap (λ (first : Option GameFault). option_or first (few_fault problem.played game.acts.items))
-    (ap (λ (items : List Act). acts_fault strays (start_of problem) (hands_of problem game.opp) (reverse items)) (sym is) ∙ e)
-
 pub no_fault_in_acts : (strays : Judge) (problem : Setup) (game : Game) → first_seen (known_cards problem) 1 (six_cards game.opp) ≡ None →
     acts_fault strays (start_of problem) (hands_of problem game.opp) (acts_back game) ≡ None →
     game_fault_by strays problem game ≡ few_fault problem.played game.acts.items
@@ -202,10 +179,7 @@ acts_enough played acts e =
       | inr enough ↦ enough
     ]
 
--- the answer with a refusal, and without one
-pub refused_is : {A : Type 0} (found : Option GameFault) (fault : GameFault) (value : A) → found ≡ Some fault → Err fault ≡ unless_fault found value
-refused_is found fault value e = ap (λ (f : Option GameFault). unless_fault f value) (sym e)
-
+-- the answer without a refusal
 pub accepted_is : {A : Type 0} (found : Option GameFault) (given value : A) → found ≡ None → given ≡ value → Ok given ≡ unless_fault found value
 accepted_is found given value e is = ap Ok is ∙ ap (λ (f : Option GameFault). unless_fault f value) (sym e)
 
@@ -326,8 +300,4 @@ no_fault_is problem game played is of = no_fault_by (by_rules problem) problem g
 
 pub not_recorded : (problem : Setup) (game : Game) (fault : GameFault) → IsSetup problem → game_fault problem game ≡ Some fault → (played : List Move) →
     IsRecordOf problem game played → ⊥
-not_recorded problem game fault is e played of = let none = no_fault_is problem game played is of in differ (game_fault problem game) fault e none
-  where
-    differ : (found : Option GameFault) (some : GameFault) → found ≡ Some some → found ≡ None → ⊥
-    differ None some here there = cc
-    differ (Some found) some here there = cc
+not_recorded problem game fault is e played of = let both : Some fault ≡ None = sym e ∙ no_fault_is problem game played is of in cc

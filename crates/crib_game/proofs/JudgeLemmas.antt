@@ -17,7 +17,7 @@ use Rattle.crib_cards.specs.declared.moves.Act.{Act}
 use Rattle.crib_play.specs.declared.turns.Turn.TheVariants as turns
 use Rattle.crib_play.specs.Record.{mover, count_of, pile_of}
 use Rattle.crib_play.specs.Score.{asks, is_done, side_asked}
-use Rattle.crib_play.specs.Filled.{filled_record}
+use Rattle.crib_play.specs.Filled.{filled_record, is_visible}
 use Rattle.crib_play.specs.Standing.{Standing, standing_after, MayShow, StandsFor}
 use Rattle.crib_play.specs.Legal.{IsDealt, letters_of, cards_of, cards_left, fits}
 use Rattle.crib_play.specs.History.{filled_moves, moves_of}
@@ -28,10 +28,12 @@ use Rattle.crib_play.proofs.LegalRecords.{legal_filled, visible_after}
 use Rattle.crib_game.specs.declared.fault.GameFault.{GameFault}
 use Rattle.crib_game.specs.declared.fault.GameFault.TheVariants.{NotHeld, DoesNotFit, MustPlay, Strays}
 use Rattle.crib_game.specs.declared.judging.HeldCards.{HeldCards}
+use Rattle.crib_game.specs.declared.judging.JudgedGame.{JudgedGame}
 use Rattle.crib_game.specs.declared.remark.Remark.{Remark}
 use Rattle.crib_game.specs.declared.remark.Remark.TheVariants.{Fine, NotPlayed, Astray}
 use Rattle.crib_game.specs.Replay.{Judge, turn_fault, first_fault, move_fault_at, move_fault, act_fault, acts_fault}
-use Rattle.crib_game.specs.Private.Judging.{is_over, held_cards_of, held_cards_after, fault_at, MayShowAt}
+use Rattle.crib_game.specs.Private.Judging.{is_over, held_cards_of, held_cards_after, left_by, fault_at, MayShowAt}
+use Rattle.crib_game.specs.Private.Walking.{IsJudged}
 use Rattle.crib_game.proofs.ActFaults.{IsRight, act_right, legal_acts}
 use Rattle.crib_game.proofs.HeldSets.{has-set_of, any-set_of, all_filter, set_without_filter}
 use Rattle.crib_problem.proofs.HonestTurns.{all_from_back}
@@ -49,9 +51,6 @@ pub record AreCards (hands : Hands) : Type 0 where
 pub all_left : (hands : Hands) (side : Side) (seen : List Move) → AreCards hands → AllByRecursion IsCard (cards_left hands side seen)
 all_left hands Owner seen are = all_filter (λ card. not (has (cards_of seen) card)) hands.owner are.owner
 all_left hands Opponent seen are = all_filter (λ card. not (has (cards_of seen) card)) hands.opponent are.opponent
-
-abbrev pub left_by : Hands → List Move → HeldCards
-left_by hands seen = record { owner = set_of (cards_left hands Owner seen); opponent = set_of (cards_left hands Opponent seen) }
 
 held_left : (hands : Hands) (side : Side) (seen : List Move) → held_cards_of (left_by hands seen) side ≡ set_of (cards_left hands side seen)
 held_left hands Owner seen = refl
@@ -130,56 +129,53 @@ fault_here strays start hands act before fault none is =
     ∙ is
 
 -- ---- the acts so far
--- a round and the cards that are left, after acts of which none is refused
-pub record Judged (strays : Judge) (start : Start) (hands : Hands) (table : Standing) (held : HeldCards) (before : List Act) : Type 0 where
-  pub stands : StandsFor table start (letters_of (moves_of before))
-  pub clear : acts_fault strays start hands before ≡ None
-  pub holds : held ≡ left_by hands (moves_of before)
+pub judged_start : {judge : Judge} {start : Start} {hands : Hands} (walk : JudgedGame) → StandsFor walk.round start [] →
+    walk.held ≡ record { owner = set_of hands.owner; opponent = set_of hands.opponent } → IsJudged judge start hands walk []
+judged_start {hands} walk stands holds = record { stands = stands; clear = refl; holds = holds ∙ held_start hands }
 
-pub judged_start : (strays : Judge) (start : Start) (hands : Hands) (table : Standing) (held : HeldCards) → StandsFor table start [] →
-    held ≡ record { owner = set_of hands.owner; opponent = set_of hands.opponent } → Judged strays start hands table held []
-judged_start strays start hands table held stands holds = record { stands = stands; clear = refl; holds = holds ∙ held_start hands }
-
-module _ (strays : Judge) (start : Start) (hands : Hands) (are : AreCards hands) (table : Standing) (held : HeldCards) (before : List Act)
-    (j : Judged strays start hands table held before) (act : Act) where
+module _ {judge : Judge} {start : Start} {hands : Hands} {walk : JudgedGame} {before : List Act} (are : AreCards hands)
+    (j : IsJudged judge start hands walk before) (act : Act) where
   abbrev past : List Move
   past = filled_moves start (moves_of before)
 
-  judged_is : (place : ℕ) → fault_at (strays act past) table (held_cards_of held act.side) act place ≡ act_fault strays start hands act past place
+  judged_is : (place : ℕ) → fault_at (judge act past) walk.round (held_cards_of walk.held act.side) act place ≡ act_fault judge start hands act past place
   judged_is place =
-      ap (λ (cards : List ℕ). fault_at (strays act past) table cards act place) (ap (λ (h : HeldCards). held_cards_of h act.side) j.holds
+      ap (λ (cards : List ℕ). fault_at (judge act past) walk.round cards act place) (ap (λ (h : HeldCards). held_cards_of h act.side) j.holds
       ∙ held_left hands act.side (moves_of before))
-      ∙ fault_is strays table start hands act (moves_of before) place are j.stands.shows
+      ∙ fault_is judge walk.round start hands act (moves_of before) place are j.stands.shows
 
-  pub judged_fault : (fault : Option GameFault) → fault_at (strays act past) table (held_cards_of held act.side) act (length before + 1) ≡ fault →
-      acts_fault strays start hands (act ∷ before) ≡ fault
-  judged_fault fault e = fault_here strays start hands act before fault j.clear (sym (judged_is (length before + 1)) ∙ e)
+  pub judged_fault : (fault : Option GameFault) → fault_at (judge act past) walk.round (held_cards_of walk.held act.side) act (length before + 1) ≡ fault →
+      acts_fault judge start hands (act ∷ before) ≡ fault
+  judged_fault fault e = fault_here judge start hands act before fault j.clear (sym (judged_is (length before + 1)) ∙ e)
 
-  module _ (place : ℕ) (e : fault_at (strays act past) table (held_cards_of held act.side) act place ≡ None) where
-    pub judged_right : IsRight strays start hands act past
-    judged_right = act_right strays start hands act past place (sym (judged_is place) ∙ e)
+  module _ (e : fault_at (judge act past) walk.round (held_cards_of walk.held act.side) act (length before + 1) ≡ None) where
+    pub judged_right : IsRight judge start hands act past
+    judged_right = act_right judge start hands act past (length before + 1) (sym (judged_is (length before + 1)) ∙ e)
 
-    shows_at : (turn : Move) → MayShow (letter_of turn) (letters_of past) → MayShowAt turn table
+    pub judged_visible : IsDealt hands → is_visible (pone_of start) (letter_of act.what) (letters_of past) ≡ true
+    judged_visible dealt =
+        visible_after start hands act.what (moves_of before) j.stands.started dealt (legal_acts judge start hands before j.clear) judged_right.may
+
+    shows_at : (turn : Move) → MayShow (letter_of turn) (letters_of past) → MayShowAt turn walk.round
     shows_at (move.Card card) may = let P : Standing → Type 0 = λ x. count_of x.pile + card_value card ≤ 31 in
-        subst P (sym (shows_filled table start (moves_of before) j.stands.shows)) may
+        subst P (sym (shows_filled walk.round start (moves_of before) j.stands.shows)) may
     shows_at move.Go may = let P : Standing → Type 0 = λ x. 22 ≤ count_of x.pile in
-        subst P (sym (shows_filled table start (moves_of before) j.stands.shows)) may
+        subst P (sym (shows_filled walk.round start (moves_of before) j.stands.shows)) may
 
-    pub judged_shows : IsDealt hands → MayShowAt act.what table
+    pub judged_shows : IsDealt hands → MayShowAt act.what walk.round
     judged_shows dealt =
-        let are_legal = legal_acts strays start hands before j.clear in
         shows_at act.what
-        (may_show start hands act.what past (play_of start hands dealt past (legal_filled start hands (moves_of before) dealt are_legal)) judged_right.may
-        (visible_after start hands act.what (moves_of before) j.stands.started dealt are_legal judged_right.may))
+        (may_show start hands act.what past
+        (play_of start hands dealt past (legal_filled start hands (moves_of before) dealt (legal_acts judge start hands before j.clear))) judged_right.may
+        (judged_visible dealt))
 
-  pub judged_next : (new : Standing) (left : HeldCards) → fault_at (strays act past) table (held_cards_of held act.side) act (length before + 1) ≡ None →
-      StandsFor new start (letter_of act.what ∷ letters_of (moves_of before)) → left ≡ held_cards_after held act.what →
-      Judged strays start hands new left (act ∷ before)
-  judged_next new left e stands is = record {
-    stands = stands;
-    clear = judged_fault None e;
-    holds = is ∙ ap (λ (h : HeldCards). held_cards_after h act.what) j.holds ∙ held_step hands act.what (moves_of before);
-  }
+    pub judged_next : (new : JudgedGame) → StandsFor new.round start (letter_of act.what ∷ letters_of (moves_of before)) →
+        new.held ≡ held_cards_after walk.held act.what → IsJudged judge start hands new (act ∷ before)
+    judged_next new stands is = record {
+      stands = stands;
+      clear = judged_fault None e;
+      holds = is ∙ ap (λ (h : HeldCards). held_cards_after h act.what) j.holds ∙ held_step hands act.what (moves_of before);
+    }
 
 -- ---- the acts of a list
 pub reverse_more : (acts : List Act) (i : ℕ) (act : Act) → i < length acts → reverse (take (i + 1) acts) ≡ get_or acts i act ∷ reverse (take i acts)

@@ -1,151 +1,111 @@
 -- The code's walk over the acts of a game, which judges each act by the round and the cards that are left.
-use Rattle.std.proofs.Common.{◌≡◌, ℕ, ◌+◌, ◌<◌, ◌≤◌, Bool, cond, ltb, List, [], ◌∷◌, length, get_or, take, reverse, Option, Some, None, sym, ap, subst, ◌∙◌}
-use Rattle.std.proofs.Common.{arith}
+use Rattle.std.proofs.Common.{◌≡◌, ℕ, ◌+◌, ◌<◌, ◌≤◌, Bool, List, ◌∷◌, length, get_or, take, reverse, Option, Some, None, sym, ap, subst, ◌∙◌}
+use Rattle.std.specs.Prelude.{slice_get, is_some}
 use Rattle.std.proofs.lemmas.List.{take_all}
-use Rattle.crib_cards.specs.Deals.{six_cards}
 use Rattle.crib_cards.specs.Letters.{letter_of}
-use Rattle.crib_cards.specs.Sets.{set_of}
+use Rattle.crib_cards.specs.Start.{pone_of}
+use Rattle.crib_cards.specs.declared.sides.Dealt.{Dealt}
 use Rattle.crib_cards.specs.declared.moves.Move.{Move}
 use Rattle.crib_cards.specs.declared.moves.Act.{Act}
-use Rattle.crib_play.specs.Standing.{Standing, StandsFor}
-use Rattle.crib_play.specs.Legal.{letters_of}
-use Rattle.crib_play.specs.History.{filled_moves, moves_of}
-use Rattle.crib_problem.specs.Setup.{Setup, IsSetup, known_cards, start_of, hands_of}
+use Rattle.crib_play.specs.Record.{count_of}
+use Rattle.crib_play.specs.Filled.{points_added}
+use Rattle.crib_play.specs.Standing.{StandsFor}
+use Rattle.crib_play.specs.Legal.{IsDealt, letters_of}
+use Rattle.crib_play.specs.History.{moves_of}
+use Rattle.crib_problem.specs.Setup.{Setup, start_of, hands_of}
 use Rattle.crib_game.specs.declared.fault.GameFault.{GameFault}
-use Rattle.crib_game.specs.declared.game.Game.{Game}
-use Rattle.crib_game.specs.declared.judging.HeldCards.{HeldCards}
-use Rattle.crib_game.specs.Replay.{Judge, remark_of, next_played, first_seen, deal_fault, few_fault, acts_back, game_fault_by}
-use Rattle.crib_game.specs.declared.fault.GameFault.TheVariants.{NotAsPlayed}
+use Rattle.crib_game.specs.declared.judging.JudgedGame.{JudgedGame}
 use Rattle.crib_game.specs.declared.remark.Remark.{Remark}
-use Rattle.crib_game.proofs.ActFaults.{acts_filled}
-use Rattle.crib_cards.specs.Start.{pone_of}
-use Rattle.std.specs.Prelude.{slice_get}
-use Rattle.crib_game.specs.Spelling.{AreSixCards}
+use Rattle.crib_game.specs.declared.report.Row.{Row}
+use Rattle.crib_game.specs.Replay.{remark_of, next_played, acts_fault, count_with}
 use Rattle.crib_game.specs.Private.Judging.{held_cards_of, held_cards_after, fault_at, MayShowAt}
-use Rattle.crib_game.proofs.JudgeLemmas.{Judged, judged_start, judged_fault, judged_shows, judged_next, reverse_more, fault_all, length_before}
-use Rattle.crib_game.proofs.GameFaults.{first_seen_none, hands_are, hands_dealt, fault_in_acts, no_fault_in_acts}
+use Rattle.crib_game.specs.Private.Walking.{by_opening, CanBeJudged, IsJudged, record_after, IsNext}
+use Rattle.crib_game.proofs.ActFaults.{acts_filled}
+use Rattle.crib_game.proofs.JudgeLemmas.{AreCards, judged_fault, judged_right, judged_visible, judged_shows, judged_next, reverse_more, fault_all}
+use Rattle.crib_game.proofs.JudgeLemmas.{length_before}
+use Rattle.crib_game.proofs.GameFaults.{hands_are, hands_dealt}
+use Rattle.crib_game.proofs.Reports.{row_is}
 
--- a game whose six cards are not refused, and its acts in the order of play
-pub record IsDealtGame (problem : Setup) (game : Game) (acts : List Act) : Type 0 where
-  pub setup : IsSetup problem
-  pub six : AreSixCards game.opp
-  pub clear : deal_fault (first_seen (known_cards problem) 1 (six_cards game.opp)) ≡ None
-  pub whole_game : acts ≡ game.acts.items
-
--- the acts before a place. None of them is refused
+-- the acts before a place
 abbrev pub acts_before : List Act → ℕ → List Act
 acts_before acts i = reverse (take i acts)
 
 -- the filled record of the acts before a place
 abbrev pub record_before : Setup → List Act → ℕ → List Move
-record_before problem acts i = filled_moves (start_of problem) (moves_of (acts_before acts i))
+record_before problem acts i = record_after problem (acts_before acts i)
 
--- the walk has taken the acts before a place, none of which is refused, and has this round and these cards left
-pub record WalksTo (strays : Judge) (problem : Setup) (game : Game) (acts : List Act) (table : Standing) (held : HeldCards) (i place : ℕ) : Type 0 where
-  pub judged : Judged strays (start_of problem) (hands_of problem game.opp) table held (acts_before acts i)
-  pub counted : place ≡ i
+pub one_more : (acts : List Act) (i : ℕ) (act : Act) → i < length acts → act ≡ get_or acts i act → act ∷ acts_before acts i ≡ acts_before acts (i + 1)
+one_more acts i act inside at = ap (λ (x : Act). x ∷ acts_before acts i) at ∙ sym (reverse_more acts i act inside)
 
-pub walk_start : (strays : Judge) (problem : Setup) (game : Game) (acts : List Act) (table : Standing) (held : HeldCards) (place : ℕ) →
-    StandsFor table (start_of problem) [] → held ≡ record { owner = set_of problem.hold; opponent = set_of game.opp.hold } → place ≡ 0 →
-    WalksTo strays problem game acts table held 0 place
-walk_start strays problem game acts table held place stands holds zero = record {
-  judged = judged_start strays (start_of problem) (hands_of problem game.opp) table held stands holds;
-  counted = zero;
-}
+module _ {problem : Setup} {dealt : Dealt} (can : CanBeJudged problem dealt) where
+  are_cards : AreCards (hands_of problem dealt)
+  are_cards = hands_are problem dealt can.setup can.six
 
-module _ (strays : Judge) (problem : Setup) (game : Game) (acts : List Act) (dealt : IsDealtGame problem game acts) where
-  none_seen : first_seen (known_cards problem) 1 (six_cards game.opp) ≡ None
-  none_seen = first_seen_none (first_seen (known_cards problem) 1 (six_cards game.opp)) dealt.clear
+  are_dealt : IsDealt (hands_of problem dealt)
+  are_dealt = hands_dealt problem dealt can.setup can.six.held can.unseen
 
-  module _ (table : Standing) (held : HeldCards) (i place : ℕ) (walks : WalksTo strays problem game acts table held i place) where
-    -- all acts are taken
-    whole : length acts ≤ i → acts_before acts i ≡ acts_back game
-    whole all = ap reverse (take_all i acts all ∙ dealt.whole_game)
+-- the walk has taken the acts before a place, none of which is refused, and has counted them
+pub record WalksTo (astray : Act → List Move → Bool) (problem : Setup) (dealt : Dealt) (acts : List Act) (walk : JudgedGame) (i number : ℕ) : Type 0 where
+  pub judged : IsJudged (by_opening astray problem) (start_of problem) (hands_of problem dealt) walk (acts_before acts i)
+  pub counted : number ≡ i
 
-    pub walk_stands : length acts ≤ i → StandsFor table (start_of problem) (letters_of (moves_of (acts_back game)))
-    walk_stands all = let S : List Act → Type 0 = λ xs. StandsFor table (start_of problem) (letters_of (moves_of xs)) in subst S (whole all) walks.judged.stands
+-- all acts are taken
+pub walk_ends : {astray : Act → List Move → Bool} {problem : Setup} {dealt : Dealt} {acts : List Act} {walk : JudgedGame} {i number : ℕ} →
+    WalksTo astray problem dealt acts walk i number → length acts ≤ i →
+    IsJudged (by_opening astray problem) (start_of problem) (hands_of problem dealt) walk (reverse acts)
+walk_ends {astray} {problem} {dealt} {acts} {walk} {i} walks all =
+    let J : List Act → Type 0 = λ xs. IsJudged (by_opening astray problem) (start_of problem) (hands_of problem dealt) walk xs in
+    subst J (ap reverse (take_all i acts all)) walks.judged
 
-    pub walk_clear : length acts ≤ i → game_fault_by strays problem game ≡ few_fault problem.played game.acts.items
-    walk_clear all =
-        let J : List Act → Type 0 = λ xs. Judged strays (start_of problem) (hands_of problem game.opp) table held xs in
-        let judged = subst J (whole all) walks.judged in
-        no_fault_in_acts strays problem game none_seen judged.clear
+-- the next act is judged
+module _ {astray : Act → List Move → Bool} {problem : Setup} {dealt : Dealt} {acts : List Act} {walk : JudgedGame} {i number : ℕ} {act : Act}
+    {remark : Remark} {found : Option GameFault} (can : CanBeJudged problem dealt) (walks : WalksTo astray problem dealt acts walk i number)
+    (inside : i < length acts) (at : act ≡ get_or acts i act)
+    (remarked : remark ≡ remark_of (slice_get problem.played number) (astray act (record_before problem acts i)) act)
+    (judged : found ≡ fault_at remark walk.round (held_cards_of walk.held act.side) act (number + 1)) where
+  next_is : slice_get problem.played number ≡ next_played problem.played (pone_of (start_of problem)) (record_before problem acts i)
+  next_is =
+      let start = start_of problem in
+      let before = acts_before acts i in
+      let visible = acts_filled (by_opening astray problem) start (hands_of problem dealt) before walks.judged.stands.started (are_dealt can)
+      walks.judged.clear in
+      ap (slice_get problem.played) (walks.counted ∙ sym (ap length visible ∙ length_before acts i inside))
 
-    pub walk_whole : length acts ≤ i → acts_before acts i ≡ acts_back game
-    walk_whole all = whole all
+  here : fault_at (by_opening astray problem act (record_before problem acts i)) walk.round (held_cards_of walk.held act.side) act
+      (length (acts_before acts i) + 1) ≡ found
+  here =
+      (λ j. fault_at (remark_of (sym next_is j) (astray act (record_before problem acts i)) act) walk.round (held_cards_of walk.held act.side) act
+      ((length_before acts i inside ∙ sym walks.counted) j + 1))
+      ∙ ap (λ (r : Remark). fault_at r walk.round (held_cards_of walk.held act.side) act (number + 1)) (sym remarked) ∙ sym judged
 
-    -- the walk has counted all acts
-    pub walk_count : length acts ≤ i → i ≤ length acts → length game.acts.items ≡ place
-    walk_count all within = let same = ap length dealt.whole_game in let at = walks.counted in omega (arith, all, within, same, at)
+  -- the walk stops at an act that is refused
+  pub walk_stops : {fault : GameFault} → found ≡ Some fault →
+      acts_fault (by_opening astray problem) (start_of problem) (hands_of problem dealt) (reverse acts) ≡ Some fault
+  walk_stops {fault} e =
+      fault_all (by_opening astray problem) (start_of problem) (hands_of problem dealt) acts i act fault inside at
+      (judged_fault (are_cards can) walks.judged act (Some fault) (here ∙ e))
 
-    -- the refusal at the end of the acts: that of the first missing act, if there is one
-    pub walk_few : length acts ≤ i → i ≤ length acts → (played : List Act) (found : Option GameFault) → played ≡ problem.played →
-        found ≡ cond (ltb place (length played)) (Some (NotAsPlayed (place + 1))) None → game_fault_by strays problem game ≡ found
-    walk_few all within played found same is =
-        let count = walk_count all within in
-        walk_clear all ∙ (λ j. cond (ltb (count j) (length (sym same j))) (Some (NotAsPlayed (count j + 1))) None) ∙ sym is
+  module _ (fine : found ≡ None) where
+    pub walk_shows : MayShowAt act.what walk.round
+    walk_shows = judged_shows (are_cards can) walks.judged act (here ∙ fine) (are_dealt can)
 
-    -- one more act is taken
-    module _ (act : Act) (inside : i < length acts) (at : act ≡ get_or acts i act) where
-      one_more : length (acts_before acts i) + 1 ≡ place + 1
-      one_more = ap (λ (n : ℕ). n + 1) (length_before acts i inside ∙ sym walks.counted)
-
-      -- the turn of the opening at the place of the act
-      next_is : next_played problem.played (pone_of (start_of problem)) (record_before problem acts i) ≡ slice_get problem.played place
-      next_is =
-          let start = start_of problem in
-          let hands = hands_of problem game.opp in
-          let before = acts_before acts i in
-          let visible = acts_filled strays start hands before walks.judged.stands.started (hands_dealt problem game.opp dealt.setup dealt.six.held none_seen)
-          walks.judged.clear in
-          ap (slice_get problem.played) (ap length visible ∙ length_before acts i inside ∙ sym walks.counted)
-
-      -- the remark on the act
-      pub remark_is : (played : List Act) (next : Option Act) (remark : Remark) (astray : Bool) → played ≡ problem.played → next ≡ slice_get played place →
-          remark ≡ remark_of next astray act →
-          remark ≡ remark_of (next_played problem.played (pone_of (start_of problem)) (record_before problem acts i)) astray act
-      remark_is played next remark astray same at_next of =
-          of ∙ ap (λ (o : Option Act). remark_of o astray act) (at_next ∙ ap (λ (acts : List Act). slice_get acts place) same ∙ sym next_is)
-
-      pub next_same : (played : List Act) (next : Option Act) → played ≡ problem.played → next ≡ slice_get played place →
-          next ≡ next_played problem.played (pone_of (start_of problem)) (record_before problem acts i)
-      next_same played next same at_next = at_next ∙ ap (λ (acts : List Act). slice_get acts place) same ∙ sym next_is
-
-      abbrev pub judgement : Option GameFault
-      judgement = fault_at (strays act (record_before problem acts i)) table (held_cards_of held act.side) act (place + 1)
-
-      pub walk_judged : (remark : Remark) (fault : Option GameFault) → remark ≡ strays act (record_before problem acts i) →
-          fault_at remark table (held_cards_of held act.side) act (place + 1) ≡ fault → judgement ≡ fault
-      walk_judged remark fault is e = ap (λ (r : Remark). fault_at r table (held_cards_of held act.side) act (place + 1)) (sym is) ∙ e
-
-      here : (fault : Option GameFault) → judgement ≡ fault → fault_at (strays act (record_before problem acts i)) table (held_cards_of held act.side) act
-          (length (acts_before acts i) + 1) ≡ fault
-      here fault e = ap (fault_at (strays act (record_before problem acts i)) table (held_cards_of held act.side) act) one_more ∙ e
-
-      pub walk_stops : (fault : GameFault) → judgement ≡ Some fault → game_fault_by strays problem game ≡ Some fault
-      walk_stops fault e =
-          fault_in_acts strays problem game acts fault none_seen dealt.whole_game
-          (fault_all strays (start_of problem) (hands_of problem game.opp) acts i act fault inside at
-          (judged_fault strays (start_of problem) (hands_of problem game.opp) (hands_are problem game.opp dealt.setup dealt.six) table held
-          (acts_before acts i) walks.judged act (Some fault) (here (Some fault) e)))
-
-      pub walk_shows : judgement ≡ None → MayShowAt act.what table
-      walk_shows e =
-          judged_shows strays (start_of problem) (hands_of problem game.opp) (hands_are problem game.opp dealt.setup dealt.six) table held (acts_before acts i)
-          walks.judged act (place + 1) e
-          (hands_dealt problem game.opp dealt.setup dealt.six.held none_seen)
-
-      pub walk_more : act ∷ acts_before acts i ≡ acts_before acts (i + 1)
-      walk_more = ap (λ (x : Act). x ∷ acts_before acts i) at ∙ sym (reverse_more acts i act inside)
-
-      pub walk_goes_on : (new : Standing) (left : HeldCards) → judgement ≡ None →
-          StandsFor new (start_of problem) (letter_of act.what ∷ letters_of (moves_of (acts_before acts i))) → left ≡ held_cards_after held act.what →
-          WalksTo strays problem game acts new left (i + 1) (place + 1)
-      walk_goes_on new left e stands holds =
-          let J : List Act → Type 0 = λ xs. Judged strays (start_of problem) (hands_of problem game.opp) new left xs in
+    -- an act that is not refused is taken
+    module _ (new : JudgedGame) (stands : StandsFor new.round (start_of problem) (letter_of act.what ∷ letters_of (moves_of (acts_before acts i)))) where
+      pub walk_goes_on : new.held ≡ held_cards_after walk.held act.what → WalksTo astray problem dealt acts new (i + 1) (number + 1)
+      walk_goes_on held =
+          let J : List Act → Type 0 = λ xs. IsJudged (by_opening astray problem) (start_of problem) (hands_of problem dealt) new xs in
           record {
-            judged = subst J walk_more
-                (judged_next strays (start_of problem) (hands_of problem game.opp) (hands_are problem game.opp dealt.setup dealt.six) table held
-                (acts_before acts i) walks.judged act new left (here None e) stands holds);
+            judged = subst J (one_more acts i act inside at) (judged_next (are_cards can) walks.judged act (here ∙ fine) new stands held);
             counted = ap (λ (n : ℕ). n + 1) walks.counted;
           }
+
+      pub walk_next : {row : Row} {is_played : Bool} → is_played ≡ is_some (slice_get problem.played number) → row.act ≡ act →
+          row.count ≡ count_with (count_of walk.round.pile) act.what →
+          row.points ≡ points_added (start_of problem) (letter_of act.what) (letters_of (moves_of (acts_before acts i))) →
+          row.scores ≡ new.round.scores → IsNext problem (acts_before acts i) act is_played row
+      walk_next {row} played is count points scores = record {
+        side = (judged_right (are_cards can) walks.judged act (here ∙ fine)).side;
+        visible = judged_visible (are_cards can) walks.judged act (here ∙ fine) (are_dealt can);
+        played = played ∙ ap is_some next_is;
+        row_is = row_is row (start_of problem) walk.round new.round act (acts_before acts i) walks.judged.stands stands is count points scores;
+      }

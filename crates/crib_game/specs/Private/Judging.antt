@@ -1,7 +1,8 @@
 -- How acts are judged in the code: by the round and the cards that are left to each side.
 use Rattle.std.specs.Prelude.{ℕ, ◌+◌, ◌≤◌, Bool, true, false, List, Option}
 use Rattle.crib_cards.specs.Cards.{card_value}
-use Rattle.crib_cards.specs.Sets.{set_without}
+use Rattle.crib_cards.specs.Sets.{set_of, set_without}
+use Rattle.crib_cards.specs.Start.{Hands}
 use Rattle.crib_cards.specs.declared.sides.Dealt.{Dealt}
 use Rattle.crib_cards.specs.declared.sides.Side.{Side}
 use Rattle.crib_cards.specs.declared.sides.Side.TheVariants.{Owner, Opponent}
@@ -11,6 +12,7 @@ use Rattle.crib_cards.specs.declared.moves.Act.{Act}
 use Rattle.crib_play.specs.declared.turns.Turn.{Turn}
 use Rattle.crib_play.specs.declared.turns.Turn.TheVariants as turns
 use Rattle.crib_play.specs.Record.{count_of}
+use Rattle.crib_play.specs.Legal.{cards_left}
 use Rattle.crib_play.specs.Score.{asks}
 use Rattle.crib_play.specs.Standing.{Standing}
 use Rattle.crib_show.specs.declared.deals.Full.{Full}
@@ -36,6 +38,11 @@ abbrev pub held_cards_after : HeldCards → Move → HeldCards
 held_cards_after held (move.Card card) =
     record { owner = set_without held.owner card; opponent = set_without held.opponent card }
 held_cards_after held move.Go = held
+
+-- the cards that are left to the sides after some moves
+abbrev pub left_by : Hands → List Move → HeldCards
+left_by hands moves =
+    record { owner = set_of (cards_left hands Owner moves); opponent = set_of (cards_left hands Opponent moves) }
 
 -- the refusal of an act in a round, by the cards that its side has left and the remark on the act
 abbrev pub fault_at : Remark → Standing → List ℕ → Act → ℕ → Option GameFault

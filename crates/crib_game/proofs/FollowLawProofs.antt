@@ -1,8 +1,9 @@
 -- The laws of following a plan, as `specs/FollowLaws` states them.
-use Rattle.std.proofs.Common.{◌≡◌, ℕ, Bool, true, false, not, ◌&&◌, ◌||◌, eqb, List, [], ◌∷◌, Option, Some, None, Result, Ok, refl, sym, ap, subst, ◌∙◌, inl}
+use Rattle.std.proofs.Common.{◌≡◌, ℕ, Bool, true, false, not, ◌&&◌, ◌||◌, List, [], ◌∷◌, Option, Some, None, Result, Ok, refl, sym, ap, subst, ◌∙◌, inl}
 use Rattle.std.proofs.Common.{inr}
 use Rattle.std.specs.List.{list_any}
-use Rattle.std.proofs.lemmas.Bool.{and_parts, or_left, or_right, or_cases, eq-eqb}
+use Rattle.std.proofs.lemmas.Bool.{and_parts, or_cases}
+use Rattle.crib_cards.proofs.Members.{has_here, has_there}
 use Rattle.crib_cards.specs.Sets.{has}
 use Rattle.crib_cards.specs.Start.{Start, pone_of, Hands}
 use Rattle.crib_cards.specs.Sides.{same_side}
@@ -27,7 +28,8 @@ use Rattle.crib_game.specs.Replay.{record_of, unless_fault, is_done_for}
 use Rattle.crib_game.specs.Following.{place_of, is_playable, is_stuck}
 use Rattle.crib_game.specs.Followed.{IsRecordUnder, follow_fault, ending_of}
 use Rattle.crib_game.specs.FollowLaws.{StraysLaw, EndedLaw, AnswerLaw}
-use Rattle.crib_game.proofs.GameFaults.{start_is, deal_unseen, hands_dealt, accepted_is}
+use Rattle.crib_problem.proofs.StartLemmas.{started, hands_dealt}
+use Rattle.crib_game.proofs.GameFaults.{accepted_is}
 use Rattle.crib_game.proofs.PlacesOfRecords.{follows_from, as_played_from, none_strays_from}
 use Rattle.crib_game.proofs.FollowGames.{follow_no_fault, follow_record}
 
@@ -47,8 +49,8 @@ some_of : (f : ℕ → Bool) (xs : List ℕ) → list_any f xs ≡ true → IsSo
 some_of f [] e = cc
 some_of f (x ∷ xs) e =
     elim (or_cases (f x) (list_any f xs) e) [
-      | inl here ↦ record { card = x; held = or_left (eqb x x) (has xs x) (eq-eqb x x refl); passes = here }
-      | inr there ↦ (let s = some_of f xs there in record { card = s.card; held = or_right (eqb x s.card) (has xs s.card) s.held; passes = s.passes })
+      | inl here ↦ record { card = x; held = has_here x xs; passes = here }
+      | inr there ↦ (let s = some_of f xs there in record { card = s.card; held = has_there x s.card xs s.held; passes = s.passes })
     ]
 
 stuck_heard : (plan : List Node) (before : List Act) (start : Start) (hands : Hands) (played : List Move) → IsDealt hands → IsLegal start hands played →
@@ -70,14 +72,14 @@ ended_filled : (problem : Setup) (plan : List Node) (game : Game) (played : List
 ended_filled problem plan game played is of ended =
     let start = start_of problem in
     let hands = hands_of problem game.opp in
-    let dealt = hands_dealt problem game.opp is of.of_game.deal.deal.held (deal_unseen problem game.opp of.of_game.deal.deal) in
+    let dealt = hands_dealt problem is game.opp of.of_game.deal.deal in
     let moves = ap moves_of (sym of.of_game.acts) in
     let not_silent : is_silent_next start (letters_of played) ≡ false =
     elim (or_cases (is_done_for problem played) (is_stuck plan problem.played start hands played) ended) [
       | inl done ↦ not_silent_done start (letters_of played) done
       | inr stuck ↦ not_silent_heard start (letters_of played) (stuck_heard plan problem.played start hands played dealt of.of_game.legal stuck)
     ] in
-    ap (filled_moves start) moves ∙ filled_whole start hands played (start_is problem is) dealt of.of_game.legal not_silent
+    ap (filled_moves start) moves ∙ filled_whole start hands played (started problem is) dealt of.of_game.legal not_silent
 
 pub ended_law : EndedLaw
 ended_law problem plan game played is of ended =

@@ -1,10 +1,11 @@
 -- A game is refused unless its cards are a deal and its acts are the visible turns of a legal record.
-use Rattle.std.proofs.Common.{◌≡◌, ℕ, ◌+◌, ◌<◌, ◌≤◌, Bool, true, false, cond, not, ◌||◌, eqb, ltb, List, [], ◌∷◌, ◌++◌, length, Option, Some, None, Ok}
+use Rattle.std.proofs.Common.{◌≡◌, ℕ, ◌+◌, ◌≤◌, Bool, true, false, not, ◌||◌, eqb, ltb, List, [], ◌∷◌, ◌++◌, length, Option, Some, None, Ok}
 use Rattle.std.proofs.Common.{refl, sym, ap, subst, ◌∙◌, inl, inr, arith}
 use Rattle.std.specs.List.{list_all}
 use Rattle.std.specs.Option.{option_or}
-use Rattle.std.proofs.lemmas.Bool.{cases_Bool, cases_lt, cond-true, cond-false, lt-ltb, le-ltb, and_parts, and_from, or_left, or_right, or_cases, or_parts}
+use Rattle.std.proofs.lemmas.Bool.{cases_Bool, cases_lt, cond-true, cond-false, lt-ltb, le-ltb, and_parts, and_from, or_parts}
 use Rattle.std.proofs.lemmas.Bool.{eq-eqb, eqb-true, not-true, both_ways}
+use Rattle.crib_cards.specs.Cards.{IsCard}
 use Rattle.crib_cards.specs.Deals.{six_cards}
 use Rattle.crib_cards.specs.Sets.{has, are_distinct}
 use Rattle.crib_cards.specs.Start.{Start, pone_of, Hands}
@@ -12,13 +13,11 @@ use Rattle.crib_cards.specs.declared.sides.Dealt.{Dealt}
 use Rattle.crib_cards.proofs.SetLemmas.{has-set_where}
 use Rattle.crib_cards.specs.declared.moves.Move.{Move}
 use Rattle.crib_cards.specs.declared.moves.Act.{Act}
-use Rattle.crib_cards.proofs.SetFacts.{has-append, in_set_where}
-use Rattle.crib_play.specs.Legal.{IsDealt}
+use Rattle.crib_cards.proofs.SetFacts.{in_set_where}
 use Rattle.crib_play.specs.History.{moves_of, filled_moves}
 use Rattle.crib_play.proofs.LegalRecords.{legal_filled}
-use Rattle.crib_play.specs.Standing.{IsStart}
 use Rattle.crib_play.proofs.CardLemmas.{has-filter}
-use Rattle.crib_problem.specs.Setup.{Setup, IsSetup, IsGoal, goal_hole, known_cards, start_of, hands_of, unseen_of, played_back, fixed_cards, BeginsAsPlayed}
+use Rattle.crib_problem.specs.Setup.{Setup, IsSetup, known_cards, start_of, hands_of, unseen_of, played_back, fixed_cards, BeginsAsPlayed}
 use Rattle.crib_problem.specs.Played.{cards_by}
 use Rattle.crib_cards.specs.Deals.{IsDeal}
 use Rattle.crib_cards.specs.declared.sides.Side.{Side}
@@ -26,9 +25,7 @@ use Rattle.crib_cards.specs.declared.sides.Side.TheVariants.{Owner, Opponent}
 use Rattle.crib_cards.specs.declared.moves.Move.TheVariants as move
 use Rattle.std.proofs.lemmas.List.{length-reverse}
 use Rattle.crib_play.specs.Record.{mover}
-use Rattle.crib_play.specs.Legal.{letters_of, cards_of, cards_left, MayTake}
-use Rattle.crib_problem.specs.declared.problem.Goal.{Goal}
-use Rattle.crib_problem.specs.declared.problem.Goal.TheVariants.{Win, Holes, Stop}
+use Rattle.crib_play.specs.Legal.{letters_of, cards_of, MayTake}
 use Rattle.crib_game.specs.declared.fault.GameFault.{GameFault}
 use Rattle.crib_game.specs.declared.game.Game.{Game}
 use Rattle.crib_game.specs.Replay.{Judge, by_rules, first_seen, deal_fault, act_fault, acts_fault, few_fault, acts_back, game_fault_by, game_fault}
@@ -39,28 +36,9 @@ use Rattle.crib_game.specs.Spelling.{AreSixCards}
 use Rattle.crib_game.proofs.ActFaults.{cond_none, option_or_none, act_right, legal_acts, acts_filled, acts_stay, no_fault}
 use Rattle.crib_game.proofs.OpeningActs.{AreAsPlayed, enough_begin, begin_played, none_from, none_to}
 use Rattle.crib_problem.proofs.CardLemmas.{all_parts}
-use Rattle.crib_problem.proofs.LinesReadAreSpelled.{distinct-append}
-use Rattle.crib_game.proofs.HeldSets.{card_in}
 use Rattle.crib_game.proofs.JudgeLemmas.{AreCards}
-use Rattle.crib_cards.proofs.Members.{all_has, all_from as all_of, all_from, distinct_left}
-
--- ---- the start of a problem
-goal_above : (score : ℕ) (goal : Goal) → score ≤ 120 → IsGoal score goal → score < goal_hole score goal
-goal_above score Win low is = omega arith
-goal_above score Stop low is = omega arith
-goal_above score (Holes holes) low is = let one = is.0 in omega arith
-
-goal_in_game : (score : ℕ) (goal : Goal) → score ≤ 120 → IsGoal score goal → goal_hole score goal ≤ 121
-goal_in_game score Win low is = omega arith
-goal_in_game score Stop low is = omega arith
-goal_in_game score (Holes holes) low is = let most = is.1 in omega arith
-
-pub start_is : (problem : Setup) → IsSetup problem → IsStart (start_of problem)
-start_is problem is = record {
-  below_target = goal_above problem.scores.owner problem.goal is.owner_score is.goal_in_range;
-  target_in_game = goal_in_game problem.scores.owner problem.goal is.owner_score is.goal_in_range;
-  opponent_in_game = (let low = is.opponent_score in omega arith);
-}
+use Rattle.crib_cards.proofs.Members.{has_here, has_there, has_cases, all_has, all_from}
+use Rattle.crib_problem.proofs.StartLemmas.{each_has, started, hands_dealt}
 
 -- ---- cards that are all different and not known
 -- no card of a list is known or the same as an earlier one
@@ -79,8 +57,8 @@ new_distinct known [] place e = ((λ card is. cc), refl)
 new_distinct known (card ∷ cards) place e =
     let parts = cond_none (has known card) place (first_seen (card ∷ known) (place + 1) cards) e in
     let later = new_distinct (card ∷ known) cards (place + 1) parts.1 in (
-      (λ other is. elim (or_cases (eqb card other) (has cards other) is) [
-        | inl here ↦ ap (has known) (sym (eqb-true card other here)) ∙ parts.0
+      (λ other is. elim (has_cases card other cards is) [
+        | inl here ↦ ap (has known) (sym here) ∙ parts.0
         | inr there ↦ (or_parts (eqb card other) (has known other) (later.0 other there)).1
       ]),
       and_from (not (has cards card)) (are_distinct cards) (ap not (not_here known cards card later.0)) later.1,
@@ -92,9 +70,9 @@ none_seen known (card ∷ cards) place new distinct =
     let parts = and_parts (not (has cards card)) (are_distinct cards) distinct in
     let once : has cards card ≡ false = not-true (has cards card) parts.0 in
     cond-false (has known card) (Some place) (first_seen (card ∷ known) (place + 1) cards)
-    (new card (or_left (eqb card card) (has cards card) (eq-eqb card card refl)))
+    (new card (has_here card cards))
     ∙ none_seen (card ∷ known) cards (place + 1) (λ other is. both (eqb card other) (has known other) (apart other is)
-    (new other (or_right (eqb card other) (has cards other) is))) parts.1
+    (new other (has_there card other cards is))) parts.1
   where
     both : (a b : Bool) → a ≡ false → b ≡ false → (a || b) ≡ false
     both true b e f = e
@@ -118,8 +96,8 @@ deal_is problem dealt six none =
       held = six.held;
       thrown = six.thrown;
       distinct = parts.1;
-      hidden_before = all_of (has (unseen_of problem)) (six_cards dealt)
-          (λ card is. has-set_where (λ other. not (has known other)) card (card_in (six_cards dealt) card six.cards is) ∙ ap not (parts.0 card is));
+      hidden_before = all_from (has (unseen_of problem)) (six_cards dealt)
+          (λ card is. has-set_where (λ other. not (has known other)) card (each_has IsCard (six_cards dealt) card six.cards is) ∙ ap not (parts.0 card is));
     }
 
 pub deal_unseen : (problem : Setup) (dealt : Dealt) → IsDeal (unseen_of problem) dealt → first_seen (known_cards problem) 1 (six_cards dealt) ≡ None
@@ -130,27 +108,11 @@ deal_unseen problem dealt is =
     (in_set_where (λ other. not (has known other)) card (all_has (has (unseen_of problem)) (six_cards dealt) card is.hidden_before held)).1)
     is.distinct
 
--- ---- the hands of a deal
 pub hands_are : (problem : Setup) (dealt : Dealt) → IsSetup problem → AreSixCards dealt → AreCards (hands_of problem dealt)
 hands_are problem dealt is six = record {
   owner = (all_parts problem.hold problem.thrown is.cards.1).0;
   opponent = (all_parts dealt.hold dealt.throw six.cards).0;
 }
-
-pub hands_dealt : (problem : Setup) (dealt : Dealt) → IsSetup problem → length dealt.hold ≡ 4 → first_seen (known_cards problem) 1 (six_cards dealt) ≡ None →
-    IsDealt (hands_of problem dealt)
-hands_dealt problem dealt is four none =
-    let parts = new_distinct (known_cards problem) (six_cards dealt) 1 none in
-    let owner = (and_parts (not (has (problem.hold ++ problem.thrown) problem.starter)) (are_distinct (problem.hold ++ problem.thrown)) is.distinct).1 in
-    record {
-      owner_four = is.held;
-      opponent_four = four;
-      distinct = distinct-append problem.hold dealt.hold (distinct_left problem.hold problem.thrown owner) (distinct_left dealt.hold dealt.throw parts.1)
-          (λ card held.
-          let in_six : has (six_cards dealt) card ≡ true = has-append dealt.hold dealt.throw card ∙ or_left (has dealt.hold card) (has dealt.throw card) held in
-          let unknown = (or_parts (eqb problem.starter card) (has (problem.hold ++ problem.thrown) card) (parts.0 card in_six)).1 in
-          (or_parts (has problem.hold card) (has problem.thrown card) (sym (has-append problem.hold problem.thrown card) ∙ unknown)).0);
-    }
 
 -- ---- a game
 pub first_seen_none : (place : Option ℕ) → deal_fault place ≡ None → place ≡ None
@@ -200,17 +162,6 @@ clear_parts strays problem game e =
     record { unseen = first_seen_none first parts.0; acts = rest.0; enough = omega (arith, enough, long) }
 
 -- if no act is refused, the opponent's cards among the acts are of his hold
-held_hand : (hands : Hands) (past : List Move) (card : ℕ) → has (cards_left hands Opponent past) card ≡ true → has hands.opponent card ≡ true
-held_hand hands past card h = has-filter (λ c. not (has (cards_of past) c)) hands.opponent card h
-
-take_held : (hands : Hands) (mover side : Side) (what : Move) (past : List Move) (first : ℕ) → side ≡ mover → side ≡ Opponent → what ≡ move.Card first →
-    MayTake hands mover what past → has hands.opponent first ≡ true
-take_held hands mover side what past first at is was take =
-    let T : Side → Move → Type 0 = λ s m. MayTake hands s m past in
-    let S : Side → Type 0 = λ s. T s what in
-    let M : Move → Type 0 = λ m. T Opponent m in
-    held_hand hands past first (subst M was (subst S (sym at ∙ is) take)).0
-
 theirs_held : (strays : Judge) (start : Start) (hands : Hands) (acts : List Act) → acts_fault strays start hands acts ≡ None → (card : ℕ) →
     has (cards_by Opponent acts) card ≡ true → has hands.opponent card ≡ true
 theirs_held strays start hands [] e card h = absurd (let no : false ≡ true = h in cc)
@@ -218,20 +169,19 @@ theirs_held strays start hands (act ∷ before) e card h =
     let past = filled_moves start (moves_of before) in
     let parts = option_or_none (acts_fault strays start hands before) (act_fault strays start hands act past (length before + 1)) e in
     let right = act_right strays start hands act past (length before + 1) parts.1 in
-    by_act act.side act.what refl refl right.side right.may.may_take (theirs_held strays start hands before parts.0 card) h
+    by_act (mover (pone_of start) (letters_of past)) act.side act.what right.side right.may.may_take (theirs_held strays start hands before parts.0 card) h
   where
-    by_act : (side : Side) (what : Move) → act.side ≡ side → act.what ≡ what →
-        act.side ≡ mover (pone_of start) (letters_of (filled_moves start (moves_of before))) →
-        MayTake hands (mover (pone_of start) (letters_of (filled_moves start (moves_of before)))) act.what (filled_moves start (moves_of before)) →
+    by_act : (who side : Side) (what : Move) → side ≡ who → MayTake hands who what (filled_moves start (moves_of before)) →
         (has (cards_by Opponent before) card ≡ true → has hands.opponent card ≡ true) → has (cards_by Opponent (record { side = side; what = what } ∷ before))
         card ≡ true → has hands.opponent card ≡ true
-    by_act Owner what is was at take rest k = rest k
-    by_act Opponent move.Go is was at take rest k = rest k
-    by_act Opponent (move.Card first) is was at take rest k =
-        elim (or_cases (eqb first card) (has (cards_by Opponent before) card) k) [
-          | inl here ↦ ap (has hands.opponent) (sym (eqb-true first card here))
-              ∙ take_held hands (mover (pone_of start) (letters_of (filled_moves start (moves_of before)))) act.side act.what
-              (filled_moves start (moves_of before)) first at is was take
+    by_act who Owner what is may rest k = rest k
+    by_act who Opponent move.Go is may rest k = rest k
+    by_act who Opponent (move.Card first) is may rest k =
+        let T : Side → Type 0 = λ side. MayTake hands side (move.Card first) (filled_moves start (moves_of before)) in
+        let held = (subst T (sym is) may).0 in
+        elim (has_cases first card (cards_by Opponent before) k) [
+          | inl here ↦ ap (has hands.opponent) (sym here)
+              ∙ has-filter (λ c. not (has (cards_of (filled_moves start (moves_of before))) c)) hands.opponent first held
           | inr there ↦ rest there
         ]
 
@@ -243,7 +193,7 @@ cards_more (act ∷ later) before card h = by_act act.side act.what (cards_more 
         has (cards_by Opponent (record { side = side; what = what } ∷ later ++ before)) card ≡ true
     by_act Owner what rest = rest
     by_act Opponent move.Go rest = rest
-    by_act Opponent (move.Card first) rest = or_right (eqb first card) (has (cards_by Opponent (later ++ before)) card) rest
+    by_act Opponent (move.Card first) rest = has_there first card (cards_by Opponent (later ++ before)) rest
 
 fixed_held : (strays : Judge) (problem : Setup) (game : Game) → acts_fault strays (start_of problem) (hands_of problem game.opp) (acts_back game) ≡ None →
     BeginsAsPlayed problem (acts_back game) →
@@ -261,14 +211,15 @@ record_is strays problem game is six plays e =
     let start = start_of problem in
     let hands = hands_of problem game.opp in
     let clear = clear_parts strays problem game e in
-    let dealt = hands_dealt problem game.opp is six.held clear.unseen in
-    let filled = acts_filled strays start hands (acts_back game) (start_is problem is) dealt clear.acts in
+    let deal = deal_is problem game.opp six clear.unseen in
+    let dealt = hands_dealt problem is game.opp deal in
+    let filled = acts_filled strays start hands (acts_back game) (started problem is) dealt clear.acts in
     let A : List Act → Type 0 = λ acts. AreAsPlayed problem.played acts in
     let as_played = subst A filled (none_to problem (record_of problem game)
     (plays (record_of problem game) (acts_stay strays start hands (acts_back game) clear.acts))) in
     let begins = enough_begin problem (acts_back game) as_played clear.enough in
     record {
-      deal = record { deal = deal_is problem game.opp six clear.unseen; fixed = fixed_held strays problem game clear.acts begins };
+      deal = record { deal = deal; fixed = fixed_held strays problem game clear.acts begins };
       legal = legal_filled start hands (moves_of (acts_back game)) dealt (legal_acts strays start hands (acts_back game) clear.acts);
       acts = filled;
       begins = begins;
@@ -281,11 +232,11 @@ no_fault_by strays problem game played is of stays =
     let start = start_of problem in
     let hands = hands_of problem game.opp in
     let none = deal_unseen problem game.opp of.deal.deal in
-    let dealt = hands_dealt problem game.opp is of.deal.deal.held none in
+    let dealt = hands_dealt problem is game.opp of.deal.deal in
     let enough = (begin_played problem (acts_back game) of.begins).1 in
     let long = length-reverse game.acts.items in
     no_fault_in_acts strays problem game none
-    (ap (acts_fault strays start hands) (sym of.acts) ∙ no_fault strays start hands played (start_is problem is) dealt of.legal stays)
+    (ap (acts_fault strays start hands) (sym of.acts) ∙ no_fault strays start hands played (started problem is) dealt of.legal stays)
     ∙ enough_acts problem.played game.acts.items (omega (arith, enough, long))
 
 -- there is no remark on a record of the game by the opening alone

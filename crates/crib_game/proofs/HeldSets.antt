@@ -1,27 +1,19 @@
 -- Lemmas about the sets of cards that sides hold.
-use Rattle.std.proofs.Common.{◌≡◌, ℕ, Bool, true, false, cond, not, ◌&&◌, eqb, List, [], ◌∷◌, refl, sym, ap, subst, ◌∙◌, inl, inr}
+use Rattle.std.proofs.Common.{◌≡◌, ℕ, Bool, true, false, cond, not, ◌&&◌, eqb, List, [], ◌∷◌, refl, sym, ap, ◌∙◌, inl, inr}
 use Rattle.std.specs.List.{list_any, filter, AllByRecursion}
-use Rattle.std.proofs.lemmas.Bool.{or_cases, cases_Bool, eqb-true}
+use Rattle.std.proofs.lemmas.Bool.{cases_Bool}
 use Rattle.crib_cards.specs.Cards.{IsCard}
 use Rattle.crib_cards.specs.Sets.{has, set_of, set_without}
 use Rattle.crib_cards.proofs.SetLemmas.{set_where_agree, has-set_where, eqb_turned}
 use Rattle.crib_cards.proofs.SetFacts.{in_set_where, has-filter}
 use Rattle.crib_play.proofs.CardLemmas.{IsWithout, none_passes}
 use Rattle.crib_problem.proofs.HonestTurns.{none_any}
-
--- a number in a list of cards is a card
-pub card_in : (cards : List ℕ) (card : ℕ) → AllByRecursion IsCard cards → has cards card ≡ true → IsCard card
-card_in [] card all is = cc
-card_in (first ∷ cards) card all is =
-    elim (or_cases (eqb first card) (has cards card) is) [
-      | inl here ↦ subst IsCard (eqb-true first card here) all.0
-      | inr there ↦ card_in cards card all.1 there
-    ]
+use Rattle.crib_problem.proofs.StartLemmas.{each_has}
 
 pub has-set_of : (cards : List ℕ) (card : ℕ) → AllByRecursion IsCard cards → has (set_of cards) card ≡ has cards card
 has-set_of cards card all =
     elim (cases_Bool (has cards card)) [
-      | inl is ↦ has-set_where (has cards) card (card_in cards card all is)
+      | inl is ↦ has-set_where (has cards) card (each_has IsCard cards card all is)
       | inr lacks ↦
           elim (cases_Bool (has (set_of cards) card)) [
             | inl is ↦ (let passes = in_set_where (has cards) card is in is ∙ sym passes.1)

@@ -23,7 +23,8 @@ use Rattle.crib_game.specs.Private.Walking.{by_opening, CanBeJudged, IsJudged, r
 use Rattle.crib_game.proofs.ActFaults.{acts_filled}
 use Rattle.crib_game.proofs.JudgeLemmas.{AreCards, judged_fault, judged_right, judged_visible, judged_shows, judged_next, reverse_more, fault_all}
 use Rattle.crib_game.proofs.JudgeLemmas.{length_before}
-use Rattle.crib_game.proofs.GameFaults.{hands_are, hands_dealt}
+use Rattle.crib_problem.proofs.StartLemmas.{hands_dealt}
+use Rattle.crib_game.proofs.GameFaults.{deal_is, hands_are}
 use Rattle.crib_game.proofs.Reports.{row_is}
 
 -- the acts before a place
@@ -42,7 +43,7 @@ module _ {problem : Setup} {dealt : Dealt} (can : CanBeJudged problem dealt) whe
   are_cards = hands_are problem dealt can.setup can.six
 
   are_dealt : IsDealt (hands_of problem dealt)
-  are_dealt = hands_dealt problem dealt can.setup can.six.held can.unseen
+  are_dealt = hands_dealt problem can.setup dealt (deal_is problem dealt can.six can.unseen)
 
 -- the walk has taken the acts before a place, none of which is refused, and has counted them
 pub record WalksTo (astray : Act → List Move → Bool) (problem : Setup) (dealt : Dealt) (acts : List Act) (walk : JudgedGame) (i number : ℕ) : Type 0 where

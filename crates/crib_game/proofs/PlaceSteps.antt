@@ -1,5 +1,5 @@
 -- The code follows a plan act by act: its place is that after the acts so far.
-use Rattle.std.proofs.Common.{◌≡◌, Bool, true, cond, List, ◌∷◌, refl, ◌∙◌}
+use Rattle.std.proofs.Common.{◌≡◌, Bool, true, cond, List, ◌∷◌, ◌∙◌}
 use Rattle.crib_cards.specs.declared.moves.Act.{Act}
 use Rattle.crib_play.specs.History.{moves_of}
 use Rattle.crib_plan.specs.declared.plan.Next.{Next}

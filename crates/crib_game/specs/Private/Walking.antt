@@ -1,5 +1,5 @@
 -- What is known in the code along the acts of a game, and after the last one.
-use Rattle.std.specs.Prelude.{◌≡◌, Bool, List, ◌∷◌, Option, None, is_some, IsTrue}
+use Rattle.std.specs.Prelude.{◌≡◌, Bool, List, None, is_some, IsTrue}
 use Rattle.crib_cards.specs.Deals.{six_cards}
 use Rattle.crib_cards.specs.Letters.{letter_of}
 use Rattle.crib_cards.specs.Start.{Start, pone_of, Hands}

@@ -4,7 +4,7 @@ use Rattle.std.proofs.Common.{refl, sym, ap, subst, ◌∙◌, inl, inr, arith}
 use Rattle.std.specs.Prelude.{slice_get}
 use Rattle.std.proofs.lemmas.Bool.{cases_Bool, cases_eq, and_parts, cond-true, cond-false, eqb-true, eq-eqb, both_ways}
 use Rattle.std.proofs.lemmas.List.{take_all, length-reverse, length-take-le, length-append}
-use Rattle.std.proofs.lemmas.Option.{slice_get-get_or}
+use Rattle.std.proofs.lemmas.Option.{slice_get-get_or, slice_get_past}
 use Rattle.crib_cards.specs.Letters.{letter_of}
 use Rattle.crib_cards.specs.Sides.{same_side}
 use Rattle.crib_cards.specs.Start.{pone_of}
@@ -56,11 +56,6 @@ fine_played played act strays e =
 played_fine : (played : Act) (strays : Bool) → remark_of (Some played) strays played ≡ Fine
 played_fine played strays = cond-true (same_act played played) Fine NotPlayed (same_act_self played)
 
-none_past : (acts : List Act) (i : ℕ) → length acts ≤ i → slice_get acts i ≡ None
-none_past [] i past = refl
-none_past (act ∷ acts) zero past = absurd (omega arith)
-none_past (act ∷ acts) (suc i) past = none_past acts i (omega arith)
-
 -- ---- acts that are as in the opening
 abbrev pub AreAsPlayed : List Act → List Act → Type 0
 AreAsPlayed played [] = Unit {0}
@@ -92,7 +87,7 @@ begins_as_played played (act ∷ later) =
     let same = length-reverse played in (
       begins_as_played played later,
       ap (λ (o : Option Act). remark_of o false act)
-          (none_past played (length (later ++ reverse played)) (omega (arith, long, same))),
+          (slice_get_past played (length (later ++ reverse played)) (omega (arith, long, same))),
     )
 
 -- acts that are as in the opening, and not more than it has, are its first turns

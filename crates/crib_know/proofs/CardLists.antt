@@ -1,14 +1,14 @@
 -- Lists of cards as sets, and counts of ranks.
-use Rattle.std.proofs.Common.{◌≡◌, ◌⊎◌, ℕ, zero, suc, ◌+◌, ◌<◌, ◌≤◌, Bool, true, false, cond, not, ◌&&◌, ◌||◌, eqb, List, [], ◌∷◌, map, length}
-use Rattle.std.proofs.Common.{count_by, get_or, refl, sym, ap, ◌∙◌, inl, inr, arith}
-use Rattle.std.specs.List.{list_all, filter, range_with_len}
-use Rattle.std.proofs.lemmas.Bool.{cases_Bool, cases_eq, and_parts, and_from, or_cases, or_left, or_right, both_ways, not-true, eqb-true, eq-eqb}
+use Rattle.std.proofs.Common.{◌≡◌, ℕ, zero, suc, ◌+◌, ◌<◌, ◌≤◌, Bool, true, false, cond, ◌&&◌, eqb, List, [], ◌∷◌, map, length}
+use Rattle.std.proofs.Common.{All, count_by, refl, sym, ap, ◌∙◌, inl, inr, arith}
+use Rattle.std.specs.List.{AllByRecursion, list_all, filter, range_with_len}
+use Rattle.std.proofs.lemmas.List.Elements.{All-from_recursion}
+use Rattle.std.proofs.lemmas.Bool.{cases_Bool, cases_eq, or_cases, or_left, or_right, both_ways, eqb-true, eq-eqb}
 use Rattle.crib_cards.specs.Cards.{IsCard, IsRank, ranks}
 use Rattle.crib_cards.specs.Sets.{has, are_distinct, set_where, set_of}
 use Rattle.crib_cards.proofs.SetFacts.{in_set_where}
-use Rattle.crib_play.proofs.CardLemmas.{filter_yes, filter_no}
-use Rattle.crib_know.proofs.CardsLeft.{has-filter_parts, has-filter_from, filter_present_by}
-use Rattle.crib_cards.proofs.Members.{has_here, all_has, all_from}
+use Rattle.crib_know.proofs.CardsLeft.{has-filter_from}
+use Rattle.crib_cards.proofs.Members.{AreCards, has_here, has_there, all_has, all_from}
 use Rattle.crib_cards.proofs.SetCounts.{count_cons, count_by-set_of}
 
 -- ---- ranges
@@ -28,19 +28,16 @@ has_range_from start (suc n) card low high =
       | inr ne ↦ or_right (eqb start card) (has (range_with_len (start + 1) n) card) (has_range_from (start + 1) n card (omega arith) (omega arith))
     ]
 
-distinct_range : (start n : ℕ) → are_distinct (range_with_len start n) ≡ true
-distinct_range start zero = refl
-distinct_range start (suc n) =
-    and_from (not (has (range_with_len (start + 1) n) start)) (are_distinct (range_with_len (start + 1) n))
-    (elim (cases_Bool (has (range_with_len (start + 1) n) start)) [
-      | inl h ↦ let parts = has_range_parts (start + 1) n start h in absurd (omega (arith, parts.0))
-      | inr h ↦ ap not h
-    ])
-    (distinct_range (start + 1) n)
-
 pub has_set_from : (p : ℕ → Bool) (card : ℕ) → IsCard card → p card ≡ true → has (set_where p) card ≡ true
 unfolding set_where
 has_set_from p card is e = has-filter_from p (range_with_len 0 52) card (has_range_from 0 52 card (omega arith) (omega arith)) e
+
+pub all_cards : (xs : List ℕ) → AreCards xs → All IsCard xs
+all_cards xs are = All-from_recursion IsCard xs (each xs are)
+  where
+    each : (ys : List ℕ) → AreCards ys → AllByRecursion IsCard ys
+    each [] are = tt
+    each (y ∷ ys) are = (are y (has_here y ys), each ys (λ k h. are k (has_there y k ys h)))
 
 -- ---- counts
 abbrev pub one_if : Bool → ℕ
@@ -51,6 +48,10 @@ one_counted b e = ap (one_if) e
 
 pub none_counted : (b : Bool) → b ≡ false → one_if b ≡ 0
 none_counted b e = ap (one_if) e
+
+at_most_one : (b : Bool) → one_if b ≤ 1
+at_most_one true = omega arith
+at_most_one false = omega arith
 
 pub count_here : (f : ℕ → Bool) (xs : List ℕ) (card : ℕ) → has xs card ≡ true → f card ≡ true → 1 ≤ count_by f xs
 count_here f [] card h e = absurd (both_ways false refl h)
@@ -77,11 +78,6 @@ found_by f (x ∷ xs) some =
           record { card = rest.card; held = or_right (eqb x rest.card) (has xs rest.card) rest.held; passes = rest.passes }
     ]
 
-pub count_agree : (f g : ℕ → Bool) (xs : List ℕ) → ((x : ℕ) → f x ≡ g x) → count_by f xs ≡ count_by g xs
-count_agree f g [] same = refl
-count_agree f g (x ∷ xs) same = count_cons f x xs ∙ ap (λ (b : Bool). one_if b + count_by f xs) (same x)
-    ∙ ap (λ (n : ℕ). cond (g x) 1 0 + n) (count_agree f g xs same) ∙ sym (count_cons g x xs)
-
 pub count_none_of : (f : ℕ → Bool) (xs : List ℕ) → ((card : ℕ) → has xs card ≡ true → f card ≡ false) → count_by f xs ≡ 0
 count_none_of f [] each = refl
 count_none_of f (x ∷ xs) each =
@@ -95,62 +91,49 @@ count_all_of (x ∷ xs) = let rest : count_by (λ _. true) xs ≡ length xs = co
 
 pub count_most : (f : ℕ → Bool) (xs : List ℕ) → count_by f xs ≤ length xs
 count_most f [] = omega arith
-count_most f (x ∷ xs) =
-    let rest : count_by f xs ≤ length xs = count_most f xs in
-    let one : one_if (f x) ≤ 1 = at_most_one (f x) in
-    omega (arith, count_cons f x xs, rest, one)
-  where
-    at_most_one : (b : Bool) → one_if b ≤ 1
-    at_most_one true = omega arith
-    at_most_one false = omega arith
+count_most f (x ∷ xs) = let rest = count_most f xs in let one = at_most_one (f x) in omega (arith, count_cons f x xs, rest, one)
 
 pub count_map : (g : ℕ → ℕ) (r : ℕ) (xs : List ℕ) → count_by (λ x. eqb x r) (map g xs) ≡ count_by (λ x. eqb (g x) r) xs
 count_map g r [] = refl
 count_map g r (x ∷ xs) = count_cons (λ y. eqb y r) (g x) (map g xs) ∙ ap (λ (n : ℕ). cond (eqb (g x) r) 1 0 + n) (count_map g r xs)
     ∙ sym (count_cons (λ y. eqb (g y) r) x xs)
 
+-- the cards of a filtered list that pass a test are those of the list that pass both tests
+pub count_filter : (f p : ℕ → Bool) (xs : List ℕ) → count_by f (filter p xs) ≡ count_by (λ c. p c && f c) xs
+count_filter f p [] = refl
+count_filter f p (x ∷ xs) =
+    (elim (p x) as (λ b. count_by f (cond b (x ∷ filter p xs) (filter p xs)) ≡ one_if (b && f x) + count_by f (filter p xs)) [
+      | true ↦ count_cons f x (filter p xs)
+      | false ↦ omega arith
+    ])
+    ∙ ap (λ (n : ℕ). cond (p x && f x) 1 0 + n) (count_filter f p xs) ∙ sym (count_cons (λ c. p c && f c) x xs)
+
+-- if each number that passes one test passes another, no more pass the first
+count_le : (f g : ℕ → Bool) (xs : List ℕ) → ((x : ℕ) → has xs x ≡ true → one_if (f x) ≤ one_if (g x)) → count_by f xs ≤ count_by g xs
+count_le f g [] each = omega arith
+count_le f g (x ∷ xs) each =
+    let here = each x (has_here x xs) in
+    let rest = count_le f g xs (λ y h. each y (has_there x y xs h)) in
+    omega (arith, count_cons f x xs, count_cons g x xs, here, rest)
+
+-- if each number passes as many of two tests as it passes of a third, so do all
+pub count_sum : (f g h : ℕ → Bool) (xs : List ℕ) → ((x : ℕ) → one_if (f x) ≡ one_if (g x) + one_if (h x)) → count_by f xs ≡ count_by g xs + count_by h xs
+count_sum f g h [] each = refl
+count_sum f g h (x ∷ xs) each =
+    let rest = count_sum f g h xs each in omega (arith, count_cons f x xs, count_cons g x xs, count_cons h x xs, each x, rest)
+
 -- fewer cards pass a test that asks more
 pub count_fewer : (f p q : ℕ → Bool) (xs : List ℕ) → ((x : ℕ) → has xs x ≡ true → p x ≡ true → q x ≡ true) → count_by f (filter p xs) ≤ count_by f (filter q xs)
-count_fewer f p q [] harder = omega arith
-count_fewer f p q (x ∷ xs) harder =
-    let rest : count_by f (filter p xs) ≤ count_by f (filter q xs) = count_fewer f p q xs (λ y h e. harder y (or_right (eqb x y) (has xs y) h) e) in
-    elim (cases_Bool (p x)) [
-      | inl yes_p ↦
-          let one = ap (count_by f) (filter_yes p x xs yes_p) ∙ count_cons f x (filter p xs) in
-          let two = ap (count_by f) (filter_yes q x xs (harder x (has_here x xs) yes_p)) ∙ count_cons f x (filter q xs) in
-          omega (arith, one, two, rest)
-      | inr no_p ↦
-          let one = ap (count_by f) (filter_no p x xs no_p) in
-          elim (cases_Bool (q x)) [
-            | inl yes_q ↦ let two = ap (count_by f) (filter_yes q x xs yes_q) ∙ count_cons f x (filter q xs) in omega (arith, one, two, rest)
-            | inr no_q ↦ let two = ap (count_by f) (filter_no q x xs no_q) in omega (arith, one, two, rest)
-          ]
-    ]
+count_fewer f p q xs harder =
+    let fewer = count_le (λ c. p c && f c) (λ c. q c && f c) xs (λ x h. one (p x) (q x) (f x) (harder x h)) in
+    omega (arith, fewer, count_filter f p xs, count_filter f q xs)
+  where
+    one : (a b c : Bool) → (a ≡ true → b ≡ true) → one_if (a && c) ≤ one_if (b && c)
+    one false b c h = omega arith
+    one true b true h = let more = ap (λ (d : Bool). one_if (d && true)) (h refl) in omega (arith, more)
+    one true b false h = omega arith
 
 -- ---- a list and its set
--- a list of different cards has as many cards of a kind as a list with all these cards has of them
-count_filter_of : (f : ℕ → Bool) (zs xs : List ℕ) → are_distinct zs ≡ true → are_distinct xs ≡ true → ((card : ℕ) → has xs card ≡ true → has zs card ≡ true) →
-    count_by f (filter (has xs) zs) ≡ count_by f xs
-count_filter_of f zs [] dz dx within = count_none_of f (filter (has []) zs) (λ card h. absurd (both_ways false refl (has-filter_parts (has []) zs card h).1))
-count_filter_of f zs (x ∷ xs) dz dx within =
-    let parts = and_parts (not (has xs x)) (are_distinct xs) dx in
-    let lacks : has xs x ≡ false = not-true (has xs x) parts.0 in
-    let rest : count_by f (filter (has xs) zs) ≡ count_by f xs =
-    count_filter_of f zs xs dz parts.1 (λ card h. within card (or_right (eqb x card) (has xs card) h)) in
-    let more : count_by f (filter (has xs) zs) + cond (f x) 1 0 ≡ count_by f (filter (has (x ∷ xs)) zs) =
-    filter_present_by f (has (x ∷ xs)) (has xs) x (λ other. without other (cases_Bool (eqb x other)) lacks) zs dz
-    (has-filter_from (has (x ∷ xs)) zs x (within x (has_here x xs)) (has_here x xs)) in
-    omega (arith, more, rest, count_cons f x xs)
-  where
-    without : (other : ℕ) → ((eqb x other ≡ true) ⊎ (eqb x other ≡ false)) → has xs x ≡ false →
-        has xs other ≡ ((eqb x other || has xs other) && not (eqb x other))
-    without other (inl e) lacks = ap (has xs) (sym (eqb-true x other e)) ∙ lacks ∙ sym (ap (λ (b : Bool). (b || has xs other) && not b) e)
-    without other (inr e) lacks = sym (and_true (has xs other)) ∙ sym (ap (λ (b : Bool). (b || has xs other) && not b) e)
-      where
-        and_true : (b : Bool) → (b && true) ≡ b
-        and_true true = refl
-        and_true false = refl
-
 pub count_within : (f p : ℕ → Bool) (xs : List ℕ) → are_distinct xs ≡ true → ((card : ℕ) → has xs card ≡ true → has (set_where p) card ≡ true) →
     count_by f xs ≤ count_by f (set_where p)
 unfolding set_where
@@ -161,11 +144,6 @@ count_within f p xs distinct within =
     omega (arith, same, fewer)
 
 -- ---- counts of ranks
-index_range : (f : ℕ → ℕ) (start n i : ℕ) → i < n → get_or (map f (range_with_len start n)) i 0 ≡ f (start + i)
-index_range f start zero i less = absurd (omega arith)
-index_range f start (suc n) zero less = ap f (omega arith)
-index_range f start (suc n) (suc i) less = index_range f (start + 1) n i (omega arith) ∙ ap f (omega arith)
-
 pub all_ranks_from : (p : ℕ → Bool) → ((rank : ℕ) → IsRank rank → p rank ≡ true) → list_all p ranks ≡ true
 all_ranks_from p each =
     all_from p (range_with_len 1 13) (λ rank h. let within = has_range_parts 1 13 rank h in each rank (within.0, omega (arith, within.1)))

@@ -1,78 +1,34 @@
 -- Lists and sets of the cards of a deal.
-use Rattle.std.proofs.Common.{◌≡◌, ℕ, zero, suc, ◌+◌, ◌≤◌, Bool, true, false, not, ◌&&◌, eqb, List, [], ◌∷◌, ◌++◌, map, length}
+use Rattle.std.proofs.Common.{◌≡◌, ℕ, zero, suc, ◌+◌, ◌<◌, ◌≤◌, Bool, true, false, not, ◌&&◌, eqb, List, [], ◌∷◌, ◌++◌, length}
 use Rattle.std.proofs.Common.{length-append, take, count_by, refl, ap, ◌∙◌, inl, inr, arith}
 use Rattle.std.specs.List.{filter, range_with_len}
-use Rattle.std.proofs.lemmas.Bool.{cases_Bool, or_cases, or_left, or_right, both_ways}
-use Rattle.crib_cards.specs.Cards.{IsCard, rank_of, card_value}
-use Rattle.crib_cards.specs.Sets.{has, are_distinct, set_of, set_where}
-use Rattle.crib_play.proofs.CardLemmas.{filter_yes, filter_no}
+use Rattle.std.proofs.lemmas.Bool.{and_from, or_cases, or_left, or_right, both_ways}
+use Rattle.crib_cards.specs.Cards.{IsCard, card_value}
+use Rattle.crib_cards.specs.Sets.{has, are_distinct, set_of, set_where, set_without_all, IsCardSet}
 use Rattle.crib_cards.proofs.SetLemmas.{set_where_agree}
 use Rattle.crib_problem.specs.Setup.{Setup, IsSetup, known_cards, unseen_of}
 use Rattle.crib_problem.proofs.StartLemmas.{each_has}
-use Rattle.crib_know.proofs.ChosenCards.{is_ten}
-use Rattle.crib_know.proofs.CardLists.{count_most}
-use Rattle.crib_cards.proofs.SetCounts.{count_cons, count_by-set_of}
-use Rattle.crib_cards.proofs.Members.{AreCards}
+use Rattle.crib_know.proofs.CardLists.{one_if, count_most, count_sum, count_filter, Counted, found_by, has_set_from, count_here}
+use Rattle.crib_cards.proofs.SetCounts.{count_by-set_of}
+use Rattle.crib_cards.proofs.Members.{AreCards, AreAmong}
+use Rattle.crib_cards.proofs.SetFacts.{are_distinct-set_where}
+use Rattle.crib_cards.proofs.LowestCard.{in_set}
 
--- ---- lists
+-- a card of value ten
+abbrev pub is_ten : ℕ → Bool
+is_ten card = eqb (card_value card) 10
+
+-- ---- sets with and without some cards
 count_split : (f p q : ℕ → Bool) (xs : List ℕ) → count_by f (filter p xs) ≡ count_by f (filter (λ c. p c && q c) xs) + count_by f
     (filter (λ c. p c && not (q c)) xs)
-count_split f p q [] = refl
-count_split f p q (x ∷ xs) =
-    let rest : count_by f (filter p xs) ≡ count_by f (filter (λ c. p c && q c) xs) + count_by f (filter (λ c. p c && not (q c)) xs) = count_split f p q xs in
-    let both : ℕ → Bool = λ c. p c && q c in
-    let one : ℕ → Bool = λ c. p c && not (q c) in
-    elim (cases_Bool (p x)) [
-      | inl yes_p ↦
-          let all = ap (count_by f) (filter_yes p x xs yes_p) ∙ count_cons f x (filter p xs) in
-          elim (cases_Bool (q x)) [
-            | inl yes_q ↦
-                let first = ap (count_by f) (filter_yes both x xs (ap (λ (b : Bool). b && q x) yes_p ∙ yes_q)) ∙ count_cons f x (filter both xs) in
-                let second = ap (count_by f) (filter_no one x xs (ap (λ (b : Bool). b && not (q x)) yes_p ∙ ap not yes_q)) in
-                omega (arith, all, first, second, rest)
-            | inr no_q ↦
-                let first = ap (count_by f) (filter_no both x xs (ap (λ (b : Bool). b && q x) yes_p ∙ no_q)) in
-                let second = ap (count_by f) (filter_yes one x xs (ap (λ (b : Bool). b && not (q x)) yes_p ∙ ap not no_q)) ∙ count_cons f x (filter one xs) in
-                omega (arith, all, first, second, rest)
-          ]
-      | inr no_p ↦
-          let all = ap (count_by f) (filter_no p x xs no_p) in
-          let first = ap (count_by f) (filter_no both x xs (ap (λ (b : Bool). b && q x) no_p)) in
-          let second = ap (count_by f) (filter_no one x xs (ap (λ (b : Bool). b && not (q x)) no_p)) in
-          omega (arith, all, first, second, rest)
-    ]
-
-count_of_fewer : (f p q : ℕ → Bool) (xs : List ℕ) → count_by f (filter (λ c. p c && q c) xs) ≤ count_by f (filter q xs)
-count_of_fewer f p q [] = omega arith
-count_of_fewer f p q (x ∷ xs) =
-    let rest : count_by f (filter (λ c. p c && q c) xs) ≤ count_by f (filter q xs) = count_of_fewer f p q xs in
-    let both : ℕ → Bool = λ c. p c && q c in
-    elim (cases_Bool (q x)) [
-      | inl yes_q ↦
-          let all = ap (count_by f) (filter_yes q x xs yes_q) ∙ count_cons f x (filter q xs) in
-          elim (cases_Bool (p x)) [
-            | inl yes_p ↦ let first = ap (count_by f) (filter_yes both x xs (ap (λ (b : Bool). b && q x) yes_p ∙ yes_q)) ∙ count_cons f x (filter both xs) in
-                omega (arith, all, first, rest)
-            | inr no_p ↦ let first = ap (count_by f) (filter_no both x xs (ap (λ (b : Bool). b && q x) no_p)) in omega (arith, all, first, rest)
-          ]
-      | inr no_q ↦
-          let all = ap (count_by f) (filter_no q x xs no_q) in
-          elim (cases_Bool (p x)) [
-            | inl yes_p ↦ let first = ap (count_by f) (filter_no both x xs (ap (λ (b : Bool). b && q x) yes_p ∙ no_q)) in omega (arith, all, first, rest)
-            | inr no_p ↦ let first = ap (count_by f) (filter_no both x xs (ap (λ (b : Bool). b && q x) no_p)) in omega (arith, all, first, rest)
-          ]
-    ]
-
--- a set without a few cards keeps all others
-pub kept : (f p : ℕ → Bool) (xs : List ℕ) → are_distinct xs ≡ true → AreCards xs →
-    count_by f (set_where p) ≤ count_by f (set_where (λ c. p c && not (has xs c))) + length xs
-unfolding set_where
-kept f p xs distinct cards =
-    let split = count_split f p (has xs) (range_with_len 0 52) in
-    let few = count_of_fewer f p (has xs) (range_with_len 0 52) in
-    let set : count_by f (set_of xs) ≡ count_by f xs = count_by-set_of f xs distinct cards in
-    let most = count_most f xs in
-    omega (arith, split, few, set, most)
+count_split f p q xs =
+    let parts = count_sum (λ c. p c && f c) (λ c. (p c && q c) && f c) (λ c. (p c && not (q c)) && f c) xs (λ x. one (p x) (q x) (f x)) in
+    omega (arith, parts, count_filter f p xs, count_filter f (λ c. p c && q c) xs, count_filter f (λ c. p c && not (q c)) xs)
+  where
+    one : (a b c : Bool) → one_if (a && c) ≡ one_if ((a && b) && c) + one_if ((a && not b) && c)
+    one false b c = refl
+    one true true c = omega arith
+    one true false c = omega arith
 
 -- a set is the cards of a list and its other cards
 pub split_set : (f p : ℕ → Bool) (xs : List ℕ) → are_distinct xs ≡ true → AreCards xs → ((card : ℕ) → has xs card ≡ true → p card ≡ true) →
@@ -90,9 +46,23 @@ split_set f p xs distinct cards within =
     just false true h = h refl
     just false false h = refl
 
-pub length_ranks : (xs : List ℕ) → length (map rank_of xs) ≡ length xs
-length_ranks [] = refl
-length_ranks (x ∷ xs) = ap suc (length_ranks xs)
+-- ---- a set and another that has all its cards
+module _ (f : ℕ → Bool) (few many : List ℕ) (few_set : IsCardSet few) (many_set : IsCardSet many) (among : AreAmong many few) where
+  pub count_rest : count_by f many ≡ count_by f few + count_by f (set_without_all many few)
+  count_rest = ap (count_by f) many_set
+      ∙ split_set f (has many) few (ap are_distinct few_set ∙ are_distinct-set_where (has few)) (λ card h. in_set few card few_set h) among
+
+  -- a card of a kind that the other set has more
+  pub other_card : count_by f few < count_by f many → Counted f (set_without_all many few)
+  other_card less = let rest = count_rest in found_by f (set_without_all many few) (omega (arith, less, rest))
+
+  pub count_less : (card : ℕ) → has many card ≡ true → has few card ≡ false → f card ≡ true → count_by f few < count_by f many
+  count_less card held out passes =
+      let there = has_set_from (λ c. has many c && not (has few c)) card (in_set many card many_set held) (and_from (has many card) (not (has few card)) held
+      (ap not out)) in
+      let one = count_here f (set_without_all many few) card there passes in
+      let rest = count_rest in
+      omega (arith, one, rest)
 
 pub sixteen : count_by (λ card. eqb (card_value card) 10) (set_where (λ _. true)) ≡ 16
 unfolding set_where
@@ -107,11 +77,6 @@ has_take (suc n) (x ∷ xs) card h =
       | inr there ↦ or_right (eqb x card) (has xs card) (has_take n xs card there)
     ]
 
-pub take_two : (xs : List ℕ) → 2 ≤ length xs → length (take 2 xs) ≡ 2
-take_two [] some = absurd (omega arith)
-take_two (x ∷ []) some = absurd (omega arith)
-take_two (x ∷ y ∷ xs) some = refl
-
 -- the owner knows seven cards
 known_seven : (problem : Setup) → IsSetup problem → length (known_cards problem) ≡ 7
 known_seven problem setup = seven problem.hold problem.thrown setup.held setup.two_thrown
@@ -122,10 +87,9 @@ known_seven problem setup = seven problem.hold problem.thrown setup.held setup.t
 -- at least nine tens are unseen
 pub tens_unseen : (problem : Setup) → IsSetup problem → 9 ≤ count_by is_ten (unseen_of problem)
 tens_unseen problem setup =
-    let left = kept is_ten (λ _. true) (known_cards problem) setup.distinct (λ card h. each_has IsCard (known_cards problem) card setup.cards h) in
+    let split = split_set is_ten (λ _. true) (known_cards problem) setup.distinct (λ card h. each_has IsCard (known_cards problem) card setup.cards h)
+    (λ card h. refl) in
+    let few = count_most is_ten (known_cards problem) in
     let seven = known_seven problem setup in
     let all : count_by is_ten (set_where (λ _. true)) ≡ 16 = sixteen in
-    nine (count_by is_ten (set_where (λ _. true))) (count_by is_ten (unseen_of problem)) (length (known_cards problem)) left all seven
-  where
-    nine : (all left known : ℕ) → all ≤ left + known → all ≡ 16 → known ≡ 7 → 9 ≤ left
-    nine all left known h e f = omega arith
+    omega (arith, split, few, seven, all)

@@ -1,9 +1,9 @@
 -- The fixed cards: those that the opponent played in the opening.
-use Rattle.std.proofs.Common.{◌≡◌, ℕ, true, false, not, ◌||◌, eqb, cond, List, [], ◌∷◌, map, Some, None, refl, ap, subst, inl}
+use Rattle.std.proofs.Common.{◌≡◌, ℕ, true, false, not, ◌||◌, eqb, cond, List, [], ◌∷◌, Some, None, refl, ap, subst, inl}
 use Rattle.std.proofs.Common.{inr}
 use Rattle.std.specs.List.{AllByRecursion}
 use Rattle.std.proofs.lemmas.Bool.{cases_Bool, and_from, or_parts, or_cases, or_left, or_right, both_ways, eqb-true}
-use Rattle.crib_cards.specs.Cards.{IsCard, IsRank, rank_of}
+use Rattle.crib_cards.specs.Cards.{IsCard}
 use Rattle.crib_cards.specs.Sets.{has, are_distinct}
 use Rattle.crib_cards.specs.declared.sides.Side.{Side}
 use Rattle.crib_cards.specs.declared.sides.Side.TheVariants.{Owner, Opponent}
@@ -17,10 +17,8 @@ use Rattle.crib_problem.specs.Refusals.{same_card, not_turn, already_over}
 use Rattle.crib_problem.specs.Setup.{Setup, IsSetup, IsMove, known_cards, unseen_of, opening_basis_of, played_back, fixed_cards}
 use Rattle.crib_problem.proofs.AskedHolds.{none_of_two, none_of_either}
 use Rattle.crib_know.proofs.CardLists.{has_set_from}
-use Rattle.crib_know.proofs.CardsLeft.{eqb_same}
-use Rattle.crib_know.proofs.RankTotals.{AreRanks}
 use Rattle.crib_problem.proofs.HonestTurns.{moves_back}
-use Rattle.crib_cards.proofs.Members.{AreCards, rank_is}
+use Rattle.crib_cards.proofs.Members.{AreCards}
 
 -- ---- what holds of an act that is allowed
 pub record Allowed (basis : OpeningBasis) (before : List Act) (act : Act) : Type 0 where
@@ -125,13 +123,3 @@ module _ (problem : Setup) (setup : IsSetup problem) where
 
   pub fixed_unseen : (card : ℕ) → has (fixed_cards problem) card ≡ true → has (unseen_of problem) card ≡ true
   fixed_unseen card h = has_set_from (λ c. not (has (known_cards problem) c)) card (shown.cards card h) (fixed_unknown card h)
-
--- the ranks of cards are ranks
-pub ranks_are : (cards : List ℕ) → AreCards cards → AreRanks (map rank_of cards)
-ranks_are [] are rank h = absurd (both_ways false refl h)
-ranks_are (card ∷ cards) are rank h =
-    let R : ℕ → Type 0 = λ r. IsRank r in
-    elim (or_cases (eqb (rank_of card) rank) (has (map rank_of cards) rank) h) [
-      | inl here ↦ subst R (eqb-true (rank_of card) rank here) (rank_is card (are card (or_left (eqb card card) (has cards card) (eqb_same card))))
-      | inr there ↦ ranks_are cards (λ other k. are other (or_right (eqb card other) (has cards other) k)) rank there
-    ]

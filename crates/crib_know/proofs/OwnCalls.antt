@@ -1,10 +1,10 @@
 -- What the owner's turns, the first lead and the first deal require and give.
-use Rattle.std.proofs.Common.{◌≡◌, ℕ, ◌+◌, ◌-◌, ◌<◌, ◌≤◌, Bool, true, false, not, ◌&&◌, ◌||◌, eqb, leb, List, [], ◌∷◌, ◌++◌, map, length, take}
+use Rattle.std.proofs.Common.{◌≡◌, ℕ, ◌+◌, ◌<◌, ◌≤◌, true, false, leb, List, [], ◌∷◌, map, length, take}
 use Rattle.std.proofs.Common.{reverse, get_or, replicate, refl, sym, ap, subst, ◌∙◌, arith}
 use Rattle.std.specs.List.{list_any}
 use Rattle.std.proofs.lemmas.List.{take_all}
-use Rattle.crib_cards.specs.Cards.{IsCard, rank_of, card_value}
-use Rattle.crib_cards.specs.Sets.{has, set_of, set_without, rank_counts, IsCardSet, set_without_all}
+use Rattle.crib_cards.specs.Cards.{rank_of, card_value}
+use Rattle.crib_cards.specs.Sets.{has, set_of, set_without, set_without_all}
 use Rattle.crib_cards.specs.Start.{Start}
 use Rattle.crib_cards.specs.declared.sides.Dealt.{Dealt}
 use Rattle.crib_cards.specs.declared.sides.Side.{Side}
@@ -13,35 +13,29 @@ use Rattle.crib_cards.specs.declared.letters.Letter.TheVariants.{Seen, Go}
 use Rattle.crib_cards.specs.declared.moves.Move.{Move}
 use Rattle.crib_cards.specs.declared.moves.Move.TheVariants as move
 use Rattle.crib_cards.specs.declared.moves.Act.{Act}
-use Rattle.crib_cards.proofs.SetLemmas.{has-set_where, set_where_agree, IsCardSet-set_where}
-use Rattle.crib_cards.proofs.SetFacts.{has-append}
 use Rattle.crib_play.specs.declared.turns.Turn.TheVariants as turns
 use Rattle.crib_play.specs.Record.{count_of}
 use Rattle.crib_play.specs.Filled.{filled_record}
 use Rattle.crib_play.specs.Standing.{StandsFor, standing_after}
 use Rattle.crib_play.specs.History.{Event, Own, event_by, event_of, history_letters}
-use Rattle.crib_problem.specs.Setup.{Setup, IsSetup, known_cards, unseen_of, fixed_cards, start_of, target_of}
+use Rattle.crib_problem.specs.Setup.{Setup, IsSetup, unseen_of, fixed_cards, start_of, target_of}
 use Rattle.crib_know.specs.Knowledge.{Knowledge, played_events, their_ranks, least_value, own_left}
 use Rattle.crib_know.specs.Private.Knowledge.{at_first_lead}
 use Rattle.crib_know.specs.Knowledge.{knowledge_after}
 use Rattle.crib_know.specs.Hidden.{CanShow, CanShowAt, CanComeAt, KnowsAfter, IsFirstDeal}
 use Rattle.crib_know.proofs.LedHistories.{MayCome, IsLed}
 use Rattle.crib_play.proofs.TurnFacts.{filter_all}
-use Rattle.crib_know.specs.Private.Choice.{first_hold_with}
-use Rattle.crib_know.proofs.CardLists.{count_map}
-use Rattle.crib_know.proofs.FixedCards.{fixed_are_cards, fixed_distinct}
+use Rattle.crib_know.specs.Private.Choice.{chosen_cards}
 use Rattle.crib_know.proofs.OpeningLawProofs.{setup_at_first_lead, begun_at_first_lead, played_dealt, played_agrees, may_at}
-use Rattle.crib_know.proofs.RankCounting.{counts_none, counts_agree, chosen_picked}
-use Rattle.crib_know.proofs.RisingLists.{rising_distinct}
-use Rattle.crib_know.proofs.FirstDeals.{Needs, Fixes, free_cards, free_are_cards, free_chosen, first_hold, first_dealt, hold_four, hold_rising, hold_within}
+use Rattle.crib_know.proofs.RankCounting.{counts_none}
+use Rattle.crib_know.proofs.FirstDeals.{Needs, Fixes, first_hold, first_dealt, hold_four, hold_set, hold_within}
 use Rattle.crib_know.proofs.FirstDeals.{two_others}
 use Rattle.crib_know.proofs.RecordTurns.{possible_led}
 use Rattle.crib_know.proofs.KnowledgeFacts.{led_possible, needs_history, begun_fixes}
 use Rattle.crib_know.proofs.KnowledgeFacts.{first_deal_is}
-use Rattle.crib_know.proofs.CallLemmas.{same_knowledge, led_of, asked_same, count_same, least_same, seen_same, left_same, own_same}
-use Rattle.crib_know.proofs.CallLemmas.{after_own_play, own_go_high, after_own_go, unseen_same, fixed_same, stands_before, play_shows}
+use Rattle.crib_know.proofs.CallLemmas.{same_knowledge, led_of, asked_same, count_same, own_same}
+use Rattle.crib_know.proofs.CallLemmas.{after_own_play, own_go_high, after_own_go, unseen_same, stands_before, play_shows}
 use Rattle.crib_know.proofs.CallLemmas.{play_facts, go_shows, go_facts}
-use Rattle.crib_cards.proofs.SetCounts.{count_by-set_of}
 use Rattle.crib_problem.proofs.HonestTurns.{reverse_more}
 
 -- ---- two names of one knowledge
@@ -143,59 +137,10 @@ module _ (know : Knowledge) (problem : Setup) (history : List Event) (knows : Kn
 
   -- the cards of the first hold
   abbrev pub know_hold : List ℕ
-  know_hold = first_hold_with know.fixed know.ranks_seen know.least (rank_counts (map rank_of know.fixed)) know.opponent_left
-      (set_without_all know.unseen know.fixed)
-
-  -- the fixed cards as a set
-  abbrev fixed_set : List ℕ
-  fixed_set = set_of (fixed_cards problem)
-
-  fixed_has : (card : ℕ) → IsCard card → has fixed_set card ≡ has (fixed_cards problem) card
-  fixed_has card is = has-set_where (has (fixed_cards problem)) card is
-
-  fixed_counts : rank_counts (map rank_of fixed_set) ≡ rank_counts (map rank_of (fixed_cards problem))
-  fixed_counts =
-      counts_agree (map rank_of fixed_set) (map rank_of (fixed_cards problem))
-      (λ rank. count_map rank_of rank fixed_set ∙ count_by-set_of (λ card. eqb (rank_of card) rank) (fixed_cards problem) (fixed_distinct problem knows.setup)
-      (fixed_are_cards problem knows.setup) ∙ sym (count_map rank_of rank (fixed_cards problem)))
-
-  free_is : set_without_all (unseen_of problem) fixed_set ≡ free_cards problem knows.setup
-  free_is =
-      set_where_agree _ _ (λ card is.
-      (λ i. has-set_where (λ c. not (has (known_cards problem) c)) card is i && not (fixed_has card is i)))
+  know_hold = chosen_cards know.ranks_seen know.least know.fixed know.opponent_left know.unseen
 
   hold_is : know_hold ≡ first_hold problem knows.setup seen_ranks seen_least
-  hold_is =
-      ap (λ (fixed : List ℕ). first_hold_with fixed know.ranks_seen know.least (rank_counts (map rank_of fixed)) know.opponent_left
-      (set_without_all know.unseen fixed)) (fixed_same know problem history knows)
-      ∙ ap (λ (counts : List ℕ). first_hold_with fixed_set counts know.least (rank_counts (map rank_of fixed_set)) know.opponent_left
-      (set_without_all know.unseen fixed_set)) (seen_same know problem history knows)
-      ∙ ap (λ (n : ℕ). first_hold_with fixed_set (rank_counts seen_ranks) n (rank_counts (map rank_of fixed_set)) know.opponent_left
-      (set_without_all know.unseen fixed_set)) (least_same know problem history knows)
-      ∙ ap (λ (n : ℕ). first_hold_with fixed_set (rank_counts seen_ranks) seen_least (rank_counts (map rank_of fixed_set)) n
-      (set_without_all know.unseen fixed_set)) (left_same know problem history knows)
-      ∙ ap (λ (cards : List ℕ). first_hold_with fixed_set (rank_counts seen_ranks) seen_least (rank_counts (map rank_of fixed_set)) (4 - length seen_ranks)
-      (set_without_all cards fixed_set)) (unseen_same know problem history knows)
-      ∙ ap (λ (cards : List ℕ). first_hold_with fixed_set (rank_counts seen_ranks) seen_least (rank_counts (map rank_of fixed_set)) (4 - length seen_ranks)
-      cards) free_is
-      ∙ ap (λ (counts : List ℕ). first_hold_with fixed_set (rank_counts seen_ranks) seen_least counts (4 - length seen_ranks) (free_cards problem knows.setup))
-      fixed_counts
-      ∙ ap (λ (cards : List ℕ). set_of (fixed_set ++ cards)) (chosen_picked seen_ranks seen_least (map rank_of (fixed_cards problem)) (4 - length seen_ranks)
-      (free_cards problem knows.setup) (free_are_cards problem knows.setup))
-      ∙ same_set (free_chosen problem knows.setup seen_ranks seen_least)
-    where
-      same_set : (cards : List ℕ) → set_of (set_of (fixed_cards problem) ++ cards) ≡ set_of (fixed_cards problem ++ cards)
-      same_set cards =
-          set_where_agree _ _ (λ card is. has-append (set_of (fixed_cards problem)) cards card ∙ ap (λ (b : Bool). b || has cards card)
-          (has-set_where (has (fixed_cards problem)) card is) ∙ sym (has-append (fixed_cards problem) cards card))
-
-  pub unseen_set : IsCardSet know.unseen
-  unseen_set = let S : List ℕ → Type 0 = λ cards. IsCardSet cards in
-      subst S (sym (unseen_same know problem history knows)) (IsCardSet-set_where (λ card. not (has (known_cards problem) card)))
-
-  pub fixed_is_set : IsCardSet know.fixed
-  fixed_is_set = let S : List ℕ → Type 0 = λ cards. IsCardSet cards in
-      subst S (sym (fixed_same know problem history knows)) (IsCardSet-set_where (has (fixed_cards problem)))
+  hold_is = ap (λ (k : Knowledge). chosen_cards k.ranks_seen k.least k.fixed k.opponent_left k.unseen) knows.knowledge
 
   pub know_four : length know_hold ≡ 4
   know_four = ap length hold_is ∙ hold_four problem knows.setup seen_ranks seen_least seen_needs seen_fixes
@@ -212,7 +157,7 @@ module _ (know : Knowledge) (problem : Setup) (history : List Event) (knows : Kn
     rest_two =
         let mine = first_hold problem knows.setup seen_ranks seen_least in
         let two = two_others problem knows.setup mine (hold_four problem knows.setup seen_ranks seen_least seen_needs seen_fixes)
-        (rising_distinct mine (hold_rising problem knows.setup seen_ranks seen_least seen_needs seen_fixes))
+        (hold_set problem knows.setup seen_ranks seen_least seen_needs seen_fixes)
         (hold_within problem knows.setup seen_ranks seen_least seen_needs seen_fixes) in
         let same = ap length rest_is in
         omega (arith, two, same)

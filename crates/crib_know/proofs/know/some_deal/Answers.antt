@@ -1,21 +1,11 @@
 use Rattle.crib_know.proofs.OwnCalls.{rest_two, first_is}
-use Rattle.crib_know.proofs.OwnCalls.{moved, unseen_set, fixed_is_set, know_four}
+use Rattle.crib_know.proofs.OwnCalls.{moved, know_four}
 use Rattle.crib_know.proofs.know.some_deal.Goals as goal
 
-pub first_hold-hold-requires-clause-unseen : goal.first_hold-hold-requires-clause-unseen
-first_hold-hold-requires-clause-unseen c =
+pub first_hold-hold-requires : goal.first_hold-hold-requires
+first_hold-hold-requires c =
     let known = c.know.invariant in
-    unseen_set _ known.problem known.history known.knows
-
-pub first_hold-hold-requires-clause-fixed : goal.first_hold-hold-requires-clause-fixed
-first_hold-hold-requires-clause-fixed c =
-    let known = c.know.invariant in
-    fixed_is_set _ known.problem known.history known.knows
-
-pub first_hold-hold-requires-clause-four : goal.first_hold-hold-requires-clause-four
-first_hold-hold-requires-clause-four c =
-    let known = c.know.invariant in
-    know_four _ known.problem known.history known.knows
+    record { four = know_four _ known.problem known.history known.knows }
 
 pub lowest_two-requires : goal.lowest_two-requires
 lowest_two-requires c =

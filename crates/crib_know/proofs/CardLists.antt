@@ -1,6 +1,6 @@
 -- Lists of cards as sets, and counts of ranks.
 use Rattle.std.proofs.Common.{◌≡◌, ℕ, zero, suc, ◌+◌, ◌<◌, ◌≤◌, Bool, true, false, cond, ◌&&◌, eqb, List, [], ◌∷◌, map, length}
-use Rattle.std.proofs.Common.{All, count_by, refl, sym, ap, ◌∙◌, inl, inr, arith}
+use Rattle.std.proofs.Common.{All, count_by, refl, sym, ap, subst, ◌∙◌, inl, inr, arith}
 use Rattle.std.specs.List.{AllByRecursion, list_all, filter, range_with_len}
 use Rattle.std.proofs.lemmas.List.Elements.{All-from_recursion}
 use Rattle.std.proofs.lemmas.Bool.{cases_Bool, cases_eq, or_cases, or_left, or_right, both_ways, eqb-true, eq-eqb}
@@ -8,7 +8,7 @@ use Rattle.crib_cards.specs.Cards.{IsCard, IsRank, ranks}
 use Rattle.crib_cards.specs.Sets.{has, are_distinct, set_where, set_of}
 use Rattle.crib_cards.proofs.SetFacts.{in_set_where}
 use Rattle.crib_know.proofs.CardsLeft.{has-filter_from}
-use Rattle.crib_cards.proofs.Members.{AreCards, has_here, has_there, all_has, all_from}
+use Rattle.crib_cards.proofs.Members.{AreCards, has_here, has_there, has_cases, all_has, all_from}
 use Rattle.crib_cards.proofs.SetCounts.{count_cons, count_by-set_of}
 
 -- ---- ranges
@@ -38,6 +38,10 @@ all_cards xs are = All-from_recursion IsCard xs (each xs are)
     each : (ys : List ℕ) → AreCards ys → AllByRecursion IsCard ys
     each [] are = tt
     each (y ∷ ys) are = (are y (has_here y ys), each ys (λ k h. are k (has_there y k ys h)))
+
+-- what holds of the first number of a list and of the others holds of each
+pub each_member : (P : ℕ → Type 0) (x : ℕ) (xs : List ℕ) → P x → ((y : ℕ) → has xs y ≡ true → P y) → (y : ℕ) → has (x ∷ xs) y ≡ true → P y
+each_member P x xs first others y h = elim (has_cases x y xs h) [ inl here ↦ subst P here first | inr there ↦ others y there ]
 
 -- ---- counts
 abbrev pub one_if : Bool → ℕ

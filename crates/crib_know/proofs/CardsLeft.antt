@@ -1,7 +1,7 @@
 -- The cards that are left to each side after some visible turns.
-use Rattle.std.proofs.Common.{◌≡◌, ℕ, ◌+◌, Bool, true, false, cond, not, ◌&&◌, ◌||◌, eqb, List, [], ◌∷◌, ◌++◌, count_by, refl, sym, ap, ◌∙◌, inl, inr, arith}
+use Rattle.std.proofs.Common.{◌≡◌, ℕ, ◌+◌, Bool, true, false, cond, not, ◌||◌, eqb, List, [], ◌∷◌, ◌++◌, count_by, refl, sym, ap, ◌∙◌, arith}
 use Rattle.std.specs.List.{filter}
-use Rattle.std.proofs.lemmas.Bool.{cases_Bool, and_parts, or_cases, or_left, or_right, both_ways, not-true, eqb-true, eqb-false, ne_eqb}
+use Rattle.std.proofs.lemmas.Bool.{and_parts, and_from, both_ways, ne_eqb}
 use Rattle.std.proofs.lemmas.Bool.Decides.{nat_tests}
 use Rattle.std.proofs.lemmas.List.Folds.{list_any-append}
 use Rattle.crib_cards.specs.Cards.{rank_of}
@@ -14,13 +14,14 @@ use Rattle.crib_cards.specs.declared.moves.Move.TheVariants as move
 use Rattle.crib_play.specs.Record.{mover}
 use Rattle.crib_play.specs.Legal.{IsDealt, letters_of, cards_of, cards_left}
 use Rattle.crib_play.specs.History.{filled_moves, AreLegal, Event, event_by}
-use Rattle.crib_play.proofs.CardLemmas.{filter_yes, filter_no, IsWithout, filter_absent, distinct_apart_back, has_played}
+use Rattle.crib_play.proofs.CardLemmas.{IsWithout, filter_absent, filter_present_by as present_by, distinct_apart_back, has_played}
 use Rattle.crib_play.proofs.TurnFacts.{filter_all}
 use Rattle.crib_know.specs.Knowledge.{own_cards, their_ranks}
 use Rattle.crib_know.proofs.Events.{events}
 use Rattle.crib_play.proofs.FilledRecords.{cards_filled}
 use Rattle.crib_cards.proofs.Members.{distinct_right, distinct_apart}
 use Rattle.crib_cards.proofs.SetCounts.{count_cons}
+use Rattle.crib_cards.proofs.SetFacts.{has-filter}
 
 -- ---- lists
 pub eqb_same : (x : ℕ) → eqb x x ≡ true
@@ -28,76 +29,15 @@ eqb_same x = grind (arith, nat_tests)
 
 -- a filtered list has those cards of the list that pass the test
 pub has-filter_parts : (p : ℕ → Bool) (xs : List ℕ) (card : ℕ) → has (filter p xs) card ≡ true → (has xs card ≡ true) × (p card ≡ true)
-has-filter_parts p [] card h = absurd (both_ways false refl h)
-has-filter_parts p (x ∷ xs) card h =
-    elim (cases_Bool (p x)) [
-      | inl e ↦ elim (or_cases (eqb x card) (has (filter p xs) card) (ap (λ ys. has ys card) (sym (filter_yes p x xs e)) ∙ h)) [
-        | inl here ↦ (or_left (eqb x card) (has xs card) here, ap p (sym (eqb-true x card here)) ∙ e)
-        | inr there ↦ let rest = has-filter_parts p xs card there in (or_right (eqb x card) (has xs card) rest.0, rest.1)
-      ]
-      | inr e ↦ let rest = has-filter_parts p xs card (ap (λ ys. has ys card) (sym (filter_no p x xs e)) ∙ h) in
-          (or_right (eqb x card) (has xs card) rest.0, rest.1)
-    ]
+has-filter_parts p xs card h = and_parts (has xs card) (p card) (sym (has-filter p xs card) ∙ h)
 
 pub has-filter_from : (p : ℕ → Bool) (xs : List ℕ) (card : ℕ) → has xs card ≡ true → p card ≡ true → has (filter p xs) card ≡ true
-has-filter_from p [] card h e = absurd (both_ways false refl h)
-has-filter_from p (x ∷ xs) card h e =
-    elim (or_cases (eqb x card) (has xs card) h) [
-      | inl here ↦ ap (λ ys. has ys card) (filter_yes p x xs (ap p (eqb-true x card here) ∙ e)) ∙ or_left (eqb x card) (has (filter p xs) card) here
-      | inr there ↦
-          elim (cases_Bool (p x)) [
-            | inl yes_is ↦ ap (λ ys. has ys card) (filter_yes p x xs yes_is) ∙ or_right (eqb x card) (has (filter p xs) card)
-                (has-filter_from p xs card there e)
-            | inr no_is ↦ ap (λ ys. has ys card) (filter_no p x xs no_is) ∙ has-filter_from p xs card there e
-          ]
-    ]
+has-filter_from p xs card h e = has-filter p xs card ∙ and_from (has xs card) (p card) h e
 
 -- the list with a card that was left has one card more than the list without it
 pub filter_present_by : (f p q : ℕ → Bool) (card : ℕ) → IsWithout p q card → (xs : List ℕ) → are_distinct xs ≡ true → has (filter p xs) card ≡ true →
     count_by f (filter q xs) + cond (f card) 1 0 ≡ count_by f (filter p xs)
-filter_present_by f p q card without [] distinct h = absurd (both_ways false refl h)
-filter_present_by f p q card without (x ∷ xs) distinct h =
-    let parts = and_parts (not (has xs x)) (are_distinct xs) distinct in
-    let lacks : has xs x ≡ false = not-true (has xs x) parts.0 in
-    elim (cases_Bool (eqb x card)) [
-      | inl same ↦
-          let is : x ≡ card = eqb-true x card same in
-          let lacks_card : has xs card ≡ false = ap (has xs) (sym is) ∙ lacks in
-          let p_yes : p x ≡ true = ap p is ∙ (has-filter_parts p (x ∷ xs) card h).1 in
-          let q_no : q x ≡ false = without x ∙ ap (λ (b : Bool). b && not (eqb card x)) p_yes ∙ ap (λ (y : ℕ). not (eqb y x)) (sym is) ∙ ap not (eqb_same x) in
-          ap (λ ys. count_by f ys + cond (f card) 1 0) (filter_no q x xs q_no ∙ filter_absent p q card without xs lacks_card)
-          ∙ ap (λ (y : ℕ). count_by f (filter p xs) + cond (f y) 1 0) (sym is)
-          ∙ (let e : count_by f (filter p xs) + cond (f x) 1 0 ≡ cond (f x) 1 0 + count_by f (filter p xs) = omega arith in e)
-          ∙ sym (count_cons f x (filter p xs))
-          ∙ ap (count_by f) (sym (filter_yes p x xs p_yes))
-      | inr other ↦
-          let back : eqb card x ≡ false = ne_eqb card x (λ s. eqb-false x card other (sym s)) in
-          let q_same : q x ≡ p x = without x ∙ ap (λ (b : Bool). p x && not b) back ∙ and_true (p x) in
-          let rest_has : has (filter p xs) card ≡ true = tail_has other in
-          let rest : count_by f (filter q xs) + cond (f card) 1 0 ≡ count_by f (filter p xs) = filter_present_by f p q card without xs parts.1 rest_has in
-          elim (cases_Bool (p x)) [
-            | inl holds ↦
-                ap (λ ys. count_by f ys + cond (f card) 1 0) (filter_yes q x xs (q_same ∙ holds))
-                ∙ ap (λ (n : ℕ). n + cond (f card) 1 0) (count_cons f x (filter q xs))
-                ∙ (let e : cond (f x) 1 0 + count_by f (filter q xs) + cond (f card) 1 0 ≡ cond (f x) 1 0 + count_by f (filter p xs) = omega arith in e)
-                ∙ sym (count_cons f x (filter p xs))
-                ∙ ap (count_by f) (sym (filter_yes p x xs holds))
-            | inr fails ↦
-                ap (λ ys. count_by f ys + cond (f card) 1 0) (filter_no q x xs (q_same ∙ fails)) ∙ rest ∙ ap (count_by f) (sym (filter_no p x xs fails))
-          ]
-    ]
-  where
-    and_true : (b : Bool) → (b && true) ≡ b
-    and_true true = refl
-    and_true false = refl
-
-    tail_has : eqb x card ≡ false → has (filter p xs) card ≡ true
-    tail_has other =
-        let both = has-filter_parts p (x ∷ xs) card h in
-        elim (or_cases (eqb x card) (has xs card) both.0) [
-          | inl here ↦ absurd (both_ways (eqb x card) other here)
-          | inr there ↦ has-filter_from p xs card there both.1
-        ]
+filter_present_by = present_by
 
 -- ---- what is left after some cards
 abbrev pub remaining : List ℕ → List ℕ → List ℕ

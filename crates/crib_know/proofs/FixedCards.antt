@@ -1,8 +1,8 @@
 -- The fixed cards: those that the opponent played in the opening.
-use Rattle.std.proofs.Common.{◌≡◌, ℕ, true, false, not, ◌||◌, eqb, cond, List, [], ◌∷◌, Some, None, refl, ap, subst, inl}
+use Rattle.std.proofs.Common.{◌≡◌, ℕ, true, false, not, ◌||◌, eqb, cond, List, [], ◌∷◌, Some, None, refl, ap, inl}
 use Rattle.std.proofs.Common.{inr}
 use Rattle.std.specs.List.{AllByRecursion}
-use Rattle.std.proofs.lemmas.Bool.{cases_Bool, and_from, or_parts, or_cases, or_left, or_right, both_ways, eqb-true}
+use Rattle.std.proofs.lemmas.Bool.{cases_Bool, and_from, or_parts, or_right, both_ways}
 use Rattle.crib_cards.specs.Cards.{IsCard}
 use Rattle.crib_cards.specs.Sets.{has, are_distinct}
 use Rattle.crib_cards.specs.declared.sides.Side.{Side}
@@ -16,9 +16,9 @@ use Rattle.crib_problem.specs.Played.{count_by_acts, own_left_by, least_by, is_o
 use Rattle.crib_problem.specs.Refusals.{same_card, not_turn, already_over}
 use Rattle.crib_problem.specs.Setup.{Setup, IsSetup, IsMove, known_cards, unseen_of, opening_basis_of, played_back, fixed_cards}
 use Rattle.crib_problem.proofs.AskedHolds.{none_of_two, none_of_either}
-use Rattle.crib_know.proofs.CardLists.{has_set_from}
+use Rattle.crib_know.proofs.CardLists.{has_set_from, each_member}
 use Rattle.crib_problem.proofs.HonestTurns.{moves_back}
-use Rattle.crib_cards.proofs.Members.{AreCards}
+use Rattle.crib_cards.proofs.Members.{AreCards, has_here, has_there}
 
 -- ---- what holds of an act that is allowed
 pub record Allowed (basis : OpeningBasis) (before : List Act) (act : Act) : Type 0 where
@@ -75,22 +75,12 @@ next_shown basis before Opponent (move.Card first) shown is e =
       | inl there ↦ absurd (both_ways (has (cards_played before) first) parts.1 (shown.played first there))
       | inr out ↦ out
     ] in
-    let C : ℕ → Type 0 = λ card. IsCard card in
-    let K : ℕ → Type 0 = λ card. has basis.known card ≡ false in
     record {
-      cards = λ card h. elim (or_cases (eqb first card) (has theirs card) h) [
-        | inl here ↦ subst C (eqb-true first card here) is
-        | inr there ↦ shown.cards card there
-      ];
+      cards = each_member (λ card. IsCard card) first theirs is shown.cards;
       distinct = and_from (not (has theirs first)) (are_distinct theirs) (ap not fresh) shown.distinct;
-      unknown = λ card h. elim (or_cases (eqb first card) (has theirs card) h) [
-        | inl here ↦ subst K (eqb-true first card here) parts.0
-        | inr there ↦ shown.unknown card there
-      ];
-      played = λ card h. elim (or_cases (eqb first card) (has theirs card) h) [
-        | inl here ↦ or_left (eqb first card) (has (cards_played before) card) here
-        | inr there ↦ or_right (eqb first card) (has (cards_played before) card) (shown.played card there)
-      ];
+      unknown = each_member (λ card. has basis.known card ≡ false) first theirs parts.0 shown.unknown;
+      played = each_member (λ card. has (first ∷ cards_played before) card ≡ true) first theirs (has_here first (cards_played before))
+          (λ card h. has_there first card (cards_played before) (shown.played card h));
     }
 
 pub are_shown : (basis : OpeningBasis) (acts : List Act) → AllMoves acts → AreAllowed basis acts → AreShown basis acts

@@ -1,9 +1,9 @@
 -- What a knowledge says of the histories that it stands for.
 use Rattle.std.proofs.Common.{◌≡◌, ◌⊎◌, ℕ, ◌+◌, ◌<◌, ◌≤◌, true, false, not, eqb, ltb, List, [], ◌∷◌, ◌++◌, map, length, count_by, refl, sym, ap}
 use Rattle.std.proofs.Common.{subst, ◌∙◌, inl, inr, arith}
-use Rattle.std.proofs.lemmas.Bool.{cases_eq, cases_lt, and_parts, or_cases, both_ways, eqb-true, eq-eqb, ne_eqb, ltb-true}
+use Rattle.std.proofs.lemmas.Bool.{cases_eq, cases_lt, and_parts, both_ways, eqb-true, eq-eqb, ne_eqb, ltb-true}
 use Rattle.crib_cards.specs.Cards.{IsRank, rank_of}
-use Rattle.crib_cards.specs.Sets.{has, count_rank}
+use Rattle.crib_cards.specs.Sets.{count_rank}
 use Rattle.crib_cards.specs.Start.{pone_of}
 use Rattle.crib_cards.specs.declared.sides.Side.{Side}
 use Rattle.crib_cards.specs.declared.sides.Side.TheVariants.{Owner, Opponent}
@@ -32,7 +32,7 @@ use Rattle.crib_know.specs.Hidden.{IsPossible, CanShow, BeginsAfter, IsFirstDeal
 use Rattle.crib_know.proofs.LedHistories.{MayCome, IsLed}
 use Rattle.crib_know.proofs.ChosenRanks.{ranks_of}
 use Rattle.crib_know.proofs.Events.{Plays, plays_of, plays_taken, play_more}
-use Rattle.crib_know.proofs.CardLists.{one_if, one_counted, none_counted, found_by, count_all_of}
+use Rattle.crib_know.proofs.CardLists.{one_if, one_counted, none_counted, found_by, count_all_of, each_member}
 use Rattle.crib_know.proofs.Deals.{dealt_is, least_after_card, least_after_own, least_after_go_most, least_before}
 use Rattle.crib_know.proofs.AgreeingIsPassing.{PassesRanks, MightPlay, MightGo, past, left_played, past_same, mover_same, agreeing_passes, played_most}
 use Rattle.crib_know.proofs.AgreeingIsPassing.{held_unseen}
@@ -105,10 +105,7 @@ module _ (problem : Setup) (setup : IsSetup problem) where
       let after : List Event = Theirs (Seen rank) ∷ history in
       let plays = plays_of (start_of problem) (hands_of problem dealt) after (started problem setup) (dealt_is problem setup dealt deal) can.1.1 in
       let might = can_play_might problem setup history rank can in
-      let are : AreRanks (rank ∷ their_ranks history) = λ other h. elim (or_cases (eqb rank other) (has (their_ranks history) other) h) [
-        | inl here ↦ let R : ℕ → Type 0 = λ r. IsRank r in subst R (eqb-true rank other here) might.is
-        | inr there ↦ needs.are other there
-      ] in
+      let are : AreRanks (rank ∷ their_ranks history) = each_member (λ r. IsRank r) rank (their_ranks history) might.is needs.are in
       record {
         are = are;
         most = played_most problem setup dealt deal after plays;
@@ -223,10 +220,7 @@ module _ (problem : Setup) (setup : IsSetup problem) where
         let free = might.free in
         let few = holds_one might.asked in
         let more : Needs problem setup (rank ∷ their_ranks history) (least_value problem history) = record {
-          are = λ other h. elim (or_cases (eqb rank other) (has (their_ranks history) other) h) [
-            | inl here ↦ let R : ℕ → Type 0 = λ r. IsRank r in subst R (eqb-true rank other here) might.is
-            | inr there ↦ needs.are other there
-          ];
+          are = each_member (λ r. IsRank r) rank (their_ranks history) might.is needs.are;
           most = omega (arith, few);
           there = λ other. there_more rank other (their_ranks history) (unseen_of problem) free (needs.there other);
           least_most = needs.least_most;

@@ -159,19 +159,10 @@ state_after-card start past rank =
       opponent_said = has_said_go pone Opponent (Seen rank ∷ past);
     }
 
--- a go changes no score unless it closes
-score_stays : (o p for_o for_p : ℕ) (side : Side) →
-    ◌≡◌ {A = Scores}
-    (record { owner = score_with o (cond (same_side side Owner) 0 0 + for_o); opponent = score_with p (cond (same_side side Opponent) 0 0 + for_p) })
-    (record { owner = score_with o for_o; opponent = score_with p for_p })
-score_stays o p for_o for_p Owner =
-    let e : score_with o (0 + for_o) ≡ score_with o for_o = omega arith in
-    let f : score_with p (0 + for_p) ≡ score_with p for_p = omega arith in
-    λ i. record { owner = e i; opponent = f i }
-score_stays o p for_o for_p Opponent =
-    let e : score_with o (0 + for_o) ≡ score_with o for_o = omega arith in
-    let f : score_with p (0 + for_p) ≡ score_with p for_p = omega arith in
-    λ i. record { owner = e i; opponent = f i }
+-- no points change no score
+no_points : (b : Bool) (points : ℕ) → cond b 0 0 + points ≡ points
+no_points true points = omega arith
+no_points false points = omega arith
 
 scores_of_go : Start → Record → ℕ → Scores
 scores_of_go start past points =
@@ -181,60 +172,39 @@ scores_of_go start past points =
           (cond (same_side (last_player (pone_of start) past) Opponent) points 0 + points_for (pone_of start) Opponent past);
     }
 
-pub state_after-go_closing : (start : Start) (past : Record) → closes Go past ≡ true → state_after start (Go ∷ past) ≡ go_closing (state_after start past)
-unfolding scores_of_go
-state_after-go_closing start past is =
-    let pone = pone_of start in
-    let recent = sequence_of past in
-    let first : is_go_first (sequence_of (Go ∷ past)) ≡ false = ap (λ (c : Bool). is_go_first (cond c [] (Go ∷ recent))) is in
-    let pile : pile_of (Go ∷ past) ≡ [] = ap (λ (c : Bool). cards_in (cond c [] (Go ∷ recent))) is in
-    let scores : scores_after start (Go ∷ past) ≡ scores_with (scores_after start past) (last_player pone past) 1 =
-    ap (λ (c : Bool). scores_of_go start past (cond c 1 0)) is
-    ∙ score_step start.scores.owner start.scores.opponent (points_for pone Owner past) (points_for pone Opponent past) (last_player pone past) 1 in
-    let owner = left_stays (same_side (mover pone past) Owner) (turns_of pone Owner past) in
-    let opponent = left_stays (same_side (mover pone past) Opponent) (turns_of pone Opponent past) in
-    let owner_said : has_said_go pone Owner (Go ∷ past) ≡ false =
-    ap (λ (c : Bool). cond c false (same_side (mover pone past) Owner || has_said_go pone Owner past)) is in
-    let opponent_said : has_said_go pone Opponent (Go ∷ past) ≡ false =
-    ap (λ (c : Bool). cond c false (same_side (mover pone past) Opponent || has_said_go pone Opponent past)) is in
-    λ i. record {
-      mover = other_side (mover pone past);
-      go_last = first i;
-      pile = pile i;
-      last = last_player pone past;
-      scores = scores i;
-      played = length (cards_in past);
-      owner_left = owner i;
-      opponent_left = opponent i;
-      owner_said = owner_said i;
-      opponent_said = opponent_said i;
-    }
+-- the state after a go that closes or not
+abbrev after_go : Start → Record → Bool → State
+after_go start past c = record {
+  mover = other_side (mover (pone_of start) past);
+  go_last = is_go_first (cond c [] (Go ∷ sequence_of past));
+  pile = cards_in (cond c [] (Go ∷ sequence_of past));
+  last = last_player (pone_of start) past;
+  scores = scores_of_go start past (cond c 1 0);
+  played = length (cards_in past);
+  owner_left = 4 - cards_played (pone_of start) Owner past;
+  opponent_left = 4 - cards_played (pone_of start) Opponent past;
+  owner_said = cond c false (same_side (mover (pone_of start) past) Owner || has_said_go (pone_of start) Owner past);
+  opponent_said = cond c false (same_side (mover (pone_of start) past) Opponent || has_said_go (pone_of start) Opponent past);
+}
 
-pub state_after-go_open : (start : Start) (past : Record) → closes Go past ≡ false → state_after start (Go ∷ past) ≡ go_open (state_after start past)
+state_after-either : (start : Start) (past : Record) → state_after start (Go ∷ past) ≡ after_go start past (closes Go past)
 unfolding scores_of_go
-state_after-go_open start past is =
-    let pone = pone_of start in
-    let recent = sequence_of past in
-    let first : is_go_first (sequence_of (Go ∷ past)) ≡ true = ap (λ (c : Bool). is_go_first (cond c [] (Go ∷ recent))) is in
-    let pile : pile_of (Go ∷ past) ≡ pile_of past = ap (λ (c : Bool). cards_in (cond c [] (Go ∷ recent))) is in
-    let scores : scores_after start (Go ∷ past) ≡ scores_after start past =
-    ap (λ (c : Bool). scores_of_go start past (cond c 1 0)) is
-    ∙ score_stays start.scores.owner start.scores.opponent (points_for pone Owner past) (points_for pone Opponent past) (last_player pone past) in
-    let owner = left_stays (same_side (mover pone past) Owner) (turns_of pone Owner past) in
-    let opponent = left_stays (same_side (mover pone past) Opponent) (turns_of pone Opponent past) in
-    let owner_said = ap (λ (c : Bool). cond c false (same_side (mover pone past) Owner || has_said_go pone Owner past)) is in
-    let opponent_said = ap (λ (c : Bool). cond c false (same_side (mover pone past) Opponent || has_said_go pone Opponent past)) is in
-    λ i. record {
-      mover = other_side (mover pone past);
-      go_last = first i;
-      pile = pile i;
-      last = last_player pone past;
-      scores = scores i;
-      played = length (cards_in past);
-      owner_left = owner i;
-      opponent_left = opponent i;
-      owner_said = owner_said i;
-      opponent_said = opponent_said i;
+state_after-either start past =
+    let owner = left_stays (same_side (mover (pone_of start) past) Owner) (turns_of (pone_of start) Owner past) in
+    let opponent = left_stays (same_side (mover (pone_of start) past) Opponent) (turns_of (pone_of start) Opponent past) in
+    λ i. record (after_go start past (closes Go past)) { owner_left = owner i; opponent_left = opponent i }
+
+after_go_is : (start : Start) (past : Record) (c : Bool) → after_go start past c ≡ cond c (go_closing (state_after start past)) (go_open (state_after start past))
+unfolding scores_of_go
+after_go_is start past true =
+    let scores = score_step start.scores.owner start.scores.opponent (points_for (pone_of start) Owner past) (points_for (pone_of start) Opponent past)
+    (last_player (pone_of start) past) 1 in
+    λ i. record (go_closing (state_after start past)) { scores = scores i }
+after_go_is start past false =
+    let owner = no_points (same_side (last_player (pone_of start) past) Owner) (points_for (pone_of start) Owner past) in
+    let opponent = no_points (same_side (last_player (pone_of start) past) Opponent) (points_for (pone_of start) Opponent past) in
+    λ i. record (go_open (state_after start past)) {
+      scores = record { owner = score_with start.scores.owner (owner i); opponent = score_with start.scores.opponent (opponent i) };
     }
 
 pub closes-go : (start : Start) (past : Record) → closes Go past ≡ closes_by_go (state_after start past)
@@ -242,14 +212,8 @@ closes-go start past = close_step (sequence_of past)
 
 pub state_after-go : (start : Start) (past : Record) → state_after start (Go ∷ past) ≡ step_go (state_after start past)
 state_after-go start past =
-    elim (cases_Bool (closes Go past)) [
-      | inl is ↦ state_after-go_closing start past is
-          ∙ sym (cond-true (closes_by_go (state_after start past)) (go_closing (state_after start past)) (go_open (state_after start past))
-          (sym (closes-go start past) ∙ is))
-      | inr is ↦ state_after-go_open start past is
-          ∙ sym (cond-false (closes_by_go (state_after start past)) (go_closing (state_after start past)) (go_open (state_after start past))
-          (sym (closes-go start past) ∙ is))
-    ]
+    state_after-either start past ∙ after_go_is start past (closes Go past)
+    ∙ ap (λ (c : Bool). cond c (go_closing (state_after start past)) (go_open (state_after start past))) (closes-go start past)
 
 -- whether the deal is done
 abbrev pub done : ℕ → State → Bool

@@ -14,7 +14,7 @@ use Rattle.crib_cards.specs.declared.moves.Move.TheVariants as move
 use Rattle.crib_play.specs.Record.{mover}
 use Rattle.crib_play.specs.Legal.{IsDealt, letters_of, cards_of, cards_left}
 use Rattle.crib_play.specs.History.{filled_moves, AreLegal, Event, event_by}
-use Rattle.crib_play.proofs.CardLemmas.{IsWithout, filter_absent, filter_present_by as present_by, distinct_apart_back, has_played}
+use Rattle.crib_play.proofs.CardLemmas.{IsWithout, filter_absent, count_present, distinct_apart_back, has_played}
 use Rattle.crib_play.proofs.TurnFacts.{filter_all}
 use Rattle.crib_know.specs.Knowledge.{own_cards, their_ranks}
 use Rattle.crib_know.proofs.Events.{events}
@@ -37,7 +37,9 @@ has-filter_from p xs card h e = has-filter p xs card ∙ and_from (has xs card) 
 -- the list with a card that was left has one card more than the list without it
 pub filter_present_by : (f p q : ℕ → Bool) (card : ℕ) → IsWithout p q card → (xs : List ℕ) → are_distinct xs ≡ true → has (filter p xs) card ≡ true →
     count_by f (filter q xs) + cond (f card) 1 0 ≡ count_by f (filter p xs)
-filter_present_by = present_by
+filter_present_by f p q card without xs distinct h =
+    let parts = has-filter_parts p xs card h in
+    count_present f p q card without parts.1 xs distinct parts.0
 
 -- ---- what is left after some cards
 abbrev pub remaining : List ℕ → List ℕ → List ℕ

@@ -1,16 +1,16 @@
 -- Lists and sets of the cards of a deal.
 use Rattle.std.proofs.Common.{◌≡◌, ℕ, zero, suc, ◌+◌, ◌<◌, ◌≤◌, Bool, true, false, not, ◌&&◌, eqb, List, [], ◌∷◌, ◌++◌, length}
-use Rattle.std.proofs.Common.{length-append, take, count_by, refl, ap, ◌∙◌, inl, inr, arith}
+use Rattle.std.proofs.Common.{length-append, take, count_by, refl, ap, ◌∙◌, arith}
 use Rattle.std.specs.List.{filter, range_with_len}
-use Rattle.std.proofs.lemmas.Bool.{and_from, or_cases, or_left, or_right, both_ways}
+use Rattle.std.proofs.lemmas.Bool.{and_from, both_ways}
 use Rattle.crib_cards.specs.Cards.{IsCard, card_value}
 use Rattle.crib_cards.specs.Sets.{has, are_distinct, set_of, set_where, set_without_all, IsCardSet}
 use Rattle.crib_cards.proofs.SetLemmas.{set_where_agree}
 use Rattle.crib_problem.specs.Setup.{Setup, IsSetup, known_cards, unseen_of}
 use Rattle.crib_problem.proofs.StartLemmas.{each_has}
-use Rattle.crib_know.proofs.CardLists.{one_if, count_most, count_sum, count_filter, Counted, found_by, has_set_from, count_here}
+use Rattle.crib_know.proofs.CardLists.{one_if, count_most, count_sum, count_filter, Counted, found_by, has_set_from, count_here, each_member}
 use Rattle.crib_cards.proofs.SetCounts.{count_by-set_of}
-use Rattle.crib_cards.proofs.Members.{AreCards, AreAmong}
+use Rattle.crib_cards.proofs.Members.{AreCards, AreAmong, has_here, has_there}
 use Rattle.crib_cards.proofs.SetFacts.{are_distinct-set_where}
 use Rattle.crib_cards.proofs.LowestCard.{in_set}
 
@@ -72,10 +72,7 @@ pub has_take : (n : ℕ) (xs : List ℕ) (card : ℕ) → has (take n xs) card �
 has_take zero xs card h = absurd (both_ways false refl h)
 has_take (suc n) [] card h = absurd (both_ways false refl h)
 has_take (suc n) (x ∷ xs) card h =
-    elim (or_cases (eqb x card) (has (take n xs) card) h) [
-      | inl here ↦ or_left (eqb x card) (has xs card) here
-      | inr there ↦ or_right (eqb x card) (has xs card) (has_take n xs card there)
-    ]
+    each_member (λ y. has (x ∷ xs) y ≡ true) x (take n xs) (has_here x xs) (λ y k. has_there x y xs (has_take n xs y k)) card h
 
 -- the owner knows seven cards
 known_seven : (problem : Setup) → IsSetup problem → length (known_cards problem) ≡ 7

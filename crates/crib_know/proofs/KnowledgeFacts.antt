@@ -1,7 +1,7 @@
 -- What a knowledge says of the histories that it stands for.
-use Rattle.std.proofs.Common.{◌≡◌, ◌⊎◌, ℕ, ◌+◌, ◌<◌, ◌≤◌, true, false, not, eqb, ltb, List, [], ◌∷◌, ◌++◌, map, length, count_by, refl, sym, ap}
+use Rattle.std.proofs.Common.{◌≡◌, ℕ, ◌+◌, ◌<◌, ◌≤◌, true, false, not, eqb, ltb, List, [], ◌∷◌, ◌++◌, map, length, count_by, refl, sym, ap}
 use Rattle.std.proofs.Common.{subst, ◌∙◌, inl, inr, arith}
-use Rattle.std.proofs.lemmas.Bool.{cases_eq, cases_lt, and_parts, both_ways, eqb-true, eq-eqb, ne_eqb, ltb-true}
+use Rattle.std.proofs.lemmas.Bool.{cases_eq, and_parts, both_ways, eq-eqb, ne_eqb, ltb-true}
 use Rattle.crib_cards.specs.Cards.{IsRank, rank_of}
 use Rattle.crib_cards.specs.Sets.{count_rank}
 use Rattle.crib_cards.specs.Start.{pone_of}
@@ -32,25 +32,14 @@ use Rattle.crib_know.specs.Hidden.{IsPossible, CanShow, BeginsAfter, IsFirstDeal
 use Rattle.crib_know.proofs.LedHistories.{MayCome, IsLed}
 use Rattle.crib_know.proofs.ChosenRanks.{ranks_of}
 use Rattle.crib_know.proofs.Events.{Plays, plays_of, plays_taken, play_more}
-use Rattle.crib_know.proofs.CardLists.{one_if, one_counted, none_counted, found_by, count_all_of, each_member}
+use Rattle.crib_know.proofs.CardLists.{one_if, one_counted, none_counted, count_all_of, each_member}
 use Rattle.crib_know.proofs.Deals.{dealt_is, least_after_card, least_after_own, least_after_go_most, least_before}
 use Rattle.crib_know.proofs.AgreeingIsPassing.{PassesRanks, MightPlay, MightGo, past, left_played, past_same, mover_same, agreeing_passes, played_most}
 use Rattle.crib_know.proofs.AgreeingIsPassing.{held_unseen}
 use Rattle.crib_know.proofs.PassingIsAgreeing.{can_play_might, can_go_might, passing_plays, passing_agrees, agrees_passes, shows_card, shows_go, own_turn}
-use Rattle.crib_know.proofs.RankTotals.{AreRanks}
+use Rattle.crib_know.proofs.RankTotals.{AreRanks, some_or_none}
 use Rattle.crib_know.proofs.FirstDeals.{Needs, Fixes, first_dealt, hold_passes, first_is_deal, first_in_order, other_after}
 use Rattle.crib_cards.proofs.SetCounts.{count_cons}
-
--- a number is a rank, or a list of ranks does not have it
-some_or_none : (rank : ℕ) (listed : List ℕ) → AreRanks listed → IsRank rank ⊎ (ranks_of listed rank ≡ 0)
-some_or_none rank listed are =
-    elim (cases_lt 0 (ranks_of listed rank)) [
-      | inl some ↦
-          let found = found_by (λ r. eqb r rank) listed (omega (arith, some)) in
-          let R : ℕ → Type 0 = λ r. IsRank r in
-          inl (subst R (eqb-true found.card rank found.passes) (are found.card found.held))
-      | inr none ↦ inr (omega arith)
-    ]
 
 -- one more card of a rank is seen, of which a card is unseen
 there_more : (rank other : ℕ) (seen unseen : List ℕ) → ranks_of seen rank < count_rank rank unseen → ranks_of seen other ≤ count_rank other unseen →

@@ -1,12 +1,12 @@
 -- How many ranks a list has, from the counts of the thirteen ranks.
-use Rattle.std.proofs.Common.{◌≡◌, ℕ, zero, suc, ◌+◌, ◌<◌, ◌≤◌, true, false, eqb, List, [], ◌∷◌, map, length, refl, subst, ◌∙◌, inl, inr, arith}
-use Rattle.std.proofs.lemmas.Bool.{cases_eq, both_ways, eq-eqb, ne_eqb}
+use Rattle.std.proofs.Common.{◌≡◌, ◌⊎◌, ℕ, zero, suc, ◌+◌, ◌<◌, ◌≤◌, true, false, eqb, List, [], ◌∷◌, map, length, refl, subst, ◌∙◌, inl, inr, arith}
+use Rattle.std.proofs.lemmas.Bool.{cases_eq, cases_lt, both_ways, eqb-true, eq-eqb, ne_eqb}
 use Rattle.std.proofs.lemmas.List.{length-map}
 use Rattle.crib_cards.specs.Cards.{IsRank, rank_of}
 use Rattle.crib_cards.specs.Sets.{has, count_rank}
-use Rattle.crib_know.proofs.CardLists.{one_if, one_counted, none_counted, count_map}
+use Rattle.crib_know.proofs.CardLists.{one_if, one_counted, none_counted, count_map, found_by, each_member}
 use Rattle.crib_know.proofs.ChosenRanks.{ranks_of}
-use Rattle.crib_cards.proofs.Members.{has_here, has_there, has_cases, AreCards, rank_is}
+use Rattle.crib_cards.proofs.Members.{has_here, has_there, AreCards, rank_is}
 use Rattle.crib_cards.proofs.SetCounts.{count_cons}
 
 -- the sum of a function over a range
@@ -76,15 +76,23 @@ total_lt f g start n at low high each strict =
 abbrev pub AreRanks : List ℕ → Type 0
 AreRanks xs = (rank : ℕ) → has xs rank ≡ true → IsRank rank
 
+-- a number is a rank, or a list of ranks does not have it
+pub some_or_none : (rank : ℕ) (listed : List ℕ) → AreRanks listed → IsRank rank ⊎ (ranks_of listed rank ≡ 0)
+some_or_none rank listed are =
+    elim (cases_lt 0 (ranks_of listed rank)) [
+      | inl some ↦
+          let found = found_by (λ r. eqb r rank) listed (omega (arith, some)) in
+          let R : ℕ → Type 0 = λ r. IsRank r in
+          inl (subst R (eqb-true found.card rank found.passes) (are found.card found.held))
+      | inr none ↦ inr (omega arith)
+    ]
+
 -- the ranks of cards are ranks
 pub ranks_are : (cards : List ℕ) → AreCards cards → AreRanks (map rank_of cards)
 ranks_are [] are rank h = absurd (both_ways false refl h)
 ranks_are (card ∷ cards) are rank h =
-    let R : ℕ → Type 0 = λ r. IsRank r in
-    elim (has_cases (rank_of card) rank (map rank_of cards) h) [
-      | inl here ↦ subst R here (rank_is card (are card (has_here card cards)))
-      | inr there ↦ ranks_are cards (λ other k. are other (has_there card other cards k)) rank there
-    ]
+    each_member (λ r. IsRank r) (rank_of card) (map rank_of cards) (rank_is card (are card (has_here card cards)))
+    (ranks_are cards (λ other k. are other (has_there card other cards k))) rank h
 
 total_none : total (λ r. 0) 1 13 ≡ 0
 unfolding total

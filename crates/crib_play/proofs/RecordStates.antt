@@ -194,7 +194,8 @@ state_after-either start past =
     let opponent = left_stays (same_side (mover (pone_of start) past) Opponent) (turns_of (pone_of start) Opponent past) in
     λ i. record (after_go start past (closes Go past)) { owner_left = owner i; opponent_left = opponent i }
 
-after_go_is : (start : Start) (past : Record) (c : Bool) → after_go start past c ≡ cond c (go_closing (state_after start past)) (go_open (state_after start past))
+after_go_is : (start : Start) (past : Record) (c : Bool) →
+    after_go start past c ≡ cond c (go_closing (state_after start past)) (go_open (state_after start past))
 unfolding scores_of_go
 after_go_is start past true =
     let scores = score_step start.scores.owner start.scores.opponent (points_for (pone_of start) Owner past) (points_for (pone_of start) Opponent past)

@@ -14,7 +14,7 @@ use Rattle.crib_plan.specs.Reading.{plan_at}
 use Rattle.crib_plan.proofs.CutShortProofs.{plan_steady}
 use Rattle.crib_game.specs.declared.game.Game.{Game}
 use Rattle.crib_game.specs.Reading.{game_at}
-use Rattle.crib_game.proofs.CutShortProofs.{game_steady}
+use Rattle.crib_game.proofs.GameForm.{game_form}
 use Rattle.crib_game.specs.Replay.{replay_result}
 use Rattle.crib_game.specs.Followed.{follow_result}
 use Rattle.crib_board.specs.Board.{board_text}
@@ -187,7 +187,7 @@ abbrev IsCutShort : {C : Type 0} → List ℕ → Result C Refusal → Type 0
 IsCutShort front read = read ≡ Err (missing (line_after front))
 
 game_section : IsSteady (section game_at done)
-game_section = section_steady game_at done game_steady (steady_ok tt)
+game_section = section_steady game_at done game_form.steady (steady_ok tt)
 
 -- ---- each job
 

@@ -1,0 +1,100 @@
+-- The form of a game: what is read is spelled so, and what is spelled so is read. The laws of its spelling follow.
+use Rattle.std.proofs.Common.{◌≡◌, ℕ, ◌+◌, ◌≤◌, true, List, [], ◌∷◌, length, map, codes, decimal, refl, sym, ap, ◌∙◌, arith}
+use Rattle.std.specs.List.{AllByRecursion}
+use Rattle.std.proofs.lemmas.List.{append-nil, length-map}
+use Rattle.crib_cards.specs.Cards.{IsCard}
+use Rattle.crib_cards.specs.CardText.{card_text}
+use Rattle.crib_cards.proofs.CardReadLemmas.{card_text-word}
+use Rattle.crib_cards.specs.declared.moves.Act.{Act}
+use Rattle.crib_text.proofs.SpellingLemmas.{is_word}
+use Rattle.crib_text.proofs.Forms.{IsWordForm, AreWordsForm, IsForm, keyword_form, each_form, header_form, line_form, many_form, none_form, then_form, form_as}
+use Rattle.crib_text.proofs.FormLaws.{one_spelling, lines_apart, texts_apart, texts_differ, read_again, lines_cut_short, text_cut_short}
+use Rattle.crib_problem.specs.Setup.{IsMove}
+use Rattle.crib_problem.specs.Spelling.{act_line}
+use Rattle.crib_problem.specs.Reading.{card_in, acts_count_in, act_in, most_acts}
+use Rattle.crib_problem.proofs.CardLemmas.{all_parts, all-append}
+use Rattle.crib_problem.proofs.TurnLemmas.{card_found, card_spelled, act_found, act_spelled, act_words, acts_count_found, acts_count_spelled, acts_count_words}
+use Rattle.crib_game.specs.declared.game.Game.{Game}
+use Rattle.crib_game.specs.Spelling.{IsGame, game_lines, game_text}
+use Rattle.crib_game.specs.Reading.{cards_in_line, game_at}
+use Rattle.crib_game.specs.SpellingLaws.{OneSpellingLaw, SpellingLaw, PrefixLaw, LinesLaw, ReadAgainLaw, LinesCutLaw, TextCutLaw}
+
+card_form : IsWordForm card_in card_text IsCard
+card_form = record { found = card_found; spelled = card_spelled; full = card_text-word }
+
+act_form : AreWordsForm act_in act_line (λ act. IsMove act.what)
+act_form = record { found = act_found; spelled = act_spelled; full = act_words }
+
+count_form : AreWordsForm (acts_count_in (codes "acts")) (λ count. codes "acts" ∷ decimal count ∷ []) (λ count. count ≤ most_acts)
+count_form = record {
+  found = acts_count_found (codes "acts");
+  spelled = acts_count_spelled (codes "acts");
+  full = λ count few. acts_count_words (codes "acts") count refl few;
+}
+
+cards_form : (keyword : List ℕ) (count : ℕ) → is_word keyword ≡ true → AreWordsForm (cards_in_line keyword count) (λ cards. keyword ∷ map card_text cards)
+    (λ cards. (length (map card_text cards) ≡ count) × AllByRecursion IsCard cards)
+unfolding cards_in_line
+cards_form keyword count is_keyword = keyword_form keyword count is_keyword (each_form card_form)
+
+pub game_form : IsForm game_at game_lines IsGame
+unfolding game_at game_lines
+game_form =
+    form_as (
+    then_form _ (λ _. tt) (line_form (header_form (codes "game") refl) (λ _. refl)) (λ header.
+    then_form _ (λ (game : Game). game.opp.hold) (line_form (cards_form (codes "hold") 4 refl) (λ _. refl)) (λ hold.
+    then_form _ (λ (game : Game). game.opp.throw) (line_form (cards_form (codes "throw") 2 refl) (λ _. refl)) (λ thrown.
+    then_form _ (λ (game : Game). length game.acts.items) (line_form count_form (λ _. refl)) (λ count.
+    then_form _ (λ (game : Game). game.acts.items) (many_form act_form (λ _. refl) count) (λ acts.
+    none_form (record { opp = record { hold = hold; throw = thrown }; acts = record { items = acts } }))
+    (λ acts game is. ap (λ (g : Game). g.acts.items) is))
+    (λ count game is. is.0.0))
+    (λ thrown game is. ap (λ (g : Game). g.opp.throw) is.1.1))
+    (λ hold game is. ap (λ (g : Game). g.opp.hold) is.1.1.1))
+    (λ header game is. refl))
+    (λ game is. record {
+      six = record {
+        held = sym (length-map game.opp.hold card_text) ∙ is.1.0.0;
+        thrown = sym (length-map game.opp.throw card_text) ∙ is.1.1.0.0;
+        cards = all-append game.opp.hold game.opp.throw is.1.0.1 is.1.1.0.1;
+      };
+      few = is.1.1.1.0;
+      moves = is.1.1.1.1.0.1;
+    })
+    (λ game is.
+    let cards = all_parts game.opp.hold game.opp.throw is.six.cards in (
+      tt,
+      (
+        (length-map game.opp.hold card_text ∙ is.six.held, cards.0),
+        (
+          (length-map game.opp.throw card_text ∙ is.six.thrown, cards.1),
+          (is.few, ((refl, is.moves), refl)),
+        ),
+      ),
+    ))
+    (λ game. rw (append-nil (map act_line game.acts.items)) refl)
+
+pub one_spelling_law : OneSpellingLaw
+one_spelling_law game lines after e = one_spelling game_form game lines 1 after e
+
+pub lines_law : LinesLaw
+lines_law = lines_apart game_form
+
+pub prefix_law : PrefixLaw
+unfolding game_text
+prefix_law = texts_apart game_form
+
+pub spelling_law : SpellingLaw
+unfolding game_text
+spelling_law = texts_differ game_form
+
+pub read_again_law : ReadAgainLaw
+unfolding game_text game_lines
+read_again_law game is = read_again game_form game _ is (omega (arith, length-map game.acts.items act_line))
+
+pub lines_cut_law : LinesCutLaw
+lines_cut_law = lines_cut_short game_form
+
+pub text_cut_law : TextCutLaw
+unfolding game_text
+text_cut_law = text_cut_short game_form

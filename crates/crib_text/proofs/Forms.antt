@@ -1,0 +1,238 @@
+-- Forms: a reader, and how the values that it reads are spelled. Where forms are put together, what holds of each holds of the whole.
+use Rattle.std.proofs.Common.{◌≡◌, ℕ, zero, suc, ◌+◌, ◌-◌, ◌<◌, ◌≤◌, true, List, [], ◌∷◌, ◌++◌, length, map, Result, Ok, Err, codes, refl, sym, ap, subst, ◌∙◌}
+use Rattle.std.proofs.Common.{append_assoc, arith}
+use Rattle.std.specs.List.{AllByRecursion, list_all}
+use Rattle.std.proofs.lemmas.List.{append-nil, length-append, map-append}
+use Rattle.std.proofs.lemmas.List.Folds.{list_all-append}
+use Rattle.crib_text.specs.Refusals.{Refusal}
+use Rattle.crib_text.specs.Spelling.{line_bytes}
+use Rattle.crib_text.specs.Reading.{◌>>=◌, Rest, value_at, after_keyword, header_in}
+use Rattle.crib_text.specs.Forms.{each_in, values_at}
+use Rattle.crib_text.proofs.SpellingLemmas.{is_word, are_words, is_word-decimal}
+use Rattle.crib_text.proofs.ReadingLemmas.{bind_ok, ok_is, unless_ok, value_found, front_line, after_found, only_found, number_found, header_found}
+use Rattle.crib_text.proofs.ReadingLemmas.{value_spelled, after_spelled, only_spelled, number_spelled, header_spelled}
+use Rattle.crib_text.proofs.SteadyReaders.{IsSteady, from_line, steady_ok, steady_then, steady_value}
+
+-- ---- words
+
+-- a word is read as a value exactly where it is the word of that value
+pub record IsWordForm {A : Type 0} (read : List ℕ → Result A ℕ) (word : A → List ℕ) (is : A → Type 0) : Type 0 where
+  pub found : (given : List ℕ) (value : A) → read given ≡ Ok value → (given ≡ word value) × is value
+  pub spelled : (value : A) → is value → read (word value) ≡ Ok value
+  pub full : (value : A) → is value → is_word (word value) ≡ true
+
+-- the same of some words
+pub record AreWordsForm {A : Type 0} (read : List (List ℕ) → Result A ℕ) (words : A → List (List ℕ)) (is : A → Type 0) : Type 0 where
+  pub found : (given : List (List ℕ)) (value : A) → read given ≡ Ok value → (given ≡ words value) × is value
+  pub spelled : (value : A) → is value → read (words value) ≡ Ok value
+  pub full : (value : A) → is value → list_all is_word (words value) ≡ true
+
+-- a keyword, and then so many words
+pub keyword_form : {A : Type 0} {read : List (List ℕ) → Result A ℕ} {words : A → List (List ℕ)} {is : A → Type 0} (keyword : List ℕ) (count : ℕ) →
+    is_word keyword ≡ true → AreWordsForm read words is
+    → AreWordsForm (λ given. after_keyword keyword count given >>= read) (λ value. keyword ∷ words value) (λ value. (length (words value) ≡ count) × is value)
+keyword_form {read = read} {words = words} keyword count is_keyword form = record {
+  found = λ given value e.
+      let a = bind_ok (after_keyword keyword count given) read value e in
+      let after = after_found keyword count given a.0 a.1 in
+      let rest = form.found a.0 value a.2 in
+      (after.0 ∙ ap (λ ws. keyword ∷ ws) rest.0, (sym (ap length rest.0) ∙ after.1, rest.1));
+  spelled = λ value is. rw (after_spelled keyword count (words value) is.0) (form.spelled value is.1);
+  full = λ value is. rw (is_keyword, form.full value is.1) refl;
+}
+
+-- a word for each of some values
+pub each_form : {A : Type 0} {read : List ℕ → Result A ℕ} {word : A → List ℕ} {is : A → Type 0} → IsWordForm read word is
+    → AreWordsForm (each_in read) (map word) (AllByRecursion is)
+unfolding each_in
+each_form {A = A} {read = read} {word = word} {is = is} form = record { found = found; spelled = spelled; full = full }
+  where
+    found : (given : List (List ℕ)) (values : List A) → each_in read given ≡ Ok values → (given ≡ map word values) × AllByRecursion is values
+    found [] values e = subst (λ (vs : List A). ([] ≡ map word vs) × AllByRecursion is vs) (ok_is [] values e) (refl, tt)
+    found (one ∷ given) values e =
+        let a = bind_ok (read one) _ values e in
+        let b = bind_ok (each_in read given) _ values a.2 in
+        let first = form.found one a.0 a.1 in
+        let rest = found given b.0 b.1 in
+        subst (λ (vs : List A). (one ∷ given ≡ map word vs) × AllByRecursion is vs) (ok_is (a.0 ∷ b.0) values b.2)
+        (ap (λ w. w ∷ given) first.0 ∙ ap (λ ws. word a.0 ∷ ws) rest.0, (first.1, rest.1))
+
+    spelled : (values : List A) → AllByRecursion is values → each_in read (map word values) ≡ Ok values
+    spelled [] all = refl
+    spelled (value ∷ values) all = rw (form.spelled value all.0, spelled values all.1) refl
+
+    full : (values : List A) → AllByRecursion is values → list_all is_word (map word values) ≡ true
+    full [] all = refl
+    full (value ∷ values) all = rw (form.full value all.0, full values all.1) refl
+
+-- the first line of a section
+pub header_form : (name : List ℕ) → is_word name ≡ true → AreWordsForm (header_in name) (λ _. name ∷ codes "1" ∷ []) (λ _. Unit {0})
+header_form name is_name = record {
+  found = λ given value e. (header_found name given value e, tt);
+  spelled = λ value is. header_spelled name;
+  full = λ value is. rw is_name refl;
+}
+
+-- ---- lines
+
+-- lines are read as a value, with the lines after them, exactly where they begin with the lines of that value
+pub record IsForm {A : Type 0} (read : Rest → Result (A × Rest) Refusal) (lines : A → List (List (List ℕ))) (is : A → Type 0) : Type 0 where
+  pub found : (rest : Rest) (value : A) (after : Rest) → read rest ≡ Ok (value, after) → is value × (rest.lines ≡ map line_bytes (lines value) ++ after.lines)
+  pub spelled : (value : A) (number : ℕ) (rest : List (List ℕ)) → is value
+      → read (from_line number (map line_bytes (lines value) ++ rest)) ≡ Ok (value, from_line (number + length (lines value)) rest)
+  pub full : (value : A) → is value → list_all are_words (lines value) ≡ true
+  pub steady : IsSteady read
+
+-- one line
+pub line_form : {A : Type 0} {read : List (List ℕ) → Result A ℕ} {words : A → List (List ℕ)} {is : A → Type 0} → AreWordsForm read words is →
+    ((value : A) → are_words (words value) ≡ list_all is_word (words value)) → IsForm (value_at read) (λ value. words value ∷ []) is
+line_form {read = read} {words = words} form some = record {
+  found = λ rest value after e.
+      let line = value_found read rest (value, after) e in
+      let is = form.found line.0 value line.2 in
+      (is.1, front_line rest.lines line.0 (words value) after.lines line.1 is.0);
+  spelled = λ value number rest is. value_spelled read number (words value) rest value (some value ∙ form.full value is) (form.spelled value is);
+  full = λ value is. rw (some value, form.full value is) refl;
+  steady = steady_value read;
+}
+
+-- no line
+pub none_form : {A : Type 0} (made : A) → IsForm (λ rest. Ok (made, rest)) (λ value. []) (λ value. value ≡ made)
+none_form {A = A} made = record {
+  found = λ rest value after e.
+      let both = ok_is (made, rest) (value, after) e in
+      (ap (λ (p : A × Rest). p.0) (sym both), ap (λ (p : A × Rest). p.1.lines) both);
+  spelled = λ value number rest is. rw is (ap (λ n. Ok (made, from_line n rest)) (omega arith));
+  full = λ value is. refl;
+  steady = steady_ok made;
+}
+
+joined : (first more : List (List (List ℕ))) (rest : List (List ℕ)) →
+    map line_bytes (first ++ more) ++ rest ≡ map line_bytes first ++ (map line_bytes more ++ rest)
+joined first more rest = ap (λ ls. ls ++ rest) (map-append line_bytes first more) ∙ append_assoc (map line_bytes first) (map line_bytes more) rest
+
+-- some lines, and then others, which may depend on what the first ones say
+pub then_form : {A B : Type 0} {read : Rest → Result (A × Rest) Refusal} {lines : A → List (List (List ℕ))} {is : A → Type 0}
+    {more : B → List (List (List ℕ))} {are : A → B → Type 0} (next : A × Rest → Result (B × Rest) Refusal) (part : B → A) → IsForm read lines is
+    → ((a : A) → IsForm (λ rest. next (a, rest)) more (are a)) → ((a : A) (b : B) → are a b → part b ≡ a)
+    → IsForm (λ rest. read rest >>= next) (λ b. lines (part b) ++ more b) (λ b. is (part b) × are (part b) b)
+then_form {A = A} {read = read} {lines = lines} {is = is} {more = more} {are = are} next part first others agree = record {
+  found = λ rest value after e.
+      let a = bind_ok (read rest) next (value, after) e in
+      let one = first.found rest a.0.0 a.0.1 a.1 in
+      let other = (others a.0.0).found a.0.1 value after a.2 in
+      subst (λ (x : A). (is x × are x value) × (rest.lines ≡ map line_bytes (lines x ++ more value) ++ after.lines)) (sym (agree a.0.0 value other.0))
+      ((one.0, other.0), one.1 ∙ ap (λ ls. map line_bytes (lines a.0.0) ++ ls) other.1 ∙ sym (joined (lines a.0.0) (more value) after.lines));
+  spelled = λ value number rest is.
+      ap (λ ls. read (from_line number ls) >>= next) (joined (lines (part value)) (more value) rest)
+      ∙ ap (λ r. r >>= next) (first.spelled (part value) number (map line_bytes (more value) ++ rest) is.0)
+      ∙ (others (part value)).spelled value (number + length (lines (part value))) rest is.1
+      ∙ ap (λ n. Ok (value, from_line n rest)) (omega (arith, length-append (lines (part value)) (more value)));
+  full = λ value is.
+      list_all-append are_words (lines (part value)) (more value) ∙ rw (first.full (part value) is.0, (others (part value)).full value is.1) refl;
+  steady = steady_then read next first.steady (λ a. (others a).steady);
+}
+
+-- the same form in other words
+pub form_as : {A : Type 0} {read : Rest → Result (A × Rest) Refusal} {lines spelling : A → List (List (List ℕ))} {is are : A → Type 0} → IsForm read lines is
+    → ((value : A) → is value → are value) → ((value : A) → are value → is value) → ((value : A) → lines value ≡ spelling value) → IsForm read spelling are
+form_as {A = A} {read = read} {are = are} form to from same = record {
+  found = λ rest value after e.
+      let read = form.found rest value after e in
+      (to value read.0, read.1 ∙ ap (λ ls. map line_bytes ls ++ after.lines) (same value));
+  spelled = λ value number rest is.
+      rw (sym (same value)) (form.spelled value number rest (from value is));
+  full = λ value is. ap (list_all are_words) (sym (same value)) ∙ form.full value (from value is);
+  steady = form.steady;
+}
+
+-- as many lines as there are values
+pub many_form : {A : Type 0} {read : List (List ℕ) → Result A ℕ} {words : A → List (List ℕ)} {is : A → Type 0} → AreWordsForm read words is →
+    ((value : A) → are_words (words value) ≡ list_all is_word (words value)) → (count : ℕ)
+    → IsForm (values_at read count) (map words) (λ values. (length values ≡ count) × AllByRecursion is values)
+unfolding values_at
+many_form {A = A} {read = read} {words = words} {is = is} each some count = record {
+  found = found count;
+  spelled = spelled count;
+  full = λ values all. full values all.1;
+  steady = steady count;
+}
+  where
+    form : IsForm (value_at read) (λ value. words value ∷ []) is
+    form = line_form each some
+
+    found : (count : ℕ) (rest : Rest) (values : List A) (after : Rest) → values_at read count rest ≡ Ok (values, after)
+        → ((length values ≡ count) × AllByRecursion is values) × (rest.lines ≡ map line_bytes (map words values) ++ after.lines)
+    found zero rest values after e =
+        subst (λ (got : List A × Rest). ((length got.0 ≡ 0) × AllByRecursion is got.0) × (rest.lines ≡ map line_bytes (map words got.0) ++ got.1.lines))
+        (ok_is ([], rest) (values, after) e) ((refl, tt), refl)
+    found (suc left) rest values after e =
+        let a = bind_ok (value_at read rest) _ (values, after) e in
+        let b = bind_ok (values_at read left a.0.1) _ (values, after) a.2 in
+        let first = form.found rest a.0.0 a.0.1 a.1 in
+        let others = found left a.0.1 b.0.0 b.0.1 b.1 in
+        subst (λ (got : List A × Rest). ((length got.0 ≡ suc left) × AllByRecursion is got.0) × (rest.lines ≡ map line_bytes (map words got.0) ++ got.1.lines))
+        (ok_is (a.0.0 ∷ b.0.0, b.0.1) (values, after) b.2)
+        ((ap suc others.0.0, (first.0, others.0.1)), first.1 ∙ ap (λ ls. line_bytes (words a.0.0) ∷ ls) others.1)
+
+    spelled : (count : ℕ) (values : List A) (number : ℕ) (rest : List (List ℕ)) → (length values ≡ count) × AllByRecursion is values
+        → values_at read count (from_line number (map line_bytes (map words values) ++ rest)) ≡ Ok (values, from_line (number + length (map words values)) rest)
+    spelled zero [] number rest all = ap (λ n. Ok ([], from_line n rest)) (omega arith)
+    spelled zero (value ∷ values) number rest all = absurd (omega (arith, all.0))
+    spelled (suc left) [] number rest all = absurd (omega (arith, all.0))
+    spelled (suc left) (value ∷ values) number rest all =
+        rw (
+          form.spelled value number (map line_bytes (map words values) ++ rest) all.1.0,
+          spelled left values (number + 1) rest
+              (omega (arith, all.0), all.1.1),
+        )
+        (ap (λ n. Ok (value ∷ values, from_line n rest)) (omega arith))
+
+    full : (values : List A) → AllByRecursion is values → list_all are_words (map words values) ≡ true
+    full [] all = refl
+    full (value ∷ values) all = rw (some value, each.full value all.0, full values all.1) refl
+
+    steady : (count : ℕ) → IsSteady (values_at read count)
+    steady zero = steady_ok []
+    steady (suc left) = steady_then (value_at read) _ form.steady (λ value.
+        steady_then (values_at read left) _ (steady left) (λ values. steady_ok (value ∷ values)))
+
+-- ---- the loop that reads a value from each line
+
+-- the values that were read, and those that are still to be read
+abbrev pub with_front : {A : Type 0} → List A → Result (List A × Rest) Refusal → Result (List A × Rest) Refusal
+with_front front read = read >>= λ values. Ok (front ++ values.0, values.1)
+
+regroup : {A : Type 0} (front : List A) (value : A) (read : Result (List A × Rest) Refusal) →
+    with_front front (read >>= λ values. Ok (value ∷ values.0, values.1)) ≡ with_front (front ++ value ∷ []) read
+regroup front value (Ok values) = ap (λ l. Ok (l, values.1)) (sym (append_assoc front (value ∷ []) values.0))
+regroup front value (Err refused) = refl
+
+pub values_none : {A : Type 0} (read : List (List ℕ) → Result A ℕ) (count : ℕ) (rest : Rest) →
+    values_at read count rest ≡ with_front [] (values_at read (count - 0) rest)
+values_none read count rest = ap (λ k. values_at read k rest) {x = count} {y = count - 0} (omega arith) ∙ nothing_before (values_at read (count - 0) rest)
+  where
+    nothing_before : {A : Type 0} (read : Result (List A × Rest) Refusal) → read ≡ with_front [] read
+    nothing_before (Ok values) = refl
+    nothing_before (Err refused) = refl
+
+pub values_more : {A : Type 0} (read : List (List ℕ) → Result A ℕ) (total : Result (List A × Rest) Refusal) (count i : ℕ) (front : List A) (rest after : Rest)
+    (value : A) → i < count → value_at read rest ≡ Ok (value, after) → total ≡ with_front front (values_at read (count - i) rest)
+    → total ≡ with_front (front ++ value ∷ []) (values_at read (count - (i + 1)) after)
+unfolding values_at
+values_more read total count i front rest after value inside e so_far =
+    let left : count - i ≡ suc (count - (i + 1)) = omega arith in
+    so_far ∙ ap (λ k. with_front front (values_at read k rest)) left ∙ rw e (regroup front value (values_at read (count - (i + 1)) after))
+
+pub values_stop : {A : Type 0} (read : List (List ℕ) → Result A ℕ) (total : Result (List A × Rest) Refusal) (count i : ℕ) (front : List A) (rest : Rest)
+    (refused : Refusal) → i < count → value_at read rest ≡ Err refused → total ≡ with_front front (values_at read (count - i) rest) → total ≡ Err refused
+unfolding values_at
+values_stop read total count i front rest refused inside e so_far =
+    let left : count - i ≡ suc (count - (i + 1)) = omega arith in
+    so_far ∙ ap (λ k. with_front front (values_at read k rest)) left ∙ rw e refl
+
+pub values_done : {A : Type 0} (read : List (List ℕ) → Result A ℕ) (total : Result (List A × Rest) Refusal) (count i : ℕ) (front : List A) (rest : Rest) →
+    count ≤ i → total ≡ with_front front (values_at read (count - i) rest) → total ≡ Ok (front, rest)
+unfolding values_at
+values_done read total count i front rest past so_far =
+    so_far ∙ ap (λ k. with_front front (values_at read k rest)) {x = count - i} {y = 0} (omega arith) ∙ ap (λ l. Ok (l, rest)) (append-nil front)

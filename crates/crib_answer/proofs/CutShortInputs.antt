@@ -9,7 +9,7 @@ use Rattle.crib_text.specs.Reading.{◌>>=◌, Rest, all_lines, end_at, no_line}
 use Rattle.crib_text.proofs.ReadingLemmas.{bind_ok}
 use Rattle.crib_text.proofs.SteadyReaders.{IsSteady, from_line, missing, steady_ok, steady_then, text_cut}
 use Rattle.crib_problem.specs.Reading.{problem_at}
-use Rattle.crib_problem.proofs.CutShortProofs.{problem_steady}
+use Rattle.crib_problem.proofs.ProblemForm.{problem_form}
 use Rattle.crib_plan.specs.Reading.{plan_at}
 use Rattle.crib_plan.proofs.CutShortProofs.{plan_steady}
 use Rattle.crib_game.specs.declared.game.Game.{Game}
@@ -196,34 +196,34 @@ report_cut : (front : List ℕ) (next : ℕ) (back : List ℕ) (accepted : Accep
 unfolding report_of_input
 report_cut front next back accepted =
     beginning_cut (section problem_at (section game_at done)) report_at front next back accepted.0
-    (section_steady problem_at _ problem_steady game_section) report_takes accepted.1
+    (section_steady problem_at _ problem_form.steady game_section) report_takes accepted.1
 
 board_cut : (front : List ℕ) (next : ℕ) (back : List ℕ) (accepted : Accepts (board_of_input (front ++ next ∷ back))) → IsCutShort front (board_of_input front)
 unfolding board_of_input
 board_cut front next back accepted =
     beginning_cut (section problem_at (section game_at done)) board_at front next back accepted.0
-    (section_steady problem_at _ problem_steady game_section) board_takes accepted.1
+    (section_steady problem_at _ problem_form.steady game_section) board_takes accepted.1
 
 ending_cut : (front : List ℕ) (next : ℕ) (back : List ℕ) (accepted : Accepts (ending_of_input (front ++ next ∷ back))) →
     IsCutShort front (ending_of_input front)
 unfolding ending_of_input
 ending_cut front next back accepted =
     beginning_cut (section problem_at (section plan_at (section game_at done))) ending_at front next back accepted.0
-    (section_steady problem_at _ problem_steady (section_steady plan_at _ plan_steady game_section)) ending_takes accepted.1
+    (section_steady problem_at _ problem_form.steady (section_steady plan_at _ plan_steady game_section)) ending_takes accepted.1
 
 question_cut : (front : List ℕ) (next : ℕ) (back : List ℕ) (accepted : Accepts (question_of_input (front ++ next ∷ back))) →
     IsCutShort front (question_of_input front)
 unfolding question_of_input
 question_cut front next back accepted =
     beginning_cut (section problem_at (section plan_at done)) question_at front next back accepted.0
-    (section_steady problem_at _ problem_steady (section_steady plan_at done plan_steady (steady_ok tt))) question_takes accepted.1
+    (section_steady problem_at _ problem_form.steady (section_steady plan_at done plan_steady (steady_ok tt))) question_takes accepted.1
 
 problem_cut : (front : List ℕ) (next : ℕ) (back : List ℕ) (accepted : Accepts (problem_of_input (front ++ next ∷ back))) →
     IsCutShort front (problem_of_input front)
 unfolding problem_of_input
 problem_cut front next back accepted =
     beginning_cut (section problem_at done) problem_alone_at front next back accepted.0
-    (section_steady problem_at done problem_steady (steady_ok tt)) problem_takes accepted.1
+    (section_steady problem_at done problem_form.steady (steady_ok tt)) problem_takes accepted.1
 
 pub cut_short_law : CutShortLaw
 cut_short_law Replay front next back accepted = ap (λ r. reply_by report_reply r) (sym (report_cut front next back accepted))

@@ -17,9 +17,8 @@ use Rattle.crib_text.proofs.ReadingLemmas.{bind_ok, ok_is}
 use Rattle.crib_problem.specs.Setup.{Setup}
 use Rattle.crib_problem.specs.Spelling.{problem_lines, problem_text}
 use Rattle.crib_problem.specs.Reading.{problem_at}
-use Rattle.crib_problem.proofs.ReadIsSpelled.{problem_found}
-use Rattle.crib_problem.proofs.SpelledIsRead.{lines_spelled}
-use Rattle.crib_problem.proofs.LawProofs.{lines_are_words}
+use Rattle.crib_text.proofs.FormLaws.{form_read}
+use Rattle.crib_problem.proofs.ProblemForm.{problem_form}
 use Rattle.crib_problem.proofs.ProblemLengths.{problem_text-le}
 use Rattle.crib_plan.specs.declared.plan.Node.{Node}
 use Rattle.crib_plan.specs.Nodes.{ArePlan}
@@ -31,7 +30,6 @@ use Rattle.crib_plan.proofs.PlanLengths.{plan_text-le}
 use Rattle.crib_plan.proofs.SpelledIsRead.{plan_spelled}
 use Rattle.crib_answer.specs.Input.{most_bytes, input_lines, problem_alone_at, problem_of_input, question_at, question_of_input}
 use Rattle.crib_answer.specs.Telling.{SpellsProblem, SpellsPlan}
-use Rattle.crib_answer.proofs.Setups.{setup_read}
 
 -- ---- the text as a whole
 
@@ -93,10 +91,10 @@ problem_accepted input problem e =
     let b = bind_ok (problem_at a.0) _ problem a.2 in
     let d = bind_ok (end_at b.0.1) _ problem b.2 in
     let is : b.0.0 ≡ problem = ok_is b.0.0 problem d.2 in
-    let lines : a.0.lines ≡ map line_bytes (problem_lines b.0.0) ++ [] = (problem_found a.0 b.0 b.1).spelled
+    let lines : a.0.lines ≡ map line_bytes (problem_lines b.0.0) ++ [] = (problem_form.found a.0 b.0.0 b.0.1 b.1).1
     ∙ ap (λ (ls : List (List ℕ)). map line_bytes (problem_lines b.0.0) ++ ls) (at_end b.0.1 d.0 d.1) in
     subst (SpellsProblem input) is (record {
-      problem_is = setup_read a.0 b.0 b.1;
+      problem_is = (problem_form.found a.0 b.0.0 b.0.1 b.1).0;
       text = sym (input_taken input a.0 a.1) ∙ ap (flat_map ended_line) lines ∙ spelled_text (problem_lines b.0.0) [] ∙ append-nil (problem_text b.0.0);
     })
 
@@ -111,12 +109,12 @@ question_accepted input question e =
     let plan = plan_of_lines b.0.1 d.0 d.1 in
     let plans : b.0.1.lines ≡ map line_bytes (plan_lines d.0.0) ++ [] = plan.1
     ∙ ap (λ (ls : List (List ℕ)). map line_bytes (plan_lines d.0.0) ++ ls) (at_end d.0.1 f.0 f.1) in
-    let lines : a.0.lines ≡ map line_bytes (problem_lines b.0.0) ++ (map line_bytes (plan_lines d.0.0) ++ []) = (problem_found a.0 b.0 b.1).spelled
+    let lines : a.0.lines ≡ map line_bytes (problem_lines b.0.0) ++ (map line_bytes (plan_lines d.0.0) ++ []) = (problem_form.found a.0 b.0.0 b.0.1 b.1).1
     ∙ ap (λ (ls : List (List ℕ)). map line_bytes (problem_lines b.0.0) ++ ls) plans in
     let text : flat_map ended_line (map line_bytes (plan_lines d.0.0) ++ []) ≡ plan_text d.0.0 = spelled_text (plan_lines d.0.0) []
     ∙ append-nil (plan_text d.0.0) in
     subst (λ (q : Setup × List Node). SpellsPlan input q.0 q.1) (ok_is (b.0.0, d.0.0) question f.2) (record {
-      problem_is = setup_read a.0 b.0 b.1;
+      problem_is = (problem_form.found a.0 b.0.0 b.0.1 b.1).0;
       plan_is = plan.0;
       text = sym (input_taken input a.0 a.1) ∙ ap (flat_map ended_line) lines ∙ spelled_text (problem_lines b.0.0) (map line_bytes (plan_lines d.0.0) ++ [])
           ∙ ap (λ (more : List ℕ). problem_text b.0.0 ++ more) text;
@@ -170,12 +168,12 @@ question_spelled input problem plan spelled =
     let few = spelled_fits input problem plan spelled in
     let lines = problem_lines problem ++ plan_lines plan in
     let words : list_all are_words lines ≡ true = list_all-append are_words (problem_lines problem) (plan_lines plan)
-    ∙ and_from _ _ (lines_are_words problem spelled.problem_is) (plan_are_lines plan spelled.plan_is) in
+    ∙ and_from _ _ (problem_form.full problem spelled.problem_is) (plan_are_lines plan spelled.plan_is) in
     let taken = lines_taken input lines few (spelled.text ∙ sym (texts_joined (problem_lines problem) (plan_lines plan))) words in
     let plans : List (List ℕ) = map line_bytes (plan_lines plan) in
     let whole : Rest = record { number = 1; lines = map line_bytes lines } in
     let last : Rest = record { number = 1 + length (problem_lines problem); lines = plans } in
-    let first = lines_spelled whole problem plans spelled.problem_is (maps_joined (problem_lines problem) (plan_lines plan)) in
+    let first = form_read problem_form problem whole plans spelled.problem_is (maps_joined (problem_lines problem) (plan_lines plan)) in
     let second = plan_spelled plan last [] spelled.plan_is (sym (append-nil plans)) in
     let left : Rest = record { number = second.0; lines = [] } in
     ap (λ (read : Result Rest Refusal). read >>= question_at) taken
@@ -192,8 +190,8 @@ unfolding problem_of_input problem_text
 problem_spelled input problem spelled =
     let lines = problem_lines problem in
     let few : length input ≤ most_bytes = omega (arith, ap length spelled.text, problem_text-le problem spelled.problem_is) in
-    let taken = lines_taken input lines few spelled.text (lines_are_words problem spelled.problem_is) in
+    let taken = lines_taken input lines few spelled.text (problem_form.full problem spelled.problem_is) in
     let whole : Rest = record { number = 1; lines = map line_bytes lines } in
     let last : Rest = record { number = 1 + length lines; lines = [] } in
-    let first = lines_spelled whole problem [] spelled.problem_is (sym (append-nil (map line_bytes lines))) in
+    let first = form_read problem_form problem whole [] spelled.problem_is (sym (append-nil (map line_bytes lines))) in
     ap (λ (read : Result Rest Refusal). read >>= problem_alone_at) taken ∙ problem_asked_alone whole problem last first (nothing_left last refl)

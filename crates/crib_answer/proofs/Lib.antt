@@ -1,6 +1,5 @@
 pub mod Lines
 pub mod OwedReplies
-pub mod Setups
 pub mod Inputs
 pub mod Replies
 pub mod ToldAnswers

@@ -4,33 +4,16 @@ use Rattle.std.specs.List.{AllByRecursion}
 use Rattle.std.proofs.lemmas.List.{append-nil, length-map}
 use Rattle.crib_cards.specs.Cards.{IsCard}
 use Rattle.crib_cards.specs.CardText.{card_text}
-use Rattle.crib_cards.proofs.CardReadLemmas.{card_text-word}
-use Rattle.crib_cards.specs.declared.moves.Act.{Act}
 use Rattle.crib_text.proofs.SpellingLemmas.{is_word}
-use Rattle.crib_text.proofs.Forms.{IsWordForm, AreWordsForm, IsForm, keyword_form, each_form, header_form, line_form, many_form, none_form, then_form, form_as}
+use Rattle.crib_text.proofs.Forms.{AreWordsForm, IsForm, keyword_form, each_form, header_form, line_form, many_form, none_form, then_form, form_as}
 use Rattle.crib_text.proofs.FormLaws.{one_spelling, lines_apart, texts_apart, texts_differ, read_again, lines_cut_short, text_cut_short}
-use Rattle.crib_problem.specs.Setup.{IsMove}
 use Rattle.crib_problem.specs.Spelling.{act_line}
-use Rattle.crib_problem.specs.Reading.{card_in, acts_count_in, act_in, most_acts}
 use Rattle.crib_problem.proofs.CardLemmas.{all_parts, all-append}
-use Rattle.crib_problem.proofs.TurnLemmas.{card_found, card_spelled, act_found, act_spelled, act_words, acts_count_found, acts_count_spelled, acts_count_words}
+use Rattle.crib_problem.proofs.ActForms.{card_form, act_form, count_form}
 use Rattle.crib_game.specs.declared.game.Game.{Game}
 use Rattle.crib_game.specs.Spelling.{IsGame, game_lines, game_text}
 use Rattle.crib_game.specs.Reading.{cards_in_line, game_at}
 use Rattle.crib_game.specs.SpellingLaws.{OneSpellingLaw, SpellingLaw, PrefixLaw, LinesLaw, ReadAgainLaw, LinesCutLaw, TextCutLaw}
-
-card_form : IsWordForm card_in card_text IsCard
-card_form = record { found = card_found; spelled = card_spelled; full = card_text-word }
-
-act_form : AreWordsForm act_in act_line (λ act. IsMove act.what)
-act_form = record { found = act_found; spelled = act_spelled; full = act_words }
-
-count_form : AreWordsForm (acts_count_in (codes "acts")) (λ count. codes "acts" ∷ decimal count ∷ []) (λ count. count ≤ most_acts)
-count_form = record {
-  found = acts_count_found (codes "acts");
-  spelled = acts_count_spelled (codes "acts");
-  full = λ count few. acts_count_words (codes "acts") count refl few;
-}
 
 cards_form : (keyword : List ℕ) (count : ℕ) → is_word keyword ≡ true → AreWordsForm (cards_in_line keyword count) (λ cards. keyword ∷ map card_text cards)
     (λ cards. (length (map card_text cards) ≡ count) × AllByRecursion IsCard cards)
@@ -44,14 +27,14 @@ game_form =
     then_form _ (λ _. tt) (line_form (header_form (codes "game") refl) (λ _. refl)) (λ header.
     then_form _ (λ (game : Game). game.opp.hold) (line_form (cards_form (codes "hold") 4 refl) (λ _. refl)) (λ hold.
     then_form _ (λ (game : Game). game.opp.throw) (line_form (cards_form (codes "throw") 2 refl) (λ _. refl)) (λ thrown.
-    then_form _ (λ (game : Game). length game.acts.items) (line_form count_form (λ _. refl)) (λ count.
+    then_form _ (λ (game : Game). length game.acts.items) (line_form (count_form (codes "acts") refl) (λ _. refl)) (λ count.
     then_form _ (λ (game : Game). game.acts.items) (many_form act_form (λ _. refl) count) (λ acts.
     none_form (record { opp = record { hold = hold; throw = thrown }; acts = record { items = acts } }))
-    (λ acts game is. ap (λ (g : Game). g.acts.items) is))
-    (λ count game is. is.0.0))
-    (λ thrown game is. ap (λ (g : Game). g.opp.throw) is.1.1))
-    (λ hold game is. ap (λ (g : Game). g.opp.hold) is.1.1.1))
-    (λ header game is. refl))
+    (λ acts game is are. ap (λ (g : Game). g.acts.items) are))
+    (λ count game is are. are.0.0))
+    (λ thrown game is are. ap (λ (g : Game). g.opp.throw) are.1.1))
+    (λ hold game is are. ap (λ (g : Game). g.opp.hold) are.1.1.1))
+    (λ header game is are. refl))
     (λ game is. record {
       six = record {
         held = sym (length-map game.opp.hold card_text) ∙ is.1.0.0;
@@ -72,7 +55,7 @@ game_form =
         ),
       ),
     ))
-    (λ game. rw (append-nil (map act_line game.acts.items)) refl)
+    (λ game is. rw (append-nil (map act_line game.acts.items)) refl)
 
 pub one_spelling_law : OneSpellingLaw
 one_spelling_law game lines after e = one_spelling game_form game lines 1 after e

@@ -276,7 +276,7 @@ distinct-append (x ∷ xs) ys d f apart =
     let rest = distinct-append xs ys parts.1 f (λ card h. (or_parts (eqb x card) (has xs card) (apart card h)).1) in
     rw (none, rest) refl
 
-seven_distinct : (starter : ℕ) (hold thrown : List ℕ) → AreNew (starter ∷ []) hold → AreNew (starter ∷ hold) thrown →
+pub seven_distinct : (starter : ℕ) (hold thrown : List ℕ) → AreNew (starter ∷ []) hold → AreNew (starter ∷ hold) thrown →
     are_distinct (starter ∷ hold ++ thrown) ≡ true
 seven_distinct starter hold thrown h t =
     distinct-append (starter ∷ hold) thrown
@@ -286,33 +286,3 @@ seven_distinct starter hold thrown h t =
       | inr fails ↦ fails
     ] in rw (none, h.distinct) refl)
     t.distinct t.fresh
-
-pub setup_is : (rest r1 r2 r3 r4 r5 r6 r7 : Rest) (version : Version) (dealer : Side) (scores : Scores) (starter : ℕ) (hold thrown : List ℕ) (goal : Goal)
-    → value_at scores_in r2 ≡ Ok (scores, r3) → value_at starter_in r3 ≡ Ok (starter, r4) → value_at (cards_in_line (codes "hold") 4 (starter ∷ [])) r4 ≡ Ok
-    (hold, r5)
-    → value_at (cards_in_line (codes "throw") 2 (starter ∷ hold)) r5 ≡ Ok (thrown, r6) → value_at (goal_in version scores.owner) r6 ≡ Ok (goal, r7)
-    → IsSetup (record { version = version; dealer = dealer; scores = scores; starter = starter; hold = hold; thrown = thrown; goal = goal; played = [] })
-setup_is rest r1 r2 r3 r4 r5 r6 r7 version dealer scores starter hold thrown goal e3 e4 e5 e6 e7 =
-    let v3 = value_found scores_in r2 (scores, r3) e3 in
-    let v4 = value_found starter_in r3 (starter, r4) e4 in
-    let v5 = value_found (cards_in_line (codes "hold") 4 (starter ∷ [])) r4 (hold, r5) e5 in
-    let v6 = value_found (cards_in_line (codes "throw") 2 (starter ∷ hold)) r5 (thrown, r6) e6 in
-    let v7 = value_found (goal_in version scores.owner) r6 (goal, r7) e7 in
-    let s = scores_found v3.0 scores v3.2 in
-    let c = starter_found v4.0 starter v4.2 in
-    let h = cards_line_found (codes "hold") 4 (starter ∷ []) v5.0 hold v5.2 in
-    let t = cards_line_found (codes "throw") 2 (starter ∷ hold) v6.0 thrown v6.2 in
-    let g = goal_found version scores.owner v7.0 goal v7.2 in
-    record {
-      held = h.2;
-      two_thrown = t.2;
-      cards = (c.1, all-append hold thrown h.1.all_cards t.1.all_cards);
-      distinct = seven_distinct starter hold thrown h.1 t.1;
-      owner_score = s.1;
-      opponent_score = s.2;
-      goal_in_range = g.1;
-      of_version = g.2;
-      few = omega arith;
-      moves = tt;
-      allowed = tt;
-    }

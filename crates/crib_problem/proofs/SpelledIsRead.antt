@@ -30,10 +30,8 @@ use Rattle.crib_problem.specs.Reading.{starter_in, holes_in, stop_goal, plain_go
 use Rattle.crib_problem.specs.Reading.{played_at}
 use Rattle.crib_problem.specs.Reading.{problem_at}
 use Rattle.crib_problem.proofs.CardLemmas.{card_in-some, all_parts}
-use Rattle.crib_problem.proofs.ValueLemmas.{seven_lines_at-ok}
-use Rattle.crib_problem.proofs.TurnLemmas.{acts_count_words, acts_count_spelled, turns_spelled, turns_at-ok}
-use Rattle.crib_problem.proofs.ReadIsSpelled.{seven_lines}
-use Rattle.crib_problem.proofs.LinesReadAreSpelled.{AreNew}
+use Rattle.crib_text.proofs.Forms.{AreWordsForm}
+use Rattle.crib_problem.proofs.LinesReadAreSpelled.{AreNew, version_line_found, dealer_found, scores_found, starter_found, cards_line_found, goal_found}
 
 -- ---- the words of each line
 
@@ -52,26 +50,6 @@ goal_words-words score (Holes holes) is = and_from (is_word (decimal holes)) tru
 version_small : (version : Version) → version_number version ≤ 121
 version_small One = omega arith
 version_small Two = omega arith
-
-pub version_words : (version : Version) → are_words (codes "problem" ∷ version_word version ∷ []) ≡ true
-version_words version = and_from (is_word (version_word version)) true (number_word (version_number version) (version_small version)) refl
-
-pub dealer_words : (p : Setup) → are_words (codes "dealer" ∷ side_word p.dealer ∷ []) ≡ true
-dealer_words p = and_from (is_word (side_word p.dealer)) true (side_word-word p.dealer) refl
-
-pub scores_words : (p : Setup) → IsSetup p → are_words (codes "score" ∷ decimal p.scores.owner ∷ decimal p.scores.opponent ∷ []) ≡ true
-scores_words p is =
-    and_from (is_word (decimal p.scores.owner)) (is_word (decimal p.scores.opponent) && true) (number_word p.scores.owner (omega (arith, is.owner_score)))
-    (and_from (is_word (decimal p.scores.opponent)) true (number_word p.scores.opponent (omega (arith, is.opponent_score))) refl)
-
-pub starter_words : (p : Setup) → IsSetup p → are_words (codes "starter" ∷ card_text p.starter ∷ []) ≡ true
-starter_words p is = and_from (is_word (card_text p.starter)) true (card_text-word p.starter is.cards.0) refl
-
-pub hold_words : (p : Setup) → IsSetup p → are_words (codes "hold" ∷ map card_text p.hold) ≡ true
-hold_words p is = card_texts-words p.hold (all_parts (p.starter ∷ p.hold) p.thrown is.cards).0.1
-
-pub thrown_words : (p : Setup) → IsSetup p → are_words (codes "throw" ∷ map card_text p.thrown) ≡ true
-thrown_words p is = card_texts-words p.thrown (all_parts (p.starter ∷ p.hold) p.thrown is.cards).1
 
 -- ---- what each line is read as
 
@@ -133,11 +111,11 @@ has_itself : (cards : List ℕ) (card : ℕ) → has (card ∷ cards) card ≡ t
 has_itself cards card = let same : eqb card card ≡ true = eq-eqb card card refl in rw same refl
 
 -- a card that is among some cards differs from one that is not
-apart : (cards : List ℕ) (card other : ℕ) → has cards card ≡ false → has cards other ≡ true → eqb card other ≡ false
+pub apart : (cards : List ℕ) (card other : ℕ) → has cards card ≡ false → has cards other ≡ true → eqb card other ≡ false
 apart cards card other without with_it =
     ne_eqb card other (λ same. let h : has cards card ≡ true = ap (has cards) same ∙ with_it in absurd cc)
 
-distinct_parts : (xs ys : List ℕ) → are_distinct (xs ++ ys) ≡ true → (are_distinct xs ≡ true) × (are_distinct ys ≡ true) ×
+pub distinct_parts : (xs ys : List ℕ) → are_distinct (xs ++ ys) ≡ true → (are_distinct xs ≡ true) × (are_distinct ys ≡ true) ×
     ((card : ℕ) → has ys card ≡ true → has xs card ≡ false)
 distinct_parts [] ys d = (refl, d, λ card h. refl)
 distinct_parts (x ∷ xs) ys d =
@@ -194,96 +172,45 @@ says_goal Two goal played says = tt
 abbrev pub unplayed : Setup → Setup
 unplayed p = record p { played = [] }
 
--- the seven lines of a problem are read as the problem with no opening
-seven_spelled : (number : ℕ) (p : Setup) (rest : List (List ℕ)) → IsSetup p
-    → seven_lines_at (record { number = number; lines = seven_lines p rest }) ≡ Ok (unplayed p, record { number = number + 7; lines = rest })
-seven_spelled number p rest is =
-    let split = distinct_parts (p.starter ∷ p.hold) p.thrown is.distinct in
-    let cards = all_parts (p.starter ∷ p.hold) p.thrown is.cards in
-    let own = and_parts (not (has p.hold p.starter)) (are_distinct p.hold) split.0 in
-    let hold : AreNew (p.starter ∷ []) p.hold = record {
-      all_cards = cards.0.1;
-      distinct = own.1;
-      fresh = λ card h. rw (apart p.hold p.starter card (not-true (has p.hold p.starter) own.0) h) refl;
-    } in
-    let thrown : AreNew (p.starter ∷ p.hold) p.thrown = record { all_cards = cards.1; distinct = split.1; fresh = split.2 } in
-    let l7 = rest in
-    let l6 : List (List ℕ) = line_bytes (codes "goal" ∷ goal_words p.goal) ∷ l7 in
-    let l5 : List (List ℕ) = line_bytes (codes "throw" ∷ map card_text p.thrown) ∷ l6 in
-    let l4 : List (List ℕ) = line_bytes (codes "hold" ∷ map card_text p.hold) ∷ l5 in
-    let l3 : List (List ℕ) = line_bytes (codes "starter" ∷ card_text p.starter ∷ []) ∷ l4 in
-    let l2 : List (List ℕ) = line_bytes (codes "score" ∷ decimal p.scores.owner ∷ decimal p.scores.opponent ∷ []) ∷ l3 in
-    let l1 : List (List ℕ) = line_bytes (codes "dealer" ∷ side_word p.dealer ∷ []) ∷ l2 in
-    let n1 = number + 1 in
-    let n2 = n1 + 1 in
-    let n3 = n2 + 1 in
-    let n4 = n3 + 1 in
-    let n5 = n4 + 1 in
-    let n6 = n5 + 1 in
-    let n7 = n6 + 1 in
-    seven_lines_at-ok (record { number = number; lines = seven_lines p rest })
-    (record { number = n1; lines = l1 }) (record { number = n2; lines = l2 }) (record { number = n3; lines = l3 }) (record { number = n4; lines = l4 })
-    (record { number = n5; lines = l5 }) (record { number = n6; lines = l6 }) (record { number = n7; lines = l7 })
-    p.version p.dealer p.scores p.starter p.hold p.thrown p.goal
-    (value_spelled version_in number (codes "problem" ∷ version_word p.version ∷ []) l1 p.version (version_words p.version) (version_spelled p.version))
-    (value_spelled dealer_in n1 (codes "dealer" ∷ side_word p.dealer ∷ []) l2 p.dealer (dealer_words p) (dealer_spelled p.dealer))
-    (value_spelled scores_in n2 (codes "score" ∷ decimal p.scores.owner ∷ decimal p.scores.opponent ∷ []) l3 p.scores (scores_words p is)
-    (scores_spelled p.scores is.owner_score is.opponent_score))
-    (value_spelled starter_in n3 (codes "starter" ∷ card_text p.starter ∷ []) l4 p.starter (starter_words p is) (starter_spelled p.starter is.cards.0))
-    (value_spelled (cards_in_line (codes "hold") 4 (p.starter ∷ [])) n4 (codes "hold" ∷ map card_text p.hold) l5 p.hold (hold_words p is)
-    (cards_spelled (codes "hold") 4 (p.starter ∷ []) p.hold is.held hold))
-    (value_spelled (cards_in_line (codes "throw") 2 (p.starter ∷ p.hold)) n5 (codes "throw" ∷ map card_text p.thrown) l6 p.thrown (thrown_words p is)
-    (cards_spelled (codes "throw") 2 (p.starter ∷ p.hold) p.thrown is.two_thrown thrown))
-    (value_spelled (goal_in p.version p.scores.owner) n6 (codes "goal" ∷ goal_words p.goal) l7 p.goal (goal_words-words p.scores.owner p.goal is.goal_in_range)
-    (goal_spelled p.version p.scores.owner p.goal (says_goal p.version p.goal p.played is.of_version) is.goal_in_range))
-    ∙ ap (λ n. Ok (unplayed p, record { number = n; lines = rest })) (omega arith)
+-- ---- forms
 
--- ---- the opening
+pub version_form : AreWordsForm version_in (λ version. codes "problem" ∷ version_word version ∷ []) (λ version. Unit {0})
+version_form = record {
+  found = λ given version e. (version_line_found given version e, tt);
+  spelled = λ version is. version_spelled version;
+  full = λ version is. rw (number_word (version_number version) (version_small version)) refl;
+}
 
-played_spelled : (version : Version) (number : ℕ) (p : Setup) (rest : List (List ℕ)) → IsSetup p → p.version ≡ version
-    → played_at version (unplayed p) (record { number = number; lines = map line_bytes (played_lines version p.played) ++ rest }) ≡ Ok
-    (p, record { number = number + length (played_lines version p.played); lines = rest })
-unfolding played_at
-played_spelled One number p rest is e =
-    let C : Version → Type 0 = λ version. CanSay version p.goal p.played in
-    let none = (subst C e is.of_version).1 in
-    let same : unplayed p ≡ p = ap (λ (acts : List Act). record p { played = acts }) (sym none) in
-    ap (λ (q : Setup). Ok (q, record { number = number; lines = rest })) same
-    ∙ ap (λ (n : ℕ). Ok (p, record { number = n; lines = rest })) (omega arith)
-played_spelled Two number p rest is e =
-    let acts = p.played in
-    let lines : List (List ℕ) = map line_bytes (map act_line acts) ++ rest in
-    let after = number + 1 + length acts in
-    let A : List Act → Type 0 = λ listed. AreAllowed (opening_basis_of p) listed in
-    let count = value_spelled (acts_count_in (codes "played")) number (codes "played" ∷ decimal (length acts) ∷ []) lines (length acts)
-    (acts_count_words (codes "played") (length acts) refl is.few) (acts_count_spelled (codes "played") (length acts) is.few) in
-    let turns = turns_spelled (opening_basis_of p) [] acts (number + 1) after rest is.moves (subst A (sym (append-nil (reverse acts))) is.allowed) refl in
-    let long = length-map acts act_line in
-    turns_at-ok (unplayed p) (record { number = number; lines = map line_bytes (played_lines Two acts) ++ rest })
-    (record { number = number + 1; lines = lines }) (record { number = after; lines = rest }) (length acts) (reverse acts ++ []) count turns
-    ∙ ap (λ (listed : List Act). Ok (record p { played = listed }, record { number = after; lines = rest })) (ap reverse (append-nil (reverse acts))
-    ∙ reverse-reverse acts)
-    ∙ ap (λ (n : ℕ). Ok (p, record { number = n; lines = rest })) (omega (arith, long))
+pub dealer_form : AreWordsForm dealer_in (λ side. codes "dealer" ∷ side_word side ∷ []) (λ side. Unit {0})
+dealer_form = record {
+  found = λ given side e. (dealer_found given side e, tt);
+  spelled = λ side is. dealer_spelled side;
+  full = λ side is. rw (side_word-word side) refl;
+}
 
-problem_at-ok : (rest r1 : Rest) (seven : Setup) (read : Setup × Rest) → seven_lines_at rest ≡ Ok (seven, r1) → played_at seven.version seven r1 ≡ Ok read →
-    problem_at rest ≡ Ok read
-unfolding problem_at
-problem_at-ok rest r1 seven read e f = rw e f
+pub scores_form : AreWordsForm scores_in (λ scores. codes "score" ∷ decimal scores.owner ∷ decimal scores.opponent ∷ [])
+    (λ scores. (scores.owner ≤ 120) × (scores.opponent ≤ 120))
+scores_form = record {
+  found = λ given scores e. let is = scores_found given scores e in (is.0, (is.1, is.2));
+  spelled = λ scores is. scores_spelled scores is.0 is.1;
+  full = λ scores is. rw (number_word scores.owner (omega (arith, is.0)), number_word scores.opponent (omega (arith, is.1))) refl;
+}
 
--- the lines of a problem are read as it
-pub problem_spelled : (number : ℕ) (p : Setup) (rest : List (List ℕ)) → IsSetup p
-    → problem_at (record { number = number; lines = map line_bytes (problem_lines p) ++ rest }) ≡ Ok
-    (p, record { number = number + length (problem_lines p); lines = rest })
-unfolding problem_lines
-problem_spelled number p rest is =
-    let turns : List (List ℕ) = map line_bytes (played_lines p.version p.played) ++ rest in
-    problem_at-ok (record { number = number; lines = seven_lines p turns }) (record { number = number + 7; lines = turns }) (unplayed p)
-    (p, record { number = number + 7 + length (played_lines p.version p.played); lines = rest })
-    (seven_spelled number p turns is) (played_spelled p.version (number + 7) p rest is refl)
-    ∙ ap (λ (n : ℕ). Ok (p, record { number = n; lines = rest })) (omega arith)
+pub starter_form : AreWordsForm starter_in (λ card. codes "starter" ∷ card_text card ∷ []) IsCard
+starter_form = record { found = starter_found; spelled = starter_spelled; full = λ card is. rw (card_text-word card is) refl }
 
--- the same of lines that are left of a text
-pub lines_spelled : (lines : Rest) (p : Setup) (rest : List (List ℕ)) → IsSetup p → lines.lines ≡ map line_bytes (problem_lines p) ++ rest →
-    problem_at lines ≡ Ok (p, record { number = lines.number + length (problem_lines p); lines = rest })
-lines_spelled lines p rest is e = ap (λ (ls : List (List ℕ)). problem_at (record { number = lines.number; lines = ls })) e
-    ∙ problem_spelled lines.number p rest is
+pub cards_form : (keyword : List ℕ) (count : ℕ) (known : List ℕ) → is_word keyword ≡ true →
+    AreWordsForm (cards_in_line keyword count known) (λ cards. keyword ∷ map card_text cards) (λ cards. (length cards ≡ count) × AreNew known cards)
+cards_form keyword count known is_keyword = record {
+  found = λ given cards e. let is = cards_line_found keyword count known given cards e in (is.0, (is.2, is.1));
+  spelled = λ cards is. cards_spelled keyword count known cards is.0 is.1;
+  full = λ cards is. rw (is_keyword, card_texts-words cards is.1.all_cards) refl;
+}
+
+pub goal_form : (version : Version) (score : ℕ) → AreWordsForm (goal_in version score) (λ goal. codes "goal" ∷ goal_words goal)
+    (λ goal. IsGoal score goal × CanSay version goal [])
+goal_form version score = record {
+  found = λ given goal e. let is = goal_found version score given goal e in (is.0, (is.1, is.2));
+  spelled = λ goal is. goal_spelled version score goal is.1 is.0;
+  full = λ goal is. goal_words-words score goal is.0;
+}

@@ -6,7 +6,7 @@ use Rattle.std.proofs.lemmas.List.{append-nil, length-append, map-append}
 use Rattle.std.proofs.lemmas.List.Folds.{list_all-append}
 use Rattle.crib_text.specs.Refusals.{Refusal}
 use Rattle.crib_text.specs.Spelling.{line_bytes}
-use Rattle.crib_text.specs.Reading.{◌>>=◌, Rest, value_at, after_keyword, header_in}
+use Rattle.crib_text.specs.Reading.{◌>>=◌, Rest, value_at, after_keyword, only_word, header_in}
 use Rattle.crib_text.specs.Forms.{each_in, values_at}
 use Rattle.crib_text.proofs.SpellingLemmas.{is_word, are_words, is_word-decimal}
 use Rattle.crib_text.proofs.ReadingLemmas.{bind_ok, ok_is, unless_ok, value_found, front_line, after_found, only_found, number_found, header_found}
@@ -39,6 +39,18 @@ keyword_form {read = read} {words = words} keyword count is_keyword form = recor
       (after.0 ∙ ap (λ ws. keyword ∷ ws) rest.0, (sym (ap length rest.0) ∙ after.1, rest.1));
   spelled = λ value is. rw (after_spelled keyword count (words value) is.0) (form.spelled value is.1);
   full = λ value is. rw (is_keyword, form.full value is.1) refl;
+}
+
+-- one word
+pub one_form : {A : Type 0} {read : List ℕ → Result A ℕ} {word : A → List ℕ} {is : A → Type 0} → IsWordForm read word is
+    → AreWordsForm (λ given. only_word given >>= read) (λ value. word value ∷ []) is
+one_form {read = read} {word = word} form = record {
+  found = λ given value e.
+      let a = bind_ok (only_word given) read value e in
+      let one = form.found a.0 value a.2 in
+      (only_found given a.0 a.1 ∙ ap (λ w. w ∷ []) one.0, one.1);
+  spelled = λ value is. rw (only_spelled (word value)) (form.spelled value is);
+  full = λ value is. rw (form.full value is) refl;
 }
 
 -- a word for each of some values
@@ -114,14 +126,14 @@ joined first more rest = ap (λ ls. ls ++ rest) (map-append line_bytes first mor
 -- some lines, and then others, which may depend on what the first ones say
 pub then_form : {A B : Type 0} {read : Rest → Result (A × Rest) Refusal} {lines : A → List (List (List ℕ))} {is : A → Type 0}
     {more : B → List (List (List ℕ))} {are : A → B → Type 0} (next : A × Rest → Result (B × Rest) Refusal) (part : B → A) → IsForm read lines is
-    → ((a : A) → IsForm (λ rest. next (a, rest)) more (are a)) → ((a : A) (b : B) → are a b → part b ≡ a)
+    → ((a : A) → IsForm (λ rest. next (a, rest)) more (are a)) → ((a : A) (b : B) → is a → are a b → part b ≡ a)
     → IsForm (λ rest. read rest >>= next) (λ b. lines (part b) ++ more b) (λ b. is (part b) × are (part b) b)
 then_form {A = A} {read = read} {lines = lines} {is = is} {more = more} {are = are} next part first others agree = record {
   found = λ rest value after e.
       let a = bind_ok (read rest) next (value, after) e in
       let one = first.found rest a.0.0 a.0.1 a.1 in
       let other = (others a.0.0).found a.0.1 value after a.2 in
-      subst (λ (x : A). (is x × are x value) × (rest.lines ≡ map line_bytes (lines x ++ more value) ++ after.lines)) (sym (agree a.0.0 value other.0))
+      subst (λ (x : A). (is x × are x value) × (rest.lines ≡ map line_bytes (lines x ++ more value) ++ after.lines)) (sym (agree a.0.0 value one.0 other.0))
       ((one.0, other.0), one.1 ∙ ap (λ ls. map line_bytes (lines a.0.0) ++ ls) other.1 ∙ sym (joined (lines a.0.0) (more value) after.lines));
   spelled = λ value number rest is.
       ap (λ ls. read (from_line number ls) >>= next) (joined (lines (part value)) (more value) rest)
@@ -135,14 +147,15 @@ then_form {A = A} {read = read} {lines = lines} {is = is} {more = more} {are = a
 
 -- the same form in other words
 pub form_as : {A : Type 0} {read : Rest → Result (A × Rest) Refusal} {lines spelling : A → List (List (List ℕ))} {is are : A → Type 0} → IsForm read lines is
-    → ((value : A) → is value → are value) → ((value : A) → are value → is value) → ((value : A) → lines value ≡ spelling value) → IsForm read spelling are
+    → ((value : A) → is value → are value) → ((value : A) → are value → is value) → ((value : A) → is value → lines value ≡ spelling value)
+    → IsForm read spelling are
 form_as {A = A} {read = read} {are = are} form to from same = record {
   found = λ rest value after e.
       let read = form.found rest value after e in
-      (to value read.0, read.1 ∙ ap (λ ls. map line_bytes ls ++ after.lines) (same value));
+      (to value read.0, read.1 ∙ ap (λ ls. map line_bytes ls ++ after.lines) (same value read.0));
   spelled = λ value number rest is.
-      rw (sym (same value)) (form.spelled value number rest (from value is));
-  full = λ value is. ap (list_all are_words) (sym (same value)) ∙ form.full value (from value is);
+      rw (sym (same value (from value is))) (form.spelled value number rest (from value is));
+  full = λ value is. ap (list_all are_words) (sym (same value (from value is))) ∙ form.full value (from value is);
   steady = form.steady;
 }
 

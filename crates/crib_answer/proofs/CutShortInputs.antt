@@ -11,7 +11,7 @@ use Rattle.crib_text.proofs.SteadyReaders.{IsSteady, from_line, missing, steady_
 use Rattle.crib_problem.specs.Reading.{problem_at}
 use Rattle.crib_problem.proofs.ProblemForm.{problem_form}
 use Rattle.crib_plan.specs.Reading.{plan_at}
-use Rattle.crib_plan.proofs.CutShortProofs.{plan_steady}
+use Rattle.crib_plan.proofs.PlanForm.{plan_form}
 use Rattle.crib_game.specs.declared.game.Game.{Game}
 use Rattle.crib_game.specs.Reading.{game_at}
 use Rattle.crib_game.proofs.GameForm.{game_form}
@@ -209,14 +209,14 @@ ending_cut : (front : List ℕ) (next : ℕ) (back : List ℕ) (accepted : Accep
 unfolding ending_of_input
 ending_cut front next back accepted =
     beginning_cut (section problem_at (section plan_at (section game_at done))) ending_at front next back accepted.0
-    (section_steady problem_at _ problem_form.steady (section_steady plan_at _ plan_steady game_section)) ending_takes accepted.1
+    (section_steady problem_at _ problem_form.steady (section_steady plan_at _ plan_form.steady game_section)) ending_takes accepted.1
 
 question_cut : (front : List ℕ) (next : ℕ) (back : List ℕ) (accepted : Accepts (question_of_input (front ++ next ∷ back))) →
     IsCutShort front (question_of_input front)
 unfolding question_of_input
 question_cut front next back accepted =
     beginning_cut (section problem_at (section plan_at done)) question_at front next back accepted.0
-    (section_steady problem_at _ problem_form.steady (section_steady plan_at done plan_steady (steady_ok tt))) question_takes accepted.1
+    (section_steady problem_at _ problem_form.steady (section_steady plan_at done plan_form.steady (steady_ok tt))) question_takes accepted.1
 
 problem_cut : (front : List ℕ) (next : ℕ) (back : List ℕ) (accepted : Accepts (problem_of_input (front ++ next ∷ back))) →
     IsCutShort front (problem_of_input front)

@@ -24,10 +24,8 @@ use Rattle.crib_plan.specs.declared.plan.Node.{Node}
 use Rattle.crib_plan.specs.Nodes.{ArePlan}
 use Rattle.crib_plan.specs.Spelling.{plan_lines, plan_text}
 use Rattle.crib_plan.specs.Reading.{count_at, plan_at}
-use Rattle.crib_plan.proofs.SpellingsApart.{plan_are_lines}
-use Rattle.crib_plan.proofs.ReadIsSpelled.{plan_found}
+use Rattle.crib_plan.proofs.PlanForm.{plan_form}
 use Rattle.crib_plan.proofs.PlanLengths.{plan_text-le}
-use Rattle.crib_plan.proofs.SpelledIsRead.{plan_spelled}
 use Rattle.crib_answer.specs.Input.{most_bytes, input_lines, problem_alone_at, problem_of_input, question_at, question_of_input}
 use Rattle.crib_answer.specs.Telling.{SpellsProblem, SpellsPlan}
 
@@ -76,13 +74,6 @@ at_end rest u e = none_left rest.lines rest.number u e
 
 -- ---- an accepted input spells what was read
 
-plan_of_lines : (rest : Rest) (read : List Node × Rest) → plan_at rest ≡ Ok read
-    → ArePlan read.0 × (rest.lines ≡ map line_bytes (plan_lines read.0) ++ read.1.lines)
-unfolding plan_at
-plan_of_lines rest read e =
-    let a = bind_ok (count_at rest) _ read e in
-    plan_found rest a.0.1 read.1 a.0.0 read.0 a.1 a.2
-
 -- if `solve` reads a problem in an input, the input spells this problem
 pub problem_accepted : (input : List ℕ) (problem : Setup) → problem_of_input input ≡ Ok problem → SpellsProblem input problem
 unfolding problem_of_input problem_alone_at problem_text
@@ -106,7 +97,7 @@ question_accepted input question e =
     let b = bind_ok (problem_at a.0) _ question a.2 in
     let d = bind_ok (plan_at b.0.1) _ question b.2 in
     let f = bind_ok (end_at d.0.1) _ question d.2 in
-    let plan = plan_of_lines b.0.1 d.0 d.1 in
+    let plan = plan_form.found b.0.1 d.0.0 d.0.1 d.1 in
     let plans : b.0.1.lines ≡ map line_bytes (plan_lines d.0.0) ++ [] = plan.1
     ∙ ap (λ (ls : List (List ℕ)). map line_bytes (plan_lines d.0.0) ++ ls) (at_end d.0.1 f.0 f.1) in
     let lines : a.0.lines ≡ map line_bytes (problem_lines b.0.0) ++ (map line_bytes (plan_lines d.0.0) ++ []) = (problem_form.found a.0 b.0.0 b.0.1 b.1).1
@@ -168,16 +159,16 @@ question_spelled input problem plan spelled =
     let few = spelled_fits input problem plan spelled in
     let lines = problem_lines problem ++ plan_lines plan in
     let words : list_all are_words lines ≡ true = list_all-append are_words (problem_lines problem) (plan_lines plan)
-    ∙ and_from _ _ (problem_form.full problem spelled.problem_is) (plan_are_lines plan spelled.plan_is) in
+    ∙ and_from _ _ (problem_form.full problem spelled.problem_is) (plan_form.full plan spelled.plan_is) in
     let taken = lines_taken input lines few (spelled.text ∙ sym (texts_joined (problem_lines problem) (plan_lines plan))) words in
     let plans : List (List ℕ) = map line_bytes (plan_lines plan) in
     let whole : Rest = record { number = 1; lines = map line_bytes lines } in
     let last : Rest = record { number = 1 + length (problem_lines problem); lines = plans } in
     let first = form_read problem_form problem whole plans spelled.problem_is (maps_joined (problem_lines problem) (plan_lines plan)) in
-    let second = plan_spelled plan last [] spelled.plan_is (sym (append-nil plans)) in
-    let left : Rest = record { number = second.0; lines = [] } in
+    let second = form_read plan_form plan last [] spelled.plan_is (sym (append-nil plans)) in
+    let left : Rest = record { number = last.number + length (plan_lines plan); lines = [] } in
     ap (λ (read : Result Rest Refusal). read >>= question_at) taken
-    ∙ question_asked whole problem plan last left first second.1 (nothing_left left refl)
+    ∙ question_asked whole problem plan last left first second (nothing_left left refl)
 
 problem_asked_alone : (rest : Rest) (problem : Setup) (last : Rest) → problem_at rest ≡ Ok (problem, last) → end_at last ≡ Ok tt
     → problem_alone_at rest ≡ Ok problem

@@ -5,7 +5,7 @@ use Rattle.std.proofs.lemmas.List.{append-nil, length-map}
 use Rattle.crib_cards.specs.Cards.{IsCard}
 use Rattle.crib_cards.specs.CardText.{card_text}
 use Rattle.crib_text.proofs.SpellingLemmas.{is_word}
-use Rattle.crib_text.proofs.Forms.{AreWordsForm, IsForm, keyword_form, each_form, header_form, line_form, many_form, none_form, then_form, form_as}
+use Rattle.crib_text.proofs.Forms.{AreWordsForm, IsForm, keyword_form, each_form, header_form, line_form, each_line_form, none_form, then_form, form_as}
 use Rattle.crib_text.proofs.FormLaws.{one_spelling, lines_apart, texts_apart, texts_differ, read_again, lines_cut_short, text_cut_short}
 use Rattle.crib_problem.specs.Spelling.{act_line}
 use Rattle.crib_problem.proofs.CardLemmas.{all_parts, all-append}
@@ -28,7 +28,7 @@ game_form =
     then_form _ (λ (game : Game). game.opp.hold) (line_form (cards_form (codes "hold") 4 refl) (λ _. refl)) (λ hold.
     then_form _ (λ (game : Game). game.opp.throw) (line_form (cards_form (codes "throw") 2 refl) (λ _. refl)) (λ thrown.
     then_form _ (λ (game : Game). length game.acts.items) (line_form (count_form (codes "acts") refl) (λ _. refl)) (λ count.
-    then_form _ (λ (game : Game). game.acts.items) (many_form act_form (λ _. refl) count) (λ acts.
+    then_form _ (λ (game : Game). game.acts.items) (each_line_form act_form (λ _. refl) count) (λ acts.
     none_form (record { opp = record { hold = hold; throw = thrown }; acts = record { items = acts } }))
     (λ acts game is are. ap (λ (g : Game). g.acts.items) are))
     (λ count game is are. are.0.0))

@@ -1,5 +1,5 @@
--- If a plan is read, the lines are its spelling.
-use Rattle.std.proofs.Common.{◌≡◌, ℕ, zero, suc, ◌+◌, ◌≤◌, eqb, List, [], ◌∷◌, ◌++◌, length, map, Ok, Err, codes, decimal, refl, sym, ap, subst, ◌∙◌, arith}
+-- If a line is read as a node or as the number of nodes, it is the spelling of that.
+use Rattle.std.proofs.Common.{◌≡◌, ℕ, ◌^◌, ◌<◌, ◌≤◌, eqb, List, [], ◌∷◌, Ok, Err, codes, decimal, refl, sym, ap, subst, ◌∙◌, arith}
 use Rattle.std.proofs.Common.{inl, inr}
 use Rattle.std.specs.Prelude.{nat_le, bytes_eq}
 use Rattle.std.proofs.lemmas.Bool.{cases_Bool, eqb-true, leb-true}
@@ -7,27 +7,28 @@ use Rattle.std.proofs.lemmas.Slice.Eq.{bytes_eq-Decides}
 use Rattle.crib_cards.specs.CardText.{card_read, card_text}
 use Rattle.crib_cards.proofs.CardReadLemmas.{card_read_is}
 use Rattle.crib_text.specs.Refusals.{bad_line, bad_card}
-use Rattle.crib_text.specs.Spelling.{line_bytes}
-use Rattle.crib_text.specs.Reading.{Rest, value_at, or_refused, unless_refused, after_keyword, only_word, number_in, header_in}
-use Rattle.crib_text.proofs.ReadingLemmas.{bind_ok, unless_ok, or_ok, ok_is, value_found, after_found, only_found, number_found, header_found, front_line}
+use Rattle.crib_text.specs.Reading.{or_refused, unless_refused, after_keyword, only_word, number_in}
+use Rattle.crib_text.proofs.ReadingLemmas.{bind_ok, unless_ok, or_ok, ok_is, after_found, only_found, number_found}
 use Rattle.crib_plan.specs.declared.plan.Node.{Node}
 use Rattle.crib_plan.specs.declared.plan.Node.TheVariants.{Play, See}
-use Rattle.crib_plan.specs.Nodes.{most_nodes, IsNode, AreNodes, ArePlan}
-use Rattle.crib_plan.specs.Spelling.{node_line, node_lines, plan_lines}
+use Rattle.crib_plan.specs.Nodes.{most_nodes, IsNode}
+use Rattle.crib_plan.specs.Spelling.{node_line}
 use Rattle.crib_plan.specs.Refusals.{too_many}
-use Rattle.crib_plan.specs.Reading.{own_number_in, next_in, no_branches, branches_in, play_in, see_in, node_from, count_in, nodes_at, count_at}
+use Rattle.crib_plan.specs.Reading.{own_number_in, next_in, no_branches, branches_in, play_in, see_in, node_from, count_in}
 use Rattle.crib_plan.proofs.NextReadIsSpelled.{next_found}
 use Rattle.crib_plan.proofs.BranchReadIsSpelled.{line_found}
 
-own_found : (place : ℕ) (word : List ℕ) (u : Unit {0}) → own_number_in place word ≡ Ok u → word ≡ decimal place
+own_found : (place : ℕ) (word : List ℕ) (u : Unit {0}) → own_number_in place word ≡ Ok u → (word ≡ decimal place) × (place < 2 ^ 32)
 unfolding own_number_in
 own_found place word u e =
     let a = bind_ok (number_in word) _ u e in
-    (number_found word a.0 a.1).0 ∙ ap decimal (eqb-true _ _ (unless_ok (eqb a.0 place) bad_line u a.2))
+    let is = eqb-true _ _ (unless_ok (eqb a.0 place) bad_line u a.2) in
+    let number = number_found word a.0 a.1 in
+    (number.0 ∙ ap decimal is, subst (λ (n : ℕ). n < 2 ^ 32) is number.1)
 
 -- the words are the line of a node, and the node may stand at its place
 abbrev IsLineOf : ℕ → ℕ → List (List ℕ) → Node → Type 0
-IsLineOf place count words node = (words ≡ node_line place node) × IsNode place count node
+IsLineOf place count words node = (words ≡ node_line place node) × (place < 2 ^ 32) × IsNode place count node
 
 -- a play line that was read is that of its node
 play_found : (place count : ℕ) (words : List (List ℕ)) (node : Node) → play_in place count words ≡ Ok node → (kind : List ℕ) → (rest : List (List ℕ)) →
@@ -46,9 +47,10 @@ play_found place count (w0 ∷ w1 ∷ w2 ∷ w3 ∷ []) node e kind rest own par
     let c = card_read_is w2 b.0 (or_ok bad_card (card_read w2) b.0 b.1) in
     let n = next_found place count w3 d.0 d.1 in
     subst (λ (v : Node). IsLineOf place count (w0 ∷ w1 ∷ w2 ∷ w3 ∷ []) v) (ok_is (Play b.0 d.0) node d.2) (
-      ap (λ (w : List ℕ). w ∷ w1 ∷ w2 ∷ w3 ∷ []) o ∙ ap (λ (w : List ℕ). decimal place ∷ w ∷ w2 ∷ w3 ∷ []) k
+      ap (λ (w : List ℕ). w ∷ w1 ∷ w2 ∷ w3 ∷ []) o.0 ∙ ap (λ (w : List ℕ). decimal place ∷ w ∷ w2 ∷ w3 ∷ []) k
           ∙ ap (λ (w : List ℕ). decimal place ∷ codes "play" ∷ w ∷ w3 ∷ []) c.0
           ∙ ap (λ (w : List ℕ). decimal place ∷ codes "play" ∷ card_text b.0 ∷ w ∷ []) n.0,
+      o.1,
       (c.1, n.1),
     )
 play_found place count (w0 ∷ w1 ∷ w2 ∷ w3 ∷ w4 ∷ words) node e kind rest own parts is = absurd cc
@@ -63,12 +65,13 @@ see_found place count own kind words node is e =
     let o = own_found place own a.0 a.1 in
     let l = line_found place count words b.0 b.1 in
     subst (λ (v : Node). IsLineOf place count (own ∷ kind ∷ words) v) (ok_is (See b.0.nexts) node b.2) (
-      ap (λ (w : List ℕ). w ∷ kind ∷ words) o ∙ ap (λ (w : List ℕ). decimal place ∷ w ∷ words) is
+      ap (λ (w : List ℕ). w ∷ kind ∷ words) o.0 ∙ ap (λ (w : List ℕ). decimal place ∷ w ∷ words) is
           ∙ ap (λ (ws : List (List ℕ)). decimal place ∷ codes "see" ∷ ws) l.0,
+      o.1,
       (l.1, l.2),
     )
 
-node_found : (place count : ℕ) (words : List (List ℕ)) (node : Node) → node_from place count words ≡ Ok node → IsLineOf place count words node
+pub node_found : (place count : ℕ) (words : List (List ℕ)) (node : Node) → node_from place count words ≡ Ok node → IsLineOf place count words node
 unfolding node_from
 node_found place count [] node e = absurd cc
 node_found place count (own ∷ []) node e = absurd cc
@@ -86,7 +89,7 @@ node_found place count (own ∷ kind ∷ words) node e =
           ]
     ]
 
-count_found : (words : List (List ℕ)) (count : ℕ) → count_in words ≡ Ok count → (words ≡ codes "nodes" ∷ decimal count ∷ []) × (count ≤ most_nodes)
+pub count_found : (words : List (List ℕ)) (count : ℕ) → count_in words ≡ Ok count → (words ≡ codes "nodes" ∷ decimal count ∷ []) × (count ≤ most_nodes)
 unfolding count_in
 count_found words count e =
     let a = bind_ok (after_keyword (codes "nodes") 1 words) _ count e in
@@ -98,53 +101,4 @@ count_found words count e =
       (after_found (codes "nodes") 1 words a.0 a.1).0 ∙ ap (λ (w : List (List ℕ)). codes "nodes" ∷ w) (only_found a.0 b.0 b.1)
           ∙ ap (λ (w : List ℕ). codes "nodes" ∷ w ∷ []) ((number_found b.0 d.0 d.1).0 ∙ ap decimal is),
       omega arith,
-    )
-
--- the nodes that were read, whose lines come first, and the lines that are left
-abbrev IsRead : ℕ → ℕ → ℕ → Rest → List Node × Rest → Type 0
-IsRead left place count rest read = (length read.0 ≡ left) × AreNodes place count read.0 ×
-    (rest.lines ≡ map line_bytes (node_lines place read.0) ++ read.1.lines)
-
-nodes_found : (left place count : ℕ) (rest : Rest) (read : List Node × Rest) → nodes_at left place count rest ≡ Ok read → IsRead left place count rest read
-unfolding nodes_at
-nodes_found zero place count rest read e = subst (λ (r : List Node × Rest). IsRead 0 place count rest r) (ok_is ([], rest) read e) (refl, tt, refl)
-nodes_found (suc left) place count rest read e =
-    let a = bind_ok (value_at (node_from place count) rest) _ read e in
-    let b = bind_ok (nodes_at left (place + 1) count a.0.1) _ read a.2 in
-    let v = value_found (node_from place count) rest a.0 a.1 in
-    let one = node_found place count v.0 a.0.0 v.2 in
-    let more = nodes_found left (place + 1) count a.0.1 b.0 b.1 in
-    let made : List Node × Rest = (a.0.0 ∷ b.0.0, b.0.1) in
-    subst (λ (r : List Node × Rest). IsRead (suc left) place count rest r) (ok_is made read b.2) (
-      ap suc more.0,
-      (one.1, more.1),
-      front_line rest.lines v.0 (node_line place a.0.0) a.0.1.lines v.1 one.0
-          ∙ ap (λ (ls : List (List ℕ)). line_bytes (node_line place a.0.0) ∷ ls) more.2,
-    )
-
-pub count_at_found : (rest : Rest) (count : ℕ × Rest) → count_at rest ≡ Ok count
-    → (count.0 ≤ most_nodes) × (rest.lines ≡ line_bytes (codes "plan" ∷ codes "1" ∷ []) ∷ line_bytes (codes "nodes" ∷ decimal count.0 ∷ []) ∷ count.1.lines)
-unfolding count_at
-count_at_found rest count e =
-    let a = bind_ok (value_at (header_in (codes "plan")) rest) _ count e in
-    let v1 = value_found (header_in (codes "plan")) rest a.0 a.1 in
-    let v2 = value_found count_in a.0.1 count a.2 in
-    let w1 = header_found (codes "plan") v1.0 a.0.0 v1.2 in
-    let w2 = count_found v2.0 count.0 v2.2 in (
-      w2.1,
-      front_line rest.lines v1.0 _ _ v1.1 w1 ∙ ap (λ (ls : List (List ℕ)). line_bytes (codes "plan" ∷ codes "1" ∷ []) ∷ ls)
-          (front_line a.0.1.lines v2.0 _ _ v2.1 w2.0),
-    )
-
--- a plan that was read
-pub plan_found : (rest after last : Rest) (count : ℕ) (plan : List Node) → count_at rest ≡ Ok (count, after) → nodes_at count 0 count after ≡ Ok (plan, last)
-    → ArePlan plan × (rest.lines ≡ map line_bytes (plan_lines plan) ++ last.lines)
-unfolding plan_lines
-plan_found rest after last count plan e f =
-    let c = count_at_found rest (count, after) e in
-    let n = nodes_found count 0 count after (plan, last) f in
-    let is : count ≡ length plan = sym n.0 in (
-      (omega arith, subst (λ (k : ℕ). AreNodes 0 k plan) is n.1),
-      c.1 ∙ ap (λ (k : ℕ). line_bytes (codes "plan" ∷ codes "1" ∷ []) ∷ line_bytes (codes "nodes" ∷ decimal k ∷ []) ∷ after.lines) is
-          ∙ ap (λ (ls : List (List ℕ)). line_bytes (codes "plan" ∷ codes "1" ∷ []) ∷ line_bytes (codes "nodes" ∷ decimal (length plan) ∷ []) ∷ ls) n.2,
     )

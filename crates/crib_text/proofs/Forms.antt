@@ -11,7 +11,7 @@ use Rattle.crib_text.specs.Forms.{each_in, values_at}
 use Rattle.crib_text.proofs.SpellingLemmas.{is_word, are_words, is_word-decimal}
 use Rattle.crib_text.proofs.ReadingLemmas.{bind_ok, ok_is, unless_ok, value_found, front_line, after_found, only_found, number_found, header_found}
 use Rattle.crib_text.proofs.ReadingLemmas.{value_spelled, after_spelled, only_spelled, number_spelled, header_spelled}
-use Rattle.crib_text.proofs.SteadyReaders.{IsSteady, from_line, steady_ok, steady_then, steady_value}
+use Rattle.crib_text.proofs.SteadyReaders.{IsSteady, from_line, steady_ok, steady_after, steady_then, steady_value}
 
 -- ---- words
 
@@ -123,27 +123,33 @@ joined : (first more : List (List (List ℕ))) (rest : List (List ℕ)) →
     map line_bytes (first ++ more) ++ rest ≡ map line_bytes first ++ (map line_bytes more ++ rest)
 joined first more rest = ap (λ ls. ls ++ rest) (map-append line_bytes first more) ∙ append_assoc (map line_bytes first) (map line_bytes more) rest
 
--- some lines, and then others, which may depend on what the first ones say
-pub then_form : {A B : Type 0} {read : Rest → Result (A × Rest) Refusal} {lines : A → List (List (List ℕ))} {is : A → Type 0}
+-- some lines, and then others, which may depend on what the first ones say and rest on it
+pub then_given_form : {A B : Type 0} {read : Rest → Result (A × Rest) Refusal} {lines : A → List (List (List ℕ))} {is : A → Type 0}
     {more : B → List (List (List ℕ))} {are : A → B → Type 0} (next : A × Rest → Result (B × Rest) Refusal) (part : B → A) → IsForm read lines is
-    → ((a : A) → IsForm (λ rest. next (a, rest)) more (are a)) → ((a : A) (b : B) → is a → are a b → part b ≡ a)
+    → ((a : A) → is a → IsForm (λ rest. next (a, rest)) more (are a)) → ((a : A) (b : B) → is a → are a b → part b ≡ a)
     → IsForm (λ rest. read rest >>= next) (λ b. lines (part b) ++ more b) (λ b. is (part b) × are (part b) b)
-then_form {A = A} {read = read} {lines = lines} {is = is} {more = more} {are = are} next part first others agree = record {
+then_given_form {A = A} {read = read} {lines = lines} {is = is} {more = more} {are = are} next part first others agree = record {
   found = λ rest value after e.
       let a = bind_ok (read rest) next (value, after) e in
       let one = first.found rest a.0.0 a.0.1 a.1 in
-      let other = (others a.0.0).found a.0.1 value after a.2 in
+      let other = (others a.0.0 one.0).found a.0.1 value after a.2 in
       subst (λ (x : A). (is x × are x value) × (rest.lines ≡ map line_bytes (lines x ++ more value) ++ after.lines)) (sym (agree a.0.0 value one.0 other.0))
       ((one.0, other.0), one.1 ∙ ap (λ ls. map line_bytes (lines a.0.0) ++ ls) other.1 ∙ sym (joined (lines a.0.0) (more value) after.lines));
   spelled = λ value number rest is.
       ap (λ ls. read (from_line number ls) >>= next) (joined (lines (part value)) (more value) rest)
       ∙ ap (λ r. r >>= next) (first.spelled (part value) number (map line_bytes (more value) ++ rest) is.0)
-      ∙ (others (part value)).spelled value (number + length (lines (part value))) rest is.1
+      ∙ (others (part value) is.0).spelled value (number + length (lines (part value))) rest is.1
       ∙ ap (λ n. Ok (value, from_line n rest)) (omega (arith, length-append (lines (part value)) (more value)));
   full = λ value is.
-      list_all-append are_words (lines (part value)) (more value) ∙ rw (first.full (part value) is.0, (others (part value)).full value is.1) refl;
-  steady = steady_then read next first.steady (λ a. (others a).steady);
+      list_all-append are_words (lines (part value)) (more value) ∙ rw (first.full (part value) is.0, (others (part value) is.0).full value is.1) refl;
+  steady = steady_after read next first.steady (λ a rest after e. (others a (first.found rest a after e).0).steady);
 }
+
+pub then_form : {A B : Type 0} {read : Rest → Result (A × Rest) Refusal} {lines : A → List (List (List ℕ))} {is : A → Type 0}
+    {more : B → List (List (List ℕ))} {are : A → B → Type 0} (next : A × Rest → Result (B × Rest) Refusal) (part : B → A) → IsForm read lines is
+    → ((a : A) → IsForm (λ rest. next (a, rest)) more (are a)) → ((a : A) (b : B) → is a → are a b → part b ≡ a)
+    → IsForm (λ rest. read rest >>= next) (λ b. lines (part b) ++ more b) (λ b. is (part b) × are (part b) b)
+then_form next part first others agree = then_given_form next part first (λ a is. others a) agree
 
 -- the same form in other words
 pub form_as : {A : Type 0} {read : Rest → Result (A × Rest) Refusal} {lines spelling : A → List (List (List ℕ))} {is are : A → Type 0} → IsForm read lines is
@@ -159,56 +165,91 @@ form_as {A = A} {read = read} {are = are} form to from same = record {
   steady = form.steady;
 }
 
--- as many lines as there are values
-pub many_form : {A : Type 0} {read : List (List ℕ) → Result A ℕ} {words : A → List (List ℕ)} {is : A → Type 0} → AreWordsForm read words is →
-    ((value : A) → are_words (words value) ≡ list_all is_word (words value)) → (count : ℕ)
-    → IsForm (values_at read count) (map words) (λ values. (length values ≡ count) × AllByRecursion is values)
+-- ---- as many lines as there are values, each by its place
+
+-- the lines of some values, from a place on
+abbrev pub row_lines : {A : Type 0} → (ℕ → A → List (List ℕ)) → ℕ → List A → List (List (List ℕ))
+row_lines words place [] = []
+row_lines words place (value ∷ values) = words place value ∷ row_lines words (place + 1) values
+
+-- each value is what it is to be at its place
+abbrev pub AreRows : {A : Type 0} → (ℕ → A → Type 0) → ℕ → List A → Type 0
+AreRows is place [] = Unit {0}
+AreRows is place (value ∷ values) = is place value × AreRows is (place + 1) values
+
+pub many_form : {A : Type 0} {read : ℕ → List (List ℕ) → Result A ℕ} {words : ℕ → A → List (List ℕ)} {is : ℕ → A → Type 0}
+    → ((place : ℕ) → AreWordsForm (read place) (words place) (is place)) → ((place : ℕ) (value : A) → are_words (words place value) ≡ list_all is_word
+    (words place value))
+    → (place count : ℕ) → IsForm (values_at read place count) (row_lines words place) (λ values. (length values ≡ count) × AreRows is place values)
 unfolding values_at
-many_form {A = A} {read = read} {words = words} {is = is} each some count = record {
-  found = found count;
-  spelled = spelled count;
-  full = λ values all. full values all.1;
-  steady = steady count;
+many_form {A = A} {read = read} {words = words} {is = is} each some place count = record {
+  found = found place count;
+  spelled = spelled place count;
+  full = λ values all. full place values all.1;
+  steady = steady place count;
 }
   where
-    form : IsForm (value_at read) (λ value. words value ∷ []) is
-    form = line_form each some
+    form : (place : ℕ) → IsForm (value_at (read place)) (λ value. words place value ∷ []) (is place)
+    form place = line_form (each place) (some place)
 
-    found : (count : ℕ) (rest : Rest) (values : List A) (after : Rest) → values_at read count rest ≡ Ok (values, after)
-        → ((length values ≡ count) × AllByRecursion is values) × (rest.lines ≡ map line_bytes (map words values) ++ after.lines)
-    found zero rest values after e =
-        subst (λ (got : List A × Rest). ((length got.0 ≡ 0) × AllByRecursion is got.0) × (rest.lines ≡ map line_bytes (map words got.0) ++ got.1.lines))
+    found : (place count : ℕ) (rest : Rest) (values : List A) (after : Rest) → values_at read place count rest ≡ Ok (values, after)
+        → ((length values ≡ count) × AreRows is place values) × (rest.lines ≡ map line_bytes (row_lines words place values) ++ after.lines)
+    found place zero rest values after e =
+        subst (λ (got : List A × Rest). ((length got.0 ≡ 0) × AreRows is place got.0) × (rest.lines ≡ map line_bytes (row_lines words place got.0) ++
+            got.1.lines))
         (ok_is ([], rest) (values, after) e) ((refl, tt), refl)
-    found (suc left) rest values after e =
-        let a = bind_ok (value_at read rest) _ (values, after) e in
-        let b = bind_ok (values_at read left a.0.1) _ (values, after) a.2 in
-        let first = form.found rest a.0.0 a.0.1 a.1 in
-        let others = found left a.0.1 b.0.0 b.0.1 b.1 in
-        subst (λ (got : List A × Rest). ((length got.0 ≡ suc left) × AllByRecursion is got.0) × (rest.lines ≡ map line_bytes (map words got.0) ++ got.1.lines))
+    found place (suc left) rest values after e =
+        let a = bind_ok (value_at (read place) rest) _ (values, after) e in
+        let b = bind_ok (values_at read (place + 1) left a.0.1) _ (values, after) a.2 in
+        let first = (form place).found rest a.0.0 a.0.1 a.1 in
+        let others = found (place + 1) left a.0.1 b.0.0 b.0.1 b.1 in
+        subst (λ (got : List A × Rest). ((length got.0 ≡ suc left) × AreRows is place got.0) × (rest.lines ≡ map line_bytes (row_lines words place got.0) ++
+            got.1.lines))
         (ok_is (a.0.0 ∷ b.0.0, b.0.1) (values, after) b.2)
-        ((ap suc others.0.0, (first.0, others.0.1)), first.1 ∙ ap (λ ls. line_bytes (words a.0.0) ∷ ls) others.1)
+        ((ap suc others.0.0, (first.0, others.0.1)), first.1 ∙ ap (λ ls. line_bytes (words place a.0.0) ∷ ls) others.1)
 
-    spelled : (count : ℕ) (values : List A) (number : ℕ) (rest : List (List ℕ)) → (length values ≡ count) × AllByRecursion is values
-        → values_at read count (from_line number (map line_bytes (map words values) ++ rest)) ≡ Ok (values, from_line (number + length (map words values)) rest)
-    spelled zero [] number rest all = ap (λ n. Ok ([], from_line n rest)) (omega arith)
-    spelled zero (value ∷ values) number rest all = absurd (omega (arith, all.0))
-    spelled (suc left) [] number rest all = absurd (omega (arith, all.0))
-    spelled (suc left) (value ∷ values) number rest all =
+    spelled : (place count : ℕ) (values : List A) (number : ℕ) (rest : List (List ℕ)) → (length values ≡ count) × AreRows is place values
+        → values_at read place count (from_line number (map line_bytes (row_lines words place values) ++ rest))
+        ≡ Ok (values, from_line (number + length (row_lines words place values)) rest)
+    spelled place zero [] number rest all = ap (λ n. Ok ([], from_line n rest)) (omega arith)
+    spelled place zero (value ∷ values) number rest all = absurd (omega (arith, all.0))
+    spelled place (suc left) [] number rest all = absurd (omega (arith, all.0))
+    spelled place (suc left) (value ∷ values) number rest all =
         rw (
-          form.spelled value number (map line_bytes (map words values) ++ rest) all.1.0,
-          spelled left values (number + 1) rest
+          (form place).spelled value number (map line_bytes (row_lines words (place + 1) values) ++ rest) all.1.0,
+          spelled (place + 1) left values (number + 1) rest
               (omega (arith, all.0), all.1.1),
         )
         (ap (λ n. Ok (value ∷ values, from_line n rest)) (omega arith))
 
-    full : (values : List A) → AllByRecursion is values → list_all are_words (map words values) ≡ true
-    full [] all = refl
-    full (value ∷ values) all = rw (some value, each.full value all.0, full values all.1) refl
+    full : (place : ℕ) (values : List A) → AreRows is place values → list_all are_words (row_lines words place values) ≡ true
+    full place [] all = refl
+    full place (value ∷ values) all = rw (some place value, (each place).full value all.0, full (place + 1) values all.1) refl
 
-    steady : (count : ℕ) → IsSteady (values_at read count)
-    steady zero = steady_ok []
-    steady (suc left) = steady_then (value_at read) _ form.steady (λ value.
-        steady_then (values_at read left) _ (steady left) (λ values. steady_ok (value ∷ values)))
+    steady : (place count : ℕ) → IsSteady (values_at read place count)
+    steady place zero = steady_ok []
+    steady place (suc left) = steady_then (value_at (read place)) _ (form place).steady (λ value.
+        steady_then (values_at read (place + 1) left) _ (steady (place + 1) left) (λ values. steady_ok (value ∷ values)))
+
+-- as many lines as there are values, where their places say nothing
+pub each_line_form : {A : Type 0} {read : List (List ℕ) → Result A ℕ} {words : A → List (List ℕ)} {is : A → Type 0} → AreWordsForm read words is →
+    ((value : A) → are_words (words value) ≡ list_all is_word (words value)) → (count : ℕ)
+    → IsForm (values_at (λ place. read) 0 count) (map words) (λ values. (length values ≡ count) × AllByRecursion is values)
+each_line_form {A = A} {words = words} {is = is} each some count =
+    form_as (many_form (λ place. each) (λ place. some) 0 count)
+    (λ values all. (all.0, to 0 values all.1)) (λ values all. (all.0, from 0 values all.1)) (λ values all. same 0 values)
+  where
+    to : (place : ℕ) (values : List A) → AreRows (λ place. is) place values → AllByRecursion is values
+    to place [] all = tt
+    to place (value ∷ values) all = (all.0, to (place + 1) values all.1)
+
+    from : (place : ℕ) (values : List A) → AllByRecursion is values → AreRows (λ place. is) place values
+    from place [] all = tt
+    from place (value ∷ values) all = (all.0, from (place + 1) values all.1)
+
+    same : (place : ℕ) (values : List A) → row_lines (λ place. words) place values ≡ map words values
+    same place [] = refl
+    same place (value ∷ values) = ap (λ ls. words value ∷ ls) (same (place + 1) values)
 
 -- ---- the loop that reads a value from each line
 
@@ -221,31 +262,31 @@ regroup : {A : Type 0} (front : List A) (value : A) (read : Result (List A × Re
 regroup front value (Ok values) = ap (λ l. Ok (l, values.1)) (sym (append_assoc front (value ∷ []) values.0))
 regroup front value (Err refused) = refl
 
-pub values_none : {A : Type 0} (read : List (List ℕ) → Result A ℕ) (count : ℕ) (rest : Rest) →
-    values_at read count rest ≡ with_front [] (values_at read (count - 0) rest)
-values_none read count rest = ap (λ k. values_at read k rest) {x = count} {y = count - 0} (omega arith) ∙ nothing_before (values_at read (count - 0) rest)
+pub values_none : {A : Type 0} (read : ℕ → List (List ℕ) → Result A ℕ) (count : ℕ) (rest : Rest) →
+    values_at read 0 count rest ≡ with_front [] (values_at read 0 (count - 0) rest)
+values_none read count rest = ap (λ k. values_at read 0 k rest) {x = count} {y = count - 0} (omega arith) ∙ nothing_before (values_at read 0 (count - 0) rest)
   where
     nothing_before : {A : Type 0} (read : Result (List A × Rest) Refusal) → read ≡ with_front [] read
     nothing_before (Ok values) = refl
     nothing_before (Err refused) = refl
 
-pub values_more : {A : Type 0} (read : List (List ℕ) → Result A ℕ) (total : Result (List A × Rest) Refusal) (count i : ℕ) (front : List A) (rest after : Rest)
-    (value : A) → i < count → value_at read rest ≡ Ok (value, after) → total ≡ with_front front (values_at read (count - i) rest)
-    → total ≡ with_front (front ++ value ∷ []) (values_at read (count - (i + 1)) after)
+pub values_more : {A : Type 0} (read : ℕ → List (List ℕ) → Result A ℕ) (total : Result (List A × Rest) Refusal) (count i : ℕ) (front : List A) (rest after : Rest)
+    (value : A) → i < count → value_at (read i) rest ≡ Ok (value, after) → total ≡ with_front front (values_at read i (count - i) rest)
+    → total ≡ with_front (front ++ value ∷ []) (values_at read (i + 1) (count - (i + 1)) after)
 unfolding values_at
 values_more read total count i front rest after value inside e so_far =
     let left : count - i ≡ suc (count - (i + 1)) = omega arith in
-    so_far ∙ ap (λ k. with_front front (values_at read k rest)) left ∙ rw e (regroup front value (values_at read (count - (i + 1)) after))
+    so_far ∙ ap (λ k. with_front front (values_at read i k rest)) left ∙ rw e (regroup front value (values_at read (i + 1) (count - (i + 1)) after))
 
-pub values_stop : {A : Type 0} (read : List (List ℕ) → Result A ℕ) (total : Result (List A × Rest) Refusal) (count i : ℕ) (front : List A) (rest : Rest)
-    (refused : Refusal) → i < count → value_at read rest ≡ Err refused → total ≡ with_front front (values_at read (count - i) rest) → total ≡ Err refused
+pub values_stop : {A : Type 0} (read : ℕ → List (List ℕ) → Result A ℕ) (total : Result (List A × Rest) Refusal) (count i : ℕ) (front : List A) (rest : Rest)
+    (refused : Refusal) → i < count → value_at (read i) rest ≡ Err refused → total ≡ with_front front (values_at read i (count - i) rest) → total ≡ Err refused
 unfolding values_at
 values_stop read total count i front rest refused inside e so_far =
     let left : count - i ≡ suc (count - (i + 1)) = omega arith in
-    so_far ∙ ap (λ k. with_front front (values_at read k rest)) left ∙ rw e refl
+    so_far ∙ ap (λ k. with_front front (values_at read i k rest)) left ∙ rw e refl
 
-pub values_done : {A : Type 0} (read : List (List ℕ) → Result A ℕ) (total : Result (List A × Rest) Refusal) (count i : ℕ) (front : List A) (rest : Rest) →
-    count ≤ i → total ≡ with_front front (values_at read (count - i) rest) → total ≡ Ok (front, rest)
+pub values_done : {A : Type 0} (read : ℕ → List (List ℕ) → Result A ℕ) (total : Result (List A × Rest) Refusal) (count i : ℕ) (front : List A) (rest : Rest) →
+    count ≤ i → total ≡ with_front front (values_at read i (count - i) rest) → total ≡ Ok (front, rest)
 unfolding values_at
 values_done read total count i front rest past so_far =
-    so_far ∙ ap (λ k. with_front front (values_at read k rest)) {x = count - i} {y = 0} (omega arith) ∙ ap (λ l. Ok (l, rest)) (append-nil front)
+    so_far ∙ ap (λ k. with_front front (values_at read i k rest)) {x = count - i} {y = 0} (omega arith) ∙ ap (λ l. Ok (l, rest)) (append-nil front)

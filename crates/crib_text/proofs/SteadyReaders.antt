@@ -48,11 +48,11 @@ steady_ok {A = A} value = record {
       });
 }
 
--- one such reader after another is such a reader
-pub steady_then : {A B : Type 0} (read : Rest → Result (A × Rest) Refusal) (next : A × Rest → Result (B × Rest) Refusal) → IsSteady read →
-    ((value : A) → IsSteady (λ rest. next (value, rest)))
+-- one such reader after another is such a reader. The second one may ask for what the first one reads
+pub steady_after : {A B : Type 0} (read : Rest → Result (A × Rest) Refusal) (next : A × Rest → Result (B × Rest) Refusal) → IsSteady read →
+    ((value : A) (rest after : Rest) → read rest ≡ Ok (value, after) → IsSteady (λ rest. next (value, rest)))
     → IsSteady (λ rest. read rest >>= next)
-steady_then {A = A} {B = B} read next one other = record {
+steady_after {A = A} {B = B} read next one other = record {
   cut = λ number front back value after e.
       let a = bind_ok (read (from_line number (front ++ back))) next (value, after) e in
       elim (one.cut number front back a.0.0 a.0.1 a.1) [
@@ -63,12 +63,17 @@ steady_then {A = A} {B = B} read next one other = record {
             (sym kept.lines) ∙ a.2 in
             let here : (read (from_line number front) >>= next) ≡ next (a.0.0, from_line mid kept.left) =
             ap (λ (r : Result (A × Rest) Refusal). r >>= next) kept.same in
-            elim ((other a.0.0).cut mid kept.left back value after later) [
+            elim ((other a.0.0 (from_line number (front ++ back)) a.0.1 a.1).cut mid kept.left back value after later) [
               | inl more ↦ inl (record { left = more.left; lines = more.lines; counted = more.counted ∙ kept.counted; same = here ∙ more.same })
               | inr short ↦ inr (here ∙ short ∙ ap (λ (n : ℕ). Err (missing n)) kept.counted)
             ]
       ];
 }
+
+pub steady_then : {A B : Type 0} (read : Rest → Result (A × Rest) Refusal) (next : A × Rest → Result (B × Rest) Refusal) → IsSteady read →
+    ((value : A) → IsSteady (λ rest. next (value, rest)))
+    → IsSteady (λ rest. read rest >>= next)
+steady_then read next one other = steady_after read next one (λ value rest after e. other value)
 
 -- a value, with the lines that are left
 abbrev give : {A : Type 0} → Rest → A → Result (A × Rest) Refusal

@@ -1,5 +1,5 @@
 -- Reading several values: one from each word of a line, or one from each line.
-use Rattle.std.specs.Prelude.{ℕ, zero, suc, List, [], ◌∷◌, Result, Ok}
+use Rattle.std.specs.Prelude.{ℕ, zero, suc, ◌+◌, List, [], ◌∷◌, Result, Ok}
 use Rattle.crib_text.specs.Refusals.{Refusal}
 use Rattle.crib_text.specs.Reading.{◌>>=◌, Rest, value_at}
 
@@ -11,10 +11,11 @@ each_in read (word ∷ words) = do
   values ← each_in read words
   Ok (value ∷ values)
 
--- so many values, one from each line, and the lines after them
-unfoldable pub values_at : {A : Type 0} → (List (List ℕ) → Result A ℕ) → ℕ → Rest → Result (List A × Rest) Refusal
-values_at read zero rest = Ok ([], rest)
-values_at read (suc left) rest = do
-  value ← value_at read rest
-  values ← values_at read left value.1
+-- so many values, one from each line, from a place on, and the lines after them. How a line is read may depend on its
+-- place
+unfoldable pub values_at : {A : Type 0} → (ℕ → List (List ℕ) → Result A ℕ) → ℕ → ℕ → Rest → Result (List A × Rest) Refusal
+values_at read place zero rest = Ok ([], rest)
+values_at read place (suc left) rest = do
+  value ← value_at (read place) rest
+  values ← values_at read (place + 1) left value.1
   Ok (value.0 ∷ values.0, values.1)

@@ -1,4 +1,4 @@
-use Rattle.crib_plan.proofs.CutShortProofs.{lines_cut_law, text_cut_law}
+use Rattle.crib_plan.proofs.PlanForm.{lines_cut_law, text_cut_law}
 use Rattle.crib_plan.proofs.laws.cut_short_law.Goals as goal
 
 pub returns : goal.returns

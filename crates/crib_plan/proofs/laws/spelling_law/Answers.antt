@@ -1,5 +1,5 @@
-use Rattle.crib_plan.proofs.SpellingsApart.{apart}
+use Rattle.crib_plan.proofs.PlanForm.{apart_law}
 use Rattle.crib_plan.proofs.laws.spelling_law.Goals as goal
 
 pub returns : goal.returns
-returns c = apart
+returns c = apart_law

@@ -1,0 +1,77 @@
+-- The form of a plan: what is read is spelled so, and what is spelled so is read. The laws of its spelling follow.
+use Rattle.std.proofs.Common.{◌≡◌, ℕ, ◌+◌, ◌^◌, ◌<◌, ◌≤◌, List, [], ◌∷◌, length, codes, decimal, refl, sym, ap, ◌∙◌, arith}
+use Rattle.std.specs.List.{list_all}
+use Rattle.crib_text.proofs.SpellingLemmas.{is_word, are_words, is_word-decimal}
+use Rattle.crib_text.proofs.Forms.{AreWordsForm, IsForm, AreRows, row_lines, header_form, line_form, many_form, then_form, then_given_form, form_as}
+use Rattle.crib_text.proofs.FormLaws.{texts_apart, lines_cut_short, text_cut_short}
+use Rattle.crib_plan.specs.declared.plan.Node.{Node}
+use Rattle.crib_plan.specs.declared.plan.Node.TheVariants.{Play, See}
+use Rattle.crib_plan.specs.Nodes.{most_nodes, IsNode, AreNodes, ArePlan}
+use Rattle.crib_plan.specs.Spelling.{node_line, node_lines, plan_lines, plan_text}
+use Rattle.crib_plan.specs.Reading.{count_in, count_at, node_from, nodes_at, plan_at}
+use Rattle.crib_plan.specs.Laws.{AreApart, LinesCutLaw, TextCutLaw}
+use Rattle.crib_plan.proofs.WordLemmas.{node_words}
+use Rattle.crib_plan.proofs.ReadIsSpelled.{node_found, count_found}
+use Rattle.crib_plan.proofs.SpelledIsRead.{node_spelled, count_spelled}
+
+-- what a node is to be at its place, in a plan of so many nodes
+abbrev IsRow : ℕ → ℕ → Node → Type 0
+IsRow count place node = (place < 2 ^ 32) × IsNode place count node
+
+some_words : (place : ℕ) (node : Node) → are_words (node_line place node) ≡ list_all is_word (node_line place node)
+some_words place (Play card next) = refl
+some_words place (See nexts) = refl
+
+node_form : (count : ℕ) → count ≤ most_nodes → (place : ℕ) → AreWordsForm (node_from place count) (node_line place) (IsRow count place)
+node_form count few place = record {
+  found = λ words node e. let line = node_found place count words node e in (line.0, (line.1, line.2));
+  spelled = λ node is. node_spelled place count node is.0 few is.1;
+  full = λ node is. sym (some_words place node) ∙ node_words place count node is.0 few is.1;
+}
+
+count_form : AreWordsForm count_in (λ count. codes "nodes" ∷ decimal count ∷ []) (λ count. count ≤ most_nodes)
+count_form = record {
+  found = count_found;
+  spelled = count_spelled;
+  full = λ count few. rw (is_word-decimal count (omega arith)) refl;
+}
+
+-- the first two lines
+pub count_at_form : IsForm count_at (λ count. (codes "plan" ∷ codes "1" ∷ []) ∷ (codes "nodes" ∷ decimal count ∷ []) ∷ [])
+    (λ count. Unit {0} × (count ≤ most_nodes))
+unfolding count_at
+count_at_form =
+    then_form _ (λ _. tt) (line_form (header_form (codes "plan") refl) (λ _. refl)) (λ header. line_form count_form (λ _. refl)) (λ header count is few. refl)
+
+nodes_of_rows : (place count : ℕ) (nodes : List Node) → AreRows (IsRow count) place nodes → AreNodes place count nodes
+nodes_of_rows place count [] are = tt
+nodes_of_rows place count (node ∷ nodes) are = (are.0.1, nodes_of_rows (place + 1) count nodes are.1)
+
+rows_of_nodes : (place count : ℕ) (nodes : List Node) → place + length nodes ≤ most_nodes → AreNodes place count nodes → AreRows (IsRow count) place nodes
+rows_of_nodes place count [] few are = tt
+rows_of_nodes place count (node ∷ nodes) few are = ((omega arith, are.0), rows_of_nodes (place + 1) count nodes (omega arith) are.1)
+
+same_lines : (place : ℕ) (nodes : List Node) → row_lines node_line place nodes ≡ node_lines place nodes
+same_lines place [] = refl
+same_lines place (node ∷ nodes) = ap (λ ls. node_line place node ∷ ls) (same_lines (place + 1) nodes)
+
+pub plan_form : IsForm plan_at plan_lines ArePlan
+unfolding plan_at nodes_at plan_lines
+plan_form =
+    form_as (
+    then_given_form _ (λ (plan : List Node). length plan) count_at_form (λ count few. many_form (node_form count few.1) some_words 0 count)
+    (λ count plan few are. are.0))
+    (λ plan are. (are.0.1, nodes_of_rows 0 (length plan) plan are.1.1))
+    (λ plan is. ((tt, is.0), (refl, rows_of_nodes 0 (length plan) plan (omega (arith, is.0)) is.1)))
+    (λ plan are. ap (λ ls. (codes "plan" ∷ codes "1" ∷ []) ∷ (codes "nodes" ∷ decimal (length plan) ∷ []) ∷ ls) (same_lines 0 plan))
+
+pub apart_law : AreApart
+unfolding plan_text
+apart_law = texts_apart plan_form
+
+pub lines_cut_law : LinesCutLaw
+lines_cut_law = lines_cut_short plan_form
+
+pub text_cut_law : TextCutLaw
+unfolding plan_text
+text_cut_law = text_cut_short plan_form

@@ -18,7 +18,8 @@ use Rattle.crib_problem.specs.declared.problem.Version.{Version}
 use Rattle.crib_problem.specs.declared.problem.Version.TheVariants.{One, Two}
 use Rattle.crib_problem.specs.Setup.{Setup, IsSetup, CanSay, opening_basis_of}
 use Rattle.crib_problem.specs.Played.{OpeningBasis, AreAllowed}
-use Rattle.crib_problem.specs.Spelling.{version_word, side_word, goal_words, act_line, played_lines, problem_lines, problem_text}
+use Rattle.crib_cards.specs.Words.{side_word}
+use Rattle.crib_problem.specs.Spelling.{version_word, goal_words, act_line, played_lines, problem_lines, problem_text}
 use Rattle.crib_problem.specs.Reading.{seven_lines_at, allowed_in, allowed_at, turns_at, played_at, problem_at, with_played}
 use Rattle.crib_problem.specs.Laws.{SpellingLaw, PrefixLaw, LinesLaw, ReadAgainLaw}
 use Rattle.crib_problem.specs.CutLaws.{LinesCutLaw, TextCutLaw}
@@ -26,7 +27,8 @@ use Rattle.crib_problem.proofs.CardLemmas.{all_parts, all-append}
 use Rattle.crib_problem.proofs.TurnLemmas.{AllMoves, acts_words, turns_found, turns_spelled}
 use Rattle.crib_problem.proofs.ActForms.{count_form}
 use Rattle.crib_problem.proofs.LinesReadAreSpelled.{AreNew, seven_distinct}
-use Rattle.crib_problem.proofs.SpelledIsRead.{version_form, dealer_form, scores_form, starter_form, cards_form, goal_form, says_goal, unplayed, apart, distinct_parts}
+use Rattle.crib_problem.proofs.SpelledIsRead.{version_form, dealer_form, scores_form, starter_form, cards_form, goal_form}
+use Rattle.crib_problem.proofs.SpelledIsRead.{says_goal, unplayed, apart, distinct_parts}
 
 -- the lines that each version has
 abbrev pub seven_lines : Setup → List (List (List ℕ))
@@ -56,7 +58,14 @@ seven_form =
     then_form _ (λ (p : Setup). p.thrown) (line_form (cards_form (codes "throw") 2 (starter ∷ hold) refl) (λ _. refl)) (λ thrown.
     then_form _ (λ (p : Setup). p.goal) (line_form (goal_form version scores.owner) (λ _. refl)) (λ goal.
     none_form (record {
-      version = version; dealer = dealer; scores = scores; starter = starter; hold = hold; thrown = thrown; goal = goal; played = []
+      version = version;
+      dealer = dealer;
+      scores = scores;
+      starter = starter;
+      hold = hold;
+      thrown = thrown;
+      goal = goal;
+      played = [];
     }))
     (λ goal p is are. ap (λ (q : Setup). q.goal) are))
     (λ thrown p is are. ap (λ (q : Setup). q.thrown) are.1))
@@ -66,40 +75,56 @@ seven_form =
     (λ dealer p is are. ap (λ (q : Setup). q.dealer) are.1.1.1.1.1))
     (λ version p is are. ap (λ (q : Setup). q.version) are.1.1.1.1.1.1))
     (λ p is.
-      let cards = is.1.1.1 in
-      let hold = cards.1.0.1 in
-      let thrown = cards.1.1.0.1 in
-      let goal = cards.1.1.1.0 in
-      subst IsUnplayed (sym cards.1.1.1.1) (record {
-        setup = record {
-          held = cards.1.0.0;
-          two_thrown = cards.1.1.0.0;
-          cards = (cards.0, all-append p.hold p.thrown hold.all_cards thrown.all_cards);
-          distinct = seven_distinct p.starter p.hold p.thrown hold thrown;
-          owner_score = is.1.1.0.0;
-          opponent_score = is.1.1.0.1;
-          goal_in_range = goal.0;
-          of_version = goal.1;
-          few = omega arith;
-          moves = tt;
-          allowed = tt;
-        };
-        none = refl;
-      }))
+    let cards = is.1.1.1 in
+    let hold = cards.1.0.1 in
+    let thrown = cards.1.1.0.1 in
+    let goal = cards.1.1.1.0 in
+    subst IsUnplayed (sym cards.1.1.1.1) (record {
+      setup = record {
+        held = cards.1.0.0;
+        two_thrown = cards.1.1.0.0;
+        cards = (cards.0, all-append p.hold p.thrown hold.all_cards thrown.all_cards);
+        distinct = seven_distinct p.starter p.hold p.thrown hold thrown;
+        owner_score = is.1.1.0.0;
+        opponent_score = is.1.1.0.1;
+        goal_in_range = goal.0;
+        of_version = goal.1;
+        few = omega arith;
+        moves = tt;
+        allowed = tt;
+      };
+      none = refl;
+    }))
     (λ p is.
-      let setup = is.setup in
-      let split = distinct_parts (p.starter ∷ p.hold) p.thrown setup.distinct in
-      let cards = all_parts (p.starter ∷ p.hold) p.thrown setup.cards in
-      let own = and_parts (not (has p.hold p.starter)) (are_distinct p.hold) split.0 in
-      let hold : AreNew (p.starter ∷ []) p.hold = record {
-        all_cards = cards.0.1;
-        distinct = own.1;
-        fresh = λ card h. rw (apart p.hold p.starter card (not-true (has p.hold p.starter) own.0) h) refl;
-      } in
-      let thrown : AreNew (p.starter ∷ p.hold) p.thrown = record { all_cards = cards.1; distinct = split.1; fresh = split.2 } in
-      let made : p ≡ unplayed p = ap (λ (acts : List Act). record p { played = acts }) is.none in
-      (tt, (tt, ((setup.owner_score, setup.opponent_score), (cards.0.0, ((setup.held, hold), ((setup.two_thrown, thrown),
-      ((setup.goal_in_range, says_goal p.version p.goal p.played setup.of_version), made))))))))
+    let setup = is.setup in
+    let split = distinct_parts (p.starter ∷ p.hold) p.thrown setup.distinct in
+    let cards = all_parts (p.starter ∷ p.hold) p.thrown setup.cards in
+    let own = and_parts (not (has p.hold p.starter)) (are_distinct p.hold) split.0 in
+    let hold : AreNew (p.starter ∷ []) p.hold = record {
+      all_cards = cards.0.1;
+      distinct = own.1;
+      fresh = λ card h. rw (apart p.hold p.starter card (not-true (has p.hold p.starter) own.0) h) refl;
+    } in
+    let thrown : AreNew (p.starter ∷ p.hold) p.thrown = record { all_cards = cards.1; distinct = split.1; fresh = split.2 } in
+    let made : p ≡ unplayed p = ap (λ (acts : List Act). record p { played = acts }) is.none in (
+      tt,
+      (
+        tt,
+        (
+          (setup.owner_score, setup.opponent_score),
+          (
+            cards.0.0,
+            (
+              (setup.held, hold),
+              (
+                (setup.two_thrown, thrown),
+                ((setup.goal_in_range, says_goal p.version p.goal p.played setup.of_version), made),
+              ),
+            ),
+          ),
+        ),
+      ),
+    ))
     (λ p is. refl)
 
 -- ---- the opening
@@ -151,9 +176,13 @@ turns_form seven =
       made = is.1.1 ∙ ap (λ (acts : List Act). record seven { played = acts }) (reverse-reverse p.played);
     })
     (λ p has.
-      let same = reverse-reverse p.played in
-      (has.few, ((ap length same, subst AllMoves (sym same) has.moves, has.allowed),
-      has.made ∙ ap (λ (acts : List Act). record seven { played = acts }) (sym same))))
+    let same = reverse-reverse p.played in (
+      has.few,
+      (
+        (ap length same, subst AllMoves (sym same) has.moves, has.allowed),
+        has.made ∙ ap (λ (acts : List Act). record seven { played = acts }) (sym same),
+      ),
+    ))
     (λ p has. rw (reverse-reverse p.played, append-nil (map act_line p.played)) refl)
 
 -- what a version has after the seven lines

@@ -6,7 +6,7 @@ use Rattle.std.proofs.lemmas.List.{append-nil, length-append, map-append}
 use Rattle.std.proofs.lemmas.List.Folds.{list_all-append}
 use Rattle.crib_text.specs.Refusals.{Refusal}
 use Rattle.crib_text.specs.Spelling.{line_bytes}
-use Rattle.crib_text.specs.Reading.{◌>>=◌, Rest, value_at, after_keyword, only_word, header_in}
+use Rattle.crib_text.specs.Reading.{◌>>=◌, Rest, value_at, after_keyword, header_in}
 use Rattle.crib_text.specs.Forms.{each_in, values_at}
 use Rattle.crib_text.proofs.SpellingLemmas.{is_word, are_words, is_word-decimal}
 use Rattle.crib_text.proofs.ReadingLemmas.{bind_ok, ok_is, unless_ok, value_found, front_line, after_found, only_found, number_found, header_found}
@@ -39,18 +39,6 @@ keyword_form {read = read} {words = words} keyword count is_keyword form = recor
       (after.0 ∙ ap (λ ws. keyword ∷ ws) rest.0, (sym (ap length rest.0) ∙ after.1, rest.1));
   spelled = λ value is. rw (after_spelled keyword count (words value) is.0) (form.spelled value is.1);
   full = λ value is. rw (is_keyword, form.full value is.1) refl;
-}
-
--- one word
-pub one_form : {A : Type 0} {read : List ℕ → Result A ℕ} {word : A → List ℕ} {is : A → Type 0} → IsWordForm read word is
-    → AreWordsForm (λ given. only_word given >>= read) (λ value. word value ∷ []) is
-one_form {read = read} {word = word} form = record {
-  found = λ given value e.
-      let a = bind_ok (only_word given) read value e in
-      let one = form.found a.0 value a.2 in
-      (only_found given a.0 a.1 ∙ ap (λ w. w ∷ []) one.0, one.1);
-  spelled = λ value is. rw (only_spelled (word value)) (form.spelled value is);
-  full = λ value is. rw (form.full value is) refl;
 }
 
 -- a word for each of some values
@@ -196,7 +184,7 @@ many_form {A = A} {read = read} {words = words} {is = is} each some place count 
         → ((length values ≡ count) × AreRows is place values) × (rest.lines ≡ map line_bytes (row_lines words place values) ++ after.lines)
     found place zero rest values after e =
         subst (λ (got : List A × Rest). ((length got.0 ≡ 0) × AreRows is place got.0) × (rest.lines ≡ map line_bytes (row_lines words place got.0) ++
-            got.1.lines))
+        got.1.lines))
         (ok_is ([], rest) (values, after) e) ((refl, tt), refl)
     found place (suc left) rest values after e =
         let a = bind_ok (value_at (read place) rest) _ (values, after) e in
@@ -204,7 +192,7 @@ many_form {A = A} {read = read} {words = words} {is = is} each some place count 
         let first = (form place).found rest a.0.0 a.0.1 a.1 in
         let others = found (place + 1) left a.0.1 b.0.0 b.0.1 b.1 in
         subst (λ (got : List A × Rest). ((length got.0 ≡ suc left) × AreRows is place got.0) × (rest.lines ≡ map line_bytes (row_lines words place got.0) ++
-            got.1.lines))
+        got.1.lines))
         (ok_is (a.0.0 ∷ b.0.0, b.0.1) (values, after) b.2)
         ((ap suc others.0.0, (first.0, others.0.1)), first.1 ∙ ap (λ ls. line_bytes (words place a.0.0) ∷ ls) others.1)
 
@@ -270,8 +258,8 @@ values_none read count rest = ap (λ k. values_at read 0 k rest) {x = count} {y 
     nothing_before (Ok values) = refl
     nothing_before (Err refused) = refl
 
-pub values_more : {A : Type 0} (read : ℕ → List (List ℕ) → Result A ℕ) (total : Result (List A × Rest) Refusal) (count i : ℕ) (front : List A) (rest after : Rest)
-    (value : A) → i < count → value_at (read i) rest ≡ Ok (value, after) → total ≡ with_front front (values_at read i (count - i) rest)
+pub values_more : {A : Type 0} (read : ℕ → List (List ℕ) → Result A ℕ) (total : Result (List A × Rest) Refusal) (count i : ℕ) (front : List A)
+    (rest after : Rest) (value : A) → i < count → value_at (read i) rest ≡ Ok (value, after) → total ≡ with_front front (values_at read i (count - i) rest)
     → total ≡ with_front (front ++ value ∷ []) (values_at read (i + 1) (count - (i + 1)) after)
 unfolding values_at
 values_more read total count i front rest after value inside e so_far =

@@ -13,7 +13,8 @@ each_in read (word ∷ words) = do
 
 -- so many values, one from each line, from a place on, and the lines after them. How a line is read may depend on its
 -- place
-unfoldable pub values_at : {A : Type 0} → (ℕ → List (List ℕ) → Result A ℕ) → ℕ → ℕ → Rest → Result (List A × Rest) Refusal
+unfoldable pub values_at
+    : {A : Type 0} → (ℕ → List (List ℕ) → Result A ℕ) → ℕ → ℕ → Rest → Result (List A × Rest) Refusal
 values_at read place zero rest = Ok ([], rest)
 values_at read place (suc left) rest = do
   value ← value_at (read place) rest

@@ -1,6 +1,6 @@
 //! Runs while memory is refused, one growth after another.
 use crate::run::run;
-use crate::tests::inputs::{FALLS_SHORT, LAST_CARD, LAST_CARD_ANSWER, ONE_HOLE_SHORT, text_of};
+use crate::tests::inputs::{FALLS_SHORT, LAST_CARD, LAST_CARD_ANSWER, ONE_HOLE_SHORT};
 use crib_answer::{Job, Status};
 use crib_text::Counted;
 use failing_devices::{Feed, Tray, Trouble};
@@ -19,18 +19,17 @@ struct Refusals {
 fn refuse_each(
     rt: &(impl Abort + AllocGlobal),
     job: Job,
-    lines: &[&str],
+    input: &str,
     wanted: &str,
     status: Status,
 ) -> Refusals {
-    let input = text_of(rt.alloc(), lines).expect(rt, "memory");
     let mut refusals = Refusals {
         told: 0,
         passed_over: 0,
     };
     for served in 0..1000 {
         let heap = Refusing::after(rt.alloc(), served);
-        let mut source = Counted::new(Feed::new(input.as_slice(), 4096, Trouble::Never));
+        let mut source = Counted::new(Feed::new(input.as_bytes(), 4096, Trouble::Never));
         let mut sink = Counted::new(Tray::new(rt.alloc(), 4096, Trouble::Never));
         let ended = run(&heap, job, &mut source, &mut sink);
         let text = sink.into_inner().into_bytes();
@@ -57,7 +56,7 @@ fn refuse_each(
 // `replay` asks once, for the input.
 #[test]
 fn of_replay(rt: HostRuntime) {
-    let replayed = refuse_each(&rt, Job::Replay, &LAST_CARD, LAST_CARD_ANSWER, Status::Yes);
+    let replayed = refuse_each(&rt, Job::Replay, LAST_CARD, LAST_CARD_ANSWER, Status::Yes);
     let wanted = Refusals {
         told: 1,
         passed_over: 0,
@@ -69,7 +68,7 @@ fn of_replay(rt: HostRuntime) {
 // positions keeps nothing.
 #[test]
 fn of_check_that_fails(rt: HostRuntime) {
-    let checked = refuse_each(&rt, Job::Check, &ONE_HOLE_SHORT, FALLS_SHORT, Status::No);
+    let checked = refuse_each(&rt, Job::Check, ONE_HOLE_SHORT, FALLS_SHORT, Status::No);
     let wanted = Refusals {
         told: 3,
         passed_over: 0,

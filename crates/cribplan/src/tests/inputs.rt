@@ -4,53 +4,22 @@ use crib_answer::{Job, Status};
 use crib_text::Counted;
 use failing_devices::{Tray, Trouble};
 use std::alloc::Global;
-use std::io;
 use std::io::Read;
 
-// The opponent says go at 29, the owner makes 31, two gos close the count at 28, and the opponent plays the last card.
-pub const LAST_CARD: [&str; 21] = [
-    "problem 1",
-    "dealer opponent",
-    "score 0 0",
-    "starter 3H",
-    "hold TC 9C 2C 8C",
-    "throw 4S 6S",
-    "goal win",
-    "game 1",
-    "hold TD KD KH QS",
-    "throw 5H 7D",
-    "acts 10",
-    "own TC",
-    "opp TD",
-    "own 9C",
-    "opp go",
-    "own 2C",
-    "opp KD",
-    "own 8C",
-    "opp KH",
-    "opp go",
-    "opp QS",
-];
+/// The opponent says go at 29, the owner makes 31, two gos close the count at 28, and the opponent plays the last card.
+pub const LAST_CARD: &str =
+    "problem 1\ndealer opponent\nscore 0 0\nstarter 3H\nhold TC 9C 2C 8C\nthrow 4S 6S\n\
+    goal win\ngame 1\nhold TD KD KH QS\nthrow 5H 7D\nacts 10\n\
+    own TC\nopp TD\nown 9C\nopp go\nown 2C\nopp KD\nown 8C\nopp KH\nopp go\nopp QS\n";
 
+/// The answer of `replay` to `LAST_CARD`.
 pub const LAST_CARD_ANSWER: &str =
     "play 2 4\nhand owner 9 11 4\nhand opponent 2 11 6\ncrib opponent 9 11 15\nshort\n";
 
 /// The owner holds four twos and wants thirteen holes. The plan plays the twos one after another. It fails.
-pub const ONE_HOLE_SHORT: [&str; 13] = [
-    "problem 1",
-    "dealer opponent",
-    "score 0 0",
-    "starter KD",
-    "hold 2C 2D 2H 2S",
-    "throw 4C 6D",
-    "goal holes 13",
-    "plan 1",
-    "nodes 4",
-    "0 play 2C 1",
-    "1 play 2D 2",
-    "2 play 2H 3",
-    "3 play 2S end",
-];
+pub const ONE_HOLE_SHORT: &str =
+    "problem 1\ndealer opponent\nscore 0 0\nstarter KD\nhold 2C 2D 2H 2S\nthrow 4C 6D\n\
+    goal holes 13\nplan 1\nnodes 4\n0 play 2C 1\n1 play 2D 2\n2 play 2H 3\n3 play 2S end\n";
 
 /// The answer of `check` to `ONE_HOLE_SHORT`.
 pub const FALLS_SHORT: &str = "fails short\ngame 1\nhold AC AD AH AS\nthrow 3C 3D\nacts 8\n\
@@ -65,14 +34,4 @@ pub fn outcome<R: Read + Drop>(
     let mut sink = Counted::new(Tray::new(alloc, 4096, Trouble::Never));
     let status = run(alloc, job, &mut source, &mut sink);
     (sink.into_inner().into_bytes(), status)
-}
-
-/// The text of some lines, each with its LF.
-pub fn text_of(alloc: Global, lines: &[&str]) -> io::Result<Vec<u8>> {
-    let mut text = Vec::new(alloc);
-    for line in lines {
-        text.extend_from_slice(line.as_bytes())?;
-        text.push(b'\n')?;
-    }
-    Ok(text)
 }

@@ -18,6 +18,13 @@ of-requires c =
       goal = c.in_ok-goal.goal;
       played = [];
     } in
-    let read : seven_lines_at (rest_of c.args.lines.now) ≡ Ok (p, rest_of c.read_goal.new.lines) = rw (c.in_ok-version.ensures, c.in_ok-dealer.ensures,
-    c.in_ok-scores.ensures.scores, c.in_ok-starter.ensures, c.in_ok-hold.ensures, c.in_ok-thrown.ensures, c.in_ok-goal.ensures) refl in
+    let read : seven_lines_at (rest_of c.args.lines.now) ≡ Ok (p, rest_of c.read_goal.new.lines) = rw (
+      c.in_ok-version.ensures,
+      c.in_ok-dealer.ensures,
+      c.in_ok-scores.ensures.scores,
+      c.in_ok-starter.ensures,
+      c.in_ok-hold.ensures,
+      c.in_ok-thrown.ensures,
+      c.in_ok-goal.ensures,
+    ) refl in
     (seven_form.found _ _ _ read).0.setup

@@ -155,7 +155,7 @@ class Declared:
         for line in body:
             field = re.fullmatch(r"(?:pub(?:\(\w+\))? )?(\w+): (.*),", line)
             if field:
-                value, its = self.type_in_antt(crate, field[2])
+                value, its = (over, set()) if field[2] == over else self.type_in_antt(crate, field[2])
                 fields.append(f"  pub {field[1]} : {value}")
                 uses |= its
         head = f"pub record {name}{f' ({over} : Type 0)' * bool(over)} : Type 0 where"

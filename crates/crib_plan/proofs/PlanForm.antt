@@ -2,17 +2,18 @@
 use Rattle.std.proofs.Common.{◌≡◌, ℕ, ◌+◌, ◌^◌, ◌<◌, ◌≤◌, List, [], ◌∷◌, length, codes, decimal, refl, sym, ap, ◌∙◌, arith}
 use Rattle.std.specs.List.{list_all}
 use Rattle.crib_text.proofs.SpellingLemmas.{is_word, are_words, is_word-decimal}
-use Rattle.crib_text.proofs.Forms.{AreWordsForm, IsForm, AreRows, row_lines, header_form, line_form, many_form, then_form, then_given_form, form_as}
+use Rattle.crib_text.proofs.Forms.{AreWordsForm, IsForm, AreRows, row_lines, most_form, named_form, header_form, line_form, many_form, then_form, then_given_form, form_as}
 use Rattle.crib_text.proofs.FormLaws.{texts_apart, lines_cut_short, text_cut_short}
 use Rattle.crib_plan.specs.declared.plan.Node.{Node}
 use Rattle.crib_plan.specs.declared.plan.Node.TheVariants.{Play, See}
 use Rattle.crib_plan.specs.Nodes.{most_nodes, IsNode, AreNodes, ArePlan}
+use Rattle.crib_plan.specs.Refusals.{too_many}
 use Rattle.crib_plan.specs.Spelling.{node_line, node_lines, plan_lines, plan_text}
 use Rattle.crib_plan.specs.Reading.{count_in, count_at, node_from, nodes_at, plan_at}
 use Rattle.crib_plan.specs.Laws.{AreApart, LinesCutLaw, TextCutLaw}
 use Rattle.crib_plan.proofs.WordLemmas.{node_words}
-use Rattle.crib_plan.proofs.ReadIsSpelled.{node_found, count_found}
-use Rattle.crib_plan.proofs.SpelledIsRead.{node_spelled, count_spelled}
+use Rattle.crib_plan.proofs.ReadIsSpelled.{node_found}
+use Rattle.crib_plan.proofs.SpelledIsRead.{node_spelled}
 
 -- what a node is to be at its place, in a plan of so many nodes
 abbrev IsRow : ℕ → ℕ → Node → Type 0
@@ -30,11 +31,8 @@ node_form count few place = record {
 }
 
 count_form : AreWordsForm count_in (λ count. codes "nodes" ∷ decimal count ∷ []) (λ count. count ≤ most_nodes)
-count_form = record {
-  found = count_found;
-  spelled = count_spelled;
-  full = λ count few. rw (is_word-decimal count (omega arith)) refl;
-}
+unfolding count_in
+count_form = named_form (codes "nodes") refl (most_form too_many most_nodes (omega arith))
 
 -- the first two lines
 pub count_at_form : IsForm count_at (λ count. (codes "plan" ∷ codes "1" ∷ []) ∷ (codes "nodes" ∷ decimal count ∷ []) ∷ [])

@@ -1,4 +1,4 @@
--- If a line is read as a node or as the number of nodes, it is the spelling of that.
+-- If a line is read as a node, it is the spelling of that node.
 use Rattle.std.proofs.Common.{◌≡◌, ℕ, ◌^◌, ◌<◌, ◌≤◌, eqb, List, [], ◌∷◌, Ok, Err, codes, decimal, refl, sym, ap, subst, ◌∙◌, arith}
 use Rattle.std.proofs.Common.{inl, inr}
 use Rattle.std.specs.Prelude.{nat_le, bytes_eq}
@@ -88,17 +88,3 @@ node_found place count (own ∷ kind ∷ words) node e =
             | inr neither ↦ (let h : node_from place count (own ∷ kind ∷ words) ≡ Err bad_line = rw (other, neither) refl in absurd cc)
           ]
     ]
-
-pub count_found : (words : List (List ℕ)) (count : ℕ) → count_in words ≡ Ok count → (words ≡ codes "nodes" ∷ decimal count ∷ []) × (count ≤ most_nodes)
-unfolding count_in
-count_found words count e =
-    let a = bind_ok (after_keyword (codes "nodes") 1 words) _ count e in
-    let b = bind_ok (only_word a.0) _ count a.2 in
-    let d = bind_ok (number_in b.0) _ count b.2 in
-    let f = bind_ok (unless_refused too_many (nat_le d.0 most_nodes)) _ count d.2 in
-    let is : d.0 ≡ count = ok_is d.0 count f.2 in
-    let small : d.0 ≤ most_nodes = leb-true _ _ (unless_ok _ too_many f.0 f.1) in (
-      (after_found (codes "nodes") 1 words a.0 a.1).0 ∙ ap (λ (w : List (List ℕ)). codes "nodes" ∷ w) (only_found a.0 b.0 b.1)
-          ∙ ap (λ (w : List ℕ). codes "nodes" ∷ w ∷ []) ((number_found b.0 d.0 d.1).0 ∙ ap decimal is),
-      omega arith,
-    )

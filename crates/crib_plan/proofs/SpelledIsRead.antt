@@ -1,4 +1,4 @@
--- The line of a node is read as this node, and the line of their number as this number.
+-- The line of a node is read as this node.
 use Rattle.std.proofs.Common.{◌≡◌, ℕ, ◌^◌, ◌<◌, ◌≤◌, [], ◌∷◌, Ok, codes, decimal, refl, arith}
 use Rattle.std.proofs.lemmas.Bool.{le-leb, eq-eqb}
 use Rattle.crib_cards.proofs.CardReadLemmas.{card_read-card_text}
@@ -21,7 +21,3 @@ unfolding node_from play_in see_in
 node_spelled place count (Play card next) small few is =
     rw (own_spelled place small, card_read-card_text card is.0, next_spelled place count next few is.1) refl
 node_spelled place count (See nexts) small few is = rw (own_spelled place small, (line_spelled place count nexts few is.0 is.1).1) refl
-
-pub count_spelled : (count : ℕ) → count ≤ 65535 → count_in (codes "nodes" ∷ decimal count ∷ []) ≡ Ok count
-unfolding count_in after_keyword only_word
-count_spelled count few = rw (number_spelled count (omega arith), le-leb count most_nodes few) refl

@@ -1,14 +1,15 @@
 -- The forms of a card, of an act, and of the line that says how many acts follow.
-use Rattle.std.proofs.Common.{◌≡◌, ℕ, ◌≤◌, true, List, [], ◌∷◌, decimal}
+use Rattle.std.proofs.Common.{◌≡◌, ℕ, ◌≤◌, true, List, [], ◌∷◌, decimal, arith}
 use Rattle.crib_cards.specs.Cards.{IsCard}
 use Rattle.crib_cards.specs.CardText.{card_text}
 use Rattle.crib_cards.proofs.CardReadLemmas.{card_text-word}
 use Rattle.crib_text.proofs.SpellingLemmas.{is_word}
-use Rattle.crib_text.proofs.Forms.{IsWordForm, AreWordsForm}
+use Rattle.crib_text.specs.Refusals.{bad_number}
+use Rattle.crib_text.proofs.Forms.{IsWordForm, AreWordsForm, most_form, named_form}
 use Rattle.crib_problem.specs.Setup.{IsMove}
 use Rattle.crib_problem.specs.Spelling.{act_line}
 use Rattle.crib_problem.specs.Reading.{card_in, acts_count_in, act_in, most_acts}
-use Rattle.crib_problem.proofs.TurnLemmas.{card_found, card_spelled, act_found, act_spelled, act_words, acts_count_found, acts_count_spelled, acts_count_words}
+use Rattle.crib_problem.proofs.TurnLemmas.{card_found, card_spelled, act_found, act_spelled, act_words}
 
 pub card_form : IsWordForm card_in card_text IsCard
 card_form = record { found = card_found; spelled = card_spelled; full = card_text-word }
@@ -18,8 +19,5 @@ act_form = record { found = act_found; spelled = act_spelled; full = act_words }
 
 pub count_form : (keyword : List ℕ) → is_word keyword ≡ true →
     AreWordsForm (acts_count_in keyword) (λ count. keyword ∷ decimal count ∷ []) (λ count. count ≤ most_acts)
-count_form keyword is = record {
-  found = acts_count_found keyword;
-  spelled = acts_count_spelled keyword;
-  full = λ count few. acts_count_words keyword count is few;
-}
+unfolding acts_count_in
+count_form keyword is = named_form keyword is (most_form bad_number most_acts (omega arith))

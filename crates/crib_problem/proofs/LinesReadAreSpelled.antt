@@ -17,6 +17,7 @@ use Rattle.crib_text.specs.Reading.{Rest, value_at, unless_refused, after_keywor
 use Rattle.crib_text.proofs.ReadingLemmas.{bind_ok, if_ok, unless_ok, ok_is, value_found, after_found, only_found, number_found}
 use Rattle.crib_cards.proofs.CardReadLemmas.{card_read_is}
 use Rattle.crib_cards.proofs.SetFacts.{has-append}
+use Rattle.crib_text.proofs.Forms.{IsWordForm, most_form}
 use Rattle.crib_problem.specs.declared.problem.Goal.{Goal}
 use Rattle.crib_problem.specs.declared.problem.Goal.TheVariants.{Win, Holes, Stop}
 use Rattle.crib_problem.specs.declared.problem.Version.{Version}
@@ -30,7 +31,7 @@ use Rattle.crib_problem.specs.Reading.{cards_in_line, starter_in, holes_in, stop
 use Rattle.crib_problem.proofs.CardLemmas.{card_in_is, all-append}
 use Rattle.crib_problem.proofs.TurnLemmas.{side_called_is}
 
-version_found : (n : ℕ) (version : Version) → version_of_number n ≡ Ok version → decimal n ≡ version_word version
+pub version_found : (n : ℕ) (version : Version) → version_of_number n ≡ Ok version → decimal n ≡ version_word version
 unfolding version_of_number
 version_found n version e =
     elim (cases_Bool (eqb n 1)) [
@@ -43,35 +44,9 @@ version_found n version e =
           ap decimal (eqb-true n 2 g.0) ∙ ap version_word g.1
     ]
 
-pub version_line_found : (words : List (List ℕ)) (version : Version) → version_in words ≡ Ok version → words ≡ codes "problem" ∷ version_word version ∷ []
-unfolding version_in
-version_line_found words version e =
-    let a = bind_ok (after_keyword (codes "problem") 1 words) _ version e in
-    let b = bind_ok (only_word a.0) _ version a.2 in
-    let c = bind_ok (number_in b.0) _ version b.2 in
-    (after_found (codes "problem") 1 words a.0 a.1).0 ∙ ap (λ (w : List (List ℕ)). codes "problem" ∷ w) (only_found a.0 b.0 b.1)
-    ∙ ap (λ (w : List ℕ). codes "problem" ∷ w ∷ []) ((number_found b.0 c.0 c.1).0 ∙ version_found c.0 version c.2)
-
-side_found : (word : List ℕ) (side : Side) → side_in word ≡ Ok side → word ≡ side_word side
-unfolding side_in
-side_found word side e = side_called_is side_word word side e
-
-pub dealer_found : (words : List (List ℕ)) (side : Side) → dealer_in words ≡ Ok side → words ≡ codes "dealer" ∷ side_word side ∷ []
-unfolding dealer_in
-dealer_found words side e =
-    let a = bind_ok (after_keyword (codes "dealer") 1 words) _ side e in
-    let b = bind_ok (only_word a.0) _ side a.2 in
-    (after_found (codes "dealer") 1 words a.0 a.1).0 ∙ ap (λ (w : List (List ℕ)). codes "dealer" ∷ w) (only_found a.0 b.0 b.1)
-    ∙ ap (λ (w : List ℕ). codes "dealer" ∷ w ∷ []) (side_found b.0 side b.2)
-
-score_found : (word : List ℕ) (score : ℕ) → score_in word ≡ Ok score → (word ≡ decimal score) × (score ≤ 120)
+pub score_form : IsWordForm score_in decimal (λ score. score ≤ 120)
 unfolding score_in
-score_found word score e =
-    let a = bind_ok (number_in word) _ score e in
-    let b = bind_ok (unless_refused bad_score (nat_le a.0 120)) _ score a.2 in
-    let is : a.0 ≡ score = ok_is a.0 score b.2 in
-    let small : a.0 ≤ 120 = leb-true _ _ (unless_ok _ bad_score b.0 b.1) in
-    ((number_found word a.0 a.1).0 ∙ ap decimal is, omega arith)
+score_form = most_form bad_score 120 (omega arith)
 
 abbrev HasScores : List (List ℕ) → Scores → Type 0
 HasScores words scores = (words ≡ decimal scores.owner ∷ decimal scores.opponent ∷ []) × (scores.owner ≤ 120) × (scores.opponent ≤ 120)
@@ -84,8 +59,8 @@ both_found (first ∷ second ∷ []) scores e =
     let a = bind_ok (score_in first) _ scores e in
     let b = bind_ok (score_in second) _ scores a.2 in
     let made : Scores = record { owner = a.0; opponent = b.0 } in
-    let f = score_found first a.0 a.1 in
-    let s = score_found second b.0 b.1 in
+    let f = score_form.found first a.0 a.1 in
+    let s = score_form.found second b.0 b.1 in
     subst (λ (v : Scores). HasScores (first ∷ second ∷ []) v) (ok_is made scores b.2) (
       ap (λ (w : List ℕ). w ∷ second ∷ []) f.0
           ∙ ap (λ (w : List ℕ). decimal a.0 ∷ w ∷ []) s.0,
@@ -102,7 +77,7 @@ scores_found words scores e =
     let b = both_found a.0 scores a.2 in
     ((after_found (codes "score") 2 words a.0 a.1).0 ∙ ap (λ (w : List (List ℕ)). codes "score" ∷ w) b.0, b.1, b.2)
 
-card_found : (known word : List ℕ) (card : ℕ) → new_card known word ≡ Ok card → (word ≡ card_text card) × IsCard card × (has known card ≡ false)
+pub card_found : (known word : List ℕ) (card : ℕ) → new_card known word ≡ Ok card → (word ≡ card_text card) × IsCard card × (has known card ≡ false)
 unfolding new_card
 card_found known word card e =
     let a = bind_ok (card_in word) _ card e in
@@ -117,18 +92,7 @@ pub record AreNew (known cards : List ℕ) : Type 0 where
   pub distinct : are_distinct cards ≡ true
   pub fresh : (card : ℕ) → has cards card ≡ true → has known card ≡ false
 
-pub starter_found : (words : List (List ℕ)) (card : ℕ) → starter_in words ≡ Ok card → (words ≡ codes "starter" ∷ card_text card ∷ []) × IsCard card
-unfolding starter_in
-starter_found words card e =
-    let a = bind_ok (after_keyword (codes "starter") 1 words) _ card e in
-    let b = bind_ok (only_word a.0) _ card a.2 in
-    let c = card_found [] b.0 card b.2 in (
-      (after_found (codes "starter") 1 words a.0 a.1).0 ∙ ap (λ (w : List (List ℕ)). codes "starter" ∷ w) (only_found a.0 b.0 b.1)
-          ∙ ap (λ (w : List ℕ). codes "starter" ∷ w ∷ []) c.0,
-      c.1,
-    )
-
-cards_found : (known : List ℕ) (words : List (List ℕ)) (cards : List ℕ) → new_cards known words ≡ Ok cards → (words ≡ map card_text cards) × AreNew known cards
+pub cards_found : (known : List ℕ) (words : List (List ℕ)) (cards : List ℕ) → new_cards known words ≡ Ok cards → (words ≡ map card_text cards) × AreNew known cards
 unfolding new_cards
 cards_found known [] cards e =
     subst (λ (cs : List ℕ). ([] ≡ map card_text cs) × AreNew known cs) (ok_is [] cards e)
@@ -160,16 +124,6 @@ cards_found known (word ∷ words) cards e =
         fresh = fresh;
       },
     )
-
-pub cards_line_found : (keyword : List ℕ) (count : ℕ) (known : List ℕ) (words : List (List ℕ)) (cards : List ℕ)
-    → cards_in_line keyword count known words ≡ Ok cards
-    → (words ≡ keyword ∷ map card_text cards) × AreNew known cards × (length cards ≡ count)
-unfolding cards_in_line
-cards_line_found keyword count known words cards e =
-    let a = bind_ok (after_keyword keyword count words) _ cards e in
-    let after = after_found keyword count words a.0 a.1 in
-    let b = cards_found known a.0 cards a.2 in
-    (after.0 ∙ ap (λ (w : List (List ℕ)). keyword ∷ w) b.0, b.1, sym (length-map cards card_text) ∙ ap length (sym b.0) ∙ after.1)
 
 abbrev HasGoal : Version → ℕ → List (List ℕ) → Goal → Type 0
 HasGoal version score words goal = (words ≡ goal_words goal) × IsGoal score goal × CanSay version goal []

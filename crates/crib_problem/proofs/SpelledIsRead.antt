@@ -15,7 +15,8 @@ use Rattle.crib_cards.proofs.SetFacts.{has-append}
 use Rattle.crib_text.specs.Spelling.{line_bytes}
 use Rattle.crib_text.specs.Reading.{Rest}
 use Rattle.crib_text.proofs.SpellingLemmas.{is_word, are_words, is_word-decimal}
-use Rattle.crib_text.proofs.ReadingLemmas.{value_spelled, after_spelled, only_spelled, number_spelled}
+use Rattle.crib_text.specs.Reading.{◌>>=◌, number_in}
+use Rattle.crib_text.proofs.ReadingLemmas.{bind_ok, after_spelled, only_spelled, number_spelled, number_found}
 use Rattle.crib_problem.specs.declared.problem.Goal.{Goal}
 use Rattle.crib_problem.specs.declared.problem.Goal.TheVariants.{Win, Holes, Stop}
 use Rattle.crib_problem.specs.declared.problem.Version.{Version}
@@ -30,8 +31,9 @@ use Rattle.crib_problem.specs.Reading.{starter_in, holes_in, stop_goal, plain_go
 use Rattle.crib_problem.specs.Reading.{played_at}
 use Rattle.crib_problem.specs.Reading.{problem_at}
 use Rattle.crib_problem.proofs.CardLemmas.{card_in-some, all_parts}
-use Rattle.crib_text.proofs.Forms.{AreWordsForm}
-use Rattle.crib_problem.proofs.LinesReadAreSpelled.{AreNew, version_line_found, dealer_found, scores_found, starter_found, cards_line_found, goal_found}
+use Rattle.crib_text.proofs.Forms.{IsWordForm, AreWordsForm, words_as, keyword_form, named_form}
+use Rattle.crib_problem.proofs.LinesReadAreSpelled.{AreNew, version_found, score_form, scores_found, card_found, cards_found, goal_found}
+use Rattle.crib_problem.proofs.TurnLemmas.{side_called_is}
 
 -- ---- the words of each line
 
@@ -58,30 +60,10 @@ unfolding version_of_number
 version_number_spelled One = refl
 version_number_spelled Two = refl
 
-version_spelled : (version : Version) → version_in (codes "problem" ∷ version_word version ∷ []) ≡ Ok version
-unfolding version_in
-version_spelled version =
-    let small = version_small version in
-    rw (
-      after_spelled (codes "problem") 1 (version_word version ∷ []) refl,
-      only_spelled (version_word version),
-      number_spelled (version_number version)
-          (omega (arith, small)),
-    ) (version_number_spelled version)
-
 side_spelled : (side : Side) → side_in (side_word side) ≡ Ok side
 unfolding side_in
 side_spelled Owner = refl
 side_spelled Opponent = refl
-
-dealer_spelled : (side : Side) → dealer_in (codes "dealer" ∷ side_word side ∷ []) ≡ Ok side
-unfolding dealer_in
-dealer_spelled side =
-    rw (after_spelled (codes "dealer") 1 (side_word side ∷ []) refl, only_spelled (side_word side)) (side_spelled side)
-
-score_spelled : (score : ℕ) → score ≤ 120 → score_in (decimal score) ≡ Ok score
-unfolding score_in
-score_spelled score small = rw (number_spelled score (omega arith), le-leb score 120 small) refl
 
 scores_spelled : (scores : Scores) → scores.owner ≤ 120 → scores.opponent ≤ 120 →
     scores_in (codes "score" ∷ decimal scores.owner ∷ decimal scores.opponent ∷ []) ≡ Ok scores
@@ -89,18 +71,13 @@ unfolding scores_in both_scores
 scores_spelled scores a b =
     rw (
       after_spelled (codes "score") 2 (decimal scores.owner ∷ decimal scores.opponent ∷ []) refl,
-      score_spelled scores.owner a,
-      score_spelled scores.opponent b,
+      score_form.spelled scores.owner a,
+      score_form.spelled scores.opponent b,
     ) refl
 
 new_card_spelled : (known : List ℕ) (card : ℕ) → IsCard card → has known card ≡ false → new_card known (card_text card) ≡ Ok card
 unfolding new_card
 new_card_spelled known card is fresh = rw (card_in-some (card_text card) card (card_read-card_text card is), fresh) refl
-
-starter_spelled : (card : ℕ) → IsCard card → starter_in (codes "starter" ∷ card_text card ∷ []) ≡ Ok card
-unfolding starter_in
-starter_spelled card is =
-    rw (after_spelled (codes "starter") 1 (card_text card ∷ []) refl, only_spelled (card_text card)) (new_card_spelled [] card is refl)
 
 -- ---- new cards
 
@@ -137,12 +114,6 @@ new_cards_spelled known (card ∷ cards) new =
     } in
     rw (new_card_spelled known card new.all_cards.0 (new.fresh card (has_itself cards card)), new_cards_spelled (card ∷ known) cards rest) refl
 
-cards_spelled : (keyword : List ℕ) (count : ℕ) (known cards : List ℕ) → length cards ≡ count → AreNew known cards →
-    cards_in_line keyword count known (keyword ∷ map card_text cards) ≡ Ok cards
-unfolding cards_in_line
-cards_spelled keyword count known cards long new =
-    rw (after_spelled keyword count (map card_text cards) (length-map cards card_text ∙ long)) (new_cards_spelled known cards new)
-
 -- ---- the goal
 
 holes_spelled : (score holes : ℕ) → IsGoal score (Holes holes) → holes_in score (decimal holes) ≡ Ok (Holes holes)
@@ -174,19 +145,30 @@ unplayed p = record p { played = [] }
 
 -- ---- forms
 
+version_word_form : IsWordForm (λ word. number_in word >>= version_of_number) version_word (λ version. Unit {0})
+version_word_form = record {
+  found = λ given version e.
+      let a = bind_ok (number_in given) _ version e in
+      ((number_found given a.0 a.1).0 ∙ version_found a.0 version a.2, tt);
+  spelled = λ version is. rw (number_spelled (version_number version) (omega (arith, version_small version))) (version_number_spelled version);
+  full = λ version is. number_word (version_number version) (version_small version);
+}
+
 pub version_form : AreWordsForm version_in (λ version. codes "problem" ∷ version_word version ∷ []) (λ version. Unit {0})
-version_form = record {
-  found = λ given version e. (version_line_found given version e, tt);
-  spelled = λ version is. version_spelled version;
-  full = λ version is. rw (number_word (version_number version) (version_small version)) refl;
+unfolding version_in
+version_form = named_form (codes "problem") refl version_word_form
+
+side_form : IsWordForm side_in side_word (λ side. Unit {0})
+unfolding side_in
+side_form = record {
+  found = λ given side e. (side_called_is side_word given side e, tt);
+  spelled = λ side is. side_spelled side;
+  full = λ side is. side_word-word side;
 }
 
 pub dealer_form : AreWordsForm dealer_in (λ side. codes "dealer" ∷ side_word side ∷ []) (λ side. Unit {0})
-dealer_form = record {
-  found = λ given side e. (dealer_found given side e, tt);
-  spelled = λ side is. dealer_spelled side;
-  full = λ side is. rw (side_word-word side) refl;
-}
+unfolding dealer_in
+dealer_form = named_form (codes "dealer") refl side_form
 
 pub scores_form : AreWordsForm scores_in (λ scores. codes "score" ∷ decimal scores.owner ∷ decimal scores.opponent ∷ [])
     (λ scores. (scores.owner ≤ 120) × (scores.opponent ≤ 120))
@@ -196,16 +178,30 @@ scores_form = record {
   full = λ scores is. rw (number_word scores.owner (omega (arith, is.0)), number_word scores.opponent (omega (arith, is.1))) refl;
 }
 
+first_card_form : IsWordForm (new_card []) card_text IsCard
+first_card_form = record {
+  found = λ given card e. let is = card_found [] given card e in (is.0, is.1);
+  spelled = λ card is. new_card_spelled [] card is refl;
+  full = card_text-word;
+}
+
 pub starter_form : AreWordsForm starter_in (λ card. codes "starter" ∷ card_text card ∷ []) IsCard
-starter_form = record { found = starter_found; spelled = starter_spelled; full = λ card is. rw (card_text-word card is) refl }
+unfolding starter_in
+starter_form = named_form (codes "starter") refl first_card_form
+
+new_cards_form : (known : List ℕ) → AreWordsForm (new_cards known) (map card_text) (AreNew known)
+new_cards_form known = record {
+  found = cards_found known;
+  spelled = new_cards_spelled known;
+  full = λ cards new. card_texts-words cards new.all_cards;
+}
 
 pub cards_form : (keyword : List ℕ) (count : ℕ) (known : List ℕ) → is_word keyword ≡ true →
     AreWordsForm (cards_in_line keyword count known) (λ cards. keyword ∷ map card_text cards) (λ cards. (length cards ≡ count) × AreNew known cards)
-cards_form keyword count known is_keyword = record {
-  found = λ given cards e. let is = cards_line_found keyword count known given cards e in (is.0, (is.2, is.1));
-  spelled = λ cards is. cards_spelled keyword count known cards is.0 is.1;
-  full = λ cards is. rw (is_keyword, card_texts-words cards is.1.all_cards) refl;
-}
+unfolding cards_in_line
+cards_form keyword count known is_keyword =
+    words_as (keyword_form keyword count is_keyword (new_cards_form known))
+    (λ cards is. (sym (length-map cards card_text) ∙ is.0, is.1)) (λ cards is. (length-map cards card_text ∙ is.0, is.1))
 
 pub goal_form : (version : Version) (score : ℕ) → AreWordsForm (goal_in version score) (λ goal. codes "goal" ∷ goal_words goal)
     (λ goal. IsGoal score goal × CanSay version goal [])

@@ -1,12 +1,14 @@
 -- Forms: a reader, and how the values that it reads are spelled. Where forms are put together, what holds of each holds of the whole.
 use Rattle.std.proofs.Common.{◌≡◌, ℕ, zero, suc, ◌+◌, ◌-◌, ◌<◌, ◌≤◌, true, List, [], ◌∷◌, ◌++◌, length, map, Result, Ok, Err, codes, refl, sym, ap, subst, ◌∙◌}
-use Rattle.std.proofs.Common.{append_assoc, arith}
+use Rattle.std.proofs.Common.{◌^◌, decimal, append_assoc, arith}
+use Rattle.std.specs.Prelude.{nat_le}
+use Rattle.std.proofs.lemmas.Bool.{leb-true, le-leb}
 use Rattle.std.specs.List.{AllByRecursion, list_all}
 use Rattle.std.proofs.lemmas.List.{append-nil, length-append, map-append}
 use Rattle.std.proofs.lemmas.List.Folds.{list_all-append}
 use Rattle.crib_text.specs.Refusals.{Refusal}
 use Rattle.crib_text.specs.Spelling.{line_bytes}
-use Rattle.crib_text.specs.Reading.{◌>>=◌, Rest, value_at, after_keyword, header_in}
+use Rattle.crib_text.specs.Reading.{◌>>=◌, Rest, value_at, unless_refused, after_keyword, only_word, number_in, header_in}
 use Rattle.crib_text.specs.Forms.{each_in, values_at}
 use Rattle.crib_text.proofs.SpellingLemmas.{is_word, are_words, is_word-decimal}
 use Rattle.crib_text.proofs.ReadingLemmas.{bind_ok, ok_is, unless_ok, value_found, front_line, after_found, only_found, number_found, header_found}
@@ -27,6 +29,15 @@ pub record AreWordsForm {A : Type 0} (read : List (List ℕ) → Result A ℕ) (
   pub spelled : (value : A) → is value → read (words value) ≡ Ok value
   pub full : (value : A) → is value → list_all is_word (words value) ≡ true
 
+-- the same form, where what is well formed is said otherwise
+pub words_as : {A : Type 0} {read : List (List ℕ) → Result A ℕ} {words : A → List (List ℕ)} {is are : A → Type 0} → AreWordsForm read words is →
+    ((value : A) → is value → are value) → ((value : A) → are value → is value) → AreWordsForm read words are
+words_as form to from = record {
+  found = λ given value e. let one = form.found given value e in (one.0, to value one.1);
+  spelled = λ value is. form.spelled value (from value is);
+  full = λ value is. form.full value (from value is);
+}
+
 -- a keyword, and then so many words
 pub keyword_form : {A : Type 0} {read : List (List ℕ) → Result A ℕ} {words : A → List (List ℕ)} {is : A → Type 0} (keyword : List ℕ) (count : ℕ) →
     is_word keyword ≡ true → AreWordsForm read words is
@@ -39,6 +50,35 @@ keyword_form {read = read} {words = words} keyword count is_keyword form = recor
       (after.0 ∙ ap (λ ws. keyword ∷ ws) rest.0, (sym (ap length rest.0) ∙ after.1, rest.1));
   spelled = λ value is. rw (after_spelled keyword count (words value) is.0) (form.spelled value is.1);
   full = λ value is. rw (is_keyword, form.full value is.1) refl;
+}
+
+-- a number that is at most so much; a greater one is refused
+pub most_form : (refused most : ℕ) → most < 2 ^ 32 →
+    IsWordForm (λ word. number_in word >>= λ n. unless_refused refused (nat_le n most) >>= λ _. Ok n) decimal (λ n. n ≤ most)
+most_form refused most small = record {
+  found = λ given n e.
+      let a = bind_ok (number_in given) _ n e in
+      let b = bind_ok (unless_refused refused (nat_le a.0 most)) _ n a.2 in
+      let few : a.0 ≤ most = leb-true a.0 most (unless_ok _ refused b.0 b.1) in
+      subst (λ k. (given ≡ decimal k) × (k ≤ most)) (ok_is a.0 n b.2) ((number_found given a.0 a.1).0, few);
+  spelled = λ n few. rw (number_spelled n (omega (arith, few, small)), le-leb n most few) refl;
+  full = λ n few. is_word-decimal n (omega (arith, few, small));
+}
+
+-- a keyword, and then one word
+pub named_form : {A : Type 0} {read : List ℕ → Result A ℕ} {word : A → List ℕ} {is : A → Type 0} (keyword : List ℕ) → is_word keyword ≡ true →
+    IsWordForm read word is
+    → AreWordsForm (λ given. after_keyword keyword 1 given >>= λ words. only_word words >>= read) (λ value. keyword ∷ word value ∷ []) is
+named_form {word = word} keyword is_keyword form = record {
+  found = λ given value e.
+      let a = bind_ok (after_keyword keyword 1 given) _ value e in
+      let b = bind_ok (only_word a.0) _ value a.2 in
+      let one = form.found b.0 value b.2 in (
+        (after_found keyword 1 given a.0 a.1).0 ∙ ap (λ ws. keyword ∷ ws) (only_found a.0 b.0 b.1) ∙ ap (λ w. keyword ∷ w ∷ []) one.0,
+        one.1,
+      );
+  spelled = λ value is. rw (after_spelled keyword 1 (word value ∷ []) refl, only_spelled (word value)) (form.spelled value is);
+  full = λ value is. rw (is_keyword, form.full value is) refl;
 }
 
 -- a word for each of some values

@@ -1,9 +1,9 @@
 -- Proves that each line that is read as part of a problem is the spelling of that part.
-use Rattle.std.proofs.Common.{◌≡◌, ℕ, ◌-◌, ◌≤◌, true, false, not, eqb, cond, ◌&&◌, List, [], ◌∷◌, ◌++◌, length, map, Ok, Err, codes}
+use Rattle.std.proofs.Common.{◌≡◌, ℕ, Bool, ◌-◌, ◌≤◌, true, false, not, eqb, cond, ◌&&◌, List, [], ◌∷◌, ◌++◌, length, map, Ok, Err, codes}
 use Rattle.std.proofs.Common.{decimal, refl, sym, ap, subst, ◌∙◌, arith, inl, inr}
 use Rattle.std.specs.Prelude.{nat_le, bytes_eq}
 use Rattle.std.specs.List.{AllByRecursion}
-use Rattle.std.proofs.lemmas.Bool.{cases_Bool, eqb-true, eq-eqb, leb-true, and_parts, not-true, or_parts}
+use Rattle.std.proofs.lemmas.Bool.{cases_Bool, both_ways, eqb-true, leb-true, and_parts, not-true}
 use Rattle.std.proofs.lemmas.List.{length-map}
 use Rattle.std.proofs.lemmas.Slice.Eq.{bytes_eq-Decides}
 use Rattle.crib_cards.specs.Cards.{IsCard}
@@ -16,7 +16,7 @@ use Rattle.crib_text.specs.Refusals.{bad_line, bad_version}
 use Rattle.crib_text.specs.Reading.{Rest, value_at, unless_refused, after_keyword, only_word, number_in}
 use Rattle.crib_text.proofs.ReadingLemmas.{bind_ok, if_ok, unless_ok, ok_is, value_found, after_found, only_found, number_found}
 use Rattle.crib_cards.proofs.CardReadLemmas.{card_read_is}
-use Rattle.crib_cards.proofs.SetFacts.{has-append}
+use Rattle.crib_cards.proofs.Members.{has_here, distinct_append}
 use Rattle.crib_text.proofs.Forms.{IsWordForm, most_form}
 use Rattle.crib_problem.specs.declared.problem.Goal.{Goal}
 use Rattle.crib_problem.specs.declared.problem.Goal.TheVariants.{Win, Holes, Stop}
@@ -92,6 +92,15 @@ pub record AreNew (known cards : List ℕ) : Type 0 where
   pub distinct : are_distinct cards ≡ true
   pub fresh : (card : ℕ) → has cards card ≡ true → has known card ≡ false
 
+-- what keeps the one from being true with the other also keeps the other from being true with the one
+pub other_way : (one other : Bool) → (other ≡ true → one ≡ false) → one ≡ true → other ≡ false
+other_way one false apart holds = refl
+other_way one true apart holds = absurd (both_ways one (apart refl) holds)
+
+-- a card is not among others that are all apart from it
+not_among : (known others : List ℕ) (card : ℕ) → ((other : ℕ) → has others other ≡ true → has (card ∷ known) other ≡ false) → has others card ≡ false
+not_among known others card apart = other_way (has (card ∷ known) card) (has others card) (apart card) (has_here card known)
+
 pub cards_found : (known : List ℕ) (words : List (List ℕ)) (cards : List ℕ) → new_cards known words ≡ Ok cards → (words ≡ map card_text cards) × AreNew known cards
 unfolding new_cards
 cards_found known [] cards e =
@@ -102,11 +111,7 @@ cards_found known (word ∷ words) cards e =
     let b = bind_ok (new_cards (a.0 ∷ known) words) _ cards a.2 in
     let first = card_found known word a.0 a.1 in
     let rest = cards_found (a.0 ∷ known) words b.0 b.1 in
-    let other : has b.0 a.0 ≡ false = elim (cases_Bool (has b.0 a.0)) [
-      | inl holds ↦ let h = rest.1.fresh a.0 holds in let self : eqb a.0 a.0 ≡ true = eq-eqb a.0 a.0 refl in let g : has (a.0 ∷ known) a.0 ≡ true =
-          rw self refl in absurd cc
-      | inr fails ↦ fails
-    ] in
+    let other = not_among known b.0 a.0 rest.1.fresh in
     let fresh : (card : ℕ) → has (a.0 ∷ b.0) card ≡ true → has known card ≡ false = λ card h.
     elim (cases_Bool (eqb a.0 card)) [
       | inl same ↦ ap (has known) (sym (eqb-true a.0 card same)) ∙ first.2
@@ -217,26 +222,8 @@ goal_found version score words goal e =
           ((after_found (codes "goal") 2 words a.0 a.1).0 ∙ ap (λ (w : List (List ℕ)). codes "goal" ∷ w) t.0, t.1, t.2)
     ]
 
-pub distinct-append : (xs ys : List ℕ) → are_distinct xs ≡ true → are_distinct ys ≡ true → ((card : ℕ) → has ys card ≡ true → has xs card ≡ false) →
-    are_distinct (xs ++ ys) ≡ true
-distinct-append [] ys d f apart = f
-distinct-append (x ∷ xs) ys d f apart =
-    let parts = and_parts (not (has xs x)) (are_distinct xs) d in
-    let here : has ys x ≡ false = elim (cases_Bool (has ys x)) [
-      | inl holds ↦ let h = apart x holds in let self : eqb x x ≡ true = eq-eqb x x refl in let g : has (x ∷ xs) x ≡ true = rw self refl in absurd cc
-      | inr fails ↦ fails
-    ] in
-    let none : has (xs ++ ys) x ≡ false = has-append xs ys x ∙ (rw (not-true _ parts.0, here) refl) in
-    let rest = distinct-append xs ys parts.1 f (λ card h. (or_parts (eqb x card) (has xs card) (apart card h)).1) in
-    rw (none, rest) refl
-
 pub seven_distinct : (starter : ℕ) (hold thrown : List ℕ) → AreNew (starter ∷ []) hold → AreNew (starter ∷ hold) thrown →
     are_distinct (starter ∷ hold ++ thrown) ≡ true
 seven_distinct starter hold thrown h t =
-    distinct-append (starter ∷ hold) thrown
-    (let none : has hold starter ≡ false = elim (cases_Bool (has hold starter)) [
-      | inl holds ↦ let k = h.fresh starter holds in let self : eqb starter starter ≡ true = eq-eqb starter starter refl in
-          let g : has (starter ∷ []) starter ≡ true = rw self refl in absurd cc
-      | inr fails ↦ fails
-    ] in rw (none, h.distinct) refl)
-    t.distinct t.fresh
+    distinct_append (starter ∷ hold) thrown (rw (not_among [] hold starter h.fresh, h.distinct) refl) t.distinct
+    (λ card mine. other_way (has (starter ∷ hold) card) (has thrown card) (t.fresh card) mine)

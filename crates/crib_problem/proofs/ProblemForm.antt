@@ -26,9 +26,10 @@ use Rattle.crib_problem.specs.CutLaws.{LinesCutLaw, TextCutLaw}
 use Rattle.crib_problem.proofs.CardLemmas.{all_parts, all-append}
 use Rattle.crib_problem.proofs.TurnLemmas.{AllMoves, acts_words, turns_found, turns_spelled}
 use Rattle.crib_problem.proofs.ActForms.{count_form}
-use Rattle.crib_problem.proofs.LinesReadAreSpelled.{AreNew, seven_distinct}
+use Rattle.crib_problem.proofs.LinesReadAreSpelled.{AreNew, other_way, seven_distinct}
 use Rattle.crib_problem.proofs.SpelledIsRead.{version_form, dealer_form, scores_form, starter_form, cards_form, goal_form}
-use Rattle.crib_problem.proofs.SpelledIsRead.{says_goal, unplayed, apart, distinct_parts}
+use Rattle.crib_problem.proofs.SpelledIsRead.{says_goal, unplayed, apart}
+use Rattle.crib_cards.proofs.Members.{distinct_parts, distinct_left, distinct_right, distinct_apart}
 
 -- the lines that each version has
 abbrev pub seven_lines : Setup → List (List (List ℕ))
@@ -97,15 +98,19 @@ seven_form =
     }))
     (λ p is.
     let setup = is.setup in
-    let split = distinct_parts (p.starter ∷ p.hold) p.thrown setup.distinct in
     let cards = all_parts (p.starter ∷ p.hold) p.thrown setup.cards in
-    let own = and_parts (not (has p.hold p.starter)) (are_distinct p.hold) split.0 in
+    let own = distinct_parts p.starter p.hold (distinct_left (p.starter ∷ p.hold) p.thrown setup.distinct) in
     let hold : AreNew (p.starter ∷ []) p.hold = record {
       all_cards = cards.0.1;
       distinct = own.1;
-      fresh = λ card h. rw (apart p.hold p.starter card (not-true (has p.hold p.starter) own.0) h) refl;
+      fresh = λ card h. rw (apart p.hold p.starter card own.0 h) refl;
     } in
-    let thrown : AreNew (p.starter ∷ p.hold) p.thrown = record { all_cards = cards.1; distinct = split.1; fresh = split.2 } in
+    let thrown : AreNew (p.starter ∷ p.hold) p.thrown = record {
+      all_cards = cards.1;
+      distinct = distinct_right (p.starter ∷ p.hold) p.thrown setup.distinct;
+      fresh = λ card h.
+          other_way (has p.thrown card) (has (p.starter ∷ p.hold) card) (distinct_apart (p.starter ∷ p.hold) p.thrown card setup.distinct) h;
+    } in
     let made : p ≡ unplayed p = ap (λ (acts : List Act). record p { played = acts }) is.none in (
       tt,
       (

@@ -11,7 +11,7 @@ use Rattle.crib_cards.specs.declared.sides.Side.{Side}
 use Rattle.crib_cards.specs.declared.sides.Side.TheVariants.{Owner, Opponent}
 use Rattle.crib_cards.specs.declared.sides.Scores.{Scores}
 use Rattle.crib_cards.proofs.CardReadLemmas.{card_read-card_text, card_text-word, card_texts-words}
-use Rattle.crib_cards.proofs.SetFacts.{has-append}
+use Rattle.crib_cards.proofs.Members.{has_here, has_there}
 use Rattle.crib_text.specs.Spelling.{line_bytes}
 use Rattle.crib_text.specs.Reading.{Rest}
 use Rattle.crib_text.proofs.SpellingLemmas.{is_word, are_words, is_word-decimal}
@@ -81,25 +81,10 @@ new_card_spelled known card is fresh = rw (card_in-some (card_text card) card (c
 
 -- ---- new cards
 
-has_later : (cards : List ℕ) (card other : ℕ) → has cards other ≡ true → has (card ∷ cards) other ≡ true
-has_later cards card other e = or_right (eqb card other) (has cards other) e
-
-has_itself : (cards : List ℕ) (card : ℕ) → has (card ∷ cards) card ≡ true
-has_itself cards card = let same : eqb card card ≡ true = eq-eqb card card refl in rw same refl
-
 -- a card that is among some cards differs from one that is not
 pub apart : (cards : List ℕ) (card other : ℕ) → has cards card ≡ false → has cards other ≡ true → eqb card other ≡ false
 apart cards card other without with_it =
     ne_eqb card other (λ same. let h : has cards card ≡ true = ap (has cards) same ∙ with_it in absurd cc)
-
-pub distinct_parts : (xs ys : List ℕ) → are_distinct (xs ++ ys) ≡ true → (are_distinct xs ≡ true) × (are_distinct ys ≡ true) ×
-    ((card : ℕ) → has ys card ≡ true → has xs card ≡ false)
-distinct_parts [] ys d = (refl, d, λ card h. refl)
-distinct_parts (x ∷ xs) ys d =
-    let parts = and_parts (not (has (xs ++ ys) x)) (are_distinct (xs ++ ys)) d in
-    let none = or_parts (has xs x) (has ys x) (sym (has-append xs ys x) ∙ not-true (has (xs ++ ys) x) parts.0) in
-    let rest = distinct_parts xs ys parts.1 in
-    (rw (none.0, rest.0) refl, rest.1, λ card h. rw (apart ys x card none.1 h, rest.2 card h) refl)
 
 new_cards_spelled : (known cards : List ℕ) → AreNew known cards → new_cards known (map card_text cards) ≡ Ok cards
 unfolding new_cards
@@ -110,9 +95,9 @@ new_cards_spelled known (card ∷ cards) new =
     let rest : AreNew (card ∷ known) cards = record {
       all_cards = new.all_cards.1;
       distinct = parts.1;
-      fresh = λ other h. rw (apart cards card other once h, new.fresh other (has_later cards card other h)) refl;
+      fresh = λ other h. rw (apart cards card other once h, new.fresh other (has_there card other cards h)) refl;
     } in
-    rw (new_card_spelled known card new.all_cards.0 (new.fresh card (has_itself cards card)), new_cards_spelled (card ∷ known) cards rest) refl
+    rw (new_card_spelled known card new.all_cards.0 (new.fresh card (has_here card cards)), new_cards_spelled (card ∷ known) cards rest) refl
 
 -- ---- the goal
 

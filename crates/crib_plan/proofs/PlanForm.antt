@@ -2,7 +2,8 @@
 use Rattle.std.proofs.Common.{◌≡◌, ℕ, ◌+◌, ◌^◌, ◌<◌, ◌≤◌, List, [], ◌∷◌, length, codes, decimal, refl, sym, ap, ◌∙◌, arith}
 use Rattle.std.specs.List.{list_all}
 use Rattle.crib_text.proofs.SpellingLemmas.{is_word, are_words, is_word-decimal}
-use Rattle.crib_text.proofs.Forms.{AreWordsForm, IsForm, AreRows, row_lines, most_form, named_form, header_form, line_form, many_form, then_form, then_given_form, form_as}
+use Rattle.crib_text.proofs.Forms.{AreWordsForm, IsForm, AreRows, row_lines, most_form, named_form, header_form, line_form, many_form, then_form}
+use Rattle.crib_text.proofs.Forms.{then_given_form, form_as}
 use Rattle.crib_text.proofs.FormLaws.{texts_apart, lines_cut_short, text_cut_short}
 use Rattle.crib_plan.specs.declared.plan.Node.{Node}
 use Rattle.crib_plan.specs.declared.plan.Node.TheVariants.{Play, See}

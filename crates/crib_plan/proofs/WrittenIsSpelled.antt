@@ -286,10 +286,6 @@ branches_len nexts long small =
     omega (arith, total_small (nodes_of [] nexts) letter_bytes nexts (distinct_nodes [] nexts), few_nodes [] nexts)
 
 -- the text of a line is the pieces that the code writes
-pub play_text : (place card : ℕ) (next : Next) (old : List ℕ) → (((((old ++ decimal place) ++ codes " play ") ++ card_text card) ++ codes " ")
-    ++ next_word next) ++ codes "\n" ≡ old ++ line_text (node_line place (Play card next))
-play_text place card next old = simp append_assoc
-
 spaced_words : (all : List Next) (word : List ℕ) (nodes : List ℕ) → line_bytes (word ∷ map (branch_word all) nodes) ≡ word ++ flat_map (spaced_branch all) nodes
 spaced_words all word [] = sym (append-nil word)
 spaced_words all word (node ∷ nodes) = ap (λ (rest : List ℕ). word ++ space ∷ rest) (spaced_words all (branch_word all node) nodes)

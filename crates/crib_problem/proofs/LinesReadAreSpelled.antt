@@ -101,7 +101,8 @@ other_way one true apart holds = absurd (both_ways one (apart refl) holds)
 not_among : (known others : List ℕ) (card : ℕ) → ((other : ℕ) → has others other ≡ true → has (card ∷ known) other ≡ false) → has others card ≡ false
 not_among known others card apart = other_way (has (card ∷ known) card) (has others card) (apart card) (has_here card known)
 
-pub cards_found : (known : List ℕ) (words : List (List ℕ)) (cards : List ℕ) → new_cards known words ≡ Ok cards → (words ≡ map card_text cards) × AreNew known cards
+pub cards_found : (known : List ℕ) (words : List (List ℕ)) (cards : List ℕ) → new_cards known words ≡ Ok cards
+    → (words ≡ map card_text cards) × AreNew known cards
 unfolding new_cards
 cards_found known [] cards e =
     subst (λ (cs : List ℕ). ([] ≡ map card_text cs) × AreNew known cs) (ok_is [] cards e)

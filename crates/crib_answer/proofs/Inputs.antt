@@ -19,13 +19,11 @@ use Rattle.crib_problem.specs.Spelling.{problem_lines, problem_text}
 use Rattle.crib_problem.specs.Reading.{problem_at}
 use Rattle.crib_text.proofs.FormLaws.{form_read}
 use Rattle.crib_problem.proofs.ProblemForm.{problem_form}
-use Rattle.crib_problem.proofs.ProblemLengths.{problem_text-le}
 use Rattle.crib_plan.specs.declared.plan.Node.{Node}
 use Rattle.crib_plan.specs.Nodes.{ArePlan}
 use Rattle.crib_plan.specs.Spelling.{plan_lines, plan_text}
 use Rattle.crib_plan.specs.Reading.{count_at, plan_at}
 use Rattle.crib_plan.proofs.PlanForm.{plan_form}
-use Rattle.crib_plan.proofs.PlanLengths.{plan_text-le}
 use Rattle.crib_answer.specs.Input.{most_bytes, input_lines, problem_alone_at, problem_of_input, question_at, question_of_input}
 use Rattle.crib_answer.specs.Telling.{SpellsProblem, SpellsPlan}
 
@@ -142,12 +140,13 @@ question_asked rest problem plan after last e f none = rw (e, f, none) refl
 
 -- a problem and a plan have no more bytes than an input may have
 spelled_fits : (input : List ℕ) (problem : Setup) (plan : List Node) → SpellsPlan input problem plan → length input ≤ most_bytes
+unfolding problem_text plan_text
 spelled_fits input problem plan spelled = omega (
   arith,
   ap length spelled.text,
   length-append (problem_text problem) (plan_text plan),
-  problem_text-le problem spelled.problem_is,
-  plan_text-le plan spelled.plan_is,
+  problem_form.short problem spelled.problem_is,
+  plan_form.short plan spelled.plan_is,
   spelled.plan_is.0,
 )
 
@@ -180,7 +179,7 @@ pub problem_spelled : (input : List ℕ) (problem : Setup) → SpellsProblem inp
 unfolding problem_of_input problem_text
 problem_spelled input problem spelled =
     let lines = problem_lines problem in
-    let few : length input ≤ most_bytes = omega (arith, ap length spelled.text, problem_text-le problem spelled.problem_is) in
+    let few : length input ≤ most_bytes = omega (arith, ap length spelled.text, problem_form.short problem spelled.problem_is) in
     let taken = lines_taken input lines few spelled.text (problem_form.full problem spelled.problem_is) in
     let whole : Rest = record { number = 1; lines = map line_bytes lines } in
     let last : Rest = record { number = 1 + length lines; lines = [] } in

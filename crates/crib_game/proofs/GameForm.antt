@@ -1,5 +1,5 @@
 -- The form of a game: what is read is spelled so, and what is spelled so is read. The laws of its spelling follow.
-use Rattle.std.proofs.Common.{◌≡◌, ℕ, ◌+◌, ◌≤◌, true, List, [], ◌∷◌, length, map, codes, decimal, refl, sym, ap, ◌∙◌, arith}
+use Rattle.std.proofs.Common.{◌≡◌, ℕ, ◌+◌, ◌*◌, true, List, ◌∷◌, length, map, codes, refl, sym, ap, ◌∙◌, arith}
 use Rattle.std.specs.List.{AllByRecursion}
 use Rattle.std.proofs.lemmas.List.{append-nil, length-map}
 use Rattle.crib_cards.specs.Cards.{IsCard}
@@ -16,11 +16,12 @@ use Rattle.crib_game.specs.Reading.{cards_in_line, game_at}
 use Rattle.crib_game.specs.SpellingLaws.{OneSpellingLaw, SpellingLaw, PrefixLaw, LinesLaw, ReadAgainLaw, LinesCutLaw, TextCutLaw}
 
 cards_form : (keyword : List ℕ) (count : ℕ) → is_word keyword ≡ true → AreWordsForm (cards_in_line keyword count) (λ cards. keyword ∷ map card_text cards)
-    (λ cards. (length (map card_text cards) ≡ count) × AllByRecursion IsCard cards)
+    (λ cards. (length (map card_text cards) ≡ count) × AllByRecursion IsCard cards) (λ cards. length keyword + 1 + 3 * length cards)
 unfolding cards_in_line
 cards_form keyword count is_keyword = keyword_form keyword count is_keyword (each_form card_form)
 
-pub game_form : IsForm game_at game_lines IsGame
+-- 44 bytes for four lines, and 7 for each of at most 32 acts
+pub game_form : IsForm game_at game_lines IsGame (λ game. 268)
 unfolding game_at game_lines
 game_form =
     form_as (
@@ -55,7 +56,7 @@ game_form =
         ),
       ),
     ))
-    (λ game is. rw (append-nil (map act_line game.acts.items)) refl)
+    (λ game is. rw (append-nil (map act_line game.acts.items)) refl) (λ game is. omega (arith, is.six.held, is.six.thrown, is.few))
 
 pub one_spelling_law : OneSpellingLaw
 one_spelling_law game lines after e = one_spelling game_form game lines 1 after e

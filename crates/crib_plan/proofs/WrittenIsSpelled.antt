@@ -6,7 +6,6 @@ use Rattle.std.specs.List.{flat_map, AllByRecursion}
 use Rattle.std.proofs.lemmas.Bool.{cases_Bool, cases_eq, eq-eqb, ne_eqb, and_parts, not-true, or_left, or_right}
 use Rattle.std.proofs.lemmas.List.{append-nil, length-append, take_more, drop_more}
 use Rattle.crib_cards.specs.Sets.{has, are_distinct}
-use Rattle.crib_cards.specs.CardText.{card_text}
 use Rattle.crib_text.specs.Spelling.{space, line_bytes, line_text, lines_text}
 use Rattle.crib_text.proofs.RoomLemmas.{five_digits}
 use Rattle.crib_plan.specs.declared.plan.Next.{Next}
@@ -14,7 +13,7 @@ use Rattle.crib_plan.specs.declared.plan.Next.TheVariants.{End, To}
 use Rattle.crib_plan.specs.declared.plan.Node.{Node}
 use Rattle.crib_plan.specs.declared.plan.Node.TheVariants.{Play, See}
 use Rattle.crib_plan.specs.Nodes.{most_nodes, IsLater, IsNode, AreNodes, ArePlan}
-use Rattle.crib_plan.specs.Spelling.{letter_bytes, colon, next_word, leads_to, letters_to, branch_word, nodes_of, node_line}
+use Rattle.crib_plan.specs.Spelling.{letter_bytes, colon, leads_to, letters_to, branch_word, nodes_of, node_line}
 use Rattle.crib_plan.specs.Private.Spelling.{seen_after, spaced_branch}
 use Rattle.crib_plan.specs.Spelling.{node_lines, plan_lines, plan_text}
 use Rattle.crib_plan.proofs.BranchReadIsSpelled.{nodes_in}
@@ -124,16 +123,6 @@ words-new all nexts i node d inside is led =
     let seen : has before node ≡ false = has-seen_after [] (take i nexts) node ∙ led in
     ap (λ (ns : List Next). flat_map (spaced_branch all) (nodes_of before ns)) (one_here nexts i d inside ∙ ap (λ (x : Next). x ∷ []) is)
     ∙ rw seen (append-nil (spaced_branch all node))
-
--- the numbers of nodes in a plan are below 65,536
-pub small_nodes : (place : ℕ) (nexts : List Next) → AllByRecursion (IsLater place most_nodes) nexts → (node : ℕ) → leads nexts node ≡ true → node < 65536
-small_nodes place [] all node e = absurd cc
-small_nodes place (End ∷ nexts) all node e = small_nodes place nexts all.1 node e
-small_nodes place (To other ∷ nexts) all node e =
-    elim (cases_eq other node) [
-      | inl is ↦ (let h = all.0.1 in omega arith)
-      | inr differs ↦ (let f : leads nexts node ≡ true = rw (ne_eqb other node differs) at e in small_nodes place nexts all.1 node f)
-    ]
 
 all_fewer : (place count more : ℕ) → count ≤ more → (nexts : List Next) → AllByRecursion (IsLater place count) nexts → AllByRecursion (IsLater place more) nexts
 all_fewer place count more fewer [] all = tt

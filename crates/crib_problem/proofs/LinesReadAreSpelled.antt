@@ -4,17 +4,15 @@ use Rattle.std.proofs.Common.{decimal, refl, sym, ap, subst, ◌∙◌, arith, i
 use Rattle.std.specs.Prelude.{nat_le, bytes_eq}
 use Rattle.std.specs.List.{AllByRecursion}
 use Rattle.std.proofs.lemmas.Bool.{cases_Bool, both_ways, eqb-true, leb-true, and_parts, not-true}
-use Rattle.std.proofs.lemmas.List.{length-map}
 use Rattle.std.proofs.lemmas.Slice.Eq.{bytes_eq-Decides}
 use Rattle.crib_cards.specs.Cards.{IsCard}
 use Rattle.crib_cards.specs.Sets.{has, are_distinct}
 use Rattle.crib_cards.specs.Sides.{game_hole}
 use Rattle.crib_cards.specs.CardText.{card_text}
-use Rattle.crib_cards.specs.declared.sides.Side.{Side}
 use Rattle.crib_cards.specs.declared.sides.Scores.{Scores}
 use Rattle.crib_text.specs.Refusals.{bad_line, bad_version}
-use Rattle.crib_text.specs.Reading.{Rest, value_at, unless_refused, after_keyword, only_word, number_in}
-use Rattle.crib_text.proofs.ReadingLemmas.{bind_ok, if_ok, unless_ok, ok_is, value_found, after_found, only_found, number_found}
+use Rattle.crib_text.specs.Reading.{unless_refused, after_keyword, only_word, number_in}
+use Rattle.crib_text.proofs.ReadingLemmas.{bind_ok, if_ok, unless_ok, ok_is, after_found, only_found, number_found}
 use Rattle.crib_cards.proofs.CardReadLemmas.{card_read_is}
 use Rattle.crib_cards.proofs.Members.{has_here, distinct_append}
 use Rattle.crib_text.proofs.Forms.{IsWordForm, most_form}
@@ -22,14 +20,12 @@ use Rattle.crib_problem.specs.declared.problem.Goal.{Goal}
 use Rattle.crib_problem.specs.declared.problem.Goal.TheVariants.{Win, Holes, Stop}
 use Rattle.crib_problem.specs.declared.problem.Version.{Version}
 use Rattle.crib_problem.specs.declared.problem.Version.TheVariants.{One, Two}
-use Rattle.crib_problem.specs.Setup.{IsSetup, IsGoal, CanSay}
-use Rattle.crib_cards.specs.Words.{side_word}
+use Rattle.crib_problem.specs.Setup.{IsGoal, CanSay}
 use Rattle.crib_problem.specs.Spelling.{goal_words, version_word}
 use Rattle.crib_problem.specs.Refusals.{same_card, bad_score, bad_goal}
-use Rattle.crib_problem.specs.Reading.{version_of_number, version_in, side_in, dealer_in, score_in, both_scores, scores_in, card_in, new_card, new_cards}
-use Rattle.crib_problem.specs.Reading.{cards_in_line, starter_in, holes_in, stop_goal, plain_goal, holes_goal, win_in, target_in, goal_in}
-use Rattle.crib_problem.proofs.CardLemmas.{card_in_is, all-append}
-use Rattle.crib_problem.proofs.TurnLemmas.{side_called_is}
+use Rattle.crib_problem.specs.Reading.{version_of_number, score_in, both_scores, scores_in, card_in, new_card, new_cards}
+use Rattle.crib_problem.specs.Reading.{holes_in, stop_goal, plain_goal, holes_goal, win_in, target_in, goal_in}
+use Rattle.crib_problem.proofs.CardLemmas.{card_in_is}
 
 pub version_found : (n : ℕ) (version : Version) → version_of_number n ≡ Ok version → decimal n ≡ version_word version
 unfolding version_of_number
@@ -44,9 +40,9 @@ version_found n version e =
           ap decimal (eqb-true n 2 g.0) ∙ ap version_word g.1
     ]
 
-pub score_form : IsWordForm score_in decimal (λ score. score ≤ 120)
+pub score_form : IsWordForm score_in decimal (λ score. score ≤ 120) 3
 unfolding score_in
-score_form = most_form bad_score 120 (omega arith)
+score_form = most_form bad_score 120 3 (omega arith) (omega arith) (omega arith)
 
 abbrev HasScores : List (List ℕ) → Scores → Type 0
 HasScores words scores = (words ≡ decimal scores.owner ∷ decimal scores.opponent ∷ []) × (scores.owner ≤ 120) × (scores.opponent ≤ 120)

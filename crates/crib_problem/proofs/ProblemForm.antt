@@ -1,19 +1,14 @@
 -- The form of a problem: what is read is spelled so, and what is spelled so is read. The laws of its spelling follow.
-use Rattle.std.proofs.Common.{◌≡◌, ℕ, zero, suc, ◌+◌, ◌≤◌, true, not, List, [], ◌∷◌, ◌++◌, length, map, reverse, Ok, codes, decimal, refl}
+use Rattle.std.proofs.Common.{◌≡◌, ℕ, zero, suc, ◌+◌, ◌*◌, ◌≤◌, List, [], ◌∷◌, ◌++◌, length, map, reverse, Ok, codes, decimal, refl}
 use Rattle.std.proofs.Common.{sym, ap, subst, ◌∙◌, arith}
-use Rattle.std.proofs.lemmas.Bool.{and_parts, not-true}
 use Rattle.std.proofs.lemmas.List.{append-nil, reverse-reverse, length-map}
-use Rattle.crib_cards.specs.Cards.{IsCard}
-use Rattle.crib_cards.specs.Sets.{has, are_distinct}
+use Rattle.crib_cards.specs.Sets.{has}
 use Rattle.crib_cards.specs.CardText.{card_text}
-use Rattle.crib_cards.specs.declared.sides.Side.{Side}
-use Rattle.crib_cards.specs.declared.sides.Scores.{Scores}
 use Rattle.crib_cards.specs.declared.moves.Act.{Act}
 use Rattle.crib_text.specs.Spelling.{line_bytes}
 use Rattle.crib_text.proofs.SteadyReaders.{IsSteady, from_line, steady_ok, steady_then, steady_value}
-use Rattle.crib_text.proofs.Forms.{IsForm, line_form, none_form, then_form, form_as}
+use Rattle.crib_text.proofs.Forms.{IsForm, line_form, each_line_form, none_form, then_form, form_as}
 use Rattle.crib_text.proofs.FormLaws.{lines_apart, texts_apart, texts_differ, read_again, lines_cut_short, text_cut_short}
-use Rattle.crib_problem.specs.declared.problem.Goal.{Goal}
 use Rattle.crib_problem.specs.declared.problem.Version.{Version}
 use Rattle.crib_problem.specs.declared.problem.Version.TheVariants.{One, Two}
 use Rattle.crib_problem.specs.Setup.{Setup, IsSetup, CanSay, opening_basis_of}
@@ -25,7 +20,7 @@ use Rattle.crib_problem.specs.Laws.{SpellingLaw, PrefixLaw, LinesLaw, ReadAgainL
 use Rattle.crib_problem.specs.CutLaws.{LinesCutLaw, TextCutLaw}
 use Rattle.crib_problem.proofs.CardLemmas.{all_parts, all-append}
 use Rattle.crib_problem.proofs.TurnLemmas.{AllMoves, acts_words, turns_found, turns_spelled}
-use Rattle.crib_problem.proofs.ActForms.{count_form}
+use Rattle.crib_problem.proofs.ActForms.{act_form, count_form}
 use Rattle.crib_problem.proofs.LinesReadAreSpelled.{AreNew, other_way, seven_distinct}
 use Rattle.crib_problem.proofs.SpelledIsRead.{version_form, dealer_form, scores_form, starter_form, cards_form, goal_form}
 use Rattle.crib_problem.proofs.SpelledIsRead.{says_goal, unplayed, apart}
@@ -47,7 +42,7 @@ pub record IsUnplayed (p : Setup) : Type 0 where
   pub setup : IsSetup p
   pub none : p.played ≡ []
 
-pub seven_form : IsForm seven_lines_at seven_lines IsUnplayed
+pub seven_form : IsForm seven_lines_at seven_lines IsUnplayed (λ p. 95)
 unfolding seven_lines_at
 seven_form =
     form_as (
@@ -130,7 +125,7 @@ seven_form =
         ),
       ),
     ))
-    (λ p is. refl)
+    (λ p is. refl) (λ p is. omega arith)
 
 -- ---- the opening
 
@@ -141,7 +136,7 @@ allowed_steady basis before (suc left) =
     steady_then _ _ (steady_value (allowed_in basis before)) (λ act. allowed_steady basis (act ∷ before) left)
 
 allowed_form : (basis : OpeningBasis) (count : ℕ) → IsForm (allowed_at basis [] count) (λ acts. map act_line (reverse acts))
-    (λ acts. (length (reverse acts) ≡ count) × AllMoves (reverse acts) × AreAllowed basis acts)
+    (λ acts. (length (reverse acts) ≡ count) × AllMoves (reverse acts) × AreAllowed basis acts) (λ acts. 7 * length (reverse acts))
 allowed_form basis count = record {
   found = λ rest acts after e.
       let turns = turns_found basis [] count rest (acts, after) e in (
@@ -156,6 +151,7 @@ allowed_form basis count = record {
       ap (λ k. allowed_at basis [] k (from_line number (map line_bytes (map act_line (reverse acts)) ++ rest))) (sym is.0) ∙ turns
       ∙ ap (λ all. Ok (all, from_line last rest)) same;
   full = λ acts is. acts_words (reverse acts) is.1;
+  short = λ acts is. (each_line_form act_form (λ _. refl) count).short (reverse acts) (is.0, is.1);
   steady = allowed_steady basis [] count;
 }
 
@@ -166,7 +162,7 @@ record HasTurns (seven p : Setup) : Type 0 where
   allowed : AreAllowed (opening_basis_of seven) (reverse p.played)
   made : p ≡ record seven { played = p.played }
 
-turns_form : (seven : Setup) → IsForm (turns_at seven) (λ p. played_lines Two p.played) (HasTurns seven)
+turns_form : (seven : Setup) → IsForm (turns_at seven) (λ p. played_lines Two p.played) (HasTurns seven) (λ p. 234)
 unfolding turns_at
 turns_form seven =
     form_as (
@@ -189,6 +185,7 @@ turns_form seven =
       ),
     ))
     (λ p has. rw (reverse-reverse p.played, append-nil (map act_line p.played)) refl)
+    (λ p has. omega (arith, has.few, ap length (reverse-reverse p.played)))
 
 -- what a version has after the seven lines
 abbrev Continues : Version → Setup → Setup → Type 0
@@ -196,12 +193,12 @@ Continues One seven p = p ≡ seven
 Continues Two seven p = HasTurns seven p
 
 played_form : (version : Version) (seven : Setup) → seven.version ≡ version → IsForm (played_at version seven) (λ p. played_lines p.version p.played)
-    (Continues version seven)
+    (Continues version seven) (λ p. 234)
 unfolding played_at
 played_form One seven e = form_as (none_form seven) (λ p is. is) (λ p is. is)
-    (λ p is. ap (λ (version : Version). played_lines version p.played) (sym (ap (λ (q : Setup). q.version) is ∙ e)))
+    (λ p is. ap (λ (version : Version). played_lines version p.played) (sym (ap (λ (q : Setup). q.version) is ∙ e))) (λ p is. omega arith)
 played_form Two seven e = form_as (turns_form seven) (λ p is. is) (λ p is. is)
-    (λ p is. ap (λ (version : Version). played_lines version p.played) (sym (ap (λ (q : Setup). q.version) is.made ∙ e)))
+    (λ p is. ap (λ (version : Version). played_lines version p.played) (sym (ap (λ (q : Setup). q.version) is.made ∙ e))) (λ p is. omega arith)
 
 agrees : (version : Version) (seven p : Setup) → seven.played ≡ [] → Continues version seven p → unplayed p ≡ seven
 agrees One seven p none is = ap unplayed is ∙ ap (λ (acts : List Act). record seven { played = acts }) (sym none)
@@ -244,14 +241,15 @@ without_opening p is = record {
   allowed = tt;
 }
 
-pub problem_form : IsForm problem_at problem_lines IsSetup
+-- 95 bytes for seven lines, and 234 for the line `played N` and at most 32 lines of acts
+pub problem_form : IsForm problem_at problem_lines IsSetup (λ p. 329)
 unfolding problem_at problem_lines
 problem_form =
     form_as (
     then_form _ unplayed seven_form (λ seven. played_form seven.version seven refl) (λ seven p is are. agrees seven.version seven p is.none are))
     (λ p is. setup_of p.version p refl is.0.setup is.1)
     (λ p is. (record { setup = without_opening p is; none = refl }, continues p.version p refl is))
-    (λ p is. refl)
+    (λ p is. refl) (λ p is. omega arith)
 
 -- ---- the laws
 

@@ -1,8 +1,9 @@
 -- Proves that the spelling of a problem is read as that problem.
-use Rattle.std.proofs.Common.{◌≡◌, ℕ, ◌+◌, ◌-◌, ◌≤◌, true, false, not, eqb, ◌&&◌, List, [], ◌∷◌, ◌++◌, length, map, reverse, Ok, codes, decimal, refl, sym, ap}
-use Rattle.std.proofs.Common.{subst, ◌∙◌, arith}
-use Rattle.std.proofs.lemmas.List.{append-nil, reverse-reverse, length-map}
-use Rattle.std.proofs.lemmas.Bool.{le-leb, eq-eqb, ne_eqb, and_parts, and_from, not-true, or_parts, or_right}
+use Rattle.std.proofs.Common.{◌≡◌, ℕ, ◌+◌, ◌*◌, ◌-◌, ◌≤◌, true, false, not, eqb, List, [], ◌∷◌, length, map, Ok, codes, decimal, refl, sym}
+use Rattle.std.proofs.Common.{ap, ◌∙◌, arith}
+use Rattle.std.proofs.lemmas.Fmt.{length-decimal-le}
+use Rattle.std.proofs.lemmas.List.{length-map}
+use Rattle.std.proofs.lemmas.Bool.{le-leb, ne_eqb, and_parts, and_from, not-true}
 use Rattle.crib_cards.specs.Cards.{IsCard}
 use Rattle.crib_cards.specs.Sets.{has, are_distinct}
 use Rattle.crib_cards.specs.Sides.{game_hole}
@@ -12,8 +13,6 @@ use Rattle.crib_cards.specs.declared.sides.Side.TheVariants.{Owner, Opponent}
 use Rattle.crib_cards.specs.declared.sides.Scores.{Scores}
 use Rattle.crib_cards.proofs.CardReadLemmas.{card_read-card_text, card_text-word, card_texts-words}
 use Rattle.crib_cards.proofs.Members.{has_here, has_there}
-use Rattle.crib_text.specs.Spelling.{line_bytes}
-use Rattle.crib_text.specs.Reading.{Rest}
 use Rattle.crib_text.proofs.SpellingLemmas.{is_word, are_words, is_word-decimal}
 use Rattle.crib_text.specs.Reading.{◌>>=◌, number_in}
 use Rattle.crib_text.proofs.ReadingLemmas.{bind_ok, after_spelled, only_spelled, number_spelled, number_found}
@@ -22,16 +21,16 @@ use Rattle.crib_problem.specs.declared.problem.Goal.TheVariants.{Win, Holes, Sto
 use Rattle.crib_problem.specs.declared.problem.Version.{Version}
 use Rattle.crib_problem.specs.declared.problem.Version.TheVariants.{One, Two}
 use Rattle.crib_cards.specs.declared.moves.Act.{Act}
-use Rattle.crib_problem.specs.Setup.{Setup, IsSetup, IsGoal, CanSay, opening_basis_of}
-use Rattle.crib_problem.specs.Played.{AreAllowed}
+use Rattle.crib_problem.specs.Setup.{Setup, IsGoal, CanSay}
 use Rattle.crib_cards.specs.Words.{side_word}
-use Rattle.crib_problem.specs.Spelling.{goal_words, version_number, version_word, act_line, played_lines, problem_lines}
-use Rattle.crib_problem.specs.Reading.{version_of_number, version_in, side_in, dealer_in, score_in, both_scores, scores_in, new_card, new_cards, cards_in_line}
-use Rattle.crib_problem.specs.Reading.{starter_in, holes_in, stop_goal, plain_goal, holes_goal, win_in, target_in, goal_in, seven_lines_at, acts_count_in}
-use Rattle.crib_problem.specs.Reading.{played_at}
-use Rattle.crib_problem.specs.Reading.{problem_at}
-use Rattle.crib_problem.proofs.CardLemmas.{card_in-some, all_parts}
-use Rattle.crib_text.proofs.Forms.{IsWordForm, AreWordsForm, words_as, keyword_form, named_form}
+use Rattle.crib_problem.specs.Spelling.{goal_words, version_number, version_word}
+use Rattle.crib_problem.specs.Reading.{version_of_number, version_in, side_in, dealer_in, both_scores, scores_in, new_card, new_cards, cards_in_line}
+use Rattle.crib_problem.specs.Reading.{starter_in, holes_in, stop_goal, plain_goal, holes_goal, win_in, target_in, goal_in}
+use Rattle.crib_problem.proofs.CardLemmas.{card_in-some}
+use Rattle.crib_text.proofs.RoomLemmas.{three_digits}
+use Rattle.crib_text.proofs.TextLengths.{words_length}
+use Rattle.crib_text.proofs.Forms.{IsWordForm, AreWordsForm, words_as, keyword_form, named_form, each_form}
+use Rattle.crib_problem.proofs.ActForms.{card_form}
 use Rattle.crib_problem.proofs.LinesReadAreSpelled.{AreNew, version_found, score_form, scores_found, card_found, cards_found, goal_found}
 use Rattle.crib_problem.proofs.TurnLemmas.{side_called_is}
 
@@ -49,7 +48,7 @@ goal_words-words score Win is = refl
 goal_words-words score Stop is = refl
 goal_words-words score (Holes holes) is = and_from (is_word (decimal holes)) true (number_word holes (omega arith)) refl
 
-version_small : (version : Version) → version_number version ≤ 121
+version_small : (version : Version) → version_number version ≤ 2
 version_small One = omega arith
 version_small Two = omega arith
 
@@ -130,68 +129,87 @@ unplayed p = record p { played = [] }
 
 -- ---- forms
 
-version_word_form : IsWordForm (λ word. number_in word >>= version_of_number) version_word (λ version. Unit {0})
+version_word_form : IsWordForm (λ word. number_in word >>= version_of_number) version_word (λ version. Unit {0}) 1
 version_word_form = record {
   found = λ given version e.
       let a = bind_ok (number_in given) _ version e in
       ((number_found given a.0 a.1).0 ∙ version_found a.0 version a.2, tt);
   spelled = λ version is. rw (number_spelled (version_number version) (omega (arith, version_small version))) (version_number_spelled version);
-  full = λ version is. number_word (version_number version) (version_small version);
+  full = λ version is. number_word (version_number version) (omega (arith, version_small version));
+  short = λ version is.
+      let small = version_small version in
+      length-decimal-le 1 (version_number version) (omega arith) (omega arith) (omega arith);
 }
 
-pub version_form : AreWordsForm version_in (λ version. codes "problem" ∷ version_word version ∷ []) (λ version. Unit {0})
+pub version_form : AreWordsForm version_in (λ version. codes "problem" ∷ version_word version ∷ []) (λ version. Unit {0}) (λ version. 10)
 unfolding version_in
 version_form = named_form (codes "problem") refl version_word_form
 
-side_form : IsWordForm side_in side_word (λ side. Unit {0})
+side_short : (side : Side) → length (side_word side) ≤ 8
+side_short Owner = omega arith
+side_short Opponent = omega arith
+
+side_form : IsWordForm side_in side_word (λ side. Unit {0}) 8
 unfolding side_in
 side_form = record {
   found = λ given side e. (side_called_is side_word given side e, tt);
   spelled = λ side is. side_spelled side;
   full = λ side is. side_word-word side;
+  short = λ side is. side_short side;
 }
 
-pub dealer_form : AreWordsForm dealer_in (λ side. codes "dealer" ∷ side_word side ∷ []) (λ side. Unit {0})
+pub dealer_form : AreWordsForm dealer_in (λ side. codes "dealer" ∷ side_word side ∷ []) (λ side. Unit {0}) (λ side. 16)
 unfolding dealer_in
 dealer_form = named_form (codes "dealer") refl side_form
 
 pub scores_form : AreWordsForm scores_in (λ scores. codes "score" ∷ decimal scores.owner ∷ decimal scores.opponent ∷ [])
-    (λ scores. (scores.owner ≤ 120) × (scores.opponent ≤ 120))
+    (λ scores. (scores.owner ≤ 120) × (scores.opponent ≤ 120)) (λ scores. 14)
 scores_form = record {
   found = λ given scores e. let is = scores_found given scores e in (is.0, (is.1, is.2));
   spelled = λ scores is. scores_spelled scores is.0 is.1;
   full = λ scores is. rw (number_word scores.owner (omega (arith, is.0)), number_word scores.opponent (omega (arith, is.1))) refl;
+  short = λ scores is. omega (arith, score_form.short scores.owner is.0, score_form.short scores.opponent is.1);
 }
 
-first_card_form : IsWordForm (new_card []) card_text IsCard
+first_card_form : IsWordForm (new_card []) card_text IsCard 2
 first_card_form = record {
   found = λ given card e. let is = card_found [] given card e in (is.0, is.1);
   spelled = λ card is. new_card_spelled [] card is refl;
   full = card_text-word;
+  short = λ card is. omega arith;
 }
 
-pub starter_form : AreWordsForm starter_in (λ card. codes "starter" ∷ card_text card ∷ []) IsCard
+pub starter_form : AreWordsForm starter_in (λ card. codes "starter" ∷ card_text card ∷ []) IsCard (λ card. 11)
 unfolding starter_in
 starter_form = named_form (codes "starter") refl first_card_form
 
-new_cards_form : (known : List ℕ) → AreWordsForm (new_cards known) (map card_text) (AreNew known)
+new_cards_form : (known : List ℕ) → AreWordsForm (new_cards known) (map card_text) (AreNew known) (λ cards. 3 * length cards)
 new_cards_form known = record {
   found = cards_found known;
   spelled = new_cards_spelled known;
   full = λ cards new. card_texts-words cards new.all_cards;
+  short = λ cards new. (each_form card_form).short cards new.all_cards;
 }
 
 pub cards_form : (keyword : List ℕ) (count : ℕ) (known : List ℕ) → is_word keyword ≡ true →
     AreWordsForm (cards_in_line keyword count known) (λ cards. keyword ∷ map card_text cards) (λ cards. (length cards ≡ count) × AreNew known cards)
+    (λ cards. length keyword + 1 + 3 * count)
 unfolding cards_in_line
 cards_form keyword count known is_keyword =
     words_as (keyword_form keyword count is_keyword (new_cards_form known))
     (λ cards is. (sym (length-map cards card_text) ∙ is.0, is.1)) (λ cards is. (length-map cards card_text ∙ is.0, is.1))
+    (λ cards is. omega (arith, is.0))
+
+goal_short : (score : ℕ) (goal : Goal) → IsGoal score goal → words_length (codes "goal" ∷ goal_words goal) ≤ 15
+goal_short score Win is = omega arith
+goal_short score Stop is = omega arith
+goal_short score (Holes holes) is = omega (arith, three_digits holes (omega (arith, is.1)))
 
 pub goal_form : (version : Version) (score : ℕ) → AreWordsForm (goal_in version score) (λ goal. codes "goal" ∷ goal_words goal)
-    (λ goal. IsGoal score goal × CanSay version goal [])
+    (λ goal. IsGoal score goal × CanSay version goal []) (λ goal. 15)
 goal_form version score = record {
   found = λ given goal e. let is = goal_found version score given goal e in (is.0, (is.1, is.2));
   spelled = λ goal is. goal_spelled version score goal is.1 is.0;
   full = λ goal is. goal_words-words score goal is.0;
+  short = λ goal is. goal_short score goal is.0;
 }

@@ -12,26 +12,30 @@ use Rattle.crib_text.proofs.SteadyReaders.{from_line, missing, lines_cut, text_c
 use Rattle.crib_text.proofs.Forms.{IsForm}
 
 -- lines that begin with the spelling of a value are read as it
-pub form_read : {A : Type 0} {read : Rest → Result (A × Rest) Refusal} {lines : A → List (List (List ℕ))} {is : A → Type 0} → IsForm read lines is
+pub form_read : {A : Type 0} {read : Rest → Result (A × Rest) Refusal} {lines : A → List (List (List ℕ))} {is : A → Type 0}
+    {most : A → ℕ} → IsForm read lines is most
     → (value : A) (rest : Rest) (more : List (List ℕ)) → is value → rest.lines ≡ map line_bytes (lines value) ++ more
     → read rest ≡ Ok (value, from_line (rest.number + length (lines value)) more)
 form_read {read = read} form value rest more is same = ap (λ ls. read (from_line rest.number ls)) same ∙ form.spelled value rest.number more is
 
 -- so a reader that read a value read this one
-pub form_only : {A : Type 0} {read : Rest → Result (A × Rest) Refusal} {lines : A → List (List (List ℕ))} {is : A → Type 0} → IsForm read lines is
+pub form_only : {A : Type 0} {read : Rest → Result (A × Rest) Refusal} {lines : A → List (List (List ℕ))} {is : A → Type 0}
+    {most : A → ℕ} → IsForm read lines is most
     → (value got : A) (rest after : Rest) (more : List (List ℕ)) → read rest ≡ Ok (got, after) → is value → rest.lines ≡ map line_bytes (lines value) ++ more
     → (got ≡ value) × (after.lines ≡ more)
 form_only {A = A} {lines = lines} form value got rest after more e is same =
     let both = ok_is (got, after) (value, from_line (rest.number + length (lines value)) more) (sym e ∙ form_read form value rest more is same) in
     (ap (λ (r : A × Rest). r.0) both, ap (λ (r : A × Rest). r.1.lines) both)
 
-pub one_spelling : {A : Type 0} {read : Rest → Result (A × Rest) Refusal} {lines : A → List (List (List ℕ))} {is : A → Type 0} → IsForm read lines is
+pub one_spelling : {A : Type 0} {read : Rest → Result (A × Rest) Refusal} {lines : A → List (List (List ℕ))} {is : A → Type 0}
+    {most : A → ℕ} → IsForm read lines is most
     → (value : A) (given : List (List ℕ)) (number after : ℕ) → read (from_line number given) ≡ Ok (value, from_line after []) →
     given ≡ map line_bytes (lines value)
 one_spelling {lines = lines} form value given number after e =
     (form.found (from_line number given) value (from_line after []) e).1 ∙ append-nil (map line_bytes (lines value))
 
-pub lines_apart : {A : Type 0} {read : Rest → Result (A × Rest) Refusal} {lines : A → List (List (List ℕ))} {is : A → Type 0} → IsForm read lines is
+pub lines_apart : {A : Type 0} {read : Rest → Result (A × Rest) Refusal} {lines : A → List (List (List ℕ))} {is : A → Type 0}
+    {most : A → ℕ} → IsForm read lines is most
     → (value other : A) (more : List (List ℕ)) → is value → is other → map line_bytes (lines value) ++ more ≡ map line_bytes (lines other)
     → (value ≡ other) × (more ≡ [])
 lines_apart {lines = lines} form value other more is is_other same =
@@ -39,11 +43,13 @@ lines_apart {lines = lines} form value other more is is_other same =
     (form.spelled value 1 more is) is_other (same ∙ sym (append-nil (map line_bytes (lines other))))
 
 -- the lines of a text that begins with a spelling
-text_lines : {A : Type 0} {read : Rest → Result (A × Rest) Refusal} {lines : A → List (List (List ℕ))} {is : A → Type 0} → IsForm read lines is
+text_lines : {A : Type 0} {read : Rest → Result (A × Rest) Refusal} {lines : A → List (List (List ℕ))} {is : A → Type 0}
+    {most : A → ℕ} → IsForm read lines is most
     → (value : A) (more : List ℕ) → is value → lines_of (lines_text (lines value) ++ more) ≡ map line_bytes (lines value) ++ lines_of more
 text_lines {lines = lines} form value more is = lines_of-lines_text (lines value) more (form.full value is)
 
-pub texts_apart : {A : Type 0} {read : Rest → Result (A × Rest) Refusal} {lines : A → List (List (List ℕ))} {is : A → Type 0} → IsForm read lines is
+pub texts_apart : {A : Type 0} {read : Rest → Result (A × Rest) Refusal} {lines : A → List (List (List ℕ))} {is : A → Type 0}
+    {most : A → ℕ} → IsForm read lines is most
     → (value other : A) (more : List ℕ) → is value → is other → lines_text (lines value) ++ more ≡ lines_text (lines other) → (value ≡ other) × (more ≡ [])
 texts_apart {lines = lines} form value other more is is_other same =
     let whole = ap lines_of (sym (append-nil (lines_text (lines other)))) ∙ text_lines form other [] is_other
@@ -51,26 +57,30 @@ texts_apart {lines = lines} form value other more is is_other same =
     let both = lines_apart form value other (lines_of more) is is_other (sym (text_lines form value more is) ∙ ap lines_of same ∙ whole) in
     (both.0, lines_of-none more both.1)
 
-pub texts_differ : {A : Type 0} {read : Rest → Result (A × Rest) Refusal} {lines : A → List (List (List ℕ))} {is : A → Type 0} → IsForm read lines is
+pub texts_differ : {A : Type 0} {read : Rest → Result (A × Rest) Refusal} {lines : A → List (List (List ℕ))} {is : A → Type 0}
+    {most : A → ℕ} → IsForm read lines is most
     → (value other : A) → is value → is other → lines_text (lines value) ≡ lines_text (lines other) → value ≡ other
 texts_differ {lines = lines} form value other is is_other same =
     (texts_apart form value other [] is is_other (append-nil (lines_text (lines value)) ∙ same)).0
 
-pub read_again : {A : Type 0} {read : Rest → Result (A × Rest) Refusal} {lines : A → List (List (List ℕ))} {is : A → Type 0} → IsForm read lines is
+pub read_again : {A : Type 0} {read : Rest → Result (A × Rest) Refusal} {lines : A → List (List (List ℕ))} {is : A → Type 0}
+    {most : A → ℕ} → IsForm read lines is most
     → (value : A) (after : ℕ) → is value → after ≡ length (lines value) + 1 → (all_lines (lines_text (lines value)) >>= read) ≡ Ok (value, from_line after [])
 read_again {read = read} {lines = lines} form value after is last =
     ap (λ r. r >>= read) (all_lines-lines_text (lines value) (form.full value is))
     ∙ form_read form value (from_line 1 (map line_bytes (lines value))) [] is (sym (append-nil (map line_bytes (lines value))))
     ∙ ap (λ n. Ok (value, from_line n [])) (omega (arith, last))
 
-pub lines_cut_short : {A : Type 0} {read : Rest → Result (A × Rest) Refusal} {lines : A → List (List (List ℕ))} {is : A → Type 0} → IsForm read lines is
+pub lines_cut_short : {A : Type 0} {read : Rest → Result (A × Rest) Refusal} {lines : A → List (List (List ℕ))} {is : A → Type 0}
+    {most : A → ℕ} → IsForm read lines is most
     → (value : A) (number : ℕ) (front : List (List ℕ)) (next : List ℕ) (back : List (List ℕ)) → is value → front ++ next ∷ back ≡ map line_bytes (lines value)
     → read (from_line number front) ≡ Err (missing (number + length front))
 lines_cut_short {read = read} {lines = lines} form value number front next back is same =
     lines_cut read number (number + length (lines value)) front next back value form.steady
     (form_read form value (from_line number (front ++ next ∷ back)) [] is (same ∙ sym (append-nil (map line_bytes (lines value)))))
 
-pub text_cut_short : {A : Type 0} {read : Rest → Result (A × Rest) Refusal} {lines : A → List (List (List ℕ))} {is : A → Type 0} → IsForm read lines is
+pub text_cut_short : {A : Type 0} {read : Rest → Result (A × Rest) Refusal} {lines : A → List (List (List ℕ))} {is : A → Type 0}
+    {most : A → ℕ} → IsForm read lines is most
     → (value : A) (front : List ℕ) (next : ℕ) (back : List ℕ) → is value → front ++ next ∷ back ≡ lines_text (lines value)
     → (all_lines front >>= read) ≡ Err (missing (line_after front))
 text_cut_short {read = read} {lines = lines} form value front next back is same =

@@ -1,47 +1,55 @@
 -- Forms: a reader, and how the values that it reads are spelled. Where forms are put together, what holds of each holds of the whole.
 use Rattle.std.proofs.Common.{◌≡◌, ℕ, zero, suc, ◌+◌, ◌-◌, ◌<◌, ◌≤◌, true, List, [], ◌∷◌, ◌++◌, length, map, Result, Ok, Err, codes, refl, sym, ap, subst, ◌∙◌}
-use Rattle.std.proofs.Common.{◌^◌, decimal, append_assoc, arith}
+use Rattle.std.proofs.Common.{◌^◌, ◌*◌, decimal, append_assoc, arith}
+use Rattle.std.proofs.Math.Nat.{mul-suc}
 use Rattle.std.specs.Prelude.{nat_le}
 use Rattle.std.proofs.lemmas.Bool.{leb-true, le-leb}
 use Rattle.std.specs.List.{AllByRecursion, list_all}
 use Rattle.std.proofs.lemmas.List.{append-nil, length-append, map-append}
 use Rattle.std.proofs.lemmas.List.Folds.{list_all-append}
 use Rattle.crib_text.specs.Refusals.{Refusal}
-use Rattle.crib_text.specs.Spelling.{line_bytes}
+use Rattle.std.proofs.lemmas.Fmt.{length-decimal-le}
+use Rattle.crib_text.specs.Spelling.{line_bytes, line_text, lines_text}
 use Rattle.crib_text.specs.Reading.{◌>>=◌, Rest, value_at, unless_refused, after_keyword, only_word, number_in, header_in}
 use Rattle.crib_text.specs.Forms.{each_in, values_at}
 use Rattle.crib_text.proofs.SpellingLemmas.{is_word, are_words, is_word-decimal}
 use Rattle.crib_text.proofs.ReadingLemmas.{bind_ok, ok_is, unless_ok, value_found, front_line, after_found, only_found, number_found, header_found}
 use Rattle.crib_text.proofs.ReadingLemmas.{value_spelled, after_spelled, only_spelled, number_spelled, header_spelled}
+use Rattle.crib_text.proofs.TextLengths.{words_length, length-line_text, length-lines_text}
 use Rattle.crib_text.proofs.SteadyReaders.{IsSteady, from_line, steady_ok, steady_after, steady_then, steady_value}
 
 -- ---- words
 
--- a word is read as a value exactly where it is the word of that value
-pub record IsWordForm {A : Type 0} (read : List ℕ → Result A ℕ) (word : A → List ℕ) (is : A → Type 0) : Type 0 where
+-- a word is read as a value exactly where it is the word of that value, which has at most so many bytes
+pub record IsWordForm {A : Type 0} (read : List ℕ → Result A ℕ) (word : A → List ℕ) (is : A → Type 0) (most : ℕ) : Type 0 where
   pub found : (given : List ℕ) (value : A) → read given ≡ Ok value → (given ≡ word value) × is value
   pub spelled : (value : A) → is value → read (word value) ≡ Ok value
   pub full : (value : A) → is value → is_word (word value) ≡ true
+  pub short : (value : A) → is value → length (word value) ≤ most
 
--- the same of some words
-pub record AreWordsForm {A : Type 0} (read : List (List ℕ) → Result A ℕ) (words : A → List (List ℕ)) (is : A → Type 0) : Type 0 where
+-- the same of some words. Each takes one byte more, for what stands behind it
+pub record AreWordsForm {A : Type 0} (read : List (List ℕ) → Result A ℕ) (words : A → List (List ℕ)) (is : A → Type 0) (most : A → ℕ) : Type 0 where
   pub found : (given : List (List ℕ)) (value : A) → read given ≡ Ok value → (given ≡ words value) × is value
   pub spelled : (value : A) → is value → read (words value) ≡ Ok value
   pub full : (value : A) → is value → list_all is_word (words value) ≡ true
+  pub short : (value : A) → is value → words_length (words value) ≤ most value
 
 -- the same form, where what is well formed is said otherwise
-pub words_as : {A : Type 0} {read : List (List ℕ) → Result A ℕ} {words : A → List (List ℕ)} {is are : A → Type 0} → AreWordsForm read words is →
-    ((value : A) → is value → are value) → ((value : A) → are value → is value) → AreWordsForm read words are
-words_as form to from = record {
+pub words_as : {A : Type 0} {read : List (List ℕ) → Result A ℕ} {words : A → List (List ℕ)} {is are : A → Type 0} {most wider : A → ℕ}
+    → AreWordsForm read words is most → ((value : A) → is value → are value) → ((value : A) → are value → is value)
+    → ((value : A) → are value → most value ≤ wider value) → AreWordsForm read words are wider
+words_as form to from within = record {
   found = λ given value e. let one = form.found given value e in (one.0, to value one.1);
   spelled = λ value is. form.spelled value (from value is);
   full = λ value is. form.full value (from value is);
+  short = λ value is. omega (arith, form.short value (from value is), within value is);
 }
 
 -- a keyword, and then so many words
-pub keyword_form : {A : Type 0} {read : List (List ℕ) → Result A ℕ} {words : A → List (List ℕ)} {is : A → Type 0} (keyword : List ℕ) (count : ℕ) →
-    is_word keyword ≡ true → AreWordsForm read words is
+pub keyword_form : {A : Type 0} {read : List (List ℕ) → Result A ℕ} {words : A → List (List ℕ)} {is : A → Type 0} {most : A → ℕ} (keyword : List ℕ)
+    (count : ℕ) → is_word keyword ≡ true → AreWordsForm read words is most
     → AreWordsForm (λ given. after_keyword keyword count given >>= read) (λ value. keyword ∷ words value) (λ value. (length (words value) ≡ count) × is value)
+    (λ value. length keyword + 1 + most value)
 keyword_form {read = read} {words = words} keyword count is_keyword form = record {
   found = λ given value e.
       let a = bind_ok (after_keyword keyword count given) read value e in
@@ -50,12 +58,13 @@ keyword_form {read = read} {words = words} keyword count is_keyword form = recor
       (after.0 ∙ ap (λ ws. keyword ∷ ws) rest.0, (sym (ap length rest.0) ∙ after.1, rest.1));
   spelled = λ value is. rw (after_spelled keyword count (words value) is.0) (form.spelled value is.1);
   full = λ value is. rw (is_keyword, form.full value is.1) refl;
+  short = λ value is. omega (arith, form.short value is.1);
 }
 
 -- a number that is at most so much; a greater one is refused
-pub most_form : (refused most : ℕ) → most < 2 ^ 32 →
-    IsWordForm (λ word. number_in word >>= λ n. unless_refused refused (nat_le n most) >>= λ _. Ok n) decimal (λ n. n ≤ most)
-most_form refused most small = record {
+pub most_form : (refused most digits : ℕ) → most < 2 ^ 32 → 0 < digits → most < 10 ^ digits →
+    IsWordForm (λ word. number_in word >>= λ n. unless_refused refused (nat_le n most) >>= λ _. Ok n) decimal (λ n. n ≤ most) digits
+most_form refused most digits small some enough = record {
   found = λ given n e.
       let a = bind_ok (number_in given) _ n e in
       let b = bind_ok (unless_refused refused (nat_le a.0 most)) _ n a.2 in
@@ -63,12 +72,14 @@ most_form refused most small = record {
       subst (λ k. (given ≡ decimal k) × (k ≤ most)) (ok_is a.0 n b.2) ((number_found given a.0 a.1).0, few);
   spelled = λ n few. rw (number_spelled n (omega (arith, few, small)), le-leb n most few) refl;
   full = λ n few. is_word-decimal n (omega (arith, few, small));
+  short = λ n few. length-decimal-le digits n some (omega (arith, few, enough)) (omega (arith, few, small));
 }
 
 -- a keyword, and then one word
-pub named_form : {A : Type 0} {read : List ℕ → Result A ℕ} {word : A → List ℕ} {is : A → Type 0} (keyword : List ℕ) → is_word keyword ≡ true →
-    IsWordForm read word is
+pub named_form : {A : Type 0} {read : List ℕ → Result A ℕ} {word : A → List ℕ} {is : A → Type 0} {most : ℕ} (keyword : List ℕ) →
+    is_word keyword ≡ true → IsWordForm read word is most
     → AreWordsForm (λ given. after_keyword keyword 1 given >>= λ words. only_word words >>= read) (λ value. keyword ∷ word value ∷ []) is
+    (λ value. length keyword + 1 + (most + 1))
 named_form {word = word} keyword is_keyword form = record {
   found = λ given value e.
       let a = bind_ok (after_keyword keyword 1 given) _ value e in
@@ -79,13 +90,14 @@ named_form {word = word} keyword is_keyword form = record {
       );
   spelled = λ value is. rw (after_spelled keyword 1 (word value ∷ []) refl, only_spelled (word value)) (form.spelled value is);
   full = λ value is. rw (is_keyword, form.full value is) refl;
+  short = λ value is. omega (arith, form.short value is);
 }
 
 -- a word for each of some values
-pub each_form : {A : Type 0} {read : List ℕ → Result A ℕ} {word : A → List ℕ} {is : A → Type 0} → IsWordForm read word is
-    → AreWordsForm (each_in read) (map word) (AllByRecursion is)
+pub each_form : {A : Type 0} {read : List ℕ → Result A ℕ} {word : A → List ℕ} {is : A → Type 0} {most : ℕ} → IsWordForm read word is most
+    → AreWordsForm (each_in read) (map word) (AllByRecursion is) (λ values. (most + 1) * length values)
 unfolding each_in
-each_form {A = A} {read = read} {word = word} {is = is} form = record { found = found; spelled = spelled; full = full }
+each_form {A = A} {read = read} {word = word} {is = is} {most = most} form = record { found = found; spelled = spelled; full = full; short = short }
   where
     found : (given : List (List ℕ)) (values : List A) → each_in read given ≡ Ok values → (given ≡ map word values) × AllByRecursion is values
     found [] values e = subst (λ (vs : List A). ([] ≡ map word vs) × AllByRecursion is vs) (ok_is [] values e) (refl, tt)
@@ -105,27 +117,33 @@ each_form {A = A} {read = read} {word = word} {is = is} form = record { found = 
     full [] all = refl
     full (value ∷ values) all = rw (form.full value all.0, full values all.1) refl
 
+    short : (values : List A) → AllByRecursion is values → words_length (map word values) ≤ (most + 1) * length values
+    short [] all = omega arith
+    short (value ∷ values) all = omega (arith, form.short value all.0, short values all.1, mul-suc (most + 1) (length values))
+
 -- the first line of a section
-pub header_form : (name : List ℕ) → is_word name ≡ true → AreWordsForm (header_in name) (λ _. name ∷ codes "1" ∷ []) (λ _. Unit {0})
+pub header_form : (name : List ℕ) → is_word name ≡ true → AreWordsForm (header_in name) (λ _. name ∷ codes "1" ∷ []) (λ _. Unit {0}) (λ _. length name + 3)
 header_form name is_name = record {
   found = λ given value e. (header_found name given value e, tt);
   spelled = λ value is. header_spelled name;
   full = λ value is. rw is_name refl;
+  short = λ value is. omega arith;
 }
 
 -- ---- lines
 
--- lines are read as a value, with the lines after them, exactly where they begin with the lines of that value
-pub record IsForm {A : Type 0} (read : Rest → Result (A × Rest) Refusal) (lines : A → List (List (List ℕ))) (is : A → Type 0) : Type 0 where
+-- lines are read as a value, with the lines after them, exactly where they begin with the lines of that value. Their text has at most so many bytes
+pub record IsForm {A : Type 0} (read : Rest → Result (A × Rest) Refusal) (lines : A → List (List (List ℕ))) (is : A → Type 0) (most : A → ℕ) : Type 0 where
   pub found : (rest : Rest) (value : A) (after : Rest) → read rest ≡ Ok (value, after) → is value × (rest.lines ≡ map line_bytes (lines value) ++ after.lines)
   pub spelled : (value : A) (number : ℕ) (rest : List (List ℕ)) → is value
       → read (from_line number (map line_bytes (lines value) ++ rest)) ≡ Ok (value, from_line (number + length (lines value)) rest)
   pub full : (value : A) → is value → list_all are_words (lines value) ≡ true
+  pub short : (value : A) → is value → length (lines_text (lines value)) ≤ most value
   pub steady : IsSteady read
 
 -- one line
-pub line_form : {A : Type 0} {read : List (List ℕ) → Result A ℕ} {words : A → List (List ℕ)} {is : A → Type 0} → AreWordsForm read words is →
-    ((value : A) → are_words (words value) ≡ list_all is_word (words value)) → IsForm (value_at read) (λ value. words value ∷ []) is
+pub line_form : {A : Type 0} {read : List (List ℕ) → Result A ℕ} {words : A → List (List ℕ)} {is : A → Type 0} {most : A → ℕ} → AreWordsForm read words is most
+    → ((value : A) → are_words (words value) ≡ list_all is_word (words value)) → IsForm (value_at read) (λ value. words value ∷ []) is most
 line_form {read = read} {words = words} form some = record {
   found = λ rest value after e.
       let line = value_found read rest (value, after) e in
@@ -133,17 +151,21 @@ line_form {read = read} {words = words} form some = record {
       (is.1, front_line rest.lines line.0 (words value) after.lines line.1 is.0);
   spelled = λ value number rest is. value_spelled read number (words value) rest value (some value ∙ form.full value is) (form.spelled value is);
   full = λ value is. rw (some value, form.full value is) refl;
+  short = λ value is.
+      let line = length-line_text (words value) (some value ∙ form.full value is) in
+      omega (arith, ap length (append-nil (line_text (words value))), form.short value is);
   steady = steady_value read;
 }
 
 -- no line
-pub none_form : {A : Type 0} (made : A) → IsForm (λ rest. Ok (made, rest)) (λ value. []) (λ value. value ≡ made)
+pub none_form : {A : Type 0} (made : A) → IsForm (λ rest. Ok (made, rest)) (λ value. []) (λ value. value ≡ made) (λ value. 0)
 none_form {A = A} made = record {
   found = λ rest value after e.
       let both = ok_is (made, rest) (value, after) e in
       (ap (λ (p : A × Rest). p.0) (sym both), ap (λ (p : A × Rest). p.1.lines) both);
   spelled = λ value number rest is. rw is (ap (λ n. Ok (made, from_line n rest)) (omega arith));
   full = λ value is. refl;
+  short = λ value is. omega arith;
   steady = steady_ok made;
 }
 
@@ -153,9 +175,10 @@ joined first more rest = ap (λ ls. ls ++ rest) (map-append line_bytes first mor
 
 -- some lines, and then others, which may depend on what the first ones say and rest on it
 pub then_given_form : {A B : Type 0} {read : Rest → Result (A × Rest) Refusal} {lines : A → List (List (List ℕ))} {is : A → Type 0}
-    {more : B → List (List (List ℕ))} {are : A → B → Type 0} (next : A × Rest → Result (B × Rest) Refusal) (part : B → A) → IsForm read lines is
-    → ((a : A) → is a → IsForm (λ rest. next (a, rest)) more (are a)) → ((a : A) (b : B) → is a → are a b → part b ≡ a)
-    → IsForm (λ rest. read rest >>= next) (λ b. lines (part b) ++ more b) (λ b. is (part b) × are (part b) b)
+    {most : A → ℕ} {more : B → List (List (List ℕ))} {are : A → B → Type 0} {most_more : B → ℕ} (next : A × Rest → Result (B × Rest) Refusal) (part : B → A)
+    → IsForm read lines is most → ((a : A) → is a → IsForm (λ rest. next (a, rest)) more (are a) most_more)
+    → ((a : A) (b : B) → is a → are a b → part b ≡ a)
+    → IsForm (λ rest. read rest >>= next) (λ b. lines (part b) ++ more b) (λ b. is (part b) × are (part b) b) (λ b. most (part b) + most_more b)
 then_given_form {A = A} {read = read} {lines = lines} {is = is} {more = more} {are = are} next part first others agree = record {
   found = λ rest value after e.
       let a = bind_ok (read rest) next (value, after) e in
@@ -170,26 +193,33 @@ then_given_form {A = A} {read = read} {lines = lines} {is = is} {more = more} {a
       ∙ ap (λ n. Ok (value, from_line n rest)) (omega (arith, length-append (lines (part value)) (more value)));
   full = λ value is.
       list_all-append are_words (lines (part value)) (more value) ∙ rw (first.full (part value) is.0, (others (part value) is.0).full value is.1) refl;
+  short = λ value is. omega (
+    arith,
+    length-lines_text (lines (part value)) (more value),
+    first.short (part value) is.0,
+    (others (part value) is.0).short value is.1,
+  );
   steady = steady_after read next first.steady (λ a rest after e. (others a (first.found rest a after e).0).steady);
 }
 
 pub then_form : {A B : Type 0} {read : Rest → Result (A × Rest) Refusal} {lines : A → List (List (List ℕ))} {is : A → Type 0}
-    {more : B → List (List (List ℕ))} {are : A → B → Type 0} (next : A × Rest → Result (B × Rest) Refusal) (part : B → A) → IsForm read lines is
-    → ((a : A) → IsForm (λ rest. next (a, rest)) more (are a)) → ((a : A) (b : B) → is a → are a b → part b ≡ a)
-    → IsForm (λ rest. read rest >>= next) (λ b. lines (part b) ++ more b) (λ b. is (part b) × are (part b) b)
+    {most : A → ℕ} {more : B → List (List (List ℕ))} {are : A → B → Type 0} {most_more : B → ℕ} (next : A × Rest → Result (B × Rest) Refusal) (part : B → A)
+    → IsForm read lines is most → ((a : A) → IsForm (λ rest. next (a, rest)) more (are a) most_more) → ((a : A) (b : B) → is a → are a b → part b ≡ a)
+    → IsForm (λ rest. read rest >>= next) (λ b. lines (part b) ++ more b) (λ b. is (part b) × are (part b) b) (λ b. most (part b) + most_more b)
 then_form next part first others agree = then_given_form next part first (λ a is. others a) agree
 
 -- the same form in other words
-pub form_as : {A : Type 0} {read : Rest → Result (A × Rest) Refusal} {lines spelling : A → List (List (List ℕ))} {is are : A → Type 0} → IsForm read lines is
-    → ((value : A) → is value → are value) → ((value : A) → are value → is value) → ((value : A) → is value → lines value ≡ spelling value)
-    → IsForm read spelling are
-form_as {A = A} {read = read} {are = are} form to from same = record {
+pub form_as : {A : Type 0} {read : Rest → Result (A × Rest) Refusal} {lines spelling : A → List (List (List ℕ))} {is are : A → Type 0} {most wider : A → ℕ}
+    → IsForm read lines is most → ((value : A) → is value → are value) → ((value : A) → are value → is value)
+    → ((value : A) → is value → lines value ≡ spelling value) → ((value : A) → are value → most value ≤ wider value) → IsForm read spelling are wider
+form_as {A = A} {read = read} {are = are} form to from same within = record {
   found = λ rest value after e.
       let read = form.found rest value after e in
       (to value read.0, read.1 ∙ ap (λ ls. map line_bytes ls ++ after.lines) (same value read.0));
   spelled = λ value number rest is.
       rw (sym (same value (from value is))) (form.spelled value number rest (from value is));
   full = λ value is. ap (list_all are_words) (sym (same value (from value is))) ∙ form.full value (from value is);
+  short = λ value is. omega (arith, ap (λ ls. length (lines_text ls)) (same value (from value is)), form.short value (from value is), within value is);
   steady = form.steady;
 }
 
@@ -205,19 +235,20 @@ abbrev pub AreRows : {A : Type 0} → (ℕ → A → Type 0) → ℕ → List A 
 AreRows is place [] = Unit {0}
 AreRows is place (value ∷ values) = is place value × AreRows is (place + 1) values
 
-pub many_form : {A : Type 0} {read : ℕ → List (List ℕ) → Result A ℕ} {words : ℕ → A → List (List ℕ)} {is : ℕ → A → Type 0}
-    → ((place : ℕ) → AreWordsForm (read place) (words place) (is place)) → ((place : ℕ) (value : A) → are_words (words place value) ≡ list_all is_word
-    (words place value))
-    → (place count : ℕ) → IsForm (values_at read place count) (row_lines words place) (λ values. (length values ≡ count) × AreRows is place values)
+pub many_form : {A : Type 0} {read : ℕ → List (List ℕ) → Result A ℕ} {words : ℕ → A → List (List ℕ)} {is : ℕ → A → Type 0} {most : ℕ}
+    → ((place : ℕ) → AreWordsForm (read place) (words place) (is place) (λ value. most))
+    → ((place : ℕ) (value : A) → are_words (words place value) ≡ list_all is_word (words place value)) → (place count : ℕ)
+    → IsForm (values_at read place count) (row_lines words place) (λ values. (length values ≡ count) × AreRows is place values) (λ values. most * length values)
 unfolding values_at
-many_form {A = A} {read = read} {words = words} {is = is} each some place count = record {
+many_form {A = A} {read = read} {words = words} {is = is} {most = most} each some place count = record {
   found = found place count;
   spelled = spelled place count;
   full = λ values all. full place values all.1;
+  short = λ values all. short place values all.1;
   steady = steady place count;
 }
   where
-    form : (place : ℕ) → IsForm (value_at (read place)) (λ value. words place value ∷ []) (is place)
+    form : (place : ℕ) → IsForm (value_at (read place)) (λ value. words place value ∷ []) (is place) (λ value. most)
     form place = line_form (each place) (some place)
 
     found : (place count : ℕ) (rest : Rest) (values : List A) (after : Rest) → values_at read place count rest ≡ Ok (values, after)
@@ -254,18 +285,29 @@ many_form {A = A} {read = read} {words = words} {is = is} each some place count 
     full place [] all = refl
     full place (value ∷ values) all = rw (some place value, (each place).full value all.0, full (place + 1) values all.1) refl
 
+    short : (place : ℕ) (values : List A) → AreRows is place values → length (lines_text (row_lines words place values)) ≤ most * length values
+    short place [] all = omega arith
+    short place (value ∷ values) all = omega (
+      arith,
+      length-lines_text (words place value ∷ []) (row_lines words (place + 1) values),
+      (form place).short value all.0,
+      short (place + 1) values all.1,
+      mul-suc most (length values),
+    )
+
     steady : (place count : ℕ) → IsSteady (values_at read place count)
     steady place zero = steady_ok []
     steady place (suc left) = steady_then (value_at (read place)) _ (form place).steady (λ value.
         steady_then (values_at read (place + 1) left) _ (steady (place + 1) left) (λ values. steady_ok (value ∷ values)))
 
 -- as many lines as there are values, where their places say nothing
-pub each_line_form : {A : Type 0} {read : List (List ℕ) → Result A ℕ} {words : A → List (List ℕ)} {is : A → Type 0} → AreWordsForm read words is →
-    ((value : A) → are_words (words value) ≡ list_all is_word (words value)) → (count : ℕ)
-    → IsForm (values_at (λ place. read) 0 count) (map words) (λ values. (length values ≡ count) × AllByRecursion is values)
+pub each_line_form : {A : Type 0} {read : List (List ℕ) → Result A ℕ} {words : A → List (List ℕ)} {is : A → Type 0} {most : ℕ}
+    → AreWordsForm read words is (λ value. most) → ((value : A) → are_words (words value) ≡ list_all is_word (words value)) → (count : ℕ)
+    → IsForm (values_at (λ place. read) 0 count) (map words) (λ values. (length values ≡ count) × AllByRecursion is values) (λ values. most * length values)
 each_line_form {A = A} {words = words} {is = is} each some count =
     form_as (many_form (λ place. each) (λ place. some) 0 count)
     (λ values all. (all.0, to 0 values all.1)) (λ values all. (all.0, from 0 values all.1)) (λ values all. same 0 values)
+    (λ values all. omega arith)
   where
     to : (place : ℕ) (values : List A) → AreRows (λ place. is) place values → AllByRecursion is values
     to place [] all = tt

@@ -15,7 +15,7 @@ use Rattle.crib_plan.specs.declared.plan.Node.TheVariants.{Play, See}
 use Rattle.crib_plan.specs.Nodes.{most_nodes, IsLater, IsNode, AreNodes, ArePlan}
 use Rattle.crib_plan.specs.Spelling.{letter_bytes, colon, leads_to, letters_to, branch_word, nodes_of, node_line}
 use Rattle.crib_plan.specs.Private.Spelling.{seen_after, spaced_branch}
-use Rattle.crib_plan.specs.Spelling.{node_lines, plan_lines, plan_text}
+use Rattle.crib_plan.specs.Spelling.{node_lines}
 use Rattle.crib_plan.proofs.BranchReadIsSpelled.{nodes_in}
 use Rattle.crib_plan.proofs.LeadsTo.{leads, nodes_of-append, has-seen_after}
 
@@ -290,13 +290,3 @@ see_text place nexts old =
 pub lines_next : (nodes : List Node) (i : ℕ) (d : Node) → i < length nodes → lines_text (node_lines i (drop i nodes)) ≡ line_text
     (node_line i (get_or nodes i d)) ++ lines_text (node_lines (i + 1) (drop (i + 1) nodes))
 lines_next nodes i d inside = ap (λ (ns : List Node). lines_text (node_lines i ns)) (drop_more nodes i d inside)
-
-regroup : (a b c d : List ℕ) → ((([] ++ a) ++ b) ++ c) ++ d ≡ a ++ ((b ++ c) ++ d)
-regroup a b c d = simp append_assoc
-
-pub head_text : (plan : List Node) → ((([] ++ codes "plan 1\nnodes ") ++ decimal (length plan)) ++ codes "\n")
-    ++ lines_text (node_lines 0 plan) ≡ plan_text plan
-unfolding plan_text plan_lines
-head_text plan = regroup (codes "plan 1\nnodes ") (decimal (length plan)) (codes "\n") (lines_text (node_lines 0 plan))
-
-pub ruleset lines = (lines_next, head_text)

@@ -1,13 +1,8 @@
--- The parts of lines that are written last.
+-- The part of a line that is written last.
 use Rattle.std.specs.Prelude.{ℕ, List, [], ◌∷◌, ◌++◌}
 use Rattle.crib_cards.specs.declared.moves.Move.{Move}
-use Rattle.crib_text.specs.Spelling.{space, line_feed, line_text}
-use Rattle.crib_problem.specs.declared.problem.Goal.{Goal}
-use Rattle.crib_problem.specs.Spelling.{goal_words, move_word}
-
--- the words of a goal, ended by LF
-unfoldable pub goal_end : Goal → List ℕ
-goal_end goal = line_text (goal_words goal)
+use Rattle.crib_text.specs.Spelling.{space, line_feed}
+use Rattle.crib_problem.specs.Spelling.{move_word}
 
 -- a space, the word of a move, and LF
 abbrev pub move_end : Move → List ℕ

@@ -19,7 +19,7 @@ use Rattle.crib_answer.specs.Answer.{refusal_reply, reply_by, report_reply, boar
 use Rattle.crib_search.specs.Finder.{IsFound, ExceedsLimit}
 use Rattle.crib_answer.specs.Input.{ending_at, ending_of_input, input_lines, problem_alone_at, problem_of_input, question_at}
 use Rattle.crib_answer.specs.Input.{question_of_input, report_at, report_of_input, board_at, board_of_input}
-use Rattle.crib_answer.specs.Private.Replies.{IsToldOf}
+use Rattle.crib_answer.specs.Private.Replies.{IsToldOf, IsVerdictOn}
 use Rattle.crib_answer.specs.Laws.{TooLongLaw}
 use Rattle.crib_answer.specs.Memory.{Makes, count_behind, count_of_input}
 
@@ -51,6 +51,7 @@ too_long_law job input long = long_answers job input _ long refl
 -- the reply to a verdict that is right is the one that `check` owes
 pub verdict_owed : (input : List ℕ) (verdict : Verdict) (reply : Reply) → IsToldOf (question_of_input input) verdict → reply ≡ verdict_reply verdict
     → Answers Check input reply
+unfolding IsVerdictOn
 verdict_owed input verdict reply told is =
     let A : Result (Setup × List Node) Refusal → Type 0 = λ said. AnswersCheck said reply in
     subst A (sym told.asked) (verdict, told.right, is)

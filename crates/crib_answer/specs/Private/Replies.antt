@@ -27,12 +27,16 @@ Tells view (Ok value) said = said ≡ Ok (view value)
 Tells view (Err (stops.Refused refused)) said = said ≡ Err (refusal_of refused)
 Tells view (Err stops.Memory) said = Unit {0}
 
+-- the verdict on a plan is right, without a look at what that says
+unfoldable pub IsVerdictOn : Setup → List Node → Verdict → Type 0
+IsVerdictOn problem plan verdict = IsRight problem plan verdict
+
 -- a verdict is right for the problem and the plan that were read
 pub record IsToldOf (said : Result (Setup × List Node) Refusal) (verdict : Verdict) : Type 0 where
   pub problem : Setup
   pub plan : List Node
   pub asked : said ≡ Ok (problem, plan)
-  pub right : IsRight problem plan verdict
+  pub right : IsVerdictOn problem plan verdict
 
 -- a result tells what was read: its verdict is right for the problem and the plan, or it has the same refusal. If
 -- memory was refused, it tells nothing

@@ -1,14 +1,13 @@
 //! Gos of a player who holds a card that fits.
 use crate::job::Job;
 use crate::status::Status;
-use crate::tests::answers::{gives, joined, refuses_each_beginning};
+use crate::tests::answers::{gives, refuses_each_beginning};
 use crate::tests::inputs::{FALSE_GO, TENS, TENS_AFTER_A_FALSE_GO};
 
 #[test]
 fn refuses_a_false_go(rt: HostRuntime) {
-    let input = joined(&rt, &[TENS, FALSE_GO]);
     let wanted = "refused line 15: 43\n";
-    gives(&rt, Job::Replay, input.as_str(), wanted, Status::Refused);
+    gives(&rt, Job::Replay, &[TENS, FALSE_GO], wanted, Status::Refused);
     refuses_each_beginning(&rt, Job::Replay, &[TENS, FALSE_GO]);
 }
 
@@ -17,12 +16,17 @@ fn refuses_a_false_go(rt: HostRuntime) {
 #[test]
 fn refuses_turns_after_a_false_go(rt: HostRuntime) {
     let wanted = "refused line 14: 23\n";
-    let input = joined(&rt, &[TENS_AFTER_A_FALSE_GO, FALSE_GO]);
-    gives(&rt, Job::Replay, input.as_str(), wanted, Status::Refused);
+    gives(
+        &rt,
+        Job::Replay,
+        &[TENS_AFTER_A_FALSE_GO, FALSE_GO],
+        wanted,
+        Status::Refused,
+    );
     gives(
         &rt,
         Job::Solve,
-        TENS_AFTER_A_FALSE_GO,
+        &[TENS_AFTER_A_FALSE_GO],
         wanted,
         Status::Refused,
     );

@@ -1,12 +1,14 @@
 //! Answers while memory is refused, one growth after another.
-use crate::answering::answer_to;
+use crate::answer::Answer;
 use crate::job::Job;
 use crate::status::Status;
-use crate::tests::answers::joined;
+use crate::tests::answers::{answer_of, is_answer, joined};
 use crate::tests::boards::LAST_CARD_BOARD;
 use crate::tests::follows::ONE_GAME;
 use crate::tests::inputs::*;
 use refusing_alloc::Refusing;
+use std::alloc::{Allocator, Global};
+use std::io;
 use std::process::Abort;
 
 const REPLAYED: [&str; 2] = [TENS, LAST_CARD];
@@ -27,8 +29,62 @@ fn told_alone(told: u32) -> Refusals {
     }
 }
 
-// Refuses the first growth of a job, then the second, and so on, until no growth is refused. Asserts that each answer
-// is `fault 11` alone, or `wanted` with `status`. Returns how many there were of each.
+// What became of a growth that was to be refused: `fault 11`, the answer that is wanted all the same, or there was no
+// such growth.
+#[derive(Clone, Copy)]
+enum Growth {
+    Told,
+    PassedOver,
+    Missing,
+}
+
+// Asserts that an answer is `fault 11` alone, or `wanted` with `status`. Returns whether it is `fault 11`.
+fn is_fault<A: Allocator>(
+    rt: &impl Abort,
+    answer: &Answer<A>,
+    wanted: &str,
+    status: Status,
+    what: &str,
+) -> bool {
+    if answer.status() == Status::Fault {
+        is_answer(rt, answer, "fault 11\n", Status::Fault, what);
+        return true;
+    }
+    is_answer(rt, answer, wanted, status, what);
+    false
+}
+
+// What a failed assertion tells of a growth.
+fn growth_after(alloc: Global, served: u64) -> io::Result<String> {
+    let text = format!(in alloc; "growth {served}")?;
+    Ok(text)
+}
+
+// Refuses the growth of a job that comes after so many others. Returns what became of it. The answer is `fault 11`
+// only if there was such a growth, and otherwise `wanted` with `status`.
+fn refuse_one(
+    rt: &(impl Abort + AllocGlobal),
+    served: u64,
+    job: Job,
+    input: &[u8],
+    wanted: &str,
+    status: Status,
+) -> Growth {
+    let heap = Refusing::after(rt.alloc(), served);
+    let answer = answer_of(&heap, job, input);
+    let what = growth_after(rt.alloc(), served).expect(rt, "memory");
+    if is_fault(rt, &answer, wanted, status, what.as_str()) {
+        assert!(rt; heap.has_refused());
+        return Growth::Told;
+    }
+    if heap.has_refused() {
+        return Growth::PassedOver;
+    }
+    Growth::Missing
+}
+
+// Refuses the first growth of a job, then the second, and so on, until no growth is refused. Returns how many of them
+// were told, and how many were passed over.
 fn refuse_each(
     rt: &(impl Abort + AllocGlobal),
     job: Job,
@@ -39,23 +95,10 @@ fn refuse_each(
     let input = joined(rt, sections);
     let mut refusals = told_alone(0);
     for served in 0..1000 {
-        let heap = Refusing::after(rt.alloc(), served);
-        let answer = answer_to(&heap, job, input.as_bytes());
-        if answer.status() == Status::Fault {
-            assert!(rt; heap.has_refused());
-            assert_eq!(rt;
-                answer.as_slice(),
-                b"fault 11\n".as_slice(),
-                "growth {served}"
-            );
-            refusals.told = refusals.told.saturating_add(1);
-        } else {
-            assert_eq!(rt; answer.as_slice(), wanted.as_bytes(), "growth {served}");
-            assert_eq!(rt; answer.status(), status, "growth {served}");
-            if !heap.has_refused() {
-                return refusals;
-            }
-            refusals.passed_over = refusals.passed_over.saturating_add(1);
+        match refuse_one(rt, served, job, input.as_bytes(), wanted, status) {
+            Growth::Told => refusals.told = refusals.told.saturating_add(1),
+            Growth::PassedOver => refusals.passed_over = refusals.passed_over.saturating_add(1),
+            Growth::Missing => return refusals,
         }
     }
     panic!(rt; "an answer that never ends to grow")
@@ -103,6 +146,23 @@ fn of_solve(rt: HostRuntime) {
     assert!(rt; solved.passed_over > 0);
 }
 
+// Refuses the first growth of a job. Asserts that the answer is `wanted` with `status`, and that the job asked for
+// memory only if this is a fault.
+fn refuse_first(
+    rt: &(impl Abort + AllocGlobal),
+    job: Job,
+    sections: &[&str],
+    wanted: &str,
+    status: Status,
+) {
+    let input = joined(rt, sections);
+    match refuse_one(rt, 0, job, input.as_bytes(), wanted, status) {
+        Growth::Told => assert_eq!(rt; status, Status::Fault),
+        Growth::PassedOver => panic!(rt; "it asked for memory"),
+        Growth::Missing => {}
+    }
+}
+
 // The first growth of a job is refused. `replay` and the refusal of an input take no memory. So an input is refused
 // even if there is no memory.
 #[test]
@@ -110,22 +170,50 @@ fn of_answers_in_memory(rt: HostRuntime) {
     let Some((front, _)) = TWELVE.split_once("goal") else {
         panic!(rt; "no goal")
     };
-    for (job, sections, wanted, asks) in [
-        (Job::Replay, &REPLAYED[..], LAST_CARD_ANSWER, false),
-        (Job::Replay, &CHECKED[..], "refused line 8: 4\n", false),
-        (Job::Follow, &[front][..], "refused line 7: 3\n", false),
-        (Job::Check, &REPLAYED[..], "refused line 8: 4\n", false),
-        (Job::Board, &CHECKED[..], "refused line 8: 4\n", false),
-        (Job::Solve, &CHECKED[..], "refused line 8: 8\n", false),
-        (Job::Check, &[TWELVE][..], "refused line 8: 3\n", false),
-        (Job::Follow, &ONE_GAME[..], "fault 11\n", true),
-        (Job::Check, &CHECKED[..], "fault 11\n", true),
-        (Job::Board, &REPLAYED[..], "fault 11\n", true),
-    ] {
-        let input = joined(&rt, sections);
-        let heap = Refusing::after(rt.alloc(), 0);
-        let answer = answer_to(&heap, job, input.as_bytes());
-        assert_eq!(rt; answer.as_slice(), wanted.as_bytes());
-        assert_eq!(rt; heap.has_refused(), asks);
-    }
+    refuse_first(&rt, Job::Replay, &REPLAYED, LAST_CARD_ANSWER, Status::Yes);
+    refuse_first(
+        &rt,
+        Job::Replay,
+        &CHECKED,
+        "refused line 8: 4\n",
+        Status::Refused,
+    );
+    refuse_first(
+        &rt,
+        Job::Follow,
+        &[front],
+        "refused line 7: 3\n",
+        Status::Refused,
+    );
+    refuse_first(
+        &rt,
+        Job::Check,
+        &REPLAYED,
+        "refused line 8: 4\n",
+        Status::Refused,
+    );
+    refuse_first(
+        &rt,
+        Job::Board,
+        &CHECKED,
+        "refused line 8: 4\n",
+        Status::Refused,
+    );
+    refuse_first(
+        &rt,
+        Job::Solve,
+        &CHECKED,
+        "refused line 8: 8\n",
+        Status::Refused,
+    );
+    refuse_first(
+        &rt,
+        Job::Check,
+        &[TWELVE],
+        "refused line 8: 3\n",
+        Status::Refused,
+    );
+    refuse_first(&rt, Job::Follow, &ONE_GAME, "fault 11\n", Status::Fault);
+    refuse_first(&rt, Job::Check, &CHECKED, "fault 11\n", Status::Fault);
+    refuse_first(&rt, Job::Board, &REPLAYED, "fault 11\n", Status::Fault);
 }

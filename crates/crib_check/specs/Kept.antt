@@ -1,6 +1,6 @@
 -- What a table of positions keeps of them.
-use Rattle.std.specs.Prelude.{◌≡◌, ℕ, ◌<◌, ◌^◌, Bool, true, List, length}
-use Rattle.std.specs.List.{list_any, position_or_len, AllByRecursion}
+use Rattle.std.specs.Prelude.{ℕ, ◌<◌, ◌^◌, Bool, List, length}
+use Rattle.std.specs.List.{position_or_len, AllByRecursion}
 use Rattle.crib_know.specs.Knowledge.{sight_of, shown_of}
 use Rattle.crib_know.specs.declared.knowledge.Sight.{Sight}
 use Rattle.crib_know.specs.declared.knowledge.Shown.{Shown}

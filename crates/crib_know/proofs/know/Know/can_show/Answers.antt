@@ -2,7 +2,7 @@ use Rattle.std.proofs.Common.{◌↔◌, sym, subst}
 use Rattle.std.specs.Prelude.{IsTrue}
 use Rattle.crib_cards.specs.declared.letters.Letter.{Letter}
 use Rattle.crib_know.specs.Hidden.{CanShow}
-use Rattle.crib_check.proofs.turns.can_show.Goals as goal
+use Rattle.crib_know.proofs.know.Know.can_show.Goals as goal
 
 pub returns-in-Seen-clause-exact : goal.returns-in-Seen-clause-exact
 returns-in-Seen-clause-exact c = λ problem history knows.

@@ -34,7 +34,7 @@ pub record AreWordsForm {A : Type 0} (read : List (List ℕ) → Result A ℕ) (
   pub full : (value : A) → is value → list_all is_word (words value) ≡ true
   pub short : (value : A) → is value → words_length (words value) ≤ most value
 
--- the same form, where what is well formed is said otherwise
+-- the same form, where what is well formed is said otherwise. The bound may be wider
 pub words_as : {A : Type 0} {read : List (List ℕ) → Result A ℕ} {words : A → List (List ℕ)} {is are : A → Type 0} {most wider : A → ℕ}
     → AreWordsForm read words is most → ((value : A) → is value → are value) → ((value : A) → are value → is value)
     → ((value : A) → are value → most value ≤ wider value) → AreWordsForm read words are wider
@@ -208,7 +208,7 @@ pub then_form : {A B : Type 0} {read : Rest → Result (A × Rest) Refusal} {lin
     → IsForm (λ rest. read rest >>= next) (λ b. lines (part b) ++ more b) (λ b. is (part b) × are (part b) b) (λ b. most (part b) + most_more b)
 then_form next part first others agree = then_given_form next part first (λ a is. others a) agree
 
--- the same form in other words
+-- the same form in other words. The bound may be wider
 pub form_as : {A : Type 0} {read : Rest → Result (A × Rest) Refusal} {lines spelling : A → List (List (List ℕ))} {is are : A → Type 0} {most wider : A → ℕ}
     → IsForm read lines is most → ((value : A) → is value → are value) → ((value : A) → are value → is value)
     → ((value : A) → is value → lines value ≡ spelling value) → ((value : A) → are value → most value ≤ wider value) → IsForm read spelling are wider

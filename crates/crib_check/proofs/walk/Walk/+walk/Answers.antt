@@ -14,11 +14,11 @@ use Rattle.crib_check.proofs.walk.Walk.+walk.Goals as goal
 use Rattle.crib_check.proofs.walk.Walk.+walk.Goals.{their_turn-then-can_show+in_default, their_turn-else-can_show}
 
 -- ---- at a position
-pub walk-returns-then-has : goal.walk-returns-then-has
-walk-returns-then-has g t c = record {
+pub walk-returns-then-is_settled : goal.walk-returns-then-is_settled
+walk-returns-then-is_settled g t c = record {
   kept = c.requires.kept;
   back = λ none. refl;
-  found = c.requires.kept.settled c.args.key (c.has.ensures c.if-has.true);
+  found = c.requires.kept.settled c.args.key (c.is_settled.ensures c.if-is_settled.true);
 }
 
 pub walk-returns-then-is_none : goal.walk-returns-then-is_none
@@ -40,6 +40,15 @@ walk-returns-then-is_none g t c =
       found = walked.found;
     }
 
+pub go_on-returns-in-Over : goal.go_on-returns-in-Over
+go_on-returns-in-Over g t c = c.over.ensures
+
+pub go_on-returns-in-Owner : goal.go_on-returns-in-Owner
+go_on-returns-in-Owner g t c = c.own_turn.ensures
+
+pub go_on-returns-in-Opponent : goal.go_on-returns-in-Opponent
+go_on-returns-in-Opponent g t c = c.their_turn.ensures
+
 -- ---- the owner's turn
 pub own_turn-take-requires : goal.own_turn-take-requires
 own_turn-take-requires g t c κs within =
@@ -60,7 +69,17 @@ own_turn-returns-in-Some g t c =
           c.take.result c.requires.here.here c.in-Some.ensures (c.after_own-next.ensures walk.problem.now) c.take.ensures.found;
     }
 
+pub own_turn-returns-in-None : goal.own_turn-returns-in-None
+own_turn-returns-in-None g t c = c.stuck.ensures
+
 -- ---- the opponent's turn
+pub their_turn-loop-place-init : goal.their_turn-loop-place-init
+their_turn-loop-place-init g t c = record {
+  kept = c.requires.here.kept;
+  back = refl;
+  below = λ history letter stands can is. absurd (omega (arith, is));
+}
+
 pub their_turn-take-requires : goal.their_turn-take-requires
 their_turn-take-requires g t c κs within =
     let walk = c.args.self.now in

@@ -20,9 +20,8 @@ use Rattle.crib_problem.specs.Reading.{problem_at}
 use Rattle.crib_text.proofs.FormLaws.{form_read}
 use Rattle.crib_problem.proofs.ProblemForm.{problem_form}
 use Rattle.crib_plan.specs.declared.plan.Node.{Node}
-use Rattle.crib_plan.specs.Nodes.{ArePlan}
 use Rattle.crib_plan.specs.Spelling.{plan_lines, plan_text}
-use Rattle.crib_plan.specs.Reading.{count_at, plan_at}
+use Rattle.crib_plan.specs.Reading.{plan_at}
 use Rattle.crib_plan.proofs.PlanForm.{plan_form}
 use Rattle.crib_answer.specs.Input.{most_bytes, input_lines, problem_alone_at, problem_of_input, question_at, question_of_input}
 use Rattle.crib_answer.specs.Telling.{SpellsProblem, SpellsPlan}

@@ -6,6 +6,8 @@ use Rattle.crib_cards.specs.Sets.{has}
 use Rattle.crib_cards.specs.CardText.{card_text}
 use Rattle.crib_cards.specs.declared.moves.Act.{Act}
 use Rattle.crib_text.specs.Spelling.{line_bytes}
+use Rattle.crib_text.specs.Reading.{◌>>=◌, Rest}
+use Rattle.crib_text.proofs.ReadingLemmas.{bind_ok, ok_is}
 use Rattle.crib_text.proofs.SteadyReaders.{IsSteady, from_line, steady_ok, steady_then, steady_value}
 use Rattle.crib_text.proofs.Forms.{IsForm, line_form, each_line_form, none_form, then_form, form_as}
 use Rattle.crib_text.proofs.FormLaws.{lines_apart, texts_apart, texts_differ, read_again, lines_cut_short, text_cut_short}
@@ -126,6 +128,12 @@ seven_form =
       ),
     ))
     (λ p is. refl) (λ p is. omega arith)
+
+-- what seven lines are read as meets the conditions of a problem
+pub seven_setup : (rest : Rest) (p : Setup) → (seven_lines_at rest >>= λ seven. Ok seven.0) ≡ Ok p → IsSetup p
+seven_setup rest p e =
+    let read = bind_ok (seven_lines_at rest) _ p e in
+    subst IsSetup (ok_is read.0.0 p read.2) (seven_form.found rest read.0.0 read.0.1 read.1).0.setup
 
 -- ---- the opening
 

@@ -1,5 +1,6 @@
 -- The walk over kept nodes leaves the places of the trees that the walk of the tree leaves.
-use Rattle.std.proofs.Common.{◌≡◌, ℕ, zero, suc, ◌<◌, ◌≤◌, Bool, true, false, ◌||◌, cond, eqb, is_some, List, [], ◌∷◌, ◌++◌, length, get_or, Option, Some, None}
+use Rattle.std.proofs.Common.{◌≡◌, ℕ, zero, suc, ◌+◌, ◌<◌, ◌≤◌, Bool, true, false, ◌||◌, cond, eqb, is_some, List, [], ◌∷◌, ◌++◌, length, get_or, Option, Some}
+use Rattle.std.proofs.Common.{None}
 use Rattle.std.proofs.Common.{slice_get, refl, sym, ap, subst, ◌∙◌, inl, inr, arith}
 use Rattle.std.specs.List.{AllByRecursion}
 use Rattle.std.proofs.Math.ListN.{set, length-set}
@@ -10,8 +11,8 @@ use Rattle.crib_search.specs.declared.nodes.DraftPlace.TheVariants.{End, At}
 use Rattle.crib_search.specs.declared.nodes.DraftNode.{DraftNode}
 use Rattle.crib_search.specs.declared.nodes.DraftNode.TheVariants.{Play, See}
 use Rattle.crib_search.specs.Trees.{Tree, Finish, Plays, Sees, NoBranch, Branch, trees_after_walk, trees_after_walks}
-use Rattle.crib_search.specs.Private.Nodes.{IsEarlier, AreKept, Names, NameAll}
-use Rattle.crib_search.specs.Private.Numbers.{AreLeft, AreMarks, mark_of, is_marked, IsWalk, IsWalkAll, IsWalkBelow}
+use Rattle.crib_search.specs.Private.Nodes.{IsEarlier, IsBelow, AreKept, Names, NameAll}
+use Rattle.crib_search.specs.Private.Numbers.{AreLeft, AreMarks, mark_of, IsWalk, IsWalkAll, IsWalkBelow}
 use Rattle.crib_search.proofs.WalkHeights.{height, highest}
 use Rattle.crib_search.proofs.JoinedTrees.{end_names, same_for}
 use Rattle.crib_search.proofs.FoundAfterTurns.{rest_of}
@@ -88,23 +89,19 @@ walked_there Finish trees there = refl
 walked_there (Plays card next) trees there = cond-true (is_in (Plays card next) trees) trees (Plays card next ∷ trees_after_walk next trees) there
 walked_there (Sees branches) trees there = cond-true (is_in (Sees branches) trees) trees (Sees branches ∷ trees_after_walks branches trees) there
 
-module _ (draft_nodes : List DraftNode) (kept : AreKept draft_nodes) (place : ℕ) (marks : List (Option ℕ)) (before : List ℕ) (are : AreMarks marks before)
-    (within : place < length marks) where
-  mark_is : is_marked (slice_get marks place) ≡ is_some (mark_of place before)
-  mark_is = ap is_marked (are place within)
-
+module _ (draft_nodes : List DraftNode) (kept : AreKept draft_nodes) (place : ℕ) (before : List ℕ) where
   -- a node that was left is not walked again
-  pub walk_again : is_marked (slice_get marks place) ≡ true → IsWalk draft_nodes (At place) before before
+  pub walk_again : is_some (mark_of place before) ≡ true → IsWalk draft_nodes (At place) before before
   walk_again marked tree trees names left =
       let L : List Tree → Type 0 = λ xs. AreLeft draft_nodes xs before in
-      subst L (sym (walked_there tree trees (left_in draft_nodes kept tree place names trees before left ∙ sym mark_is ∙ marked))) left
+      subst L (sym (walked_there tree trees (left_in draft_nodes kept tree place names trees before left ∙ marked))) left
 
   -- any other node is left after all that it leads to
-  pub walk_new : is_marked (slice_get marks place) ≡ false → (inside after : List ℕ) → IsWalkBelow draft_nodes place before inside → after ≡ place ∷ inside →
+  pub walk_new : is_some (mark_of place before) ≡ false → (inside after : List ℕ) → IsWalkBelow draft_nodes place before inside → after ≡ place ∷ inside →
       IsWalk draft_nodes (At place) before after
   walk_new new inside after below goes tree trees names left =
       let G : List ℕ → Type 0 = λ xs. AreLeft draft_nodes (trees_after_walk tree trees) xs in
-      subst G (sym goes) (by_tree tree names (left_in draft_nodes kept tree place names trees before left ∙ sym mark_is ∙ new))
+      subst G (sym goes) (by_tree tree names (left_in draft_nodes kept tree place names trees before left ∙ new))
     where
       by_tree : (tree : Tree) → Names draft_nodes tree (At place) → is_in tree trees ≡ false →
           AreLeft draft_nodes (trees_after_walk tree trees) (place ∷ inside)
@@ -166,6 +163,24 @@ all_earlier_more count most [] le all = tt
 all_earlier_more count most (draft_place ∷ draft_places) le all =
     (earlier_more count most draft_place le all.0, all_earlier_more count most draft_places le all.1)
 
+pub below_more : (count most : ℕ) (draft_node : DraftNode) → count ≤ most → IsBelow count draft_node → IsBelow most draft_node
+below_more count most (Play card next) le below = (below.0, earlier_more count most next le below.1)
+below_more count most (See nexts) le below = (below.0, all_earlier_more count most nexts le below.1)
+
 pub draft_place_split : (draft_places : List DraftPlace) → 1 ≤ length draft_places → get_or draft_places 0 End ∷ rest_of draft_places ≡ draft_places
 draft_place_split [] some = absurd (omega (arith, some))
 draft_place_split (first ∷ draft_places) some = ap (λ (xs : List DraftPlace). first ∷ xs) (take_rest (first ∷ draft_places) 1)
+
+pub rest_earlier : (draft_nodes : List DraftNode) (draft_places : List DraftPlace) → AllByRecursion (IsEarlier (length draft_nodes)) draft_places →
+    AllByRecursion (IsEarlier (length draft_nodes)) (rest_of draft_places)
+rest_earlier draft_nodes [] all = tt
+rest_earlier draft_nodes (first ∷ draft_places) all =
+    let A : List DraftPlace → Type 0 = λ places. AllByRecursion (IsEarlier (length draft_nodes)) places in
+    subst A (sym (take_rest (first ∷ draft_places) 1)) all.1
+
+pub rest_falls : (draft_places : List DraftPlace) → 1 ≤ length draft_places →
+    (highest (rest_of draft_places) ≤ highest draft_places) × (length (rest_of draft_places) + 1 ≡ length draft_places)
+rest_falls [] some = absurd (omega (arith, some))
+rest_falls (first ∷ draft_places) some =
+    let H : List DraftPlace → Type 0 = λ places. (highest places ≤ highest (first ∷ draft_places)) × (length places + 1 ≡ length (first ∷ draft_places)) in
+    subst H (sym (take_rest (first ∷ draft_places) 1)) (omega arith, omega arith)

@@ -1,11 +1,11 @@
 -- The nodes that a walk numbers are the plan of the tree.
-use Rattle.std.proofs.Common.{◌≡◌, ℕ, suc, ◌+◌, ◌-◌, ◌<◌, ◌≤◌, Bool, true, false, ◌||◌, cond, eqb, is_some, List, [], ◌∷◌, ◌++◌, length, map, get_or}
-use Rattle.std.proofs.Common.{drop, reverse, Option, Some, None, slice_get, add-one, append_assoc, drop-cons}
+use Rattle.std.proofs.Common.{◌≡◌, ℕ, suc, ◌+◌, ◌-◌, ◌<◌, Bool, true, false, ◌||◌, cond, eqb, is_some, List, [], ◌∷◌, ◌++◌, length, map, get_or}
+use Rattle.std.proofs.Common.{take, Option, Some, None, slice_get, append_assoc}
 use Rattle.std.proofs.Common.{length-append, refl, sym, ap, subst, ◌∙◌, inl, inr, arith}
 use Rattle.std.specs.List.{AllByRecursion, flat_map}
 use Rattle.std.proofs.lemmas.Bool.{cases_Bool, cond-true, cond-false, or_left, or_right, both_ways}
-use Rattle.std.proofs.lemmas.List.{append-nil, length-map, reverse-append}
-use Rattle.std.proofs.lemmas.Option.{slice_get_within}
+use Rattle.std.proofs.lemmas.List.{append-nil, length-map, take_more}
+use Rattle.std.proofs.lemmas.Option.{slice_get_within, slice_get-get_or}
 use Rattle.crib_cards.specs.Cards.{IsCard}
 use Rattle.crib_plan.specs.declared.plan.Next.{Next}
 use Rattle.crib_plan.specs.declared.plan.Next.TheVariants as next
@@ -19,43 +19,30 @@ use Rattle.crib_search.specs.declared.nodes.DraftNode.TheVariants.{Play, See}
 use Rattle.crib_search.specs.Trees.{Tree, Finish, Plays, Sees, Branches, NoBranch, Branch, trees_of, same_tree, number_of, place_of_tree, nodes_for}
 use Rattle.crib_search.specs.Trees.{plan_of_trees}
 use Rattle.crib_search.specs.Private.Nodes.{AreKept, Names, NameAll}
-use Rattle.crib_search.specs.Private.Numbers.{AreLeft, AreMarks, mark_of, number_for, next_for, node_for, nodes_at, nodes_of_places}
+use Rattle.crib_search.specs.Private.Numbers.{AreLeft, mark_of, number_for, next_for, node_for, nodes_at, nodes_of_places}
 use Rattle.crib_search.proofs.Trees.{same_is, some_same}
 use Rattle.crib_search.proofs.KeptNodes.{same_place}
-use Rattle.crib_search.proofs.JoinedTrees.{same_for, draft_place_earlier}
+use Rattle.crib_search.proofs.JoinedTrees.{same_for}
 use Rattle.crib_search.proofs.NodeWalks.{left_in}
 use Rattle.crib_search.proofs.TreeWalks.{is_in, Placed, AllPlaced, Leads, IsClosed}
 
 -- ---- the nodes of places
-places_push : (draft_nodes : List DraftNode) (marks : List (Option ℕ)) (count : ℕ) (places : List ℕ) (place : ℕ) →
-    nodes_of_places draft_nodes marks count (places ++ place ∷ []) ≡ nodes_of_places draft_nodes marks count places
-    ++ nodes_at marks count (slice_get draft_nodes place)
-places_push draft_nodes marks count [] place = append-nil (nodes_at marks count (slice_get draft_nodes place))
-places_push draft_nodes marks count (first ∷ places) place =
-    ap (λ (rest : List Node). nodes_at marks count (slice_get draft_nodes first) ++ rest) (places_push draft_nodes marks count places place)
-    ∙ sym (append_assoc (nodes_at marks count (slice_get draft_nodes first)) (nodes_of_places draft_nodes marks count places)
-    (nodes_at marks count (slice_get draft_nodes place)))
+places_push : (draft_nodes : List DraftNode) (left places : List ℕ) (place : ℕ) →
+    nodes_of_places draft_nodes left (places ++ place ∷ []) ≡ nodes_of_places draft_nodes left places ++ nodes_at left (slice_get draft_nodes place)
+places_push draft_nodes left [] place = append-nil (nodes_at left (slice_get draft_nodes place))
+places_push draft_nodes left (first ∷ places) place =
+    ap (λ (rest : List Node). nodes_at left (slice_get draft_nodes first) ++ rest) (places_push draft_nodes left places place)
+    ∙ sym (append_assoc (nodes_at left (slice_get draft_nodes first)) (nodes_of_places draft_nodes left places) (nodes_at left (slice_get draft_nodes place)))
 
-drop_step : (order : List ℕ) (left place : ℕ) → left < length order → place ≡ get_or order left place → drop left order ≡ place ∷ drop (left + 1) order
-drop_step order left place within is =
-    drop-cons order left place within ∙ ap (λ (p : ℕ). p ∷ drop (suc left) order) (sym is) ∙ ap (λ (n : ℕ). place ∷ drop n order) (sym (add-one left))
-
-pub nodes_step : (draft_nodes : List DraftNode) (marks : List (Option ℕ)) (count : ℕ) (order : List ℕ) (left place : ℕ) (draft_node : DraftNode) (node : Node)
-    (plan after : List Node) → 0 < left → left ≤ length order →
-    plan ≡ nodes_of_places draft_nodes marks count (reverse (drop left order)) → place ≡ get_or order (left - 1) place →
+-- one node more, by its number
+pub nodes_step : (draft_nodes : List DraftNode) (left : List ℕ) (number place : ℕ) (draft_node : DraftNode) → slice_get left number ≡ Some place →
     slice_get draft_nodes place ≡ Some draft_node →
-    node ≡ node_for marks count draft_node → after ≡ plan ++ node ∷ [] →
-    after ≡ nodes_of_places draft_nodes marks count (reverse (drop (left - 1) order))
-nodes_step draft_nodes marks count order left place draft_node node plan after some within before is there node_is pushed =
-    let back : left - 1 + 1 ≡ left = omega (arith, some) in
-    let front : drop (left - 1) order ≡ place ∷ drop left order = drop_step order (left - 1) place (omega (arith, some, within)) is
-    ∙ ap (λ (n : ℕ). place ∷ drop n order) back in
-    pushed
-    ∙ ap (λ (n : Node). plan ++ n ∷ []) node_is
-    ∙ ap (λ (xs : List Node). xs ++ node_for marks count draft_node ∷ []) before
-    ∙ ap (λ (o : Option DraftNode). nodes_of_places draft_nodes marks count (reverse (drop left order)) ++ nodes_at marks count o) (sym there)
-    ∙ sym (places_push draft_nodes marks count (reverse (drop left order)) place)
-    ∙ ap (nodes_of_places draft_nodes marks count) (sym (ap reverse front ∙ reverse-append (place ∷ []) (drop left order)))
+    nodes_of_places draft_nodes left (take (number + 1) left) ≡ nodes_of_places draft_nodes left (take number left) ++ node_for left draft_node ∷ []
+nodes_step draft_nodes left number place draft_node at there =
+    let here = some_same (get_or left number place) place (sym (slice_get-get_or left number place (slice_get_within left number place at)) ∙ at) in
+    ap (nodes_of_places draft_nodes left) (take_more left number place (slice_get_within left number place at))
+    ∙ places_push draft_nodes left (take number left) (get_or left number place)
+    ∙ ap (λ (o : Option DraftNode). nodes_of_places draft_nodes left (take number left) ++ nodes_at left o) (ap (slice_get draft_nodes) here ∙ there)
 
 -- ---- numbers
 some_of : (mark : Option ℕ) → is_some mark ≡ true → (n : ℕ) × (mark ≡ Some n)
@@ -85,54 +72,52 @@ module _ (draft_nodes : List DraftNode) (kept : AreKept draft_nodes) where
             omega (arith, rest, later)
       ]
 
-  module _ (all : List Tree) (left : List ℕ) (are : AreLeft draft_nodes all left) (marks : List (Option ℕ)) (count : ℕ) (marked : AreMarks marks left)
-      (whole : length marks ≡ length draft_nodes) (counted : count ≡ length left) where
-    at_next : (tree : Tree) (place : ℕ) → Names draft_nodes tree (At place) → place < length draft_nodes → is_in tree all ≡ true →
-        next_for marks count (At place) ≡ next.To (number_of tree all)
-    at_next tree place names within there =
+  module _ (all : List Tree) (left : List ℕ) (are : AreLeft draft_nodes all left) where
+    at_next : (tree : Tree) (place : ℕ) → Names draft_nodes tree (At place) → is_in tree all ≡ true → next_for left (At place) ≡ next.To (number_of tree all)
+    at_next tree place names there =
         let found = some_of (mark_of place left) (sym (left_in draft_nodes kept tree place names all left are) ∙ there) in
         let number = number_mark tree place names all left are found.0 found.1 in
-        let e : count - 1 - found.0 ≡ number_of tree all = omega (arith, number, counted) in
-        ap (number_for count) (marked place (omega (arith, within, whole)) ∙ ap (λ (m : Option ℕ). Some m) found.1) ∙ ap next.To e
+        let e : length left - 1 - found.0 ≡ number_of tree all = omega (arith, number) in
+        ap (number_for (length left)) found.1 ∙ ap next.To e
 
     next_is : (tree : Tree) (draft_place : DraftPlace) → Names draft_nodes tree draft_place → Placed tree all →
-        next_for marks count draft_place ≡ place_of_tree all tree
-    next_is Finish draft_place names placed = ap (next_for marks count) names
+        next_for left draft_place ≡ place_of_tree all tree
+    next_is Finish draft_place names placed = ap (next_for left) names
     next_is (Plays card next) draft_place names placed =
         let N : DraftPlace → Type 0 = λ s. Names draft_nodes (Plays card next) s in
-        ap (next_for marks count) names.2
-        ∙ at_next (Plays card next) names.0 (subst N names.2 names) (slice_get_within draft_nodes names.0 (Play card names.1) names.3) placed
+        ap (next_for left) names.2
+        ∙ at_next (Plays card next) names.0 (subst N names.2 names) placed
     next_is (Sees branches) draft_place names placed =
         let N : DraftPlace → Type 0 = λ s. Names draft_nodes (Sees branches) s in
-        ap (next_for marks count) names.2
-        ∙ at_next (Sees branches) names.0 (subst N names.2 names) (slice_get_within draft_nodes names.0 (See names.1) names.3) placed
+        ap (next_for left) names.2
+        ∙ at_next (Sees branches) names.0 (subst N names.2 names) placed
 
     nexts_are : (branches : Branches) (draft_places : List DraftPlace) → NameAll draft_nodes branches draft_places → AllPlaced branches all →
-        map (next_for marks count) draft_places ≡ map (place_of_tree all) (trees_of branches)
-    nexts_are NoBranch draft_places names placed = ap (map (next_for marks count)) names
+        map (next_for left) draft_places ≡ map (place_of_tree all) (trees_of branches)
+    nexts_are NoBranch draft_places names placed = ap (map (next_for left)) names
     nexts_are (Branch tree branches) draft_places names placed =
-        ap (map (next_for marks count)) names.2
-        ∙ ap (λ (n : Next). n ∷ map (next_for marks count) names.1) (next_is tree names.0 names.3 placed.0)
+        ap (map (next_for left)) names.2
+        ∙ ap (λ (n : Next). n ∷ map (next_for left) names.1) (next_is tree names.0 names.3 placed.0)
         ∙ ap (λ (ns : List Next). place_of_tree all tree ∷ ns) (nexts_are branches names.1 names.4 placed.1)
 
     node_is : (tree : Tree) (place : ℕ) → Names draft_nodes tree (At place) → Leads tree all →
-        nodes_at marks count (slice_get draft_nodes place) ≡ nodes_for all tree
+        nodes_at left (slice_get draft_nodes place) ≡ nodes_for all tree
     node_is Finish place names leads = absurd leads
     node_is (Plays card next) place names leads =
-        ap (nodes_at marks count) (ap (slice_get draft_nodes) (same_place place names.0 names.2) ∙ names.3)
+        ap (nodes_at left) (ap (slice_get draft_nodes) (same_place place names.0 names.2) ∙ names.3)
         ∙ ap (λ (n : Next). node.Play card n ∷ []) (next_is next names.1 names.4 leads)
     node_is (Sees branches) place names leads =
-        ap (nodes_at marks count) (ap (slice_get draft_nodes) (same_place place names.0 names.2) ∙ names.3)
+        ap (nodes_at left) (ap (slice_get draft_nodes) (same_place place names.0 names.2) ∙ names.3)
         ∙ ap (λ (ns : List Next). node.See ns ∷ []) (nexts_are branches names.1 names.4 leads)
 
     pub nodes_are : (trees : List Tree) (places : List ℕ) → AreLeft draft_nodes trees places → ((tree : Tree) → is_in tree trees ≡ true → Leads tree all) →
         ((tree : Tree) → same_tree tree tree ≡ true) →
-        nodes_of_places draft_nodes marks count places ≡ flat_map (nodes_for all) trees
+        nodes_of_places draft_nodes left places ≡ flat_map (nodes_for all) trees
     nodes_are [] [] zip leads self = refl
     nodes_are [] (place ∷ places) zip leads self = absurd zip
     nodes_are (tree ∷ trees) [] zip leads self = absurd zip
     nodes_are (tree ∷ trees) (place ∷ places) zip leads self =
-        ap (λ (ns : List Node). ns ++ nodes_of_places draft_nodes marks count places)
+        ap (λ (ns : List Node). ns ++ nodes_of_places draft_nodes left places)
         (node_is tree place zip.0 (leads tree (or_left (same_tree tree tree) (is_in tree trees) (self tree))))
         ∙ ap (λ (ns : List Node). nodes_for all tree ++ ns)
         (nodes_are trees places zip.1 (λ other h. leads other (or_right (same_tree other tree) (is_in other trees) h)) self)
@@ -249,12 +234,6 @@ module _ (draft_nodes : List DraftNode) (kept : AreKept draft_nodes) where
   are_fine [] (place ∷ left) are = absurd are
   are_fine (tree ∷ trees) [] are = absurd are
   are_fine (tree ∷ trees) (place ∷ left) are = (fine_of tree place are.0, are_fine trees left are.1)
-
-  pub all_kept : (trees : List Tree) (left : List ℕ) → AreLeft draft_nodes trees left → AllByRecursion (λ place. place < length draft_nodes) left
-  all_kept [] [] are = tt
-  all_kept [] (place ∷ left) are = absurd are
-  all_kept (tree ∷ trees) [] are = absurd are
-  all_kept (tree ∷ trees) (place ∷ left) are = (draft_place_earlier draft_nodes tree (At place) are.0, all_kept trees left are.1)
 
   pub same_count : (trees : List Tree) (left : List ℕ) → AreLeft draft_nodes trees left → length trees ≡ length left
   same_count [] [] are = refl

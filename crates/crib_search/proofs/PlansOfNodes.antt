@@ -1,8 +1,6 @@
 -- The plan that is made of the nodes that a walk left, and the answers of the finder.
-use Rattle.std.proofs.Common.{◌≡◌, ℕ, ◌<◌, ◌≤◌, List, [], ◌∷◌, ◌++◌, length, reverse, Option, Some, None, refl, sym, ap, subst, ◌∙◌, arith}
+use Rattle.std.proofs.Common.{◌≡◌, ℕ, ◌<◌, ◌≤◌, List, [], ◌∷◌, length, Option, Some, None, refl, sym, ap, subst, ◌∙◌, arith}
 use Rattle.std.specs.Prelude.{Result, Ok, Err, IsErrAnd}
-use Rattle.std.specs.List.{AllByRecursion}
-use Rattle.std.proofs.lemmas.List.{length-reverse, reverse-append}
 use Rattle.crib_problem.specs.Setup.{Setup, IsSetup}
 use Rattle.crib_plan.specs.declared.plan.Node.{Node}
 use Rattle.crib_plan.specs.Nodes.{ArePlan}
@@ -15,7 +13,7 @@ use Rattle.crib_search.specs.declared.nodes.DraftPlace.{DraftPlace}
 use Rattle.crib_search.specs.declared.nodes.DraftNode.{DraftNode}
 use Rattle.crib_search.specs.Trees.{Tree, trees_after_walk, plan_of_tree}
 use Rattle.crib_search.specs.Private.Nodes.{AreKept, Names, NamesFound}
-use Rattle.crib_search.specs.Private.Numbers.{AreLeft, AreMarks, IsWalk, nodes_of_places}
+use Rattle.crib_search.specs.Private.Numbers.{AreLeft, IsWalk, Walked, nodes_of_places}
 use Rattle.crib_search.specs.Finder.{FindsTree, IsFound, ExceedsLimit}
 use Rattle.crib_search.specs.Winnable.{IsWinnable}
 use Rattle.crib_search.specs.Private.Ahead.{turns_ahead}
@@ -24,53 +22,36 @@ use Rattle.crib_play.specs.History.{Event}
 use Rattle.crib_search.proofs.TurnsAhead.{turn_falls}
 use Rattle.crib_search.proofs.Trees.{same_self, some_same}
 use Rattle.crib_search.proofs.TreeWalks.{walk_closed, leads_in}
-use Rattle.crib_search.proofs.NumberedNodes.{nodes_are, are_nodes, plan_count, are_fine, all_kept, same_count}
+use Rattle.crib_search.proofs.NumberedNodes.{nodes_are, are_nodes, plan_count, are_fine, same_count}
 use Rattle.crib_search.proofs.FoundBySide.{tree_of_finds}
 use Rattle.crib_search.proofs.FoundAfterTurns.{none_named, some_named}
 use Rattle.crib_search.proofs.LawProofs.{sure_law, none_law}
 use Rattle.crib_search.proofs.OneTree.{one_law}
 
-all_split : (P : ℕ → Type 0) (xs ys : List ℕ) → AllByRecursion P (xs ++ ys) → AllByRecursion P xs × AllByRecursion P ys
-all_split P [] ys all = (tt, all)
-all_split P (x ∷ xs) ys all = let rest = all_split P xs ys all.1 in ((all.0, rest.0), rest.1)
-
-all_back : (P : ℕ → Type 0) (xs : List ℕ) → AllByRecursion P (reverse xs) → AllByRecursion P xs
-all_back P [] all = tt
-all_back P (x ∷ xs) all =
-    let A : List ℕ → Type 0 = λ ys. AllByRecursion P ys in
-    let parts = all_split P (reverse xs) (x ∷ []) (subst A (reverse-append (x ∷ []) xs) all) in
-    (parts.1.0, all_back P xs parts.0)
-
 -- ---- the plan
-module _ (draft_nodes : List DraftNode) (kept : AreKept draft_nodes) (first : DraftPlace) (order : List ℕ) (marks : List (Option ℕ))
-    (walk : IsWalk draft_nodes first [] (reverse order)) (marked : AreMarks marks (reverse order)) (whole : length marks ≡ length draft_nodes) (tree : Tree)
-    (names : Names draft_nodes tree first) where
+module _ (draft_nodes : List DraftNode) (kept : AreKept draft_nodes) (first : DraftPlace) (walked : Walked) (same : walked.draft_nodes ≡ draft_nodes)
+    (walk : IsWalk draft_nodes first [] walked.left) (tree : Tree) (names : Names draft_nodes tree first) where
   abbrev all : List Tree
   all = trees_after_walk tree []
 
-  are : AreLeft draft_nodes all (reverse order)
+  are : AreLeft draft_nodes all walked.left
   are = walk tree [] names tt
 
-  pub size_is : length (plan_of_tree tree) ≡ length order
-  size_is = plan_count all all (walk_closed tree) ∙ same_count draft_nodes kept all (reverse order) are ∙ length-reverse order
+  pub size_is : length (plan_of_tree tree) ≡ length walked.left
+  size_is = plan_count all all (walk_closed tree) ∙ same_count draft_nodes kept all walked.left are
 
-  pub order_kept : AllByRecursion (λ place. place < length draft_nodes) order
-  order_kept = all_back (λ place. place < length draft_nodes) order (all_kept draft_nodes kept all (reverse order) are)
-
-  pub plan_is : nodes_of_places draft_nodes marks (length order) (reverse order) ≡ plan_of_tree tree
+  pub plan_is : nodes_of_places walked.draft_nodes walked.left walked.left ≡ plan_of_tree tree
   plan_is =
-      nodes_are draft_nodes kept all (reverse order) are marks (length order) marked whole (sym (length-reverse order)) all (reverse order) are
-      (λ other h. leads_in all (walk_closed tree) other h) same_self
+      ap (λ (nodes : List DraftNode). nodes_of_places nodes walked.left walked.left) same
+      ∙ nodes_are draft_nodes kept all walked.left are all walked.left are (λ other h. leads_in all (walk_closed tree) other h) same_self
 
-  pub plan_keeps : (plan : List Node) → plan ≡ nodes_of_places draft_nodes marks (length order) (reverse order) → length order ≤ 65535 → ArePlan plan
+  pub plan_keeps : (plan : List Node) → plan ≡ nodes_of_places walked.draft_nodes walked.left walked.left → length walked.left ≤ 65535 → ArePlan plan
   plan_keeps plan made few =
-      let same : plan ≡ plan_of_tree tree = made ∙ plan_is in
       let P : List Node → Type 0 = λ nodes. ArePlan nodes in
       let size = size_is in
-      subst P (sym same) (
+      subst P (sym (made ∙ plan_is)) (
         omega (arith, size, few),
-        are_nodes all (length (plan_of_tree tree)) (plan_count all all (walk_closed tree)) (walk_closed tree)
-            (are_fine draft_nodes kept all (reverse order) are),
+        are_nodes all (length (plan_of_tree tree)) (plan_count all all (walk_closed tree)) (walk_closed tree) (are_fine draft_nodes kept all walked.left are),
       )
 
 -- ---- from the start

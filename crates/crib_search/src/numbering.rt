@@ -1,38 +1,213 @@
-//! The walk over the nodes of a plan in the making. It numbers the nodes of the plan.
-ghost use Rattle.std.specs.Prelude.{◌≡◌, ◌<◌, ◌≤◌, [], ◌∷◌, length, reverse, slice_get, IfOk};
+//! The numbers of a plan's nodes. A walk over the nodes of a plan in the making gives them.
+ghost use Rattle.std.specs.Prelude.{◌≡◌, ◌<◌, ◌≤◌, [], ◌∷◌, length, map, slice_get, Some, is_some, IfOk};
 ghost use Rattle.std.specs.List.{AllByRecursion};
-ghost use Rattle.crib_search.specs.Private.Nodes.{AreKept, IsEarlier};
-ghost use Rattle.crib_search.specs.Private.Numbers.{AreMarks, IsWalk, IsWalkAll, IsWalkBelow, is_marked};
+ghost use Rattle.crib_search.specs.Private.Nodes.{AreKept, IsBelow, IsEarlier};
+ghost use Rattle.crib_search.specs.Private.Numbers.{AreMarks, IsWalk, IsWalkAll, IsWalkBelow, mark_of};
+ghost use Rattle.crib_search.specs.Private.Numbers.{next_for, node_for, nodes_of_places};
 
 use crate::nodes::{DraftNode, DraftPlace, Nodes};
+use crib_plan::{Next, Node};
 use std::alloc::{AllocError, Allocator};
+use std::marker::Model;
 
-/// The places that the walk left, the first one first, and for each place how many were left before it.
+/// A walk over kept nodes. It leaves each node of a plan once, after all nodes that the node leads to. The node that it
+/// left last has number 0.
 #[derive(Drop)]
-pub(crate) struct LeftPlaces<A: Allocator> {
-    pub(crate) order: Vec<usize, A>,
-    pub(crate) marks: Vec<Option<usize>, A>,
+pub(crate) struct Numbering<'a, A: Allocator> {
+    nodes: &'a Nodes<A>,
+    // The places that the walk left, the first one first.
+    order: Vec<usize, A>,
+    // For each place how many were left before it.
+    marks: Vec<Option<usize>, A>,
 }
 
-/// The walk from a place. It leaves a node after all nodes that the node leads to, and each node once. Fails if memory
-/// was refused.
-pub(crate) fn walk<A: Allocator + Copy>(
-    alloc: A,
-    nodes: &Nodes<A>,
-    first: DraftPlace,
-) -> Result<LeftPlaces<A>, AllocError>
-    requires { IsEarlier (length nodes.now) first }
-    ensures walk { IfOk result (λ places. IsWalk nodes.now first [] (reverse places.order.items)) }
-    ensures marks { IfOk result (λ places. AreMarks places.marks.items (reverse places.order.items)) }
-    ensures whole { IfOk result (λ places. length places.marks.items ≡ length nodes.now) }
-    ensures kept { AreKept nodes.now }
-{
-    let mut places = LeftPlaces {
-        order: Vec::new(alloc),
-        marks: no_marks(alloc, nodes.len())?,
-    };
-    walk_from(nodes, first, &mut places)?;
-    Ok(places)
+impl<'a, A: Allocator> Model for Numbering<'a, A> {
+    ghost use Rattle.std.specs.Prelude.{◌≡◌, ◌<◌, length, reverse};
+    ghost use Rattle.std.specs.List.{AllByRecursion};
+    ghost use Rattle.crib_search.specs.Private.Nodes.{AreKept};
+    ghost use Rattle.crib_search.specs.Private.Numbers.{AreMarks, Walked};
+
+    ghost Value = { Walked };
+
+    ghost view = { λ n. record { draft_nodes = n.nodes.now; left = reverse n.order.items } };
+
+    // The marks are those of the places that were left, each of which is the place of a kept node.
+    ghost invariant = { λ n. AreKept n.nodes.now
+        × AllByRecursion (λ place. place < length n.nodes.now) (reverse n.order.items)
+        × AreMarks n.marks.items (reverse n.order.items) × (length n.marks.items ≡ length n.nodes.now) };
+}
+
+impl<'a, A: Allocator + Copy> Numbering<'a, A> {
+    /// The walk from a place, over all nodes that the plan goes on to. Fails if memory was refused.
+    pub(crate) fn new(
+        alloc: A,
+        nodes: &'a Nodes<A>,
+        first: DraftPlace,
+    ) -> Result<Numbering<'a, A>, AllocError>
+        requires { IsEarlier (length nodes.now) first }
+        ensures kept { AreKept nodes.now }
+        ensures same { IfOk result (λ walked. walked.draft_nodes ≡ nodes.now) }
+        ensures walk { IfOk result (λ walked. IsWalk nodes.now first [] walked.left) }
+    {
+        let mut numbering = Numbering {
+            nodes,
+            order: Vec::new(alloc),
+            marks: no_marks(alloc, nodes.len())?,
+        };
+        numbering.walk(first)?;
+        Ok(numbering)
+    }
+
+    /// How many nodes the plan has.
+    pub(crate) fn len(&self) -> usize
+        ensures { result ≡ length self.now.left }
+    {
+        self.order.len()
+    }
+
+    /// The nodes of the plan by their numbers. Fails if memory was refused.
+    pub(crate) fn plan_nodes(&self, alloc: A) -> Result<Vec<Node, A>, AllocError>
+        requires { length self.now.left ≤ 65535 }
+        ensures { IfOk result
+            (λ plan. plan.items ≡ nodes_of_places self.now.draft_nodes self.now.left self.now.left) }
+    {
+        let mut plan = Vec::with_capacity(alloc, self.len())?;
+        for number in 0..self.len() {
+            let place = self.place_numbered(number);
+            plan.push(self.node_of(self.nodes.draft_node(place)))?;
+        }
+        Ok(plan)
+    }
+
+    // Walks on from a place.
+    #[cycle(walk)]
+    fn walk(&mut self, draft_place: DraftPlace) -> Result<(), AllocError>
+        requires { IsEarlier (length self.old.draft_nodes) draft_place }
+        ensures same { self.new.draft_nodes ≡ self.old.draft_nodes }
+        ensures walk { IfOk result (λ _. IsWalk self.old.draft_nodes draft_place self.old.left self.new.left) }
+    {
+        let DraftPlace::At(place) = draft_place else {
+            return Ok(());
+        };
+        if self.is_left(place) {
+            return Ok(());
+        }
+        self.walk_below(place)?;
+        self.leave(place)?;
+        Ok(())
+    }
+
+    // Walks on from all places that a node leads to.
+    #[cycle(walk)]
+    fn walk_below(&mut self, place: usize) -> Result<(), AllocError>
+        requires { place < length self.old.draft_nodes }
+        ensures same { self.new.draft_nodes ≡ self.old.draft_nodes }
+        ensures walk { IfOk result (λ _. IsWalkBelow self.old.draft_nodes place self.old.left self.new.left) }
+    {
+        match self.nodes.draft_node(place) {
+            DraftNode::Play { card: _, next } => {
+                self.walk(next)?;
+                Ok(())
+            }
+            DraftNode::See { next } => {
+                self.walk_all(&next)?;
+                Ok(())
+            }
+        }
+    }
+
+    // Walks on from some places, one after another.
+    #[cycle(walk)]
+    fn walk_all(&mut self, draft_places: &[DraftPlace]) -> Result<(), AllocError>
+        requires earlier { AllByRecursion (IsEarlier (length self.old.draft_nodes)) draft_places.now }
+        requires few { length draft_places.now ≤ 14 }
+        ensures same { self.new.draft_nodes ≡ self.old.draft_nodes }
+        ensures walk { IfOk result
+            (λ _. IsWalkAll self.old.draft_nodes draft_places.now self.old.left self.new.left) }
+    {
+        let [draft_place, others @ ..] = draft_places else {
+            return Ok(());
+        };
+        self.walk(*draft_place)?;
+        self.walk_all(others)?;
+        Ok(())
+    }
+
+    // Leaves a node: adds its place and marks it.
+    fn leave(&mut self, place: usize) -> Result<(), AllocError>
+        requires { place < length self.old.draft_nodes }
+        ensures same { self.new.draft_nodes ≡ self.old.draft_nodes }
+        ensures left { IfOk result (λ _. self.new.left ≡ place ∷ self.old.left) }
+    {
+        let before = self.order.len();
+        self.order.push(place)?;
+        self.marks[place] = Some(before);
+        Ok(())
+    }
+
+    // Whether the walk left a node.
+    fn is_left(&self, place: usize) -> bool
+        requires { place < length self.now.draft_nodes }
+        ensures marked { result ≡ is_some (mark_of place self.now.left) }
+        ensures kept { AreKept self.now.draft_nodes }
+    {
+        self.marks[place].is_some()
+    }
+
+    // The place of the node with a number.
+    fn place_numbered(&self, number: usize) -> usize
+        requires { number < length self.now.left }
+        ensures place { slice_get self.now.left number ≡ Some result }
+        ensures kept { result < length self.now.draft_nodes }
+    {
+        self.order[self.order.len() - 1 - number]
+    }
+
+    // The node of the plan for a kept node.
+    fn node_of(&self, draft_node: DraftNode) -> Node
+        requires few { length self.now.left ≤ 65535 }
+        requires below { IsBelow (length self.now.draft_nodes) draft_node }
+        ensures { result ≡ node_for self.now.left draft_node }
+    {
+        match draft_node {
+            DraftNode::Play { card, next } => Node::Play {
+                card,
+                next: self.next_of(next),
+            },
+            DraftNode::See { next } => Node::See {
+                next: self.nexts_of(&next),
+            },
+        }
+    }
+
+    // Where the plan goes on for each letter.
+    fn nexts_of(&self, draft_places: &[DraftPlace; 14]) -> [Next; 14]
+        requires few { length self.now.left ≤ 65535 }
+        requires earlier { AllByRecursion (IsEarlier (length self.now.draft_nodes)) draft_places.now }
+        requires all { length draft_places.now ≡ 14 }
+        ensures { result ≡ map (next_for self.now.left) draft_places.now }
+    {
+        let mut nexts = [Next::End; 14];
+        for place in 0..14 {
+            nexts[place] = self.next_of(draft_places[place]);
+        }
+        nexts
+    }
+
+    // Where the plan goes on for a place.
+    fn next_of(&self, draft_place: DraftPlace) -> Next
+        requires few { length self.now.left ≤ 65535 }
+        requires earlier { IsEarlier (length self.now.draft_nodes) draft_place }
+        ensures { result ≡ next_for self.now.left draft_place }
+    {
+        let DraftPlace::At(place) = draft_place else {
+            return Next::End;
+        };
+        match self.marks[place] {
+            Some(mark) => Next::To(self.order.len().saturating_sub(1).saturating_sub(mark) as u16),
+            None => Next::End,
+        }
+    }
 }
 
 // Marks for `count` places, none of which was left.
@@ -48,105 +223,4 @@ fn no_marks<A: Allocator + Copy>(
         marks.push(None)?;
     }
     Ok(marks)
-}
-
-// Walks on from a place.
-#[cycle(walk)]
-fn walk_from<A: Allocator + Copy>(
-    nodes: &Nodes<A>,
-    draft_place: DraftPlace,
-    places: &mut LeftPlaces<A>,
-) -> Result<(), AllocError>
-    requires kept { AreKept nodes.now }
-    requires earlier { IsEarlier (length nodes.now) draft_place }
-    requires marks { AreMarks places.old.marks.items (reverse places.old.order.items) }
-    requires whole { length places.old.marks.items ≡ length nodes.now }
-    ensures walk { IfOk result
-        (λ _. IsWalk nodes.now draft_place (reverse places.old.order.items) (reverse places.new.order.items)) }
-    ensures marks { IfOk result (λ _. AreMarks places.new.marks.items (reverse places.new.order.items)) }
-    ensures whole { IfOk result (λ _. length places.new.marks.items ≡ length nodes.now) }
-{
-    let DraftPlace::At(place) = draft_place else {
-        return Ok(());
-    };
-    if is_left(&places.marks, place) {
-        return Ok(());
-    }
-    walk_below(nodes, place, places)?;
-    leave(places, place)?;
-    Ok(())
-}
-
-// Walks on from all places that a node leads to.
-#[cycle(walk)]
-fn walk_below<A: Allocator + Copy>(
-    nodes: &Nodes<A>,
-    place: usize,
-    places: &mut LeftPlaces<A>,
-) -> Result<(), AllocError>
-    requires kept { AreKept nodes.now }
-    requires within { place < length nodes.now }
-    requires marks { AreMarks places.old.marks.items (reverse places.old.order.items) }
-    requires whole { length places.old.marks.items ≡ length nodes.now }
-    ensures walk { IfOk result
-        (λ _. IsWalkBelow nodes.now place (reverse places.old.order.items) (reverse places.new.order.items)) }
-    ensures marks { IfOk result (λ _. AreMarks places.new.marks.items (reverse places.new.order.items)) }
-    ensures whole { IfOk result (λ _. length places.new.marks.items ≡ length nodes.now) }
-{
-    match nodes.draft_node(place) {
-        DraftNode::Play { card: _, next } => {
-            walk_from(nodes, next, places)?;
-            Ok(())
-        }
-        DraftNode::See { next } => {
-            walk_all(nodes, &next, places)?;
-            Ok(())
-        }
-    }
-}
-
-// Walks on from some places, one after another.
-#[cycle(walk)]
-fn walk_all<A: Allocator + Copy>(
-    nodes: &Nodes<A>,
-    draft_places: &[DraftPlace],
-    places: &mut LeftPlaces<A>,
-) -> Result<(), AllocError>
-    requires kept { AreKept nodes.now }
-    requires earlier { AllByRecursion (IsEarlier (length nodes.now)) draft_places.now }
-    requires few { length draft_places.now ≤ 14 }
-    requires marks { AreMarks places.old.marks.items (reverse places.old.order.items) }
-    requires whole { length places.old.marks.items ≡ length nodes.now }
-    ensures walk { IfOk result
-        (λ _. IsWalkAll nodes.now draft_places.now (reverse places.old.order.items) (reverse places.new.order.items)) }
-    ensures marks { IfOk result (λ _. AreMarks places.new.marks.items (reverse places.new.order.items)) }
-    ensures whole { IfOk result (λ _. length places.new.marks.items ≡ length nodes.now) }
-{
-    let [draft_place, others @ ..] = draft_places else {
-        return Ok(());
-    };
-    walk_from(nodes, *draft_place, places)?;
-    walk_all(nodes, others, places)?;
-    Ok(())
-}
-
-// Leaves a node: marks it and adds its place.
-fn leave<A: Allocator + Copy>(places: &mut LeftPlaces<A>, place: usize) -> Result<(), AllocError>
-    requires within { place < length places.old.marks.items }
-    requires marks { AreMarks places.old.marks.items (reverse places.old.order.items) }
-    ensures order { IfOk result (λ _. reverse places.new.order.items ≡ place ∷ reverse places.old.order.items) }
-    ensures marks { IfOk result (λ _. AreMarks places.new.marks.items (reverse places.new.order.items)) }
-    ensures whole { length places.new.marks.items ≡ length places.old.marks.items }
-{
-    places.marks[place] = Some(places.order.len());
-    places.order.push(place)?;
-    Ok(())
-}
-
-// Whether the walk left a node.
-fn is_left(marks: &[Option<usize>], place: usize) -> bool
-    requires { place < length marks.now }
-    ensures { result ≡ is_marked (slice_get marks.now place) }
-{
-    marks[place].is_some()
 }

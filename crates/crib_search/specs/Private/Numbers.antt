@@ -1,6 +1,6 @@
 -- The numbers that the code gives to the nodes of a plan, from a walk over the kept nodes. `plan_of_tree` says the same
 -- of trees. A walk leaves a node after all nodes that the node leads to.
-use Rattle.std.specs.Prelude.{◌≡◌, ℕ, ◌-◌, ◌<◌, ◌==◌, List, [], ◌∷◌, ◌++◌, length, map, slice_get, Bool, false, is_some}
+use Rattle.std.specs.Prelude.{◌≡◌, ℕ, ◌-◌, ◌<◌, ◌==◌, List, [], ◌∷◌, ◌++◌, length, map, slice_get}
 use Rattle.std.specs.Prelude.{Option, Some, None, if◌then◌else◌}
 use Rattle.std.specs.List.{AllZip}
 use Rattle.crib_plan.specs.declared.plan.Next.{Next}
@@ -13,6 +13,11 @@ use Rattle.crib_search.specs.declared.nodes.DraftNode.{DraftNode}
 use Rattle.crib_search.specs.declared.nodes.DraftNode.TheVariants.{Play, See}
 use Rattle.crib_search.specs.Trees.{Tree, Branches, trees_after_walk, trees_after_walks}
 use Rattle.crib_search.specs.Private.Nodes.{Names, NameAll}
+
+-- what a walk has done: the kept nodes that it goes over, and the places that it left, the last one first
+pub record Walked : Type 0 where
+  pub draft_nodes : List DraftNode
+  pub left : List ℕ
 
 -- the places that a walk left name these trees; both lists have the last one first
 abbrev pub AreLeft : List DraftNode → List Tree → List ℕ → Type 0
@@ -52,34 +57,28 @@ IsWalkBelow draft_nodes place before after =
     (draft_node : DraftNode) → slice_get draft_nodes place ≡ Some draft_node →
     WalksDraftNode draft_nodes draft_node before after
 
--- whether a place is marked
-abbrev pub is_marked : Option (Option ℕ) → Bool
-is_marked None = false
-is_marked (Some mark) = is_some mark
-
 -- where a plan goes on for a mark. The node that was left last has number 0
-abbrev pub number_for : ℕ → Option (Option ℕ) → Next
+abbrev pub number_for : ℕ → Option ℕ → Next
 number_for count None = next.End
-number_for count (Some None) = next.End
-number_for count (Some (Some mark)) = next.To (count - 1 - mark)
+number_for count (Some mark) = next.To (count - 1 - mark)
 
 -- where the plan goes on for a place
-abbrev pub next_for : List (Option ℕ) → ℕ → DraftPlace → Next
-next_for marks count End = next.End
-next_for marks count (At place) = number_for count (slice_get marks place)
+abbrev pub next_for : List ℕ → DraftPlace → Next
+next_for left End = next.End
+next_for left (At place) = number_for (length left) (mark_of place left)
 
 -- the node of the plan for a kept node
-abbrev pub node_for : List (Option ℕ) → ℕ → DraftNode → Node
-node_for marks count (Play card next) = node.Play card (next_for marks count next)
-node_for marks count (See nexts) = node.See (map (next_for marks count) nexts)
+abbrev pub node_for : List ℕ → DraftNode → Node
+node_for left (Play card next) = node.Play card (next_for left next)
+node_for left (See nexts) = node.See (map (next_for left) nexts)
 
 -- the node of the plan as a list: empty, if no node is kept there
-abbrev pub nodes_at : List (Option ℕ) → ℕ → Option DraftNode → List Node
-nodes_at marks count None = []
-nodes_at marks count (Some draft_node) = node_for marks count draft_node ∷ []
+abbrev pub nodes_at : List ℕ → Option DraftNode → List Node
+nodes_at left None = []
+nodes_at left (Some draft_node) = node_for left draft_node ∷ []
 
--- the nodes of the plan for some places
-abbrev pub nodes_of_places : List DraftNode → List (Option ℕ) → ℕ → List ℕ → List Node
-nodes_of_places draft_nodes marks count [] = []
-nodes_of_places draft_nodes marks count (place ∷ left) =
-    nodes_at marks count (slice_get draft_nodes place) ++ nodes_of_places draft_nodes marks count left
+-- the nodes of the plan for some places of those that the walk left
+abbrev pub nodes_of_places : List DraftNode → List ℕ → List ℕ → List Node
+nodes_of_places draft_nodes left [] = []
+nodes_of_places draft_nodes left (place ∷ places) =
+    nodes_at left (slice_get draft_nodes place) ++ nodes_of_places draft_nodes left places

@@ -1,9 +1,9 @@
 use Rattle.std.proofs.Common.{◌+◌, ◌*◌, length}
 use Rattle.crib_search.proofs.WalkHeights.{height, highest}
-use Rattle.crib_search.proofs.numbering.+walk.Given as goal
+use Rattle.crib_search.proofs.numbering.Numbering.+walk.Given as goal
 
-abbrev pub decreases-walk_from : goal.decreases-walk_from
-decreases-walk_from g l = 16 * height l.draft_place
+abbrev pub decreases-walk : goal.decreases-walk
+decreases-walk g l = 16 * height l.draft_place
 
 abbrev pub decreases-walk_below : goal.decreases-walk_below
 decreases-walk_below g l = 16 * l.place + 15

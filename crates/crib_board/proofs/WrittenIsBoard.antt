@@ -6,7 +6,7 @@ use Rattle.std.proofs.lemmas.List.{append-nil, length-take-le, take_more, take-r
 use Rattle.std.proofs.lemmas.List.FromFn.{map-range_with_len_more}
 use Rattle.crib_text.specs.Spelling.{space}
 use Rattle.crib_cards.specs.declared.sides.Side.{Side}
-use Rattle.crib_cards.specs.declared.sides.Side.TheVariants.{Owner, Opponent}
+use Rattle.crib_cards.specs.Words.{side_word}
 use Rattle.crib_cards.specs.declared.sides.Scores.{Scores}
 use Rattle.crib_show.specs.declared.outcomes.ShowRow.{ShowRow}
 use Rattle.crib_show.specs.declared.outcomes.Outcome.{Outcome}
@@ -32,13 +32,13 @@ pub scores_written : (old : List ℕ) (scores : Scores) → (old ++ with_space (
 unfolding score_columns
 scores_written old scores = append_assoc old (with_space (right_in 3 scores.owner)) (with_space (right_in 3 scores.opponent))
 
-pub owner_column : side_column Owner ≡ codes "owner   "
-owner_column = refl
+pub side_written : (old : List ℕ) (side : Side)
+    → (old ++ side_word side) ++ take (8 - length (side_word side)) (codes "        ") ≡ old ++ side_column side
+side_written old side =
+    append_assoc old (side_word side) (take (8 - length (side_word side)) (codes "        "))
+    ∙ ap (λ (blank : List ℕ). old ++ (side_word side ++ blank)) (take-replicate (8 - length (side_word side)) 8 space (omega arith))
 
-pub opponent_column : side_column Opponent ≡ codes "opponent"
-opponent_column = refl
-
-pub ruleset columns = (three_digits, right_written, scores_written, owner_column, opponent_column)
+pub ruleset columns = (three_digits, right_written, scores_written, side_written)
 
 -- ---- rows
 regroup_row : (old number gap side what count points scores end : List ℕ)

@@ -4,7 +4,7 @@ use Rattle.std.specs.List.{flat_map}
 use Rattle.std.proofs.lemmas.List.{append-nil}
 use Rattle.crib_cards.specs.CardText.{card_text}
 use Rattle.crib_text.specs.Spelling.{space, line_feed, line_bytes, line_text}
-use Rattle.crib_problem.specs.Spelling.{spaced_card}
+use Rattle.crib_problem.specs.Private.Spelling.{spaced_card}
 
 card_words : (keyword : List ℕ) (cards : List ℕ) → line_bytes (keyword ∷ map card_text cards) ≡ keyword ++ flat_map spaced_card cards
 card_words keyword [] = sym (append-nil keyword)

@@ -1,14 +1,14 @@
 //! Cards and acts as text: the words and lines that the sections of problems and games share.
-ghost use Rattle.std.specs.Prelude.{◌≡◌, ◌+◌, ◌*◌, ◌≤◌, ◌++◌, length, vec_len, vec_capacity, map, IfOk};
+ghost use Rattle.std.specs.Prelude.{◌≡◌, ◌+◌, ◌*◌, ◌≤◌, ◌++◌, ◌∷◌, length, vec_len, vec_capacity, map, IfOk};
 ghost use Rattle.std.specs.List.{flat_map};
-ghost use Rattle.crib_cards.specs.CardText as cards;
+ghost use Rattle.crib_cards.specs.CardText.{card_text};
 ghost use Rattle.crib_text.specs.Lines.{line_of};
 ghost use Rattle.crib_text.specs.Refusals.{cause_number};
 ghost use Rattle.crib_text.specs.Reading.{Gives};
 ghost use Rattle.crib_text.specs.Spelling.{line_text};
 ghost use Rattle.crib_problem.specs.Reading.{act_in, actor_in, acts_count_in, card_in, most_acts, move_in};
-ghost use Rattle.crib_problem.specs.Spelling.{act_line, actor_word, spaced_card};
-ghost use Rattle.crib_problem.specs.Private.Spelling.{move_end};
+ghost use Rattle.crib_problem.specs.Spelling.{act_line, actor_word};
+ghost use Rattle.crib_problem.specs.Private.Spelling.{move_end, spaced_card};
 
 use crib_cards::{Act, Card, Move, Side, card_text, read_card};
 use crib_text::{Line, TextCause, append, check_keyword, number_of, word_at};
@@ -113,15 +113,29 @@ fn put_move<A: Allocator>(text: &mut Vec<u8, A>, what: Move)
 {
     match what {
         Move::Card(card) => {
-            append_cards(text, &[card]);
+            put_cards(text, &[card]);
             append(text, b"\n");
         }
         Move::Go => append(text, b" go\n"),
     }
 }
 
-/// Appends each card's text after a space. The text must have room for three bytes for each card.
-pub fn append_cards<A: Allocator>(text: &mut Vec<u8, A>, cards: &[Card])
+/// Appends the line of a keyword and some cards. The text must have room for the keyword, for three bytes for each
+/// card, and for LF.
+#[tactic(auto, using(crate::proofs::WrittenIsSpelled::cards_line))]
+pub fn append_cards<A: Allocator>(text: &mut Vec<u8, A>, keyword: &[u8], cards: &[Card])
+    requires { vec_len text.old + length keyword.now + 3 * length cards.now + 1 ≤ vec_capacity text.old }
+    ensures items { text.new.items ≡ text.old.items ++ line_text (keyword.now ∷ map card_text cards.now) }
+    ensures room { vec_capacity text.old ≤ vec_capacity text.new }
+    ensures len { vec_len text.new ≡ vec_len text.old + length keyword.now + 3 * length cards.now + 1 }
+{
+    append(text, keyword);
+    put_cards(text, cards);
+    append(text, b"\n");
+}
+
+// Appends each card's text after a space.
+fn put_cards<A: Allocator>(text: &mut Vec<u8, A>, cards: &[Card])
     requires { vec_len text.old + 3 * length cards.now ≤ vec_capacity text.old }
     ensures items { text.new.items ≡ text.old.items ++ flat_map spaced_card cards.now }
     ensures room { vec_capacity text.old ≤ vec_capacity text.new }

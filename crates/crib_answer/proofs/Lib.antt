@@ -5,3 +5,4 @@ pub mod Replies
 pub mod ToldAnswers
 pub mod CutShortInputs
 pub mod Examples
+pub mod Agreement

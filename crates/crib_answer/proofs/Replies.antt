@@ -5,6 +5,7 @@ use Rattle.std.proofs.lemmas.List.{append_cancel_left}
 use Rattle.crib_text.specs.Refusals.{Refusal}
 use Rattle.crib_problem.specs.Setup.{Setup, IsSetup}
 use Rattle.crib_plan.specs.declared.plan.Node.{Node}
+use Rattle.crib_plan.specs.Nodes.{most_nodes}
 use Rattle.crib_plan.specs.Spelling.{plan_lines, plan_text}
 use Rattle.crib_game.specs.declared.game.Game.{Game}
 use Rattle.crib_game.specs.declared.ending.Ending.{Ending}
@@ -17,7 +18,7 @@ use Rattle.crib_check.specs.Failing.{IsFirstFailing}
 use Rattle.crib_check.specs.Verdicts.{IsRight}
 use Rattle.crib_check.proofs.VerdictAtStart.{ends, sure_goes_on}
 use Rattle.crib_check.proofs.OneFirstGame.{same_law}
-use Rattle.crib_search.specs.Finder.{IsFound}
+use Rattle.crib_search.specs.Finder.{IsFound, ExceedsLimit}
 use Rattle.crib_search.proofs.OneTree.{one_law}
 use Rattle.crib_search.proofs.LawProofs.{sure_law, none_law}
 use Rattle.crib_answer.specs.declared.job.Job.TheVariants.{Replay, Follow, Check, Solve, Board}
@@ -156,34 +157,35 @@ failing_owed input problem plan result game spelled first =
 
 -- ---- solve
 
-record IsPlanned (said : Result Setup Refusal) (output : List ℕ) : Type 0 where
-  problem : Setup
-  plan : List Node
-  asked : said ≡ Ok problem
-  output_is : output ≡ plan_text plan
-  found : IsFound problem (Some plan)
+pub record IsPlanned (said : Result Setup Refusal) (output : List ℕ) : Type 0 where
+  pub problem : Setup
+  pub plan : List Node
+  pub asked : said ≡ Ok problem
+  pub output_is : output ≡ plan_text plan
+  pub found : IsFound problem (Some plan)
+  pub within : ¬ ExceedsLimit problem most_nodes
 
 record IsUnplanned (said : Result Setup Refusal) : Type 0 where
   problem : Setup
   asked : said ≡ Ok problem
   found : IsFound problem None
 
-plan_reply : (problem : Setup) (found : Option (List Node)) (reply : Reply) (more : List ℕ) → IsFound problem found → reply ≡ found_reply found
-    → reply.output ≡ codes "plan" ++ more → IsPlanned (Ok problem) reply.output
-plan_reply problem (Some plan) reply more found is e =
-    record { problem = problem; plan = plan; asked = refl; output_is = ap (λ (r : Reply). r.output) is; found = found }
-plan_reply problem None reply more found is e =
+plan_reply : (problem : Setup) (found : Option (List Node)) (reply : Reply) (more : List ℕ) → IsFound problem found → ¬ ExceedsLimit problem most_nodes
+    → reply ≡ found_reply found → reply.output ≡ codes "plan" ++ more → IsPlanned (Ok problem) reply.output
+plan_reply problem (Some plan) reply more found small is e =
+    record { problem = problem; plan = plan; asked = refl; output_is = ap (λ (r : Reply). r.output) is; found = found; within = small }
+plan_reply problem None reply more found small is e =
     let f : ◌≡◌ {A = ℕ} 110 112 = first_of reply (found_reply None) (codes "plan" ++ more) is e in
     absurd (omega arith)
 
 planned_problem : (problem : Setup) (reply : Reply) (more : List ℕ) → AnswersProblem problem reply → reply.output ≡ codes "plan" ++ more
     → IsPlanned (Ok problem) reply.output
-planned_problem problem reply more (inl answer) e = plan_reply problem answer.0 reply more answer.1 answer.3 e
+planned_problem problem reply more (inl answer) e = plan_reply problem answer.0 reply more answer.1 answer.2 answer.3 e
 planned_problem problem reply more (inr answer) e =
     let f : ◌≡◌ {A = ℕ} 102 112 = first_of reply (fault_reply too_large) (codes "plan" ++ more) answer.1 e in
     absurd (omega arith)
 
-planned_by_output : (said : Result Setup Refusal) (reply : Reply) (more : List ℕ) → AnswersSolve said reply → reply.output ≡ codes "plan" ++ more
+pub planned_by_output : (said : Result Setup Refusal) (reply : Reply) (more : List ℕ) → AnswersSolve said reply → reply.output ≡ codes "plan" ++ more
     → IsPlanned said reply.output
 planned_by_output (Ok problem) reply more answers e = planned_problem problem reply more answers e
 planned_by_output (Err refusal) reply more is e =

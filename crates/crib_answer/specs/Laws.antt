@@ -99,3 +99,11 @@ PlanLaw =
 abbrev pub NoneLaw : Type 0
 NoneLaw =
     (input : List ℕ) (reply : Reply) → Answers Solve input reply → reply.output ≡ none_line → HasNoPlan input
+
+-- ---- several jobs
+
+-- if `solve` owes a plan to an input, `check` owes `holds` to that input with the plan after it
+abbrev pub FoundPlanLaw : Type 0
+FoundPlanLaw =
+    (input : List ℕ) (reply : Reply) (more : List ℕ) → Answers Solve input reply →
+    reply.output ≡ codes "plan" ++ more → Answers Check (input ++ reply.output) (verdict_reply Holds)

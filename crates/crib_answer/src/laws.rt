@@ -1,6 +1,6 @@
 //! The laws of the answers. Each function does nothing. Its contract states the laws.
 ghost use Rattle.crib_answer.specs.Laws.{CutShortLaw, EitherLaw, FailingLaw, FailsLaw, HoldsLaw, OneReplyLaw, SureLaw};
-ghost use Rattle.crib_answer.specs.Laws.{NoneLaw, PlanLaw, TooLongLaw};
+ghost use Rattle.crib_answer.specs.Laws.{FoundPlanLaw, NoneLaw, PlanLaw, TooLongLaw};
 ghost use Rattle.crib_check.specs.Laws.{EndLaw, ProgressLaw};
 
 /// The laws of every job.
@@ -43,4 +43,11 @@ pub fn check_law()
 pub fn solve_law()
     ensures plan { PlanLaw }
     ensures none { NoneLaw }
+{}
+
+/// The laws of several jobs. They say that the answers of one job agree with those of another.
+///
+/// - `found_plan`: if `solve` owes a plan, `check` owes `holds` to the same input with that plan after it.
+pub fn agreement_law()
+    ensures found_plan { FoundPlanLaw }
 {}

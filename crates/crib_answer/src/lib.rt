@@ -20,7 +20,7 @@ mod verdict;
 pub use answer::Answer;
 pub use answering::{answer_to, too_long_answer};
 pub use job::{Job, UnknownJob};
-pub use laws::{check_law, reply_law, solve_law};
+pub use laws::{agreement_law, check_law, reply_law, solve_law};
 pub use line::{memory_answer, read_fault_answer};
 pub use status::Status;
 

@@ -248,7 +248,7 @@ module _ (problem : Setup) (setup : IsSetup problem) (dealt : Dealt) (deal : IsD
       (sym (has-filter (λ c. not (has (cards_of past) c)) dealt.hold card) ∙ take.0)).0).0
   move_is side move.Go past take = tt
 
-  moves_are : (played : List Move) → IsLegal start hands played → AllMoves (acts_of pone played)
+  pub moves_are : (played : List Move) → IsLegal start hands played → AllMoves (acts_of pone played)
   moves_are [] legal = tt
   moves_are (turn ∷ past) legal =
       elim (cases_Bool (is_visible pone (letter_of turn) (letters_of past))) [

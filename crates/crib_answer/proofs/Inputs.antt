@@ -49,12 +49,12 @@ of_length true read long rest e = e
 of_length false read long rest e = absurd cc
 
 -- the lines of an input, each with its LF, make the input
-input_taken : (input : List ℕ) (rest : Rest) → input_lines input ≡ Ok rest → flat_map ended_line rest.lines ≡ input
+pub input_taken : (input : List ℕ) (rest : Rest) → input_lines input ≡ Ok rest → flat_map ended_line rest.lines ≡ input
 unfolding input_lines
 input_taken input rest e = text_taken input rest (of_length (nat_le (length input) most_bytes) (all_lines input) _ rest e)
 
 -- lines of words, each with its LF, make their text
-spelled_text : (lines : List (List (List ℕ))) (rest : List (List ℕ))
+pub spelled_text : (lines : List (List (List ℕ))) (rest : List (List ℕ))
     → flat_map ended_line (map line_bytes lines ++ rest) ≡ lines_text lines ++ flat_map ended_line rest
 spelled_text [] rest = refl
 spelled_text (words ∷ lines) rest = ap (λ (more : List ℕ). line_text words ++ more) (spelled_text lines rest)
@@ -65,7 +65,7 @@ unfolding no_line
 none_left [] number u e = refl
 none_left (line ∷ lines) number u e = absurd cc
 
-at_end : (rest : Rest) (u : Unit {0}) → end_at rest ≡ Ok u → rest.lines ≡ []
+pub at_end : (rest : Rest) (u : Unit {0}) → end_at rest ≡ Ok u → rest.lines ≡ []
 unfolding end_at
 at_end rest u e = none_left rest.lines rest.number u e
 
@@ -110,17 +110,17 @@ question_accepted input question e =
 
 -- ---- an input that spells something is accepted
 
-texts_joined : (lines more : List (List (List ℕ))) → lines_text (lines ++ more) ≡ lines_text lines ++ lines_text more
+pub texts_joined : (lines more : List (List (List ℕ))) → lines_text (lines ++ more) ≡ lines_text lines ++ lines_text more
 texts_joined [] more = refl
 texts_joined (words ∷ lines) more = ap (λ (text : List ℕ). line_text words ++ text) (texts_joined lines more)
     ∙ sym (append_assoc (line_text words) (lines_text lines) (lines_text more))
 
-maps_joined : (lines more : List (List (List ℕ))) → map line_bytes (lines ++ more) ≡ map line_bytes lines ++ map line_bytes more
+pub maps_joined : (lines more : List (List (List ℕ))) → map line_bytes (lines ++ more) ≡ map line_bytes lines ++ map line_bytes more
 maps_joined [] more = refl
 maps_joined (words ∷ lines) more = ap (λ (ls : List (List ℕ)). line_bytes words ∷ ls) (maps_joined lines more)
 
 -- the lines of an input that is the text of some lines and is not too long
-lines_taken : (input : List ℕ) (lines : List (List (List ℕ))) → length input ≤ most_bytes → input ≡ lines_text lines → list_all are_words lines ≡ true
+pub lines_taken : (input : List ℕ) (lines : List (List (List ℕ))) → length input ≤ most_bytes → input ≡ lines_text lines → list_all are_words lines ≡ true
     → input_lines input ≡ Ok (record { number = 1; lines = map line_bytes lines })
 unfolding input_lines
 lines_taken input lines few is words =
@@ -128,7 +128,7 @@ lines_taken input lines few is words =
     let taken : all_lines input ≡ Ok (record { number = 1; lines = map line_bytes lines }) = ap all_lines is ∙ all_lines-lines_text lines words in
     rw (small, taken) refl
 
-nothing_left : (rest : Rest) → rest.lines ≡ [] → end_at rest ≡ Ok tt
+pub nothing_left : (rest : Rest) → rest.lines ≡ [] → end_at rest ≡ Ok tt
 unfolding end_at no_line
 nothing_left rest e = rw e refl
 

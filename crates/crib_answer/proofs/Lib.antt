@@ -5,4 +5,5 @@ pub mod Replies
 pub mod ToldAnswers
 pub mod CutShortInputs
 pub mod Examples
+pub mod GameInputs
 pub mod Agreement

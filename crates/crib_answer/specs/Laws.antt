@@ -14,7 +14,7 @@ use Rattle.crib_answer.specs.declared.job.Job.TheVariants.{Replay, Follow, Check
 use Rattle.crib_answer.specs.Input.{most_bytes, report_of_input, ending_of_input, question_of_input}
 use Rattle.crib_answer.specs.Input.{problem_of_input, board_of_input}
 use Rattle.crib_answer.specs.Reply.{Reply}
-use Rattle.crib_answer.specs.Answer.{Answers, refusal_reply, verdict_reply}
+use Rattle.crib_answer.specs.Answer.{Answers, refusal_reply, verdict_reply, ending_reply}
 use Rattle.crib_answer.specs.Telling.{SpellsPlan, HasSurePlan, HasFailingPlan, IsSolvedBy, HasNoPlan}
 use Rattle.crib_answer.specs.Telling.{holds_line, fails_line, none_line}
 
@@ -101,6 +101,13 @@ NoneLaw =
     (input : List ℕ) (reply : Reply) → Answers Solve input reply → reply.output ≡ none_line → HasNoPlan input
 
 -- ---- several jobs
+
+-- if `check` owes `fails` with an ending and a game to an input, `follow` owes this ending to that input with the game
+-- after it
+abbrev pub FailedGameLaw : Type 0
+FailedGameLaw =
+    (input : List ℕ) (reply : Reply) (result : Ending) (text : List ℕ) → Answers Check input reply →
+    reply.output ≡ fails_line result ++ text → Answers Follow (input ++ text) (ending_reply result)
 
 -- if `solve` owes a plan to an input, `check` owes `holds` to that input with the plan after it
 abbrev pub FoundPlanLaw : Type 0

@@ -1,6 +1,6 @@
 //! The laws of the answers. Each function does nothing. Its contract states the laws.
 ghost use Rattle.crib_answer.specs.Laws.{CutShortLaw, EitherLaw, FailingLaw, FailsLaw, HoldsLaw, OneReplyLaw, SureLaw};
-ghost use Rattle.crib_answer.specs.Laws.{FoundPlanLaw, NoneLaw, PlanLaw, TooLongLaw};
+ghost use Rattle.crib_answer.specs.Laws.{FailedGameLaw, FoundPlanLaw, NoneLaw, PlanLaw, TooLongLaw};
 ghost use Rattle.crib_check.specs.Laws.{EndLaw, ProgressLaw};
 
 /// The laws of every job.
@@ -47,7 +47,10 @@ pub fn solve_law()
 
 /// The laws of several jobs. They say that the answers of one job agree with those of another.
 ///
+/// - `failed_game`: if `check` owes `fails` with an ending and a game, `follow` owes this ending to the same input with
+///   that game after it.
 /// - `found_plan`: if `solve` owes a plan, `check` owes `holds` to the same input with that plan after it.
 pub fn agreement_law()
+    ensures failed_game { FailedGameLaw }
     ensures found_plan { FoundPlanLaw }
 {}

@@ -1,20 +1,43 @@
 -- The answers of one job agree with those of another.
-use Rattle.std.proofs.Common.{◌≡◌, ◌≤◌, ◌<◌, ℕ, List, ◌++◌, length, Some, inl, inr, refl, sym, ap, ◌∙◌}
+use Rattle.std.proofs.Common.{◌≡◌, ◌⊎◌, ◌≤◌, ℕ, List, [], ◌∷◌, ◌++◌, length, codes, Option, Some, None, Result, Ok, Err, inl, inr, refl, sym, ap, ◌∙◌}
+use Rattle.std.proofs.Common.{arith}
+use Rattle.std.specs.Prelude.{◌↔◌}
 use Rattle.std.proofs.lemmas.Bool.{cases_lt}
-use Rattle.crib_problem.specs.Setup.{Setup, IsSetup}
+use Rattle.crib_cards.specs.declared.sides.Scores.{Scores}
+use Rattle.crib_text.specs.Refusals.{Refusal}
+use Rattle.crib_text.specs.Reading.{◌>>=◌}
+use Rattle.crib_problem.specs.Setup.{Setup}
+use Rattle.crib_problem.specs.Reading.{problem_at}
+use Rattle.crib_problem.specs.Spelling.{problem_text}
 use Rattle.crib_plan.specs.declared.plan.Node.{Node}
-use Rattle.crib_plan.specs.Nodes.{ArePlan, most_nodes}
+use Rattle.crib_plan.specs.Nodes.{most_nodes}
+use Rattle.crib_game.specs.declared.ending.Ending.{Ending}
+use Rattle.crib_game.specs.declared.ending.Ending.TheVariants as ending
+use Rattle.crib_game.specs.declared.fault.GameFault.{GameFault}
+use Rattle.crib_game.specs.declared.game.Game.{Game}
+use Rattle.crib_game.specs.declared.report.Report.{Report}
+use Rattle.crib_game.specs.declared.report.Row.{Row}
+use Rattle.crib_game.specs.Replay.{game_fault, record_of, report_of, replay_result, unless_fault}
+use Rattle.crib_game.specs.Spelling.{game_text}
+use Rattle.crib_game.proofs.FollowLawProofs.{answer_law}
+use Rattle.crib_game.proofs.GameFaults.{no_fault_is}
 use Rattle.crib_game.proofs.RecordedGames.{recorded_game}
+use Rattle.crib_game.proofs.Reports.{report_ends, rows_of_game}
+use Rattle.crib_board.specs.Board.{board_for, board_of}
 use Rattle.crib_check.proofs.FailureEndings.{failing_followed, six_is}
 use Rattle.crib_search.specs.Finder.{IsFound, ExceedsLimit}
 use Rattle.crib_search.proofs.FoundIsPlan.{found_plan}
 use Rattle.crib_search.proofs.LawProofs.{sure_law}
+use Rattle.crib_answer.specs.declared.status.Status.TheVariants.{Yes, Refused}
+use Rattle.crib_answer.specs.Input.{input_lines, last_game_at, last_judged, report_at, report_of_input, ending_of_input, board_at, board_of_input}
 use Rattle.crib_answer.specs.Input.{problem_of_input}
-use Rattle.crib_answer.specs.Answer.{ending_reply, reply_by}
-use Rattle.crib_answer.specs.Laws.{FailedGameLaw, FoundPlanLaw}
-use Rattle.crib_answer.proofs.GameInputs.{ending_spelled}
+use Rattle.crib_answer.specs.Reply.{Reply}
+use Rattle.crib_answer.specs.Answer.{board_reply, ending_reply, ending_status, refusal_reply, reply_by, report_reply}
+use Rattle.crib_answer.specs.Laws.{FailedGameLaw, FollowedGameLaw, FoundPlanLaw, SameRefusalLaw, SameReportLaw}
+use Rattle.crib_answer.specs.Telling.{IsReported, SpellsGame, last_scores}
+use Rattle.crib_answer.proofs.GameInputs.{board_spelled, ending_accepted, ending_spelled, report_accepted, report_spelled}
 use Rattle.crib_answer.proofs.Inputs.{problem_accepted}
-use Rattle.crib_answer.proofs.Replies.{fails_law, planned_by_output, sure_owed}
+use Rattle.crib_answer.proofs.Replies.{fails_law, first_of, planned_by_output, sure_owed}
 
 -- ---- a plan that is found
 
@@ -54,3 +77,114 @@ failed_game_law input reply result text answers e =
       text = λ i. failed.spelled.text i ++ failed.game_is i;
     }) (failing_followed problem plan setup game result failed.first.failing) in
     ap (reply_by ending_reply) (sym read)
+
+-- ---- the report of a game
+
+rows_end : (first : Scores) (rows : List Row) (row : Row) → last_scores first (rows ++ row ∷ []) ≡ row.scores
+rows_end first [] row = refl
+rows_end first (other ∷ rows) row = rows_end other.scores rows row
+
+scores_end : (first : Scores) (report : Report) →
+    ((report.rows.items ≡ []) × (report.scores ≡ first))
+    ⊎ ((front : List Row) × (row : Row) × (report.rows.items ≡ front ++ row ∷ []) × (report.scores ≡ row.scores)) →
+    report.scores ≡ last_scores first report.rows.items
+scores_end first report (inl none) = none.1 ∙ ap (last_scores first) (sym none.0)
+scores_end first report (inr some) = some.3 ∙ sym (rows_end first some.0 some.1) ∙ ap (last_scores first) (sym some.2)
+
+-- an input that spells a problem and a game with a report
+reported : (input : List ℕ) (problem : Setup) (game : Game) → SpellsGame input problem game → replay_result problem game ≡ Ok (report_of problem game) →
+    IsReported input problem game
+reported input problem game spelled e = record {
+  report = report_of problem game;
+  spelled = spelled;
+  acts = rows_of_game problem game;
+  scores = scores_end problem.scores (report_of problem game) (report_ends problem game spelled.problem_is);
+  replayed = ap (reply_by report_reply) (sym (report_spelled input problem game (report_of problem game) spelled e));
+  drawn = ap (reply_by board_reply) (sym (board_spelled input problem game (board_of problem (report_of problem game)) spelled (ap (board_for problem) e)));
+}
+
+-- ---- replay and board
+
+-- two results that were read: both are values, or both are the same refusal
+abbrev AreAlike : {A B : Type 0} → Result A Refusal → Result B Refusal → Type 0
+AreAlike (Ok value) (Ok other) = Unit {0}
+AreAlike (Ok value) (Err refusal) = ⊥
+AreAlike (Err refusal) (Ok value) = ⊥
+AreAlike (Err refusal) (Err other) = refusal ≡ other
+
+alike_then : {A B C : Type 0} (read : Result A Refusal) (one : A → Result B Refusal) (other : A → Result C Refusal) →
+    ((value : A) → AreAlike (one value) (other value)) → AreAlike (read >>= one) (read >>= other)
+alike_then (Ok value) one other alike = alike value
+alike_then (Err refusal) one other alike = refl
+
+alike_judged : (problem : Setup) (last : Game × ℕ) (replayed : Result Report GameFault) →
+    AreAlike (last_judged last replayed) (last_judged last (board_for problem replayed))
+alike_judged problem last (Ok report) = tt
+alike_judged problem last (Err fault) = refl
+
+alike_read : (input : List ℕ) → AreAlike (report_of_input input) (board_of_input input)
+unfolding report_of_input report_at board_of_input board_at
+alike_read input =
+    alike_then (input_lines input) _ _ (λ rest.
+    alike_then (problem_at rest) _ _ (λ problem.
+    alike_then (last_game_at problem.1) _ _ (λ last. alike_judged problem.0 last (replay_result problem.0 last.0))))
+
+same_refused : (read : Result Report Refusal) (board : Result (List ℕ) Refusal) (refusal : Refusal) → AreAlike read board →
+    (refusal_reply refusal ≡ reply_by report_reply read) ↔ (refusal_reply refusal ≡ reply_by board_reply board)
+same_refused (Ok report) (Ok board) refusal alike = (λ e. absurd (refused_yes (ap (λ (r : Reply). r.status) e)), λ e. absurd (refused_yes (ap (λ (r : Reply). r.status) e)))
+  where
+    refused_yes : Refused ≡ Yes → ⊥
+    refused_yes e = cc
+same_refused (Ok report) (Err other) refusal alike = absurd alike
+same_refused (Err one) (Ok board) refusal alike = absurd alike
+same_refused (Err one) (Err other) refusal alike = (λ e. e ∙ ap refusal_reply alike, λ e. e ∙ ap refusal_reply (sym alike))
+
+pub same_refusal_law : SameRefusalLaw
+same_refusal_law input refusal = same_refused (report_of_input input) (board_of_input input) refusal (alike_read input)
+
+replayed_report : (read : Result Report Refusal) (reply : Reply) (more : List ℕ) → reply ≡ reply_by report_reply read → reply.output ≡ codes "play" ++ more →
+    (report : Report) × (read ≡ Ok report)
+replayed_report (Ok report) reply more is e = (report, refl)
+replayed_report (Err refusal) reply more is e =
+    let f : ◌≡◌ {A = ℕ} 114 112 = first_of reply (refusal_reply refusal) (codes "play" ++ more) is e in
+    absurd (omega arith)
+
+-- a report that is read is that of the game
+is_report_of : (fault : Option GameFault) (value report : Report) → ◌≡◌ {A = Result Report GameFault} (unless_fault fault value) (Ok report) →
+    ◌≡◌ {A = Result Report GameFault} (unless_fault fault value) (Ok value)
+is_report_of None value report e = refl
+is_report_of (Some fault) value report e = absurd cc
+
+pub same_report_law : SameReportLaw
+same_report_law input reply more answers e =
+    let read = replayed_report (report_of_input input) reply more answers e in
+    let has = report_accepted input read.0 read.1 in
+    let is = is_report_of (game_fault has.problem has.game) (report_of has.problem has.game) read.0 has.replayed in
+    (has.problem, has.game, reported input has.problem has.game has.spelled is)
+
+-- ---- a game that is followed
+
+followed_ending : (read : Result Ending Refusal) (result : Ending) → ending_reply result ≡ reply_by ending_reply read → (given : Ending) × (read ≡ Ok given)
+followed_ending (Ok given) result e = (given, refl)
+followed_ending (Err refusal) result e = absurd (never_refused result (ap (λ (r : Reply). r.status) e))
+  where
+    never_refused : (one : Ending) → ending_status one ≡ Refused → ⊥
+    never_refused ending.Open e = cc
+    never_refused ending.Stuck e = cc
+    never_refused ending.Lost e = cc
+    never_refused ending.Short e = cc
+    never_refused ending.Reached e = cc
+
+pub followed_game_law : FollowedGameLaw
+followed_game_law input result answers =
+    let read = followed_ending (ending_of_input input) result answers in
+    let has = ending_accepted input read.0 read.1 in
+    let problem = has.problem in
+    let game = has.game in
+    let setup = has.spelled.problem_is in
+    let stands = answer_law problem has.plan game read.0 setup has.spelled.game_is.six has.followed in
+    let none = no_fault_is problem game (record_of problem game) setup stands.of_game.of_game in
+    let spelled : SpellsGame (problem_text problem ++ game_text game) problem game =
+    record { problem_is = setup; game_is = has.spelled.game_is; text = refl } in
+    let replayed = ap (λ (fault : Option GameFault). unless_fault fault (report_of problem game)) none in
+    (problem, has.plan, game, has.spelled, reported (problem_text problem ++ game_text game) problem game spelled replayed)

@@ -31,12 +31,12 @@ use Rattle.crib_answer.proofs.Inputs.{problem_accepted, question_accepted, quest
 
 -- ---- texts are told apart by their first byte
 
-abbrev first_byte : List ℕ → ℕ
+abbrev pub first_byte : List ℕ → ℕ
 first_byte [] = 0
 first_byte (byte ∷ bytes) = byte
 
 -- the first byte of a reply that has a text as its output
-first_of : (reply stated : Reply) (text : List ℕ) → reply ≡ stated → reply.output ≡ text → first_byte stated.output ≡ first_byte text
+pub first_of : (reply stated : Reply) (text : List ℕ) → reply ≡ stated → reply.output ≡ text → first_byte stated.output ≡ first_byte text
 first_of reply stated text is e = ap (λ (r : Reply). first_byte r.output) (sym is) ∙ ap first_byte e
 
 -- ---- the words of endings are told apart by their second letter

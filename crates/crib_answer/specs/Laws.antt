@@ -1,11 +1,13 @@
 -- The laws of the replies. They say what the bytes of an input spell, by the bytes of the reply that is owed to it.
-use Rattle.std.specs.Prelude.{◌≡◌, ◌⊎◌, ◌<◌, ℕ, List, ◌∷◌, ◌++◌, length, Result, Ok, codes}
+use Rattle.std.specs.Prelude.{◌≡◌, ◌⊎◌, ◌↔◌, ◌<◌, ℕ, List, ◌∷◌, ◌++◌, length, Result, Ok, codes}
 use Rattle.crib_text.specs.Refusals.{Refusal, cut_short, too_long}
 use Rattle.crib_text.specs.Words.{line_after}
 use Rattle.crib_problem.specs.Setup.{Setup}
+use Rattle.crib_problem.specs.Spelling.{problem_text}
 use Rattle.crib_plan.specs.declared.plan.Node.{Node}
 use Rattle.crib_game.specs.declared.game.Game.{Game}
 use Rattle.crib_game.specs.declared.ending.Ending.{Ending}
+use Rattle.crib_game.specs.Spelling.{game_text}
 use Rattle.crib_check.specs.declared.verdict.Verdict.TheVariants.{Holds, Fails}
 use Rattle.crib_check.specs.Sure.{IsSure}
 use Rattle.crib_check.specs.Failing.{IsFirstFailing}
@@ -16,6 +18,7 @@ use Rattle.crib_answer.specs.Input.{problem_of_input, board_of_input}
 use Rattle.crib_answer.specs.Reply.{Reply}
 use Rattle.crib_answer.specs.Answer.{Answers, refusal_reply, verdict_reply, ending_reply}
 use Rattle.crib_answer.specs.Telling.{SpellsPlan, HasSurePlan, HasFailingPlan, IsSolvedBy, HasNoPlan}
+use Rattle.crib_answer.specs.Telling.{SpellsPlannedGame, IsReported}
 use Rattle.crib_answer.specs.Telling.{holds_line, fails_line, none_line}
 
 -- ---- every job
@@ -114,3 +117,23 @@ abbrev pub FoundPlanLaw : Type 0
 FoundPlanLaw =
     (input : List ℕ) (reply : Reply) (more : List ℕ) → Answers Solve input reply →
     reply.output ≡ codes "plan" ++ more → Answers Check (input ++ reply.output) (verdict_reply Holds)
+
+-- if `follow` owes an ending to an input, the input spells a problem, a plan and a game. The problem and the game
+-- without the plan have a report with the acts of this game
+abbrev pub FollowedGameLaw : Type 0
+FollowedGameLaw =
+    (input : List ℕ) (result : Ending) → Answers Follow input (ending_reply result) →
+    (problem : Setup) × (plan : List Node) × (game : Game) × SpellsPlannedGame input problem plan game
+    × IsReported (problem_text problem ++ game_text game) problem game
+
+-- `replay` refuses an input exactly as `board` does
+abbrev pub SameRefusalLaw : Type 0
+SameRefusalLaw =
+    (input : List ℕ) (refusal : Refusal) →
+    Answers Replay input (refusal_reply refusal) ↔ Answers Board input (refusal_reply refusal)
+
+-- if `replay` owes scores to an input, one report of the problem and the game makes the replies of `replay` and `board`
+abbrev pub SameReportLaw : Type 0
+SameReportLaw =
+    (input : List ℕ) (reply : Reply) (more : List ℕ) → Answers Replay input reply →
+    reply.output ≡ codes "play" ++ more → (problem : Setup) × (game : Game) × IsReported input problem game

@@ -1,6 +1,7 @@
 //! The laws of the answers. Each function does nothing. Its contract states the laws.
 ghost use Rattle.crib_answer.specs.Laws.{CutShortLaw, EitherLaw, FailingLaw, FailsLaw, HoldsLaw, OneReplyLaw, SureLaw};
-ghost use Rattle.crib_answer.specs.Laws.{FailedGameLaw, FoundPlanLaw, NoneLaw, PlanLaw, TooLongLaw};
+ghost use Rattle.crib_answer.specs.Laws.{FailedGameLaw, FollowedGameLaw, FoundPlanLaw, NoneLaw, PlanLaw};
+ghost use Rattle.crib_answer.specs.Laws.{SameRefusalLaw, SameReportLaw, TooLongLaw};
 ghost use Rattle.crib_check.specs.Laws.{EndLaw, ProgressLaw};
 
 /// The laws of every job.
@@ -50,7 +51,16 @@ pub fn solve_law()
 /// - `failed_game`: if `check` owes `fails` with an ending and a game, `follow` owes this ending to the same input with
 ///   that game after it.
 /// - `found_plan`: if `solve` owes a plan, `check` owes `holds` to the same input with that plan after it.
+/// - `followed_game`: if `follow` owes an ending, the problem and the game without the plan are a game that `replay`
+///   accepts, with the same acts.
+/// - `same_refusal`: `replay` and `board` refuse the same inputs, with the same line and number.
+/// - `same_report`: if `replay` owes scores, they are those on the board that `board` owes to the same input. After
+///   `play` it has the scores of the board's last act, and each counted hand has the side, the points and the scores
+///   that it has on the board.
 pub fn agreement_law()
     ensures failed_game { FailedGameLaw }
     ensures found_plan { FoundPlanLaw }
+    ensures followed_game { FollowedGameLaw }
+    ensures same_refusal { SameRefusalLaw }
+    ensures same_report { SameReportLaw }
 {}

@@ -13,7 +13,7 @@ use Rattle.crib_text.proofs.Forms.{IsForm, line_form, each_line_form, none_form,
 use Rattle.crib_text.proofs.FormLaws.{lines_apart, texts_apart, texts_differ, read_again, lines_cut_short, text_cut_short}
 use Rattle.crib_problem.specs.declared.problem.Version.{Version}
 use Rattle.crib_problem.specs.declared.problem.Version.TheVariants.{One, Two}
-use Rattle.crib_problem.specs.Setup.{Setup, IsSetup, CanSay, opening_basis_of}
+use Rattle.crib_problem.specs.Setup.{Setup, IsSetup, setup_by, CanSay, opening_basis_of}
 use Rattle.crib_problem.specs.Played.{OpeningBasis, AreAllowed}
 use Rattle.crib_cards.specs.Words.{side_word}
 use Rattle.crib_problem.specs.Spelling.{version_word, goal_words, act_line, played_lines, problem_lines, problem_text}
@@ -55,16 +55,7 @@ seven_form =
     then_form _ (λ (p : Setup). p.hold) (line_form (cards_form (codes "hold") 4 (starter ∷ []) refl) (λ _. refl)) (λ hold.
     then_form _ (λ (p : Setup). p.thrown) (line_form (cards_form (codes "throw") 2 (starter ∷ hold) refl) (λ _. refl)) (λ thrown.
     then_form _ (λ (p : Setup). p.goal) (line_form (goal_form version scores.owner) (λ _. refl)) (λ goal.
-    none_form (record {
-      version = version;
-      dealer = dealer;
-      scores = scores;
-      starter = starter;
-      hold = hold;
-      thrown = thrown;
-      goal = goal;
-      played = [];
-    }))
+    none_form (setup_by version dealer scores starter hold thrown goal []))
     (λ goal p is are. ap (λ (q : Setup). q.goal) are))
     (λ thrown p is are. ap (λ (q : Setup). q.thrown) are.1))
     (λ hold p is are. ap (λ (q : Setup). q.hold) are.1.1))

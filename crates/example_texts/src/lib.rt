@@ -1,0 +1,9 @@
+//! For tests: problems, plans, games and boards as text, one name for each text. Tests of several crates read them.
+//!
+//! The opponent is the dealer unless a comment says otherwise.
+#![tactic(auto)]
+
+pub mod boards;
+pub mod games;
+pub mod plans;
+pub mod problems;

@@ -2,5 +2,6 @@
 
 mod follows;
 mod inputs;
+mod openings;
 mod replays;
 mod texts;

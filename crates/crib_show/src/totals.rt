@@ -187,7 +187,7 @@ impl WorstShow {
     }
 
     // The points of the crib with these two cards thrown. Those of the ranks come from `plain`.
-    fn crib_of_throw(&self, plain: &PlainCribs, first: Card, second: Card) -> u8
+    pub(crate) fn crib_of_throw(&self, plain: &PlainCribs, first: Card, second: Card) -> u8
         requires { ArePlain self.now.starter self.now.own_throw plain.now }
         ensures value { result ≡ crib_points (self.now.own_throw ++ first ∷ second ∷ []) self.now.starter }
         ensures range { result ≤ 102 }

@@ -1,49 +1,49 @@
 //! Runs while memory is refused, one growth after another.
-use crate::run::run;
-use crate::tests::inputs::{FALLS_SHORT, LAST_CARD, LAST_CARD_ANSWER, ONE_HOLE_SHORT};
+use crate::tests::follows::ONE_GAME;
+use crate::tests::runs::{joined, joined_with, numbered, outcome_of};
 use crib_answer::{Job, Status};
-use crib_text::Counted;
-use failing_devices::{Feed, Tray, Trouble};
+use example_texts::boards::LAST_CARD_BOARD;
+use example_texts::games::{LAST_CARD, LAST_CARD_ANSWER, NO_ACTS, OWNER_LEADS};
+use example_texts::plans::{NO_PLAN, TWOS};
+use example_texts::problems::{TENS, THIRTEEN, TWELVE};
 use refusing_alloc::Refusing;
 use std::process::Abort;
 
-// How many refused growths led to `fault 11`, and how many changed nothing in the answer.
+// How many refused growths led to `fault 11`, and how many changed nothing of what was written.
 #[derive(Clone, Copy, Debug, PartialEq, Eq)]
 struct Refusals {
     told: u32,
     passed_over: u32,
 }
 
-// Refuses the first growth of a run, then the second, and so on, until no growth is refused. Asserts that each answer
-// is `fault 11` alone, or `wanted` with `status`. Returns how many there were of each.
+fn told_alone(told: u32) -> Refusals {
+    Refusals {
+        told,
+        passed_over: 0,
+    }
+}
+
+// Refuses the first growth of a run, then the second, and so on, until no growth is refused. Asserts that each time
+// `fault 11` alone was written, or `wanted` with `status`. Returns how many there were of each.
 fn refuse_each(
     rt: &(impl Abort + AllocGlobal),
     job: Job,
-    input: &str,
+    sections: &[&str],
     wanted: &str,
     status: Status,
 ) -> Refusals {
-    let mut refusals = Refusals {
-        told: 0,
-        passed_over: 0,
-    };
+    let input = joined(rt, sections);
+    let mut refusals = told_alone(0);
     for served in 0..1000 {
         let heap = Refusing::after(rt.alloc(), served);
-        let mut source = Counted::new(Feed::new(input.as_bytes(), 4096, Trouble::Never));
-        let mut sink = Counted::new(Tray::new(rt.alloc(), 4096, Trouble::Never));
-        let ended = run(&heap, job, &mut source, &mut sink);
-        let text = sink.into_inner().into_bytes();
-        if ended == Status::Fault {
+        let outcome = outcome_of(rt.alloc(), &heap, job, input.as_bytes());
+        let what = numbered(rt, "growth", served);
+        if outcome.status == Status::Fault {
             assert!(rt; heap.has_refused());
-            assert_eq!(rt;
-                text.as_slice(),
-                b"fault 11\n".as_slice(),
-                "growth {served}"
-            );
+            outcome.is(rt, "fault 11\n", Status::Fault, what.as_str());
             refusals.told = refusals.told.saturating_add(1);
         } else {
-            assert_eq!(rt; text.as_slice(), wanted.as_bytes(), "growth {served}");
-            assert_eq!(rt; ended, status, "growth {served}");
+            outcome.is(rt, wanted, status, what.as_str());
             if !heap.has_refused() {
                 return refusals;
             }
@@ -53,25 +53,81 @@ fn refuse_each(
     panic!(rt; "a run that never ends to grow")
 }
 
-// `replay` asks once, for the input.
+// Each run asks for its input first. `replay` asks for nothing more.
 #[test]
 fn of_replay(rt: HostRuntime) {
-    let replayed = refuse_each(&rt, Job::Replay, LAST_CARD, LAST_CARD_ANSWER, Status::Yes);
-    let wanted = Refusals {
-        told: 1,
-        passed_over: 0,
-    };
-    assert_eq!(rt; replayed, wanted);
+    let sections = [TENS, LAST_CARD];
+    let replayed = refuse_each(&rt, Job::Replay, &sections, LAST_CARD_ANSWER, Status::Yes);
+    assert_eq!(rt; replayed, told_alone(1));
 }
 
-// `check` asks for the input, for the plan, and for the text of the failing game. The first game fails, so the table of
-// positions keeps nothing.
+// `board` asks for its text.
+#[test]
+fn of_board(rt: HostRuntime) {
+    let sections = [TENS, LAST_CARD];
+    let drawn = refuse_each(&rt, Job::Board, &sections, LAST_CARD_BOARD, Status::Yes);
+    assert_eq!(rt; drawn, told_alone(2));
+}
+
+// `follow` asks for the plan, unless it has no nodes.
+#[test]
+fn of_follow(rt: HostRuntime) {
+    let strays = joined_with(&rt, &ONE_GAME, 20, "own 2H");
+    let open = [THIRTEEN, TWOS, NO_ACTS];
+    let stuck = [THIRTEEN, NO_PLAN, NO_ACTS];
+    let short = refuse_each(&rt, Job::Follow, &ONE_GAME, "short\n", Status::No);
+    assert_eq!(rt; short, told_alone(2));
+    let strayed = [strays.as_str()];
+    let refused = "refused line 20: 46\n";
+    let refused = refuse_each(&rt, Job::Follow, &strayed, refused, Status::Refused);
+    assert_eq!(rt; refused, told_alone(2));
+    let open = refuse_each(&rt, Job::Follow, &open, "open\n", Status::No);
+    assert_eq!(rt; open, told_alone(2));
+    let stuck = refuse_each(&rt, Job::Follow, &stuck, "stuck\n", Status::No);
+    assert_eq!(rt; stuck, told_alone(1));
+}
+
+// `check` asks for the plan, and its refusal is told. The table of positions asks too, and its refusals change nothing.
+#[test]
+fn of_check(rt: HostRuntime) {
+    let checked = refuse_each(&rt, Job::Check, &[TWELVE, TWOS], "holds\n", Status::Yes);
+    assert_eq!(rt; checked.told, 2);
+    assert!(rt; checked.passed_over > 0);
+}
+
+// `check` asks for the plan, and for the text of the failing game. The first game fails, so the table of positions
+// keeps nothing.
 #[test]
 fn of_check_that_fails(rt: HostRuntime) {
-    let checked = refuse_each(&rt, Job::Check, ONE_HOLE_SHORT, FALLS_SHORT, Status::No);
-    let wanted = Refusals {
-        told: 3,
-        passed_over: 0,
-    };
-    assert_eq!(rt; checked, wanted);
+    let short = joined(&rt, &["fails short\n", OWNER_LEADS]);
+    let sections = [THIRTEEN, TWOS];
+    let checked = refuse_each(&rt, Job::Check, &sections, short.as_str(), Status::No);
+    assert_eq!(rt; checked, told_alone(3));
+}
+
+// `solve` asks for the nodes and for the text of the plan, and their refusals are told. Its tables ask too, and their
+// refusals change nothing.
+#[test]
+fn of_solve(rt: HostRuntime) {
+    let solved = refuse_each(&rt, Job::Solve, &[TWELVE], TWOS, Status::Yes);
+    assert!(rt; solved.told >= 3, "the input, the nodes and the text");
+    assert!(rt; solved.passed_over > 0);
+    let unsolved = refuse_each(&rt, Job::Solve, &[THIRTEEN], "none\n", Status::No);
+    assert!(rt; unsolved.told >= 1);
+}
+
+// An input that is refused asks for itself alone, unless it has a plan that is read.
+#[test]
+fn of_refused_inputs(rt: HostRuntime) {
+    for (job, sections, wanted) in [
+        (Job::Replay, [TWELVE, TWOS], "refused line 8: 4\n"),
+        (Job::Check, [TENS, LAST_CARD], "refused line 8: 4\n"),
+        (Job::Board, [TWELVE, TWOS], "refused line 8: 4\n"),
+        (Job::Solve, [TWELVE, TWOS], "refused line 8: 8\n"),
+        (Job::Check, [TWELVE, ""], "refused line 8: 3\n"),
+        (Job::Follow, ["problem 1\n", ""], "refused line 2: 3\n"),
+    ] {
+        let refused = refuse_each(&rt, job, &sections, wanted, Status::Refused);
+        assert_eq!(rt; refused, told_alone(1));
+    }
 }

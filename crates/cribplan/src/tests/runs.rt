@@ -1,9 +1,10 @@
-//! Assertions about the answers to inputs in memory.
-use crate::answer::Answer;
-use crate::answering::answer_to;
-use crate::job::Job;
-use crate::status::Status;
+//! Runs over inputs in memory, and what they write.
+use crate::run::run;
+use crib_answer::{Job, Status};
+use crib_text::Counted;
+use failing_devices::{Feed, Tray, Trouble};
 use std::alloc::{Allocator, Global};
+use std::io::Read;
 use std::process::Abort;
 use std::{io, str};
 
@@ -32,26 +33,55 @@ pub fn joined_with(
     text
 }
 
-/// The answer of a job to an input. It has no contract: a test judges the answer when it runs.
-pub fn answer_of<A: Allocator + Copy>(alloc: A, job: Job, input: &[u8]) -> Answer<A> {
-    answer_to(alloc, job, input)
+// A word and a number, with a space between them.
+fn word_and_number(alloc: Global, word: &str, number: u64) -> io::Result<String> {
+    let text = format!(in alloc; "{word} {number}")?;
+    Ok(text)
 }
 
-/// Asserts that an answer is this text, with this status. A failed assertion tells `what` was answered.
-pub fn is_answer<A: Allocator>(
-    rt: &impl Abort,
-    answer: &Answer<A>,
-    wanted: &str,
-    status: Status,
-    what: &str,
-) {
-    let text = str::from_utf8(answer.as_slice()).expect(rt, "a text");
-    assert_eq!(rt; text, wanted, "to {what}");
-    assert_eq!(rt; answer.status(), status, "to {what}");
+/// What a failed assertion tells of the pass with this number.
+pub fn numbered(rt: &(impl Abort + AllocGlobal), word: &str, number: u64) -> String {
+    word_and_number(rt.alloc(), word, number).expect(rt, "memory")
 }
 
-/// Asserts that the answer of a job to some sections is this text, with this status.
-pub fn gives(
+/// What a run wrote, and its status.
+#[derive(Drop)]
+pub struct Written {
+    pub text: Vec<u8>,
+    pub status: Status,
+}
+
+/// Runs a job with a reader and a writer that takes all bytes. The memory of the run is that of `heap`. The function
+/// has no contract: a test judges the outcome when it runs.
+pub fn outcome<A: Allocator + Copy, R: Read + Drop>(
+    alloc: Global,
+    heap: A,
+    job: Job,
+    mut source: Counted<R>,
+) -> Written {
+    let mut sink = Counted::new(Tray::new(alloc, 4096, Trouble::Never));
+    let status = run(heap, job, &mut source, &mut sink);
+    let text = sink.into_inner().into_bytes();
+    Written { text, status }
+}
+
+/// Runs a job over these bytes.
+pub fn outcome_of<A: Allocator + Copy>(alloc: Global, heap: A, job: Job, input: &[u8]) -> Written {
+    let source = Counted::new(Feed::new(input, 4096, Trouble::Never));
+    outcome(alloc, heap, job, source)
+}
+
+impl Written {
+    /// Asserts that this text was written, with this status. A failed assertion tells `what` the run was given.
+    pub fn is(&self, rt: &impl Abort, wanted: &str, status: Status, what: &str) {
+        let text = str::from_utf8(self.text.as_slice()).expect(rt, "a text");
+        assert_eq!(rt; text, wanted, "to {what}");
+        assert_eq!(rt; self.status, status, "to {what}");
+    }
+}
+
+/// Asserts that a run over some sections writes this text, with this status.
+pub fn writes(
     rt: &(impl Abort + AllocGlobal),
     job: Job,
     sections: &[&str],
@@ -59,14 +89,18 @@ pub fn gives(
     status: Status,
 ) {
     let input = joined(rt, sections);
-    let answer = answer_of(rt.alloc(), job, input.as_bytes());
-    is_answer(rt, &answer, wanted, status, input.as_str());
+    outcome_of(rt.alloc(), rt.alloc(), job, input.as_bytes()).is(
+        rt,
+        wanted,
+        status,
+        input.as_str(),
+    );
 }
 
 /// A changed line of an input: its number, counted from 1, the text in its place, and the text of the refusal.
 pub type Change = (usize, &'static str, &'static str);
 
-/// Asserts that a job refuses some sections, each time with one line changed.
+/// Asserts that a run refuses some sections, each time with one line changed.
 pub fn refuses(
     rt: &(impl Abort + AllocGlobal),
     job: Job,
@@ -75,7 +109,7 @@ pub fn refuses(
 ) {
     for (number, changed, wanted) in changes {
         let input = joined_with(rt, sections, *number, changed);
-        gives(rt, job, &[input.as_str()], wanted, Status::Refused);
+        writes(rt, job, &[input.as_str()], wanted, Status::Refused);
     }
 }
 
@@ -91,13 +125,7 @@ fn refusal_after(alloc: Global, front: &[u8], number: u32) -> io::Result<String>
     Ok(text)
 }
 
-// What a failed assertion tells of so many bytes.
-fn first_bytes(alloc: Global, len: usize) -> io::Result<String> {
-    let text = format!(in alloc; "the first {len} bytes")?;
-    Ok(text)
-}
-
-// Asserts that a job refuses an input with a number, at the line after the last LF of `front`, a beginning of it.
+// Asserts that a run refuses an input with a number, at the line after the last LF of `front`, a beginning of it.
 fn refuses_after(
     rt: &(impl Abort + AllocGlobal),
     job: Job,
@@ -106,9 +134,13 @@ fn refuses_after(
     number: u32,
 ) {
     let wanted = refusal_after(rt.alloc(), front, number).expect(rt, "memory");
-    let answer = answer_of(rt.alloc(), job, input);
-    let what = first_bytes(rt.alloc(), front.len()).expect(rt, "memory");
-    is_answer(rt, &answer, wanted.as_str(), Status::Refused, what.as_str());
+    let what = numbered(rt, "the front of length", front.len() as u64);
+    outcome_of(rt.alloc(), rt.alloc(), job, input).is(
+        rt,
+        wanted.as_str(),
+        Status::Refused,
+        what.as_str(),
+    );
 }
 
 /// Asserts that each proper beginning of an input is refused as cut short, at the line after its last LF.

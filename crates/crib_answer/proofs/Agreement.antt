@@ -34,7 +34,8 @@ use Rattle.crib_answer.specs.Input.{problem_of_input}
 use Rattle.crib_answer.specs.Reply.{Reply}
 use Rattle.crib_answer.specs.Answer.{board_reply, ending_reply, ending_status, refusal_reply, reply_by, report_reply}
 use Rattle.crib_answer.specs.Laws.{FailedGameLaw, FollowedGameLaw, FoundPlanLaw, SameRefusalLaw, SameReportLaw}
-use Rattle.crib_answer.specs.Telling.{IsReported, SpellsGame, last_scores}
+use Rattle.crib_answer.specs.Telling.{SpellsGame}
+use Rattle.crib_answer.specs.Reported.{IsReported, last_scores}
 use Rattle.crib_answer.proofs.GameInputs.{board_spelled, ending_accepted, ending_spelled, report_accepted, report_spelled}
 use Rattle.crib_answer.proofs.Inputs.{problem_accepted}
 use Rattle.crib_answer.proofs.Replies.{fails_law, first_of, planned_by_output, sure_owed}
@@ -131,10 +132,10 @@ alike_read input =
 
 same_refused : (read : Result Report Refusal) (board : Result (List ℕ) Refusal) (refusal : Refusal) → AreAlike read board →
     (refusal_reply refusal ≡ reply_by report_reply read) ↔ (refusal_reply refusal ≡ reply_by board_reply board)
-same_refused (Ok report) (Ok board) refusal alike = (λ e. absurd (refused_yes (ap (λ (r : Reply). r.status) e)), λ e. absurd (refused_yes (ap (λ (r : Reply). r.status) e)))
+same_refused (Ok report) (Ok board) refusal alike = (refused_yes (report_reply report) refl, refused_yes (board_reply board) refl)
   where
-    refused_yes : Refused ≡ Yes → ⊥
-    refused_yes e = cc
+    refused_yes : {X : Type 0} (reply : Reply) → reply.status ≡ Yes → refusal_reply refusal ≡ reply → X
+    refused_yes reply accepted e = let none : Refused ≡ Yes = ap (λ (r : Reply). r.status) e ∙ accepted in absurd cc
 same_refused (Ok report) (Err other) refusal alike = absurd alike
 same_refused (Err one) (Ok board) refusal alike = absurd alike
 same_refused (Err one) (Err other) refusal alike = (λ e. e ∙ ap refusal_reply alike, λ e. e ∙ ap refusal_reply (sym alike))

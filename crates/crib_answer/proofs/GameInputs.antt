@@ -5,19 +5,17 @@ use Rattle.std.proofs.lemmas.Bool.{and_from}
 use Rattle.std.proofs.lemmas.List.{append-nil, length-append}
 use Rattle.std.proofs.lemmas.List.Folds.{list_all-append}
 use Rattle.std.specs.List.{list_all}
-use Rattle.crib_text.specs.Refusals.{Refusal}
 use Rattle.crib_text.specs.Spelling.{line_bytes}
 use Rattle.crib_text.specs.Reading.{Rest, end_at}
 use Rattle.crib_text.specs.Laws.{ended_line}
 use Rattle.crib_text.proofs.FormLaws.{form_read}
 use Rattle.crib_text.proofs.ReadingLemmas.{bind_ok, ok_is}
 use Rattle.crib_text.proofs.SpellingLemmas.{are_words}
-use Rattle.crib_problem.specs.Setup.{Setup, IsSetup}
+use Rattle.crib_problem.specs.Setup.{Setup}
 use Rattle.crib_problem.specs.Spelling.{problem_lines, problem_text}
 use Rattle.crib_problem.specs.Reading.{problem_at}
 use Rattle.crib_problem.proofs.ProblemForm.{problem_form}
 use Rattle.crib_plan.specs.declared.plan.Node.{Node}
-use Rattle.crib_plan.specs.Nodes.{ArePlan}
 use Rattle.crib_plan.specs.Spelling.{plan_lines, plan_text}
 use Rattle.crib_plan.specs.Reading.{plan_at}
 use Rattle.crib_plan.proofs.PlanForm.{plan_form}
@@ -181,7 +179,8 @@ all_read_by input problem plan game spelled =
     let words : list_all are_words lines ≡ true = list_all-append are_words (problem_lines problem) later
     ∙ and_from _ _ (problem_form.full problem spelled.problem_is) (list_all-append are_words (plan_lines plan) (game_lines game)
     ∙ and_from _ _ (plan_form.full plan spelled.plan_is) (game_form.full game spelled.game_is)) in
-    let text = spelled.text ∙ append_assoc (problem_text problem) (plan_text plan) (game_text game) ∙ ap (λ (more : List ℕ). problem_text problem ++ more) (sym (texts_joined (plan_lines plan) (game_lines game)))
+    let text = spelled.text ∙ append_assoc (problem_text problem) (plan_text plan) (game_text game)
+    ∙ ap (λ (more : List ℕ). problem_text problem ++ more) (sym (texts_joined (plan_lines plan) (game_lines game)))
     ∙ sym (texts_joined (problem_lines problem) later) in
     let games : List (List ℕ) = map line_bytes (game_lines game) in
     let whole : Rest = record { number = 1; lines = map line_bytes lines } in
@@ -244,7 +243,14 @@ ending_accepted input result e =
       plan = d.0.0;
       game = f.0.0;
       spelled = all_spelled_by input b.0.0 d.0.0 f.0.0 (record {
-        rest = a.0; before = b.0.1; after = d.0.1; number = f.0.1; lines = a.1; first = b.1; second = d.1; last = f.1;
+        rest = a.0;
+        before = b.0.1;
+        after = d.0.1;
+        number = f.0.1;
+        lines = a.1;
+        first = b.1;
+        second = d.1;
+        last = f.1;
       });
       followed = judged_ok f.0 (follow_result b.0.0 d.0.0 f.0.0) result f.2;
     }

@@ -18,7 +18,8 @@ use Rattle.crib_answer.specs.Input.{problem_of_input, board_of_input}
 use Rattle.crib_answer.specs.Reply.{Reply}
 use Rattle.crib_answer.specs.Answer.{Answers, refusal_reply, verdict_reply, ending_reply}
 use Rattle.crib_answer.specs.Telling.{SpellsPlan, HasSurePlan, HasFailingPlan, IsSolvedBy, HasNoPlan}
-use Rattle.crib_answer.specs.Telling.{SpellsPlannedGame, IsReported}
+use Rattle.crib_answer.specs.Telling.{SpellsPlannedGame}
+use Rattle.crib_answer.specs.Reported.{IsReported}
 use Rattle.crib_answer.specs.Telling.{holds_line, fails_line, none_line}
 
 -- ---- every job

@@ -1,6 +1,5 @@
--- What the replies tell of the input.
-use Rattle.std.specs.Prelude.{◌≡◌, ◌⊎◌, ℕ, List, [], ◌∷◌, ◌++◌, codes, map}
-use Rattle.crib_cards.specs.declared.sides.Scores.{Scores}
+-- What the replies of `check` and `solve` tell of the input.
+use Rattle.std.specs.Prelude.{◌≡◌, ◌⊎◌, ℕ, List, [], ◌∷◌, ◌++◌, codes}
 use Rattle.crib_text.specs.Refusals.{no_memory}
 use Rattle.crib_text.specs.Spelling.{line_text}
 use Rattle.crib_problem.specs.Setup.{Setup, IsSetup}
@@ -10,10 +9,7 @@ use Rattle.crib_plan.specs.Nodes.{ArePlan}
 use Rattle.crib_plan.specs.Spelling.{plan_text}
 use Rattle.crib_game.specs.declared.game.Game.{Game}
 use Rattle.crib_game.specs.declared.ending.Ending.{Ending}
-use Rattle.crib_game.specs.declared.report.Report.{Report}
-use Rattle.crib_game.specs.declared.report.Row.{Row}
 use Rattle.crib_game.specs.Spelling.{IsGame, game_text}
-use Rattle.crib_board.specs.Board.{board_of}
 use Rattle.crib_check.specs.Sure.{IsSure, GoesOn, Ends}
 use Rattle.crib_check.specs.Failing.{IsFirstFailing}
 use Rattle.crib_search.specs.Winnable.{IsWinnable}
@@ -23,7 +19,7 @@ use Rattle.crib_answer.specs.declared.status.Status.{Status}
 use Rattle.crib_answer.specs.declared.status.Status.TheVariants.{Yes, No, Refused, Fault}
 use Rattle.crib_answer.specs.Reply.{Reply}
 use Rattle.crib_game.specs.Words.{ending_word}
-use Rattle.crib_answer.specs.Answer.{Answers, board_reply, fault_line, report_reply, too_large}
+use Rattle.crib_answer.specs.Answer.{fault_line, too_large}
 
 -- ---- what an input spells
 
@@ -92,23 +88,6 @@ pub record HasSomePlan (input : List ℕ) : Type 0 where
   pub problem : Setup
   pub spelled : SpellsProblem input problem
   pub some : IsWinnable problem
-
--- ---- the report of a game
-
--- the scores after the last of some rows, or the first scores if there is no row
-abbrev pub last_scores : Scores → List Row → Scores
-last_scores first [] = first
-last_scores first (row ∷ rows) = last_scores row.scores rows
-
--- an input spells a problem and a game, and one report makes the replies that `replay` and `board` owe to it. The
--- report has a row for each act of the game, and its scores are those after the last row
-pub record IsReported (input : List ℕ) (problem : Setup) (game : Game) : Type 0 where
-  pub report : Report
-  pub spelled : SpellsGame input problem game
-  pub acts : map (λ (row : Row). row.act) report.rows.items ≡ game.acts.items
-  pub scores : report.scores ≡ last_scores problem.scores report.rows.items
-  pub replayed : Answers Replay input (report_reply report)
-  pub drawn : Answers Board input (board_reply (board_of problem report))
 
 -- ---- the lines of the replies
 

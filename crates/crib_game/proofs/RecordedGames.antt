@@ -1,5 +1,5 @@
 -- A game with a legal record has a spelling.
-use Rattle.std.proofs.Common.{◌≡◌, ◌≤◌, List, length, reverse, ap, subst, arith}
+use Rattle.std.proofs.Common.{List, length, ap, subst, arith}
 use Rattle.std.proofs.lemmas.List.{length-reverse, reverse-reverse}
 use Rattle.crib_cards.specs.Start.{pone_of}
 use Rattle.crib_cards.specs.declared.moves.Move.{Move}

@@ -1,6 +1,6 @@
 -- The nodes of the plan that is found are a plan, if there are not too many.
-use Rattle.std.proofs.Common.{◌≡◌, ℕ, zero, suc, ◌≤◌, Bool, true, false, not, ◌&&◌, cond, List, [], ◌∷◌, length, Option, Some, None, refl, sym, ap, subst, ◌∙◌}
-use Rattle.std.proofs.Common.{inl, inr, arith}
+use Rattle.std.proofs.Common.{◌≡◌, ℕ, zero, suc, ◌≤◌, Bool, not, ◌&&◌, List, [], ◌∷◌, length, Option, Some, None, refl, sym, ap, subst, ◌∙◌}
+use Rattle.std.proofs.Common.{inl, inr}
 use Rattle.std.specs.Prelude.{option_map}
 use Rattle.std.specs.List.{AllByRecursion, AllZip, filter, list_all}
 use Rattle.std.proofs.lemmas.Bool.{cases_Bool, cond-true, cond-false}
@@ -16,8 +16,8 @@ use Rattle.crib_problem.proofs.StartLemmas.{hold_is_card}
 use Rattle.crib_plan.specs.declared.plan.Node.{Node}
 use Rattle.crib_plan.specs.Nodes.{ArePlan, most_nodes}
 use Rattle.crib_know.specs.Knowledge.{asked_now, played_events}
-use Rattle.crib_search.specs.Trees.{Tree, Finish, Plays, Sees, Branches, NoBranch, Branch, branches_of, trees_of, same_tree, is_finish, is_play, joined_tree_from}
-use Rattle.crib_search.specs.Trees.{joined_tree, trees_with, trees_after_walk, trees_after_walks, plan_of_tree}
+use Rattle.crib_search.specs.Trees.{Tree, Finish, Plays, Sees, Branches, NoBranch, Branch, branches_of, trees_of, same_tree, is_finish, is_play}
+use Rattle.crib_search.specs.Trees.{joined_tree_from, joined_tree, trees_with, trees_after_walk, trees_after_walks, plan_of_tree}
 use Rattle.crib_search.specs.Finder.{BranchFinds, Finds, FindsFor, FindsTree, Found, IsFound, OwnerFinds, letters, options}
 use Rattle.crib_search.proofs.FoundBySide.{finds_of_tree, opponent_some, tries_some}
 use Rattle.crib_search.proofs.NumberedNodes.{AreFine, IsFine, are_nodes, plan_count}

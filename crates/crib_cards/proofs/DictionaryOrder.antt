@@ -1,5 +1,5 @@
 -- Dictionary order of lists of numbers.
-use Rattle.std.proofs.Common.{◌≡◌, ℕ, ◌<◌, Bool, true, false, ◌&&◌, eqb, ltb, List, [], ◌∷◌, refl, arith}
+use Rattle.std.proofs.Common.{◌≡◌, ℕ, ◌<◌, true, false, ◌&&◌, eqb, ltb, List, [], ◌∷◌, refl, arith}
 use Rattle.std.proofs.lemmas.Bool.{or_left, or_right, or_from, and_from, and_right, lt-ltb, le-ltb, eq-eqb}
 use Rattle.crib_cards.specs.Order.{is_before}
 

@@ -1,6 +1,6 @@
 -- What the walk finds at a position follows from what it finds after it.
 use Rattle.std.proofs.Common.{◌≡◌, ◌⊎◌, ℕ, ◌+◌, Bool, true, not, List, ◌∷◌, Option, Some, None, is_some, refl, sym, subst, inl, inr}
-use Rattle.crib_cards.specs.Letters.{letter_place}
+use Rattle.crib_cards.specs.Letters.{IsLetter, letter_place}
 use Rattle.crib_cards.specs.declared.letters.Letter.{Letter}
 use Rattle.crib_cards.specs.declared.moves.Move.{Move}
 use Rattle.crib_play.specs.declared.turns.Turn.TheVariants as turns
@@ -13,7 +13,7 @@ use Rattle.crib_check.specs.declared.keys.Key.{Key}
 use Rattle.crib_check.specs.declared.failure.Failure.{Failure}
 use Rattle.crib_check.specs.declared.trails.Event.{Event as TrailEvent}
 use Rattle.crib_check.specs.Private.Found.{IsFoundFrom, IsGameOf, IsStoppedBy}
-use Rattle.crib_check.specs.Private.Positions.{StandsAt, IsSettled, IsFirstFrom, MayTakeAt, IsLetter}
+use Rattle.crib_check.specs.Private.Positions.{StandsAt, IsSettled, IsFirstFrom, MayTakeAt}
 use Rattle.crib_check.proofs.LettersBelow.{IsSettledBelow}
 use Rattle.crib_check.proofs.WalkConclusions.{own_first, theirs_first, settled_own, below_more}
 

@@ -16,7 +16,6 @@ use Rattle.crib_cards.specs.Start.{Start, Hands}
 use Rattle.crib_cards.specs.Letters.{letter_place}
 use Rattle.crib_cards.specs.declared.sides.Dealt.{Dealt}
 use Rattle.crib_cards.specs.declared.moves.Move.{Move}
-use Rattle.crib_cards.specs.declared.moves.Move.TheVariants as move
 use Rattle.crib_cards.specs.declared.moves.Act.{Act}
 use Rattle.crib_cards.proofs.SetFacts.{set_of-rising}
 use Rattle.crib_play.specs.declared.turns.Turn.{Turn}
@@ -51,7 +50,9 @@ use Rattle.crib_check.specs.Laws.{ExactLaw, SameLaw}
 use Rattle.crib_check.proofs.ExtendedGames.{next_turn, failing_agrees, failing_follows, failing_begins, follows_earlier, agrees_earlier}
 use Rattle.crib_check.proofs.FailureEndings.{six_is, open_is_none, reached_is_none, failing_stands, failing_at, seen_legal, events_are}
 use Rattle.crib_check.proofs.GameOrder.{letters_in, letters_go_on}
-use Rattle.crib_check.proofs.WalkConclusions.{theirs_letter, own_card_may, own_go_may, over_next, stuck_next, own_event, theirs_open, same_letter}
+use Rattle.crib_check.proofs.WalkConclusions.{own_turn_may, over_next, stuck_next, own_event, theirs_open}
+use Rattle.crib_know.proofs.PassingIsAgreeing.{theirs_letter}
+use Rattle.crib_cards.proofs.LetterPlaces.{same_letter}
 use Rattle.crib_check.proofs.SuitOrder.{same_suits}
 use Rattle.crib_problem.proofs.StartLemmas.{first_all}
 
@@ -234,8 +235,7 @@ module _ (problem : Setup) (plan : List Node) (setup : IsSetup problem) (game ot
 
     may_take : (what : Move) → hidden.MayCome problem history (Own what) → IsStatedEvent plan (place_by plan problem.played history) (Own what) →
         MayTakeAt plan here what
-    may_take (move.Card card) may is = let mine = own_card_may problem plan here history stands card may in (mine.0, mine.1, mine.2, is)
-    may_take move.Go may is = own_go_may problem plan here history stands may
+    may_take what may is = (own_turn_may problem plan here history stands what may, is)
 
     -- the next turns are the same
     same_event : (event next : Event) → (to : Extends (event ∷ history) (history_of_game game)) →
@@ -249,7 +249,7 @@ module _ (problem : Setup) (plan : List Node) (setup : IsSetup problem) (game ot
         let places : letter_place letter ≡ letter_place next =
         same_next (reverse (letters_in history)) (letter_place letter) (letter_place next) (reverse (letters_in to.0)) (reverse (letters_in to_other.0))
         (sym (letters_go_on game history letter to) ∙ letters_same ∙ letters_go_on other history next to_other) in
-        ap Theirs (same_letter problem plan here history stands letter next (theirs_letter problem setup history letter may)
+        ap Theirs (same_letter letter next (theirs_letter problem setup history letter may)
         (theirs_letter problem setup history next may_next) places)
 
   -- both games go on with the same event

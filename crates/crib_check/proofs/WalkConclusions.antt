@@ -1,5 +1,5 @@
 -- What the walk may conclude at a position from what it found after it.
-use Rattle.std.proofs.Common.{◌≡◌, ℕ, ◌+◌, ◌<◌, ◌≤◌, Bool, true, false, cond, not, ◌&&◌, leb, List, [], ◌∷◌, Option, Some, None, refl, sym, ap, subst, ◌∙◌, inl}
+use Rattle.std.proofs.Common.{◌≡◌, ℕ, ◌+◌, Bool, true, false, cond, not, ◌&&◌, leb, List, [], ◌∷◌, Option, Some, None, refl, sym, ap, subst, ◌∙◌, inl}
 use Rattle.std.proofs.Common.{inr, arith}
 use Rattle.std.specs.List.{list_any}
 use Rattle.std.proofs.lemmas.Bool.{cases_eq, cases_lt, and_parts, and_from, both_ways, not-true, le-leb}
@@ -7,11 +7,11 @@ use Rattle.crib_cards.specs.Cards.{card_value}
 use Rattle.crib_cards.specs.Sets.{has}
 use Rattle.crib_cards.specs.Order.{is_before}
 use Rattle.crib_cards.specs.Deals.{deal_numbers, is_in_pack_order}
-use Rattle.crib_cards.specs.Letters.{letter_place}
+use Rattle.crib_cards.specs.Letters.{IsLetter, letter_place}
 use Rattle.crib_cards.specs.declared.sides.Dealt.{Dealt}
 use Rattle.crib_cards.specs.declared.sides.Side.TheVariants.{Owner}
 use Rattle.crib_cards.specs.declared.letters.Letter.{Letter}
-use Rattle.crib_cards.specs.declared.letters.Letter.TheVariants.{Seen, Go}
+use Rattle.crib_cards.specs.declared.letters.Letter.TheVariants.{Go}
 use Rattle.crib_cards.specs.declared.moves.Move.{Move}
 use Rattle.crib_cards.specs.declared.moves.Move.TheVariants as move
 use Rattle.crib_play.specs.declared.turns.Turn.{Turn}
@@ -23,13 +23,15 @@ use Rattle.crib_play.specs.History.{Event, Own, Theirs}
 use Rattle.crib_play.proofs.CardLemmas.{none_passes}
 use Rattle.crib_show.specs.declared.outcomes.Outcome.TheVariants as outcome
 use Rattle.crib_show.specs.Outcome.{outcome_of}
-use Rattle.crib_problem.specs.Setup.{Setup, IsSetup}
+use Rattle.crib_problem.specs.Setup.{Setup}
 use Rattle.crib_plan.specs.declared.plan.Node.{Node}
 use Rattle.crib_plan.specs.Places.{stated_card}
 use Rattle.crib_know.specs.Knowledge.{Knowledge, asked_now, count_after, own_left}
-use Rattle.crib_know.specs.Hidden.{AgreesWith, CanShow, KnowsAfter}
+use Rattle.crib_know.specs.Hidden.{AgreesWith, CanDoAt, CanShow, KnowsAfter}
 use Rattle.crib_know.proofs.LedHistories.{MayCome}
-use Rattle.crib_know.proofs.PassingIsAgreeing.{can_play_might, can_go_might}
+use Rattle.crib_know.proofs.OwnCalls.{own_may}
+use Rattle.crib_know.proofs.PassingIsAgreeing.{theirs_asked, theirs_letter}
+use Rattle.crib_cards.proofs.LetterPlaces.{place_small, same_letter}
 use Rattle.crib_game.specs.declared.game.Game.{Game}
 use Rattle.crib_game.specs.declared.ending.Ending.{Ending}
 use Rattle.crib_game.specs.declared.ending.Ending.TheVariants as ending
@@ -42,21 +44,11 @@ use Rattle.crib_game.specs.Private.Tracing.{is_stuck_at, ending_at}
 use Rattle.crib_check.specs.declared.keys.Key.{Key}
 use Rattle.crib_check.specs.Failing.{IsFailingEnding, IsFailing, is_suited}
 use Rattle.crib_check.specs.Private.Histories.{place_by, IsStatedEvent, Extends, history_of_game}
-use Rattle.crib_check.specs.Private.Positions.{StandsAt, HoldsFrom, IsSettled, IsFirstFrom, MayTakeAt, IsStuckAt, AllReach, IsLetter}
+use Rattle.crib_check.specs.Private.Positions.{StandsAt, HoldsFrom, IsSettled, IsFirstFrom, MayTakeAt, IsStuckAt, AllReach}
 use Rattle.crib_check.proofs.LettersBelow.{IsSettledBelow}
 use Rattle.crib_check.proofs.ExtendedGames.{extends_less, next_turn, failing_agrees}
 use Rattle.crib_check.proofs.FailureEndings.{open_is_none, reached_is_none, failing_at}
 use Rattle.crib_check.proofs.GameOrder.{later_letter, same_history}
-
--- ---- who is asked
-pub theirs_asked : (problem : Setup) → IsSetup problem → (history : List Event) (letter : Letter) → CanShow problem history letter →
-    asked_now problem history ≡ turns.Opponent
-theirs_asked problem setup history (Seen rank) can = (can_play_might problem setup history rank can).asked
-theirs_asked problem setup history Go can = (can_go_might problem setup history can).asked
-
-pub theirs_letter : (problem : Setup) → IsSetup problem → (history : List Event) (letter : Letter) → CanShow problem history letter → IsLetter letter
-theirs_letter problem setup history (Seen rank) can = (can_play_might problem setup history rank can).is
-theirs_letter problem setup history Go can = tt
 
 module _ (problem : Setup) (plan : List Node) (key : Key) (history : List Event) (stands : StandsAt problem plan key history) where
   abbrev table : Standing
@@ -75,22 +67,8 @@ module _ (problem : Setup) (plan : List Node) (key : Key) (history : List Event)
   own_same = ap (λ (k : Knowledge). k.own_left) stands.knows.knowledge
 
   -- the owner's turn that may come, in terms of the position
-  pub own_card_may : (card : ℕ) → MayCome problem history (Own (move.Card card)) →
-      (key.know.round.asked ≡ turns.Owner) × (has key.know.own_left card ≡ true) × (count_of key.know.round.pile + card_value card ≤ 31)
-  own_card_may card may =
-      let fits = may.2 in
-      let count = count_same in (
-        asked_same ∙ may.0,
-        ap (λ (cards : List ℕ). has cards card) own_same ∙ may.1,
-        omega (arith, fits, count),
-      )
-
-  pub own_go_may : MayCome problem history (Own move.Go) → (key.know.round.asked ≡ turns.Owner) ×
-      (list_any (λ card. leb (count_of key.know.round.pile + card_value card) 31) key.know.own_left ≡ false)
-  own_go_may may = (
-    asked_same ∙ may.0,
-    (λ i. list_any (λ card. leb (count_same i + card_value card) 31) (own_same i)) ∙ may.1,
-  )
+  pub own_turn_may : (what : Move) → MayCome problem history (Own what) → CanDoAt key.know what
+  own_turn_may = own_may key.know problem history stands.knows
 
   -- ---- the deal is done
   pub over_next : key.know.round.asked ≡ turns.Over → (event : Event) → MayCome problem history event → ⊥
@@ -123,7 +101,7 @@ module _ (problem : Setup) (plan : List Node) (key : Key) (history : List Event)
 
   pub stuck_next : IsStuckAt plan key → (event : Event) → MayCome problem history event → IsStatedEvent plan (place_by plan problem.played history) event → ⊥
   stuck_next stuck (Own (move.Card card)) may is =
-      let mine = own_card_may card may in
+      let mine = own_turn_may (move.Card card) may in
       let there : stated ≡ Some card = ap (stated_card plan) stands.place ∙ is in
       let playable : is_playable_at (count_of table.pile) key.know.own_left stated ≡ true =
       ap (is_playable_at (count_of table.pile) key.know.own_left) there
@@ -133,7 +111,7 @@ module _ (problem : Setup) (plan : List Node) (key : Key) (history : List Event)
       both_ways (is_playable_at (count_of table.pile) key.know.own_left stated)
       (not-true (is_playable_at (count_of table.pile) key.know.own_left stated) not_playable) playable
   stuck_next stuck (Own move.Go) may is =
-      let none = (own_go_may may).1 in
+      let none = (own_turn_may move.Go may).1 in
       let any = list_any (fits_at (count_of table.pile)) key.know.own_left in
       let turn = (and_parts (asks table.asked Owner && any) (not (is_playable_at (count_of table.pile) key.know.own_left stated)) stuck).0 in
       both_ways any none (and_parts (asks table.asked Owner) any turn).1
@@ -199,14 +177,14 @@ module _ (problem : Setup) (plan : List Node) (key : Key) (history : List Event)
 
   -- ---- the owner makes the move of his plan
   take_asked : (what : Move) → MayTakeAt plan key what → key.know.round.asked ≡ turns.Owner
-  take_asked (move.Card card) may = may.0
-  take_asked move.Go may = may.0
+  take_asked (move.Card card) may = may.0.0
+  take_asked move.Go may = may.0.0
 
   not_stuck : (what : Move) → MayTakeAt plan key what → is_stuck_at table key.know.own_left stated ≡ false
   not_stuck (move.Card card) may =
       let playable : is_playable_at (count_of table.pile) key.know.own_left stated ≡ true =
-      ap (is_playable_at (count_of table.pile) key.know.own_left) may.3
-      ∙ and_from (has key.know.own_left card) (fits_at (count_of table.pile) card) may.1 (le-leb (count_of table.pile + card_value card) 31 may.2) in
+      ap (is_playable_at (count_of table.pile) key.know.own_left) may.1
+      ∙ and_from (has key.know.own_left card) (fits_at (count_of table.pile) card) may.0.1 (le-leb (count_of table.pile + card_value card) 31 may.0.2) in
       ap (λ (b : Bool). asks table.asked Owner && list_any (fits_at (count_of table.pile)) key.know.own_left && not b) playable
       ∙ none_true (asks table.asked Owner && list_any (fits_at (count_of table.pile)) key.know.own_left)
     where
@@ -214,7 +192,7 @@ module _ (problem : Setup) (plan : List Node) (key : Key) (history : List Event)
       none_true true = refl
       none_true false = refl
   not_stuck move.Go may =
-      ap (λ (b : Bool). asks table.asked Owner && b && not (is_playable_at (count_of table.pile) key.know.own_left stated)) may.1
+      ap (λ (b : Bool). asks table.asked Owner && b && not (is_playable_at (count_of table.pile) key.know.own_left stated)) may.0.1
       ∙ none_true (asks table.asked Owner) (not (is_playable_at (count_of table.pile) key.know.own_left stated))
     where
       none_true : (a b : Bool) → (a && false && b) ≡ false
@@ -229,21 +207,21 @@ module _ (problem : Setup) (plan : List Node) (key : Key) (history : List Event)
   pub own_event : (what : Move) → MayTakeAt plan key what → (event : Event) → MayCome problem history event →
       IsStatedEvent plan (place_by plan problem.played history) event → event ≡ Own what
   own_event (move.Card card) may (Own (move.Card other)) come is =
-      let there : Some card ≡ Some other = sym may.3 ∙ ap (stated_card plan) stands.place ∙ is in
+      let there : Some card ≡ Some other = sym may.1 ∙ ap (stated_card plan) stands.place ∙ is in
       let same : card ≡ other = cc in
       ap (λ (c : ℕ). Own (move.Card c)) (sym same)
   own_event (move.Card card) may (Own move.Go) come is =
-      let none = (own_go_may come).1 in
-      let fails = none_passes (λ c. leb (count_of table.pile + card_value c) 31) key.know.own_left card none may.1 in
-      absurd (both_ways (leb (count_of table.pile + card_value card) 31) fails (le-leb (count_of table.pile + card_value card) 31 may.2))
-  own_event (move.Card card) may (Theirs letter) come is = let e : turns.Owner ≡ turns.Opponent = sym may.0 ∙ asked_same
+      let none = (own_turn_may move.Go come).1 in
+      let fails = none_passes (λ c. leb (count_of table.pile + card_value c) 31) key.know.own_left card none may.0.1 in
+      absurd (both_ways (leb (count_of table.pile + card_value card) 31) fails (le-leb (count_of table.pile + card_value card) 31 may.0.2))
+  own_event (move.Card card) may (Theirs letter) come is = let e : turns.Owner ≡ turns.Opponent = sym may.0.0 ∙ asked_same
       ∙ theirs_asked problem stands.knows.setup history letter come in absurd cc
   own_event move.Go may (Own (move.Card other)) come is =
-      let mine = own_card_may other come in
-      let fails = none_passes (λ c. leb (count_of table.pile + card_value c) 31) key.know.own_left other may.1 mine.1 in
+      let mine = own_turn_may (move.Card other) come in
+      let fails = none_passes (λ c. leb (count_of table.pile + card_value c) 31) key.know.own_left other may.0.1 mine.1 in
       absurd (both_ways (leb (count_of table.pile + card_value other) 31) fails (le-leb (count_of table.pile + card_value other) 31 mine.2))
   own_event move.Go may (Own move.Go) come is = refl
-  own_event move.Go may (Theirs letter) come is = let e : turns.Owner ≡ turns.Opponent = sym may.0 ∙ asked_same
+  own_event move.Go may (Theirs letter) come is = let e : turns.Owner ≡ turns.Opponent = sym may.0.0 ∙ asked_same
       ∙ theirs_asked problem stands.knows.setup history letter come in absurd cc
 
   own_goes_on : (what : Move) → MayTakeAt plan key what → (game : Game) (result : Ending) → IsFailing problem plan game result →
@@ -304,24 +282,11 @@ module _ (problem : Setup) (plan : List Node) (key : Key) (history : List Event)
         | inr next ↦ next_letter asked game next.event next.may next.extends
       ]
 
-  place_small : (letter : Letter) → IsLetter letter → letter_place letter < 14
-  place_small (Seen rank) is = let high = is.1 in omega (arith, high)
-  place_small Go is = omega arith
-
   theirs_holds : key.know.round.asked ≡ turns.Opponent → IsSettledBelow problem plan key 14 → HoldsFrom problem plan history
   theirs_holds asked below game result failing ext =
       let next = theirs_goes_on asked game result failing ext in
       below history next.letter stands next.can (place_small next.letter (theirs_letter problem stands.knows.setup history next.letter next.can)) game result
       failing next.extends
-
-  pub same_letter : (letter other : Letter) → IsLetter letter → IsLetter other → letter_place letter ≡ letter_place other → letter ≡ other
-  same_letter (Seen rank) (Seen other) is is_other e =
-      let low = is.0 in
-      let low_other = is_other.0 in
-      ap Seen (omega (arith, low, low_other, e))
-  same_letter (Seen rank) Go is is_other e = let high = is.1 in absurd (omega (arith, high, e))
-  same_letter Go (Seen rank) is is_other e = let high = is_other.1 in absurd (omega (arith, high, e))
-  same_letter Go Go is is_other e = refl
 
   pub theirs_first : key.know.round.asked ≡ turns.Opponent → (letter : Letter) → IsLetter letter → IsSettledBelow problem plan key (letter_place letter) →
       (game : Game) (result : Ending) →
@@ -369,7 +334,7 @@ below_more problem plan key place letter is at_place below here history other st
     elim (cases_lt (letter_place other) place) [
       | inl before ↦ below history other stands can before
       | inr most ↦
-          let same : other ≡ letter = same_letter problem plan key history stands other letter (theirs_letter problem stands.knows.setup history other can) is
+          let same : other ≡ letter = same_letter other letter (theirs_letter problem stands.knows.setup history other can) is
           (omega (arith, less, most, at_place)) in
           let H : Letter → Type 0 = λ l. HoldsFrom problem plan (Theirs l ∷ history) in
           let C : Letter → Type 0 = λ l. CanShow problem history l in

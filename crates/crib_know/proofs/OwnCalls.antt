@@ -17,12 +17,12 @@ use Rattle.crib_play.specs.declared.turns.Turn.TheVariants as turns
 use Rattle.crib_play.specs.Record.{count_of}
 use Rattle.crib_play.specs.Filled.{filled_record}
 use Rattle.crib_play.specs.Standing.{StandsFor, standing_after}
-use Rattle.crib_play.specs.History.{Event, Own, event_by, event_of, history_letters}
+use Rattle.crib_play.specs.History.{Event, Own, event_of, history_letters}
 use Rattle.crib_problem.specs.Setup.{Setup, IsSetup, unseen_of, fixed_cards, start_of, target_of}
-use Rattle.crib_know.specs.Knowledge.{Knowledge, played_events, their_ranks, least_value, own_left}
+use Rattle.crib_know.specs.Knowledge.{Knowledge, played_events, their_ranks, least_value}
 use Rattle.crib_know.specs.Private.Knowledge.{at_first_lead}
 use Rattle.crib_know.specs.Knowledge.{knowledge_after}
-use Rattle.crib_know.specs.Hidden.{CanShow, CanShowAt, CanComeAt, KnowsAfter, IsFirstDeal}
+use Rattle.crib_know.specs.Hidden.{CanShow, CanShowAt, CanDoAt, CanComeAt, KnowsAfter, IsFirstDeal}
 use Rattle.crib_know.proofs.LedHistories.{MayCome, IsLed}
 use Rattle.crib_play.proofs.TurnFacts.{filter_all}
 use Rattle.crib_know.specs.Private.Choice.{chosen_cards}
@@ -173,9 +173,6 @@ module _ (know : Knowledge) (problem : Setup) (history : List Event) (knows : Kn
         subst D same (first_deal_is problem knows.setup history (led_of know problem history knows) knows.begun)
 
 -- ---- a turn that is seen
-pub event_is : (act : Act) (side : Side) (what : Move) → act.side ≡ side → act.what ≡ what → event_of act ≡ event_by side what
-event_is act side what same_side same_what = λ i. event_by (same_side i) (same_what i)
-
 pub come_as : (know : Knowledge) (event other : Event) → event ≡ other → CanComeAt know event → CanComeAt know other
 come_as know event other same can = let M : Event → Type 0 = λ e. CanComeAt know e in subst M same can
 
@@ -186,22 +183,23 @@ knows_as know problem history event other same knows = let K : Event → Type 0 
 come_may : (know : Knowledge) (event : Event) (can : CanComeAt know event) → MayCome can.0 can.1 event
 come_may know event can = (possible_led can.0 can.2.setup (event ∷ can.1) can.3).1
 
-pub come_asked : (know : Knowledge) (card : ℕ) → CanComeAt know (Own (move.Card card)) → know.round.asked ≡ turns.Owner
-come_asked know card can = asked_same know can.0 can.1 can.2 ∙ (come_may know (Own (move.Card card)) can).0
+-- the owner can make the move that may come
+pub own_may : (know : Knowledge) (problem : Setup) (history : List Event) → KnowsAfter know problem history → (what : Move) →
+    MayCome problem history (Own what) → CanDoAt know what
+own_may know problem history knows (move.Card card) may =
+    let fits = may.2 in
+    let count = count_same know problem history knows in (
+      asked_same know problem history knows ∙ may.0,
+      ap (λ (cards : List ℕ). has cards card) (own_same know problem history knows) ∙ may.1,
+      omega (arith, count, fits),
+    )
+own_may know problem history knows move.Go may = (
+  asked_same know problem history knows ∙ may.0,
+  (λ i. list_any (λ card. leb (count_same know problem history knows i + card_value card) 31) (own_same know problem history knows i)) ∙ may.1,
+)
 
-pub come_held : (know : Knowledge) (card : ℕ) → CanComeAt know (Own (move.Card card)) → has know.own_left card ≡ true
-come_held know card can = ap (λ (cards : List ℕ). has cards card) (own_same know can.0 can.1 can.2) ∙ (come_may know (Own (move.Card card)) can).1
-
-pub come_fits : (know : Knowledge) (card : ℕ) → CanComeAt know (Own (move.Card card)) → count_of know.round.pile + card_value card ≤ 31
-come_fits know card can = let count = count_same know can.0 can.1 can.2 in let fits = (come_may know (Own (move.Card card)) can).2 in omega (arith, count, fits)
-
-pub come_go : (know : Knowledge) → CanComeAt know (Own move.Go) → know.round.asked ≡ turns.Owner
-come_go know can = asked_same know can.0 can.1 can.2 ∙ (come_may know (Own move.Go) can).0
-
-pub come_none : (know : Knowledge) → CanComeAt know (Own move.Go) → list_any (λ card. leb (count_of know.round.pile + card_value card) 31) know.own_left ≡ false
-come_none know can =
-    (λ i. list_any (λ card. leb (count_of know.round.pile + card_value card) 31) (own_same know can.0 can.1 can.2 i))
-    ∙ (λ i. list_any (λ card. leb (count_same know can.0 can.1 can.2 i + card_value card) 31) (own_left can.0 can.1)) ∙ (come_may know (Own move.Go) can).1
+pub come_own : (know : Knowledge) (what : Move) → CanComeAt know (Own what) → CanDoAt know what
+come_own know what can = own_may know can.0 can.1 can.2 what (come_may know (Own what) can)
 
 -- one more turn of the opening
 pub see_next : (problem : Setup) (setup : IsSetup problem) (know : Knowledge) (i : ℕ) (act : Act) → i < length problem.played →

@@ -8,6 +8,8 @@ use Rattle.crib_cards.specs.Start.{Start, pone_of, Hands}
 use Rattle.crib_cards.specs.declared.sides.Side.{Side}
 use Rattle.crib_cards.specs.declared.sides.Side.TheVariants.{Owner, Opponent}
 use Rattle.crib_cards.specs.declared.sides.Dealt.{Dealt}
+use Rattle.crib_cards.specs.Letters.{IsLetter}
+use Rattle.crib_cards.specs.declared.letters.Letter.{Letter}
 use Rattle.crib_cards.specs.declared.letters.Letter.TheVariants.{Seen, Go}
 use Rattle.crib_cards.specs.declared.moves.Move.{Move}
 use Rattle.crib_cards.specs.declared.moves.Move.TheVariants as move
@@ -201,6 +203,16 @@ can_go_might problem setup history can =
     let plays = plays_of (start_of problem) (hands_of problem dealt) (Theirs Go ∷ history) (started problem setup) (dealt_is problem setup dealt deal)
     can.1.1 in
     covers_go problem setup dealt deal history (last_play (start_of problem) (hands_of problem dealt) (Theirs Go) history plays)
+
+-- where the opponent can show a letter, he is asked, and it is a letter
+pub theirs_asked : (problem : Setup) → IsSetup problem → (history : List Event) (letter : Letter) → CanShow problem history letter →
+    asked_now problem history ≡ turns.Opponent
+theirs_asked problem setup history (Seen rank) can = (can_play_might problem setup history rank can).asked
+theirs_asked problem setup history Go can = (can_go_might problem setup history can).asked
+
+pub theirs_letter : (problem : Setup) → IsSetup problem → (history : List Event) (letter : Letter) → CanShow problem history letter → IsLetter letter
+theirs_letter problem setup history (Seen rank) can = (can_play_might problem setup history rank can).is
+theirs_letter problem setup history Go can = tt
 
 -- ---- each deal that passes agrees
 module _ (problem : Setup) (setup : IsSetup problem) (dealt : Dealt) (deal : IsDealOf problem dealt) where

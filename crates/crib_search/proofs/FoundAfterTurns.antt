@@ -237,13 +237,6 @@ branches_more before after later know letter shown draft_places next branches br
     zip_push R (a ∷ xs) [] x y all last = absurd all
     zip_push R (a ∷ xs) (b ∷ ys) x y all last = (all.0, zip_push R xs ys x y all.1 last)
 
--- the branches of all letters
-pub all_branches : (drafts : Drafts) (know : Knowledge) (place : ℕ) (shown : List Letter) (draft_places : List DraftPlace) → place ≡ 14 → shown ≡ letters →
-    AreBranches drafts know (take place shown) draft_places → AreBranches drafts know letters draft_places
-all_branches drafts know place shown draft_places end all branches =
-    let B : List Letter → Type 0 = λ xs. AreBranches drafts know xs draft_places in
-    subst B (ap (λ n. take n shown) end ∙ ap (λ (xs : List Letter). take 14 xs) all) branches
-
 module _ (drafts : Drafts) (know : Knowledge) where
   -- some branch is lacking
   pub theirs_none : know.round.asked ≡ turns.Opponent → (letter : Letter) → IsBranch drafts know letter None → IsAnswer drafts know None

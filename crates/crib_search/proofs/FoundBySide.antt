@@ -1,11 +1,13 @@
 -- What is found after a history, by who is asked.
-use Rattle.std.proofs.Common.{◌≡◌, ℕ, zero, suc, true, false, eqb, List, [], ◌∷◌, Option, Some, None, slice_get, refl, subst, inl, inr}
+use Rattle.std.proofs.Common.{◌≡◌, ℕ, zero, suc, ◌+◌, true, false, eqb, List, [], ◌∷◌, ◌++◌, take, Option, Some, None, slice_get, refl, ap, subst, ◌∙◌, inl}
+use Rattle.std.proofs.Common.{inr}
 use Rattle.std.specs.Prelude.{MatchOption}
 use Rattle.std.specs.List.{AllZip}
 use Rattle.std.proofs.lemmas.Bool.{or_cases, or_right, both_ways, eqb-true}
-use Rattle.crib_cards.specs.Cards.{IsRank}
+use Rattle.std.proofs.lemmas.List.{take_more}
+use Rattle.std.proofs.lemmas.Option.{slice_get_within, get_or_from_slice_get}
 use Rattle.crib_cards.specs.Sets.{has}
-use Rattle.crib_cards.specs.Letters.{letter_place}
+use Rattle.crib_cards.specs.Letters.{IsLetter, letter_place}
 use Rattle.crib_cards.specs.declared.letters.Letter.{Letter}
 use Rattle.crib_cards.specs.declared.letters.Letter.TheVariants.{Seen, Go}
 use Rattle.crib_cards.specs.declared.moves.Move.TheVariants as move
@@ -16,7 +18,7 @@ use Rattle.crib_play.specs.History.{Event, Own, Theirs}
 use Rattle.crib_problem.specs.Setup.{Setup, IsSetup}
 use Rattle.crib_know.specs.Knowledge.{played_events, asked_now}
 use Rattle.crib_know.specs.Hidden.{CanShow}
-use Rattle.crib_know.proofs.PassingIsAgreeing.{can_play_might, can_go_might}
+use Rattle.crib_know.proofs.PassingIsAgreeing.{theirs_letter}
 use Rattle.crib_search.specs.Trees.{Tree, Plays, joined_tree}
 use Rattle.crib_search.specs.Finder.{Found, Tries, BranchFinds, LacksBranch, FindsFor, Finds, FindsTree, letters}
 use Rattle.crib_cards.proofs.Members.{has_here}
@@ -80,25 +82,26 @@ zip_at P (first ∷ shown) (tree ∷ trees) zero letter all e =
     (tree, refl, subst Q same all.0)
 zip_at P (first ∷ shown) (tree ∷ trees) (suc place) letter all e = zip_at P shown trees place letter all.1 e
 
-rank_at : (rank : ℕ) → IsRank rank → slice_get letters (letter_place (Seen rank)) ≡ Some (Seen rank)
-rank_at = each_rank (λ r. slice_get letters (letter_place (Seen r)) ≡ Some (Seen r)) refl refl refl refl refl refl refl refl refl refl refl refl refl
+-- a letter stands in its place among the letters
+letter_at : (letter : Letter) → IsLetter letter → slice_get letters (letter_place letter) ≡ Some letter
+letter_at (Seen rank) is =
+    each_rank (λ r. slice_get letters (letter_place (Seen r)) ≡ Some (Seen r)) refl refl refl refl refl refl refl refl refl refl refl refl refl rank is
+letter_at Go is = refl
+
+pub take_letter : (letter : Letter) (place : ℕ) → IsLetter letter → letter_place letter ≡ place → take (place + 1) letters ≡ take place letters ++ letter ∷ []
+take_letter letter place is at =
+    let found = subst (λ n. slice_get letters n ≡ Some letter) at (letter_at letter is) in
+    take_more letters place letter (slice_get_within letters place letter found)
+    ∙ ap (λ (l : Letter). take place letters ++ l ∷ []) (get_or_from_slice_get letters place letter letter found)
 
 module _ (problem : Setup) (setup : IsSetup problem) (history : List Event) where
-  -- a letter that can be shown is a letter, and the opponent is asked
-  pub shown_at : (letter : Letter) → CanShow problem history letter → slice_get letters (letter_place letter) ≡ Some letter
-  shown_at (Seen rank) can = rank_at rank (can_play_might problem setup history rank can).is
-  shown_at Go can = refl
-
-  pub shown_asked : (letter : Letter) → CanShow problem history letter → asked_now problem history ≡ turns.Opponent
-  shown_asked (Seen rank) can = (can_play_might problem setup history rank can).asked
-  shown_asked Go can = (can_go_might problem setup history can).asked
-
   -- the branch of a letter that can be shown
   pub branch_found : (finds : Found) (trees : List Tree) (letter : Letter) → CanShow problem history letter →
       AllZip (BranchFinds finds problem history) letters trees →
       (tree : Tree) × (slice_get trees (letter_place letter) ≡ Some tree) × finds (Theirs letter ∷ history) (Some tree)
   branch_found finds trees letter can all =
-      let at = zip_at (BranchFinds finds problem history) letters trees (letter_place letter) letter all (shown_at letter can) in
+      let at = zip_at (BranchFinds finds problem history) letters trees (letter_place letter) letter all
+      (letter_at letter (theirs_letter problem setup history letter can)) in
       elim at.2 [
         | inl found ↦ (at.0, at.1, found.1)
         | inr not ↦ absurd (not.0 can)

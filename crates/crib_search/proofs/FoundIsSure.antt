@@ -43,7 +43,8 @@ use Rattle.crib_search.proofs.Options.{IsOption, option_is, no_option, option_le
 use Rattle.crib_search.proofs.RecordHistories.{letters_whole, led_by_record, agrees_of_record, is_whole, shown_by, left_of, fits_past}
 use Rattle.crib_search.proofs.PlacesOfTrees.{Stands, Does, joined_does}
 use Rattle.crib_search.proofs.Trees.{some_same}
-use Rattle.crib_search.proofs.FoundBySide.{finds_of_tree, for_asked, tries_some, shown_asked, branch_found, opponent_some}
+use Rattle.crib_know.proofs.PassingIsAgreeing.{theirs_asked}
+use Rattle.crib_search.proofs.FoundBySide.{finds_of_tree, for_asked, tries_some, branch_found, opponent_some}
 use Rattle.crib_cards.proofs.Members.{has_here}
 use Rattle.crib_show.proofs.Jacks.{any_found}
 
@@ -125,7 +126,7 @@ module _ (problem : Setup) (setup : IsSetup problem) (plan : List Node) where
   theirs_at : (history : List Event) → BeginsAfter problem history → (letter : Letter) → At history → CanShow problem history letter →
       At (Theirs letter ∷ history)
   theirs_at history begun letter at can =
-      let now = for_asked at.more problem history (Some at.tree) turns.Opponent (shown_asked problem setup history letter can) at.finds in
+      let now = for_asked at.more problem history (Some at.tree) turns.Opponent (theirs_asked problem setup history letter can) at.finds in
       let find : Found = λ further after. Finds now.0 problem further after in
       let some = opponent_some find problem history at.tree now.1 in
       let branch = branch_found problem setup history find some.0 letter can some.1 in

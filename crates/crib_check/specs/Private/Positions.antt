@@ -1,34 +1,25 @@
 -- Positions of the walk of the code, and statements about the games that go on from one.
-use Rattle.std.specs.Prelude.{◌≡◌, ◌≢◌, ◌+◌, ◌≤◌, List, Some, IsTrue, IsFalse}
-use Rattle.std.specs.List.{list_any}
-use Rattle.crib_cards.specs.Cards.{IsRank, card_value}
-use Rattle.crib_cards.specs.declared.letters.Letter.{Letter}
-use Rattle.crib_cards.specs.declared.letters.Letter.TheVariants.{Seen, Go}
-use Rattle.crib_cards.specs.Sets.{has}
+use Rattle.std.specs.Prelude.{◌≡◌, ◌≢◌, List, IsTrue, IsFalse}
 use Rattle.crib_cards.specs.Order.{is_before}
 use Rattle.crib_cards.specs.declared.sides.Dealt.{Dealt}
 use Rattle.crib_cards.specs.declared.moves.Move.{Move}
-use Rattle.crib_cards.specs.declared.moves.Move.TheVariants as move
-use Rattle.crib_play.specs.declared.turns.Turn.TheVariants as turns
-use Rattle.crib_play.specs.Record.{count_of}
-use Rattle.crib_play.specs.Fitting.{fits_at}
 use Rattle.crib_play.specs.Standing.{Standing}
 use Rattle.crib_show.specs.Outcome.{outcome_of}
 use Rattle.crib_show.specs.declared.outcomes.Outcome.TheVariants.{Reached}
 use Rattle.crib_plan.specs.Places.{stated_card}
 use Rattle.crib_game.specs.Private.Judging.{full_at}
 use Rattle.crib_game.specs.Private.Tracing.{is_stuck_at}
-use Rattle.crib_play.specs.History.{Event}
+use Rattle.crib_play.specs.History.{Event, Own}
 use Rattle.crib_problem.specs.Setup.{Setup}
 use Rattle.crib_plan.specs.declared.plan.Node.{Node}
-use Rattle.crib_know.specs.Hidden.{AgreesWith, KnowsAfter}
+use Rattle.crib_know.specs.Hidden.{AgreesWith, CanDoAt, KnowsAfter}
 use Rattle.crib_game.specs.declared.game.Game.{Game}
 use Rattle.crib_game.specs.declared.ending.Ending.{Ending}
 use Rattle.crib_game.specs.Replay.{acts_back}
 use Rattle.crib_cards.specs.Deals.{deal_numbers, is_in_pack_order}
 use Rattle.crib_check.specs.declared.keys.Key.{Key}
 use Rattle.crib_check.specs.Failing.{IsFailing, comes_before, is_suited}
-use Rattle.crib_check.specs.Private.Histories.{place_by, FollowsBy, Extends, history_of_game}
+use Rattle.crib_check.specs.Private.Histories.{place_by, FollowsBy, IsStatedEvent, Extends, history_of_game}
 
 -- a position stands for a history: the history follows the plan, the knowledge is what the owner knows after it, and
 -- the place is that of the plan after it
@@ -57,15 +48,9 @@ pub record IsFirstFrom (problem : Setup) (plan : List Node) (history : List Even
   pub first : (other : Game) (others_ending : Ending) → IsFailing problem plan other others_ending →
       Extends history (history_of_game other) → IsFalse (comes_before other game)
 
--- the move that the plan gives the owner at a position: the stated card, if he holds it and it fits, or go, if no card
--- of his fits
+-- the move that the plan gives the owner at a position: he can make it, and a card is the stated one
 abbrev pub MayTakeAt : List Node → Key → Move → Type 0
-MayTakeAt plan key (move.Card card) =
-    (key.know.round.asked ≡ turns.Owner) × IsTrue (has key.know.own_left card)
-    × (count_of key.know.round.pile + card_value card ≤ 31) × (stated_card plan key.place ≡ Some card)
-MayTakeAt plan key move.Go =
-    (key.know.round.asked ≡ turns.Owner)
-    × IsFalse (list_any (fits_at (count_of key.know.round.pile)) key.know.own_left)
+MayTakeAt plan key what = CanDoAt key.know what × IsStatedEvent plan key.place (Own what)
 
 -- the owner is stuck: he is asked and a card of his fits, but no card that he holds and that fits is stated
 abbrev pub IsStuckAt : List Node → Key → Type 0
@@ -84,8 +69,3 @@ pub record IsFirstShortfall (problem : Setup) (history : List Event) (table : St
   pub in_order : IsTrue (is_in_pack_order dealt)
   pub first : (other : Dealt) → AgreesWith problem history other → outcome_of (full_at problem other table) ≢ Reached →
       IsFalse (is_before (deal_numbers other) (deal_numbers dealt))
-
--- a letter that can be shown: a rank from 1 to 13, or go
-abbrev pub IsLetter : Letter → Type 0
-IsLetter (Seen rank) = IsRank rank
-IsLetter Go = Unit {0}

@@ -87,7 +87,7 @@ their_turn-take-requires g t c κs within =
     let kept = c.loop-place.invariant.kept in
     let back = c.loop-place.invariant.back in
     let long = ap length back in
-    let event = Theirs c.letter_at-letter.result in
+    let event = Theirs c.at-letter.result in
     let here = leads_to holds walk.problem.now walk.plan.now walk.trail.items c.loop-place.self kept back c.args.key.now c.after_theirs-next.result event
     c.after_theirs-next.ensures (history_at walk) c.requires.here.here in
     let may = may_take holds walk.problem.now walk.plan.now walk.trail.items c.loop-place.self kept back c.after_theirs-next.result event here in
@@ -97,13 +97,13 @@ pub their_turn-returns-in-Some : goal.their_turn-returns-in-Some
 their_turn-returns-in-Some g t c =
     let walk = c.args.self.now in
     let walked = has_taken g.T.Settled.holds walk.problem.now walk.plan.now walk.trail.items c.loop-place.self c.loop-place.invariant.kept
-    c.loop-place.invariant.back c.after_theirs-next.result (Theirs c.letter_at-letter.result) c.take.new.self c.take.result c.take.ensures in
+    c.loop-place.invariant.back c.after_theirs-next.result (Theirs c.at-letter.result) c.take.new.self c.take.result c.take.ensures in
     record {
       kept = walked.kept;
       back = λ none. absurd cc;
       found = theirs_found walk.problem.now walk.plan.now c.args.key.now c.after_theirs-next.result c.take.new.self.trail.items (history_at walk)
-          c.letter_at-letter.result c.loop-place.place c.take.result c.in-Some.failure c.in-Some.is c.requires.here.here c.requires.asked
-          c.letter_at-letter.ensures.valid c.letter_at-letter.ensures.place c.loop-place.invariant.below walked.found;
+          c.at-letter.result c.loop-place.place c.take.result c.in-Some.failure c.in-Some.is c.requires.here.here c.requires.asked
+          c.at-letter.ensures.valid c.at-letter.ensures.place c.loop-place.invariant.below walked.found;
     }
 
 pub their_turn-loop-place-preserved : goal.their_turn-loop-place-preserved
@@ -112,7 +112,7 @@ their_turn-loop-place-preserved g t c =
     let holds = g.T.Settled.holds in
     let kept = c.loop-place.invariant.kept in
     let back = c.loop-place.invariant.back in
-    let letter = c.letter_at-letter.result in
+    let letter = c.at-letter.result in
     elim c.if-can_show.branch [
       | their_turn-then-can_show+in_default w ↦
           (let walked = has_taken holds walk.problem.now walk.plan.now walk.trail.items c.loop-place.self kept back w.after_theirs-next.result (Theirs letter)
@@ -123,15 +123,15 @@ their_turn-loop-place-preserved g t c =
             kept = kept_same holds walk.problem.now walk.plan.now _ _ w.self-is walked.kept;
             back = ap (λ walk. walk.trail.items) w.self-is ∙ walked.back w.in_default.is;
             below = below_held walk.problem.now walk.plan.now c.args.key.now w.after_theirs-next.result w.take.new.self.trail.items
-                (Theirs letter ∷ history_at walk) letter c.loop-place.place w.take.result w.in_default.is c.letter_at-letter.ensures.valid
-                c.letter_at-letter.ensures.place c.loop-place.invariant.below leads walked.found;
+                (Theirs letter ∷ history_at walk) letter c.loop-place.place w.take.result w.in_default.is c.at-letter.ensures.valid
+                c.at-letter.ensures.place c.loop-place.invariant.below leads walked.found;
           })
       | their_turn-else-can_show w ↦
           record {
             kept = kept_same holds walk.problem.now walk.plan.now _ _ w.self-is kept;
             back = ap (λ walk. walk.trail.items) w.self-is ∙ back;
-            below = below_unshown walk.problem.now walk.plan.now c.args.key.now letter c.loop-place.place c.letter_at-letter.ensures.valid
-                c.letter_at-letter.ensures.place c.loop-place.invariant.below
+            below = below_unshown walk.problem.now walk.plan.now c.args.key.now letter c.loop-place.place c.at-letter.ensures.valid
+                c.at-letter.ensures.place c.loop-place.invariant.below
                 (λ h stands can. both_ways c.can_show.result w.if-can_show.false
                 ((c.can_show.ensures.exact walk.problem.now h stands.knows).1 can));
           }

@@ -1,7 +1,6 @@
-use Rattle.std.proofs.Common.{rules, ◌≡◌, ℕ, ◌+◌, ◌<◌, ◌≤◌, List, ◌∷◌, ◌++◌, [], length, get_or, take, Option, None, Some, true, sym, ap, subst, ◌∙◌, arith}
+use Rattle.std.proofs.Common.{rules, ◌≡◌, ℕ, ◌+◌, ◌<◌, ◌≤◌, List, ◌∷◌, ◌++◌, [], length, take, Option, None, Some, true, sym, ap, subst, ◌∙◌, arith}
 use Rattle.std.specs.Bool.{IsTrue}
 use Rattle.std.specs.List.{AllZip}
-use Rattle.std.proofs.lemmas.List.{take_more}
 use Rattle.crib_cards.specs.Cards.{card_value}
 use Rattle.crib_cards.specs.Sets.{has}
 use Rattle.crib_cards.specs.declared.letters.Letter.{Letter}
@@ -16,8 +15,9 @@ use Rattle.crib_search.specs.Finder.{letters, options}
 use Rattle.crib_search.specs.Private.Nodes.{Names}
 use Rattle.crib_search.specs.Private.Ahead.{turns_ahead}
 use Rattle.crib_search.specs.Private.Search.{Drafts, IsHere, IsAnswer, IsTried, IsBranch, Steps, answer_in}
+use Rattle.crib_search.proofs.FoundBySide.{take_letter}
 use Rattle.crib_search.proofs.FoundAfterTurns.{know_falls, over_found, own_go, own_tried, tried_some, tried_next, branch_end, branch_after}
-use Rattle.crib_search.proofs.FoundAfterTurns.{AreBranches, all_branches, branches_more, theirs_none, theirs_some, branches_named, ok_map}
+use Rattle.crib_search.proofs.FoundAfterTurns.{AreBranches, branches_more, theirs_none, theirs_some, branches_named, ok_map}
 use Rattle.crib_search.proofs.FoundAfterTurns.{answer_earlier, answer_later, answers_kept, answers_more, at_later, later_trans, take_none}
 use Rattle.crib_search.proofs.FoundAfterTurns.{card_split, fewer, rest_of, still_has, first_has_it, card_is}
 use Rattle.crib_search.proofs.search.Search.+search.Goals as goal
@@ -195,24 +195,22 @@ branch-returns-clause-found g t c =
 
 pub search_all-returns-in_default-clause-found : goal.search_all-returns-in_default-clause-found
 search_all-returns-in_default-clause-found g t c =
-    let letter : Letter = get_or c.letters-letters.result c.loop-place.place c.index-letters-place.result in
+    let letter : Letter = c.at-letter.result in
     let B : Option DraftPlace → Type 0 = λ found. IsBranch c.branch-self.new.self c.args.know.now letter found in
     theirs_none c.branch-self.new.self c.args.know.now c.requires.asked letter (subst B c.in_default.is c.in_ok-next.ensures.found)
 
 pub search_all-loop-place-preserved : goal.search_all-loop-place-preserved
 search_all-loop-place-preserved g t c =
     let after : Drafts = c.branch-self.new.self in
-    let letter : Letter = get_or c.letters-letters.result c.loop-place.place c.index-letters-place.result in
-    let shown : List Letter = take c.loop-place.place c.letters-letters.result in
+    let letter : Letter = c.at-letter.result in
+    let shown : List Letter = take c.loop-place.place letters in
     let B : Option DraftPlace → Type 0 = λ found. IsBranch after c.args.know.now letter found in
     let S : List Letter → Type 0 = λ letters. AreBranches after c.args.know.now letters c.push.new.self.items in
     let N : List DraftPlace → Type 0 = λ draft_places. AreBranches after c.args.know.now (shown ++ letter ∷ []) draft_places in
-    let count : length c.letters-letters.result ≡ 14 = ap length c.letters-letters.ensures in
-    let within : c.loop-place.place < length c.letters-letters.result = omega (arith, count, c.loop-place-test.true) in
     record {
       later = later_trans c.args.self.now c.loop-place.self after c.loop-place.invariant.later c.branch-self.ensures.later;
       count = omega (arith, c.push.ensures.len, c.loop-place.invariant.count);
-      branches = subst S (sym (take_more c.letters-letters.result c.loop-place.place c.index-letters-place.result within))
+      branches = subst S (sym (take_letter letter c.loop-place.place c.at-letter.ensures.valid c.at-letter.ensures.place))
           (subst N (sym c.push.ensures.items)
           (branches_more c.loop-place.self after c.branch-self.ensures.later c.args.know.now letter shown c.loop-place.nexts.items c.in-Some.next
           c.loop-place.invariant.branches (subst B c.in-Some.is c.in_ok-next.ensures.found)));
@@ -221,8 +219,8 @@ search_all-loop-place-preserved g t c =
 pub search_all-join-requires-clause-named : goal.search_all-join-requires-clause-named
 search_all-join-requires-clause-named g t c =
     let end : c.loop-place.place ≡ 14 = omega (arith, c.loop-place.auto.place-end, c.loop-place-test.false) in
-    let branches = all_branches c.loop-place.self c.args.know.now c.loop-place.place c.letters-letters.result c.loop-place.nexts.items end
-    c.letters-letters.ensures c.loop-place.invariant.branches in
+    let branches = subst (λ n. AreBranches c.loop-place.self c.args.know.now (take n letters) c.loop-place.nexts.items) end
+    c.loop-place.invariant.branches in
     let here = at_later c.args.self.now c.loop-place.self c.loop-place.invariant.later (λ problem. IsHere problem c.args.know.now) c.requires.here in
     let named = branches_named c.loop-place.self c.args.know.now c.loop-place.nexts.items c.deref.result.now c.deref.ensures.0 branches here in
     (named.0, subst (λ (drafts : Drafts). AllZip (Names drafts.draft_nodes) named.0 c.deref.result.now) (sym c.self.view_is) named.1)
@@ -243,8 +241,8 @@ pub search_all-returns-clause-found : goal.search_all-returns-clause-found
 search_all-returns-clause-found g t c =
     let drafts : Drafts = record { problem = c.self.inside.problem.now; draft_nodes = c.self.inside.nodes } in
     let end : c.loop-place.place ≡ 14 = omega (arith, c.loop-place.auto.place-end, c.loop-place-test.false) in
-    let branches = all_branches c.loop-place.self c.args.know.now c.loop-place.place c.letters-letters.result c.loop-place.nexts.items end
-    c.letters-letters.ensures c.loop-place.invariant.branches in
+    let branches = subst (λ n. AreBranches c.loop-place.self c.args.know.now (take n letters) c.loop-place.nexts.items) end
+    c.loop-place.invariant.branches in
     let B : Drafts → Type 0 = λ d. AreBranches d c.args.know.now letters c.loop-place.nexts.items in
     theirs_some drafts c.args.know.now c.loop-place.nexts.items c.deref.result.now c.deref.ensures.0 (subst B (sym c.self.view_is) branches)
     c.join.new.nodes c.in_ok-draft_place.draft_place c.requires.asked c.in_ok-draft_place.ensures.joined

@@ -66,13 +66,13 @@ game_written game =
 -- ---- a problem and a game
 
 -- the lines of an input are read as a problem and a game
-pub record AreRead (input : List ℕ) (problem : Setup) (game : Game) : Type 0 where
-  pub rest : Rest
-  pub after : Rest
-  pub number : ℕ
-  pub lines : input_lines input ≡ Ok rest
-  pub first : problem_at rest ≡ Ok (problem, after)
-  pub last : last_game_at after ≡ Ok (game, number)
+record AreRead (input : List ℕ) (problem : Setup) (game : Game) : Type 0 where
+  rest : Rest
+  after : Rest
+  number : ℕ
+  lines : input_lines input ≡ Ok rest
+  first : problem_at rest ≡ Ok (problem, after)
+  last : last_game_at after ≡ Ok (game, number)
 
 read_by : (input : List ℕ) (problem : Setup) (game : Game) → SpellsGame input problem game → AreRead input problem game
 unfolding problem_text game_text

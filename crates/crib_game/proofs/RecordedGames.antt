@@ -3,7 +3,6 @@ use Rattle.std.proofs.Common.{List, length, ap, subst, arith}
 use Rattle.std.proofs.lemmas.List.{length-reverse, reverse-reverse}
 use Rattle.crib_cards.specs.Start.{pone_of}
 use Rattle.crib_cards.specs.declared.moves.Move.{Move}
-use Rattle.crib_cards.specs.declared.moves.Act.{Act}
 use Rattle.crib_play.proofs.FilledRecords.{acts_fewer}
 use Rattle.crib_play.proofs.RecordBounds.{at_most_29}
 use Rattle.crib_problem.specs.Setup.{Setup, IsSetup, start_of, hands_of}

@@ -1,6 +1,8 @@
 //! Problems and plans with their verdicts.
-use crate::tests::inputs::*;
 use crib_game::Ending;
+use example_texts::games::*;
+use example_texts::plans::*;
+use example_texts::problems::*;
 
 /// A problem, a plan, and the first failing game with its ending, if there is one.
 pub type Row = (&'static str, &'static str, Option<(Ending, &'static str)>);

@@ -1,10 +1,12 @@
-use crate::tests::inputs::{TWELVE, TWICE, TWO_AND_ACE, TWOS};
 use crate::tests::rows::{BEGUN_ROWS, LOST, Row, SHORT, STOPPING, STUCK, SURE};
 use crate::tests::*;
 use crib_cards::{Card, Rank};
 use crib_know::Know;
 use crib_plan::{Next, start};
 use crib_play::Turn;
+use example_texts::games::TWO_AND_ACE;
+use example_texts::plans::{TWICE, TWOS};
+use example_texts::problems::TWELVE;
 use refusing_alloc::Refusing;
 use std::cell::RefCell;
 

@@ -14,7 +14,8 @@ use Rattle.crib_know.specs.Hidden.{KnowsAfter, IsFirstDeal}
 use Rattle.crib_know.specs.Private.Choice.{chosen_cards}
 use Rattle.crib_know.proofs.OwnCalls.{first_is}
 use Rattle.crib_check.specs.Failing.{IsFailing, IsFirstFailing, comes_before, opponent_letters}
-use Rattle.crib_check.proofs.Examples.{four_twos, aces, aces_are_a_deal, no_acts, stuck_at_once}
+use Rattle.crib_problem.proofs.ExampleProblems.{four_twos, aces}
+use Rattle.crib_check.proofs.Examples.{aces_are_a_deal, no_acts, stuck_at_once}
 use Rattle.crib_cards.proofs.SetLemmas.{and-false}
 
 four_twos_are_a_setup : IsSetup four_twos

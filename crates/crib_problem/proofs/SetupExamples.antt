@@ -6,7 +6,6 @@ use Rattle.std.proofs.lemmas.Bool.{both_ways}
 use Rattle.crib_cards.specs.Cards.{IsCard}
 use Rattle.crib_cards.specs.Sets.{set_where}
 use Rattle.crib_cards.specs.declared.sides.Side.TheVariants.{Owner, Opponent}
-use Rattle.crib_cards.specs.declared.sides.Dealt.{Dealt}
 use Rattle.crib_cards.specs.declared.letters.Letter.TheVariants.{Seen}
 use Rattle.crib_cards.specs.declared.moves.Act.{Act}
 use Rattle.crib_cards.specs.declared.moves.Move.{Move}
@@ -16,25 +15,11 @@ use Rattle.crib_problem.specs.declared.problem.Goal.TheVariants.{Win, Holes, Sto
 use Rattle.crib_problem.specs.declared.problem.Version.TheVariants.{One, Two}
 use Rattle.crib_problem.specs.Setup.{Setup, IsSetup, IsGoal, CanSay, IsMove, IsDealOf, BeginsAsPlayed, target_of, known_cards, start_of}
 use Rattle.crib_problem.specs.Spelling.{problem_text, problem_lines}
-
-abbrev own : ℕ → Act
-own card = record { side = Owner; what = Card card }
-
-abbrev theirs : ℕ → Act
-theirs card = record { side = Opponent; what = Card card }
+use Rattle.crib_problem.proofs.ExampleProblems.{plays, four_twos, after_two, aces}
 
 -- the owner deals and holds four twos, the scores are 61 to 70, and the goal is twelve holes
 abbrev midway : Setup
-midway = record {
-  version = Two;
-  dealer = Owner;
-  scores = record { owner = 61; opponent = 70 };
-  starter = 49;
-  hold = 4 ∷ 5 ∷ 6 ∷ 7 ∷ [];
-  thrown = 12 ∷ 21 ∷ [];
-  goal = Holes 12;
-  played = [];
-}
+midway = record four_twos { version = Two; dealer = Owner; scores = record { owner = 61; opponent = 70 }; goal = Holes 12 }
 
 -- ---- goals
 pub holes_are_counted_from_the_score : target_of midway ≡ 73
@@ -117,19 +102,13 @@ thrown_card_is_held is = absurd (both_ways false refl is.distinct)
 pub no_stop_in_version_1 : CanSay One Stop [] → ⊥
 no_stop_in_version_1 can = absurd (both_ways true can.0 refl)
 
-pub no_turn_in_version_1 : CanSay One Win (own 4 ∷ []) → ⊥
+pub no_turn_in_version_1 : CanSay One Win (plays Owner 4 ∷ []) → ⊥
 no_turn_in_version_1 can = (let none = can.1 in cc)
 
 pub no_such_card : IsMove (Card 52) → ⊥
 no_such_card is = absurd (omega (arith, is))
 
 -- ---- hidden deals after own 2C and opp AC
-abbrev after_two : Setup
-after_two = record midway { dealer = Opponent; played = own 4 ∷ theirs 0 ∷ [] }
-
-abbrev aces : Dealt
-aces = record { hold = 0 ∷ 1 ∷ 2 ∷ 3 ∷ []; throw = 8 ∷ 9 ∷ [] }
-
 pub aces_are_a_deal : IsDealOf after_two aces
 unfolding set_where
 aces_are_a_deal = record { deal = record { held = refl; thrown = refl; distinct = refl; hidden_before = refl }; fixed = refl }
@@ -152,11 +131,11 @@ pub three_are_no_throw : IsDealOf after_two (record aces { throw = 8 ∷ 9 ∷ 1
 three_are_no_throw is = let two = is.deal.thrown in absurd (omega (arith, two))
 
 -- ---- games that begin with own 2C and opp AC; their acts have the last one first
-pub goes_on_with_2D : BeginsAsPlayed after_two (theirs 1 ∷ own 5 ∷ theirs 0 ∷ own 4 ∷ [])
-goes_on_with_2D = record { later = theirs 1 ∷ own 5 ∷ []; parts = refl }
+pub goes_on_with_2D : BeginsAsPlayed after_two (plays Opponent 1 ∷ plays Owner 5 ∷ plays Opponent 0 ∷ plays Owner 4 ∷ [])
+goes_on_with_2D = record { later = plays Opponent 1 ∷ plays Owner 5 ∷ []; parts = refl }
 
 -- own 2D and opp AC are not that opening
-pub begins_with_2D : BeginsAsPlayed after_two (theirs 0 ∷ own 5 ∷ []) → ⊥
+pub begins_with_2D : BeginsAsPlayed after_two (plays Opponent 0 ∷ plays Owner 5 ∷ []) → ⊥
 begins_with_2D is = no is.later is.parts
   where
     card_in : Move → ℕ
@@ -168,7 +147,7 @@ begins_with_2D is = no is.later is.parts
     first_card (act ∷ []) = card_in act.what
     first_card (act ∷ next ∷ acts) = first_card (next ∷ acts)
 
-    no : (later : List Act) → theirs 0 ∷ own 5 ∷ [] ≡ later ++ theirs 0 ∷ own 4 ∷ [] → ⊥
+    no : (later : List Act) → plays Opponent 0 ∷ plays Owner 5 ∷ [] ≡ later ++ plays Opponent 0 ∷ plays Owner 4 ∷ [] → ⊥
     no [] e = (let card : 5 ≡ 4 = ap first_card e in absurd (omega (arith, card)))
     no (act ∷ []) e = (let acts = ap length e in absurd (omega (arith, acts)))
     no (act ∷ next ∷ []) e = (let acts = ap length e in absurd (omega (arith, acts)))

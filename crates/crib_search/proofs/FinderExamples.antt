@@ -11,14 +11,12 @@ use Rattle.crib_play.specs.declared.turns.Turn.TheVariants as turns
 use Rattle.crib_play.specs.History.{Event, Own, Theirs}
 use Rattle.crib_show.specs.Outcome.{outcome_of}
 use Rattle.crib_show.specs.Show.{hand_points, crib_points}
-use Rattle.crib_problem.specs.declared.problem.Goal.TheVariants.{Win}
-use Rattle.crib_problem.specs.declared.problem.Version.TheVariants.{One}
-use Rattle.crib_problem.specs.Setup.{Setup}
 use Rattle.crib_plan.specs.declared.plan.Next.TheVariants.{End, To}
 use Rattle.crib_plan.specs.declared.plan.Node.{Node}
 use Rattle.crib_plan.specs.declared.plan.Node.TheVariants.{Play, See}
 use Rattle.crib_know.specs.Knowledge.{played_events}
 use Rattle.crib_know.specs.Hidden.{CanShow}
+use Rattle.crib_problem.proofs.ExampleProblems.{level}
 use Rattle.crib_check.proofs.SureExamples.{at_29}
 use Rattle.crib_search.specs.Trees.{Tree, Finish, Plays, Sees, branches_of, joined_tree, same_tree, plan_of_tree}
 use Rattle.crib_search.specs.Finder.{Found, Tries, OwnerFinds, LacksBranch, BranchFinds, FindsFor, FindsTree, Finds, IsFound, IsReachedBehind}
@@ -75,19 +73,6 @@ later_branch_differs = refl
 pub ranks_and_then_a_go : letters
     ≡ Seen 1 ∷ Seen 2 ∷ Seen 3 ∷ Seen 4 ∷ Seen 5 ∷ Seen 6 ∷ Seen 7 ∷ Seen 8 ∷ Seen 9 ∷ Seen 10 ∷ Seen 11 ∷ Seen 12 ∷ Seen 13 ∷ Go ∷ []
 ranks_and_then_a_go = refl
-
--- the owner holds TC 9C 2C 8C
-abbrev level : Setup
-level = record {
-  version = One;
-  dealer = Opponent;
-  scores = record { owner = 0; opponent = 0 };
-  starter = 10;
-  hold = 36 ∷ 32 ∷ 4 ∷ 28 ∷ [];
-  thrown = 15 ∷ 23 ∷ [];
-  goal = Win;
-  played = [];
-}
 
 -- after TC and a ten of the opponent, each of his other cards fits
 pub others_at_20 : options level (Theirs (Seen 10) ∷ Own (move.Card 36) ∷ []) ≡ 32 ∷ 4 ∷ 28 ∷ []

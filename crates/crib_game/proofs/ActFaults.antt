@@ -53,10 +53,10 @@ right_move hands side (move.Card card) past place may =
 right_move hands side move.Go past place may = none_cond (list_any (fits past) (cards_left hands side past)) (MustPlay place) None may refl
 
 -- an act of the side that is asked, which may take this turn and has no remark
-pub record IsRight (strays : Judge) (start : Start) (hands : Hands) (act : Act) (past : List Move) : Type 0 where
+pub record IsRight (judge : Judge) (start : Start) (hands : Hands) (act : Act) (past : List Move) : Type 0 where
   pub side : act.side ≡ mover (pone_of start) (letters_of past)
   pub may : MayCome start hands act.what past
-  pub follows : strays act past ≡ Fine
+  pub follows : judge act past ≡ Fine
 
 first_none : (remark : Remark) (done asked : Bool) (wrong : Option GameFault) (place : ℕ) → first_fault remark done asked wrong place ≡ None →
     (remark ≡ Fine) × (done ≡ false) × (asked ≡ true) × (wrong ≡ None)
@@ -68,11 +68,11 @@ first_none Astray true asked wrong place e = cc
 first_none Astray false true wrong place e = cc
 first_none Astray false false wrong place e = cc
 
-pub act_right : (strays : Judge) (start : Start) (hands : Hands) (act : Act) (past : List Move) (place : ℕ) → act_fault strays start hands act past place
-    ≡ None → IsRight strays start hands act past
-act_right strays start hands act past place e =
+pub act_right : (judge : Judge) (start : Start) (hands : Hands) (act : Act) (past : List Move) (place : ℕ) → act_fault judge start hands act past place
+    ≡ None → IsRight judge start hands act past
+act_right judge start hands act past place e =
     let m = mover (pone_of start) (letters_of past) in
-    let none = first_none (strays act past) (is_done start (letters_of past)) (same_side act.side m) (move_fault hands act.side act.what past place) place
+    let none = first_none (judge act past) (is_done start (letters_of past)) (same_side act.side m) (move_fault hands act.side act.what past place) place
     e in
     let side : act.side ≡ m = same_is act.side m none.2 in
     let T : Side → Type 0 = λ x. MayTake hands x act.what past in
@@ -82,10 +82,10 @@ act_right strays start hands act past place e =
       follows = none.0;
     }
 
-right_act : (strays : Judge) (start : Start) (hands : Hands) (turn : Move) (past : List Move) (place : ℕ) → strays (act_by (pone_of start) turn past) past
+right_act : (judge : Judge) (start : Start) (hands : Hands) (turn : Move) (past : List Move) (place : ℕ) → judge (act_by (pone_of start) turn past) past
     ≡ Fine → MayCome start hands turn past →
-    act_fault strays start hands (act_by (pone_of start) turn past) past place ≡ None
-right_act strays start hands turn past place follows may =
+    act_fault judge start hands (act_by (pone_of start) turn past) past place ≡ None
+right_act judge start hands turn past place follows may =
     let m = mover (pone_of start) (letters_of past) in
     λ i. first_fault (follows i) (may.not_done i) (same_self m i) (right_move hands m turn past place may.may_take i) place
 
@@ -95,67 +95,67 @@ option_or_none (Some fault) later e = cc
 option_or_none None later e = (refl, e)
 
 -- if no act is refused, each was taken by the rules
-pub legal_acts : (strays : Judge) (start : Start) (hands : Hands) (acts : List Act) → acts_fault strays start hands acts ≡ None →
+pub legal_acts : (judge : Judge) (start : Start) (hands : Hands) (acts : List Act) → acts_fault judge start hands acts ≡ None →
     AreLegal start hands (moves_of acts)
-legal_acts strays start hands [] e = tt
-legal_acts strays start hands (act ∷ before) e =
+legal_acts judge start hands [] e = tt
+legal_acts judge start hands (act ∷ before) e =
     let past = filled_moves start (moves_of before) in
-    let parts = option_or_none (acts_fault strays start hands before) (act_fault strays start hands act past (length before + 1)) e in
-    (legal_acts strays start hands before parts.0, (act_right strays start hands act past (length before + 1) parts.1).may)
+    let parts = option_or_none (acts_fault judge start hands before) (act_fault judge start hands act past (length before + 1)) e in
+    (legal_acts judge start hands before parts.0, (act_right judge start hands act past (length before + 1) parts.1).may)
 
 -- and the acts are the visible turns of their filled record
-pub acts_filled : (strays : Judge) (start : Start) (hands : Hands) (acts : List Act) → IsStart start → IsDealt hands →
-    acts_fault strays start hands acts ≡ None → acts_of (pone_of start) (filled_moves start (moves_of acts)) ≡ acts
-acts_filled strays start hands [] is dealt e = refl
-acts_filled strays start hands (act ∷ before) is dealt e =
+pub acts_filled : (judge : Judge) (start : Start) (hands : Hands) (acts : List Act) → IsStart start → IsDealt hands →
+    acts_fault judge start hands acts ≡ None → acts_of (pone_of start) (filled_moves start (moves_of acts)) ≡ acts
+acts_filled judge start hands [] is dealt e = refl
+acts_filled judge start hands (act ∷ before) is dealt e =
     let pone = pone_of start in
     let past = filled_moves start (moves_of before) in
-    let parts = option_or_none (acts_fault strays start hands before) (act_fault strays start hands act past (length before + 1)) e in
-    let right = act_right strays start hands act past (length before + 1) parts.1 in
+    let parts = option_or_none (acts_fault judge start hands before) (act_fault judge start hands act past (length before + 1)) e in
+    let right = act_right judge start hands act past (length before + 1) parts.1 in
     let same : act_by pone act.what past ≡ act = λ i. record { side = sym right.side i; what = act.what } in
-    acts_more start hands act.what (moves_of before) is dealt (legal_acts strays start hands (act ∷ before) e)
-    ∙ ap (λ (rest : List Act). act_by pone act.what past ∷ rest) (acts_filled strays start hands before is dealt parts.0)
+    acts_more start hands act.what (moves_of before) is dealt (legal_acts judge start hands (act ∷ before) e)
+    ∙ ap (λ (rest : List Act). act_by pone act.what past ∷ rest) (acts_filled judge start hands before is dealt parts.0)
     ∙ ap (λ (first : Act). first ∷ before) same
 
 -- and there is no remark on them
-silent_stays : (strays : Judge) (n : ℕ) (start : Start) (past : List Move) → NoneStrays strays (pone_of start) past →
-    NoneStrays strays (pone_of start) (with_silent_moves n start past)
-silent_stays strays zero start past none = none
-silent_stays strays (suc n) start past none =
-    let N : List Move → Type 0 = λ moves. NoneStrays strays (pone_of start) moves in
+silent_stays : (judge : Judge) (n : ℕ) (start : Start) (past : List Move) → NoneStrays judge (pone_of start) past →
+    NoneStrays judge (pone_of start) (with_silent_moves n start past)
+silent_stays judge zero start past none = none
+silent_stays judge (suc n) start past none =
+    let N : List Move → Type 0 = λ moves. NoneStrays judge (pone_of start) moves in
     elim (cases_Bool (is_silent_next start (letters_of past))) [
       | inl s ↦
           subst N (sym (silent_go n start past s))
-          (silent_stays strays n start (move.Go ∷ past)
+          (silent_stays judge n start (move.Go ∷ past)
           (none, λ heard. absurd (both_ways (is_visible (pone_of start) Go (letters_of past)) (silent_unheard start past s) heard)))
       | inr s ↦ subst N (sym (silent_stop (suc n) start past s)) none
     ]
 
-pub acts_stay : (strays : Judge) (start : Start) (hands : Hands) (acts : List Act) → acts_fault strays start hands acts ≡ None →
-    NoneStrays strays (pone_of start) (filled_moves start (moves_of acts))
-acts_stay strays start hands [] e = tt
-acts_stay strays start hands (act ∷ before) e =
+pub acts_stay : (judge : Judge) (start : Start) (hands : Hands) (acts : List Act) → acts_fault judge start hands acts ≡ None →
+    NoneStrays judge (pone_of start) (filled_moves start (moves_of acts))
+acts_stay judge start hands [] e = tt
+acts_stay judge start hands (act ∷ before) e =
     let past = filled_moves start (moves_of before) in
-    let parts = option_or_none (acts_fault strays start hands before) (act_fault strays start hands act past (length before + 1)) e in
-    let right = act_right strays start hands act past (length before + 1) parts.1 in
+    let parts = option_or_none (acts_fault judge start hands before) (act_fault judge start hands act past (length before + 1)) e in
+    let right = act_right judge start hands act past (length before + 1) parts.1 in
     let same : act_by (pone_of start) act.what past ≡ act = λ i. record { side = sym right.side i; what = act.what } in
-    silent_stays strays 3 start (act.what ∷ past) (acts_stay strays start hands before parts.0, λ _. ap (λ (x : Act). strays x past) same ∙ right.follows)
+    silent_stays judge 3 start (act.what ∷ past) (acts_stay judge start hands before parts.0, λ _. ap (λ (x : Act). judge x past) same ∙ right.follows)
 
 -- the visible turns of a legal record are not refused, if there is no remark on them
-pub no_fault : (strays : Judge) (start : Start) (hands : Hands) (played : List Move) → IsStart start → IsDealt hands → IsLegal start hands played →
-    NoneStrays strays (pone_of start) played → acts_fault strays start hands (acts_of (pone_of start) played) ≡ None
-no_fault strays start hands [] is dealt legal none = refl
-no_fault strays start hands (turn ∷ past) is dealt legal none =
+pub no_fault : (judge : Judge) (start : Start) (hands : Hands) (played : List Move) → IsStart start → IsDealt hands → IsLegal start hands played →
+    NoneStrays judge (pone_of start) played → acts_fault judge start hands (acts_of (pone_of start) played) ≡ None
+no_fault judge start hands [] is dealt legal none = refl
+no_fault judge start hands (turn ∷ past) is dealt legal none =
     let pone = pone_of start in
     let before = acts_of pone past in
-    let earlier = no_fault strays start hands past is dealt legal.0 none.0 in
+    let earlier = no_fault judge start hands past is dealt legal.0 none.0 in
     elim (cases_Bool (is_visible pone (letter_of turn) (letters_of past))) [
       | inl v ↦
           let same : filled_moves start (moves_of before) ≡ past = filled_before start hands turn past is dealt legal.0 legal.1 v in
-          ap (acts_fault strays start hands) (acts_visible pone turn past v)
-          ∙ ap (λ (fault : Option GameFault). option_or fault (act_fault strays start hands (act_by pone turn past) (filled_moves start (moves_of before))
+          ap (acts_fault judge start hands) (acts_visible pone turn past v)
+          ∙ ap (λ (fault : Option GameFault). option_or fault (act_fault judge start hands (act_by pone turn past) (filled_moves start (moves_of before))
           (length before + 1))) earlier
-          ∙ ap (λ (seen : List Move). act_fault strays start hands (act_by pone turn past) seen (length before + 1)) same
-          ∙ right_act strays start hands turn past (length before + 1) (none.1 v) legal.1
-      | inr v ↦ ap (acts_fault strays start hands) (acts_silent pone turn past v) ∙ earlier
+          ∙ ap (λ (seen : List Move). act_fault judge start hands (act_by pone turn past) seen (length before + 1)) same
+          ∙ right_act judge start hands turn past (length before + 1) (none.1 v) legal.1
+      | inr v ↦ ap (acts_fault judge start hands) (acts_silent pone turn past v) ∙ earlier
     ]

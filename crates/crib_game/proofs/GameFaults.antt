@@ -119,11 +119,11 @@ pub first_seen_none : (place : Option ℕ) → deal_fault place ≡ None → pla
 first_seen_none None e = refl
 first_seen_none (Some place) e = cc
 
-pub no_fault_in_acts : (strays : Judge) (problem : Setup) (game : Game) → first_seen (known_cards problem) 1 (six_cards game.opp) ≡ None →
-    acts_fault strays (start_of problem) (hands_of problem game.opp) (acts_back game) ≡ None →
-    game_fault_by strays problem game ≡ few_fault problem.played game.acts.items
-no_fault_in_acts strays problem game none clear =
-    ap (λ (place : Option ℕ). option_or (deal_fault place) (option_or (acts_fault strays (start_of problem) (hands_of problem game.opp) (acts_back game))
+pub no_fault_in_acts : (judge : Judge) (problem : Setup) (game : Game) → first_seen (known_cards problem) 1 (six_cards game.opp) ≡ None →
+    acts_fault judge (start_of problem) (hands_of problem game.opp) (acts_back game) ≡ None →
+    game_fault_by judge problem game ≡ few_fault problem.played game.acts.items
+no_fault_in_acts judge problem game none clear =
+    ap (λ (place : Option ℕ). option_or (deal_fault place) (option_or (acts_fault judge (start_of problem) (hands_of problem game.opp) (acts_back game))
     (few_fault problem.played game.acts.items))) none
     ∙ ap (λ (first : Option GameFault). option_or first (few_fault problem.played game.acts.items)) clear
 
@@ -146,15 +146,15 @@ pub accepted_is : {A : Type 0} (found : Option GameFault) (given value : A) → 
 accepted_is found given value e is = ap Ok is ∙ ap (λ (f : Option GameFault). unless_fault f value) (sym e)
 
 -- what holds for a game that is not refused
-pub record IsClear (strays : Judge) (problem : Setup) (game : Game) : Type 0 where
+pub record IsClear (judge : Judge) (problem : Setup) (game : Game) : Type 0 where
   pub unseen : first_seen (known_cards problem) 1 (six_cards game.opp) ≡ None
-  pub acts : acts_fault strays (start_of problem) (hands_of problem game.opp) (acts_back game) ≡ None
+  pub acts : acts_fault judge (start_of problem) (hands_of problem game.opp) (acts_back game) ≡ None
   pub enough : length problem.played ≤ length (acts_back game)
 
-pub clear_parts : (strays : Judge) (problem : Setup) (game : Game) → game_fault_by strays problem game ≡ None → IsClear strays problem game
-clear_parts strays problem game e =
+pub clear_parts : (judge : Judge) (problem : Setup) (game : Game) → game_fault_by judge problem game ≡ None → IsClear judge problem game
+clear_parts judge problem game e =
     let first = first_seen (known_cards problem) 1 (six_cards game.opp) in
-    let acts = acts_fault strays (start_of problem) (hands_of problem game.opp) (acts_back game) in
+    let acts = acts_fault judge (start_of problem) (hands_of problem game.opp) (acts_back game) in
     let parts = option_or_none (deal_fault first) (option_or acts (few_fault problem.played game.acts.items)) e in
     let rest = option_or_none acts (few_fault problem.played game.acts.items) parts.1 in
     let enough = acts_enough problem.played game.acts.items rest.1 in
@@ -162,14 +162,14 @@ clear_parts strays problem game e =
     record { unseen = first_seen_none first parts.0; acts = rest.0; enough = omega (arith, enough, long) }
 
 -- if no act is refused, the opponent's cards among the acts are of his hold
-theirs_held : (strays : Judge) (start : Start) (hands : Hands) (acts : List Act) → acts_fault strays start hands acts ≡ None → (card : ℕ) →
+theirs_held : (judge : Judge) (start : Start) (hands : Hands) (acts : List Act) → acts_fault judge start hands acts ≡ None → (card : ℕ) →
     has (cards_by Opponent acts) card ≡ true → has hands.opponent card ≡ true
-theirs_held strays start hands [] e card h = absurd (let no : false ≡ true = h in cc)
-theirs_held strays start hands (act ∷ before) e card h =
+theirs_held judge start hands [] e card h = absurd (let no : false ≡ true = h in cc)
+theirs_held judge start hands (act ∷ before) e card h =
     let past = filled_moves start (moves_of before) in
-    let parts = option_or_none (acts_fault strays start hands before) (act_fault strays start hands act past (length before + 1)) e in
-    let right = act_right strays start hands act past (length before + 1) parts.1 in
-    by_act (mover (pone_of start) (letters_of past)) act.side act.what right.side right.may.may_take (theirs_held strays start hands before parts.0 card) h
+    let parts = option_or_none (acts_fault judge start hands before) (act_fault judge start hands act past (length before + 1)) e in
+    let right = act_right judge start hands act past (length before + 1) parts.1 in
+    by_act (mover (pone_of start) (letters_of past)) act.side act.what right.side right.may.may_take (theirs_held judge start hands before parts.0 card) h
   where
     by_act : (who side : Side) (what : Move) → side ≡ who → MayTake hands who what (filled_moves start (moves_of before)) →
         (has (cards_by Opponent before) card ≡ true → has hands.opponent card ≡ true) → has (cards_by Opponent (record { side = side; what = what } ∷ before))
@@ -195,48 +195,48 @@ cards_more (act ∷ later) before card h = by_act act.side act.what (cards_more 
     by_act Opponent move.Go rest = rest
     by_act Opponent (move.Card first) rest = has_there first card (cards_by Opponent (later ++ before)) rest
 
-fixed_held : (strays : Judge) (problem : Setup) (game : Game) → acts_fault strays (start_of problem) (hands_of problem game.opp) (acts_back game) ≡ None →
+fixed_held : (judge : Judge) (problem : Setup) (game : Game) → acts_fault judge (start_of problem) (hands_of problem game.opp) (acts_back game) ≡ None →
     BeginsAsPlayed problem (acts_back game) →
     list_all (has game.opp.hold) (fixed_cards problem) ≡ true
-fixed_held strays problem game e begins =
+fixed_held judge problem game e begins =
     all_from (has game.opp.hold) (fixed_cards problem)
-    (λ card h. theirs_held strays (start_of problem) (hands_of problem game.opp) (acts_back game) e card
+    (λ card h. theirs_held judge (start_of problem) (hands_of problem game.opp) (acts_back game) e card
     (ap (λ (acts : List Act). has (cards_by Opponent acts) card) begins.parts ∙ cards_more begins.later (played_back problem) card h))
 
 -- if a game is not refused, its filled record is a record of it
-pub record_is : (strays : Judge) (problem : Setup) (game : Game) → IsSetup problem → AreSixCards game.opp →
-    ((played : List Move) → NoneStrays strays (pone_of (start_of problem)) played → NoneStrays (by_rules problem) (pone_of (start_of problem)) played) →
-    game_fault_by strays problem game ≡ None → IsRecordOf problem game (record_of problem game)
-record_is strays problem game is six plays e =
+pub record_is : (judge : Judge) (problem : Setup) (game : Game) → IsSetup problem → AreSixCards game.opp →
+    ((played : List Move) → NoneStrays judge (pone_of (start_of problem)) played → NoneStrays (by_rules problem) (pone_of (start_of problem)) played) →
+    game_fault_by judge problem game ≡ None → IsRecordOf problem game (record_of problem game)
+record_is judge problem game is six plays e =
     let start = start_of problem in
     let hands = hands_of problem game.opp in
-    let clear = clear_parts strays problem game e in
+    let clear = clear_parts judge problem game e in
     let deal = deal_is problem game.opp six clear.unseen in
     let dealt = hands_dealt problem is game.opp deal in
-    let filled = acts_filled strays start hands (acts_back game) (started problem is) dealt clear.acts in
+    let filled = acts_filled judge start hands (acts_back game) (started problem is) dealt clear.acts in
     let A : List Act → Type 0 = λ acts. AreAsPlayed problem.played acts in
     let as_played = subst A filled (none_to problem (record_of problem game)
-    (plays (record_of problem game) (acts_stay strays start hands (acts_back game) clear.acts))) in
+    (plays (record_of problem game) (acts_stay judge start hands (acts_back game) clear.acts))) in
     let begins = enough_begin problem (acts_back game) as_played clear.enough in
     record {
-      deal = record { deal = deal; fixed = fixed_held strays problem game clear.acts begins };
-      legal = legal_filled start hands (moves_of (acts_back game)) dealt (legal_acts strays start hands (acts_back game) clear.acts);
+      deal = record { deal = deal; fixed = fixed_held judge problem game clear.acts begins };
+      legal = legal_filled start hands (moves_of (acts_back game)) dealt (legal_acts judge start hands (acts_back game) clear.acts);
       acts = filled;
       begins = begins;
     }
 
 -- if a game has a legal record without remarks, it is not refused
-pub no_fault_by : (strays : Judge) (problem : Setup) (game : Game) (played : List Move) → IsSetup problem → IsRecordOf problem game played →
-    NoneStrays strays (pone_of (start_of problem)) played → game_fault_by strays problem game ≡ None
-no_fault_by strays problem game played is of stays =
+pub no_fault_by : (judge : Judge) (problem : Setup) (game : Game) (played : List Move) → IsSetup problem → IsRecordOf problem game played →
+    NoneStrays judge (pone_of (start_of problem)) played → game_fault_by judge problem game ≡ None
+no_fault_by judge problem game played is of stays =
     let start = start_of problem in
     let hands = hands_of problem game.opp in
     let none = deal_unseen problem game.opp of.deal.deal in
     let dealt = hands_dealt problem is game.opp of.deal.deal in
     let enough = (begin_played problem (acts_back game) of.begins).1 in
     let long = length-reverse game.acts.items in
-    no_fault_in_acts strays problem game none
-    (ap (acts_fault strays start hands) (sym of.acts) ∙ no_fault strays start hands played (started problem is) dealt of.legal stays)
+    no_fault_in_acts judge problem game none
+    (ap (acts_fault judge start hands) (sym of.acts) ∙ no_fault judge start hands played (started problem is) dealt of.legal stays)
     ∙ enough_acts problem.played game.acts.items (omega (arith, enough, long))
 
 -- there is no remark on a record of the game by the opening alone

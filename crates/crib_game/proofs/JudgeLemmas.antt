@@ -99,13 +99,13 @@ pub shows_filled : (table : Standing) (start : Start) (seen : List Move) → tab
     table ≡ standing_after start (letters_of (filled_moves start seen))
 shows_filled table start seen shows = shows ∙ ap (standing_after start) (sym (letters_filled start seen))
 
-fault_is : (strays : Judge) (table : Standing) (start : Start) (hands : Hands) (act : Act) (seen : List Move) (place : ℕ) → AreCards hands →
+fault_is : (judge : Judge) (table : Standing) (start : Start) (hands : Hands) (act : Act) (seen : List Move) (place : ℕ) → AreCards hands →
     table ≡ standing_after start (filled_record start (letters_of seen)) →
-    fault_at (strays act (filled_moves start seen)) table (set_of (cards_left hands act.side seen)) act place ≡ act_fault strays start hands act
+    fault_at (judge act (filled_moves start seen)) table (set_of (cards_left hands act.side seen)) act place ≡ act_fault judge start hands act
     (filled_moves start seen) place
-fault_is strays table start hands act seen place are shows =
+fault_is judge table start hands act seen place are shows =
     let past = filled_moves start seen in
-    let remark = strays act past in
+    let remark = judge act past in
     let done = is_done start (letters_of past) in
     let who = mover (pone_of start) (letters_of past) in
     ap (λ (x : Standing). fault_at remark x (set_of (cards_left hands act.side seen)) act place) (shows_filled table start seen shows)
@@ -114,18 +114,18 @@ fault_is strays table start hands act seen place are shows =
     ∙ ap (λ (wrong : Option GameFault). first_fault remark done (same_side act.side who) wrong place) (move_step hands act.side act.what past place are)
 
 -- ---- the first refusal stays the first
-pub fault_stays : (strays : Judge) (start : Start) (hands : Hands) (later before : List Act) (fault : GameFault) →
-    acts_fault strays start hands before ≡ Some fault → acts_fault strays start hands (later ++ before) ≡ Some fault
-fault_stays strays start hands [] before fault e = e
-fault_stays strays start hands (act ∷ later) before fault e =
-    ap (λ (earlier : Option GameFault). option_or earlier (act_fault strays start hands act (filled_moves start (moves_of (later ++ before)))
-    (length (later ++ before) + 1))) (fault_stays strays start hands later before fault e)
+pub fault_stays : (judge : Judge) (start : Start) (hands : Hands) (later before : List Act) (fault : GameFault) →
+    acts_fault judge start hands before ≡ Some fault → acts_fault judge start hands (later ++ before) ≡ Some fault
+fault_stays judge start hands [] before fault e = e
+fault_stays judge start hands (act ∷ later) before fault e =
+    ap (λ (earlier : Option GameFault). option_or earlier (act_fault judge start hands act (filled_moves start (moves_of (later ++ before)))
+    (length (later ++ before) + 1))) (fault_stays judge start hands later before fault e)
 
-pub fault_here : (strays : Judge) (start : Start) (hands : Hands) (act : Act) (before : List Act) (fault : Option GameFault) →
-    acts_fault strays start hands before ≡ None →
-    act_fault strays start hands act (filled_moves start (moves_of before)) (length before + 1) ≡ fault → acts_fault strays start hands (act ∷ before) ≡ fault
-fault_here strays start hands act before fault none is =
-    ap (λ (earlier : Option GameFault). option_or earlier (act_fault strays start hands act (filled_moves start (moves_of before)) (length before + 1))) none
+pub fault_here : (judge : Judge) (start : Start) (hands : Hands) (act : Act) (before : List Act) (fault : Option GameFault) →
+    acts_fault judge start hands before ≡ None →
+    act_fault judge start hands act (filled_moves start (moves_of before)) (length before + 1) ≡ fault → acts_fault judge start hands (act ∷ before) ≡ fault
+fault_here judge start hands act before fault none is =
+    ap (λ (earlier : Option GameFault). option_or earlier (act_fault judge start hands act (filled_moves start (moves_of before)) (length before + 1))) none
     ∙ is
 
 -- ---- the acts so far
@@ -181,12 +181,12 @@ module _ {judge : Judge} {start : Start} {hands : Hands} {walk : JudgedGame} {be
 pub reverse_more : (acts : List Act) (i : ℕ) (act : Act) → i < length acts → reverse (take (i + 1) acts) ≡ get_or acts i act ∷ reverse (take i acts)
 reverse_more acts i act lt = ap reverse (take_more acts i act lt) ∙ reverse-append (take i acts) (get_or acts i act ∷ [])
 
-pub fault_all : (strays : Judge) (start : Start) (hands : Hands) (acts : List Act) (i : ℕ) (act : Act) (fault : GameFault) → i < length acts →
+pub fault_all : (judge : Judge) (start : Start) (hands : Hands) (acts : List Act) (i : ℕ) (act : Act) (fault : GameFault) → i < length acts →
     act ≡ get_or acts i act →
-    acts_fault strays start hands (act ∷ reverse (take i acts)) ≡ Some fault → acts_fault strays start hands (reverse acts) ≡ Some fault
-fault_all strays start hands acts i act fault lt at e =
-    ap (acts_fault strays start hands) (all_from_back acts i act lt at)
-    ∙ fault_stays strays start hands (reverse (drop (i + 1) acts)) (act ∷ reverse (take i acts))
+    acts_fault judge start hands (act ∷ reverse (take i acts)) ≡ Some fault → acts_fault judge start hands (reverse acts) ≡ Some fault
+fault_all judge start hands acts i act fault lt at e =
+    ap (acts_fault judge start hands) (all_from_back acts i act lt at)
+    ∙ fault_stays judge start hands (reverse (drop (i + 1) acts)) (act ∷ reverse (take i acts))
     fault e
 
 pub length_before : (acts : List Act) (i : ℕ) → i < length acts → length (reverse (take i acts)) ≡ i

@@ -25,10 +25,10 @@ use Rattle.crib_game.proofs.ActFaults.{legal_acts, acts_filled, acts_stay, no_fa
 use Rattle.crib_plan.proofs.LeadsTo.{or_comm3}
 
 pub faultless_law : FaultlessLaw
-faultless_law strays start hands acts started dealt e = record {
-  legal = legal_filled start hands (moves_of acts) dealt (legal_acts strays start hands acts e);
-  visible = acts_filled strays start hands acts started dealt e;
-  follow = acts_stay strays start hands acts e;
+faultless_law judge start hands acts started dealt e = record {
+  legal = legal_filled start hands (moves_of acts) dealt (legal_acts judge start hands acts e);
+  visible = acts_filled judge start hands acts started dealt e;
+  follow = acts_stay judge start hands acts e;
 }
 
 pub begins_law : BeginsLaw
@@ -52,7 +52,7 @@ first_version_law problem is one =
     }
 
 pub no_fault_law : NoFaultLaw
-no_fault_law strays start hands played is none = no_fault strays start hands played is.started is.dealt is.legal none
+no_fault_law judge start hands played is none = no_fault judge start hands played is.started is.dealt is.legal none
 
 -- ---- the first refusal
 option_or_some : (earlier later : Option GameFault) (fault : GameFault) → option_or earlier later ≡ Some fault → (earlier ≡ Some fault) ⊎
@@ -60,9 +60,9 @@ option_or_some : (earlier later : Option GameFault) (fault : GameFault) → opti
 option_or_some (Some first) later fault e = inl e
 option_or_some None later fault e = inr (refl, e)
 
-first_fault_from : (strays : Judge) (start : Start) (hands : Hands) (act : Act) (before : List Act) (fault : GameFault) →
-    IsFirst strays start hands before fault → IsFirst strays start hands (act ∷ before) fault
-first_fault_from strays start hands act before fault is = record {
+first_fault_from : (judge : Judge) (start : Start) (hands : Hands) (act : Act) (before : List Act) (fault : GameFault) →
+    IsFirst judge start hands before fault → IsFirst judge start hands (act ∷ before) fault
+first_fault_from judge start hands act before fault is = record {
   later = act ∷ is.later;
   act = is.act;
   before = is.before;
@@ -72,11 +72,11 @@ first_fault_from strays start hands act before fault is = record {
 }
 
 pub first_fault_law : FirstFaultLaw
-first_fault_law strays start hands [] fault e = cc
-first_fault_law strays start hands (act ∷ before) fault e =
-    elim (option_or_some (acts_fault strays start hands before) (act_fault strays start hands act (filled_moves start (moves_of before)) (length before + 1))
+first_fault_law judge start hands [] fault e = cc
+first_fault_law judge start hands (act ∷ before) fault e =
+    elim (option_or_some (acts_fault judge start hands before) (act_fault judge start hands act (filled_moves start (moves_of before)) (length before + 1))
     fault e) [
-      | inl earlier ↦ first_fault_from strays start hands act before fault (first_fault_law strays start hands before fault earlier)
+      | inl earlier ↦ first_fault_from judge start hands act before fault (first_fault_law judge start hands before fault earlier)
       | inr now ↦ record { later = []; act = act; before = before; here = refl; none_before = now.0; of_the_act = now.1 }
     ]
 

@@ -9,15 +9,19 @@ ghost use Rattle.crib_play.specs.Record.{count_of};
 ghost use Rattle.crib_play.specs.Score.{asks};
 ghost use Rattle.crib_play.specs.Standing.{StandsFor};
 ghost use Rattle.crib_problem.specs.Setup.{IsSetup, start_of};
-ghost use Rattle.crib_game.specs.Replay.{count_with, move_fault_at, turn_fault};
-ghost use Rattle.crib_game.specs.Private.Judging.{is_over, held_cards_of, held_cards_after, fault_at, MayShowAt};
+ghost use Rattle.crib_game.specs.Replay.{count_with, move_fault_at, outcome_if_done, show_if_done, turn_fault};
+ghost use Rattle.crib_game.specs.Private.Judging.{is_over, held_cards_of, held_cards_after, fault_at, full_at};
+ghost use Rattle.crib_game.specs.Private.Judging.{MayShowAt};
 
 use crate::fault::GameFault;
 use crate::remark::Remark;
+use crate::replays::full_with;
 use crate::report::Row;
+use arrayvec::ArrayVec;
 use crib_cards::{Act, Card, CardSet, Dealt, Move, Side};
 use crib_play::{Round, Turn, any_fits, fits};
 use crib_problem::Problem;
+use crib_show::{Outcome, ShowRow, outcome_with, show_rows};
 
 /// The cards that each side has left.
 #[derive(Clone, Copy, Debug)]
@@ -130,6 +134,26 @@ impl JudgedGame {
             points,
             scores: self.round.scores(),
         }
+    }
+
+    // The hands that the show counts, and the outcome. Until the deal is done there are none.
+    pub(crate) fn end(
+        &self,
+        problem: &Problem,
+        dealt: &Dealt,
+    ) -> (ArrayVec<ShowRow, 3>, Option<Outcome>)
+        ensures show { result.0.items ≡
+            show_if_done (is_over self.now.round.asked) (full_at problem.now dealt.now self.now.round) }
+        ensures outcome { result.1 ≡
+            outcome_if_done (is_over self.now.round.asked) (full_at problem.now dealt.now self.now.round) }
+    {
+        if !self.is_over() {
+            return (ArrayVec::new(), None);
+        }
+        let full = full_with(problem, dealt, self.round.scores());
+        let rows = show_rows(&full);
+        let outcome = outcome_with(&full, &rows);
+        (rows, Some(outcome))
     }
 }
 

@@ -16,14 +16,8 @@ use Rattle.crib_game.specs.declared.game.Game.{Game}
 use Rattle.crib_game.specs.declared.judging.JudgedGame.{JudgedGame}
 use Rattle.crib_game.specs.declared.report.Row.{Row}
 use Rattle.crib_game.specs.Replay.{Judge, acts_back, acts_fault, act_row, first_seen, game_fault_by, next_played}
-use Rattle.crib_game.specs.Replay.{remark_of}
 use Rattle.crib_game.specs.Spelling.{AreSixCards}
 use Rattle.crib_game.specs.Private.Judging.{left_by}
-
--- the remark on an act after a record, by the opening and by a test whether the act strays
-abbrev pub by_opening : (Act → List Move → Bool) → Setup → Judge
-by_opening astray problem act past =
-    remark_of (next_played problem.played (pone_of (start_of problem)) past) (astray act past) act
 
 -- the opponent's six cards are not refused
 pub record CanBeJudged (problem : Setup) (dealt : Dealt) : Type 0 where

@@ -1,5 +1,5 @@
 -- Two knowledges compare as equal exactly where they are the same.
-use Rattle.std.proofs.Common.{ℕ, List, sym, ap, subst, ◌≡◌}
+use Rattle.std.proofs.Common.{ℕ, List, sym, subst, ◌≡◌}
 use Rattle.std.specs.Bool.{Decides}
 use Rattle.std.proofs.lemmas.Bool.Decides.{Decides-eqb, Decides-and, Decides-like}
 use Rattle.crib_cards.specs.Sets.{IsCardSet}
@@ -11,21 +11,8 @@ use Rattle.crib_know.specs.Knowledge.{Knowledge}
 use Rattle.crib_know.specs.Hidden.{IsKnown}
 use Rattle.crib_know.specs.contracts.know.KnowPartialEq.TheImpl as compared
 
--- what is left to the owner, what is unseen and what is known are sets
-own_left_set : (know : Knowledge) → IsKnown know → IsCardSet know.own_left
-own_left_set know known =
-    let S : List ℕ → Type 0 = λ cards. IsCardSet cards in
-    subst S (sym (ap (λ (k : Knowledge). k.own_left) known.knows.knowledge)) (IsCardSet-set_of _)
-
-unseen_set : (know : Knowledge) → IsKnown know → IsCardSet know.unseen
-unseen_set know known =
-    let S : List ℕ → Type 0 = λ cards. IsCardSet cards in
-    subst S (sym (ap (λ (k : Knowledge). k.unseen) known.knows.knowledge)) (IsCardSet-set_where _)
-
-fixed_set : (know : Knowledge) → IsKnown know → IsCardSet know.fixed
-fixed_set know known =
-    let S : List ℕ → Type 0 = λ cards. IsCardSet cards in
-    subst S (sym (ap (λ (k : Knowledge). k.fixed) known.knows.knowledge)) (IsCardSet-set_of _)
+is_set : (cards same : List ℕ) → cards ≡ same → IsCardSet same → IsCardSet cards
+is_set cards same e is = let S : List ℕ → Type 0 = λ xs. IsCardSet xs in subst S (sym e) is
 
 pub same_knows : (one other : Knowledge) → IsKnown one → IsKnown other → Decides (compared.ghosts.eq one other) (one ≡ other)
 same_knows one other known known_other =
@@ -39,17 +26,21 @@ same_knows one other known known_other =
       unseen = h.0.1.1.0 i;
       fixed = h.0.1.1.1 i;
     })
-    (λ e. (
-      (
-        ap (λ (k : Knowledge). k.round) e,
-        (ap (λ (k : Knowledge). k.own_left) e, (ap (λ (k : Knowledge). k.unseen) e, ap (λ (k : Knowledge). k.fixed) e)),
-      ),
-      (ap (λ (k : Knowledge). k.ranks_seen) e, (ap (λ (k : Knowledge). k.opponent_left) e, ap (λ (k : Knowledge). k.least) e)),
-    ))
+    (λ e. ((λ i. (e i).round, (λ i. (e i).own_left, (λ i. (e i).unseen, λ i. (e i).fixed))), (λ i. (e i).ranks_seen, (λ i. (e i).opponent_left,
+    λ i. (e i).least))))
     (Decides-and _ _
     (Decides-and _ _ (same_rounds one.round other.round)
-    (Decides-and _ _ (same_sets one.own_left other.own_left (own_left_set one known) (own_left_set other known_other))
-    (Decides-and _ _ (same_sets one.unseen other.unseen (unseen_set one known) (unseen_set other known_other))
-    (same_sets one.fixed other.fixed (fixed_set one known) (fixed_set other known_other)))))
+    (Decides-and _ _ (same_sets one.own_left other.own_left (own_left one known) (own_left other known_other))
+    (Decides-and _ _ (same_sets one.unseen other.unseen (unseen one known) (unseen other known_other))
+    (same_sets one.fixed other.fixed (fixed one known) (fixed other known_other)))))
     (Decides-and _ _ (same_counts one.ranks_seen other.ranks_seen)
     (Decides-and _ _ (Decides-eqb one.opponent_left other.opponent_left) (Decides-eqb one.least other.least))))
+  where
+    own_left : (know : Knowledge) → IsKnown know → IsCardSet know.own_left
+    own_left know known = is_set know.own_left _ (λ i. (known.knows.knowledge i).own_left) (IsCardSet-set_of _)
+
+    unseen : (know : Knowledge) → IsKnown know → IsCardSet know.unseen
+    unseen know known = is_set know.unseen _ (λ i. (known.knows.knowledge i).unseen) (IsCardSet-set_where _)
+
+    fixed : (know : Knowledge) → IsKnown know → IsCardSet know.fixed
+    fixed know known = is_set know.fixed _ (λ i. (known.knows.knowledge i).fixed) (IsCardSet-set_of _)

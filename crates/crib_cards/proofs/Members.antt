@@ -1,7 +1,8 @@
 -- Lemmas about the members of a list, and about lists with no number twice.
 use Rattle.std.proofs.Common.{◌≡◌, ◌⊎◌, ℕ, Bool, true, false, not, eqb, List, [], ◌∷◌, ◌++◌, refl, sym, ap, ◌∙◌, inl, inr, arith}
-use Rattle.std.specs.List.{list_all}
+use Rattle.std.specs.List.{All, list_all}
 use Rattle.std.proofs.lemmas.Bool.{and_parts, and_from, or_cases, or_parts, or_from, or_left, or_right, both_ways, not-true, eqb-true, eq-eqb}
+use Rattle.std.proofs.lemmas.List.Elements.{All-nil, All-cons}
 use Rattle.crib_cards.specs.Sets.{has, are_distinct}
 use Rattle.crib_cards.proofs.SetFacts.{has-append}
 use Rattle.crib_cards.specs.Cards.{IsCard, rank_of, IsRank}
@@ -37,6 +38,10 @@ all_has p (y ∷ xs) x all h =
 pub all_from : (p : ℕ → Bool) (xs : List ℕ) → ((x : ℕ) → has xs x ≡ true → p x ≡ true) → list_all p xs ≡ true
 all_from p [] each = refl
 all_from p (x ∷ xs) each = and_from (p x) (list_all p xs) (each x (has_here x xs)) (all_from p xs (λ y h. each y (has_there x y xs h)))
+
+pub all_cards : (xs : List ℕ) → AreCards xs → All IsCard xs
+all_cards [] are = All-nil IsCard
+all_cards (x ∷ xs) are = All-cons IsCard x xs (are x (has_here x xs)) (all_cards xs (λ y h. are y (has_there x y xs h)))
 
 pub rank_is : (card : ℕ) → IsCard card → IsRank (rank_of card)
 rank_is card is = (omega arith, omega arith)

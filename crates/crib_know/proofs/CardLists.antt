@@ -32,13 +32,6 @@ pub has_set_from : (p : ℕ → Bool) (card : ℕ) → IsCard card → p card �
 unfolding set_where
 has_set_from p card is e = has-filter_from p (range_with_len 0 52) card (has_range_from 0 52 card (omega arith) (omega arith)) e
 
-pub all_cards : (xs : List ℕ) → AreCards xs → All IsCard xs
-all_cards xs are = All-from_recursion IsCard xs (each xs are)
-  where
-    each : (ys : List ℕ) → AreCards ys → AllByRecursion IsCard ys
-    each [] are = tt
-    each (y ∷ ys) are = (are y (has_here y ys), each ys (λ k h. are k (has_there y k ys h)))
-
 -- what holds of the first number of a list and of the others holds of each
 pub each_member : (P : ℕ → Type 0) (x : ℕ) (xs : List ℕ) → P x → ((y : ℕ) → has xs y ≡ true → P y) → (y : ℕ) → has (x ∷ xs) y ≡ true → P y
 each_member P x xs first others y h = elim (has_cases x y xs h) [ inl here ↦ subst P here first | inr there ↦ others y there ]

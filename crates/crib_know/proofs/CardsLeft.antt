@@ -3,6 +3,7 @@ use Rattle.std.proofs.Common.{◌≡◌, ℕ, ◌+◌, Bool, true, false, cond, 
 use Rattle.std.specs.List.{filter}
 use Rattle.std.proofs.lemmas.Bool.{and_parts, and_from, both_ways, ne_eqb}
 use Rattle.std.proofs.lemmas.Bool.Decides.{nat_tests}
+use Rattle.std.proofs.Math.Bool.{or-false}
 use Rattle.std.proofs.lemmas.List.Folds.{list_any-append}
 use Rattle.crib_cards.specs.Cards.{rank_of}
 use Rattle.crib_cards.specs.Sets.{has, are_distinct}
@@ -108,11 +109,7 @@ module _ (start : Start) (hands : Hands) (dealt : IsDealt hands) (card : ℕ) (m
       let theirs = (has-filter_parts (λ c. not (has cards c)) hands.opponent played held).0 in
       let apart : has hands.owner played ≡ false = distinct_apart_back hands.owner hands.opponent played dealt.distinct theirs in
       let other : eqb played card ≡ false = ne_eqb played card (λ s. both_ways (has hands.owner card) (ap (has hands.owner) (sym s) ∙ apart) mine) in
-      ap (λ (b : Bool). has cards card || b) other ∙ or_nothing (has cards card) ∙ h
-    where
-      or_nothing : (b : Bool) → (b || false) ≡ b
-      or_nothing true = refl
-      or_nothing false = refl
+      ap (λ (b : Bool). has cards card || b) other ∙ or-false (has cards card) ∙ h
 
   pub own_played : (seen : List Move) → AreLegal start hands seen → has (cards_of seen) card ≡ has (own_cards (events start seen)) card
   own_played [] legal = refl
@@ -120,10 +117,6 @@ module _ (start : Start) (hands : Hands) (dealt : IsDealt hands) (card : ℕ) (m
   own_played (move.Card played ∷ seen) legal =
       let m = mover (pone_of start) (letters_of (filled_moves start seen)) in
       list_any-append (λ other. eqb other card) (cards_of seen) (played ∷ [])
-      ∙ ap (λ (b : Bool). has (cards_of seen) card || b) (or_nothing (eqb played card))
+      ∙ ap (λ (b : Bool). has (cards_of seen) card || b) (or-false (eqb played card))
       ∙ own_card m played (cards_of seen) (events start seen) (ap (λ (left : List ℕ). has left played) (sym (left_remaining start hands m seen))
       ∙ legal.1.may_take.0) (own_played seen legal.0)
-    where
-      or_nothing : (b : Bool) → (b || false) ≡ b
-      or_nothing true = refl
-      or_nothing false = refl

@@ -3,6 +3,7 @@ use Rattle.std.proofs.Common.{◌≡◌, ℕ, ◌+◌, ◌-◌, Bool, true, fals
 use Rattle.std.proofs.Common.{refl, sym, ap, ◌∙◌, inl, inr}
 use Rattle.std.specs.List.{list_any}
 use Rattle.std.proofs.lemmas.Bool.{cases_Bool, cases_eq, ne_eqb}
+use Rattle.std.proofs.Math.Bool.{or-false}
 use Rattle.crib_cards.specs.Sets.{has}
 use Rattle.crib_plan.specs.declared.plan.Next.{Next}
 use Rattle.crib_plan.specs.declared.plan.Next.TheVariants.{End, To}
@@ -22,10 +23,6 @@ nodes_of-append before (To node ∷ xs) ys =
       | inr e ↦ rw e (ap (λ (ns : List ℕ). node ∷ ns) (nodes_of-append (node ∷ before) xs ys))
     ]
 
-or_false : (a : Bool) → a ≡ (a || false)
-or_false true = refl
-or_false false = refl
-
 pub or_comm3 : (a b c : Bool) → ((a || b) || c) ≡ (b || (a || c))
 or_comm3 true true c = refl
 or_comm3 true false c = refl
@@ -37,7 +34,7 @@ or_rest true b e f = absurd cc
 or_rest false b e f = e
 
 pub has-seen_after : (before : List ℕ) (xs : List Next) (node : ℕ) → has (seen_after before xs) node ≡ (has before node || leads xs node)
-has-seen_after before [] node = or_false (has before node)
+has-seen_after before [] node = sym (or-false (has before node))
 has-seen_after before (End ∷ xs) node = has-seen_after before xs node
 has-seen_after before (To other ∷ xs) node =
     elim (cases_Bool (has before other)) [

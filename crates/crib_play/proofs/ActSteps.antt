@@ -3,7 +3,7 @@ use Rattle.std.proofs.Common.{◌≡◌, ℕ, ◌+◌, ◌-◌, ◌≤◌, zero,
 use Rattle.std.proofs.Common.{inl, inr, ⊎_elim, arith}
 use Rattle.std.proofs.lemmas.Bool.Decides.{nat_tests}
 use Rattle.std.proofs.lemmas.Bool.{cases_Bool, cond-true, cond-false, and_right, and_from, and_parts, both_ways, false≢true, true≢false, ltb-false, or_right}
-use Rattle.std.proofs.lemmas.Bool.{and_cases, eq-eqb}
+use Rattle.std.proofs.lemmas.Bool.{and_cases, eq-eqb, not-true}
 use Rattle.crib_cards.specs.declared.sides.Side.{Side}
 use Rattle.crib_cards.specs.declared.sides.Side.TheVariants.{Owner, Opponent}
 use Rattle.crib_cards.specs.Sides.{other_side, are_decided, scores_with}
@@ -33,16 +33,8 @@ pub record IsTurned (s : State) : Type 0 where
   pub after_card : s.go_last ≡ false → said_of s (other_side s.mover) ≡ false
 
 heard_parts : (s : State) (side : Side) → heard_of s side ≡ true → (1 ≤ left_of s side) × (said_of s side ≡ false)
-heard_parts s Owner h = let p = and_parts (ltb 0 s.owner_left) (not s.owner_said) h in (grind (arith, nat_tests, p.0), not_true s.owner_said p.1)
-  where
-    not_true : (b : Bool) → not b ≡ true → b ≡ false
-    not_true true e = sym e
-    not_true false e = refl
-heard_parts s Opponent h = let p = and_parts (ltb 0 s.opponent_left) (not s.opponent_said) h in (grind (arith, nat_tests, p.0), not_true s.opponent_said p.1)
-  where
-    not_true : (b : Bool) → not b ≡ true → b ≡ false
-    not_true true e = sym e
-    not_true false e = refl
+heard_parts s Owner h = let p = and_parts (ltb 0 s.owner_left) (not s.owner_said) h in (grind (arith, nat_tests, p.0), not-true s.owner_said p.1)
+heard_parts s Opponent h = let p = and_parts (ltb 0 s.opponent_left) (not s.opponent_said) h in (grind (arith, nat_tests, p.0), not-true s.opponent_said p.1)
 
 cond_false : (c b : Bool) → b ≡ false → cond c false b ≡ false
 cond_false true b e = refl

@@ -31,17 +31,17 @@ said_nothing : (start : Start) (side : Side) → said_of (state_after start []) 
 said_nothing start Owner = refl
 said_nothing start Opponent = refl
 
+pub never_over : (side : Side) → turns.Over ≡ side_asked side → ⊥
+never_over Owner e = cc
+never_over Opponent e = cc
+
 asked_is : (target : ℕ) (s : State) (m : Side) → asked_of target s ≡ side_asked m → (done target s ≡ false) × (s.mover ≡ m)
 asked_is target s m e =
     elim (cases_Bool (done target s)) [
-      | inl d ↦ absurd (never m (sym (ap (λ (b : Bool). cond b turns.Over (side_asked s.mover)) d) ∙ e))
+      | inl d ↦ absurd (never_over m (sym (ap (λ (b : Bool). cond b turns.Over (side_asked s.mover)) d) ∙ e))
       | inr d ↦ (d, same s.mover m (sym (ap (λ (b : Bool). cond b turns.Over (side_asked s.mover)) d) ∙ e))
     ]
   where
-    never : (m : Side) → turns.Over ≡ side_asked m → ⊥
-    never Owner e = cc
-    never Opponent e = cc
-
     same : (a b : Side) → side_asked a ≡ side_asked b → a ≡ b
     same Owner Owner e = refl
     same Owner Opponent e = cc

@@ -2,6 +2,7 @@
 use Rattle.std.proofs.Common.{◌≡◌, ℕ, ◌+◌, zero, suc, Bool, true, false, cond, not, ◌&&◌, ◌||◌, eqb, ltb, refl, sym, ap, ◌∙◌, inl, inr, arith}
 use Rattle.std.proofs.lemmas.Bool.Decides.{nat_tests}
 use Rattle.std.proofs.lemmas.Bool.{cases_Bool, cond-true, cond-false, and_left, and_right, and_from}
+use Rattle.std.proofs.Math.Bool.{and-true}
 use Rattle.crib_cards.specs.declared.sides.Side.{Side}
 use Rattle.crib_cards.specs.declared.sides.Side.TheVariants.{Owner, Opponent}
 use Rattle.crib_cards.specs.Sides.{other_side, same_side, are_decided}
@@ -99,15 +100,11 @@ seat_heard target s turn Owner = refl
 seat_heard target s turn Opponent = refl
 
 -- what the table shows after a close by gos
-and-true : (b : Bool) → b ≡ (b && true)
-and-true true = refl
-and-true false = refl
-
 closed_face : (target : ℕ) (s : State) (turn asked : Turn) → with_asked (table_after_close (with_points (face target s turn) s.last 1)) asked ≡ face target
     (go_closing s) asked
 closed_face target s turn asked =
-    let owner = and-true (ltb 0 s.owner_left) in
-    let opponent = and-true (ltb 0 s.opponent_left) in
+    let owner = sym (and-true (ltb 0 s.owner_left)) in
+    let opponent = sym (and-true (ltb 0 s.opponent_left)) in
     λ i. record (face target (go_closing s) asked) {
       owner = record { left = s.owner_left; may_be_asked = owner i };
       opponent = record { left = s.opponent_left; may_be_asked = opponent i };

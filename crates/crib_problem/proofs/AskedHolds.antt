@@ -30,7 +30,7 @@ use Rattle.crib_play.specs.History.{moves_of}
 use Rattle.crib_play.specs.Fitting.{fits_at}
 use Rattle.crib_play.specs.Least.{least_with_go}
 use Rattle.crib_play.proofs.CardLemmas.{one_fails}
-use Rattle.crib_play.proofs.TurnFacts.{played_card, played_go}
+use Rattle.crib_play.proofs.TurnFacts.{high_count, played_card, played_go}
 use Rattle.crib_play.proofs.LeastValues.{least_card, least_other, least_go}
 use Rattle.crib_play.proofs.RecordsReached.{asked_mover}
 use Rattle.crib_play.proofs.FilledAndVisible.{heard-filled_record}
@@ -194,10 +194,7 @@ module _ (basis : OpeningBasis) (before : List Act) where
 pub low_fits : (count : ℕ) (own : List ℕ) → 1 ≤ length own → list_any (fits_at count) own ≡ false → 22 ≤ count
 low_fits count own some none =
     let one = one_fails (fits_at count) own some none in
-    high count (rank_of one.0) one.1
-  where
-    high : (n rank : ℕ) → leb (n + rank_value rank) 31 ≡ false → 22 ≤ n
-    high n rank e = omega (arith, leb-false (n + rank_value rank) 31 e)
+    high_count count (rank_of one.0) one.1
 
 -- a card that fits at this count, or a go at a count of 22 or more
 abbrev pub Shows : ℕ → Move → Type 0

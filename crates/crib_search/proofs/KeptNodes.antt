@@ -114,7 +114,7 @@ see_parts nexts others e = cc
 apart : (card : ℕ) (next : DraftPlace) (nexts : List DraftPlace) → Some (Play card next) ≡ Some (See nexts) → ⊥
 apart card next nexts e = cc
 
-list_parts : (one other : DraftPlace) (ones others : List DraftPlace) → one ∷ ones ≡ other ∷ others → (one ≡ other) × (ones ≡ others)
+pub list_parts : (one other : DraftPlace) (ones others : List DraftPlace) → one ∷ ones ≡ other ∷ others → (one ≡ other) × (ones ≡ others)
 list_parts one other ones others e = (cc, cc)
 
 -- a place names one tree

@@ -17,7 +17,7 @@ use Rattle.crib_search.proofs.WalkHeights.{height, highest}
 use Rattle.crib_search.proofs.JoinedTrees.{end_names, same_for}
 use Rattle.crib_search.proofs.FoundAfterTurns.{rest_of}
 use Rattle.crib_search.proofs.TreeWalks.{is_in}
-use Rattle.crib_search.proofs.KeptNodes.{same_place}
+use Rattle.crib_search.proofs.KeptNodes.{list_parts, same_place}
 
 -- ---- marks
 marked_here : (place : ℕ) (left : List ℕ) (b : Bool) (rest : Option ℕ) → is_some (cond b (Some (length left)) rest) ≡ (b || is_some rest)
@@ -135,13 +135,10 @@ walk_more draft_nodes draft_place others draft_places before inside after same f
     none_some : (xs ys : List DraftPlace) (y : DraftPlace) → xs ≡ [] → xs ≡ y ∷ ys → ⊥
     none_some xs ys y a b = cc
 walk_more draft_nodes draft_place others draft_places before inside after same first rest (Branch tree branches) trees names are =
-    let parts = both draft_place names.0 others names.1 (same ∙ names.2) in
+    let parts = list_parts draft_place names.0 others names.1 (same ∙ names.2) in
     let N : DraftPlace → Type 0 = λ s. Names draft_nodes tree s in
     let M : List DraftPlace → Type 0 = λ s. NameAll draft_nodes branches s in
     rest branches (trees_after_walk tree trees) (subst M (sym parts.1) names.4) (first tree trees (subst N (sym parts.0) names.3) are)
-  where
-    both : (one other : DraftPlace) (ones others : List DraftPlace) → one ∷ ones ≡ other ∷ others → (one ≡ other) × (ones ≡ others)
-    both one other ones others e = (cc, cc)
 
 -- ---- heights
 pub below_height : (count : ℕ) (draft_place : DraftPlace) → IsEarlier count draft_place → height draft_place ≤ count

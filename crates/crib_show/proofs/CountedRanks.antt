@@ -10,6 +10,7 @@ use Rattle.crib_cards.specs.Sets.{rank_counts}
 use Rattle.crib_cards.proofs.CountLemmas.{count_at-rank_counts}
 use Rattle.crib_show.specs.Private.Counts.{AreRanks}
 use Rattle.crib_show.specs.Private.Extremes.{ranks_from, cards_in_suit}
+use Rattle.crib_show.proofs.PairTrials.{rank_back}
 use Rattle.crib_show.proofs.RankLaw.{times, times-no_rank, reordered_from_times}
 use Rattle.crib_show.proofs.ReorderedLists.{Reordered, nothing, behind, front, both}
 use Rattle.crib_cards.proofs.Members.{has_here, has_there, AreCards}
@@ -83,9 +84,6 @@ ranks-cards_in_suit suit [] small are = refl
 ranks-cards_in_suit suit (rank ∷ ranks) small are =
     let same : rank_of (card_of rank suit) ≡ rank = rank_back rank suit small are.0.0 in
     λ i. same i ∷ ranks-cards_in_suit suit ranks small are.1 i
-  where
-    rank_back : (rank suit : ℕ) → suit < 4 → 1 ≤ rank → (4 * (rank - 1) + suit) / 4 + 1 ≡ rank
-    rank_back rank suit small some = omega arith
 
 pub cards_in_suit-ranks : (suit : ℕ) (cards : List ℕ) → list_all (λ card. eqb (suit_of card) suit) cards ≡ true → cards_in_suit suit (map rank_of cards) ≡ cards
 cards_in_suit-ranks suit [] all = refl

@@ -2,6 +2,7 @@
 use Rattle.std.proofs.Common.{◌≡◌, ◌⊎◌, ℕ, ◌+◌, ◌-◌, ◌*◌, ◌/◌, ◌%◌, ◌<◌, ◌≤◌, min, suc, zero, true, false}
 use Rattle.std.proofs.Common.{refl, sym, ◌∙◌, inl, inr, subst, arith}
 use Rattle.std.proofs.lemmas.Bool.{cases_lt}
+use Rattle.std.proofs.Math.Nat.{le_trans}
 use Rattle.crib_cards.specs.Cards.{IsRank, card_of, rank_of, suit_of}
 use Rattle.crib_show.specs.Private.Extremes.{has_room, least_of_ranks}
 use Rattle.crib_show.proofs.LoopTrials.{AreTried, IsLeastBefore, IsMostBefore, NoneGiveBefore}
@@ -20,6 +21,12 @@ min_right a b c next is same = omega arith
 
 min_is : (a b : ℕ) → (min a b ≡ a) ⊎ (min a b ≡ b)
 min_is a b = elim (cases_lt a b) [ inl less ↦ inl (omega arith) | inr more ↦ inr (omega arith) ]
+
+pub regroup : (a b c d : ℕ) → a ≡ b → a + c + d ≡ b + (c + d)
+regroup a b c d same = omega arith
+
+pub at_most : (a b c d : ℕ) → a ≡ b + c → c ≤ d → a ≤ b + d
+at_most a b c d e f = omega arith
 
 -- the least of four numbers, one for each suit
 abbrev least_of_four : (ℕ → ℕ) → ℕ
@@ -125,7 +132,7 @@ module _ (worst : WorstShow) where
   most_next first second p q most next before is_p is_q more here low = record {
     all = λ a b is_a is_b order tried room.
         elim (sooner first second a b tried) [
-          | inl earlier ↦ through (plain_crib worst a b + most_crib_suits worst a b) most next (before.all a b is_a is_b order earlier room) more
+          | inl earlier ↦ le_trans (before.all a b is_a is_b order earlier room) more
           | inr same ↦
               let of_a : p ≡ a = is_p ∙ sym same.0 in
               let of_b : q ≡ b = is_q ∙ sym same.1 in
@@ -134,9 +141,6 @@ module _ (worst : WorstShow) where
         ];
     low = low;
   }
-    where
-      through : (a b c : ℕ) → a ≤ b → b ≤ c → a ≤ c
-      through a b c d e = omega arith
 
   pub most_row : (first second most : ℕ) → IsMostBefore worst first second most → 14 ≤ second → IsMostBefore worst (first + 1) (first + 1) most
   most_row first second most before past =

@@ -3,6 +3,7 @@ use Rattle.std.proofs.Common.{◌≡◌, ◌≢◌, ℕ, ◌+◌, ◌≤◌, eqb
 use Rattle.std.proofs.Common.{ne_eqb}
 use Rattle.std.specs.Prelude.{nat_lt}
 use Rattle.std.specs.List.{list_any}
+use Rattle.std.proofs.lemmas.Bool.{and_parts}
 use Rattle.std.proofs.lemmas.Bool.Decides.{nat_tests}
 use Rattle.std.proofs.lemmas.List.{length-map}
 use Rattle.crib_cards.specs.Cards.{IsRank, jack, rank_of}
@@ -13,7 +14,7 @@ use Rattle.crib_show.specs.Laws.{is_possible}
 use Rattle.crib_show.specs.Show.{fifteen_points, pair_points, plain_points}
 use Rattle.crib_show.proofs.ReorderedLists.{Reordered, length-reordered, list_any-reordered, rank_counts-reordered}
 use Rattle.crib_show.proofs.RankLaw.{fifteen_points-reordered}
-use Rattle.crib_show.proofs.RankTables.{Rises, and-left, and-right, sorted_of, each_rising, each_rising-at, IsCounted-ranks}
+use Rattle.crib_show.proofs.RankTables.{Rises, sorted_of, each_rising, each_rising-at, IsCounted-ranks}
 
 -- the points of five ranks, from the numbers of cards of each rank where these decide them
 abbrev pub counted_points : ℕ → List ℕ → ℕ
@@ -87,12 +88,12 @@ or-left true b not_a is = absurd cc
 or-left false b not_a is = is
 
 pub allows-alone : (pairs points : ℕ) (with_jack : Bool) → allows pairs with_jack points ≡ true → pairs ≢ 20 → is_possible points ≡ true
-allows-alone pairs points with_jack allowed some = and-left _ _ (or-left (eqb pairs 20) _ (ne_eqb pairs 20 some) allowed)
+allows-alone pairs points with_jack allowed some = (and_parts _ _ (or-left (eqb pairs 20) _ (ne_eqb pairs 20 some) allowed)).0
 
 pub allows-jack : (pairs points : ℕ) (with_jack : Bool) → allows pairs with_jack points ≡ true → pairs ≢ 20 → with_jack ≡ true → is_possible (points + 1) ≡ true
 allows-jack pairs points with_jack allowed some is =
     or-left (not with_jack) (is_possible (points + 1)) (ap not is)
-    (and-left _ _ (and-right (is_possible points) _ (or-left (eqb pairs 20) _ (ne_eqb pairs 20 some) allowed)))
+    (and_parts _ _ (and_parts (is_possible points) _ (or-left (eqb pairs 20) _ (ne_eqb pairs 20 some) allowed)).1).0
 
 few_pairs : (pairs : ℕ) → pairs ≤ 2 → nat_lt 2 pairs ≡ false
 few_pairs pairs few = grind (arith, nat_tests)
@@ -100,11 +101,11 @@ few_pairs pairs few = grind (arith, nat_tests)
 flushes : (pairs points : ℕ) (with_jack : Bool) → allows pairs with_jack points ≡ true → pairs ≢ 20 →
     ((nat_lt 2 pairs || is_possible (points + 4)) && (nat_lt 0 pairs || (is_possible (points + 5) && is_possible (points + 6)))) ≡ true
 flushes pairs points with_jack allowed some =
-    and-right (not with_jack || is_possible (points + 1)) _ (and-right (is_possible points) _ (or-left (eqb pairs 20) _ (ne_eqb pairs 20 some) allowed))
+    (and_parts (not with_jack || is_possible (points + 1)) _ (and_parts (is_possible points) _ (or-left (eqb pairs 20) _ (ne_eqb pairs 20 some) allowed)).1).1
 
 pub allows-flush_of_four : (pairs points : ℕ) (with_jack : Bool) → allows pairs with_jack points ≡ true → pairs ≤ 2 → is_possible (points + 4) ≡ true
 allows-flush_of_four pairs points with_jack allowed few =
-    or-left (nat_lt 2 pairs) (is_possible (points + 4)) (few_pairs pairs few) (and-left _ _ (flushes pairs points with_jack allowed (λ e. omega arith)))
+    or-left (nat_lt 2 pairs) (is_possible (points + 4)) (few_pairs pairs few) (and_parts _ _ (flushes pairs points with_jack allowed (λ e. omega arith))).0
 
 no_pairs : (pairs : ℕ) → pairs ≡ 0 → nat_lt 0 pairs ≡ false
 no_pairs pairs none = grind (arith, nat_tests)
@@ -113,10 +114,11 @@ flush_of_five : (pairs points : ℕ) (with_jack : Bool) → allows pairs with_ja
     (is_possible (points + 5) && is_possible (points + 6)) ≡ true
 flush_of_five pairs points with_jack allowed none =
     or-left (nat_lt 0 pairs) _ (no_pairs pairs none)
-    (and-right (nat_lt 2 pairs || is_possible (points + 4)) _ (flushes pairs points with_jack allowed (λ e. omega arith)))
+    (and_parts (nat_lt 2 pairs || is_possible (points + 4)) _ (flushes pairs points with_jack allowed (λ e. omega arith))).1
 
 pub allows-flush_of_five : (pairs points : ℕ) (with_jack : Bool) → allows pairs with_jack points ≡ true → pairs ≡ 0 → is_possible (points + 5) ≡ true
-allows-flush_of_five pairs points with_jack allowed none = and-left _ _ (flush_of_five pairs points with_jack allowed none)
+allows-flush_of_five pairs points with_jack allowed none = (and_parts _ _ (flush_of_five pairs points with_jack allowed none)).0
 
 pub allows-flush_and_jack : (pairs points : ℕ) (with_jack : Bool) → allows pairs with_jack points ≡ true → pairs ≡ 0 → is_possible (points + 6) ≡ true
-allows-flush_and_jack pairs points with_jack allowed none = and-right (is_possible (points + 5)) _ (flush_of_five pairs points with_jack allowed none)
+allows-flush_and_jack pairs points with_jack allowed none =
+    (and_parts (is_possible (points + 5)) _ (flush_of_five pairs points with_jack allowed none)).1

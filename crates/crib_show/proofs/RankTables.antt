@@ -2,7 +2,7 @@
 use Rattle.std.proofs.Common.{◌≡◌, ℕ, zero, suc, ◌+◌, ◌-◌, ◌<◌, ◌≤◌, eqb, ◌&&◌, Bool, true, false, List, [], ◌∷◌, length, sum, refl, sym, ap, ◌∙◌, inl}
 use Rattle.std.proofs.Common.{inr, subst, arith, eqb-true}
 use Rattle.std.specs.List.{list_all, range_with_len}
-use Rattle.std.proofs.lemmas.Bool.{cases_lt}
+use Rattle.std.proofs.lemmas.Bool.{cases_lt, and_parts}
 use Rattle.std.proofs.lemmas.Bool.Decides.{nat_tests}
 use Rattle.crib_cards.specs.Cards.{IsRank}
 use Rattle.crib_cards.specs.Sets.{rank_counts}
@@ -44,20 +44,12 @@ abbrev pub each_rising : ℕ → ℕ → (List ℕ → Bool) → Bool
 each_rising zero low test = test []
 each_rising (suc n) low test = list_all (λ rank. each_rising n rank (λ ranks. test (rank ∷ ranks))) (range_with_len low (14 - low))
 
-pub and-left : (a b : Bool) → (a && b) ≡ true → a ≡ true
-and-left true b is = refl
-and-left false b is = is
-
-pub and-right : (a b : Bool) → (a && b) ≡ true → b ≡ true
-and-right true b is = is
-and-right false b is = absurd cc
-
 list_all-range : (p : ℕ → Bool) (start n k : ℕ) → list_all p (range_with_len start n) ≡ true → start ≤ k → k < start + n → p k ≡ true
 list_all-range p start zero k all low high = absurd (omega arith)
 list_all-range p start (suc n) k all low high =
     elim (cases_lt start k) [
-      | inl below ↦ list_all-range p (start + 1) n k (and-right (p start) (list_all p (range_with_len (start + 1) n)) all) (omega arith) (omega arith)
-      | inr above ↦ let e : k ≡ start = omega arith in ap p e ∙ and-left (p start) (list_all p (range_with_len (start + 1) n)) all
+      | inl below ↦ list_all-range p (start + 1) n k (and_parts (p start) (list_all p (range_with_len (start + 1) n)) all).1 (omega arith) (omega arith)
+      | inr above ↦ let e : k ≡ start = omega arith in ap p e ∙ (and_parts (p start) (list_all p (range_with_len (start + 1) n)) all).0
     ]
 
 pub each_rising-at : (n low : ℕ) (test : List ℕ → Bool) (ranks : List ℕ) → each_rising n low test ≡ true → Rises low ranks → length ranks ≡ n →
@@ -104,14 +96,15 @@ le_from a b is = grind (arith, nat_tests)
 
 IsCounted-agree : (ranks counts : List ℕ) → agree_with ranks counts ≡ true → IsCounted ranks counts
 IsCounted-agree ranks counts all =
-    let second = and-right _ _ all in
-    let third = and-right _ _ second in
-    let fourth = and-right _ _ third in record {
-      pairs = eqb-true _ _ (and-left _ _ all);
-      runs = eqb-true _ _ (and-left _ _ second);
-      few_pairs = le_from _ _ (and-left _ _ third);
-      few_runs = le_from _ _ (and-left _ _ fourth);
-      number = eqb-true _ _ (and-right _ _ fourth);
+    let first = and_parts _ _ all in
+    let second = and_parts _ _ first.1 in
+    let third = and_parts _ _ second.1 in
+    let fourth = and_parts _ _ third.1 in record {
+      pairs = eqb-true _ _ first.0;
+      runs = eqb-true _ _ second.0;
+      few_pairs = le_from _ _ third.0;
+      few_runs = le_from _ _ fourth.0;
+      number = eqb-true _ _ fourth.1;
     }
 
 agree_rising : (ranks : List ℕ) → Rises 1 ranks → length ranks ≡ 5 → agree ranks ≡ true

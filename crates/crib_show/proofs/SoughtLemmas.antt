@@ -3,6 +3,7 @@ use Rattle.std.proofs.Common.{◌≡◌, ◌≢◌, ◌⊎◌, ℕ, ◌+◌, ◌
 use Rattle.std.proofs.Common.{inl, inr, subst, arith}
 use Rattle.std.proofs.lemmas.Bool.{cases_Bool, cases_lt, and_parts, and_from, or_cases, or_left, or_right, both_ways, not-true, eqb-false, ne_eqb}
 use Rattle.std.proofs.lemmas.Bool.{le-leb, leb-true}
+use Rattle.std.proofs.Math.Nat.{le_trans}
 use Rattle.crib_cards.specs.Cards.{IsRank, card_of, rank_of, suit_of}
 use Rattle.crib_cards.specs.Sets.{has, set_without, IsCardSet}
 use Rattle.crib_cards.specs.declared.sides.Dealt.{Dealt}
@@ -21,7 +22,7 @@ use Rattle.crib_show.proofs.CribLemmas.{deal_with, ordered, suits_most, throw_be
 use Rattle.crib_show.proofs.Exchange.{IsHold, deal_of, held_in, hold_of, throw_of}
 use Rattle.crib_show.proofs.HandLemmas.{most_held, no_more, value}
 use Rattle.crib_show.proofs.Throws.{MayThrow, crib_of_ranks, few_suits}
-use Rattle.crib_show.proofs.PairTrials.{card_back, rank_back}
+use Rattle.crib_show.proofs.PairTrials.{at_most, card_back, rank_back}
 
 -- ---- one of four suits
 
@@ -109,27 +110,20 @@ module _ (worst : WorstShow) where
             || card_gives worst sought enough (card_of p 1) q || card_gives worst sought enough (card_of p 2) q
             || card_gives worst sought enough (card_of p 3) q)
             (and_from (leb enough (plain_crib worst p q + most_crib_suits worst p q + spare)) (has_room worst p q)
-            (le-leb enough (plain_crib worst p q + most_crib_suits worst p q + spare) (through enough (sought_points worst sought x y)
-            (plain_crib worst p q + most_crib_suits worst p q + spare) reached few))
+            (le-leb enough (plain_crib worst p q + most_crib_suits worst p q + spare) (le_trans reached few))
             may.room)
             (four_from (λ s. card_gives worst sought enough (card_of p s) q) (suit_of x) (omega arith)
             (ap (λ k. card_gives worst sought enough k q) (card_back x) ∙ with_x))))
       ]
-    where
-      through : (a b c : ℕ) → a ≤ b → b ≤ c → a ≤ c
-      through a b c d e = omega arith
 
   module _ (unseen_set : IsCardSet worst.unseen) where
     -- the crib with two cards thrown has at most the points of their ranks and the most of their suits
     crib_low : (x y : ℕ) → MayThrow worst x y → crib_points (crib_with worst x y) worst.starter
         ≤ plain_crib worst (rank_of x) (rank_of y) + most_crib_suits worst (rank_of x) (rank_of y)
     crib_low x y may =
-        joined (crib_points (crib_with worst x y) worst.starter) (plain_crib worst (rank_of x) (rank_of y)) (crib_suit_points worst x y)
+        at_most (crib_points (crib_with worst x y) worst.starter) (plain_crib worst (rank_of x) (rank_of y)) (crib_suit_points worst x y)
         (most_crib_suits worst (rank_of x) (rank_of y))
         (crib_of_ranks worst x y) (suits_most worst unseen_set x y may)
-      where
-        joined : (a b c d : ℕ) → a ≡ b + c → c ≤ d → a ≤ b + d
-        joined a b c d e f = omega arith
 
     pub few_crib : (points : List ℕ) → ArePlain worst.starter worst.own_throw points → (dealt : Dealt) → AgreesInShow worst dealt →
         hidden_crib worst dealt ≤ 102

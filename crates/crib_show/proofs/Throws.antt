@@ -10,7 +10,7 @@ use Rattle.crib_show.specs.Private.Extremes.{crib_suit_points, crib_with, has_ro
 use Rattle.crib_show.specs.Private.Extremes.{least_suits, least_suits_with, may_throw_flush, may_throw_jack, most_crib_suits, no_crib, plain_crib, thrown_suits}
 use Rattle.crib_show.specs.Show.{crib_flush, crib_points, jack_points, plain_of_ranks, plain_points}
 use Rattle.crib_show.specs.declared.deals.WorstShow.{WorstShow}
-use Rattle.crib_show.proofs.PairTrials.{four_below, four_is, card_back, rank_back}
+use Rattle.crib_show.proofs.PairTrials.{four_below, four_is, card_back, rank_back, regroup}
 
 -- a flush and a jack are six points at most
 six : (flush jack_held : Bool) → cond flush 5 0 + cond jack_held 1 0 ≤ 6
@@ -61,9 +61,6 @@ module _ (worst : WorstShow) where
       regroup (plain_points (worst.starter ∷ crib_with worst x y)) (plain_crib worst (rank_of x) (rank_of y)) (crib_flush (crib_with worst x y) worst.starter)
       (jack_points (crib_with worst x y) worst.starter)
       (ap (λ ranks. plain_of_ranks (rank_of worst.starter ∷ ranks)) (map-append rank_of worst.own_throw (x ∷ y ∷ [])))
-    where
-      regroup : (a b c d : ℕ) → a ≡ b → a + c + d ≡ b + (c + d)
-      regroup a b c d same = omega arith
 
   -- the crib with two cards that may be thrown has no fewer points than the least crib of their ranks
   pub above_least : (x y : ℕ) → MayThrow x y → least_of_ranks worst (rank_of x) (rank_of y) ≤ crib_points

@@ -72,19 +72,24 @@ fn of_board(rt: HostRuntime) {
 // `follow` asks for the plan, unless it has no nodes.
 #[test]
 fn of_follow(rt: HostRuntime) {
+    for (sections, wanted, told) in [
+        (ONE_GAME, "short\n", 2),
+        ([THIRTEEN, TWOS, NO_ACTS], "open\n", 2),
+        ([THIRTEEN, NO_PLAN, NO_ACTS], "stuck\n", 1),
+    ] {
+        let followed = refuse_each(&rt, Job::Follow, &sections, wanted, Status::No);
+        assert_eq!(rt; followed, told_alone(told), "with {wanted}");
+    }
     let strays = joined_with(&rt, &ONE_GAME, 20, "own 2H");
-    let open = [THIRTEEN, TWOS, NO_ACTS];
-    let stuck = [THIRTEEN, NO_PLAN, NO_ACTS];
-    let short = refuse_each(&rt, Job::Follow, &ONE_GAME, "short\n", Status::No);
-    assert_eq!(rt; short, told_alone(2));
-    let strayed = [strays.as_str()];
     let refused = "refused line 20: 46\n";
-    let refused = refuse_each(&rt, Job::Follow, &strayed, refused, Status::Refused);
-    assert_eq!(rt; refused, told_alone(2));
-    let open = refuse_each(&rt, Job::Follow, &open, "open\n", Status::No);
-    assert_eq!(rt; open, told_alone(2));
-    let stuck = refuse_each(&rt, Job::Follow, &stuck, "stuck\n", Status::No);
-    assert_eq!(rt; stuck, told_alone(1));
+    let strayed = refuse_each(
+        &rt,
+        Job::Follow,
+        &[strays.as_str()],
+        refused,
+        Status::Refused,
+    );
+    assert_eq!(rt; strayed, told_alone(2));
 }
 
 // `check` asks for the plan, and its refusal is told. The table of positions asks too, and its refusals change nothing.
@@ -112,8 +117,14 @@ fn of_solve(rt: HostRuntime) {
     let solved = refuse_each(&rt, Job::Solve, &[TWELVE], TWOS, Status::Yes);
     assert!(rt; solved.told >= 3, "the input, the nodes and the text");
     assert!(rt; solved.passed_over > 0);
+}
+
+// If there is no plan, only its tables ask.
+#[test]
+fn of_solve_without_a_plan(rt: HostRuntime) {
     let unsolved = refuse_each(&rt, Job::Solve, &[THIRTEEN], "none\n", Status::No);
-    assert!(rt; unsolved.told >= 1);
+    assert_eq!(rt; unsolved.told, 1);
+    assert!(rt; unsolved.passed_over > 0);
 }
 
 // An input that is refused asks for itself alone, unless it has a plan that is read.

@@ -1,0 +1,183 @@
+# shellcheck shell=bash disable=SC2034
+# What the recipes share: each reads this file first. It answers `--help`, finds the program, makes a folder $room that is
+# gone at the end, and asks `cribplan`. No recipe knows the game: what one prints rests on answers of `cribplan`.
+set -u
+export LC_ALL=C
+name=${0##*/}
+here=$(dirname "$(readlink -f "$0")")
+
+say() {
+    echo "$name: $1" >&2
+}
+
+# refuse_words: the command line isn't one of those that the recipe knows.
+refuse_words() {
+    say "these words aren't known; $name --help says which are"
+    exit 2
+}
+
+# print_help: the comment at the head of the recipe, and the statuses that all of them have.
+print_help() {
+    sed -n '2,/^$/s/^# \{0,1\}//p' "$0"
+    echo "Exit status: 2 if an input or these words are refused, 3 if something failed. Manual: man $name"
+}
+
+# find_program NAME: the path of a program: beside the recipe, then one folder up, then on the path.
+find_program() {
+    local place
+    for place in "$here/$1" "$here/../$1" "$(command -v "$1")"; do
+        [ ! -f "$place" ] || [ ! -x "$place" ] || { echo "$place" && return; }
+    done
+    return 1
+}
+
+# need_cribplan: finds cribplan, in $program. The launcher looks whether it has to be built; once is enough.
+need_cribplan() {
+    local built=$here/../crates/cribplan/out/cribplan
+    program=$(find_program cribplan) || {
+        say "there is no cribplan beside it, one folder up, or on the path"
+        exit 3
+    }
+    if [ "$program" -ef "$here/../cribplan" ]; then
+        "$program" --help >/dev/null || exit 3
+        [ ! -x "$built" ] || program=$built
+    fi
+}
+
+# keep_input WORD..: for a recipe that has no words of its own. Keeps standard input in $room/input, in which a byte more than
+# cribplan reads is enough.
+keep_input() {
+    [ $# -eq 0 ] || refuse_words
+    head -c 8388609 >"$room/input" || exit 3
+}
+
+# ask COMMAND < INPUT: asks cribplan. Its answer is in $room/answer and by lines in $answer, its status, 0 to 2, in
+# $status. A status counts only with an answer that belongs to it. All else is a fault, and ends the recipe.
+ask() {
+    "$program" "$1" >"$room/answer" 2>"$room/words"
+    status=$?
+    mapfile -t answer <"$room/answer"
+    case $status:${answer[0]-} in
+    '0:plan 1' | 0:holds | '0:board 1' | '0:play '* | 0:reached) ;;
+    1:none | '1:fails '* | 1:open | 1:stuck | 1:lost | 1:short | '2:refused line '*) ;;
+    *)
+        cat "$room/answer"
+        cat "$room/words" >&2
+        say "cribplan $1 ended with status $status and no answer"
+        exit 3
+        ;;
+    esac
+}
+
+# is_refused [NUMBER]: whether the last answer is a refusal, with that number where it is given.
+is_refused() {
+    [ "$status" -eq 2 ] && { [ $# -eq 0 ] || [ "${answer[0]##*: }" = "$1" ]; }
+}
+
+# stop_if_refused: prints a refusal as cribplan does, and ends the recipe.
+stop_if_refused() {
+    is_refused || return 0
+    cat "$room/answer"
+    cat "$room/words" >&2
+    exit 2
+}
+
+# finish STATUS: prints what is kept in $room/out, and ends the recipe.
+finish() {
+    cat "$room/out" || exit 3
+    exit "$1"
+}
+
+# The parts of a problem that cribplan has accepted: its lines from `dealer` to `throw`, its goal, and its turns.
+facts=()
+goal=
+turns=()
+
+# read_problem: fills them, of either version.
+read_problem() {
+    mapfile -t turns <"$room/input"
+    facts=("${turns[@]:1:5}")
+    goal=${turns[6]}
+    turns=("${turns[@]:8}")
+}
+
+# write_problem GOAL [TURN]: the problem as version 2 with that goal, and with one turn more where it is given.
+write_problem() {
+    printf '%s\n' "problem 2" "${facts[@]}" "$1" "played $((${#turns[@]} + $# - 1))" "${turns[@]}" "${@:2}"
+}
+
+# is_sure GOAL [TURN]: whether a plan is sure for that goal, once the owner has made that turn: 0 if so, with its length
+# in $nodes, 1 if not, and 2 if the turn is refused. A turn that ends the deal leaves no problem behind. Then the plan
+# that makes it and nothing else is checked; a go needs no node.
+is_sure() {
+    ask solve < <(write_problem "$@")
+    nodes=${answer[1]-}
+    if [ $# -gt 1 ] && is_refused 24; then
+        case $2 in
+        'own go') set -- "$1" "nodes 0" ;;
+        *) set -- "$1" "nodes 1" "0 play ${2#own } end" ;;
+        esac
+        ask check < <(write_problem "$1" && printf '%s\n' "plan 1" "${@:2}")
+        nodes="nodes 0"
+    fi
+    nodes=${nodes#nodes }
+    return "$status"
+}
+
+# find_greatest [TURN]: the greatest N for which `goal holes N` is sure, after that turn where it is given; in $greatest.
+# If a number is sure, each smaller one is, so the search halves what is left between one that is and one that isn't.
+# What is pegged already needs no question.
+find_greatest() {
+    local own above middle
+    read -r _ own _ <<<"${facts[1]}"
+    greatest=$((own_now - own))
+    above=$((122 - own))
+    while [ $((above - greatest)) -gt 1 ]; do
+        middle=$(((above + greatest) / 2))
+        is_sure "goal holes $middle" "$@"
+        case $? in
+        0) greatest=$middle ;;
+        1) above=$middle ;;
+        *) stop_if_refused ;;
+        esac
+    done
+}
+
+# find_pegs: where the pegs stand after the turns; in $own_now and $opponent_now. `board` wants the opponent's six cards.
+# In place of those that nobody has shown it gets unseen cards that count ten: these fit no count of 22 or more, and at a
+# smaller one nobody says go. There are always enough of them.
+find_pegs() {
+    local six=() turn card
+    read -r _ own_now opponent_now <<<"${facts[1]}"
+    [ "${#turns[@]}" -gt 0 ] || return 0
+    for turn in "${turns[@]}"; do
+        case $turn in
+        'opp go' | own*) ;;
+        *) six+=("${turn#opp }") ;;
+        esac
+    done
+    for card in {K,Q,J,T}{C,D,H,S}; do
+        [[ " ${facts[*]} ${turns[*]} " == *" $card "* ]] || six+=("$card")
+    done
+    ask board < <(
+        write_problem "goal win"
+        printf '%s\n' "game 1" "hold ${six[*]:0:4}" "throw ${six[*]:4:2}" "acts ${#turns[@]}" "${turns[@]}"
+    )
+    stop_if_refused
+    read -r _ _ _ _ _ own_now opponent_now <<<"${answer[${#turns[@]} + 1]}"
+}
+
+# print_pegs: says where they stand if cards were played, so that a score of the wrong moment is seen.
+print_pegs() {
+    [ "${#turns[@]}" -eq 0 ] || echo "pegs now: owner $own_now, opponent $opponent_now"
+}
+
+if [ "${1-}" = --help ] || [ "${1-}" = -h ]; then
+    print_help || exit 3
+    exit
+fi
+room=$(mktemp -d) || exit 3
+trap 'rm -rf "$room"' EXIT
+trap 'exit 129' HUP
+trap 'exit 130' INT
+trap 'exit 143' TERM

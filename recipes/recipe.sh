@@ -10,6 +10,11 @@ say() {
     echo "$name: $1" >&2
 }
 
+# count_of N WORD: prints `1 node`, `2 nodes`.
+count_of() {
+    if [ "$1" -eq 1 ]; then echo "1 $2"; else echo "$1 $2s"; fi
+}
+
 # refuse_words: the command line isn't one of those that the recipe knows.
 refuse_words() {
     say "these words aren't known; $name --help says which are"
@@ -176,8 +181,18 @@ if [ "${1-}" = --help ] || [ "${1-}" = -h ]; then
     print_help || exit 3
     exit
 fi
-room=$(mktemp -d) || exit 3
-trap 'rm -rf "$room"' EXIT
-trap 'exit 129' HUP
-trap 'exit 130' INT
-trap 'exit 143' TERM
+# stop STATUS: ends the recipe for a signal. A second one, as of a key pressed twice, doesn't stop the tidying up.
+stop() {
+    trap '' HUP INT PIPE TERM
+    exit "$1"
+}
+
+# The name is known before the folder is there, so that a signal leaves nothing.
+room=${TMPDIR:-/tmp}/$name.$$.$RANDOM
+part=
+trap 'stop 129' HUP
+trap 'stop 130' INT
+trap 'stop 141' PIPE
+trap 'stop 143' TERM
+trap 'trap "" HUP INT PIPE TERM; rm -rf "$room" ${part:+"$part"}' EXIT
+mkdir -m 700 "$room" || { trap - EXIT && exit 3; }

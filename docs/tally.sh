@@ -1,5 +1,5 @@
 # shellcheck shell=bash
-# Counts what a script tries: docs/run, docs/launcher and examples/run read this file first. It makes the folder $room,
+# Counts what a script tries: docs/run, docs/launcher, examples/run and recipes/test read this file first. It makes the folder $room,
 # which is gone at the end, with the file $said in it for what differs.
 passed=0
 failed=0

@@ -1,6 +1,7 @@
 # shellcheck shell=bash disable=SC2034
-# What the recipes share: each reads this file first. It answers `--help`, finds the program, makes a folder $room that is
-# gone at the end, and asks `cribplan`. No recipe knows the game: what one prints rests on answers of `cribplan`.
+# What the recipes share: each reads this file first. It answers `--help`, finds the program, makes a folder $room
+# that is gone at the end, and asks `cribplan`. No recipe knows the game: what one prints rests on answers of
+# `cribplan`.
 set -u
 export LC_ALL=C
 name=${0##*/}
@@ -49,8 +50,8 @@ need_cribplan() {
     fi
 }
 
-# keep_input WORD..: for a recipe that has no words of its own. Keeps standard input in $room/input, in which a byte more than
-# cribplan reads is enough.
+# keep_input WORD..: for a recipe that has no words of its own. Keeps standard input in $room/input, in which a byte
+# more than cribplan reads is enough.
 keep_input() {
     [ $# -eq 0 ] || refuse_words
     head -c 8388609 >"$room/input" || exit 3
@@ -129,9 +130,9 @@ is_sure() {
     return "$status"
 }
 
-# find_greatest [TURN]: the greatest N for which `goal holes N` is sure, after that turn where it is given; in $greatest.
-# If a number is sure, each smaller one is, so the search halves what is left between one that is and one that isn't.
-# What is pegged already needs no question.
+# find_greatest [TURN]: the greatest N for which `goal holes N` is sure, after that turn where it is given; in
+# $greatest. If a number is sure, each smaller one is, so the search halves what is left between one that is and one
+# that isn't. What is pegged already needs no question.
 find_greatest() {
     local own above middle
     read -r _ own _ <<<"${facts[1]}"
@@ -148,9 +149,9 @@ find_greatest() {
     done
 }
 
-# find_pegs: where the pegs stand after the turns; in $own_now and $opponent_now. `board` wants the opponent's six cards.
-# In place of those that nobody has shown it gets unseen cards that count ten: these fit no count of 22 or more, and at a
-# smaller one nobody says go. There are always enough of them.
+# find_pegs: where the pegs stand after the turns; in $own_now and $opponent_now. `board` wants the opponent's six
+# cards. In place of those that nobody has shown it gets unseen cards that count ten: these fit no count of 22 or
+# more, and at a smaller one nobody says go. There are always enough of them.
 find_pegs() {
     local six=() turn card
     read -r _ own_now opponent_now <<<"${facts[1]}"

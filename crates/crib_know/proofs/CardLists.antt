@@ -1,14 +1,13 @@
 -- Lists of cards as sets, and counts of ranks.
 use Rattle.std.proofs.Common.{◌≡◌, ℕ, zero, suc, ◌+◌, ◌<◌, ◌≤◌, Bool, true, false, cond, ◌&&◌, eqb, List, [], ◌∷◌, map, length}
-use Rattle.std.proofs.Common.{All, count_by, refl, sym, ap, subst, ◌∙◌, inl, inr, arith}
-use Rattle.std.specs.List.{AllByRecursion, list_all, filter, range_with_len}
-use Rattle.std.proofs.lemmas.List.Elements.{All-from_recursion}
+use Rattle.std.proofs.Common.{count_by, refl, sym, ap, subst, ◌∙◌, inl, inr, arith}
+use Rattle.std.specs.List.{list_all, filter, range_with_len}
 use Rattle.std.proofs.lemmas.Bool.{cases_Bool, cases_eq, or_cases, or_left, or_right, both_ways, eqb-true, eq-eqb}
 use Rattle.crib_cards.specs.Cards.{IsCard, IsRank, ranks}
 use Rattle.crib_cards.specs.Sets.{has, are_distinct, set_where, set_of}
 use Rattle.crib_cards.proofs.SetFacts.{in_set_where}
 use Rattle.crib_know.proofs.CardsLeft.{has-filter_from}
-use Rattle.crib_cards.proofs.Members.{AreCards, has_here, has_there, has_cases, all_has, all_from}
+use Rattle.crib_cards.proofs.Members.{has_here, has_there, has_cases, all_has, all_from}
 use Rattle.crib_cards.proofs.SetCounts.{count_cons, count_by-set_of}
 
 -- ---- ranges

@@ -1,10 +1,10 @@
 -- Proves that an owner who is asked after allowed acts holds a card.
-use Rattle.std.proofs.Common.{◌≡◌, ℕ, zero, suc, ◌+◌, ◌≤◌, Bool, true, false, cond, not, ◌&&◌, ◌||◌, eqb, leb, ltb, List, [], ◌∷◌, length, Option, Some, None}
+use Rattle.std.proofs.Common.{◌≡◌, ℕ, zero, suc, ◌+◌, ◌≤◌, Bool, true, false, cond, not, ◌&&◌, ◌||◌, eqb, ltb, List, [], ◌∷◌, length, Option, Some, None}
 use Rattle.std.proofs.Common.{refl, sym, ap, ◌∙◌, inl, inr, arith}
 use Rattle.std.specs.List.{list_any}
 use Rattle.std.specs.Option.{option_or}
-use Rattle.std.proofs.lemmas.Bool.{cases_Bool, cases_lt, and_parts, both_ways, not-false, leb-true, leb-false, lt-ltb, ltb-true, eqb-true}
-use Rattle.crib_cards.specs.Cards.{rank_of, rank_value, card_value}
+use Rattle.std.proofs.lemmas.Bool.{cases_Bool, cases_lt, and_parts, both_ways, not-false, leb-true, lt-ltb, ltb-true, eqb-true}
+use Rattle.crib_cards.specs.Cards.{rank_of, card_value}
 use Rattle.crib_cards.specs.Sets.{has, set_where, set_without}
 use Rattle.crib_cards.specs.Letters.{letter_of}
 use Rattle.crib_cards.specs.Sides.{same_side}

@@ -1,5 +1,5 @@
 -- Every list of five ranks, each in rising order only.
-use Rattle.std.proofs.Common.{◌≡◌, ℕ, zero, suc, ◌+◌, ◌-◌, ◌<◌, ◌≤◌, eqb, ◌&&◌, Bool, true, false, List, [], ◌∷◌, length, sum, refl, sym, ap, ◌∙◌, inl}
+use Rattle.std.proofs.Common.{◌≡◌, ℕ, zero, suc, ◌+◌, ◌-◌, ◌<◌, ◌≤◌, eqb, ◌&&◌, Bool, true, List, [], ◌∷◌, length, sum, refl, sym, ap, ◌∙◌, inl}
 use Rattle.std.proofs.Common.{inr, subst, arith, eqb-true}
 use Rattle.std.specs.List.{list_all, range_with_len}
 use Rattle.std.proofs.lemmas.Bool.{cases_lt, and_parts}

@@ -27,8 +27,8 @@ use Rattle.crib_show.specs.declared.deals.WorstShow.{WorstShow}
 use Rattle.crib_show.specs.declared.outcomes.Outcome.TheVariants as outcome
 use Rattle.crib_show.specs.Outcome.{outcome_of, outcome_at}
 use Rattle.crib_show.specs.Worst as worst
-use Rattle.crib_show.specs.declared.shows.Shows.{Shows}
-use Rattle.crib_show.specs.Shows.{AreShows, AreShowsFor}
+use Rattle.crib_show.specs.declared.extremes.ExtremesByRanks.{ExtremesByRanks}
+use Rattle.crib_show.specs.Extremes.{AreExtremes, AreExtremesFor}
 use Rattle.crib_problem.specs.Setup.{Setup, start_of, hands_of, target_of, unseen_of, fixed_cards, IsDealOf}
 use Rattle.crib_problem.proofs.StartLemmas.{started}
 use Rattle.crib_know.specs.Knowledge.{Knowledge, their_ranks, least_value}
@@ -45,7 +45,7 @@ use Rattle.crib_know.proofs.RecordTurns.{possible_led}
 use Rattle.crib_know.proofs.KnowledgeFacts.{needs_history, first_deal_is}
 use Rattle.crib_game.specs.Private.Judging.{full_at}
 use Rattle.crib_check.specs.Private.Positions.{AllReach, IsFirstShortfall}
-use Rattle.crib_check.specs.Shows.{worst_of, AreShowsOf}
+use Rattle.crib_check.specs.Shows.{worst_of, AreExtremesOf}
 use Rattle.crib_cards.proofs.Members.{all_has, all_from}
 
 -- ---- the scores decide
@@ -147,16 +147,16 @@ module _ (problem : Setup) (know : Knowledge) (history : List Event) (knows : Kn
   fixed_known = ap (λ (k : Knowledge). k.fixed) knows.knowledge
 
   -- the table of counted shows is right for this show
-  abbrev kept_with : List ℕ → Shows → Type 0
-  kept_with fixed shows = AreShows problem.starter problem.hold problem.thrown (unseen_of problem) fixed shows
+  abbrev kept_with : List ℕ → ExtremesByRanks → Type 0
+  kept_with fixed shows = AreExtremes problem.starter problem.hold problem.thrown (unseen_of problem) fixed shows
 
-  pub shows_for : (show : WorstShow) → show ≡ behind → (shows : Shows) → AreShowsOf problem shows → AreShowsFor show shows
+  pub shows_for : (show : WorstShow) → show ≡ behind → (shows : ExtremesByRanks) → AreExtremesOf problem shows → AreExtremesFor show shows
   shows_for show e shows are =
-      subst (λ (s : WorstShow). AreShowsFor s shows) (sym e) (subst (λ (fixed : List ℕ). kept_with fixed shows) (sym fixed_known) are)
+      subst (λ (s : WorstShow). AreExtremesFor s shows) (sym e) (subst (λ (fixed : List ℕ). kept_with fixed shows) (sym fixed_known) are)
 
-  pub shows_from : (show : WorstShow) → show ≡ behind → (shows : Shows) → AreShowsFor show shows → AreShowsOf problem shows
+  pub shows_from : (show : WorstShow) → show ≡ behind → (shows : ExtremesByRanks) → AreExtremesFor show shows → AreExtremesOf problem shows
   shows_from show e shows are =
-      subst (λ (fixed : List ℕ). kept_with fixed shows) fixed_known (subst (λ (s : WorstShow). AreShowsFor s shows) e are)
+      subst (λ (fixed : List ℕ). kept_with fixed shows) fixed_known (subst (λ (s : WorstShow). AreExtremesFor s shows) e are)
 
   pub fixed_to : (dealt : Dealt) → list_all (has dealt.hold) (fixed_cards problem) ≡ true → list_all (has dealt.hold) know.fixed ≡ true
   fixed_to dealt all =

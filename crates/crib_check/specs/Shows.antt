@@ -1,8 +1,8 @@
 -- The hidden deals that the show may meet.
 use Rattle.crib_cards.specs.Sets.{set_of}
 use Rattle.crib_show.specs.declared.deals.WorstShow.{WorstShow}
-use Rattle.crib_show.specs.declared.shows.Shows.{Shows}
-use Rattle.crib_show.specs.Shows.{AreShows}
+use Rattle.crib_show.specs.declared.extremes.ExtremesByRanks.{ExtremesByRanks}
+use Rattle.crib_show.specs.Extremes.{AreExtremes}
 use Rattle.crib_problem.specs.Setup.{Setup, unseen_of, fixed_cards, target_of, is_stop}
 use Rattle.crib_know.specs.Knowledge.{Knowledge}
 
@@ -22,6 +22,6 @@ worst_of problem know = record {
 }
 
 -- the table of counted shows is right for the problem, whatever the scores are
-abbrev pub AreShowsOf : Setup → Shows → Type 0
-AreShowsOf problem shows =
-    AreShows problem.starter problem.hold problem.thrown (unseen_of problem) (set_of (fixed_cards problem)) shows
+abbrev pub AreExtremesOf : Setup → ExtremesByRanks → Type 0
+AreExtremesOf problem shows =
+    AreExtremes problem.starter problem.hold problem.thrown (unseen_of problem) (set_of (fixed_cards problem)) shows

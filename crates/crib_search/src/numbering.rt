@@ -54,7 +54,7 @@ impl<'a, A: Allocator + Copy> Numbering<'a, A> {
             order: Vec::new(alloc),
             marks: no_marks(alloc, nodes.len())?,
         };
-        numbering.walk(first)?;
+        numbering.number_from(first)?;
         Ok(numbering)
     }
 
@@ -74,14 +74,14 @@ impl<'a, A: Allocator + Copy> Numbering<'a, A> {
         let mut plan = Vec::with_capacity(alloc, self.len())?;
         for number in 0..self.len() {
             let place = self.place_numbered(number);
-            plan.push(self.node_of(self.nodes.draft_node(place)))?;
+            plan.push(self.numbered(self.nodes.draft_node(place)))?;
         }
         Ok(plan)
     }
 
     // Walks on from a place.
-    #[cycle(walk)]
-    fn walk(&mut self, draft_place: DraftPlace) -> Result<(), AllocError>
+    #[cycle(number_from)]
+    fn number_from(&mut self, draft_place: DraftPlace) -> Result<(), AllocError>
         requires { IsEarlier (length self.old.draft_nodes) draft_place }
         ensures same { self.new.draft_nodes ≡ self.old.draft_nodes }
         ensures walk { IfOk result (λ _. IsWalk self.old.draft_nodes draft_place self.old.left self.new.left) }
@@ -92,33 +92,33 @@ impl<'a, A: Allocator + Copy> Numbering<'a, A> {
         if self.is_left(place) {
             return Ok(());
         }
-        self.walk_below(place)?;
+        self.number_below(place)?;
         self.leave(place)?;
         Ok(())
     }
 
     // Walks on from all places that a node leads to.
-    #[cycle(walk)]
-    fn walk_below(&mut self, place: usize) -> Result<(), AllocError>
+    #[cycle(number_from)]
+    fn number_below(&mut self, place: usize) -> Result<(), AllocError>
         requires { place < length self.old.draft_nodes }
         ensures same { self.new.draft_nodes ≡ self.old.draft_nodes }
         ensures walk { IfOk result (λ _. IsWalkBelow self.old.draft_nodes place self.old.left self.new.left) }
     {
         match self.nodes.draft_node(place) {
             DraftNode::Play { card: _, next } => {
-                self.walk(next)?;
+                self.number_from(next)?;
                 Ok(())
             }
             DraftNode::See { next } => {
-                self.walk_all(&next)?;
+                self.number_from_all(&next)?;
                 Ok(())
             }
         }
     }
 
     // Walks on from some places, one after another.
-    #[cycle(walk)]
-    fn walk_all(&mut self, draft_places: &[DraftPlace]) -> Result<(), AllocError>
+    #[cycle(number_from)]
+    fn number_from_all(&mut self, draft_places: &[DraftPlace]) -> Result<(), AllocError>
         requires earlier { AllByRecursion (IsEarlier (length self.old.draft_nodes)) draft_places.now }
         requires few { length draft_places.now ≤ 14 }
         ensures same { self.new.draft_nodes ≡ self.old.draft_nodes }
@@ -128,8 +128,8 @@ impl<'a, A: Allocator + Copy> Numbering<'a, A> {
         let [draft_place, others @ ..] = draft_places else {
             return Ok(());
         };
-        self.walk(*draft_place)?;
-        self.walk_all(others)?;
+        self.number_from(*draft_place)?;
+        self.number_from_all(others)?;
         Ok(())
     }
 
@@ -164,7 +164,7 @@ impl<'a, A: Allocator + Copy> Numbering<'a, A> {
     }
 
     // The node of the plan for a kept node.
-    fn node_of(&self, draft_node: DraftNode) -> Node
+    fn numbered(&self, draft_node: DraftNode) -> Node
         requires few { length self.now.left ≤ 65535 }
         requires below { IsBelow (length self.now.draft_nodes) draft_node }
         ensures { result ≡ node_for self.now.left draft_node }

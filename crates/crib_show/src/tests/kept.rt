@@ -1,15 +1,15 @@
 //! Answers with what is kept of the shows of one problem.
-ghost use Rattle.crib_show.specs.Shows.{AreShowsFor};
+ghost use Rattle.crib_show.specs.Extremes.{AreExtremesFor};
 
 use crate::tests::{ACES, counted, twos_against};
-use crate::{Shows, WorstShow};
+use crate::{ExtremesByRanks, WorstShow};
 use crib_cards::Side;
 use std::process::Abort;
 
 // whether an answer with what is kept is the one that is worked out anew
-fn answers_alike(rt: &impl Abort, worst: &WorstShow, shows: &mut Shows)
-    requires { AreShowsFor worst.now shows.old }
-    ensures { AreShowsFor worst.now shows.new }
+fn answers_alike(rt: &impl Abort, worst: &WorstShow, shows: &mut ExtremesByRanks)
+    requires { AreExtremesFor worst.now shows.old }
+    ensures { AreExtremesFor worst.now shows.new }
 {
     assert!(rt; worst.has_deal());
     let kept = worst.can_fail_with(shows);
@@ -21,7 +21,7 @@ fn answers_from_what_is_kept(rt: HostRuntime) {
     let sevens: [&[u8]; 4] = [b"7C", b"7D", b"8C", b"9C"];
     let mut worst = twos_against(&rt, b"5H", [b"5C", b"5D"], ACES, &[]);
     worst.stop = true;
-    let mut shows = Shows::new(&worst.own_hold, &worst.own_throw, worst.starter);
+    let mut shows = ExtremesByRanks::new(&worst.own_hold, &worst.own_throw, worst.starter);
     for _turn in 0..2 {
         // the opponent gets twelve points for the hand and 29 for the crib
         worst.ranks = counted(&rt, ACES);

@@ -1,4 +1,4 @@
-use Rattle.crib_check.proofs.Kept.{refused_too}
+use Rattle.crib_check.proofs.Table.{refused_too}
 use Rattle.crib_check.proofs.key_sets.KeySetSettled.TheImpl.Goals as goal
 
 pub put-tells : goal.put-tells

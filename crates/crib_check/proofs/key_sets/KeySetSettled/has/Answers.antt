@@ -5,7 +5,7 @@ use Rattle.crib_know.specs.declared.knowledge.Shown.{Shown}
 use Rattle.crib_know.specs.contracts.knowledge.SightPartialEq.TheImpl as sights_compared
 use Rattle.crib_know.specs.contracts.knowledge.ShownPartialEq.TheImpl as shown_compared
 use Rattle.crib_check.specs.Private.Numbers.{IsNumber}
-use Rattle.crib_check.proofs.Kept.{without_sight, without_shown}
+use Rattle.crib_check.proofs.Table.{without_sight, without_shown}
 use Rattle.crib_check.proofs.key_sets.KeySetSettled.has.Goals as goal
 
 pub returns-in_default : goal.returns-in_default

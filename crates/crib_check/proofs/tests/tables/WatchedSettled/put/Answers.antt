@@ -1,4 +1,4 @@
-use Rattle.crib_check.proofs.Kept.{refused_too}
+use Rattle.crib_check.proofs.Table.{refused_too}
 use Rattle.crib_check.proofs.tests.tables.WatchedSettled.put.Goals as goal
 
 pub returns-clause-held : goal.returns-clause-held

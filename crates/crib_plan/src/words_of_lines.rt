@@ -1,0 +1,86 @@
+//! Reading the lines of a plan, one by one.
+ghost use Rattle.std.specs.Prelude.{◌≡◌, ◌≤◌, ◌<◌, length, drop};
+ghost use Rattle.crib_text.specs.Lines.{line_of};
+ghost use Rattle.crib_text.specs.Reading.{Gives};
+ghost use Rattle.crib_plan.specs.Refusals.{plan_cause_number};
+ghost use Rattle.crib_plan.specs.Reading.{own_number_in, play_in, see_in, node_from, count_in};
+
+use crate::branches::branches_of;
+use crate::fault::{BAD_LINE, PlanCause};
+use crate::next::next_of;
+use crate::plan::Node;
+use crib_cards::read_card;
+use crib_text::{Line, TextCause, check_keyword, number_of, word_at};
+
+// The number of nodes in the `nodes` line. Refused are a wrong keyword or number of words (4), a word that is no number
+// (6), and a number above 65,535 (32).
+#[tactic(auto, using(crate::proofs::LineLemmas::words_after), unfolding(crate::specs::Reading::count_in))]
+pub(crate) fn count_of(line: &Line<'_>) -> Result<u16, PlanCause>
+    ensures { Gives (λ count. count) plan_cause_number result (count_in (line_of line.now).words) }
+{
+    check_keyword(line, b"nodes", 1)?;
+    let count = number_of(word_at(line, 1))?;
+    if count > 65_535 {
+        return Err(PlanCause::TooMany);
+    }
+    Ok(count as u16)
+}
+
+// The node of a line, at `place` in a plan of `count` nodes. The second word says which kind of node it is. A line with
+// another second word is refused (4).
+#[tactic(auto, using(crate::proofs::LineLemmas::in_node))]
+pub(crate) fn read_node_line(line: &Line<'_>, place: u16, count: u16) -> Result<Node, PlanCause>
+    ensures { Gives (λ node. node) plan_cause_number result (node_from place count (line_of line.now).words) }
+{
+    if line.word_count() < 2 {
+        return Err(BAD_LINE);
+    }
+    let kind = word_at(line, 1);
+    if kind == b"play".as_slice() {
+        play_of(line, place, count)
+    } else if kind == b"see".as_slice() {
+        see_of(line, place, count)
+    } else {
+        Err(BAD_LINE)
+    }
+}
+
+#[tactic(auto, using(crate::proofs::LineLemmas::in_play))]
+fn play_of(line: &Line<'_>, place: u16, count: u16) -> Result<Node, PlanCause>
+    requires { 2 ≤ length (line_of line.now).words }
+    ensures { Gives (λ node. node) plan_cause_number result (play_in place count (line_of line.now).words) }
+{
+    if line.word_count() != 4 {
+        return Err(BAD_LINE);
+    }
+    check_own_number(place, word_at(line, 0))?;
+    let Some(card) = read_card(word_at(line, 2)) else {
+        return Err(PlanCause::Text(TextCause::BadCard));
+    };
+    let next = next_of(place, count, word_at(line, 3))?;
+    Ok(Node::Play { card, next })
+}
+
+#[tactic(auto, using(crate::proofs::LineLemmas::in_see))]
+fn see_of(line: &Line<'_>, place: u16, count: u16) -> Result<Node, PlanCause>
+    requires { 2 ≤ length (line_of line.now).words }
+    ensures { Gives (λ node. node) plan_cause_number result (see_in place count (line_of line.now).words) }
+{
+    check_own_number(place, word_at(line, 0))?;
+    let branches = branches_of(line, place, count)?;
+    let next = branches.next;
+    Ok(Node::See { next })
+}
+
+// Checks that a line begins with the number of its node. Refused are a word that is no number (6) and another number
+// (4).
+#[tactic(auto, unfolding(crate::specs::Reading::own_number_in))]
+fn check_own_number(place: u16, word: &[u8]) -> Result<(), PlanCause>
+    ensures { Gives (λ _. tt) plan_cause_number result (own_number_in place word.now) }
+{
+    let number = number_of(word)?;
+    if number != u32::from(place) {
+        return Err(BAD_LINE);
+    }
+    Ok(())
+}

@@ -1,0 +1,106 @@
+-- What is kept of a show is right for each other with the same cards.
+use Rattle.std.proofs.Common.{◌≡◌, ℕ, ◌+◌, ◌<◌, ◌≤◌, ◌++◌, List, IsTrue, length, replicate, set, eqb, refl, sym, ap, ◌∙◌, subst, inl, inr}
+use Rattle.std.proofs.lemmas.Bool.{cases_Bool, eqb-true, eqb-false}
+use Rattle.std.proofs.lemmas.Grind.{get_or-set_at}
+use Rattle.std.proofs.lemmas.List.{get_or-set_other, get_or-replicate, length-replicate, length-set}
+use Rattle.std.specs.List.{list_all}
+use Rattle.crib_cards.specs.Deals.{IsDeal}
+use Rattle.crib_cards.specs.Sets.{has}
+use Rattle.crib_cards.specs.declared.sides.Dealt.{Dealt}
+use Rattle.crib_show.specs.Show.{hand_points, crib_points}
+use Rattle.crib_show.specs.Private.Places.{IsPlace}
+use Rattle.crib_show.specs.Places.{AreFour, place_among}
+use Rattle.crib_show.specs.Extremes.{AreKept, AreKeptIn, HasCards}
+use Rattle.crib_show.proofs.PlaceLemmas.{place_of_one}
+use Rattle.crib_show.specs.Worst.{AgreesInShow, IsGreatestCrib, IsGreatestHand, IsGreatestTotal, IsLeastCrib, hidden_crib, hidden_hand, hidden_total}
+use Rattle.crib_show.specs.declared.deals.WorstShow.{WorstShow}
+use Rattle.crib_show.specs.declared.extremes.Extremes.{Extremes}
+
+-- ---- two shows with the same cards
+module _ (starter : ℕ) (throw unseen fixed : List ℕ) (worst other : WorstShow) (here : HasCards starter throw unseen fixed worst)
+    (there : HasCards starter throw unseen fixed other) (same : worst.ranks ≡ other.ranks) where
+  starters : worst.starter ≡ other.starter
+  starters = here.starter_is ∙ sym there.starter_is
+
+  agrees_there : (dealt : Dealt) → AgreesInShow worst dealt → AgreesInShow other dealt
+  agrees_there dealt agrees = record {
+    deal = subst (λ cards. IsDeal cards dealt) (here.unseen_is ∙ sym there.unseen_is) agrees.deal;
+    ranks_held = agrees.ranks_held ∙ same;
+    fixed_held = subst (λ cards. IsTrue (list_all (has dealt.hold) cards)) (here.fixed_is ∙ sym there.fixed_is) agrees.fixed_held;
+  }
+
+  agrees_here : (dealt : Dealt) → AgreesInShow other dealt → AgreesInShow worst dealt
+  agrees_here dealt agrees = record {
+    deal = subst (λ cards. IsDeal cards dealt) (there.unseen_is ∙ sym here.unseen_is) agrees.deal;
+    ranks_held = agrees.ranks_held ∙ sym same;
+    fixed_held = subst (λ cards. IsTrue (list_all (has dealt.hold) cards)) (there.fixed_is ∙ sym here.fixed_is) agrees.fixed_held;
+  }
+
+  hands : (dealt : Dealt) → hidden_hand worst dealt ≡ hidden_hand other dealt
+  hands dealt = ap (hand_points dealt.hold) starters
+
+  cribs : (dealt : Dealt) → hidden_crib worst dealt ≡ hidden_crib other dealt
+  cribs dealt = λ i. crib_points ((here.throw_is ∙ sym there.throw_is) i ++ dealt.throw) (starters i)
+
+  totals : (dealt : Dealt) → hidden_total worst dealt ≡ hidden_total other dealt
+  totals dealt = λ i. hands dealt i + cribs dealt i
+
+  hand_there : (points : ℕ) → IsGreatestHand worst points → IsGreatestHand other points
+  hand_there points is = record {
+    some = (is.some.0, agrees_there is.some.0 is.some.1, sym (hands is.some.0) ∙ is.some.2);
+    all = λ dealt agrees. subst (λ k. k ≤ points) (hands dealt) (is.all dealt (agrees_here dealt agrees));
+  }
+
+  least_there : (points : ℕ) → IsLeastCrib worst points → IsLeastCrib other points
+  least_there points is = record {
+    some = (is.some.0, agrees_there is.some.0 is.some.1, sym (cribs is.some.0) ∙ is.some.2);
+    all = λ dealt agrees. subst (λ k. points ≤ k) (cribs dealt) (is.all dealt (agrees_here dealt agrees));
+  }
+
+  crib_there : (points : ℕ) → IsGreatestCrib worst points → IsGreatestCrib other points
+  crib_there points is = record {
+    some = (is.some.0, agrees_there is.some.0 is.some.1, sym (cribs is.some.0) ∙ is.some.2);
+    all = λ dealt agrees. subst (λ k. k ≤ points) (cribs dealt) (is.all dealt (agrees_here dealt agrees));
+  }
+
+  total_there : (points : ℕ) → IsGreatestTotal worst points → IsGreatestTotal other points
+  total_there points is = record {
+    some = (is.some.0, agrees_there is.some.0 is.some.1, sym (totals is.some.0) ∙ is.some.2);
+    all = λ dealt agrees. subst (λ k. k ≤ points) (totals dealt) (is.all dealt (agrees_here dealt agrees));
+  }
+
+  kept_there : (kept : Extremes) → AreKept worst kept → AreKept other kept
+  kept_there kept is = record {
+    greatest_hand = λ kept_here. hand_there kept.greatest_hand (is.greatest_hand kept_here);
+    least_crib = λ kept_here. least_there kept.least_crib (is.least_crib kept_here);
+    greatest_crib = λ kept_here. crib_there kept.greatest_crib (is.greatest_crib kept_here);
+    greatest_total = λ kept_here. total_there kept.greatest_total (is.greatest_total kept_here);
+  }
+
+-- a show has its own cards
+own_cards : (worst : WorstShow) → AreFour worst.ranks → HasCards worst.starter worst.own_throw worst.unseen worst.fixed worst
+own_cards worst are = record { starter_is = refl; throw_is = refl; unseen_is = refl; fixed_is = refl; are_four = are }
+
+-- at first nothing is kept, which is right
+pub kept_new : (starter : ℕ) (throw unseen fixed : List ℕ) (n : ℕ) (kept : Extremes) → ((worst : WorstShow) → AreKept worst kept) →
+    AreKeptIn starter throw unseen fixed (replicate n kept)
+kept_new starter throw unseen fixed n kept right = λ worst none has inside.
+    let place = place_among 4 worst.ranks in
+    subst (AreKept worst) (sym (get_or-replicate n place kept none (subst (λ k. place < k) (length-replicate n kept) inside))) (right worst)
+
+-- what is right of a show is kept in its place
+pub kept_with : (worst : WorstShow) (all : List Extremes) (place : ℕ) (here : Extremes) → IsPlace worst.ranks place → AreKept worst here →
+    AreKeptIn worst.starter worst.own_throw worst.unseen worst.fixed all → AreKeptIn worst.starter worst.own_throw worst.unseen worst.fixed (set all place here)
+kept_with worst all place here is right kept = λ other none has inside.
+    let within : place_among 4 other.ranks < length all = subst (λ k. place_among 4 other.ranks < k) (length-set all place here) inside in
+    elim (cases_Bool (eqb (place_among 4 other.ranks) place)) [
+      | inl yes_here ↦
+          let at = eqb-true (place_among 4 other.ranks) place yes_here in
+          let same : worst.ranks ≡ other.ranks = place_of_one 4 worst.ranks other.ranks (is.are_four.thirteen ∙ sym has.are_four.thirteen) is.are_four.four
+          has.are_four.four (sym is.place_is ∙ sym at) in
+          subst (AreKept other) (sym (get_or-set_at all place (place_among 4 other.ranks) here none at (subst (λ k. k < length all) at within)))
+          (kept_there worst.starter worst.own_throw worst.unseen worst.fixed worst other (own_cards worst is.are_four) has same here right)
+      | inr elsewhere ↦
+          subst (AreKept other) (sym (get_or-set_other all place (place_among 4 other.ranks) here none (eqb-false (place_among 4 other.ranks) place elsewhere)))
+          (kept other none has within)
+    ]

@@ -7,7 +7,6 @@ use Rattle.crib_cards.specs.declared.sides.Scores.{Scores}
 use Rattle.crib_text.specs.Refusals.{Refusal}
 use Rattle.crib_text.specs.Reading.{◌>>=◌}
 use Rattle.crib_problem.specs.Setup.{Setup}
-use Rattle.crib_problem.specs.Reading.{problem_at}
 use Rattle.crib_problem.specs.Spelling.{problem_text}
 use Rattle.crib_plan.specs.declared.plan.Node.{Node}
 use Rattle.crib_plan.specs.Nodes.{most_nodes}
@@ -29,15 +28,15 @@ use Rattle.crib_search.specs.Finder.{IsFound, ExceedsLimit}
 use Rattle.crib_search.proofs.FoundIsPlan.{found_plan}
 use Rattle.crib_search.proofs.LawProofs.{sure_law}
 use Rattle.crib_answer.specs.declared.status.Status.TheVariants.{Yes, Refused}
-use Rattle.crib_answer.specs.Input.{input_lines, last_game_at, last_judged, report_at, report_of_input, ending_of_input, board_at, board_of_input}
-use Rattle.crib_answer.specs.Input.{problem_of_input}
+use Rattle.crib_input.specs.Input.{played_of_input, problem_of_input}
+use Rattle.crib_input.specs.Spelled.{SpellsGame}
+use Rattle.crib_input.proofs.Inputs.{problem_accepted}
+use Rattle.crib_answer.specs.Input.{judgement_of, report_of_input, ending_of_input, board_of_input}
 use Rattle.crib_answer.specs.Reply.{Reply}
 use Rattle.crib_answer.specs.Answer.{board_reply, ending_reply, ending_status, refusal_reply, reply_by, report_reply}
 use Rattle.crib_answer.specs.Laws.{FailedGameLaw, FollowedGameLaw, FoundPlanLaw, SameRefusalLaw, SameReportLaw}
-use Rattle.crib_answer.specs.Telling.{SpellsGame}
 use Rattle.crib_answer.specs.Reported.{IsReported, last_scores}
-use Rattle.crib_answer.proofs.GameInputs.{board_spelled, ending_accepted, ending_spelled, report_accepted, report_spelled}
-use Rattle.crib_answer.proofs.Inputs.{problem_accepted}
+use Rattle.crib_answer.proofs.JudgedInputs.{board_spelled, ending_accepted, ending_spelled, report_accepted, report_spelled}
 use Rattle.crib_answer.proofs.Replies.{fails_law, first_of, planned_by_output, sure_owed}
 
 -- ---- a plan that is found
@@ -118,17 +117,15 @@ alike_then : {A B C : Type 0} (read : Result A Refusal) (one : A → Result B Re
 alike_then (Ok value) one other alike = alike value
 alike_then (Err refusal) one other alike = refl
 
-alike_judged : (problem : Setup) (last : Game × ℕ) (replayed : Result Report GameFault) →
-    AreAlike (last_judged last replayed) (last_judged last (board_for problem replayed))
-alike_judged problem last (Ok report) = tt
-alike_judged problem last (Err fault) = refl
+alike_judged : (problem : Setup) (game : Game) (first : ℕ) (replayed : Result Report GameFault) →
+    AreAlike (judgement_of game first replayed) (judgement_of game first (board_for problem replayed))
+alike_judged problem game first (Ok report) = tt
+alike_judged problem game first (Err fault) = refl
 
 alike_read : (input : List ℕ) → AreAlike (report_of_input input) (board_of_input input)
-unfolding report_of_input report_at board_of_input board_at
+unfolding report_of_input board_of_input
 alike_read input =
-    alike_then (input_lines input) _ _ (λ rest.
-    alike_then (problem_at rest) _ _ (λ problem.
-    alike_then (last_game_at problem.1) _ _ (λ last. alike_judged problem.0 last (replay_result problem.0 last.0))))
+    alike_then (played_of_input input) _ _ (λ played. alike_judged played.0 played.1 played.2 (replay_result played.0 played.1))
 
 same_refused : (read : Result Report Refusal) (board : Result (List ℕ) Refusal) (refusal : Refusal) → AreAlike read board →
     (refusal_reply refusal ≡ reply_by report_reply read) ↔ (refusal_reply refusal ≡ reply_by board_reply board)

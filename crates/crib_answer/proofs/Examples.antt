@@ -18,7 +18,8 @@ use Rattle.crib_search.specs.Winnable.{IsWinnable}
 use Rattle.crib_answer.specs.declared.job.Job.TheVariants.{Replay, Check, Solve}
 use Rattle.crib_answer.specs.declared.status.Status.TheVariants.{Yes, No, Refused, Fault}
 use Rattle.crib_answer.specs.Answer.{fault_line, too_large}
-use Rattle.crib_answer.specs.Telling.{SpellsProblem, SpellsPlan, HasFailingPlan, IsSolvedBy, HasNoPlan}
+use Rattle.crib_input.specs.Spelled.{SpellsProblem, SpellsPlan}
+use Rattle.crib_answer.specs.Telling.{HasFailingPlan, IsSolvedBy, HasNoPlan}
 use Rattle.crib_answer.specs.Telling.{CheckTells, SolveTells, StatusTells, holds_line, fails_line, none_line}
 
 -- ---- the lines

@@ -1,9 +1,8 @@
 pub mod Lines
 pub mod OwedReplies
-pub mod Inputs
 pub mod Replies
 pub mod ToldAnswers
 pub mod CutShortInputs
 pub mod Examples
-pub mod GameInputs
+pub mod JudgedInputs
 pub mod Agreement

@@ -16,8 +16,8 @@ use Rattle.crib_answer.specs.declared.job.Job.TheVariants.{Replay, Follow, Check
 use Rattle.crib_answer.specs.declared.status.Status.{Status}
 use Rattle.crib_answer.specs.declared.status.Status.TheVariants.{Yes, No, Refused, Fault}
 use Rattle.crib_answer.specs.Reply.{Reply}
-use Rattle.crib_answer.specs.Input.{report_of_input, ending_of_input, question_of_input}
-use Rattle.crib_answer.specs.Input.{problem_of_input, board_of_input}
+use Rattle.crib_input.specs.Input.{problem_of_input, question_of_input}
+use Rattle.crib_answer.specs.Input.{board_of_input, ending_of_input, report_of_input}
 use Rattle.crib_problem.specs.Setup.{Setup}
 use Rattle.crib_plan.specs.declared.plan.Node.{Node}
 use Rattle.crib_plan.specs.Nodes.{most_nodes}

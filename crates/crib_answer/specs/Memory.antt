@@ -1,26 +1,13 @@
 -- Where a job asks for memory, once its input is in memory.
-use Rattle.std.specs.Prelude.{◌≡◌, ◌⊎◌, ℕ, List, Result, Ok, IsOk}
-use Rattle.crib_text.specs.Refusals.{Refusal, no_memory}
-use Rattle.crib_text.specs.Reading.{◌>>=◌, Rest}
-use Rattle.crib_problem.specs.Reading.{problem_at}
-use Rattle.crib_plan.specs.Reading.{count_at}
+use Rattle.std.specs.Prelude.{◌≡◌, ◌⊎◌, ℕ, List, IsOk}
+use Rattle.crib_text.specs.Refusals.{no_memory}
+use Rattle.crib_input.specs.Input.{problem_of_input}
+use Rattle.crib_input.specs.Memory.{count_of_input}
 use Rattle.crib_answer.specs.declared.job.Job.{Job}
 use Rattle.crib_answer.specs.declared.job.Job.TheVariants.{Replay, Follow, Check, Solve, Board}
-use Rattle.crib_answer.specs.Input.{input_lines, problem_of_input, board_of_input}
+use Rattle.crib_answer.specs.Input.{board_of_input}
 use Rattle.crib_answer.specs.Reply.{Reply}
 use Rattle.crib_answer.specs.Answer.{Answers, fault_reply}
-
--- the number of nodes that the plan after a problem states, or the first refusal. Only the first two lines of the plan
--- are read
-unfoldable pub count_behind : Rest → Result ℕ Refusal
-count_behind rest = do
-  problem ← problem_at rest
-  count ← count_at problem.1
-  Ok count.0
-
--- the number of nodes that an input states after its problem, or the first refusal
-unfoldable pub count_of_input : List ℕ → Result ℕ Refusal
-count_of_input bytes = input_lines bytes >>= count_behind
 
 -- a job may ask for memory for an input: `replay` never, `follow` and `check` if the problem and the first two lines of
 -- the plan are not refused, `solve` and `board` if the input is not refused

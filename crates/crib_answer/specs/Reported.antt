@@ -8,7 +8,7 @@ use Rattle.crib_game.specs.declared.report.Row.{Row}
 use Rattle.crib_board.specs.Board.{board_of}
 use Rattle.crib_answer.specs.declared.job.Job.TheVariants.{Replay, Board}
 use Rattle.crib_answer.specs.Answer.{Answers, board_reply, report_reply}
-use Rattle.crib_answer.specs.Telling.{SpellsGame}
+use Rattle.crib_input.specs.Spelled.{SpellsGame}
 
 -- the scores after the last of some rows, or the first scores if there is no row
 abbrev pub last_scores : Scores → List Row → Scores

@@ -2,17 +2,16 @@
 use Rattle.std.specs.Prelude.{◌≡◌, ◌⊎◌, ℕ, List, [], ◌∷◌, ◌++◌, codes}
 use Rattle.crib_text.specs.Refusals.{no_memory}
 use Rattle.crib_text.specs.Spelling.{line_text}
-use Rattle.crib_problem.specs.Setup.{Setup, IsSetup}
-use Rattle.crib_problem.specs.Spelling.{problem_text}
+use Rattle.crib_problem.specs.Setup.{Setup}
 use Rattle.crib_plan.specs.declared.plan.Node.{Node}
-use Rattle.crib_plan.specs.Nodes.{ArePlan}
 use Rattle.crib_plan.specs.Spelling.{plan_text}
 use Rattle.crib_game.specs.declared.game.Game.{Game}
 use Rattle.crib_game.specs.declared.ending.Ending.{Ending}
-use Rattle.crib_game.specs.Spelling.{IsGame, game_text}
+use Rattle.crib_game.specs.Spelling.{game_text}
 use Rattle.crib_check.specs.Sure.{IsSure, GoesOn, Ends}
 use Rattle.crib_check.specs.Failing.{IsFirstFailing}
 use Rattle.crib_search.specs.Winnable.{IsWinnable}
+use Rattle.crib_input.specs.Spelled.{SpellsProblem, SpellsPlan}
 use Rattle.crib_answer.specs.declared.job.Job.{Job}
 use Rattle.crib_answer.specs.declared.job.Job.TheVariants.{Replay, Follow, Check, Solve, Board}
 use Rattle.crib_answer.specs.declared.status.Status.{Status}
@@ -20,32 +19,6 @@ use Rattle.crib_answer.specs.declared.status.Status.TheVariants.{Yes, No, Refuse
 use Rattle.crib_answer.specs.Reply.{Reply}
 use Rattle.crib_game.specs.Words.{ending_word}
 use Rattle.crib_answer.specs.Answer.{fault_line, too_large}
-
--- ---- what an input spells
-
--- an input spells a problem: it is the text of the problem and nothing else
-pub record SpellsProblem (input : List ℕ) (problem : Setup) : Type 0 where
-  pub problem_is : IsSetup problem
-  pub text : input ≡ problem_text problem
-
--- an input spells a problem and a plan: it is the text of the problem, then that of the plan, and nothing else
-pub record SpellsPlan (input : List ℕ) (problem : Setup) (plan : List Node) : Type 0 where
-  pub problem_is : IsSetup problem
-  pub plan_is : ArePlan plan
-  pub text : input ≡ problem_text problem ++ plan_text plan
-
--- an input spells a problem and a game: it is the text of the problem, then that of the game, and nothing else
-pub record SpellsGame (input : List ℕ) (problem : Setup) (game : Game) : Type 0 where
-  pub problem_is : IsSetup problem
-  pub game_is : IsGame game
-  pub text : input ≡ problem_text problem ++ game_text game
-
--- an input spells a problem, a plan and a game: it is their texts, one after the other, and nothing else
-pub record SpellsPlannedGame (input : List ℕ) (problem : Setup) (plan : List Node) (game : Game) : Type 0 where
-  pub problem_is : IsSetup problem
-  pub plan_is : ArePlan plan
-  pub game_is : IsGame game
-  pub text : input ≡ problem_text problem ++ plan_text plan ++ game_text game
 
 -- an input spells a problem and a plan. The plan is sure for the problem, and the play goes on until the deal is done
 pub record HasSurePlan (input : List ℕ) : Type 0 where

@@ -1,5 +1,6 @@
 //! The answer to an input: its text and its status.
 ghost use Rattle.std.specs.Prelude.{◌≤◌, length};
+ghost use Rattle.crib_input.specs.Input.{most_bytes};
 ghost use Rattle.crib_answer.specs.Text.{text_bytes};
 
 use crate::status::Status;
@@ -12,5 +13,5 @@ use std::alloc::Allocator;
 pub struct Answer<A: Allocator> {
     pub(crate) text: Text<A>,
     pub(crate) status: Status,
-    ghost can_be_sent: { length (text_bytes text) ≤ 8388608 },
+    ghost can_be_sent: { length (text_bytes text) ≤ most_bytes },
 }

@@ -9,14 +9,18 @@ ghost use Rattle.crib_answer.specs.Telling.{StatusTells};
 use crate::answer::Answer;
 use crate::ending::ending_answer;
 use crate::job::Job;
-use crate::reading::{board_of, ending_of, problem_of, report_of, verdict_of};
-use crate::refusal::{Refused, refusal_answer, stop_answer};
+use crate::line::memory_answer;
+use crate::refusal::{not_read_answer, refusal_answer};
 use crate::report::report_answer;
 use crate::solve::solve_answer;
 use crate::status::Status;
 use crate::text::Text;
 use crate::verdict::verdict_answer;
-use crib_text::MAX_INPUT;
+use crib_board::{BoardFault, write_board};
+use crib_check::verdict_on;
+use crib_game::{follow, replay};
+use crib_input::{Refusal, played_of, played_under_of, problem_of, question_of};
+use crib_text::{MAX_INPUT, TextCause, TextFault};
 use std::alloc::Allocator;
 
 /// Returns the whole answer of a job to an input of any length: its text and its status (docs/FORMATS.md, "Answers").
@@ -52,69 +56,89 @@ pub fn answer_to<A: Allocator + Copy>(alloc: A, job: Job, input: &[u8]) -> Answe
 pub fn too_long_answer<A: Allocator>() -> Answer<A>
     ensures { reply_of result ≡ refusal_reply (record { line = 0; number = too_long }) }
 {
-    let too_long = Refused { line: 0, number: 2 };
-    refusal_answer(too_long)
+    refusal_answer(Refusal::from(TextFault::of_input(TextCause::TooLong)))
 }
 
 // The answer of `replay`: the report of the game, or the refusal of the input.
+#[tactic(auto, unfolding(crate::specs::Input::report_of_input))]
 fn replay_answer<A: Allocator>(input: &[u8]) -> Answer<A>
-    requires { length input.now ≤ 8388608 }
+    requires { length input.now ≤ MAX_INPUT }
     ensures { Makes Job.Replay input.now (reply_of result) }
 {
-    match report_of(input) {
+    let played = match played_of(input) {
+        Ok(played) => played,
+        Err(refusal) => return refusal_answer(refusal),
+    };
+    match replay(&played.problem, &played.game) {
         Ok(report) => report_answer(&report),
-        Err(refused) => refusal_answer(refused),
+        Err(fault) => refusal_answer(Refusal::of_game(fault, played.first, &played.game)),
     }
 }
 
 // The answer of `follow`: the ending of the game, the refusal of the input, or `fault 11` if memory was refused.
+#[tactic(auto, unfolding(crate::specs::Input::ending_of_input))]
 fn follow_answer<A: Allocator + Copy>(alloc: A, input: &[u8]) -> Answer<A>
-    requires { length input.now ≤ 8388608 }
+    requires { length input.now ≤ MAX_INPUT }
     ensures { Makes Job.Follow input.now (reply_of result) }
 {
-    match ending_of(alloc, input) {
+    let played = match played_under_of(alloc, input) {
+        Ok(played) => played,
+        Err(not_read) => return not_read_answer(not_read),
+    };
+    match follow(&played.problem, &played.plan, &played.game) {
         Ok(ending) => ending_answer(ending),
-        Err(stop) => stop_answer(stop),
+        Err(fault) => refusal_answer(Refusal::of_game(fault, played.first, &played.game)),
     }
 }
 
 // The answer of `check`: the verdict on the plan, the refusal of the input, or `fault 11` if memory was refused.
 fn check_answer<A: Allocator + Copy>(alloc: A, input: &[u8]) -> Answer<A>
-    requires { length input.now ≤ 8388608 }
+    requires { length input.now ≤ MAX_INPUT }
     ensures { Makes Job.Check input.now (reply_of result) }
 {
-    match verdict_of(alloc, input) {
-        Ok(verdict) => verdict_answer(alloc, &verdict),
-        Err(stop) => stop_answer(stop),
+    match question_of(alloc, input) {
+        Ok(question) => {
+            let verdict = verdict_on(alloc, &question.problem, &question.plan);
+            verdict_answer(alloc, &verdict)
+        }
+        Err(not_read) => not_read_answer(not_read),
     }
 }
 
 // The answer of `solve`: a plan, `none`, the refusal of the input, or a fault.
 fn problem_answer<A: Allocator + Copy>(alloc: A, input: &[u8]) -> Answer<A>
-    requires { length input.now ≤ 8388608 }
+    requires { length input.now ≤ MAX_INPUT }
     ensures { Makes Job.Solve input.now (reply_of result) }
 {
     match problem_of(input) {
         Ok(problem) => solve_answer(alloc, &problem),
-        Err(refused) => refusal_answer(refused),
+        Err(refusal) => refusal_answer(refusal),
     }
 }
 
 // The answer of `board`: the board of the game, the refusal of the input, or `fault 11` if memory was refused.
+#[tactic(auto, unfolding(crate::specs::Input::board_of_input))]
 fn board_answer<A: Allocator + Copy>(alloc: A, input: &[u8]) -> Answer<A>
-    requires { length input.now ≤ 8388608 }
+    requires { length input.now ≤ MAX_INPUT }
     ensures { Makes Job.Board input.now (reply_of result) }
 {
-    match board_of(alloc, input) {
+    let played = match played_of(input) {
+        Ok(played) => played,
+        Err(refusal) => return refusal_answer(refusal),
+    };
+    match write_board(alloc, &played.problem, &played.game) {
         Ok(text) => section_answer(text),
-        Err(stop) => stop_answer(stop),
+        Err(BoardFault::Game(fault)) => {
+            refusal_answer(Refusal::of_game(fault, played.first, &played.game))
+        }
+        Err(BoardFault::NoMemory) => memory_answer(),
     }
 }
 
 // The answer with this board as its text. The status is `Yes`.
 #[tactic(auto, unfolding(crate::specs::Reply::reply_of, crate::specs::Text::text_bytes))]
 fn section_answer<A: Allocator>(text: Vec<u8, A>) -> Answer<A>
-    requires { vec_len text ≤ 8388608 }
+    requires { vec_len text ≤ MAX_INPUT }
     ensures { reply_of result ≡ board_reply text.items }
 {
     Answer {

@@ -8,7 +8,6 @@ mod job;
 mod laws;
 mod line;
 mod passed;
-mod reading;
 mod refusal;
 mod reply;
 mod report;

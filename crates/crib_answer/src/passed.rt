@@ -1,9 +1,8 @@
-//! The verdict of the checker on a plan, and plans that it found to be sure.
+//! Plans that the checker found to be sure.
 ghost use Rattle.std.specs.Prelude.{◌≡◌, ◌≢◌, None, IfSome};
 ghost use Rattle.crib_check.specs.Sure.{IsSure};
-ghost use Rattle.crib_answer.specs.Private.Replies.{IsVerdictOn};
 
-use crib_check::{KeySet, Verdict, check_with};
+use crib_check::{Verdict, verdict_on};
 use crib_plan::Plan;
 use crib_problem::Problem;
 use std::alloc::Allocator;
@@ -28,7 +27,6 @@ impl<'a, A: Allocator> PassedPlan<'a, A> {
 
 /// Checks a plan. Returns it if it is sure for the problem, and `None` if it is not. Memory is for the checker's table
 /// of positions alone. If it is refused, the result is the same.
-#[tactic(auto, unfolding(crate::specs::Private::Replies::IsVerdictOn))]
 pub fn passed<'a, A: Allocator + Copy>(
     alloc: A,
     problem: &'a Problem,
@@ -41,13 +39,4 @@ pub fn passed<'a, A: Allocator + Copy>(
         Verdict::Holds => Some(PassedPlan { problem, plan }),
         Verdict::Fails(_, _) => None,
     }
-}
-
-/// Checks a plan. Returns the verdict. Memory is for the table of positions alone. If it is refused, the verdict is the
-/// same.
-#[tactic(auto, unfolding(crate::specs::Private::Replies::IsVerdictOn))]
-pub fn verdict_on<A: Allocator + Copy>(alloc: A, problem: &Problem, plan: &Plan<A>) -> Verdict
-    ensures { IsVerdictOn problem.now plan.now result }
-{
-    check_with(problem, plan, &mut KeySet::new(alloc))
 }

@@ -4,6 +4,7 @@ ghost use Rattle.crib_answer.specs.Reply.{reply_of};
 
 use crate::answer::Answer;
 use crate::status::Status;
+use crib_text::MAX_INPUT;
 use std::alloc::Allocator;
 
 impl<A: Allocator> Answer<A> {
@@ -11,7 +12,7 @@ impl<A: Allocator> Answer<A> {
     #[tactic(auto, unfolding(crate::specs::Reply::reply_of))]
     pub fn as_slice(&self) -> &[u8]
         ensures output { result.now ≡ (reply_of self.now).output }
-        ensures short { length result.now ≤ 8388608 }
+        ensures short { length result.now ≤ MAX_INPUT }
     {
         self.text.as_slice()
     }

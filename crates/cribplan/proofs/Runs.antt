@@ -6,7 +6,7 @@ use Rattle.crib_text.specs.Refusals.{no_memory, too_long}
 use Rattle.crib_text.specs.declared.fault.TextCause.{TextCause}
 use Rattle.crib_answer.specs.declared.job.Job.{Job}
 use Rattle.crib_answer.specs.declared.status.Status.{Status}
-use Rattle.crib_answer.specs.Input.{most_bytes}
+use Rattle.crib_input.specs.Input.{most_bytes}
 use Rattle.crib_answer.specs.Reply.{Reply}
 use Rattle.crib_answer.specs.Answer.{refusal_reply, fault_reply}
 use Rattle.crib_answer.specs.Memory.{Makes}

@@ -1,12 +1,12 @@
 -- An accepted input spells what was read of it, and an input that spells a problem, or a problem and a plan, is accepted.
-use Rattle.std.proofs.Common.{◌≡◌, ℕ, ◌+◌, ◌≤◌, Bool, true, false, not, cond, List, [], ◌∷◌, ◌++◌, length, map, flat_map, Result, Ok, Err}
+use Rattle.std.proofs.Common.{◌≡◌, ℕ, ◌+◌, ◌<◌, ◌≤◌, Bool, true, false, not, cond, List, [], ◌∷◌, ◌++◌, length, map, flat_map, Result, Ok, Err, IsOk}
 use Rattle.std.proofs.Common.{refl, sym, ap, ◌∙◌, subst, append_assoc, arith}
-use Rattle.std.proofs.lemmas.Bool.{le-leb, and_from}
+use Rattle.std.proofs.lemmas.Bool.{le-leb, lt-leb, and_from}
 use Rattle.std.proofs.lemmas.List.{append-nil, length-append}
 use Rattle.std.proofs.lemmas.List.Folds.{list_all-append}
 use Rattle.std.specs.Prelude.{nat_le}
 use Rattle.std.specs.List.{list_all}
-use Rattle.crib_text.specs.Refusals.{Refusal}
+use Rattle.crib_text.specs.Refusals.{Refusal, too_long}
 use Rattle.crib_text.specs.Spelling.{line_text, line_bytes, lines_text}
 use Rattle.crib_text.specs.Words.{lines_of, is_ended}
 use Rattle.crib_text.specs.Reading.{◌>>=◌, Rest, text_check, all_lines, end_at, no_line}
@@ -21,10 +21,11 @@ use Rattle.crib_text.proofs.FormLaws.{form_read}
 use Rattle.crib_problem.proofs.ProblemForm.{problem_form}
 use Rattle.crib_plan.specs.declared.plan.Node.{Node}
 use Rattle.crib_plan.specs.Spelling.{plan_lines, plan_text}
-use Rattle.crib_plan.specs.Reading.{plan_at}
+use Rattle.crib_plan.specs.Reading.{count_at, plan_at}
 use Rattle.crib_plan.proofs.PlanForm.{plan_form}
-use Rattle.crib_answer.specs.Input.{most_bytes, input_lines, problem_alone_at, problem_of_input, question_at, question_of_input}
-use Rattle.crib_answer.specs.Telling.{SpellsProblem, SpellsPlan}
+use Rattle.crib_input.specs.Input.{most_bytes, input_lines, problem_alone_at, problem_of_input, question_at, question_of_input}
+use Rattle.crib_input.specs.Memory.{count_behind, count_of_input}
+use Rattle.crib_input.specs.Spelled.{SpellsProblem, SpellsPlan}
 
 -- ---- the text as a whole
 
@@ -184,3 +185,23 @@ problem_spelled input problem spelled =
     let last : Rest = record { number = 1 + length lines; lines = [] } in
     let first = form_read problem_form problem whole [] spelled.problem_is (sym (append-nil (map line_bytes lines))) in
     ap (λ (read : Result Rest Refusal). read >>= problem_alone_at) taken ∙ problem_asked_alone whole problem last first (nothing_left last refl)
+
+-- ---- an input that is too long, and the number of nodes
+
+long_lines : (input : List ℕ) → most_bytes < length input → input_lines input ≡ Err (record { line = 0; number = too_long })
+unfolding input_lines
+long_lines input long = ap (λ b. cond b (all_lines input) (Err (record { line = 0; number = too_long }))) (lt-leb (length input) most_bytes long)
+
+pub read_of_long : {A : Type 0} (read : Rest → Result A Refusal) (input : List ℕ) → most_bytes < length input
+    → (input_lines input >>= read) ≡ Err (record { line = 0; number = too_long })
+read_of_long read input long = ap (λ (lines : Result Rest Refusal). lines >>= read) (long_lines input long)
+
+-- if a problem and a plan are read, the number of nodes is read
+pub counted : (input : List ℕ) (question : Setup × List Node) → question_of_input input ≡ Ok question → IsOk (count_of_input input)
+unfolding question_of_input question_at plan_at count_of_input count_behind
+counted input question asked =
+    let a = bind_ok (input_lines input) _ question asked in
+    let b = bind_ok (problem_at a.0) _ question a.2 in
+    let d = bind_ok (plan_at b.0.1) _ question b.2 in
+    let k = bind_ok (count_at b.0.1) _ d.0 d.1 in
+    rw (a.1, b.1, k.1) refl

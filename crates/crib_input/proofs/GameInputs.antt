@@ -19,44 +19,39 @@ use Rattle.crib_plan.specs.declared.plan.Node.{Node}
 use Rattle.crib_plan.specs.Spelling.{plan_lines, plan_text}
 use Rattle.crib_plan.specs.Reading.{plan_at}
 use Rattle.crib_plan.proofs.PlanForm.{plan_form}
-use Rattle.crib_game.specs.declared.ending.Ending.{Ending}
-use Rattle.crib_game.specs.declared.fault.GameFault.{GameFault}
 use Rattle.crib_game.specs.declared.game.Game.{Game}
-use Rattle.crib_game.specs.declared.report.Report.{Report}
-use Rattle.crib_game.specs.Followed.{follow_result}
-use Rattle.crib_game.specs.Replay.{replay_result}
 use Rattle.crib_game.specs.Spelling.{IsGame, game_lines, game_text}
 use Rattle.crib_game.specs.Reading.{game_at}
 use Rattle.crib_game.proofs.GameForm.{game_form}
-use Rattle.crib_board.specs.Board.{board_text}
-use Rattle.crib_answer.specs.Input.{most_bytes, input_lines, last_game_at, last_judged, report_at, report_of_input, ending_at, ending_of_input, board_at}
-use Rattle.crib_answer.specs.Input.{board_of_input}
-use Rattle.crib_answer.specs.Telling.{SpellsGame, SpellsPlannedGame}
-use Rattle.crib_answer.proofs.Inputs.{input_taken, spelled_text, at_end, texts_joined, maps_joined, lines_taken, nothing_left}
+use Rattle.crib_input.specs.Input.{most_bytes, input_lines, played_at, played_of_input, played_under_at, played_under_of_input}
+use Rattle.crib_input.specs.Spelled.{SpellsGame, SpellsPlannedGame}
+use Rattle.crib_input.proofs.Inputs.{input_taken, spelled_text, at_end, texts_joined, maps_joined, lines_taken, nothing_left}
 
 -- ---- the last section
 
-last_read : (rest : Rest) (game : Game) → IsGame game → rest.lines ≡ map line_bytes (game_lines game) → last_game_at rest ≡ Ok (game, rest.number)
-unfolding last_game_at
+-- what follows the last game of an input: nothing
+record IsLast (rest : Rest) (game : Game) : Type 0 where
+  left : Rest
+  read : game_at rest ≡ Ok (game, left)
+  none : end_at left ≡ Ok tt
+
+last_read : (rest : Rest) (game : Game) → IsGame game → rest.lines ≡ map line_bytes (game_lines game) → IsLast rest game
 last_read rest game is same =
     let left : Rest = record { number = rest.number + length (game_lines game); lines = [] } in
-    let read = form_read game_form game rest [] is (same ∙ sym (append-nil (map line_bytes (game_lines game)))) in
-    rw (read, nothing_left left refl) refl
+    record {
+      left = left;
+      read = form_read game_form game rest [] is (same ∙ sym (append-nil (map line_bytes (game_lines game))));
+      none = nothing_left left refl;
+    }
 
-last_found : (rest : Rest) (last : Game × ℕ) → last_game_at rest ≡ Ok last → IsGame last.0 × (rest.lines ≡ map line_bytes (game_lines last.0))
-unfolding last_game_at
-last_found rest last e =
-    let a = bind_ok (game_at rest) _ last e in
-    let b = bind_ok (end_at a.0.1) _ last a.2 in
-    let found = game_form.found rest a.0.0 a.0.1 a.1 in
-    subst (λ (one : Game × ℕ). IsGame one.0 × (rest.lines ≡ map line_bytes (game_lines one.0))) (ok_is (a.0.0, rest.number) last b.2) (
+last_found : (rest : Rest) (game : Game) → IsLast rest game → IsGame game × (rest.lines ≡ map line_bytes (game_lines game))
+last_found rest game last =
+    let found = game_form.found rest game last.left last.read in
+    (
       found.0,
-      found.1 ∙ ap (λ (ls : List (List ℕ)). map line_bytes (game_lines a.0.0) ++ ls) (at_end a.0.1 b.0 b.1) ∙ append-nil (map line_bytes (game_lines a.0.0)),
+      found.1 ∙ ap (λ (ls : List (List ℕ)). map line_bytes (game_lines game) ++ ls) (at_end last.left tt last.none)
+          ∙ append-nil (map line_bytes (game_lines game)),
     )
-
-judged_ok : {A : Type 0} (last : Game × ℕ) (given : Result A GameFault) (value : A) → last_judged last given ≡ Ok value → given ≡ Ok value
-judged_ok last (Ok one) value e = let same : one ≡ value = cc in ap Ok same
-judged_ok last (Err fault) value e = absurd cc
 
 game_written : (game : Game) → flat_map ended_line (map line_bytes (game_lines game)) ≡ game_text game
 unfolding game_text
@@ -69,10 +64,9 @@ game_written game =
 record AreRead (input : List ℕ) (problem : Setup) (game : Game) : Type 0 where
   rest : Rest
   after : Rest
-  number : ℕ
   lines : input_lines input ≡ Ok rest
   first : problem_at rest ≡ Ok (problem, after)
-  last : last_game_at after ≡ Ok (game, number)
+  last : IsLast after game
 
 read_by : (input : List ℕ) (problem : Setup) (game : Game) → SpellsGame input problem game → AreRead input problem game
 unfolding problem_text game_text
@@ -93,7 +87,6 @@ read_by input problem game spelled =
     record {
       rest = whole;
       after = after;
-      number = after.number;
       lines = lines_taken input lines few (spelled.text ∙ sym (texts_joined (problem_lines problem) (game_lines game))) words;
       first = form_read problem_form problem whole games spelled.problem_is (maps_joined (problem_lines problem) (game_lines game));
       last = last_read after game spelled.game_is refl;
@@ -103,7 +96,7 @@ spelled_by : (input : List ℕ) (problem : Setup) (game : Game) → AreRead inpu
 unfolding problem_text
 spelled_by input problem game are =
     let problems = problem_form.found are.rest problem are.after are.first in
-    let games = last_found are.after (game, are.number) are.last in
+    let games = last_found are.after game are.last in
     record {
       problem_is = problems.0;
       game_is = games.0;
@@ -112,40 +105,26 @@ spelled_by input problem game are =
           ∙ ap (λ (more : List ℕ). problem_text problem ++ more) (game_written game);
     }
 
--- if an input spells a problem and a game, `replay` reads the report of the game, and `board` its board
-pub report_spelled : (input : List ℕ) (problem : Setup) (game : Game) (report : Report) → SpellsGame input problem game → replay_result problem game ≡ Ok report
-    → report_of_input input ≡ Ok report
-unfolding report_of_input report_at
-report_spelled input problem game report spelled e =
+-- if an input spells a problem and a game, they are read
+pub played_spelled : (input : List ℕ) (problem : Setup) (game : Game) → SpellsGame input problem game
+    → (first : ℕ) × (played_of_input input ≡ Ok (problem, game, first))
+unfolding played_of_input played_at
+played_spelled input problem game spelled =
     let are = read_by input problem game spelled in
-    rw (are.lines, are.first, are.last, e) refl
+    (are.after.number, rw (are.lines, are.first, are.last.read, are.last.none) refl)
 
-pub board_spelled : (input : List ℕ) (problem : Setup) (game : Game) (board : List ℕ) → SpellsGame input problem game → board_text problem game ≡ Ok board
-    → board_of_input input ≡ Ok board
-unfolding board_of_input board_at
-board_spelled input problem game board spelled e =
-    let are = read_by input problem game spelled in
-    rw (are.lines, are.first, are.last, e) refl
-
--- if `replay` reads a report, the input spells a problem and a game with this report
-pub record HasGame (input : List ℕ) (report : Report) : Type 0 where
-  pub problem : Setup
-  pub game : Game
-  pub spelled : SpellsGame input problem game
-  pub replayed : replay_result problem game ≡ Ok report
-
-pub report_accepted : (input : List ℕ) (report : Report) → report_of_input input ≡ Ok report → HasGame input report
-unfolding report_of_input report_at
-report_accepted input report e =
-    let a = bind_ok (input_lines input) _ report e in
-    let b = bind_ok (problem_at a.0) _ report a.2 in
-    let d = bind_ok (last_game_at b.0.1) _ report b.2 in
-    record {
-      problem = b.0.0;
-      game = d.0.0;
-      spelled = spelled_by input b.0.0 d.0.0 (record { rest = a.0; after = b.0.1; number = d.0.1; lines = a.1; first = b.1; last = d.1 });
-      replayed = judged_ok d.0 (replay_result b.0.0 d.0.0) report d.2;
-    }
+-- if a problem and a game are read, the input spells them
+pub played_accepted : (input : List ℕ) (played : Setup × Game × ℕ) → played_of_input input ≡ Ok played → SpellsGame input played.0 played.1
+unfolding played_of_input played_at
+played_accepted input played e =
+    let a = bind_ok (input_lines input) _ played e in
+    let b = bind_ok (problem_at a.0) _ played a.2 in
+    let d = bind_ok (game_at b.0.1) _ played b.2 in
+    let f = bind_ok (end_at d.0.1) _ played d.2 in
+    subst (λ (one : Setup × Game × ℕ). SpellsGame input one.0 one.1) (ok_is (b.0.0, d.0.0, b.0.1.number) played f.2)
+    (spelled_by input b.0.0 d.0.0 (record {
+      rest = a.0; after = b.0.1; lines = a.1; first = b.1; last = record { left = d.0.1; read = d.1; none = f.1 };
+    }))
 
 -- ---- a problem, a plan and a game
 
@@ -154,11 +133,10 @@ record AreAllRead (input : List ℕ) (problem : Setup) (plan : List Node) (game 
   rest : Rest
   before : Rest
   after : Rest
-  number : ℕ
   lines : input_lines input ≡ Ok rest
   first : problem_at rest ≡ Ok (problem, before)
   second : plan_at before ≡ Ok (plan, after)
-  last : last_game_at after ≡ Ok (game, number)
+  last : IsLast after game
 
 all_read_by : (input : List ℕ) (problem : Setup) (plan : List Node) (game : Game) → SpellsPlannedGame input problem plan game
     → AreAllRead input problem plan game
@@ -190,7 +168,6 @@ all_read_by input problem plan game spelled =
       rest = whole;
       before = before;
       after = after;
-      number = after.number;
       lines = lines_taken input lines few text words;
       first = form_read problem_form problem whole (map line_bytes later) spelled.problem_is (maps_joined (problem_lines problem) later);
       second = form_read plan_form plan before games spelled.plan_is (maps_joined (plan_lines plan) (game_lines game));
@@ -203,7 +180,7 @@ unfolding problem_text plan_text
 all_spelled_by input problem plan game are =
     let problems = problem_form.found are.rest problem are.before are.first in
     let plans = plan_form.found are.before plan are.after are.second in
-    let games = last_found are.after (game, are.number) are.last in
+    let games = last_found are.after game are.last in
     record {
       problem_is = problems.0;
       plan_is = plans.0;
@@ -215,42 +192,26 @@ all_spelled_by input problem plan game are =
           ∙ sym (append_assoc (problem_text problem) (plan_text plan) (game_text game));
     }
 
--- if an input spells a problem, a plan and a game, `follow` reads the ending of the game
-pub ending_spelled : (input : List ℕ) (problem : Setup) (plan : List Node) (game : Game) (result : Ending) → SpellsPlannedGame input problem plan game
-    → follow_result problem plan game ≡ Ok result → ending_of_input input ≡ Ok result
-unfolding ending_of_input ending_at
-ending_spelled input problem plan game result spelled e =
+-- if an input spells a problem, a plan and a game, they are read
+pub played_under_spelled : (input : List ℕ) (problem : Setup) (plan : List Node) (game : Game) → SpellsPlannedGame input problem plan game
+    → (first : ℕ) × (played_under_of_input input ≡ Ok (problem, plan, game, first))
+unfolding played_under_of_input played_under_at
+played_under_spelled input problem plan game spelled =
     let are = all_read_by input problem plan game spelled in
-    rw (are.lines, are.first, are.second, are.last, e) refl
+    (are.after.number, rw (are.lines, are.first, are.second, are.last.read, are.last.none) refl)
 
--- if `follow` reads an ending, the input spells a problem, a plan and a game with this ending
-pub record HasPlannedGame (input : List ℕ) (result : Ending) : Type 0 where
-  pub problem : Setup
-  pub plan : List Node
-  pub game : Game
-  pub spelled : SpellsPlannedGame input problem plan game
-  pub followed : follow_result problem plan game ≡ Ok result
-
-pub ending_accepted : (input : List ℕ) (result : Ending) → ending_of_input input ≡ Ok result → HasPlannedGame input result
-unfolding ending_of_input ending_at
-ending_accepted input result e =
-    let a = bind_ok (input_lines input) _ result e in
-    let b = bind_ok (problem_at a.0) _ result a.2 in
-    let d = bind_ok (plan_at b.0.1) _ result b.2 in
-    let f = bind_ok (last_game_at d.0.1) _ result d.2 in
-    record {
-      problem = b.0.0;
-      plan = d.0.0;
-      game = f.0.0;
-      spelled = all_spelled_by input b.0.0 d.0.0 f.0.0 (record {
-        rest = a.0;
-        before = b.0.1;
-        after = d.0.1;
-        number = f.0.1;
-        lines = a.1;
-        first = b.1;
-        second = d.1;
-        last = f.1;
-      });
-      followed = judged_ok f.0 (follow_result b.0.0 d.0.0 f.0.0) result f.2;
-    }
+-- if a problem, a plan and a game are read, the input spells them
+pub played_under_accepted : (input : List ℕ) (played : Setup × List Node × Game × ℕ) → played_under_of_input input ≡ Ok played
+    → SpellsPlannedGame input played.0 played.1 played.2
+unfolding played_under_of_input played_under_at
+played_under_accepted input played e =
+    let a = bind_ok (input_lines input) _ played e in
+    let b = bind_ok (problem_at a.0) _ played a.2 in
+    let d = bind_ok (plan_at b.0.1) _ played b.2 in
+    let f = bind_ok (game_at d.0.1) _ played d.2 in
+    let h = bind_ok (end_at f.0.1) _ played f.2 in
+    subst (λ (one : Setup × List Node × Game × ℕ). SpellsPlannedGame input one.0 one.1 one.2)
+    (ok_is (b.0.0, d.0.0, f.0.0, d.0.1.number) played h.2)
+    (all_spelled_by input b.0.0 d.0.0 f.0.0 (record {
+      rest = a.0; before = b.0.1; after = d.0.1; lines = a.1; first = b.1; second = d.1; last = record { left = f.0.1; read = f.1; none = h.1 };
+    }))

@@ -1,0 +1,39 @@
+-- The refusals of an input: the number of each cause, and the refusal as it is printed.
+use Rattle.std.specs.Prelude.{◌≡◌, ◌≢◌, ℕ, Result, Ok, Err}
+use Rattle.crib_text.specs.declared.fault.Fault.{Fault}
+use Rattle.crib_text.specs.Refusals as texts
+use Rattle.crib_text.specs.Refusals.{Refusal, no_memory}
+use Rattle.crib_problem.specs.Refusals.{problem_cause_number}
+use Rattle.crib_plan.specs.Refusals.{plan_cause_number, plan_refusal}
+use Rattle.crib_game.specs.Refusals.{game_fault_number}
+use Rattle.crib_plan.specs.declared.fault.PlanCause.{PlanCause}
+use Rattle.crib_input.specs.declared.refusal.Cause.{Cause}
+use Rattle.crib_input.specs.declared.refusal.Cause.TheVariants.{Text, Problem, Plan, Game}
+use Rattle.crib_input.specs.declared.refusal.Refusal as refusals
+use Rattle.crib_input.specs.declared.refusal.NotRead.{NotRead}
+use Rattle.crib_input.specs.declared.refusal.NotRead.TheVariants as not_reads
+
+-- the number of a cause
+abbrev pub input_cause_number : Cause → ℕ
+input_cause_number (Text cause) = texts.cause_number cause
+input_cause_number (Problem cause) = problem_cause_number cause
+input_cause_number (Plan cause) = plan_cause_number cause
+input_cause_number (Game fault) = game_fault_number fault
+
+-- a refusal as it is printed: its line and its number
+abbrev pub refusal_of : refusals.Refusal → Refusal
+refusal_of refusal = record { line = refusal.line; number = input_cause_number refusal.cause }
+
+-- a result tells what was read: its value is the one that was read, seen through `view`, or it has the same refusal. If
+-- memory was refused, it tells nothing
+abbrev pub Tells : {X Y : Type 0} → (X → Y) → Result X NotRead → Result Y Refusal → Type 0
+Tells view (Ok value) said = said ≡ Ok (view value)
+Tells view (Err (not_reads.Refused refusal)) said = said ≡ Err (refusal_of refusal)
+Tells view (Err not_reads.Memory) said = Unit {0}
+
+-- an input was not read for a fault of a plan: memory was refused if the fault has this number, and otherwise it is the
+-- refusal
+abbrev pub IsForPlan : Fault PlanCause → NotRead → Type 0
+IsForPlan fault (not_reads.Refused refusal) =
+    (refusal_of refusal ≡ plan_refusal fault) × (plan_cause_number fault.cause ≢ no_memory)
+IsForPlan fault not_reads.Memory = plan_cause_number fault.cause ≡ no_memory

@@ -1,0 +1,13 @@
+//! The inputs of the commands: the sections that bytes spell, or the refusal of the bytes with its cause.
+#![tactic(auto)]
+
+mod reading;
+mod refusal;
+
+pub use reading::{
+    Played, PlayedUnder, Question, played_of, played_under_of, problem_of, question_of,
+};
+pub use refusal::{Cause, NotRead, Refusal};
+
+#[cfg(test)]
+mod tests;

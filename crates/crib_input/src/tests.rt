@@ -1,0 +1,337 @@
+//! The line, the number and the sentence of each refusal of an input.
+use crate::*;
+use crib_game::{follow, replay};
+use crib_text::{MAX_INPUT, TextCause, TextFault};
+use std::process::Abort;
+use std::test::Fail;
+
+// A problem with tens and small clubs: its version, its starter, its scores and its goal, and the lines after these.
+macro_rules! problem {
+    ($version:literal, $starter:literal, $scores:literal, $goal:literal, $after:literal) => {
+        concat!(
+            "problem ", $version, "\ndealer opponent\nscore ", $scores, "\nstarter ", $starter,
+            "\nhold TC 9C 2C 8C\nthrow 4S 6S\ngoal ", $goal, "\n", $after
+        )
+    };
+}
+
+// An input, and the line, the number and the sentence of its refusal.
+type Row = (&'static str, u32, u8, &'static str);
+
+const PROBLEMS: &[Row] = &[
+    (
+        "problem 1\t\n",
+        1,
+        1,
+        "a byte that is neither LF nor 32 to 126",
+    ),
+    ("problem 1\n", 2, 3, "the text is cut short"),
+    ("problems 1\n", 1, 4, "a bad line"),
+    (problem!("1", "3X", "0 0", "win", ""), 4, 5, "a bad card"),
+    (problem!("1", "3H", "0 x", "win", ""), 3, 6, "a bad number"),
+    ("problem 3\n", 1, 7, "an unknown version"),
+    (
+        problem!("1", "3H", "0 0", "win", "x\n"),
+        8,
+        8,
+        "a line after the last section",
+    ),
+    (
+        problem!("1", "8C", "0 0", "win", ""),
+        5,
+        20,
+        "a card that stood before",
+    ),
+    (
+        problem!("1", "3H", "0 121", "win", ""),
+        3,
+        21,
+        "a score above 120",
+    ),
+    (
+        problem!("1", "3H", "0 0", "holes 0", ""),
+        7,
+        22,
+        "a goal out of range",
+    ),
+    (
+        problem!("2", "3H", "0 0", "win", "played 2\nown TC\nopp go\n"),
+        10,
+        23,
+        "a turn that no deal lets the opponent show",
+    ),
+    (
+        problem!("2", "3H", "0 119", "win", "played 2\nown TC\nopp TD\n"),
+        10,
+        24,
+        "a turn that ends the deal",
+    ),
+    (
+        problem!("2", "3H", "0 0", "win", "played 1\nown KC\n"),
+        9,
+        41,
+        "a card that is not held",
+    ),
+    (
+        problem!(
+            "2",
+            "3H",
+            "0 0",
+            "win",
+            "played 4\nown TC\nopp TD\nown 9C\nopp KD\n"
+        ),
+        12,
+        42,
+        "a card that does not fit",
+    ),
+    (
+        problem!("2", "3H", "0 0", "win", "played 1\nown go\n"),
+        9,
+        43,
+        "a go while a card fits",
+    ),
+    (
+        problem!("2", "3H", "0 0", "win", "played 1\nopp TD\n"),
+        9,
+        44,
+        "a turn of the side that is not asked",
+    ),
+];
+
+const PLANS: &[Row] = &[
+    (
+        problem!("1", "3H", "0 0", "win", "plan 2\n"),
+        8,
+        7,
+        "an unknown version",
+    ),
+    (
+        problem!("1", "3H", "0 0", "win", "plan 1\nnodes 1\n0 play TC 0\n"),
+        10,
+        30,
+        "a node that goes on to no later node",
+    ),
+    (
+        problem!(
+            "1",
+            "3H",
+            "0 0",
+            "win",
+            "plan 1\nnodes 2\n0 see :1\n1 play TC end\n"
+        ),
+        10,
+        31,
+        "a bad branch",
+    ),
+    (
+        problem!("1", "3H", "0 0", "win", "plan 1\nnodes 65536\n"),
+        9,
+        32,
+        "more than 65,535 nodes",
+    ),
+];
+
+const GAMES: &[Row] = &[
+    (
+        problem!(
+            "1",
+            "3H",
+            "0 0",
+            "win",
+            "game 1\nhold 3H KD KH QS\nthrow 5H 7D\nacts 0\n"
+        ),
+        9,
+        40,
+        "card 1 of the opponent is known or stood before",
+    ),
+    (
+        problem!(
+            "1",
+            "3H",
+            "0 119",
+            "win",
+            "game 1\nhold TD KD KH QS\nthrow 5H 7D\nacts 1\nown KC\n"
+        ),
+        12,
+        41,
+        "act 1 plays a card that is not held",
+    ),
+    (
+        problem!(
+            "1",
+            "3H",
+            "0 119",
+            "win",
+            "game 1\nhold TD KD KH QS\nthrow 5H 7D\nacts 4\nown TC\nopp KD\nown 9C\nopp TD\n"
+        ),
+        15,
+        42,
+        "act 4 plays a card that does not fit",
+    ),
+    (
+        problem!(
+            "1",
+            "3H",
+            "0 119",
+            "win",
+            "game 1\nhold TD KD KH QS\nthrow 5H 7D\nacts 1\nown go\n"
+        ),
+        12,
+        43,
+        "act 1 is a go while a card fits",
+    ),
+    (
+        problem!(
+            "1",
+            "3H",
+            "0 119",
+            "win",
+            "game 1\nhold TD KD KH QS\nthrow 5H 7D\nacts 1\nopp TD\n"
+        ),
+        12,
+        44,
+        "act 1 is out of turn",
+    ),
+    (
+        problem!(
+            "1",
+            "3H",
+            "0 119",
+            "win",
+            "game 1\nhold TD KD KH QS\nthrow 5H 7D\nacts 3\nown TC\nopp TD\nown 9C\n"
+        ),
+        14,
+        45,
+        "act 3 comes after the end",
+    ),
+    (
+        problem!(
+            "2",
+            "3H",
+            "0 0",
+            "win",
+            "played 1\nown TC\ngame 1\nhold TD KD KH QS\nthrow 5H 7D\nacts 0\n"
+        ),
+        13,
+        47,
+        "act 1 is not as it was played",
+    ),
+];
+
+const STRAYS: Row = (
+    problem!(
+        "1",
+        "3H",
+        "0 0",
+        "win",
+        "plan 1\nnodes 1\n0 play TC end\ngame 1\nhold TD KD KH QS\nthrow 5H 7D\nacts 1\nown 9C\n"
+    ),
+    15,
+    46,
+    "act 1 strays from the plan",
+);
+
+// Asserts that a refusal has this line, this number and this sentence.
+fn is_refusal(
+    rt: &(impl Abort + AllocGlobal),
+    refusal: Option<Refusal>,
+    row: &Row,
+) -> Result<(), Fail> {
+    let (input, line, number, sentence) = *row;
+    let Some(refusal) = refusal else {
+        panic!(rt; "not refused: {input}");
+    };
+    assert_eq!(rt;
+        (refusal.line, refusal.cause.number()),
+        (line, number),
+        "{input}"
+    );
+    assert_eq!(rt;
+        format!(in rt.alloc(); "{}", refusal.cause)?.as_str(),
+        sentence
+    );
+    let whole = format!(in rt.alloc(); "line {line}: {sentence}")?;
+    assert_eq!(rt;
+        format!(in rt.alloc(); "{refusal}")?.as_str(),
+        whole.as_str()
+    );
+    let not_read = NotRead::Refused(refusal);
+    assert_eq!(rt;
+        format!(in rt.alloc(); "{not_read}")?.as_str(),
+        whole.as_str()
+    );
+    Ok(())
+}
+
+#[test]
+fn problems_are_refused_with_a_sentence(rt: HostRuntime) -> Result<(), Fail> {
+    for row in PROBLEMS {
+        let bytes = row.0.as_bytes();
+        assert!(rt; bytes.len() <= MAX_INPUT);
+        is_refusal(&rt, problem_of(bytes).err(), row)?;
+    }
+    Ok(())
+}
+
+#[test]
+fn plans_are_refused_with_a_sentence(rt: HostRuntime) -> Result<(), Fail> {
+    for row in PLANS {
+        let bytes = row.0.as_bytes();
+        assert!(rt; bytes.len() <= MAX_INPUT);
+        match question_of(rt.alloc(), bytes) {
+            Err(NotRead::Refused(refusal)) => is_refusal(&rt, Some(refusal), row)?,
+            _ => panic!(rt; "read, or out of memory"),
+        }
+    }
+    Ok(())
+}
+
+// The refusal of a game that was read, and does not fit its problem.
+fn judged(played: &Played) -> Option<Refusal> {
+    match replay(&played.problem, &played.game) {
+        Ok(_) => None,
+        Err(fault) => Some(Refusal::of_game(fault, played.first, &played.game)),
+    }
+}
+
+#[test]
+fn games_are_refused_with_a_sentence(rt: HostRuntime) -> Result<(), Fail> {
+    for row in GAMES {
+        let bytes = row.0.as_bytes();
+        assert!(rt; bytes.len() <= MAX_INPUT);
+        let Ok(played) = played_of(bytes) else {
+            panic!(rt; "not read");
+        };
+        is_refusal(&rt, judged(&played), row)?;
+    }
+    Ok(())
+}
+
+#[test]
+fn a_game_that_strays_is_refused_with_a_sentence(rt: HostRuntime) -> Result<(), Fail> {
+    let bytes = STRAYS.0.as_bytes();
+    assert!(rt; bytes.len() <= MAX_INPUT);
+    let Ok(played) = played_under_of(rt.alloc(), bytes) else {
+        panic!(rt; "not read");
+    };
+    let refusal = match follow(&played.problem, &played.plan, &played.game) {
+        Ok(_) => None,
+        Err(fault) => Some(Refusal::of_game(fault, played.first, &played.game)),
+    };
+    is_refusal(&rt, refusal, &STRAYS)
+}
+
+#[test]
+fn an_input_that_is_too_long_has_a_sentence(rt: HostRuntime) -> Result<(), Fail> {
+    let refusal = Refusal::from(TextFault::of_input(TextCause::TooLong));
+    is_refusal(
+        &rt,
+        Some(refusal),
+        &("too long", 0, 2, "more than 8,388,608 bytes"),
+    )?;
+    assert_eq!(rt;
+        format!(in rt.alloc(); "{}", NotRead::Memory)?.as_str(),
+        "out of memory"
+    );
+    Ok(())
+}

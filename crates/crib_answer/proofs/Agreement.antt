@@ -27,13 +27,14 @@ use Rattle.crib_check.proofs.FailureEndings.{failing_followed, six_is}
 use Rattle.crib_search.specs.Finder.{IsFound, ExceedsLimit}
 use Rattle.crib_search.proofs.FoundIsPlan.{found_plan}
 use Rattle.crib_search.proofs.LawProofs.{sure_law}
-use Rattle.crib_answer.specs.declared.status.Status.TheVariants.{Yes, Refused}
+use Rattle.crib_run.specs.declared.status.Status.TheVariants.{Yes, Refused}
 use Rattle.crib_input.specs.Input.{played_of_input, problem_of_input}
 use Rattle.crib_input.specs.Spelled.{SpellsGame}
 use Rattle.crib_input.proofs.Inputs.{problem_accepted}
 use Rattle.crib_answer.specs.Input.{judgement_of, report_of_input, ending_of_input, board_of_input}
-use Rattle.crib_answer.specs.Reply.{Reply}
-use Rattle.crib_answer.specs.Answer.{board_reply, ending_reply, ending_status, refusal_reply, reply_by, report_reply}
+use Rattle.crib_run.specs.Reply.{Reply}
+use Rattle.crib_run.specs.Reply.{refusal_reply}
+use Rattle.crib_answer.specs.Answer.{board_reply, ending_reply, ending_status, reply_by, report_reply}
 use Rattle.crib_answer.specs.Laws.{FailedGameLaw, FollowedGameLaw, FoundPlanLaw, SameRefusalLaw, SameReportLaw}
 use Rattle.crib_answer.specs.Reported.{IsReported, last_scores}
 use Rattle.crib_answer.proofs.JudgedInputs.{board_spelled, ending_accepted, ending_spelled, report_accepted, report_spelled}

@@ -8,7 +8,8 @@ use Rattle.crib_text.proofs.SteadyReaders.{missing}
 use Rattle.crib_input.specs.Input.{played_of_input, played_under_of_input}
 use Rattle.crib_input.proofs.CutShortInputs.{CutsShort, problem_cut, question_cut, played_cut, played_under_cut}
 use Rattle.crib_answer.specs.declared.job.Job.TheVariants.{Replay, Follow, Check, Solve, Board}
-use Rattle.crib_answer.specs.Answer.{AnswersCheck, AnswersSolve, refusal_reply, reply_by, report_reply, ending_reply, board_reply}
+use Rattle.crib_run.specs.Reply.{refusal_reply}
+use Rattle.crib_answer.specs.Answer.{AnswersCheck, AnswersSolve, reply_by, report_reply, ending_reply, board_reply}
 use Rattle.crib_answer.specs.Input.{board_of_input, ending_of_input, report_of_input}
 use Rattle.crib_answer.specs.Laws.{CutShortLaw}
 

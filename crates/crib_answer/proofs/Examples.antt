@@ -16,8 +16,9 @@ use Rattle.crib_check.specs.Sure.{Ends}
 use Rattle.crib_check.proofs.SureExamples.{at_29, ace_or_two, ace_or_two_is_sure, ace_or_two_goes_on}
 use Rattle.crib_search.specs.Winnable.{IsWinnable}
 use Rattle.crib_answer.specs.declared.job.Job.TheVariants.{Replay, Check, Solve}
-use Rattle.crib_answer.specs.declared.status.Status.TheVariants.{Yes, No, Refused, Fault}
-use Rattle.crib_answer.specs.Answer.{fault_line, too_large}
+use Rattle.crib_run.specs.declared.status.Status.TheVariants.{Yes, No, Refused, Fault}
+use Rattle.crib_run.specs.Reply.{fault_line}
+use Rattle.crib_answer.specs.Answer.{too_large}
 use Rattle.crib_input.specs.Spelled.{SpellsProblem, SpellsPlan}
 use Rattle.crib_answer.specs.Telling.{HasFailingPlan, IsSolvedBy, HasNoPlan}
 use Rattle.crib_answer.specs.Telling.{CheckTells, SolveTells, StatusTells, holds_line, fails_line, none_line}

@@ -1,8 +1,6 @@
 -- The text that the code puts together is the line that the definition states.
 use Rattle.std.proofs.Common.{◌≡◌, ℕ, List, [], ◌∷◌, ◌++◌, codes, decimal, refl, sym, ap, ◌∙◌, append_assoc, Option}
 use Rattle.std.specs.List.{flat_map}
-use Rattle.std.specs.Fmt.{digits}
-use Rattle.crib_text.specs.Refusals.{no_memory, read_fault}
 use Rattle.crib_text.specs.Spelling.{space, line_feed, line_text}
 use Rattle.crib_cards.specs.declared.sides.Scores.{Scores}
 use Rattle.crib_show.specs.declared.outcomes.ShowRow.{ShowRow}
@@ -12,39 +10,8 @@ use Rattle.crib_cards.specs.Words.{side_word}
 use Rattle.crib_game.specs.declared.ending.Ending.{Ending}
 use Rattle.crib_game.specs.declared.ending.Ending.TheVariants as ending
 use Rattle.crib_game.specs.Words.{ending_word}
-use Rattle.crib_answer.specs.Answer.{counted_line, play_line, fault_line, refusal_reply, too_large}
+use Rattle.crib_answer.specs.Answer.{counted_line, play_line}
 use Rattle.crib_answer.specs.Private.Replies.{score_tail}
-
--- ---- a fault
-pub fault_of_reader : fault_line read_fault ≡ codes "fault 9\n"
-unfolding digits
-fault_of_reader = refl
-
-pub fault_of_memory : fault_line no_memory ≡ codes "fault 11\n"
-unfolding digits
-fault_of_memory = refl
-
-pub ruleset fault_lines = (fault_of_reader, fault_of_memory)
-
--- ---- a refusal
-regroup_refusal : (first line colon number end : List ℕ) → (((([] ++ first) ++ line) ++ colon) ++ number) ++ end ≡ first ++ (line ++ (colon ++ (number ++ end)))
-regroup_refusal first line colon number end = simp append_assoc
-
-refusal_line : (line number : List ℕ)
-    → codes "refused line " ++ (line ++ (codes ": " ++ (number ++ codes "\n"))) ≡ line_text (codes "refused" ∷ codes "line" ∷ (line ++ codes ":") ∷ number ∷ [])
-refusal_line line number =
-    ap (λ (rest : List ℕ). codes "refused line " ++ rest)
-    (ap (λ (rest : List ℕ). line ++ rest) refl
-    ∙ sym (append_assoc line (codes ":") (space ∷ (number ++ codes "\n")))
-    ∙ sym (append_assoc (line ++ codes ":") (space ∷ number) (codes "\n")))
-
-pub refusal_text : (line number : ℕ)
-    → (((([] ++ codes "refused line ") ++ decimal line) ++ codes ": ") ++ decimal number) ++ codes "\n"
-    ≡ (refusal_reply (record { line = line; number = number })).output
-refusal_text line number =
-    regroup_refusal (codes "refused line ") (decimal line) (codes ": ") (decimal number) (codes "\n") ∙ refusal_line (decimal line) (decimal number)
-
-pub ruleset refusals = (refusal_text)
 
 -- ---- scores
 pub scores_written : (old : List ℕ) (scores : Scores)
@@ -127,8 +94,4 @@ pub ruleset verdicts = (holds_written, fails_written)
 pub none_written : line_text (codes "none" ∷ []) ≡ codes "none\n"
 none_written = refl
 
-pub too_large_written : fault_line too_large ≡ codes "fault 50\n"
-unfolding digits
-too_large_written = refl
-
-pub ruleset solved = (none_written, too_large_written)
+pub ruleset solved = (none_written)

@@ -23,8 +23,9 @@ use Rattle.crib_search.proofs.OneTree.{one_law}
 use Rattle.crib_search.proofs.LawProofs.{sure_law, none_law}
 use Rattle.crib_answer.specs.declared.job.Job.TheVariants.{Replay, Follow, Check, Solve, Board}
 use Rattle.crib_input.specs.Input.{problem_of_input, question_of_input}
-use Rattle.crib_answer.specs.Reply.{Reply}
-use Rattle.crib_answer.specs.Answer.{AnswersCheck, AnswersProblem, AnswersSolve, refusal_reply, verdict_reply, found_reply, fault_reply, too_large}
+use Rattle.crib_run.specs.Reply.{Reply}
+use Rattle.crib_run.specs.Reply.{refusal_reply, fault_reply}
+use Rattle.crib_answer.specs.Answer.{AnswersCheck, AnswersProblem, AnswersSolve, verdict_reply, found_reply, too_large}
 use Rattle.crib_answer.specs.Laws.{OneReplyLaw, HoldsLaw, FailsLaw, EitherLaw, SureLaw, FailingLaw, PlanLaw, NoneLaw}
 use Rattle.crib_answer.specs.Telling.{holds_line, fails_line, none_line}
 use Rattle.crib_input.proofs.Inputs.{problem_accepted, question_accepted, question_spelled}

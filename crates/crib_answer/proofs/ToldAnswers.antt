@@ -14,8 +14,9 @@ use Rattle.crib_search.proofs.LawProofs.{sure_law, none_law}
 use Rattle.crib_answer.specs.declared.job.Job.{Job}
 use Rattle.crib_answer.specs.declared.job.Job.TheVariants.{Replay, Follow, Check, Solve, Board}
 use Rattle.crib_input.specs.Input.{problem_of_input, question_of_input}
-use Rattle.crib_answer.specs.Reply.{Reply}
-use Rattle.crib_answer.specs.Answer.{AnswersCheck, AnswersProblem, AnswersSolve, verdict_reply, found_reply, fault_reply}
+use Rattle.crib_run.specs.Reply.{Reply}
+use Rattle.crib_run.specs.Reply.{fault_reply}
+use Rattle.crib_answer.specs.Answer.{AnswersCheck, AnswersProblem, AnswersSolve, verdict_reply, found_reply}
 use Rattle.crib_answer.specs.Memory.{Makes}
 use Rattle.crib_input.specs.Spelled.{SpellsProblem, SpellsPlan}
 use Rattle.crib_answer.specs.Telling.{CheckTells, SolveTells, StatusTells}

@@ -13,9 +13,9 @@ use Rattle.crib_game.specs.declared.report.Report.{Report}
 use Rattle.crib_game.specs.Words.{ending_word}
 use Rattle.crib_answer.specs.declared.job.Job.{Job}
 use Rattle.crib_answer.specs.declared.job.Job.TheVariants.{Replay, Follow, Check, Solve, Board}
-use Rattle.crib_answer.specs.declared.status.Status.{Status}
-use Rattle.crib_answer.specs.declared.status.Status.TheVariants.{Yes, No, Refused, Fault}
-use Rattle.crib_answer.specs.Reply.{Reply}
+use Rattle.crib_run.specs.declared.status.Status.{Status}
+use Rattle.crib_run.specs.declared.status.Status.TheVariants.{Yes, No}
+use Rattle.crib_run.specs.Reply.{Reply, fault_reply, refusal_reply}
 use Rattle.crib_input.specs.Input.{problem_of_input, question_of_input}
 use Rattle.crib_answer.specs.Input.{board_of_input, ending_of_input, report_of_input}
 use Rattle.crib_problem.specs.Setup.{Setup}
@@ -27,22 +27,6 @@ use Rattle.crib_search.specs.Finder.{IsFound, ExceedsLimit}
 use Rattle.crib_check.specs.declared.verdict.Verdict.{Verdict}
 use Rattle.crib_check.specs.declared.verdict.Verdict.TheVariants.{Holds, Fails}
 use Rattle.crib_check.specs.Verdicts.{IsRight}
-
--- the reply to a refused input: the line and the number of its refusal
-abbrev pub refusal_reply : Refusal → Reply
-refusal_reply refusal = record {
-  output = line_text (codes "refused" ∷ codes "line" ∷ (decimal refusal.line ++ codes ":")
-      ∷ decimal refusal.number ∷ []);
-  status = Refused;
-}
-
--- the line of a fault, with its number
-abbrev pub fault_line : ℕ → List ℕ
-fault_line number = line_text (codes "fault" ∷ decimal number ∷ [])
-
--- the reply of a fault: the line with its number, and nothing else
-abbrev pub fault_reply : ℕ → Reply
-fault_reply number = record { output = fault_line number; status = Fault }
 
 -- both scores as words: the owner's, and then the opponent's
 abbrev pub score_words : Scores → List (List ℕ)

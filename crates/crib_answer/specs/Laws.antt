@@ -16,8 +16,9 @@ use Rattle.crib_answer.specs.declared.job.Job.TheVariants.{Replay, Follow, Check
 use Rattle.crib_input.specs.Input.{most_bytes, problem_of_input, question_of_input}
 use Rattle.crib_input.specs.Spelled.{SpellsPlan, SpellsPlannedGame}
 use Rattle.crib_answer.specs.Input.{board_of_input, ending_of_input, report_of_input}
-use Rattle.crib_answer.specs.Reply.{Reply}
-use Rattle.crib_answer.specs.Answer.{Answers, refusal_reply, verdict_reply, ending_reply}
+use Rattle.crib_run.specs.Reply.{Reply}
+use Rattle.crib_run.specs.Reply.{refusal_reply}
+use Rattle.crib_answer.specs.Answer.{Answers, verdict_reply, ending_reply}
 use Rattle.crib_answer.specs.Telling.{HasSurePlan, HasFailingPlan, IsSolvedBy, HasNoPlan}
 use Rattle.crib_answer.specs.Reported.{IsReported}
 use Rattle.crib_answer.specs.Telling.{holds_line, fails_line, none_line}

@@ -1,7 +1,4 @@
-pub mod Status
 pub mod Job
-pub mod Text
-pub mod Reply
 pub mod Input
 pub mod Answer
 pub mod Memory

@@ -6,8 +6,9 @@ use Rattle.crib_input.specs.Memory.{count_of_input}
 use Rattle.crib_answer.specs.declared.job.Job.{Job}
 use Rattle.crib_answer.specs.declared.job.Job.TheVariants.{Replay, Follow, Check, Solve, Board}
 use Rattle.crib_answer.specs.Input.{board_of_input}
-use Rattle.crib_answer.specs.Reply.{Reply}
-use Rattle.crib_answer.specs.Answer.{Answers, fault_reply}
+use Rattle.crib_run.specs.Reply.{Reply}
+use Rattle.crib_run.specs.Reply.{fault_reply}
+use Rattle.crib_answer.specs.Answer.{Answers}
 
 -- a job may ask for memory for an input: `replay` never, `follow` and `check` if the problem and the first two lines of
 -- the plan are not refused, `solve` and `board` if the input is not refused

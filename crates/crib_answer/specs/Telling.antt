@@ -14,11 +14,12 @@ use Rattle.crib_search.specs.Winnable.{IsWinnable}
 use Rattle.crib_input.specs.Spelled.{SpellsProblem, SpellsPlan}
 use Rattle.crib_answer.specs.declared.job.Job.{Job}
 use Rattle.crib_answer.specs.declared.job.Job.TheVariants.{Replay, Follow, Check, Solve, Board}
-use Rattle.crib_answer.specs.declared.status.Status.{Status}
-use Rattle.crib_answer.specs.declared.status.Status.TheVariants.{Yes, No, Refused, Fault}
-use Rattle.crib_answer.specs.Reply.{Reply}
+use Rattle.crib_run.specs.declared.status.Status.{Status}
+use Rattle.crib_run.specs.declared.status.Status.TheVariants.{Yes, No, Refused, Fault}
+use Rattle.crib_run.specs.Reply.{Reply}
 use Rattle.crib_game.specs.Words.{ending_word}
-use Rattle.crib_answer.specs.Answer.{fault_line, too_large}
+use Rattle.crib_run.specs.Reply.{fault_line}
+use Rattle.crib_answer.specs.Answer.{too_large}
 
 -- an input spells a problem and a plan. The plan is sure for the problem, and the play goes on until the deal is done
 pub record HasSurePlan (input : List ℕ) : Type 0 where

@@ -1,26 +1,23 @@
 //! Makes the whole answer of a job to the bytes of an input.
 ghost use Rattle.std.specs.Prelude.{◌≡◌, ◌≤◌, length, vec_len};
-ghost use Rattle.crib_text.specs.Refusals.{too_long};
-ghost use Rattle.crib_answer.specs.Answer.{board_reply, refusal_reply};
+ghost use Rattle.crib_answer.specs.Answer.{board_reply};
 ghost use Rattle.crib_answer.specs.Memory.{Makes};
-ghost use Rattle.crib_answer.specs.Reply.{reply_of};
+ghost use Rattle.crib_run.specs.Reply.{reply_of};
 ghost use Rattle.crib_answer.specs.Telling.{StatusTells};
 
-use crate::answer::Answer;
 use crate::ending::ending_answer;
 use crate::job::Job;
-use crate::line::memory_answer;
-use crate::refusal::{not_read_answer, refusal_answer};
 use crate::report::report_answer;
 use crate::solve::solve_answer;
-use crate::status::Status;
-use crate::text::Text;
 use crate::verdict::verdict_answer;
 use crib_board::{BoardFault, write_board};
 use crib_check::verdict_on;
 use crib_game::{follow, replay};
 use crib_input::{Refusal, played_of, played_under_of, problem_of, question_of};
-use crib_text::{MAX_INPUT, TextCause, TextFault};
+use crib_run::{
+    Answer, Status, Text, memory_answer, not_read_answer, refusal_answer, too_long_answer,
+};
+use crib_text::MAX_INPUT;
 use std::alloc::Allocator;
 
 /// Returns the whole answer of a job to an input of any length: its text and its status (docs/FORMATS.md, "Answers").
@@ -50,13 +47,6 @@ pub fn answer_to<A: Allocator + Copy>(alloc: A, job: Job, input: &[u8]) -> Answe
         Job::Solve => problem_answer(alloc, input),
         Job::Board => board_answer(alloc, input),
     }
-}
-
-/// Returns the answer to an input of more than 8,388,608 bytes: `refused line 0: 2`, with the status `Refused`.
-pub fn too_long_answer<A: Allocator>() -> Answer<A>
-    ensures { reply_of result ≡ refusal_reply (record { line = 0; number = too_long }) }
-{
-    refusal_answer(Refusal::from(TextFault::of_input(TextCause::TooLong)))
 }
 
 // The answer of `replay`: the report of the game, or the refusal of the input.
@@ -136,7 +126,7 @@ fn board_answer<A: Allocator + Copy>(alloc: A, input: &[u8]) -> Answer<A>
 }
 
 // The answer with this board as its text. The status is `Yes`.
-#[tactic(auto, unfolding(crate::specs::Reply::reply_of, crate::specs::Text::text_bytes))]
+#[tactic(auto, unfolding(crib_run::specs::Reply::reply_of, crib_run::specs::Text::text_bytes))]
 fn section_answer<A: Allocator>(text: Vec<u8, A>) -> Answer<A>
     requires { vec_len text ≤ MAX_INPUT }
     ensures { reply_of result ≡ board_reply text.items }

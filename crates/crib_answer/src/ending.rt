@@ -4,18 +4,16 @@ ghost use Rattle.arrayvec.specs.ArrayVec.{array_vec_len};
 ghost use Rattle.crib_text.specs.Spelling.{line_text};
 ghost use Rattle.crib_game.specs.Words.{ending_word};
 ghost use Rattle.crib_answer.specs.Answer.{ending_reply, ending_status};
-ghost use Rattle.crib_answer.specs.Reply.{reply_of};
+ghost use Rattle.crib_run.specs.Reply.{reply_of};
 
-use crate::answer::Answer;
-use crate::status::Status;
-use crate::text::{ShortText, Text, add};
 use crib_game::Ending;
+use crib_run::{Answer, ShortText, Status, Text, add};
 use std::alloc::Allocator;
 
 /// Returns the answer to a game with this ending under a plan (docs/FORMATS.md, "follow"): the word of the ending. The
 /// status is `Yes` for `reached`, and `No` for every other ending.
-#[tactic(auto, unfolding(crate::specs::Reply::reply_of, crate::specs::Text::text_bytes))]
-pub fn ending_answer<A: Allocator>(ending: Ending) -> Answer<A>
+#[tactic(auto, unfolding(crib_run::specs::Reply::reply_of, crib_run::specs::Text::text_bytes))]
+pub(crate) fn ending_answer<A: Allocator>(ending: Ending) -> Answer<A>
     ensures { reply_of result ≡ ending_reply ending }
 {
     let mut text = ShortText::new();
@@ -28,7 +26,7 @@ pub fn ending_answer<A: Allocator>(ending: Ending) -> Answer<A>
 
 /// Adds the line with the word of an ending, at most 8 bytes with its LF.
 #[tactic(auto, using(crate::proofs::Lines::words))]
-pub fn add_ending(text: &mut ShortText, ending: Ending)
+pub(crate) fn add_ending(text: &mut ShortText, ending: Ending)
     requires { array_vec_len text.old + 8 ≤ 282 }
     ensures items { text.new.items ≡ text.old.items ++ line_text (ending_word ending ∷ []) }
     ensures len { array_vec_len text.new ≤ array_vec_len text.old + 8 }

@@ -3,6 +3,7 @@ ghost use Rattle.std.specs.Prelude.{◌≡◌};
 ghost use Rattle.crib_answer.specs.Job.{job_called};
 
 use std::str::FromStr;
+use thiserror::Error;
 
 /// What the program does with its input. Each command of the command line names one job (docs/FORMATS.md, "Answers").
 #[derive(Clone, Copy, Debug, PartialEq, Eq)]
@@ -19,8 +20,22 @@ pub enum Job {
     Board,
 }
 
+const REPLAY: &str = "replay";
+
+const FOLLOW: &str = "follow";
+
+const CHECK: &str = "check";
+
+const SOLVE: &str = "solve";
+
+const BOARD: &str = "board";
+
+/// The names of the jobs, in the order in which the help text lists them.
+pub static NAMES: [&str; 5] = [CHECK, SOLVE, REPLAY, BOARD, FOLLOW];
+
 /// The error of a word that is not the name of a job.
-#[derive(Clone, Copy, Debug, PartialEq, Eq)]
+#[derive(Clone, Copy, Debug, PartialEq, Eq, Error)]
+#[error("not the name of a command")]
 pub struct UnknownJob;
 
 impl FromStr for Job {
@@ -30,11 +45,11 @@ impl FromStr for Job {
 
     fn from_str(text: &str) -> Result<Job, UnknownJob> {
         match text {
-            "replay" => Ok(Job::Replay),
-            "follow" => Ok(Job::Follow),
-            "check" => Ok(Job::Check),
-            "solve" => Ok(Job::Solve),
-            "board" => Ok(Job::Board),
+            REPLAY => Ok(Job::Replay),
+            FOLLOW => Ok(Job::Follow),
+            CHECK => Ok(Job::Check),
+            SOLVE => Ok(Job::Solve),
+            BOARD => Ok(Job::Board),
             _ => Err(UnknownJob),
         }
     }

@@ -10,7 +10,7 @@ use std::alloc::Allocator;
 /// A plan that the checker found to be sure for a problem. Only [`passed`] makes a value of this type. `solve` prints
 /// no plan without one.
 #[derive(Drop)]
-pub struct PassedPlan<'a, A: Allocator> {
+pub(crate) struct PassedPlan<'a, A: Allocator> {
     problem: &'a Problem,
     plan: &'a Plan<A>,
     ghost sure: { IsSure problem.now plan.now },
@@ -18,7 +18,7 @@ pub struct PassedPlan<'a, A: Allocator> {
 
 impl<'a, A: Allocator> PassedPlan<'a, A> {
     /// Returns the plan.
-    pub fn plan(&self) -> &'a Plan<A>
+    pub(crate) fn plan(&self) -> &'a Plan<A>
         ensures { result.now ≡ self.now.plan.now }
     {
         self.plan
@@ -27,7 +27,7 @@ impl<'a, A: Allocator> PassedPlan<'a, A> {
 
 /// Checks a plan. Returns it if it is sure for the problem, and `None` if it is not. Memory is for the checker's table
 /// of positions alone. If it is refused, the result is the same.
-pub fn passed<'a, A: Allocator + Copy>(
+pub(crate) fn passed<'a, A: Allocator + Copy>(
     alloc: A,
     problem: &'a Problem,
     plan: &'a Plan<A>,

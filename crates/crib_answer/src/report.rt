@@ -5,21 +5,19 @@ ghost use Rattle.crib_text.specs.Spelling.{line_text};
 ghost use Rattle.crib_show.specs.Words.{outcome_word};
 ghost use Rattle.crib_answer.specs.Answer.{counted_line, report_reply};
 ghost use Rattle.crib_answer.specs.Private.Replies.{score_tail};
-ghost use Rattle.crib_answer.specs.Reply.{reply_of};
+ghost use Rattle.crib_run.specs.Reply.{reply_of};
 
-use crate::answer::Answer;
-use crate::status::Status;
-use crate::text::{ShortText, Text, add, add_number};
 use crib_cards::Scores;
 use crib_game::Report;
+use crib_run::{Answer, ShortText, Status, Text, add, add_number};
 use crib_show::{Outcome, ShowRow};
 use std::alloc::Allocator;
 
 /// Returns the answer to a replayed game (docs/FORMATS.md, "replay"). It has a line with the scores after the last act,
 /// a line for each hand or crib that was counted, and a line with the outcome, or `open` if the deal is not done. The
 /// status is `Yes`.
-#[tactic(auto, using(crate::proofs::Lines::reports), unfolding(crate::specs::Reply::reply_of, crate::specs::Text::text_bytes))]
-pub fn report_answer<A: Allocator>(report: &Report) -> Answer<A>
+#[tactic(auto, using(crate::proofs::Lines::reports), unfolding(crib_run::specs::Reply::reply_of, crib_run::specs::Text::text_bytes))]
+pub(crate) fn report_answer<A: Allocator>(report: &Report) -> Answer<A>
     ensures { reply_of result ≡ report_reply report.now }
 {
     let mut text = ShortText::new();

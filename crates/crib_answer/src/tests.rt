@@ -1,5 +1,6 @@
 //! Each public call once. The tests of `cribplan` have the answers, as a run writes them.
 use crate::*;
+use crib_run::{Answer, Status};
 use example_texts::boards::LAST_CARD_BOARD;
 use example_texts::games::{LAST_CARD, LAST_CARD_ANSWER, OWNER_LEADS};
 use example_texts::plans::TWOS;
@@ -54,30 +55,6 @@ fn answers_each_job(rt: HostRuntime) {
         }
         let answer = answer_of(rt.alloc(), job, input.as_bytes());
         is_answer(&rt, &answer, wanted, status);
-    }
-}
-
-#[test]
-fn answers_where_there_is_no_input(rt: HostRuntime) {
-    is_answer(
-        &rt,
-        &too_long_answer(),
-        "refused line 0: 2\n",
-        Status::Refused,
-    );
-    is_answer(&rt, &read_fault_answer(), "fault 9\n", Status::Fault);
-    is_answer(&rt, &memory_answer(), "fault 11\n", Status::Fault);
-}
-
-#[test]
-fn ends_with_0_to_3(rt: HostRuntime) {
-    for (status, code) in [
-        (Status::Yes, 0),
-        (Status::No, 1),
-        (Status::Refused, 2),
-        (Status::Fault, 3),
-    ] {
-        assert_eq!(rt; status.code(), code);
     }
 }
 

@@ -2,23 +2,21 @@
 ghost use Rattle.std.specs.Prelude.{◌≡◌, ◌≢◌, ◌⊎◌, ◌≤◌, length};
 ghost use Rattle.crib_text.specs.Refusals.{no_memory};
 ghost use Rattle.crib_game.specs.Spelling.{game_text};
-ghost use Rattle.crib_answer.specs.Answer.{fault_reply, verdict_reply};
-ghost use Rattle.crib_answer.specs.Reply.{reply_of};
+ghost use Rattle.crib_run.specs.Reply.{fault_reply};
+ghost use Rattle.crib_answer.specs.Answer.{verdict_reply};
+ghost use Rattle.crib_run.specs.Reply.{reply_of};
 
-use crate::answer::Answer;
 use crate::ending::add_ending;
-use crate::line::{line_answer, memory_answer};
-use crate::status::Status;
-use crate::text::{ShortText, Text, add};
 use crib_check::Verdict;
 use crib_game::{Ending, Game, write_game};
+use crib_run::{Answer, ShortText, Status, Text, add, line_answer, memory_answer};
 use std::alloc::Allocator;
 
 /// Returns the answer to a verdict (docs/FORMATS.md, "check"): `holds` with the status `Yes`, or `fails`, the ending
 /// and the first failing game with the status `No`. Only the text of the game takes memory. If it is refused, the
 /// answer is `fault 11`.
 #[tactic(auto, using(crate::proofs::Lines::verdicts))]
-pub fn verdict_answer<A: Allocator + Copy>(alloc: A, verdict: &Verdict) -> Answer<A>
+pub(crate) fn verdict_answer<A: Allocator + Copy>(alloc: A, verdict: &Verdict) -> Answer<A>
     ensures { (reply_of result ≡ verdict_reply verdict.now)
         ⊎ ((verdict.now ≢ Verdict.Holds) × (reply_of result ≡ fault_reply no_memory)) }
 {
@@ -32,7 +30,7 @@ pub fn verdict_answer<A: Allocator + Copy>(alloc: A, verdict: &Verdict) -> Answe
 }
 
 // The answer to a plan that fails: `fails` with the ending, and then the section of the game.
-#[tactic(auto, using(crate::proofs::Lines::verdicts), unfolding(crate::specs::Reply::reply_of, crate::specs::Text::text_bytes))]
+#[tactic(auto, using(crate::proofs::Lines::verdicts), unfolding(crib_run::specs::Reply::reply_of, crib_run::specs::Text::text_bytes))]
 fn failure_answer<A: Allocator>(ending: Ending, game: &Game, section: &[u8]) -> Answer<A>
     requires spelled { section.now ≡ game_text game.now }
     requires short { length section.now ≤ 268 }

@@ -130,7 +130,8 @@ problem_takes =
 pub problem_cut : CutsShort problem_of_input
 unfolding problem_of_input
 problem_cut front next back value e =
-    beginning_cut (section problem_at done) problem_alone_at front next back value (section_steady problem_at done problem_form.steady (steady_ok tt)) problem_takes e
+    beginning_cut (section problem_at done) problem_alone_at front next back value
+    (section_steady problem_at done problem_form.steady (steady_ok tt)) problem_takes e
 
 question_takes : Takes (section problem_at (section plan_at done)) question_at
 unfolding question_at

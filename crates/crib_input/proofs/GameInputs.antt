@@ -46,8 +46,7 @@ last_read rest game is same =
 
 last_found : (rest : Rest) (game : Game) → IsLast rest game → IsGame game × (rest.lines ≡ map line_bytes (game_lines game))
 last_found rest game last =
-    let found = game_form.found rest game last.left last.read in
-    (
+    let found = game_form.found rest game last.left last.read in (
       found.0,
       found.1 ∙ ap (λ (ls : List (List ℕ)). map line_bytes (game_lines game) ++ ls) (at_end last.left tt last.none)
           ∙ append-nil (map line_bytes (game_lines game)),
@@ -123,7 +122,11 @@ played_accepted input played e =
     let f = bind_ok (end_at d.0.1) _ played d.2 in
     subst (λ (one : Setup × Game × ℕ). SpellsGame input one.0 one.1) (ok_is (b.0.0, d.0.0, b.0.1.number) played f.2)
     (spelled_by input b.0.0 d.0.0 (record {
-      rest = a.0; after = b.0.1; lines = a.1; first = b.1; last = record { left = d.0.1; read = d.1; none = f.1 };
+      rest = a.0;
+      after = b.0.1;
+      lines = a.1;
+      first = b.1;
+      last = record { left = d.0.1; read = d.1; none = f.1 };
     }))
 
 -- ---- a problem, a plan and a game
@@ -213,5 +216,11 @@ played_under_accepted input played e =
     subst (λ (one : Setup × List Node × Game × ℕ). SpellsPlannedGame input one.0 one.1 one.2)
     (ok_is (b.0.0, d.0.0, f.0.0, d.0.1.number) played h.2)
     (all_spelled_by input b.0.0 d.0.0 f.0.0 (record {
-      rest = a.0; before = b.0.1; after = d.0.1; lines = a.1; first = b.1; second = d.1; last = record { left = f.0.1; read = f.1; none = h.1 };
+      rest = a.0;
+      before = b.0.1;
+      after = d.0.1;
+      lines = a.1;
+      first = b.1;
+      second = d.1;
+      last = record { left = f.0.1; read = f.1; none = h.1 };
     }))

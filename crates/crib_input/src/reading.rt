@@ -52,8 +52,9 @@ pub fn problem_of(input: &[u8]) -> Result<Problem, Refusal>
     Ok(problem)
 }
 
-/// Reads a problem and a plan. Returns them. Fails with the first refusal, or with [`NotRead::Memory`] if the allocation
-/// for the plan fails. That is tried only if the problem and the first two lines of the plan are not refused.
+/// Reads a problem and a plan. Returns them. Fails with the first refusal, or with [`NotRead::Memory`] if the
+/// allocation for the plan fails. That is tried only if the problem and the first two lines of the plan are not
+/// refused.
 #[tactic(auto, unfolding(crate::specs::Input::input_lines, crate::specs::Input::question_of_input, crate::specs::Input::question_at, crate::specs::Memory::count_of_input, crate::specs::Memory::count_behind))]
 pub fn question_of<A: Allocator + Copy>(alloc: A, input: &[u8]) -> Result<Question<A>, NotRead>
     requires { length input.now ≤ MAX_INPUT }
@@ -87,8 +88,8 @@ pub fn played_of(input: &[u8]) -> Result<Played, Refusal>
 }
 
 /// Reads a problem, a plan and a game. Returns them. Fails with the first refusal, or with [`NotRead::Memory`] if the
-/// allocation for the plan fails. That is tried only if the problem and the first two lines of the plan are not refused.
-/// The game may not fit the problem, and it may stray from the plan.
+/// allocation for the plan fails. That is tried only if the problem and the first two lines of the plan are not
+/// refused. The game may not fit the problem, and it may stray from the plan.
 #[tactic(auto, unfolding(crate::specs::Input::input_lines, crate::specs::Input::played_under_of_input, crate::specs::Input::played_under_at, crate::specs::Memory::count_of_input, crate::specs::Memory::count_behind))]
 pub fn played_under_of<A: Allocator + Copy>(
     alloc: A,

@@ -1,7 +1,8 @@
 //! Runs while memory is refused, one growth after another.
 use crate::tests::follows::ONE_GAME;
 use crate::tests::runs::{joined, joined_with, numbered, outcome_of};
-use crib_answer::{Job, Status};
+use crib_answer::Job;
+use crib_run::Status;
 use example_texts::boards::LAST_CARD_BOARD;
 use example_texts::games::{LAST_CARD, LAST_CARD_ANSWER, NO_ACTS, OWNER_LEADS};
 use example_texts::plans::{NO_PLAN, TWOS};

@@ -1,6 +1,7 @@
 //! Runs over inputs in memory, and what they write.
 use crate::run::run;
-use crib_answer::{Job, Status};
+use crib_answer::Job;
+use crib_run::Status;
 use crib_text::Counted;
 use failing_devices::{Feed, Tray, Trouble};
 use std::alloc::{Allocator, Global};

@@ -3,7 +3,7 @@ use Rattle.crib_answer.specs.declared.job.Job.{Job}
 use Rattle.crib_answer.specs.declared.job.Job.TheVariants.{Check, Solve}
 use Rattle.crib_answer.specs.Telling.{StatusTells}
 use Rattle.crib_answer.specs.Memory.{Makes}
-use Rattle.crib_answer.specs.Reply.{reply_of}
+use Rattle.crib_run.specs.Reply.{reply_of}
 use Rattle.crib_answer.proofs.OwedReplies.{long_answers}
 use Rattle.crib_answer.proofs.ToldAnswers.{makes_tells}
 use Rattle.crib_answer.proofs.answering.answer_to.Goals as goal

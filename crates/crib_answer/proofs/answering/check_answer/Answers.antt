@@ -1,8 +1,8 @@
-use Rattle.crib_answer.specs.Reply.{reply_of}
+use Rattle.crib_run.specs.Reply.{reply_of}
 use Rattle.crib_answer.proofs.OwedReplies.{verdict_made}
 use Rattle.crib_answer.proofs.answering.check_answer.Goals as goal
 
 pub returns-in-Ok : goal.returns-in-Ok
 returns-in-Ok g c =
-    verdict_made c.args.input.now (c.in-Ok.question.problem, c.in-Ok.question.plan) c.verdict_on-verdict.result (reply_of c.verdict_answer.result) c.in-Ok.ensures.read
-    c.verdict_on-verdict.ensures.right c.verdict_answer.ensures
+    verdict_made c.args.input.now (c.in-Ok.question.problem, c.in-Ok.question.plan) c.verdict_on-verdict.result (reply_of c.verdict_answer.result)
+    c.in-Ok.ensures.read c.verdict_on-verdict.ensures.right c.verdict_answer.ensures

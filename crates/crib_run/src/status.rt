@@ -1,6 +1,6 @@
 //! The exit statuses.
 ghost use Rattle.std.specs.Prelude.{◌≡◌};
-ghost use Rattle.crib_answer.specs.Status.{code_of};
+ghost use Rattle.crib_run.specs.Status.{code_of};
 
 /// What the exit status says (docs/FORMATS.md, "Exit statuses").
 #[derive(Clone, Copy, Debug, PartialEq, Eq)]

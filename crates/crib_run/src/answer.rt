@@ -1,7 +1,7 @@
 //! The answer to an input: its text and its status.
 ghost use Rattle.std.specs.Prelude.{◌≤◌, length};
 ghost use Rattle.crib_input.specs.Input.{most_bytes};
-ghost use Rattle.crib_answer.specs.Text.{text_bytes};
+ghost use Rattle.crib_run.specs.Text.{text_bytes};
 
 use crate::status::Status;
 use crate::text::Text;
@@ -11,7 +11,7 @@ use std::alloc::Allocator;
 /// written.
 #[derive(Drop)]
 pub struct Answer<A: Allocator> {
-    pub(crate) text: Text<A>,
-    pub(crate) status: Status,
+    pub text: Text<A>,
+    pub status: Status,
     ghost can_be_sent: { length (text_bytes text) ≤ most_bytes },
 }

@@ -1,6 +1,6 @@
 //! What an answer says: the bytes of its text, and its status.
 ghost use Rattle.std.specs.Prelude.{◌≡◌, ◌≤◌, length};
-ghost use Rattle.crib_answer.specs.Reply.{reply_of};
+ghost use Rattle.crib_run.specs.Reply.{reply_of};
 
 use crate::answer::Answer;
 use crate::status::Status;

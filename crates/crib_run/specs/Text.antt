@@ -1,7 +1,7 @@
 -- The bytes of an answer's text.
 use Rattle.std.specs.Prelude.{ℕ, List}
-use Rattle.crib_answer.specs.declared.text.Text.{Text}
-use Rattle.crib_answer.specs.declared.text.Text.TheVariants as texts
+use Rattle.crib_run.specs.declared.text.Text.{Text}
+use Rattle.crib_run.specs.declared.text.Text.TheVariants as texts
 
 -- the bytes of a text, whether it takes memory or not
 unfoldable pub text_bytes : {A : Type 0} → Text A → List ℕ

@@ -1,7 +1,7 @@
 //! The text of an answer.
 ghost use Rattle.std.specs.Prelude.{◌≡◌, ◌+◌, ◌≤◌, ◌++◌, length, decimal};
 ghost use Rattle.arrayvec.specs.ArrayVec.{array_vec_len};
-ghost use Rattle.crib_answer.specs.Text.{text_bytes};
+ghost use Rattle.crib_run.specs.Text.{text_bytes};
 
 use arrayvec::ArrayVec;
 use itoa::Buffer;

@@ -1,0 +1,4 @@
+pub mod Status
+pub mod Text
+pub mod Reply
+pub mod Run

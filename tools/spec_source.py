@@ -60,6 +60,11 @@ def crates() -> list[str]:
     return re.findall(r"^(\w+):", (ROOT / "crates.txt").read_text(), re.M)
 
 
+def code_files(crate: str = "*") -> list[Path]:
+    """The files of src of a crate, or of all crates, in folders too. A folder of tests is left out."""
+    return [path for path in sorted(ROOT.glob(f"crates/{crate}/src/**/*.rt")) if path.parent.name != "tests"]
+
+
 def words_in(found: Iterable[Iterable[str]]) -> set[str]:
     """The words of all parts that a pattern found."""
     return {word for parts in found for part in parts for word in re.findall(r"\w+", part)}
@@ -165,7 +170,7 @@ class Source:
         for path in sorted(ROOT.glob("crates/*/specs/**/*.antt")):
             for name, block in spec_blocks(path):
                 self.specs[(*place_of(path), name)] = block
-        for path in sorted(ROOT.glob("crates/*/src/*.rt")):
+        for path in code_files():
             for name, block in type_blocks(path):
                 self.types[place_of(path)[0], name] = block
 

@@ -7,7 +7,7 @@ examples says so in its first line. An example that rests on a lemma of another 
 import re
 from pathlib import Path
 
-from spec_source import ROOT, item_lines, type_blocks
+from spec_source import ROOT, code_files, item_lines, place_of, type_blocks
 
 CRATES = sorted(path.parent.name for path in ROOT.glob("crates/*/specs"))
 PRELUDE = "Rattle.std.specs.Prelude"
@@ -92,10 +92,10 @@ class Declared:
         self.homes: dict[tuple[str, str], str] = {}  # a crate and a type's name: its module of src
         self.values: dict[tuple[str, str], tuple[str, str]] = {}  # the same: what it is seen as, and imports
         self.others: dict[str, str] = {}  # another name of a type: the type
-        for path in sorted(ROOT.glob("crates/*/src/*.rt")):
-            crate = path.relative_to(ROOT / "crates").parts[0]
+        for path in code_files():
+            crate, module = place_of(path)
             for name, _ in type_blocks(path):
-                self.homes[crate, name] = path.stem
+                self.homes[crate, name] = module
             self.others.update(re.findall(r"^pub(?:\(\w+\))? type (\w+) = (.*);$", path.read_text(), re.M))
             self.add_views(crate, path.read_text().splitlines())
 
@@ -141,16 +141,16 @@ class Declared:
         place = f"Rattle.{home}.specs.declared.{self.homes[home, rust]}.{rust}"
         return f"{rust} {over}".strip(), {f"use {place}.{{{rust}}}"}
 
-    def texts(self, crate: str, stem: str, name: str) -> dict[str, str]:
+    def texts(self, crate: str, module: str, name: str) -> dict[str, str]:
         """The modules of a declared type: itself, and that of its variants if it is an enum."""
-        path = ROOT / "crates" / crate / "src" / (stem + ".rt")
+        path = ROOT / "crates" / crate / "src" / (module.replace(".", "/") + ".rt")
         lines = path.read_text().splitlines()
         head = rf"(?:pub(?:\(\w+\))? )?(struct|enum) {name}\b"
         start = next(n for n, line in enumerate(lines) if re.match(head, line))
         body = [re.sub(r"#\[.*?\] ?|//.*", "", line).strip() for line in item_lines(lines, start)[1:-1]]
         over = "".join(re.findall(r"<([A-Z]\w*)", lines[start]))
         if re.search(r"\benum\b", lines[start]):
-            return self.enum_texts(crate, f"{stem}.{name}", over, " ".join(body))
+            return self.enum_texts(crate, f"{module}.{name}", over, " ".join(body))
         uses, fields = set(), []
         for line in body:
             field = re.fullmatch(r"(?:pub(?:\(\w+\))? )?(\w+): (.*),", line)
@@ -159,7 +159,7 @@ class Declared:
                 fields.append(f"  pub {field[1]} : {value}")
                 uses |= its
         head = f"pub record {name}{f' ({over} : Type 0)' * bool(over)} : Type 0 where"
-        return {f"{stem}.{name}": "\n".join([*sorted(uses), head, *fields]) + "\n"}
+        return {f"{module}.{name}": "\n".join([*sorted(uses), head, *fields]) + "\n"}
 
     def enum_texts(self, crate: str, module: str, over: str, body: str) -> dict[str, str]:
         uses, variants = set(), []
@@ -189,8 +189,8 @@ def gathered(wanted: set[Module]) -> dict[Module, str]:
         if module in texts:
             continue
         if name.startswith("declared."):
-            stem, one = name.split(".")[1:]
-            made = {(kind, crate, "declared." + its): text for its, text in declared.texts(crate, stem, one).items()}
+            within, one = name.removeprefix("declared.").rsplit(".", 1)
+            made = {(kind, crate, "declared." + its): text for its, text in declared.texts(crate, within, one).items()}
         else:
             text = path_of(module).read_text()
             made = {module: without_lemmas(text) if module in examples else text}

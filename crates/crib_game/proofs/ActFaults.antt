@@ -24,8 +24,8 @@ use Rattle.crib_play.proofs.FilledRecords.{acts_visible, acts_silent, silent_sto
 use Rattle.crib_play.proofs.LegalRecords.{silent_unheard, acts_more, filled_before}
 use Rattle.crib_game.specs.declared.fault.GameFault.{GameFault}
 use Rattle.crib_game.specs.declared.fault.GameFault.TheVariants.{NotHeld, DoesNotFit, MustPlay}
-use Rattle.crib_game.specs.declared.remark.Remark.{Remark}
-use Rattle.crib_game.specs.declared.remark.Remark.TheVariants.{Fine, NotPlayed, Astray}
+use Rattle.crib_game.specs.declared.replaying.remark.Remark.{Remark}
+use Rattle.crib_game.specs.declared.replaying.remark.Remark.TheVariants.{Fine, NotPlayed, Astray}
 use Rattle.crib_game.specs.Laws.{NoneStrays}
 use Rattle.crib_game.specs.Replay.{Judge, first_fault, move_fault, act_fault, acts_fault}
 

@@ -21,9 +21,9 @@ use Rattle.crib_play.proofs.FilledRecords.{filled_whole, not_silent_heard, not_s
 use Rattle.crib_problem.specs.Setup.{Setup, IsSetup, start_of, hands_of}
 use Rattle.crib_plan.specs.declared.plan.Node.{Node}
 use Rattle.crib_plan.specs.Places.{stated_card}
-use Rattle.crib_game.specs.declared.ending.Ending.{Ending}
+use Rattle.crib_game.specs.declared.following.ending.Ending.{Ending}
 use Rattle.crib_game.specs.declared.fault.GameFault.{GameFault}
-use Rattle.crib_game.specs.declared.game.Game.{Game}
+use Rattle.crib_game.specs.declared.section.game.Game.{Game}
 use Rattle.crib_game.specs.Replay.{record_of, unless_fault, is_done_for}
 use Rattle.crib_game.specs.Following.{place_of, is_playable, is_stuck}
 use Rattle.crib_game.specs.Followed.{IsRecordUnder, follow_fault, ending_of}

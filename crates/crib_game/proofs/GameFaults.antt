@@ -27,7 +27,7 @@ use Rattle.std.proofs.lemmas.List.{length-reverse}
 use Rattle.crib_play.specs.Record.{mover}
 use Rattle.crib_play.specs.Legal.{letters_of, cards_of, MayTake}
 use Rattle.crib_game.specs.declared.fault.GameFault.{GameFault}
-use Rattle.crib_game.specs.declared.game.Game.{Game}
+use Rattle.crib_game.specs.declared.section.game.Game.{Game}
 use Rattle.crib_game.specs.Replay.{Judge, by_rules, first_seen, deal_fault, act_fault, acts_fault, few_fault, acts_back, game_fault_by, game_fault}
 use Rattle.crib_game.specs.Replay.{record_of, unless_fault, IsRecordOf}
 use Rattle.crib_game.specs.Laws.{NoneStrays}

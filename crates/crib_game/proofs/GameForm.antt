@@ -10,7 +10,7 @@ use Rattle.crib_text.proofs.FormLaws.{one_spelling, lines_apart, texts_apart, te
 use Rattle.crib_problem.specs.Spelling.{act_line}
 use Rattle.crib_problem.proofs.CardLemmas.{all_parts, all-append}
 use Rattle.crib_problem.proofs.ActForms.{card_form, act_form, count_form}
-use Rattle.crib_game.specs.declared.game.Game.{Game}
+use Rattle.crib_game.specs.declared.section.game.Game.{Game}
 use Rattle.crib_game.specs.Spelling.{IsGame, game_lines, game_text}
 use Rattle.crib_game.specs.Reading.{cards_in_line, game_at}
 use Rattle.crib_game.specs.SpellingLaws.{OneSpellingLaw, SpellingLaw, PrefixLaw, LinesLaw, ReadAgainLaw, LinesCutLaw, TextCutLaw}

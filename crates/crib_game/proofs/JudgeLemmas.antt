@@ -27,10 +27,10 @@ use Rattle.crib_play.proofs.FilledRecords.{letters_filled, may_show, cards_fille
 use Rattle.crib_play.proofs.LegalRecords.{legal_filled, visible_after}
 use Rattle.crib_game.specs.declared.fault.GameFault.{GameFault}
 use Rattle.crib_game.specs.declared.fault.GameFault.TheVariants.{NotHeld, DoesNotFit, MustPlay, Strays}
-use Rattle.crib_game.specs.declared.judging.HeldCards.{HeldCards}
-use Rattle.crib_game.specs.declared.judging.JudgedGame.{JudgedGame}
-use Rattle.crib_game.specs.declared.remark.Remark.{Remark}
-use Rattle.crib_game.specs.declared.remark.Remark.TheVariants.{Fine, NotPlayed, Astray}
+use Rattle.crib_game.specs.declared.replaying.judging.HeldCards.{HeldCards}
+use Rattle.crib_game.specs.declared.replaying.judging.JudgedGame.{JudgedGame}
+use Rattle.crib_game.specs.declared.replaying.remark.Remark.{Remark}
+use Rattle.crib_game.specs.declared.replaying.remark.Remark.TheVariants.{Fine, NotPlayed, Astray}
 use Rattle.crib_game.specs.Replay.{Judge, turn_fault, first_fault, move_fault_at, move_fault, act_fault, acts_fault}
 use Rattle.crib_game.specs.Private.Judging.{is_over, held_cards_of, held_cards_after, left_by, fault_at, MayShowAt}
 use Rattle.crib_game.specs.Private.Walking.{IsJudged}

@@ -14,9 +14,9 @@ use Rattle.crib_play.specs.Legal.{IsDealt, letters_of}
 use Rattle.crib_play.specs.History.{moves_of}
 use Rattle.crib_problem.specs.Setup.{Setup, start_of, hands_of}
 use Rattle.crib_game.specs.declared.fault.GameFault.{GameFault}
-use Rattle.crib_game.specs.declared.judging.JudgedGame.{JudgedGame}
-use Rattle.crib_game.specs.declared.remark.Remark.{Remark}
-use Rattle.crib_game.specs.declared.report.Row.{Row}
+use Rattle.crib_game.specs.declared.replaying.judging.JudgedGame.{JudgedGame}
+use Rattle.crib_game.specs.declared.replaying.remark.Remark.{Remark}
+use Rattle.crib_game.specs.declared.replaying.report.Row.{Row}
 use Rattle.crib_game.specs.Replay.{Judge, next_played, acts_fault, count_with}
 use Rattle.crib_game.specs.Private.Judging.{held_cards_of, held_cards_after, fault_at, MayShowAt}
 use Rattle.crib_game.specs.Private.Walking.{CanBeJudged, IsJudged, record_after, IsNext}

@@ -19,7 +19,7 @@ use Rattle.crib_play.specs.History.{acts_of}
 use Rattle.crib_play.proofs.TurnFacts.{same_is, same_self}
 use Rattle.crib_play.proofs.FilledRecords.{acts_visible, acts_silent}
 use Rattle.crib_problem.specs.Setup.{Setup, start_of, BeginsAsPlayed}
-use Rattle.crib_game.specs.declared.remark.Remark.TheVariants.{Fine, NotPlayed}
+use Rattle.crib_game.specs.declared.replaying.remark.Remark.TheVariants.{Fine, NotPlayed}
 use Rattle.crib_game.specs.Replay.{same_move, same_act, remark_of, by_rules}
 use Rattle.crib_game.specs.Laws.{NoneStrays}
 use Rattle.crib_game.proofs.JudgeLemmas.{reverse_more}

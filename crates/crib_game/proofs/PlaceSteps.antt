@@ -5,7 +5,7 @@ use Rattle.crib_play.specs.History.{moves_of}
 use Rattle.crib_plan.specs.declared.plan.Next.{Next}
 use Rattle.crib_plan.specs.declared.plan.Node.{Node}
 use Rattle.crib_problem.specs.Setup.{Setup, start_of}
-use Rattle.crib_game.specs.declared.report.Row.{Row}
+use Rattle.crib_game.specs.declared.replaying.report.Row.{Row}
 use Rattle.crib_game.specs.Following.{place_after_turn}
 use Rattle.crib_game.specs.Private.Tracing.{IsPlanAfter}
 use Rattle.crib_game.specs.Private.Walking.{IsNext}

@@ -22,7 +22,7 @@ use Rattle.crib_game.specs.Laws.{NoneStrays}
 use Rattle.crib_game.specs.Following.{place_after_turn, place_of, IsAsStated, Follows}
 use Rattle.crib_cards.specs.declared.moves.Act.{Act}
 use Rattle.crib_problem.specs.Setup.{Setup, start_of}
-use Rattle.crib_game.specs.declared.remark.Remark.TheVariants.{Fine, Astray}
+use Rattle.crib_game.specs.declared.replaying.remark.Remark.TheVariants.{Fine, Astray}
 use Rattle.crib_game.specs.Replay.{remark_of, next_played, by_rules}
 use Rattle.crib_game.specs.Followed.{is_stated, strays_at, by_plan}
 

@@ -1,7 +1,7 @@
 -- The words of endings.
 use Rattle.std.specs.Prelude.{ℕ, List, codes}
-use Rattle.crib_game.specs.declared.ending.Ending.{Ending}
-use Rattle.crib_game.specs.declared.ending.Ending.TheVariants as ending
+use Rattle.crib_game.specs.declared.following.ending.Ending.{Ending}
+use Rattle.crib_game.specs.declared.following.ending.Ending.TheVariants as ending
 
 -- the word of an ending
 abbrev pub ending_word : Ending → List ℕ

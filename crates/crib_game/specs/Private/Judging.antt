@@ -18,8 +18,8 @@ use Rattle.crib_play.specs.Standing.{Standing}
 use Rattle.crib_show.specs.declared.deals.Full.{Full}
 use Rattle.crib_problem.specs.Setup.{Setup}
 use Rattle.crib_game.specs.declared.fault.GameFault.{GameFault}
-use Rattle.crib_game.specs.declared.remark.Remark.{Remark}
-use Rattle.crib_game.specs.declared.judging.HeldCards.{HeldCards}
+use Rattle.crib_game.specs.declared.replaying.remark.Remark.{Remark}
+use Rattle.crib_game.specs.declared.replaying.judging.HeldCards.{HeldCards}
 use Rattle.crib_game.specs.Replay.{first_fault, full_with, move_fault_at}
 
 -- whether the deal is done

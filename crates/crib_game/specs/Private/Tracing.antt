@@ -12,7 +12,7 @@ use Rattle.crib_play.specs.Standing.{Standing}
 use Rattle.crib_plan.specs.declared.plan.Next.{Next}
 use Rattle.crib_plan.specs.declared.plan.Node.{Node}
 use Rattle.crib_problem.specs.Setup.{Setup, start_of}
-use Rattle.crib_game.specs.declared.ending.Ending.{Ending}
+use Rattle.crib_game.specs.declared.following.ending.Ending.{Ending}
 use Rattle.crib_game.specs.Replay.{outcome_if_done}
 use Rattle.crib_game.specs.Following.{is_playable_at, place_of}
 use Rattle.crib_game.specs.Private.Judging.{is_over, full_at}

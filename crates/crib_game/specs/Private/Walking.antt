@@ -12,9 +12,9 @@ use Rattle.crib_play.specs.Standing.{StandsFor}
 use Rattle.crib_play.specs.Legal.{letters_of}
 use Rattle.crib_play.specs.History.{filled_moves, moves_of}
 use Rattle.crib_problem.specs.Setup.{Setup, IsSetup, known_cards, start_of, hands_of}
-use Rattle.crib_game.specs.declared.game.Game.{Game}
-use Rattle.crib_game.specs.declared.judging.JudgedGame.{JudgedGame}
-use Rattle.crib_game.specs.declared.report.Row.{Row}
+use Rattle.crib_game.specs.declared.section.game.Game.{Game}
+use Rattle.crib_game.specs.declared.replaying.judging.JudgedGame.{JudgedGame}
+use Rattle.crib_game.specs.declared.replaying.report.Row.{Row}
 use Rattle.crib_game.specs.Replay.{Judge, acts_back, acts_fault, act_row, first_seen, game_fault_by, next_played}
 use Rattle.crib_game.specs.Spelling.{AreSixCards}
 use Rattle.crib_game.specs.Private.Judging.{left_by}

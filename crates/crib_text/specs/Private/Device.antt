@@ -3,7 +3,7 @@ use Rattle.std.specs.Prelude.{ℕ, Result, Ok, Err}
 use Rattle.std.specs.IoError.{error_kind}
 use Rattle.std.specs.declared.io.Error.{Error}
 use Rattle.crib_text.specs.Device.{glitch_for}
-use Rattle.crib_text.specs.declared.device.Glitch.{Glitch}
+use Rattle.crib_text.specs.declared.devices.device.Glitch.{Glitch}
 
 -- the result of a call, from that of the reader or writer inside
 abbrev pub noted_as : Result ℕ Error → Result ℕ Glitch

@@ -1,6 +1,6 @@
 //! What a `Counted` does: each of its calls is one call of the reader or writer inside, with the same result.
 
-use crate::device::{Glitch, Sink, Source};
+use crate::devices::{Glitch, Sink, Source};
 use crate::tests::memory::{feeding, tray_of};
 use failing_devices::Trouble;
 use std::io::{Error, ErrorKind};

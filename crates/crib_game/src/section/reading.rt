@@ -1,0 +1,118 @@
+//! Reading a game section.
+ghost use Rattle.std.specs.Prelude.{◌≡◌, ◌≤◌, ◌++◌, ℕ, List, map, codes, Ok, IfOk, OnErr};
+ghost use Rattle.crib_text.specs.Lines.{rest_of};
+ghost use Rattle.crib_text.specs.Reading.{Reads, value_at, header_in};
+ghost use Rattle.crib_text.specs.Forms.{values_at};
+ghost use Rattle.crib_text.specs.Private.Reading.{Takes};
+ghost use Rattle.crib_text.specs.Refusals.{text_refusal};
+ghost use Rattle.crib_text.specs.Spelling.{line_bytes};
+ghost use Rattle.crib_game.specs.Spelling.{IsGame, game_lines};
+ghost use Rattle.crib_problem.specs.Reading.{most_acts, acts_count_in, act_in};
+ghost use Rattle.crib_game.specs.Reading.{cards_in_line, game_at};
+
+use super::game::Game;
+use super::words_of_lines::{hold_of, throw_of};
+use arrayvec::ArrayVec;
+use crib_cards::{Act, Card, Dealt};
+use crib_problem::{act_of, acts_count_of};
+use crib_text::{Lines, TextFault, fault_in, in_line, read_header};
+
+/// Reads a game section (docs/FORMATS.md, "A game"): `game 1`, the opponent's four cards after `hold` and two after
+/// `throw`, the number of acts after `acts`, and one line for each act. If a game is read, the lines stand behind the
+/// section.
+///
+/// A refusal names the first line that is wrong, and leaves the lines as they were. Its number is 3 where a line is
+/// missing, 4 for a wrong keyword or a wrong number of words, 5 for a word that is no card, 6 for a word that is no
+/// number or for more than 32 acts, and 7 for a version other than 1.
+pub fn read_game(lines: &mut Lines<'_>) -> Result<Game, TextFault>
+    // If a game is read, the lines are its spelling, and then those that are left.
+    ensures found { IfOk result (λ game. IsGame game
+        × ((rest_of lines.old).lines ≡ map line_bytes (game_lines game) ++ (rest_of lines.new).lines)) }
+    // If the lines begin with the spelling of a game, this game is read.
+    ensures only { (game : Game) (rest : List (List ℕ)) → IsGame game
+        → (rest_of lines.old).lines ≡ map line_bytes (game_lines game) ++ rest → result ≡ Ok game }
+    // This says which game is read, and which refusal is given.
+    ensures exact { Reads (λ game. game) text_refusal game_at (rest_of lines.old) (rest_of lines.new) result }
+    ensures err { OnErr result (lines.new ≡ lines.old) }
+{
+    let mut ahead = *lines;
+    let game = game_of(&mut ahead)?;
+    *lines = ahead;
+    Ok(game)
+}
+
+#[tactic(auto, using(crib_text::proofs::ReadingLemmas::values))]
+fn read_name(lines: &mut Lines<'_>) -> Result<(), TextFault>
+    ensures { Takes (λ _. tt) text_refusal
+        (value_at (header_in (codes "game")) (rest_of lines.old)) (rest_of lines.new) result }
+{
+    let line = lines.next_line()?;
+    in_line(&line, read_header(&line, b"game"))
+}
+
+#[tactic(auto, using(crib_text::proofs::ReadingLemmas::values))]
+fn read_hold(lines: &mut Lines<'_>) -> Result<[Card; 4], TextFault>
+    ensures { Takes (λ cards. cards) text_refusal
+        (value_at (cards_in_line (codes "hold") 4) (rest_of lines.old)) (rest_of lines.new) result }
+{
+    let line = lines.next_line()?;
+    in_line(&line, hold_of(&line))
+}
+
+#[tactic(auto, using(crib_text::proofs::ReadingLemmas::values))]
+fn read_throw(lines: &mut Lines<'_>) -> Result<[Card; 2], TextFault>
+    ensures { Takes (λ cards. cards) text_refusal
+        (value_at (cards_in_line (codes "throw") 2) (rest_of lines.old)) (rest_of lines.new) result }
+{
+    let line = lines.next_line()?;
+    in_line(&line, throw_of(&line))
+}
+
+#[tactic(auto, using(crib_text::proofs::ReadingLemmas::values))]
+fn read_count(lines: &mut Lines<'_>) -> Result<u32, TextFault>
+    ensures count { Takes (λ count. count) text_refusal
+        (value_at (acts_count_in (codes "acts")) (rest_of lines.old)) (rest_of lines.new) result }
+    ensures range { IfOk result (λ count. count ≤ most_acts) }
+{
+    let line = lines.next_line()?;
+    in_line(&line, acts_count_of(&line, b"acts"))
+}
+
+#[tactic(auto, using(crib_text::proofs::ReadingLemmas::values))]
+fn read_act(lines: &mut Lines<'_>) -> Result<Act, TextFault>
+    ensures { Takes (λ act. act) text_refusal (value_at act_in (rest_of lines.old)) (rest_of lines.new) result }
+{
+    let line = lines.next_line()?;
+    match act_of(&line) {
+        Ok(act) => Ok(act),
+        Err(cause) => Err(fault_in(&line, cause)),
+    }
+}
+
+// Reads `count` acts, one from each line.
+fn read_acts(lines: &mut Lines<'_>, count: u32) -> Result<ArrayVec<Act, 32>, TextFault>
+    requires { count ≤ most_acts }
+    ensures { Takes (λ acts. acts.items) text_refusal
+        (values_at (λ place. act_in) 0 count (rest_of lines.old)) (rest_of lines.new) result }
+{
+    let mut acts = ArrayVec::new();
+    for _ in 0..count {
+        acts.push(read_act(lines)?);
+    }
+    Ok(acts)
+}
+
+#[tactic(auto, unfolding(crate::specs::Reading::game_at))]
+fn game_of(lines: &mut Lines<'_>) -> Result<Game, TextFault>
+    ensures { Takes (λ game. game) text_refusal (game_at (rest_of lines.old)) (rest_of lines.new) result }
+{
+    read_name(lines)?;
+    let hold = read_hold(lines)?;
+    let throw = read_throw(lines)?;
+    let count = read_count(lines)?;
+    let acts = read_acts(lines, count)?;
+    Ok(Game {
+        opp: Dealt { hold, throw },
+        acts,
+    })
+}

@@ -116,6 +116,10 @@ pub record MightGo (problem : Setup) (history : List Event) : Type 0 where
   pub asked : asked_now problem history ≡ turns.Opponent
   pub high : 22 ≤ count_after problem history
 
+abbrev pub Might : Setup → List Event → Letter → Type 0
+Might problem history (Seen rank) = MightPlay problem history rank
+Might problem history Go = MightGo problem history
+
 module _ (problem : Setup) (setup : IsSetup problem) (dealt : Dealt) (deal : IsDealOf problem dealt) where
   abbrev pub the_start : Start
   the_start = start_of problem
@@ -192,25 +196,24 @@ module _ (problem : Setup) (setup : IsSetup problem) (dealt : Dealt) (deal : IsD
     now_asked side turn may m = ap (asked_after the_start) (sym past_same) ∙ asked_is the_start (letters_of past) side may.not_done m
 
     -- a card of the opponent
-    covers_card : (card rank : ℕ) → MayCome the_start the_hands (move.Card card) past → mover (pone_of the_start) (letters_of past) ≡ Opponent →
-        rank_of card ≡ rank → MightPlay problem history rank
-    covers_card card rank may m is =
+    covers_card : (card : ℕ) → MayCome the_start the_hands (move.Card card) past → mover (pone_of the_start) (letters_of past) ≡ Opponent →
+        MightPlay problem history (rank_of card)
+    covers_card card may m =
+        let rank = rank_of card in
         let T : Side → Type 0 = λ side. MayTake the_hands side (move.Card card) past in
         let take : MayTake the_hands Opponent (move.Card card) past = subst T m may.may_take in
         let held : has left card ≡ true = take.0 in
-        let value : card_value card ≡ rank_value rank = ap rank_value is in
         let fit : count_of (pile_of (letters_of past)) + card_value card ≤ 31 = leb-true (count_of (pile_of (letters_of past)) + card_value card) 31 take.1 in
         let low = left_high card held in
         let all : count_rank rank left + ranks_of (their_ranks history) rank ≡ count_rank rank dealt.hold = left_played (λ other. eqb other rank) in
-        let one : 1 ≤ count_rank rank left = count_here (λ c. eqb (rank_of c) rank) left card held (eq-eqb (rank_of card) rank is) in
+        let one : 1 ≤ count_rank rank left = count_here (λ c. eqb (rank_of c) rank) left card held (eq-eqb rank rank refl) in
         let most = held_unseen rank in
         let same = count_same in
-        let R : ℕ → Type 0 = λ r. IsRank r in
         record {
-          is = subst R is (rank_is card (hold_cards problem setup dealt deal card (held_hold card held)));
+          is = rank_is card (hold_cards problem setup dealt deal card (held_hold card held));
           asked = now_asked Opponent (move.Card card) may m;
-          fits = omega (arith, fit, same, value);
-          high = omega (arith, low, value);
+          fits = omega (arith, fit, same);
+          high = low;
           free = omega (arith, all, one, most);
         }
       where
@@ -229,29 +232,14 @@ module _ (problem : Setup) (setup : IsSetup problem) (dealt : Dealt) (deal : IsD
         let same = count_same in
         record { asked = now_asked Opponent move.Go may m; high = omega (arith, high, same) }
 
-  -- the letter that an agreeing deal shows next can come
-  module _ (history : List Event) where
-    pub covers_play : (rank : ℕ) → LastPlay the_start the_hands (Theirs (Seen rank)) history → MightPlay problem history rank
-    covers_play rank last = split last.turn last.shows last.may
-      where
-        split : (turn : Move) → event_by (mover (pone_of the_start) (filled_record the_start (history_letters history))) turn ≡ Theirs (Seen rank) →
-            MayCome the_start the_hands turn (past history last.before) → MightPlay problem history rank
-        split (move.Card card) e may =
-            let is = theirs_is (mover (pone_of the_start) (filled_record the_start (history_letters history))) (move.Card card) (Seen rank) e in
-            let same : rank_of card ≡ rank = cc (is.1) in
-            covers_card history last.before card rank may (mover_same history last.before ∙ is.0) same
-        split move.Go e may =
-            let is = theirs_is (mover (pone_of the_start) (filled_record the_start (history_letters history))) move.Go (Seen rank) e in
-            let no : Go ≡ Seen rank = is.1 in absurd cc
+    covers_turn : (turn : Move) → MayCome the_start the_hands turn past → mover (pone_of the_start) (letters_of past) ≡ Opponent →
+        Might problem history (letter_of turn)
+    covers_turn (move.Card card) may m = covers_card card may m
+    covers_turn move.Go may m = covers_pass may m
 
-    pub covers_go : LastPlay the_start the_hands (Theirs Go) history → MightGo problem history
-    covers_go last = split last.turn last.shows last.may
-      where
-        split : (turn : Move) → event_by (mover (pone_of the_start) (filled_record the_start (history_letters history))) turn ≡ Theirs Go →
-            MayCome the_start the_hands turn (past history last.before) → MightGo problem history
-        split (move.Card card) e may =
-            let is = theirs_is (mover (pone_of the_start) (filled_record the_start (history_letters history))) (move.Card card) Go e in
-            let no : Seen (rank_of card) ≡ Go = is.1 in absurd cc
-        split move.Go e may =
-            let is = theirs_is (mover (pone_of the_start) (filled_record the_start (history_letters history))) move.Go Go e in
-            covers_pass history last.before may (mover_same history last.before ∙ is.0)
+  -- the letter that an agreeing deal shows next can come
+  pub covers : (history : List Event) (letter : Letter) → LastPlay the_start the_hands (Theirs letter) history → Might problem history letter
+  covers history letter last =
+      let is = theirs_is (mover (pone_of the_start) (filled_record the_start (history_letters history))) last.1.turn letter last.1.shows in
+      let M : Letter → Type 0 = λ shown. Might problem history shown in
+      subst M is.1 (covers_turn history last.0 last.1.turn last.1.may (mover_same history last.0 ∙ is.0))

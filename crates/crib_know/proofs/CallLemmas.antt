@@ -1,13 +1,15 @@
 -- What each call requires and gives, for a knowledge that stands for a history.
-use Rattle.std.proofs.Common.{◌≡◌, ◌≢◌, ◌↔◌, ℕ, ◌+◌, ◌-◌, ◌<◌, ◌≤◌, max, Bool, true, false, not, ◌&&◌, ◌||◌, eqb, leb, List, ◌∷◌, length}
-use Rattle.std.proofs.Common.{sym, ap, ◌∙◌, arith}
+use Rattle.std.proofs.Common.{◌≡◌, ◌≢◌, ◌↔◌, ℕ, ◌+◌, ◌-◌, ◌<◌, ◌≤◌, max, Bool, not, ◌&&◌, ◌||◌, eqb, List, ◌∷◌, length}
+use Rattle.std.proofs.Common.{sym, ap, subst, ◌∙◌, arith}
 use Rattle.std.specs.Prelude.{IsTrue}
-use Rattle.std.specs.List.{list_any, filter}
-use Rattle.crib_cards.specs.Cards.{IsRank, rank_of, rank_value, card_value}
+use Rattle.std.specs.List.{filter}
+use Rattle.crib_cards.specs.Cards.{IsRank, rank_of, rank_value}
 use Rattle.crib_cards.specs.Sets.{has, set_of, set_without, rank_counts, count_at, counts_with, count_rank}
 use Rattle.crib_cards.specs.declared.sides.Dealt.{Dealt}
 use Rattle.crib_cards.specs.declared.letters.Letter.TheVariants.{Seen, Go}
+use Rattle.crib_cards.specs.declared.moves.Move.{Move}
 use Rattle.crib_cards.specs.declared.moves.Move.TheVariants as move
+use Rattle.crib_cards.specs.Letters.{letter_of}
 use Rattle.crib_cards.proofs.SetLemmas.{has-set_where, set_where_agree, and_not_either, eqb_turned}
 use Rattle.crib_cards.proofs.CountLemmas.{count_at-rank_counts}
 use Rattle.crib_cards.proofs.SetFacts.{has-filter}
@@ -16,34 +18,20 @@ use Rattle.crib_play.specs.declared.turns.Turn.TheVariants as turns
 use Rattle.crib_play.specs.Record.{count_of}
 use Rattle.crib_play.specs.Standing.{StandsFor}
 use Rattle.crib_play.specs.History.{Event, Own, Theirs, history_letters}
-use Rattle.crib_problem.specs.Setup.{Setup, unseen_of, fixed_cards, start_of}
+use Rattle.crib_problem.specs.Setup.{Setup, unseen_of, start_of}
 use Rattle.crib_problem.proofs.StartLemmas.{started}
 use Rattle.crib_know.specs.Knowledge.{Knowledge, own_cards, their_ranks, least_value, count_after, asked_now, own_left}
 use Rattle.crib_know.specs.Knowledge.{knowledge_after}
-use Rattle.crib_know.specs.Hidden.{AgreesWith, CanShow, KnowsAfter, Passes, passes}
+use Rattle.crib_know.specs.Hidden.{AgreesWith, IsPossible, CanShow, CanDoAt, KnowsAfter, Passes, passes}
 use Rattle.crib_know.proofs.LedHistories.{MayCome, IsLed}
 use Rattle.crib_know.proofs.ChosenRanks.{ranks_of}
 use Rattle.crib_know.proofs.CardLists.{count_most}
 use Rattle.crib_know.proofs.Deals.{least_after_card, least_after_own, least_after_go}
 use Rattle.crib_know.proofs.RankCounting.{counts_more}
 use Rattle.crib_know.proofs.AgreeingIsPassing.{passes_from, passes_to, MightPlay, MightGo}
-use Rattle.crib_know.proofs.PassingIsAgreeing.{can_play_might, can_go_might, passing_agrees, agrees_passes}
+use Rattle.crib_know.proofs.PassingIsAgreeing.{can_might, passing_agrees, agrees_passes}
 use Rattle.crib_know.proofs.RecordTurns.{possible_led}
-use Rattle.crib_know.proofs.KnowledgeFacts.{led_possible, needs_history, begin_more, least_low, are_taken, high_own_go, holds_one, shows_play, shows_pass}
-
--- two knowledges with equal parts are equal
-pub same_knowledge : (a b : Knowledge) → a.round ≡ b.round → a.own_left ≡ b.own_left → a.ranks_seen ≡ b.ranks_seen → a.opponent_left ≡ b.opponent_left →
-    a.least ≡ b.least → a.unseen ≡ b.unseen → a.fixed ≡ b.fixed → a ≡ b
-same_knowledge a b round own ranks left least unseen fixed = λ i. record {
-  round = round i;
-  own_left = own i;
-  ranks_seen = ranks i;
-  opponent_left =
-      left i;
-  least = least i;
-  unseen = unseen i;
-  fixed = fixed i;
-}
+use Rattle.crib_know.proofs.KnowledgeFacts.{led_possible, needs_history, begin_more, least_low, are_taken, high_own_go, holds_one, shows}
 
 -- with one more card played, one card less is left
 left_less : (hold played : List ℕ) (card : ℕ) →
@@ -58,9 +46,6 @@ left_less hold played card =
 
 opponent_asked : (turn : Turn) → turn ≡ turns.Opponent → turn ≢ turns.Over
 opponent_asked turn e f = let no : turns.Opponent ≡ turns.Over = sym e ∙ f in absurd cc
-
-pub owner_asked : (turn : Turn) → turn ≡ turns.Owner → turn ≢ turns.Over
-owner_asked turn e f = let no : turns.Owner ≡ turns.Over = sym e ∙ f in absurd cc
 
 -- a history that a knowledge stands for can come turn by turn
 pub led_of : (know : Knowledge) (problem : Setup) (history : List Event) → KnowsAfter know problem history → IsLed problem history
@@ -88,9 +73,6 @@ module _ (know : Knowledge) (problem : Setup) (history : List Event) (knows : Kn
   pub unseen_same : know.unseen ≡ unseen_of problem
   unseen_same = ap (λ (k : Knowledge). k.unseen) knows.knowledge
 
-  pub fixed_same : know.fixed ≡ set_of (fixed_cards problem)
-  fixed_same = ap (λ (k : Knowledge). k.fixed) knows.knowledge
-
   pub stands_before : StandsFor know.round (start_of problem) (history_letters history)
   stands_before = record {
     started = started problem knows.setup;
@@ -104,6 +86,12 @@ module _ (know : Knowledge) (problem : Setup) (history : List Event) (knows : Kn
       let low = least_low problem knows.setup history in
       let high = (needs_history problem knows.setup history (led_of know problem history knows)).least_most in
       (omega (arith, same, low), omega (arith, same, high))
+
+  -- the knowledge after one more turn
+  stands_after : (event : Event) → IsPossible problem (event ∷ history) → (next : Knowledge) → next ≡ knowledge_after problem (event ∷ history) →
+      KnowsAfter next problem (event ∷ history)
+  stands_after event possible next same =
+      record { setup = knows.setup; begun = begin_more problem event history knows.begun; possible = possible; knowledge = same }
 
   -- ---- what the opponent can show
   seen_at : (rank : ℕ) → IsRank rank → count_at know.ranks_seen rank ≡ ranks_of (their_ranks history) rank
@@ -120,7 +108,7 @@ module _ (know : Knowledge) (problem : Setup) (history : List Event) (knows : Kn
       let least = least_same in
       let seen = seen_at rank is in
       let unseen = ap (count_rank rank) unseen_same in
-      shows_play problem knows.setup history (led_of know problem history knows) knows.begun rank (record {
+      shows problem knows.setup history (led_of know problem history knows) knows.begun (Seen rank) (record {
         is = is;
         asked = sym asked_same ∙ facts.0;
         fits = (let fit = facts.1 in omega (arith, fit, count));
@@ -130,7 +118,7 @@ module _ (know : Knowledge) (problem : Setup) (history : List Event) (knows : Kn
 
   pub play_facts : (rank : ℕ) → CanShow problem history (Seen rank) → IsRank rank × PlayFacts rank
   play_facts rank can =
-      let might = can_play_might problem knows.setup history rank can in
+      let might = can_might problem knows.setup history (Seen rank) can in
       let count = count_same in
       let least = least_same in
       let seen = seen_at rank might.is in
@@ -151,12 +139,12 @@ module _ (know : Knowledge) (problem : Setup) (history : List Event) (knows : Kn
   go_shows facts =
       let count = count_same in
       let high = facts.1 in
-      shows_pass problem knows.setup history (led_of know problem history knows) knows.begun
+      shows problem knows.setup history (led_of know problem history knows) knows.begun Go
       (record { asked = sym asked_same ∙ facts.0; high = omega (arith, high, count) })
 
   pub go_facts : CanShow problem history Go → GoFacts
   go_facts can =
-      let might = can_go_might problem knows.setup history can in
+      let might = can_might problem knows.setup history Go can in
       let count = count_same in
       let high = might.high in
       (asked_same ∙ might.asked, omega (arith, high, count))
@@ -167,7 +155,7 @@ module _ (know : Knowledge) (problem : Setup) (history : List Event) (knows : Kn
   -- ---- what a letter requires
   module _ (rank : ℕ) (can : CanShow problem history (Seen rank)) where
     might : MightPlay problem history rank
-    might = can_play_might problem knows.setup history rank can
+    might = can_might problem knows.setup history (Seen rank) can
 
     pub play_asked : know.round.asked ≢ turns.Over
     play_asked = opponent_asked know.round.asked (asked_same ∙ might.asked)
@@ -186,23 +174,21 @@ module _ (know : Knowledge) (problem : Setup) (history : List Event) (knows : Kn
     play_some = let most = holds_one problem knows.setup history (led_of know problem history knows) knows.begun might.asked in let left = left_same in
         omega (arith, most, left)
 
-    pub after_play : (next : Knowledge) → StandsFor next.round (start_of problem) (Seen rank ∷ history_letters history) → next.own_left ≡ know.own_left →
+    pub after_play : (next : Knowledge) → StandsFor next.round (start_of problem) (Seen rank ∷ history_letters history) →
         next.ranks_seen ≡ counts_with know.ranks_seen rank →
-        next.opponent_left ≡ know.opponent_left - 1 → next.least ≡ know.least → next.unseen ≡ know.unseen → next.fixed ≡ know.fixed →
+        next ≡ record know { round = next.round; ranks_seen = next.ranks_seen; opponent_left = know.opponent_left - 1 } →
         KnowsAfter next problem (Theirs (Seen rank) ∷ history)
-    after_play next stands own ranks left least unseen fixed = record {
-      setup = knows.setup;
-      possible = can;
-      begun = begin_more problem (Theirs (Seen rank)) history knows.begun;
-      knowledge = same_knowledge next (knowledge_after problem (Theirs (Seen rank) ∷ history)) stands.shows (own ∙ own_same)
-          (ranks ∙ ap (λ (counts : List ℕ). counts_with counts rank) seen_same ∙ sym (counts_more (their_ranks history) rank might.is))
-          (let before = left_same in omega (arith, left, before))
-          (least ∙ least_same ∙ sym (least_after_card problem history rank)) (unseen ∙ unseen_same) (fixed ∙ fixed_same);
-    }
+    after_play next stands ranks others =
+        let left = left_same in
+        let fewer : know.opponent_left - 1 ≡ 4 - length (rank ∷ their_ranks history) = omega (arith, left) in
+        let counts = ranks ∙ ap (λ (seen : List ℕ). counts_with seen rank) seen_same ∙ sym (counts_more (their_ranks history) rank might.is) in
+        let least = least_same ∙ sym (least_after_card problem history rank) in
+        stands_after (Theirs (Seen rank)) can next
+        (others ∙ (λ i. record (knows.knowledge i) { round = stands.shows i; ranks_seen = counts i; opponent_left = fewer i; least = least i }))
 
   module _ (can : CanShow problem history Go) where
     might_pass : MightGo problem history
-    might_pass = can_go_might problem knows.setup history can
+    might_pass = can_might problem knows.setup history Go can
 
     pub go_asked : know.round.asked ≢ turns.Over
     go_asked = opponent_asked know.round.asked (asked_same ∙ might_pass.asked)
@@ -210,65 +196,50 @@ module _ (know : Knowledge) (problem : Setup) (history : List Event) (knows : Kn
     pub go_high : 22 ≤ count_of know.round.pile
     go_high = let count = count_same in let high = might_pass.high in omega (arith, high, count)
 
-    pub after_go : (next : Knowledge) → StandsFor next.round (start_of problem) (Go ∷ history_letters history) → next.own_left ≡ know.own_left →
-        next.ranks_seen ≡ know.ranks_seen →
-        next.opponent_left ≡ know.opponent_left → next.least ≡ max (32 - count_of know.round.pile) know.least → next.unseen ≡ know.unseen →
-        next.fixed ≡ know.fixed → KnowsAfter next problem (Theirs Go ∷ history)
-    after_go next stands own ranks left least unseen fixed = record {
-      setup = knows.setup;
-      possible = can;
-      begun = begin_more problem (Theirs Go) history knows.begun;
-      knowledge = same_knowledge next (knowledge_after problem (Theirs Go ∷ history)) stands.shows (own ∙ own_same) (ranks ∙ seen_same) (left ∙ left_same)
-          (least ∙ ap (λ (n : ℕ). max (32 - n) know.least) count_same ∙ ap (max (32 - count_after problem history)) least_same
-          ∙ sym (least_after_go problem history stands_before.started stands_before.taken might_pass.asked))
-          (unseen ∙ unseen_same) (fixed ∙ fixed_same);
-    }
+    pub after_go : (next : Knowledge) → StandsFor next.round (start_of problem) (Go ∷ history_letters history) →
+        next.least ≡ max (32 - count_of know.round.pile) know.least → next ≡ record know { round = next.round; least = next.least } →
+        KnowsAfter next problem (Theirs Go ∷ history)
+    after_go next stands least others =
+        let high = least ∙ (λ i. max (32 - count_same i) (least_same i))
+        ∙ sym (least_after_go problem history stands_before.started stands_before.taken might_pass.asked) in
+        stands_after (Theirs Go) can next (others ∙ (λ i. record (knows.knowledge i) { round = stands.shows i; least = high i }))
 
   -- ---- the owner's turns
-  module _ (card : ℕ) (asked : know.round.asked ≡ turns.Owner) (held : has know.own_left card ≡ true) (fits : count_of know.round.pile + card_value card ≤ 31)
-    where
-      may_play : MayCome problem history (Own (move.Card card))
-      may_play = (sym asked_same ∙ asked, ap (λ (cards : List ℕ). has cards card) (sym own_same) ∙ held, (let count = count_same in omega (arith, fits, count)))
+  pub can_may : (what : Move) → CanDoAt know what → MayCome problem history (Own what)
+  can_may (move.Card card) can = let C : Knowledge → Type 0 = λ k. CanDoAt k (move.Card card) in subst C knows.knowledge can
+  can_may move.Go can = let C : Knowledge → Type 0 = λ k. CanDoAt k move.Go in subst C knows.knowledge can
 
-      pub after_own_play : (next : Knowledge) → StandsFor next.round (start_of problem) (Seen (rank_of card) ∷ history_letters history) →
-          next.own_left ≡ set_without know.own_left card → next.ranks_seen ≡ know.ranks_seen →
-          next.opponent_left ≡ know.opponent_left → next.least ≡ know.least → next.unseen ≡ know.unseen → next.fixed ≡ know.fixed →
-          KnowsAfter next problem (Own (move.Card card) ∷ history)
-      after_own_play next stands own ranks left least unseen fixed = record {
-        setup = knows.setup;
-        begun = begin_more problem (Own (move.Card card)) history knows.begun;
-        possible = led_possible problem knows.setup (Own (move.Card card) ∷ history) (led_of know problem history knows, may_play)
-            (begin_more problem (Own (move.Card card)) history knows.begun);
-        knowledge = same_knowledge next (knowledge_after problem (Own (move.Card card) ∷ history)) stands.shows
-            (own ∙ ap (λ (cards : List ℕ). set_without cards card) own_same ∙ left_less problem.hold (own_cards history) card)
-            (ranks ∙ seen_same) (left ∙ left_same) (least ∙ least_same ∙ sym (least_after_own problem history (move.Card card) (sym asked_same ∙ asked)))
-            (unseen ∙ unseen_same) (fixed ∙ fixed_same);
-      }
+  -- the owner can make the move that may come
+  pub own_may : (what : Move) → MayCome problem history (Own what) → CanDoAt know what
+  own_may (move.Card card) may = let C : Knowledge → Type 0 = λ k. CanDoAt k (move.Card card) in subst C (sym knows.knowledge) may
+  own_may move.Go may = let C : Knowledge → Type 0 = λ k. CanDoAt k move.Go in subst C (sym knows.knowledge) may
 
-  module _ (asked : know.round.asked ≡ turns.Owner) (none : list_any (λ card. leb (count_of know.round.pile + card_value card) 31) know.own_left ≡ false) where
-    may_go : MayCome problem history (Own move.Go)
-    may_go = (
-      sym asked_same ∙ asked,
-      ap (λ (n : ℕ). list_any (λ card. leb (n + card_value card) 31) (own_left problem history)) (sym count_same)
-          ∙ ap (list_any (λ card. leb (count_of know.round.pile + card_value card) 31)) (sym own_same) ∙ none,
-    )
+  pub own_go_high : CanDoAt know move.Go → 22 ≤ count_of know.round.pile
+  own_go_high can = let count = count_same in
+      let high = high_own_go problem knows.setup history (led_of know problem history knows) knows.begun (can_may move.Go can) in omega (arith, high, count)
 
-    pub own_go_high : 22 ≤ count_of know.round.pile
-    own_go_high = let count = count_same in let high = high_own_go problem knows.setup history (led_of know problem history knows) knows.begun may_go in
-        omega (arith, high, count)
+  after_own : (what : Move) → CanDoAt know what → know.round.asked ≡ turns.Owner → (next : Knowledge) →
+      StandsFor next.round (start_of problem) (letter_of what ∷ history_letters history) → next.own_left ≡ own_left problem (Own what ∷ history) →
+      next ≡ record know { round = next.round; own_left = next.own_left } → KnowsAfter next problem (Own what ∷ history)
+  after_own what can asked next stands own others =
+      let least = least_same ∙ sym (least_after_own problem history what (sym asked_same ∙ asked)) in
+      let led : IsLed problem (Own what ∷ history) = (led_of know problem history knows, can_may what can) in
+      stands_after (Own what) (led_possible problem knows.setup (Own what ∷ history) led (begin_more problem (Own what) history knows.begun)) next
+      (others ∙ (λ i. record (knows.knowledge i) { round = stands.shows i; own_left = own i; least = least i }))
 
-    pub after_own_go : (next : Knowledge) → StandsFor next.round (start_of problem) (Go ∷ history_letters history) → next.own_left ≡ know.own_left →
-        next.ranks_seen ≡ know.ranks_seen →
-        next.opponent_left ≡ know.opponent_left → next.least ≡ know.least → next.unseen ≡ know.unseen → next.fixed ≡ know.fixed →
-        KnowsAfter next problem (Own move.Go ∷ history)
-    after_own_go next stands own ranks left least unseen fixed = record {
-      setup = knows.setup;
-      begun = begin_more problem (Own move.Go) history knows.begun;
-      possible = led_possible problem knows.setup (Own move.Go ∷ history) (led_of know problem history knows, may_go)
-          (begin_more problem (Own move.Go) history knows.begun);
-      knowledge = same_knowledge next (knowledge_after problem (Own move.Go ∷ history)) stands.shows (own ∙ own_same) (ranks ∙ seen_same) (left ∙ left_same)
-          (least ∙ least_same ∙ sym (least_after_own problem history move.Go (sym asked_same ∙ asked))) (unseen ∙ unseen_same) (fixed ∙ fixed_same);
-    }
+  pub after_own_play : (card rank : ℕ) → rank ≡ rank_of card → CanDoAt know (move.Card card) → (next : Knowledge) →
+      StandsFor next.round (start_of problem) (Seen rank ∷ history_letters history) → next.own_left ≡ set_without know.own_left card →
+      next ≡ record know { round = next.round; own_left = next.own_left } → KnowsAfter next problem (Own (move.Card card) ∷ history)
+  after_own_play card rank is can next stands own others =
+      let S : ℕ → Type 0 = λ r. StandsFor next.round (start_of problem) (Seen r ∷ history_letters history) in
+      after_own (move.Card card) can can.0 next (subst S is stands)
+      (own ∙ ap (λ (cards : List ℕ). set_without cards card) own_same ∙ left_less problem.hold (own_cards history) card) others
+
+  pub after_own_go : CanDoAt know move.Go → (next : Knowledge) → StandsFor next.round (start_of problem) (Go ∷ history_letters history) →
+      next ≡ record know { round = next.round } → KnowsAfter next problem (Own move.Go ∷ history)
+  after_own_go can next stands others =
+      after_own move.Go can can.0 next stands (ap (λ (k : Knowledge). k.own_left) others ∙ own_same)
+      (others ∙ (λ i. record know { round = next.round; own_left = sym (ap (λ (k : Knowledge). k.own_left) others) i }))
 
   -- ---- exactly the deals that pass agree
   passes_same : (dealt : Dealt) → passes know.least know.ranks_seen dealt.hold ≡ passes (least_value problem history) (rank_counts (their_ranks history))

@@ -8,6 +8,7 @@ use Rattle.crib_cards.specs.Start.{pone_of}
 use Rattle.crib_cards.specs.declared.sides.Side.{Side}
 use Rattle.crib_cards.specs.declared.sides.Side.TheVariants.{Owner, Opponent}
 use Rattle.crib_cards.specs.declared.sides.Dealt.{Dealt}
+use Rattle.crib_cards.specs.declared.letters.Letter.{Letter}
 use Rattle.crib_cards.specs.declared.letters.Letter.TheVariants.{Seen, Go}
 use Rattle.crib_cards.specs.declared.moves.Move.TheVariants as move
 use Rattle.crib_play.specs.declared.turns.Turn.TheVariants as turns
@@ -34,9 +35,9 @@ use Rattle.crib_know.proofs.ChosenRanks.{ranks_of}
 use Rattle.crib_know.proofs.Events.{Plays, plays_of, plays_taken, play_more}
 use Rattle.crib_know.proofs.CardLists.{one_if, one_counted, none_counted, count_all_of, each_member}
 use Rattle.crib_know.proofs.Deals.{dealt_is, least_after_card, least_after_own, least_after_go_most, least_before}
-use Rattle.crib_know.proofs.AgreeingIsPassing.{PassesRanks, MightPlay, MightGo, past, left_played, past_same, mover_same, agreeing_passes, played_most}
+use Rattle.crib_know.proofs.AgreeingIsPassing.{PassesRanks, Might, past, left_played, past_same, mover_same, agreeing_passes, played_most}
 use Rattle.crib_know.proofs.AgreeingIsPassing.{held_unseen}
-use Rattle.crib_know.proofs.PassingIsAgreeing.{can_play_might, can_go_might, passing_plays, passing_agrees, agrees_passes, shows_card, shows_go, own_turn}
+use Rattle.crib_know.proofs.PassingIsAgreeing.{can_might, passing_plays, passing_agrees, agrees_passes, shows_letter, own_turn}
 use Rattle.crib_know.proofs.RankTotals.{AreRanks, some_or_none}
 use Rattle.crib_know.proofs.FirstDeals.{Needs, Fixes, first_dealt, hold_passes, first_is_deal, first_in_order, other_after}
 use Rattle.crib_cards.proofs.SetCounts.{count_cons}
@@ -93,7 +94,7 @@ module _ (problem : Setup) (setup : IsSetup problem) where
       let deal = can.1.0 in
       let after : List Event = Theirs (Seen rank) ∷ history in
       let plays = plays_of (start_of problem) (hands_of problem dealt) after (started problem setup) (dealt_is problem setup dealt deal) can.1.1 in
-      let might = can_play_might problem setup history rank can in
+      let might = can_might problem setup history (Seen rank) can in
       let are : AreRanks (rank ∷ their_ranks history) = each_member (λ r. IsRank r) rank (their_ranks history) might.is needs.are in
       record {
         are = are;
@@ -126,7 +127,7 @@ module _ (problem : Setup) (setup : IsSetup problem) where
   needs_history (Theirs (Seen rank) ∷ history) led = needs_play history rank (needs_history history led.0) led.1
   needs_history (Theirs Go ∷ history) led =
       let needs = needs_history history led.0 in
-      let high = (can_go_might problem setup history led.1).high in
+      let high = (can_might problem setup history Go led.1).high in
       let low = needs.least_most in
       let most = least_after_go_most problem history in
       record { are = needs.are; most = needs.most; there = needs.there; least_most = omega (arith, high, low, most) }
@@ -168,7 +169,7 @@ module _ (problem : Setup) (setup : IsSetup problem) where
     pub high_own_go : MayCome problem history (Own move.Go) → 22 ≤ count_after problem history
     high_own_go may =
         let last = own_turn problem setup first first_deal history first_plays move.Go may in
-        let plays = play_more (start_of problem) (hands_of problem first) (Own move.Go) history last in
+        let plays = play_more (start_of problem) (hands_of problem first) (Own move.Go) history first_plays last in
         (plays_taken (start_of problem) (hands_of problem first) (Own move.Go ∷ history) plays (started problem setup)
         (dealt_is problem setup first first_deal)).1.may_show
 
@@ -204,39 +205,33 @@ module _ (problem : Setup) (setup : IsSetup problem) where
         count_up left played ranks hold a b c d = omega arith
 
     -- ---- a letter can be shown exactly where it might come
-    pub shows_play : (rank : ℕ) → MightPlay problem history rank → CanShow problem history (Seen rank)
-    shows_play rank might =
-        let free = might.free in
-        let few = holds_one might.asked in
-        let more : Needs problem setup (rank ∷ their_ranks history) (least_value problem history) = record {
-          are = each_member (λ r. IsRank r) rank (their_ranks history) might.is needs.are;
-          most = omega (arith, few);
-          there = λ other. there_more rank other (their_ranks history) (unseen_of problem) free (needs.there other);
-          least_most = needs.least_most;
-        } in
-        let fixes_more : Fixes problem setup (rank ∷ their_ranks history) =
-        begun_fixes (Theirs (Seen rank) ∷ history) (begin_more problem (Theirs (Seen rank)) history begun) in
-        let dealt = first_dealt problem setup (rank ∷ their_ranks history) (least_value problem history) in
-        shows_card problem setup dealt (first_is_deal problem setup (rank ∷ their_ranks history) (least_value problem history) more fixes_more) history rank
-        led might
-        (hold_passes problem setup (rank ∷ their_ranks history) (least_value problem history) more fixes_more)
-
-    pub shows_pass : MightGo problem history → CanShow problem history Go
-    shows_pass might =
-        let high = might.high in
-        let low = needs.least_most in
-        let most = least_after_go_most problem history in
-        let least = least_value problem (Theirs Go ∷ history) in
-        let more : Needs problem setup (their_ranks history) least = record {
-          are = needs.are;
-          most = needs.most;
-          there = needs.there;
-          least_most =
-              omega (arith, high, low, most);
-        } in
-        let dealt = first_dealt problem setup (their_ranks history) least in
-        shows_go problem setup dealt (first_is_deal problem setup (their_ranks history) least more fixes) history led might
-        (hold_passes problem setup (their_ranks history) least more fixes)
+    pub shows : (letter : Letter) → Might problem history letter → CanShow problem history letter
+    shows letter might =
+        let event = Theirs letter in
+        let least = least_value problem (event ∷ history) in
+        let seen = their_ranks (event ∷ history) in
+        let more = needs_more letter might in
+        let fixes_more = begun_fixes (event ∷ history) (begin_more problem event history begun) in
+        shows_letter problem setup (first_dealt problem setup seen least) (first_is_deal problem setup seen least more fixes_more) history letter led might
+        (hold_passes problem setup seen least more fixes_more)
+      where
+        needs_more : (shown : Letter) → Might problem history shown →
+            Needs problem setup (their_ranks (Theirs shown ∷ history)) (least_value problem (Theirs shown ∷ history))
+        needs_more (Seen rank) play =
+            let few = holds_one play.asked in
+            let same = least_after_card problem history rank in
+            let low = needs.least_most in
+            record {
+              are = each_member (λ r. IsRank r) rank (their_ranks history) play.is needs.are;
+              most = omega (arith, few);
+              there = λ other. there_more rank other (their_ranks history) (unseen_of problem) play.free (needs.there other);
+              least_most = omega (arith, same, low);
+            }
+        needs_more Go play =
+            let high = play.high in
+            let low = needs.least_most in
+            let most = least_after_go_most problem history in
+            record { are = needs.are; most = needs.most; there = needs.there; least_most = omega (arith, high, low, most) }
 
     -- ---- the first deal
     pub first_deal_is : IsFirstDeal problem history first

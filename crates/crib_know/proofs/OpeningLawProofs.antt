@@ -12,6 +12,7 @@ use Rattle.crib_cards.specs.declared.sides.Side.{Side}
 use Rattle.crib_cards.specs.declared.sides.Side.TheVariants.{Owner, Opponent}
 use Rattle.crib_cards.specs.declared.sides.Dealt.{Dealt}
 use Rattle.crib_cards.specs.declared.letters.Letter.{Letter}
+use Rattle.crib_cards.specs.declared.letters.Letter.TheVariants.{Seen, Go}
 use Rattle.crib_cards.specs.declared.moves.Move.{Move}
 use Rattle.crib_cards.specs.declared.moves.Move.TheVariants as move
 use Rattle.crib_cards.specs.declared.moves.Act.{Act}
@@ -40,7 +41,7 @@ use Rattle.crib_know.proofs.CardLists.{one_if, one_counted, count_within, has_se
 use Rattle.crib_know.proofs.PassingIsAgreeing.{passing_plays, agrees_from}
 use Rattle.crib_know.proofs.FixedCards.{Allowed, allowed_parts, AreShown, are_shown, back_moves}
 use Rattle.crib_know.proofs.FirstDeals.{Needs, Fixes, first_dealt, first_is_deal, hold_passes}
-use Rattle.crib_know.proofs.KnowledgeFacts.{ranks_played, begun_fixes, needs_history, shows_play, shows_pass}
+use Rattle.crib_know.proofs.KnowledgeFacts.{ranks_played, begun_fixes, needs_history, shows}
 use Rattle.crib_know.proofs.RecordTurns.{agreeing_led}
 use Rattle.crib_problem.proofs.SpelledIsRead.{says_goal}
 use Rattle.crib_problem.proofs.AskedHolds.{none_of_one}
@@ -193,7 +194,7 @@ module _ (problem : Setup) (setup : IsSetup problem) where
       let more = count_cons (λ c. eqb (rank_of c) rank) card theirs in
       let one : one_if (eqb rank rank) ≡ 1 = one_counted (eqb rank rank) (eqb_same rank) in
       let played = ranks_played before rank in
-      shows_play bare bare_is (map event_of before) led (begun_at_first_lead problem (map event_of before)) rank (record {
+      shows bare bare_is (map event_of before) led (begun_at_first_lead problem (map event_of before)) (Seen rank) (record {
         is = rank_is card is;
         asked = asked_same before moves allowed ∙ asked_other (asked_by basis before) act.asked;
         fits = omega (arith, fits, count);
@@ -207,7 +208,7 @@ module _ (problem : Setup) (setup : IsSetup problem) where
   act_may before Opponent move.Go moves allowed led shown is act =
       let high = not_less (count_by_acts basis before) 22 (none_of_one (ltb (count_by_acts basis before) 22) no_deal act.may) in
       let count = count_same before moves allowed in
-      shows_pass bare bare_is (map event_of before) led (begun_at_first_lead problem (map event_of before)) (record {
+      shows bare bare_is (map event_of before) led (begun_at_first_lead problem (map event_of before)) Go (record {
         asked = asked_same before moves allowed ∙ asked_other (asked_by basis before) act.asked;
         high = omega (arith, high, count);
       })

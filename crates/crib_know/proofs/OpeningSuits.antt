@@ -9,6 +9,7 @@ use Rattle.crib_cards.specs.declared.sides.Side.{Side}
 use Rattle.crib_cards.specs.declared.sides.Side.TheVariants.{Owner, Opponent}
 use Rattle.crib_cards.specs.declared.sides.Dealt.{Dealt}
 use Rattle.crib_cards.specs.declared.letters.Letter.TheVariants.{Seen, Go}
+use Rattle.crib_cards.specs.Letters.{letter_of}
 use Rattle.crib_cards.specs.declared.moves.Move.{Move}
 use Rattle.crib_cards.specs.declared.moves.Move.TheVariants as move
 use Rattle.crib_cards.specs.declared.moves.Act.{Act}
@@ -18,24 +19,23 @@ use Rattle.crib_play.specs.Score.{asks}
 use Rattle.crib_play.specs.Filled.{filled_record}
 use Rattle.crib_play.specs.Standing.{IsStart}
 use Rattle.crib_play.specs.Legal.{IsDealt, letters_of, cards_of}
-use Rattle.crib_play.specs.History.{filled_moves, AreLegal, Event, Own, Theirs, event_by, event_of, acts_of, moves_of, act_by}
+use Rattle.crib_play.specs.History.{filled_moves, AreLegal, Event, Own, Theirs, event_by, event_of, acts_of, moves_of, act_by, history_letters}
 use Rattle.crib_play.proofs.FilledRecords.{letters_filled, cards_filled}
 use Rattle.crib_play.proofs.LegalRecords.{visible_filled, legal_filled, acts_more}
 use Rattle.crib_play.proofs.RecordsReached.{asked_mover}
 use Rattle.crib_problem.specs.Setup.{Setup, IsSetup, IsMove, start_of, opening_basis_of, hands_of, played_back, fixed_cards, IsDealOf}
 use Rattle.crib_problem.specs.Played.{OpeningBasis, cards_played, cards_by, seen_by, asked_by, shows_seen, AreAllowed}
 use Rattle.crib_problem.proofs.StartLemmas.{started}
-use Rattle.crib_know.specs.Knowledge.{played_events, their_ranks, least_value, count_after}
+use Rattle.crib_know.specs.Knowledge.{played_events, count_after}
 use Rattle.crib_know.specs.Private.Knowledge.{at_first_lead}
 use Rattle.crib_know.specs.Hidden.{AgreesWith, BeginsAfter}
-use Rattle.crib_know.proofs.LedHistories.{MayCome, IsLed}
+use Rattle.crib_know.proofs.LedHistories.{IsLed}
 use Rattle.crib_know.specs.Laws.{IsPlayedOn, SuitLaw}
-use Rattle.crib_know.proofs.Events.{Plays, LastPlay, events, history_events, play_more}
+use Rattle.crib_know.proofs.Events.{Plays, NextPlay, events, history_events, play_more}
 use Rattle.crib_know.proofs.CardsLeft.{eqb_same, has-filter_from}
 use Rattle.crib_know.proofs.Deals.{dealt_is}
-use Rattle.crib_know.proofs.AgreeingIsPassing.{PassesRanks, MightPlay}
-use Rattle.crib_know.proofs.PassingIsAgreeing.{own_turn, their_card, their_go, turn_of, fits_same, shrink_card, passes_before, can_play_might, can_go_might}
-use Rattle.crib_know.proofs.PassingIsAgreeing.{agrees_passes}
+use Rattle.crib_know.proofs.AgreeingIsPassing.{MightPlay, own_is, theirs_is}
+use Rattle.crib_know.proofs.PassingIsAgreeing.{MightCome, PassesAfter, may_might, next_play, passes_less, turn_of, fits_same, agrees_passes}
 use Rattle.crib_know.proofs.FixedCards.{allowed_parts, shown_card, back_moves}
 use Rattle.crib_know.proofs.RecordTurns.{agreeing_led}
 use Rattle.crib_know.proofs.OpeningLawProofs.{setup_at_first_lead, allowed_led, asked_side, asked_other}
@@ -101,8 +101,7 @@ module _ (problem : Setup) (setup : IsSetup problem) (dealt : Dealt) (deal : IsD
 
   -- the opponent plays the very card
   that_card : (before : List Act) (so_far : Exact before) (card : ℕ) → MightPlay bare (map event_of before) (rank_of card) → has dealt.hold card ≡ true →
-      has (cards_played before) card ≡ false → LastPlay start hands (Theirs (Seen (rank_of card))) (map event_of before)
-  unfolding turn_of
+      has (cards_played before) card ≡ false → NextPlay start hands (Theirs (Seen (rank_of card))) (map event_of before) so_far.plays
   that_card before so_far card might mine fresh =
       let past = filled_moves start so_far.plays.seen in
       let lacks : has (cards_of past) card ≡ false = ap (λ (cards : List ℕ). has cards card) (cards_filled start so_far.plays.seen ∙ ap cards_of so_far.exact)
@@ -113,44 +112,30 @@ module _ (problem : Setup) (setup : IsSetup problem) (dealt : Dealt) (deal : IsD
             might.fits,
       )
 
-  exact_act : (before : List Act) (side : Side) (what : Move) → MayCome bare (map event_of before) (event_by side what) →
+  is_go : (turn : Move) → letter_of turn ≡ Go → turn ≡ move.Go
+  is_go move.Go e = refl
+  is_go (move.Card card) e = absurd cc
+
+  -- the very turn
+  record ThatTurn (before : List Act) (so_far : Exact before) (event : Event) (what : Move) : Type 0 where
+    next : NextPlay start hands event (map event_of before) so_far.plays
+    same : next.turn ≡ what
+
+  that_turn : (before : List Act) (so_far : Exact before) (side : Side) (what : Move) → MightCome bare (map event_of before) (event_by side what) →
       shows_seen (seen_by basis before) side what ≡ false → IsMove what →
       ((card : ℕ) → has (cards_by Opponent (record { side = side; what = what } ∷ before)) card ≡ true → has dealt.hold card ≡ true) →
-      PassesRanks (least_value problem (map event_of (record { side = side; what = what } ∷ before)))
-      (their_ranks (map event_of (record { side = side; what = what } ∷ before))) dealt.hold →
-      (PassesRanks (least_value problem (map event_of before)) (their_ranks (map event_of before)) dealt.hold → Exact before) →
-      Exact (record { side = side; what = what } ∷ before)
-  unfolding play_more own_turn their_go turn_of that_card
-  exact_act before Owner (move.Card card) may unseen is held passes rest =
-      let so_far = rest (passes_before problem (Own (move.Card card)) (map event_of before) (their_ranks (map event_of before)) dealt.hold passes) in
-      let last = own_turn bare bare_is dealt bare_deal (map event_of before) so_far.plays (move.Card card) may in
-      record {
-        plays = play_more start hands (Own (move.Card card)) (map event_of before) last;
-        exact =
-            ap (λ (seen : List Move). move.Card card ∷ seen) so_far.exact;
-      }
-  exact_act before Owner move.Go may unseen is held passes rest =
-      let so_far = rest (passes_before problem (Own move.Go) (map event_of before) (their_ranks (map event_of before)) dealt.hold passes) in
-      let last = own_turn bare bare_is dealt bare_deal (map event_of before) so_far.plays move.Go may in
-      record { plays = play_more start hands (Own move.Go) (map event_of before) last; exact = ap (λ (seen : List Move). move.Go ∷ seen) so_far.exact }
-  exact_act before Opponent (move.Card card) may unseen is held passes rest =
-      let might = can_play_might bare bare_is (map event_of before) (rank_of card) may in
-      let here = passes_before problem (Theirs (Seen (rank_of card))) (map event_of before) (rank_of card ∷ their_ranks (map event_of before)) dealt.hold
-      passes in
-      let so_far = rest (shrink_card (least_value problem (map event_of before)) (their_ranks (map event_of before)) dealt.hold (rank_of card) might.high
-      here) in
+      PassesAfter bare bare_is dealt bare_deal (event_by side what ∷ map event_of before) → ThatTurn before so_far (event_by side what) what
+  unfolding turn_of that_card
+  that_turn before so_far Owner what might unseen is held passes =
+      let next = next_play bare bare_is dealt bare_deal (Own what) (map event_of before) so_far.plays might passes in
+      record { next = next; same = (own_is (mover (pone_of start) (filled_record start (history_letters (map event_of before)))) next.turn what next.shows).1 }
+  that_turn before so_far Opponent move.Go might unseen is held passes =
+      let next = next_play bare bare_is dealt bare_deal (Theirs Go) (map event_of before) so_far.plays might passes in
+      let side = mover (pone_of start) (filled_record start (history_letters (map event_of before))) in
+      record { next = next; same = is_go next.turn (theirs_is side next.turn Go next.shows).1 }
+  that_turn before so_far Opponent (move.Card card) might unseen is held passes =
       let mine = held card (or_left (eqb card card) (has (cards_by Opponent before) card) (eqb_same card)) in
-      let last = that_card before so_far card might mine (shown_card basis before card is unseen).1 in
-      record {
-        plays = play_more start hands (Theirs (Seen (rank_of card))) (map event_of before) last;
-        exact =
-            ap (λ (seen : List Move). move.Card card ∷ seen) so_far.exact;
-      }
-  exact_act before Opponent move.Go may unseen is held passes rest =
-      let might = can_go_might bare bare_is (map event_of before) may in
-      let so_far = rest (passes_before problem (Theirs Go) (map event_of before) (their_ranks (map event_of before)) dealt.hold passes) in
-      let last = their_go bare bare_is dealt bare_deal (map event_of before) so_far.plays might passes in
-      record { plays = play_more start hands (Theirs Go) (map event_of before) last; exact = ap (λ (seen : List Move). move.Go ∷ seen) so_far.exact }
+      record { next = that_card before so_far card might mine (shown_card basis before card is unseen).1; same = refl }
 
   held_before : (act : Act) (before : List Act) (card : ℕ) → has (cards_by Opponent before) card ≡ true → has (cards_by Opponent (act ∷ before)) card ≡ true
   held_before act before card h = by_act act.side act.what
@@ -162,11 +147,17 @@ module _ (problem : Setup) (setup : IsSetup problem) (dealt : Dealt) (deal : IsD
 
   exact_plays : (acts : List Act) → AllMoves acts → AreAllowed basis acts → IsLed bare (map event_of acts) →
       ((card : ℕ) → has (cards_by Opponent acts) card ≡ true → has dealt.hold card ≡ true) →
-      PassesRanks (least_value problem (map event_of acts)) (their_ranks (map event_of acts)) dealt.hold → Exact acts
+      PassesAfter bare bare_is dealt bare_deal (map event_of acts) → Exact acts
+  unfolding play_more
   exact_plays [] moves allowed led held passes = record { plays = record { seen = []; legal = tt; shows = refl }; exact = refl }
   exact_plays (act ∷ before) moves allowed led held passes =
-      exact_act before act.side act.what led.1 (allowed_parts basis before act allowed.1).unseen moves.0 held passes
-      (λ p. exact_plays before moves.1 allowed.0 led.0 (λ card h. held card (held_before act before card h)) p)
+      let event = event_of act in
+      let history = map event_of before in
+      let might = may_might bare bare_is history event led.1 in
+      let so_far = exact_plays before moves.1 allowed.0 led.0 (λ card h. held card (held_before act before card h))
+      (passes_less bare bare_is dealt bare_deal event history might passes) in
+      let that = that_turn before so_far act.side act.what might (allowed_parts basis before act allowed.1).unseen moves.0 held passes in
+      record { plays = play_more start hands event history so_far.plays that.next; exact = λ i. that.same i ∷ so_far.exact i }
 
   -- the acts of a record that plays the very acts
   acts_exact : (acts : List Act) → AreAllowed basis acts → AreLegal start hands (moves_of acts) → acts_of (pone_of start) (filled_moves start (moves_of acts))
@@ -193,53 +184,19 @@ module _ (problem : Setup) (setup : IsSetup problem) (dealt : Dealt) (deal : IsD
     front : List Move
     parts : plays.seen ≡ front ++ moves_of (played_back problem)
 
-  from_later : (later : List Event) → IsLed problem (later ++ events_played) → PassesRanks (least_value problem (later ++ events_played))
-      (their_ranks (later ++ events_played)) dealt.hold →
-      ((p : PassesRanks (least_value problem events_played) (their_ranks events_played) dealt.hold) → From events_played) → From (later ++ events_played)
-  unfolding play_more own_turn their_card their_go turn_of
+  from_later : (later : List Event) → IsLed problem (later ++ events_played) → PassesAfter problem setup dealt deal (later ++ events_played) →
+      (PassesAfter problem setup dealt deal events_played → From events_played) → From (later ++ events_played)
+  unfolding play_more
   from_later [] led passes base = base passes
-  from_later (Own (move.Card card) ∷ later) led passes base =
+  from_later (event ∷ later) led passes base =
       let history = later ++ events_played in
-      let so_far = from_later later led.0 (passes_before problem (Own (move.Card card)) history (their_ranks history) dealt.hold passes) base in
-      let last = own_turn problem setup dealt deal history so_far.plays (move.Card card) led.1 in
+      let might = may_might problem setup history event led.1 in
+      let so_far = from_later later led.0 (passes_less problem setup dealt deal event history might passes) base in
+      let next = next_play problem setup dealt deal event history so_far.plays might passes in
       record {
-        plays = play_more start hands (Own (move.Card card)) history last;
-        front = move.Card card ∷ so_far.front;
-        parts =
-            ap (λ (seen : List Move). move.Card card ∷ seen) so_far.parts;
-      }
-  from_later (Own move.Go ∷ later) led passes base =
-      let history = later ++ events_played in
-      let so_far = from_later later led.0 (passes_before problem (Own move.Go) history (their_ranks history) dealt.hold passes) base in
-      let last = own_turn problem setup dealt deal history so_far.plays move.Go led.1 in
-      record {
-        plays = play_more start hands (Own move.Go) history last;
-        front = move.Go ∷ so_far.front;
-        parts =
-            ap (λ (seen : List Move). move.Go ∷ seen) so_far.parts;
-      }
-  from_later (Theirs (Seen rank) ∷ later) led passes base =
-      let history = later ++ events_played in
-      let might = can_play_might problem setup history rank led.1 in
-      let here = passes_before problem (Theirs (Seen rank)) history (rank ∷ their_ranks history) dealt.hold passes in
-      let so_far = from_later later led.0 (shrink_card (least_value problem history) (their_ranks history) dealt.hold rank might.high here) base in
-      let last = their_card problem setup dealt deal history so_far.plays rank might here in
-      record {
-        plays = play_more start hands (Theirs (Seen rank)) history last;
-        front = last.turn ∷ so_far.front;
-        parts =
-            ap (λ (seen : List Move). last.turn ∷ seen) so_far.parts;
-      }
-  from_later (Theirs Go ∷ later) led passes base =
-      let history = later ++ events_played in
-      let might = can_go_might problem setup history led.1 in
-      let so_far = from_later later led.0 (passes_before problem (Theirs Go) history (their_ranks history) dealt.hold passes) base in
-      let last = their_go problem setup dealt deal history so_far.plays might passes in
-      record {
-        plays = play_more start hands (Theirs Go) history last;
-        front = move.Go ∷ so_far.front;
-        parts =
-            ap (λ (seen : List Move). move.Go ∷ seen) so_far.parts;
+        plays = play_more start hands event history so_far.plays next;
+        front = next.turn ∷ so_far.front;
+        parts = λ i. next.turn ∷ so_far.parts i;
       }
 
   pub suited : (history : List Event) → BeginsAfter problem history → AgreesWith problem history dealt → IsPlayedOn problem history dealt
@@ -247,7 +204,7 @@ module _ (problem : Setup) (setup : IsSetup problem) (dealt : Dealt) (deal : IsD
       let A : List Event → Type 0 = λ h. AgreesWith problem h dealt in
       let here = subst A begun.parts agrees in
       let led = agreeing_led problem setup dealt (begun.later ++ events_played) here in
-      let base : PassesRanks (least_value problem events_played) (their_ranks events_played) dealt.hold → From events_played =
+      let base : PassesAfter problem setup dealt deal events_played → From events_played =
       λ passes. (let exact = exact_plays (played_back problem) (back_moves problem setup) setup.allowed
       (allowed_led problem setup (played_back problem) (back_moves problem setup) setup.allowed)
       (λ card h. all_has (has dealt.hold) (fixed_cards problem) card deal.fixed h) passes in

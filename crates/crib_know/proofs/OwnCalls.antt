@@ -1,27 +1,21 @@
 -- What the owner's turns, the first lead and the first deal require and give.
-use Rattle.std.proofs.Common.{◌≡◌, ℕ, ◌+◌, ◌<◌, ◌≤◌, true, false, leb, List, [], ◌∷◌, map, length, take}
+use Rattle.std.proofs.Common.{◌≡◌, ℕ, ◌+◌, ◌<◌, ◌≤◌, List, [], ◌∷◌, map, length, take}
 use Rattle.std.proofs.Common.{reverse, get_or, replicate, refl, sym, ap, subst, ◌∙◌, arith}
-use Rattle.std.specs.List.{list_any}
 use Rattle.std.proofs.lemmas.List.{take_all}
-use Rattle.crib_cards.specs.Cards.{rank_of, card_value}
-use Rattle.crib_cards.specs.Sets.{has, set_of, set_without, set_without_all}
+use Rattle.crib_cards.specs.Sets.{set_of, set_without_all}
 use Rattle.crib_cards.specs.Start.{Start}
 use Rattle.crib_cards.specs.declared.sides.Dealt.{Dealt}
 use Rattle.crib_cards.specs.declared.sides.Side.{Side}
 use Rattle.crib_cards.specs.declared.sides.Scores.{Scores}
 use Rattle.crib_cards.specs.declared.letters.Letter.TheVariants.{Seen, Go}
 use Rattle.crib_cards.specs.declared.moves.Move.{Move}
-use Rattle.crib_cards.specs.declared.moves.Move.TheVariants as move
 use Rattle.crib_cards.specs.declared.moves.Act.{Act}
-use Rattle.crib_play.specs.declared.turns.Turn.TheVariants as turns
-use Rattle.crib_play.specs.Record.{count_of}
 use Rattle.crib_play.specs.Filled.{filled_record}
 use Rattle.crib_play.specs.Standing.{StandsFor, standing_after}
-use Rattle.crib_play.specs.History.{Event, Own, event_of, history_letters}
+use Rattle.crib_play.specs.History.{Event, Own, event_of}
 use Rattle.crib_problem.specs.Setup.{Setup, IsSetup, unseen_of, fixed_cards, start_of, target_of}
 use Rattle.crib_know.specs.Knowledge.{Knowledge, played_events, their_ranks, least_value}
 use Rattle.crib_know.specs.Private.Knowledge.{at_first_lead}
-use Rattle.crib_know.specs.Knowledge.{knowledge_after}
 use Rattle.crib_know.specs.Hidden.{CanShow, CanShowAt, CanDoAt, CanComeAt, KnowsAfter, IsFirstDeal}
 use Rattle.crib_know.proofs.LedHistories.{MayCome, IsLed}
 use Rattle.crib_play.proofs.TurnFacts.{filter_all}
@@ -33,8 +27,8 @@ use Rattle.crib_know.proofs.FirstDeals.{two_others}
 use Rattle.crib_know.proofs.RecordTurns.{possible_led}
 use Rattle.crib_know.proofs.KnowledgeFacts.{led_possible, needs_history, begun_fixes}
 use Rattle.crib_know.proofs.KnowledgeFacts.{first_deal_is}
-use Rattle.crib_know.proofs.CallLemmas.{same_knowledge, led_of, asked_same, count_same, own_same}
-use Rattle.crib_know.proofs.CallLemmas.{after_own_play, own_go_high, after_own_go, unseen_same, stands_before, play_shows}
+use Rattle.crib_know.proofs.CallLemmas.{led_of, own_may}
+use Rattle.crib_know.proofs.CallLemmas.{unseen_same, play_shows}
 use Rattle.crib_know.proofs.CallLemmas.{play_facts, go_shows, go_facts}
 use Rattle.crib_problem.proofs.HonestTurns.{reverse_more}
 
@@ -53,39 +47,9 @@ pub moved_go : (know now : Knowledge) (same : know ≡ now) → CanShowAt now Go
     CanShow problem history Go
 moved_go know now same can problem history knows = go_shows know problem history knows (go_facts know can.0 can.1 (moved know now can.0 can.1 same can.2) can.3)
 
--- ---- the owner's turns
-module _ (know now : Knowledge) (same : know ≡ now) where
-  module _ (card rank : ℕ) (asked : now.round.asked ≡ turns.Owner) (held : has now.own_left card ≡ true)
-      (fits : count_of now.round.pile + card_value card ≤ 31) (rank_ok : rank ≡ rank_of card) where
-    pub moved_own_play : (problem : Setup) (history : List Event) → KnowsAfter know problem history → (next : Knowledge) →
-        (StandsFor know.round (start_of problem) (history_letters history) → StandsFor next.round (start_of problem) (Seen rank ∷ history_letters history)) →
-        next.own_left ≡ set_without know.own_left card → next.ranks_seen ≡ know.ranks_seen →
-        next.opponent_left ≡ know.opponent_left → next.least ≡ know.least → next.unseen ≡ know.unseen → next.fixed ≡ know.fixed →
-        KnowsAfter next problem (Own (move.Card card) ∷ history)
-    moved_own_play problem history knows next stands own ranks left least unseen fixed =
-        let S : ℕ → Type 0 = λ r. StandsFor next.round (start_of problem) (Seen r ∷ history_letters history) in
-        let count = ap (λ (k : Knowledge). count_of k.round.pile) same in
-        after_own_play know problem history knows card
-        (ap (λ (k : Knowledge). k.round.asked) same ∙ asked)
-        (ap (λ (k : Knowledge). has k.own_left card) same ∙ held)
-        (omega (arith, fits, count))
-        next (subst S rank_ok (stands (stands_before know problem history knows))) own ranks left least unseen fixed
-
-  module _ (asked : now.round.asked ≡ turns.Owner) (none : list_any (λ card. leb (count_of now.round.pile + card_value card) 31) now.own_left ≡ false) where
-    none_before : list_any (λ card. leb (count_of know.round.pile + card_value card) 31) know.own_left ≡ false
-    none_before = ap (λ (k : Knowledge). list_any (λ card. leb (count_of k.round.pile + card_value card) 31) k.own_left) same ∙ none
-
-    pub moved_own_high : (problem : Setup) (history : List Event) → KnowsAfter know problem history → 22 ≤ count_of know.round.pile
-    moved_own_high problem history knows = own_go_high know problem history knows (ap (λ (k : Knowledge). k.round.asked) same ∙ asked) none_before
-
-    pub moved_own_go : (problem : Setup) (history : List Event) → KnowsAfter know problem history → (next : Knowledge) →
-        (StandsFor know.round (start_of problem) (history_letters history) → StandsFor next.round (start_of problem) (Go ∷ history_letters history)) →
-        next.own_left ≡ know.own_left → next.ranks_seen ≡ know.ranks_seen →
-        next.opponent_left ≡ know.opponent_left → next.least ≡ know.least → next.unseen ≡ know.unseen → next.fixed ≡ know.fixed →
-        KnowsAfter next problem (Own move.Go ∷ history)
-    moved_own_go problem history knows next stands own ranks left least unseen fixed =
-        after_own_go know problem history knows (ap (λ (k : Knowledge). k.round.asked) same ∙ asked) none_before next
-        (stands (stands_before know problem history knows)) own ranks left least unseen fixed
+-- what the owner can do
+pub moved_can : (know now : Knowledge) → know ≡ now → (what : Move) → CanDoAt now what → CanDoAt know what
+moved_can know now same what can = let C : Knowledge → Type 0 = λ k. CanDoAt k what in subst C (sym same) can
 
 -- ---- at the first lead
 pub start_knows : (problem : Setup) → IsSetup problem → (dealer : Side) (scores : Scores) (target : ℕ) (next : Knowledge) → dealer ≡ problem.dealer →
@@ -100,25 +64,25 @@ start_knows problem setup dealer scores target next same_dealer same_scores same
       setup = setup_at_first_lead problem setup;
       begun = begun_at_first_lead problem [];
       possible = led_possible (at_first_lead problem) (setup_at_first_lead problem setup) [] tt (begun_at_first_lead problem []);
-      knowledge =
-          same_knowledge next (knowledge_after (at_first_lead problem) []) (stands.shows ∙ ap (λ (s : Start). standing_after s (filled_record s [])) same)
-          (own ∙ ap set_of (sym (filter_all problem.hold))) (ranks ∙ sym counts_none) left least unseen fixed;
+      knowledge = λ i. record {
+        round = (stands.shows ∙ ap (λ (s : Start). standing_after s (filled_record s [])) same) i;
+        own_left = (own ∙ ap set_of (sym (filter_all problem.hold))) i;
+        ranks_seen = (ranks ∙ sym counts_none) i;
+        opponent_left = left i;
+        least = least i;
+        unseen = unseen i;
+        fixed = fixed i;
+      };
     }
 
 -- what the owner knows after the opening
 pub played_knows : (problem : Setup) → IsSetup problem → (know next : Knowledge) → KnowsAfter know (at_first_lead problem) (played_events problem) →
-    next.round ≡ know.round → next.own_left ≡ know.own_left → next.ranks_seen ≡ know.ranks_seen →
-    next.opponent_left ≡ know.opponent_left → next.least ≡ know.least → next.unseen ≡ know.unseen → next.fixed ≡ set_of (fixed_cards problem) →
-    KnowsAfter next problem (played_events problem)
-played_knows problem setup know next knows round own ranks left least unseen fixed = record {
+    next.fixed ≡ set_of (fixed_cards problem) → next ≡ record know { fixed = next.fixed } → KnowsAfter next problem (played_events problem)
+played_knows problem setup know next knows fixed others = record {
   setup = setup;
   possible = (played_dealt problem setup, played_agrees problem setup);
   begun = record { later = []; parts = refl };
-  knowledge = same_knowledge next (knowledge_after problem (played_events problem)) (round ∙ ap (λ (k : Knowledge). k.round) knows.knowledge)
-      (own ∙ ap (λ (k : Knowledge). k.own_left) knows.knowledge)
-      (ranks ∙ ap (λ (k : Knowledge). k.ranks_seen) knows.knowledge) (left ∙ ap (λ (k : Knowledge). k.opponent_left) knows.knowledge)
-      (least ∙ ap (λ (k : Knowledge). k.least) knows.knowledge)
-      (unseen ∙ ap (λ (k : Knowledge). k.unseen) knows.knowledge) fixed;
+  knowledge = others ∙ (λ i. record (knows.knowledge i) { fixed = fixed i });
 }
 
 -- ---- the first deal
@@ -182,21 +146,6 @@ knows_as know problem history event other same knows = let K : Event → Type 0 
 
 come_may : (know : Knowledge) (event : Event) (can : CanComeAt know event) → MayCome can.0 can.1 event
 come_may know event can = (possible_led can.0 can.2.setup (event ∷ can.1) can.3).1
-
--- the owner can make the move that may come
-pub own_may : (know : Knowledge) (problem : Setup) (history : List Event) → KnowsAfter know problem history → (what : Move) →
-    MayCome problem history (Own what) → CanDoAt know what
-own_may know problem history knows (move.Card card) may =
-    let fits = may.2 in
-    let count = count_same know problem history knows in (
-      asked_same know problem history knows ∙ may.0,
-      ap (λ (cards : List ℕ). has cards card) (own_same know problem history knows) ∙ may.1,
-      omega (arith, count, fits),
-    )
-own_may know problem history knows move.Go may = (
-  asked_same know problem history knows ∙ may.0,
-  (λ i. list_any (λ card. leb (count_same know problem history knows i + card_value card) 31) (own_same know problem history knows i)) ∙ may.1,
-)
 
 pub come_own : (know : Knowledge) (what : Move) → CanComeAt know (Own what) → CanDoAt know what
 come_own know what can = own_may know can.0 can.1 can.2 what (come_may know (Own what) can)

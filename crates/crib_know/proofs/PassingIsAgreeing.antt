@@ -28,13 +28,13 @@ use Rattle.crib_problem.proofs.StartLemmas.{started, hold_is_card}
 use Rattle.crib_know.specs.Knowledge.{own_cards, their_ranks, least_value, count_after, asked_now, own_left}
 use Rattle.crib_know.specs.Hidden.{AgreesWith, CanShow}
 use Rattle.crib_know.proofs.LedHistories.{MayCome, IsLed}
-use Rattle.crib_know.proofs.Events.{Plays, plays_of, plays_taken, agrees_of, LastPlay, last_play, play_more}
+use Rattle.crib_know.proofs.Events.{Plays, plays_of, plays_taken, agrees_of, NextPlay, last_play, play_more}
 use Rattle.crib_know.proofs.CardsLeft.{has-filter_parts, has-filter_from, left_remaining, own_played}
 use Rattle.crib_know.proofs.CardLists.{one_if, one_counted, none_counted, found_by, count_here, has_set_from}
 use Rattle.crib_know.proofs.Deals.{dealt_is, hold_cards, least_after_go, least_before}
 use Rattle.crib_know.proofs.ChosenRanks.{ranks_of}
 use Rattle.crib_know.proofs.AgreeingIsPassing.{PassesRanks, asked_is, MightPlay, MightGo, past, left, left_played, past_same, count_same, mover_same}
-use Rattle.crib_know.proofs.AgreeingIsPassing.{agreeing_passes, covers_play, covers_go}
+use Rattle.crib_know.proofs.AgreeingIsPassing.{agreeing_passes, Might, covers}
 use Rattle.crib_problem.proofs.HonestTurns.{none_any}
 use Rattle.crib_cards.proofs.SetCounts.{count_cons}
 use Rattle.crib_cards.proofs.Members.{rank_is}
@@ -73,13 +73,12 @@ module _ (problem : Setup) (setup : IsSetup problem) (dealt : Dealt) (deal : IsD
 
     -- a turn of the side that is asked, as the last turn of a history
     unfoldable pub turn_of : (side : Side) (turn : Move) → asked_now problem history ≡ side_asked side → MayTake hands side turn before →
-        LastPlay start hands (event_by side turn) history
+        NextPlay start hands (event_by side turn) history plays
     turn_of side turn asked take =
         let is_open = asked_mover start (filled_record start (history_letters history)) side asked in
         let mover_is : mover (pone_of start) (letters_of before) ≡ side = mover_same problem setup dealt deal history plays ∙ is_open.1 in
         let T : Side → Type 0 = λ s. MayTake hands s turn before in
         record {
-          before = plays;
           turn = turn;
           shows = ap (λ (s : Side). event_by s turn) is_open.1;
           may = record {
@@ -92,7 +91,7 @@ module _ (problem : Setup) (setup : IsSetup problem) (dealt : Dealt) (deal : IsD
     fits_same card = ap (λ (n : ℕ). leb (n + card_value card) 31) (count_same problem setup dealt deal history plays)
 
     -- a turn of the owner that can come, as the last turn of a history
-    unfoldable pub own_turn : (turn : Move) → MayCome problem history (Own turn) → LastPlay start hands (Own turn) history
+    pub own_turn : (turn : Move) → MayCome problem history (Own turn) → NextPlay start hands (Own turn) history plays
     own_turn (move.Card card) may =
         turn_of Owner (move.Card card) may.0 (own_to card may.1, fits_same card ∙ le-leb (count_after problem history + card_value card) 31 may.2)
     own_turn move.Go may =
@@ -120,9 +119,8 @@ module _ (problem : Setup) (setup : IsSetup problem) (dealt : Dealt) (deal : IsD
         own_may_take turn (own_asked m may.not_done) (subst T m may.may_take)
 
     -- the opponent plays a card of a rank, with which his hold passes
-    unfoldable pub their_card : (rank : ℕ) → MightPlay problem history rank → PassesRanks (least_value problem history) (rank ∷ their_ranks history)
-        dealt.hold → LastPlay start hands (Theirs (Seen rank)) history
-    unfolding turn_of
+    their_card : (rank : ℕ) → MightPlay problem history rank → PassesRanks (least_value problem history) (rank ∷ their_ranks history) dealt.hold →
+        NextPlay start hands (Theirs (Seen rank)) history plays
     their_card rank might passes =
         let all : count_rank rank (left problem setup dealt deal history plays) + ranks_of (their_ranks history) rank ≡ count_rank rank dealt.hold =
         left_played problem setup dealt deal history plays (λ other. eqb other rank) in
@@ -132,16 +130,14 @@ module _ (problem : Setup) (setup : IsSetup problem) (dealt : Dealt) (deal : IsD
         (omega (arith, all, enough, count_cons (λ other. eqb other rank) rank (their_ranks history), one)) in
         let is : rank_of found.card ≡ rank = eqb-true (rank_of found.card) rank found.passes in
         let value : card_value found.card ≡ rank_value rank = ap rank_value is in
-        let last = turn_of Opponent (move.Card found.card) might.asked (
-          found.held,
-          fits_same found.card ∙ le-leb (count_after problem history + card_value found.card) 31 (let fit = might.fits in
-              omega (arith, fit, value)),
-        ) in
-        record { before = plays; turn = move.Card found.card; shows = last.shows ∙ ap (λ (r : ℕ). Theirs (Seen r)) is; may = last.may }
+        let N : ℕ → Type 0 = λ r. NextPlay start hands (Theirs (Seen r)) history plays in
+        let fit = might.fits in
+        subst N is (turn_of Opponent (move.Card found.card) might.asked
+        (found.held, fits_same found.card ∙ le-leb (count_after problem history + card_value found.card) 31 (omega (arith, fit, value))))
 
     -- the opponent says go, and holds no card that fits
-    unfoldable pub their_go : MightGo problem history → PassesRanks (least_value problem (Theirs Go ∷ history)) (their_ranks history) dealt.hold →
-        LastPlay start hands (Theirs Go) history
+    their_go : MightGo problem history → PassesRanks (least_value problem (Theirs Go ∷ history)) (their_ranks history) dealt.hold →
+        NextPlay start hands (Theirs Go) history plays
     their_go might passes =
         turn_of Opponent move.Go might.asked
         (none_any (fits before) (left problem setup dealt deal history plays) (λ card held. fits_same card ∙ too_high card held))
@@ -166,7 +162,7 @@ module _ (problem : Setup) (setup : IsSetup problem) (dealt : Dealt) (deal : IsD
             ]
 
 -- ---- fewer turns ask less of a hold
-pub shrink_card : (least : ℕ) (played hold : List ℕ) (card_rank : ℕ) → least ≤ rank_value card_rank → PassesRanks least (card_rank ∷ played) hold →
+shrink_card : (least : ℕ) (played hold : List ℕ) (card_rank : ℕ) → least ≤ rank_value card_rank → PassesRanks least (card_rank ∷ played) hold →
     PassesRanks least played hold
 shrink_card least played hold card_rank high passes rank is =
     let now = passes rank is in
@@ -179,7 +175,7 @@ shrink_card least played hold card_rank high passes rank is =
           record { enough = omega (arith, enough, more); high = elim now.high [ inl low ↦ inl low | inr same ↦ inr (omega (arith, same, more, none)) ] }
     ]
 
-pub passes_before : (problem : Setup) (event : Event) (history : List Event) (played hold : List ℕ) →
+passes_before : (problem : Setup) (event : Event) (history : List Event) (played hold : List ℕ) →
     PassesRanks (least_value problem (event ∷ history)) played hold → PassesRanks (least_value problem history) played hold
 passes_before problem event history played hold passes rank is =
     let now = passes rank is in
@@ -187,50 +183,64 @@ passes_before problem event history played hold passes rank is =
     record { enough = now.enough; high = elim now.high [ inl low ↦ inl (omega (arith, low, less)) | inr same ↦ inr same ] }
 
 -- ---- a letter that can be shown might come
-pub can_play_might : (problem : Setup) → IsSetup problem → (history : List Event) (rank : ℕ) → CanShow problem history (Seen rank) →
-    MightPlay problem history rank
-can_play_might problem setup history rank can =
-    let dealt = can.0 in
+pub can_might : (problem : Setup) → IsSetup problem → (history : List Event) (letter : Letter) → CanShow problem history letter → Might problem history letter
+can_might problem setup history letter can =
     let deal = can.1.0 in
-    let plays = plays_of (start_of problem) (hands_of problem dealt) (Theirs (Seen rank) ∷ history) (started problem setup) (dealt_is problem setup dealt deal)
-    can.1.1 in
-    covers_play problem setup dealt deal history rank (last_play (start_of problem) (hands_of problem dealt) (Theirs (Seen rank)) history plays)
+    let hands = hands_of problem can.0 in
+    let plays = plays_of (start_of problem) hands (Theirs letter ∷ history) (started problem setup) (dealt_is problem setup can.0 deal) can.1.1 in
+    covers problem setup can.0 deal history letter (last_play (start_of problem) hands (Theirs letter) history plays)
 
-pub can_go_might : (problem : Setup) → IsSetup problem → (history : List Event) → CanShow problem history Go → MightGo problem history
-can_go_might problem setup history can =
-    let dealt = can.0 in
-    let deal = can.1.0 in
-    let plays = plays_of (start_of problem) (hands_of problem dealt) (Theirs Go ∷ history) (started problem setup) (dealt_is problem setup dealt deal)
-    can.1.1 in
-    covers_go problem setup dealt deal history (last_play (start_of problem) (hands_of problem dealt) (Theirs Go) history plays)
+-- a turn of the owner that can come, or a letter that the opponent might show
+abbrev pub MightCome : Setup → List Event → Event → Type 0
+MightCome problem history (Own turn) = MayCome problem history (Own turn)
+MightCome problem history (Theirs letter) = Might problem history letter
+
+pub may_might : (problem : Setup) → IsSetup problem → (history : List Event) (event : Event) → MayCome problem history event → MightCome problem history event
+may_might problem setup history (Own turn) may = may
+may_might problem setup history (Theirs letter) may = can_might problem setup history letter may
 
 -- where the opponent can show a letter, he is asked, and it is a letter
 pub theirs_asked : (problem : Setup) → IsSetup problem → (history : List Event) (letter : Letter) → CanShow problem history letter →
     asked_now problem history ≡ turns.Opponent
-theirs_asked problem setup history (Seen rank) can = (can_play_might problem setup history rank can).asked
-theirs_asked problem setup history Go can = (can_go_might problem setup history can).asked
+theirs_asked problem setup history (Seen rank) can = (can_might problem setup history (Seen rank) can).asked
+theirs_asked problem setup history Go can = (can_might problem setup history Go can).asked
 
 pub theirs_letter : (problem : Setup) → IsSetup problem → (history : List Event) (letter : Letter) → CanShow problem history letter → IsLetter letter
-theirs_letter problem setup history (Seen rank) can = (can_play_might problem setup history rank can).is
+theirs_letter problem setup history (Seen rank) can = (can_might problem setup history (Seen rank) can).is
 theirs_letter problem setup history Go can = tt
 
 -- ---- each deal that passes agrees
 module _ (problem : Setup) (setup : IsSetup problem) (dealt : Dealt) (deal : IsDealOf problem dealt) where
-  pub passing_plays : (history : List Event) → IsLed problem history → PassesRanks (least_value problem history) (their_ranks history) dealt.hold →
-      Plays (start_of problem) (hands_of problem dealt) history
+  -- the hold passes with what a history tells
+  abbrev pub PassesAfter : List Event → Type 0
+  PassesAfter history = PassesRanks (least_value problem history) (their_ranks history) dealt.hold
+
+  pub passes_less : (event : Event) (history : List Event) → MightCome problem history event → PassesAfter (event ∷ history) → PassesAfter history
+  passes_less (Own turn) history might passes = passes_before problem (Own turn) history (their_ranks history) dealt.hold passes
+  passes_less (Theirs (Seen rank)) history might passes =
+      shrink_card (least_value problem history) (their_ranks history) dealt.hold rank might.high
+      (passes_before problem (Theirs (Seen rank)) history (rank ∷ their_ranks history) dealt.hold passes)
+  passes_less (Theirs Go) history might passes = passes_before problem (Theirs Go) history (their_ranks history) dealt.hold passes
+
+  -- a turn that might come, as the next one of these hands
+  pub next_play : (event : Event) (history : List Event) (before : Plays (start_of problem) (hands_of problem dealt) history) →
+      MightCome problem history event → PassesAfter (event ∷ history) → NextPlay (start_of problem) (hands_of problem dealt) event history before
+  next_play (Own turn) history before might passes = own_turn problem setup dealt deal history before turn might
+  next_play (Theirs (Seen rank)) history before might passes =
+      their_card problem setup dealt deal history before rank might
+      (passes_before problem (Theirs (Seen rank)) history (rank ∷ their_ranks history) dealt.hold passes)
+  next_play (Theirs Go) history before might passes = their_go problem setup dealt deal history before might passes
+
+  more_plays : (event : Event) (history : List Event) → MightCome problem history event → PassesAfter (event ∷ history) →
+      (PassesAfter history → Plays (start_of problem) (hands_of problem dealt) history) → Plays (start_of problem) (hands_of problem dealt) (event ∷ history)
+  more_plays event history might passes plays =
+      let before = plays (passes_less event history might passes) in
+      play_more (start_of problem) (hands_of problem dealt) event history before (next_play event history before might passes)
+
+  pub passing_plays : (history : List Event) → IsLed problem history → PassesAfter history → Plays (start_of problem) (hands_of problem dealt) history
   passing_plays [] led passes = record { seen = []; legal = tt; shows = refl }
-  passing_plays (Own turn ∷ history) led passes =
-      let before = passing_plays history led.0 (passes_before problem (Own turn) history (their_ranks history) dealt.hold passes) in
-      play_more (start_of problem) (hands_of problem dealt) (Own turn) history (own_turn problem setup dealt deal history before turn led.1)
-  passing_plays (Theirs (Seen rank) ∷ history) led passes =
-      let might = can_play_might problem setup history rank led.1 in
-      let here = passes_before problem (Theirs (Seen rank)) history (rank ∷ their_ranks history) dealt.hold passes in
-      let before = passing_plays history led.0 (shrink_card (least_value problem history) (their_ranks history) dealt.hold rank might.high here) in
-      play_more (start_of problem) (hands_of problem dealt) (Theirs (Seen rank)) history (their_card problem setup dealt deal history before rank might here)
-  passing_plays (Theirs Go ∷ history) led passes =
-      let might = can_go_might problem setup history led.1 in
-      let before = passing_plays history led.0 (passes_before problem (Theirs Go) history (their_ranks history) dealt.hold passes) in
-      play_more (start_of problem) (hands_of problem dealt) (Theirs Go) history (their_go problem setup dealt deal history before might passes)
+  passing_plays (event ∷ history) led passes =
+      more_plays event history (may_might problem setup history event led.1) passes (passing_plays history led.0)
 
   pub agrees_from : (history : List Event) → Plays (start_of problem) (hands_of problem dealt) history → AgreesWith problem history dealt
   agrees_from history plays = (
@@ -239,30 +249,16 @@ module _ (problem : Setup) (setup : IsSetup problem) (dealt : Dealt) (deal : IsD
         plays,
   )
 
-  pub passing_agrees : (history : List Event) → IsLed problem history → PassesRanks (least_value problem history) (their_ranks history) dealt.hold →
-      AgreesWith problem history dealt
+  pub passing_agrees : (history : List Event) → IsLed problem history → PassesAfter history → AgreesWith problem history dealt
   passing_agrees history led passes = agrees_from history (passing_plays history led passes)
 
-  pub agrees_passes : (history : List Event) → AgreesWith problem history dealt → PassesRanks (least_value problem history) (their_ranks history) dealt.hold
+  pub agrees_passes : (history : List Event) → AgreesWith problem history dealt → PassesAfter history
   agrees_passes history agrees =
       agreeing_passes problem setup dealt deal history (plays_of (start_of problem) (hands_of problem dealt) history (started problem setup)
       (dealt_is problem setup dealt deal) agrees.1)
 
-  -- a letter that can come is shown by a hidden deal that passes with it
-  pub shows_card : (history : List Event) (rank : ℕ) → IsLed problem history → MightPlay problem history rank →
-      PassesRanks (least_value problem history) (rank ∷ their_ranks history) dealt.hold → CanShow problem history (Seen rank)
-  shows_card history rank led might passes =
-      let before = passing_plays history led (shrink_card (least_value problem history) (their_ranks history) dealt.hold rank might.high passes) in (
-        dealt,
-        agrees_from (Theirs (Seen rank) ∷ history) (play_more (start_of problem) (hands_of problem dealt) (Theirs (Seen rank)) history
-            (their_card problem setup dealt deal history before rank might passes)),
-      )
-
-  pub shows_go : (history : List Event) → IsLed problem history → MightGo problem history →
-      PassesRanks (least_value problem (Theirs Go ∷ history)) (their_ranks history) dealt.hold → CanShow problem history Go
-  shows_go history led might passes =
-      let before = passing_plays history led (passes_before problem (Theirs Go) history (their_ranks history) dealt.hold passes) in (
-        dealt,
-        agrees_from (Theirs Go ∷ history) (play_more (start_of problem) (hands_of problem dealt) (Theirs Go) history
-            (their_go problem setup dealt deal history before might passes)),
-      )
+  -- a letter that might come is shown by a hidden deal that passes with it
+  pub shows_letter : (history : List Event) (letter : Letter) → IsLed problem history → Might problem history letter → PassesAfter (Theirs letter ∷ history) →
+      CanShow problem history letter
+  shows_letter history letter led might passes =
+      (dealt, agrees_from (Theirs letter ∷ history) (more_plays (Theirs letter) history might passes (passing_plays history led)))

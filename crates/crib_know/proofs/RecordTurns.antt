@@ -29,7 +29,7 @@ module _ (problem : Setup) (setup : IsSetup problem) (dealt : Dealt) where
 
   -- a hidden deal that agrees with a history also agrees without its last turn
   pub agrees_before : (event : Event) (history : List Event) → AgreesWith problem (event ∷ history) dealt → AgreesWith problem history dealt
-  agrees_before event history agrees = agrees_from problem setup dealt agrees.0 history (last_of event history agrees).before
+  agrees_before event history agrees = agrees_from problem setup dealt agrees.0 history (last_of event history agrees).0
 
   pub agreeing_led : (history : List Event) → AgreesWith problem history dealt → IsLed problem history
   agreeing_led [] agrees = tt
@@ -37,10 +37,10 @@ module _ (problem : Setup) (setup : IsSetup problem) (dealt : Dealt) where
       let deal : IsDealOf problem dealt = agrees.0 in
       let last = last_of (Own turn) history agrees in
       let start = start_of problem in
-      let is = own_is (mover (pone_of start) (filled_record start (history_letters history))) last.turn turn last.shows in
+      let is = own_is (mover (pone_of start) (filled_record start (history_letters history))) last.1.turn turn last.1.shows in
       let M : Move → Type 0 = λ own. MayCome problem history (Own own) in (
         agreeing_led history (agrees_before (Own turn) history agrees),
-        subst M is.1 (own_may problem setup dealt deal history last.before last.turn (mover_same problem setup dealt deal history last.before ∙ is.0) last.may),
+        subst M is.1 (own_may problem setup dealt deal history last.0 last.1.turn (mover_same problem setup dealt deal history last.0 ∙ is.0) last.1.may),
       )
   agreeing_led (Theirs letter ∷ history) agrees = (agreeing_led history (agrees_before (Theirs letter) history agrees), (dealt, agrees))
 

@@ -23,6 +23,18 @@ pub enum Sought {
     CribAndHand([Rank; 4]),
 }
 
+// The opponent's throws, and the points that are sought among them. `spare` is the most points that suits add to the
+// hand.
+#[derive(Drop)]
+struct Throws<'a> {
+    worst: &'a WorstShow,
+    plain: &'a PlainCribs,
+    sought: &'a Sought,
+    spare: u8,
+    ghost points: { ArePlain worst.now.starter worst.now.own_throw plain.now },
+    ghost range: { spare ≤ 6 },
+}
+
 impl WorstShow {
     /// The greatest sum of the opponent's hand and the crib of one hidden deal, in points. Some hidden deal must agree.
     pub fn most_total(&self) -> u8
@@ -66,114 +78,17 @@ impl WorstShow {
         ensures all { (result ≡ bound) ⊎ NoneGive self.now sought.now spare (result + 1) }
         ensures range { result ≤ bound }
     {
+        let throws = Throws {
+            worst: self,
+            plain,
+            sought,
+            spare,
+        };
         let mut most = bound;
-        while most > 0 && !self.some_give(plain, sought, spare, most) {
+        while most > 0 && !throws.some_give(most) {
             most -= 1;
         }
         most
-    }
-
-    // Whether some throw of two ranks gives at least `enough` points.
-    fn some_give(&self, plain: &PlainCribs, sought: &Sought, spare: u8, enough: u8) -> bool
-        requires plain { ArePlain self.now.starter self.now.own_throw plain.now }
-        requires range { spare ≤ 6 }
-        ensures some { IsTrue result → SomeGive self.now sought.now spare enough }
-        ensures none { IsFalse result → NoneGive self.now sought.now spare enough }
-    {
-        for first in 1..14 {
-            for second in first..14 {
-                let first = rank_numbered(first);
-                let second = rank_numbered(second);
-                if self.ranks_give(plain, sought, spare, enough, first, second) {
-                    return true;
-                }
-            }
-        }
-        false
-    }
-
-    // Whether some throw of these two ranks gives at least `enough` points. A bound is tried first: the points of the
-    // ranks, the most that suits add to the crib, and `spare`.
-    fn ranks_give(
-        &self,
-        plain: &PlainCribs,
-        sought: &Sought,
-        spare: u8,
-        enough: u8,
-        first: Rank,
-        second: Rank,
-    ) -> bool
-        requires plain { ArePlain self.now.starter self.now.own_throw plain.now }
-        requires range { spare ≤ 6 }
-        requires ranks { IsRank first × IsRank second }
-        ensures { result ≡ ranks_give self.now sought.now spare enough first second }
-    {
-        let points = plain.of(first, second);
-        if points + MOST_OF_SUITS + spare < enough {
-            return false;
-        }
-        enough <= points + self.most_crib_suits(first, second) + spare
-            && self.has_room(first, second)
-            && (self.card_gives(plain, sought, enough, Card::of(first, Suit::Clubs), second)
-                || self.card_gives(
-                    plain,
-                    sought,
-                    enough,
-                    Card::of(first, Suit::Diamonds),
-                    second,
-                )
-                || self.card_gives(plain, sought, enough, Card::of(first, Suit::Hearts), second)
-                || self.card_gives(plain, sought, enough, Card::of(first, Suit::Spades), second))
-    }
-
-    // Whether this card may be thrown with one of the rank, and some such throw gives at least `enough` points.
-    fn card_gives(
-        &self,
-        plain: &PlainCribs,
-        sought: &Sought,
-        enough: u8,
-        first: Card,
-        rank: Rank,
-    ) -> bool
-        requires plain { ArePlain self.now.starter self.now.own_throw plain.now }
-        ensures { result ≡ card_gives self.now sought.now enough first rank }
-    {
-        self.is_free(first)
-            && (self.throw_gives(plain, sought, enough, first, Card::of(rank, Suit::Clubs))
-                || self.throw_gives(plain, sought, enough, first, Card::of(rank, Suit::Diamonds))
-                || self.throw_gives(plain, sought, enough, first, Card::of(rank, Suit::Hearts))
-                || self.throw_gives(plain, sought, enough, first, Card::of(rank, Suit::Spades)))
-    }
-
-    // Whether the second card may be thrown with the first, and this throw gives at least `enough` points.
-    fn throw_gives(
-        &self,
-        plain: &PlainCribs,
-        sought: &Sought,
-        enough: u8,
-        first: Card,
-        second: Card,
-    ) -> bool
-        requires plain { ArePlain self.now.starter self.now.own_throw plain.now }
-        ensures { result ≡ throw_gives self.now sought.now enough first second }
-    {
-        self.is_free(second)
-            && first.number() != second.number()
-            && enough <= self.sought_points(plain, sought, first, second)
-    }
-
-    // The points that are sought, with these two cards thrown.
-    fn sought_points(&self, plain: &PlainCribs, sought: &Sought, first: Card, second: Card) -> u8
-        requires plain { ArePlain self.now.starter self.now.own_throw plain.now }
-        ensures { result ≡ sought_points self.now sought.now first second }
-    {
-        let crib = self.crib_of_throw(plain, first, second);
-        match sought {
-            Sought::Crib => crib,
-            Sought::CribAndHand(ranks) => {
-                crib + self.without_throw(first, second).most_suit_points(ranks)
-            }
-        }
     }
 
     // The show without these two cards among the unseen ones. The opponent threw them, so he cannot hold them.
@@ -196,5 +111,74 @@ impl WorstShow {
         plain.of(first.rank(), second.rank())
             + crib_flush(&crib, self.starter)
             + jack_points(&crib, self.starter)
+    }
+}
+
+impl Throws<'_> {
+    // Whether some throw of two ranks gives at least `enough` points.
+    fn some_give(&self, enough: u8) -> bool
+        ensures some { IsTrue result → SomeGive self.now.worst.now self.now.sought.now self.now.spare enough }
+        ensures none { IsFalse result → NoneGive self.now.worst.now self.now.sought.now self.now.spare enough }
+    {
+        for first in 1..14 {
+            for second in first..14 {
+                if self.ranks_give(enough, rank_numbered(first), rank_numbered(second)) {
+                    return true;
+                }
+            }
+        }
+        false
+    }
+
+    // Whether some throw of these two ranks gives at least `enough` points. A bound is tried first: the points of the
+    // ranks, the most that suits add to the crib, and `spare`.
+    fn ranks_give(&self, enough: u8, first: Rank, second: Rank) -> bool
+        requires { IsRank first × IsRank second }
+        ensures { result ≡ ranks_give self.now.worst.now self.now.sought.now self.now.spare enough first second }
+    {
+        let points = self.plain.of(first, second);
+        if points + MOST_OF_SUITS + self.spare < enough {
+            return false;
+        }
+        enough <= points + self.worst.most_crib_suits(first, second) + self.spare
+            && self.worst.has_room(first, second)
+            && (self.card_gives(enough, Card::of(first, Suit::Clubs), second)
+                || self.card_gives(enough, Card::of(first, Suit::Diamonds), second)
+                || self.card_gives(enough, Card::of(first, Suit::Hearts), second)
+                || self.card_gives(enough, Card::of(first, Suit::Spades), second))
+    }
+
+    // Whether this card may be thrown with one of the rank, and some such throw gives at least `enough` points.
+    fn card_gives(&self, enough: u8, first: Card, rank: Rank) -> bool
+        ensures { result ≡ card_gives self.now.worst.now self.now.sought.now enough first rank }
+    {
+        self.worst.is_free(first)
+            && (self.throw_gives(enough, first, Card::of(rank, Suit::Clubs))
+                || self.throw_gives(enough, first, Card::of(rank, Suit::Diamonds))
+                || self.throw_gives(enough, first, Card::of(rank, Suit::Hearts))
+                || self.throw_gives(enough, first, Card::of(rank, Suit::Spades)))
+    }
+
+    // Whether the second card may be thrown with the first, and this throw gives at least `enough` points.
+    fn throw_gives(&self, enough: u8, first: Card, second: Card) -> bool
+        ensures { result ≡ throw_gives self.now.worst.now self.now.sought.now enough first second }
+    {
+        self.worst.is_free(second)
+            && first.number() != second.number()
+            && enough <= self.sought_points(first, second)
+    }
+
+    // The points that are sought, with these two cards thrown.
+    fn sought_points(&self, first: Card, second: Card) -> u8
+        ensures { result ≡ sought_points self.now.worst.now self.now.sought.now first second }
+    {
+        let crib = self.worst.crib_of_throw(self.plain, first, second);
+        match self.sought {
+            Sought::Crib => crib,
+            Sought::CribAndHand(ranks) => {
+                let show = self.worst.without_throw(first, second);
+                crib + show.most_suit_points(ranks)
+            }
+        }
     }
 }

@@ -12,7 +12,7 @@ use Rattle.crib_problem.specs.Reading.{problem_at}
 use Rattle.crib_problem.proofs.ProblemForm.{problem_form}
 use Rattle.crib_plan.specs.Reading.{plan_at}
 use Rattle.crib_plan.proofs.PlanForm.{plan_form}
-use Rattle.crib_game.specs.declared.game.Game.{Game}
+use Rattle.crib_game.specs.declared.section.game.Game.{Game}
 use Rattle.crib_game.specs.Reading.{game_at}
 use Rattle.crib_game.proofs.GameForm.{game_form}
 use Rattle.crib_input.specs.Input.{most_bytes, input_lines, problem_alone_at, problem_of_input, question_at, question_of_input}

@@ -19,7 +19,7 @@ use Rattle.crib_plan.specs.declared.plan.Node.{Node}
 use Rattle.crib_plan.specs.Spelling.{plan_lines, plan_text}
 use Rattle.crib_plan.specs.Reading.{plan_at}
 use Rattle.crib_plan.proofs.PlanForm.{plan_form}
-use Rattle.crib_game.specs.declared.game.Game.{Game}
+use Rattle.crib_game.specs.declared.section.game.Game.{Game}
 use Rattle.crib_game.specs.Spelling.{IsGame, game_lines, game_text}
 use Rattle.crib_game.specs.Reading.{game_at}
 use Rattle.crib_game.proofs.GameForm.{game_form}

@@ -7,7 +7,7 @@ use Rattle.crib_problem.specs.Reading.{problem_at}
 use Rattle.crib_problem.specs.Setup.{Setup}
 use Rattle.crib_plan.specs.declared.plan.Node.{Node}
 use Rattle.crib_plan.specs.Reading.{plan_at}
-use Rattle.crib_game.specs.declared.game.Game.{Game}
+use Rattle.crib_game.specs.declared.section.game.Game.{Game}
 use Rattle.crib_game.specs.Reading.{game_at}
 
 -- the most bytes that an input may have

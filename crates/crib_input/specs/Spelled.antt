@@ -5,7 +5,7 @@ use Rattle.crib_problem.specs.Spelling.{problem_text}
 use Rattle.crib_plan.specs.declared.plan.Node.{Node}
 use Rattle.crib_plan.specs.Nodes.{ArePlan}
 use Rattle.crib_plan.specs.Spelling.{plan_text}
-use Rattle.crib_game.specs.declared.game.Game.{Game}
+use Rattle.crib_game.specs.declared.section.game.Game.{Game}
 use Rattle.crib_game.specs.Spelling.{IsGame, game_text}
 
 -- an input spells a problem: it is the text of the problem and nothing else

@@ -3,11 +3,13 @@
 
 mod reading;
 mod refusal;
+mod sections;
 
 pub use reading::{
     Played, PlayedUnder, Question, played_of, played_under_of, problem_of, question_of,
 };
 pub use refusal::{Cause, NotRead, Refusal};
+pub use sections::Sections;
 
 #[cfg(test)]
 mod tests;

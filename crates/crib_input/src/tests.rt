@@ -19,22 +19,22 @@ macro_rules! problem {
 type Row = (&'static str, u32, u8, &'static str);
 
 const PROBLEMS: &[Row] = &[
+    ("problem 1\t\n", 1, 1, "neither LF nor 32 to 126"),
+    ("problem 1\n", 2, 3, "cut short"),
+    ("problems 1\n", 1, 4, "not expected here"),
+    (problem!("1", "3X", "0 0", "win", ""), 4, 5, "not a card"),
     (
-        "problem 1\t\n",
-        1,
-        1,
-        "a byte that is neither LF nor 32 to 126",
+        problem!("1", "3H", "0 x", "win", ""),
+        3,
+        6,
+        "not a number that may stand here",
     ),
-    ("problem 1\n", 2, 3, "the text is cut short"),
-    ("problems 1\n", 1, 4, "a bad line"),
-    (problem!("1", "3X", "0 0", "win", ""), 4, 5, "a bad card"),
-    (problem!("1", "3H", "0 x", "win", ""), 3, 6, "a bad number"),
-    ("problem 3\n", 1, 7, "an unknown version"),
+    ("problem 3\n", 1, 7, "not a version of this section"),
     (
         problem!("1", "3H", "0 0", "win", "x\n"),
         8,
         8,
-        "a line after the last section",
+        "after the last section",
     ),
     (
         problem!("1", "8C", "0 0", "win", ""),
@@ -42,17 +42,12 @@ const PROBLEMS: &[Row] = &[
         20,
         "a card that stood before",
     ),
-    (
-        problem!("1", "3H", "0 121", "win", ""),
-        3,
-        21,
-        "a score above 120",
-    ),
+    (problem!("1", "3H", "0 121", "win", ""), 3, 21, "above 120"),
     (
         problem!("1", "3H", "0 0", "holes 0", ""),
         7,
         22,
-        "a goal out of range",
+        "out of range",
     ),
     (
         problem!("2", "3H", "0 0", "win", "played 2\nown TC\nopp go\n"),
@@ -70,7 +65,7 @@ const PROBLEMS: &[Row] = &[
         problem!("2", "3H", "0 0", "win", "played 1\nown KC\n"),
         9,
         41,
-        "a card that is not held",
+        "not held",
     ),
     (
         problem!(
@@ -88,13 +83,13 @@ const PROBLEMS: &[Row] = &[
         problem!("2", "3H", "0 0", "win", "played 1\nown go\n"),
         9,
         43,
-        "a go while a card fits",
+        "not allowed while a card fits",
     ),
     (
         problem!("2", "3H", "0 0", "win", "played 1\nopp TD\n"),
         9,
         44,
-        "a turn of the side that is not asked",
+        "not the side to move",
     ),
 ];
 
@@ -103,13 +98,13 @@ const PLANS: &[Row] = &[
         problem!("1", "3H", "0 0", "win", "plan 2\n"),
         8,
         7,
-        "an unknown version",
+        "not a version of this section",
     ),
     (
         problem!("1", "3H", "0 0", "win", "plan 1\nnodes 1\n0 play TC 0\n"),
         10,
         30,
-        "a node that goes on to no later node",
+        "not a later node of the plan",
     ),
     (
         problem!(
@@ -121,13 +116,13 @@ const PLANS: &[Row] = &[
         ),
         10,
         31,
-        "a bad branch",
+        "not a branch that may stand here",
     ),
     (
         problem!("1", "3H", "0 0", "win", "plan 1\nnodes 65536\n"),
         9,
         32,
-        "more than 65,535 nodes",
+        "above 65,535",
     ),
 ];
 
@@ -327,7 +322,7 @@ fn an_input_that_is_too_long_has_a_sentence(rt: HostRuntime) -> Result<(), Fail>
     is_refusal(
         &rt,
         Some(refusal),
-        &("too long", 0, 2, "more than 8,388,608 bytes"),
+        &("too long", 0, 2, "longer than 8,388,608 bytes"),
     )?;
     assert_eq!(rt;
         format!(in rt.alloc(); "{}", NotRead::Memory)?.as_str(),

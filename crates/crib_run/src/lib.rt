@@ -4,6 +4,7 @@
 
 mod answer;
 mod faults;
+mod reason;
 mod refusal;
 mod reply;
 mod sending;
@@ -12,6 +13,7 @@ mod text;
 
 pub use answer::Answer;
 pub use faults::{fault_answer, line_answer, memory_answer, read_fault_answer};
+pub use reason::{FaultCause, Reason};
 pub use refusal::{not_read_answer, refusal_answer, too_long_answer};
 pub use sending::{memory_fault, send, unread_answer};
 pub use status::Status;

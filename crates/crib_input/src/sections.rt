@@ -1,0 +1,14 @@
+//! The sections of an input.
+
+/// The sections that an input has to have, in their order.
+#[derive(Clone, Copy, Debug, PartialEq, Eq)]
+pub enum Sections {
+    /// A problem.
+    Problem,
+    /// A problem and a plan.
+    Question,
+    /// A problem and a game.
+    Played,
+    /// A problem, a plan and a game.
+    PlayedUnder,
+}

@@ -1,0 +1,44 @@
+//! Why there is no answer to a question.
+ghost use Rattle.std.specs.Prelude.{◌≡◌};
+ghost use Rattle.crib_run.specs.Reason.{fault_number};
+
+use crib_input::Refusal;
+use thiserror::Error;
+
+/// The cause of a fault.
+#[derive(Clone, Copy, Debug, PartialEq, Eq, Error)]
+pub enum FaultCause {
+    /// 9: the reader failed, or the 8,400,000 calls of reading ran out.
+    #[error("the input can't be read")]
+    ReadFailed,
+    /// 11: an allocation failed.
+    #[error("out of memory")]
+    NoMemory,
+    /// 50: the plan that was found has more than 65,535 nodes.
+    #[error("the plan that was found has too many nodes")]
+    TooLarge,
+}
+
+impl FaultCause {
+    /// Returns the number of the fault, which the program prints.
+    pub fn number(self) -> u8
+        ensures { result ≡ fault_number self }
+    {
+        match self {
+            FaultCause::ReadFailed => 9,
+            FaultCause::NoMemory => 11,
+            FaultCause::TooLarge => 50,
+        }
+    }
+}
+
+/// Why there is no answer to the question: the input is refused, or there is a fault.
+#[derive(Clone, Copy, Debug, PartialEq, Eq, Error)]
+pub enum Reason {
+    /// The input is refused.
+    #[error(transparent)]
+    Refused(Refusal),
+    /// The input was not read, or its answer was not found.
+    #[error(transparent)]
+    Fault(FaultCause),
+}

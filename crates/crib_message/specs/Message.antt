@@ -1,0 +1,94 @@
+-- The message of a refusal or a fault.
+use Rattle.std.specs.Prelude.{◌≡◌, ◌-◌, ◌/◌, ◌%◌, ℕ, Bool, true, List, [], ◌∷◌, ◌++◌, codes, decimal, flat_map}
+use Rattle.std.specs.Prelude.{Option, None, MatchOption, All, nat_le, ◌&&◌, ◌==◌, if◌then◌else◌, slice_get, slice_index}
+use Rattle.crib_text.specs.Spelling.{line_feed}
+use Rattle.crib_text.specs.Words.{lines_of}
+use Rattle.crib_input.specs.Refusals.{refusal_of}
+use Rattle.crib_run.specs.declared.reason.Reason.{Reason}
+use Rattle.crib_run.specs.declared.reason.Reason.TheVariants.{Refused, Fault}
+use Rattle.crib_message.specs.declared.message.Message.{Message}
+use Rattle.crib_message.specs.declared.place.Place.{Place}
+use Rattle.crib_message.specs.declared.place.Section.{Section}
+use Rattle.crib_message.specs.declared.place.Section.TheVariants.{Problem, Plan, Game, After}
+
+-- the bytes of a message
+unfoldable pub message_text : Message → List ℕ
+message_text message = message.text.items
+
+-- the line of an input with this number, from 1, without its LF, if there is one
+abbrev pub numbered_line : List ℕ → ℕ → Option (List ℕ)
+numbered_line input number = if number == 0 then None else slice_get (lines_of input) (number - 1)
+
+-- ---- an excerpt
+
+-- whether a byte is shown as it is: 32 to 126
+abbrev pub is_plain : ℕ → Bool
+is_plain byte = nat_le 32 byte && nat_le byte 126
+
+-- a hexadecimal digit
+abbrev pub hex_digit : ℕ → ℕ
+hex_digit digit = slice_index (codes "0123456789abcdef") digit
+
+-- a byte as it is shown: any other byte is `\xNN`
+abbrev pub shown_byte : ℕ → List ℕ
+shown_byte byte =
+    if is_plain byte then byte ∷ [] else codes "\\x" ++ hex_digit (byte / 16) ∷ hex_digit (byte % 16) ∷ []
+
+-- three dots for bytes that are not shown
+abbrev pub dots : List ℕ → List ℕ
+dots [] = []
+dots (_ ∷ _) = codes "..."
+
+-- a line that is shown with its number. The stretch before and the one after are left out
+abbrev pub shown_line : ℕ → List ℕ → List ℕ → List ℕ → List ℕ
+shown_line number before shown after =
+    codes "  " ++ (decimal number ++ (codes " | " ++ (dots before ++ (flat_map shown_byte shown ++ (dots after
+    ++ line_feed ∷ [])))))
+
+-- an excerpt: a stretch of a line with the line's number, and then nothing or a mark
+pub record IsExcerpt (number : ℕ) (line excerpt : List ℕ) : Type 0 where
+  pub before : List ℕ
+  pub shown : List ℕ
+  pub after : List ℕ
+  pub mark : List ℕ
+  pub cut : line ≡ before ++ (shown ++ after)
+  pub is : excerpt ≡ shown_line number before shown after ++ mark
+
+-- ---- a message
+
+-- where a line stands in its section, if this is a plan or a game
+abbrev pub section_words : ℕ → Section → List ℕ
+section_words number Problem = []
+section_words number Plan = codes ", line " ++ (decimal number ++ codes " of the plan")
+section_words number Game = codes ", line " ++ (decimal number ++ codes " of the game")
+section_words number After = []
+
+abbrev pub place_words : Place → List ℕ
+place_words place = section_words place.number place.section
+
+-- the heading of a refusal: the program, and the number of the line if it is not 0
+abbrev pub heading : List ℕ → ℕ → Place → List ℕ
+heading program line place =
+    if line == 0 then program ++ codes ": "
+    else program ++ (codes ": line " ++ (decimal line ++ (place_words place ++ codes ": ")))
+
+-- a message is a heading, a sentence of bytes 32 to 126, an LF, and the excerpt of the refused line if the input has it
+pub record IsRefusalMessage (program input : List ℕ) (line : ℕ) (text : List ℕ) : Type 0 where
+  pub place : Place
+  pub sentence : List ℕ
+  pub excerpt : List ℕ
+  pub is : text ≡ heading program line place ++ (sentence ++ line_feed ∷ excerpt)
+  pub plain : All (λ byte. is_plain byte ≡ true) sentence
+  pub shows : MatchOption (numbered_line input line) (excerpt ≡ []) (λ bytes. IsExcerpt line bytes excerpt)
+
+-- the message of a fault names no line and shows none
+pub record IsFaultMessage (program text : List ℕ) : Type 0 where
+  pub sentence : List ℕ
+  pub is : text ≡ program ++ (codes ": " ++ (sentence ++ line_feed ∷ []))
+  pub plain : All (λ byte. is_plain byte ≡ true) sentence
+
+-- the message of a reason why there is no answer
+abbrev pub IsMessage : List ℕ → List ℕ → Reason → List ℕ → Type 0
+IsMessage program input (Refused refusal) text =
+    IsRefusalMessage program input (refusal_of refusal).line text
+IsMessage program input (Fault _) text = IsFaultMessage program text

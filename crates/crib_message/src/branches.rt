@@ -1,0 +1,181 @@
+//! The branches of a see line that are refused.
+
+use crate::explained::Explained;
+use crate::plans::{LETTERS, NodeLine, behind_colon, marked, said_of};
+use crate::sentence::Sentence;
+use crate::words::{Word, word_at};
+use crib_plan::PlanCause;
+
+// The branches that are looked at. A line with more has a letter twice among these.
+const MOST_BRANCHES: usize = 15;
+
+// Explains the first wrong branch of a see line.
+pub(crate) fn bad_branch(node: &NodeLine<'_>, cause: PlanCause) -> Option<Explained> {
+    for i in 2..2 + MOST_BRANCHES {
+        let branch = word_at(node.bytes, i)?;
+        let mut sentence = said_of(branch.bytes, cause);
+        sentence.add(b": ");
+        if has_wrong_letters(&mut sentence, &branch)
+            || stood_before(&mut sentence, node, i, &branch)
+            || is_out_of_order(&mut sentence, node, i, &branch)
+            || has_old_target(&mut sentence, node, i, &branch)
+        {
+            return Some(marked(sentence, &branch));
+        }
+    }
+    None
+}
+
+// Returns the letters of a branch: its bytes before the first colon.
+fn letters_of<'a>(branch: &Word<'a>) -> &'a [u8] {
+    match branch.bytes.iter().position(|byte| *byte == b':') {
+        Some(colon) => &branch.bytes[..colon],
+        None => branch.bytes,
+    }
+}
+
+fn place_of(letter: u8) -> Option<usize> {
+    LETTERS.iter().position(|byte| *byte == letter)
+}
+
+fn has(letters: &[u8], letter: u8) -> bool {
+    letters.iter().any(|byte| *byte == letter)
+}
+
+// Appends what is wrong with the letters of a branch by themselves. Returns whether something is.
+fn has_wrong_letters(sentence: &mut Sentence, branch: &Word<'_>) -> bool {
+    let letters = letters_of(branch);
+    let mut before: Option<u8> = None;
+    for letter in letters {
+        if place_of(*letter).is_none() {
+            add_no_letter(sentence, *letter);
+            return true;
+        }
+        if let Some(earlier) = before
+            && place_of(*letter) <= place_of(earlier)
+        {
+            add_letter_order(sentence, earlier, *letter);
+            return true;
+        }
+        before = Some(*letter);
+    }
+    if letters.is_empty() {
+        sentence.add(b"no letter stands before its colon");
+    }
+    letters.is_empty()
+}
+
+fn add_no_letter(sentence: &mut Sentence, letter: u8) {
+    sentence.typed(&[letter]);
+    sentence.add(b" is none of the letters A23456789TJQKg");
+    match letter {
+        b'0' | b'1' => sentence.add(b"; a ten is T, and an ace A"),
+        b'a' | b't' | b'j' | b'q' | b'k' => sentence.add(b"; a rank is a capital"),
+        b'G' => sentence.add(b"; a go is a small g"),
+        b'C' | b'D' | b'H' | b'S' => sentence.add(b"; a branch has ranks and no suits"),
+        _ => {}
+    }
+}
+
+fn add_letter_order(sentence: &mut Sentence, earlier: u8, letter: u8) {
+    sentence.add(&[letter]);
+    if letter == earlier {
+        sentence.add(b" stands in it twice");
+    } else {
+        sentence.add(b" comes before ");
+        sentence.add(&[earlier]);
+        sentence.add(b" in the order A23456789TJQKg");
+    }
+}
+
+// Appends the letter of a branch that an earlier branch has, and that branch. Returns whether there is one.
+fn stood_before(
+    sentence: &mut Sentence,
+    node: &NodeLine<'_>,
+    index: usize,
+    branch: &Word<'_>,
+) -> bool {
+    for letter in letters_of(branch) {
+        for i in 2..index {
+            let Some(earlier) = word_at(node.bytes, i) else {
+                return false;
+            };
+            if has(letters_of(&earlier), *letter) {
+                sentence.add(&[*letter]);
+                sentence.add(b" stood in the branch ");
+                sentence.typed(earlier.bytes);
+                sentence.add(b" already");
+                return true;
+            }
+        }
+    }
+    false
+}
+
+// Appends the branch that has to stand after this one. Returns whether there is one.
+fn is_out_of_order(
+    sentence: &mut Sentence,
+    node: &NodeLine<'_>,
+    index: usize,
+    branch: &Word<'_>,
+) -> bool {
+    for i in 2..index {
+        let Some(earlier) = word_at(node.bytes, i) else {
+            return false;
+        };
+        if first_place(&earlier) > first_place(branch) {
+            sentence.add(b"it stands before ");
+            sentence.typed(earlier.bytes);
+            sentence.add(b", since branches are sorted by their first letters");
+            return true;
+        }
+    }
+    false
+}
+
+fn first_place(branch: &Word<'_>) -> Option<usize> {
+    place_of(*letters_of(branch).first()?)
+}
+
+// Appends the earlier branch with the same target, and the branch that says both. Returns whether there is one.
+fn has_old_target(
+    sentence: &mut Sentence,
+    node: &NodeLine<'_>,
+    index: usize,
+    branch: &Word<'_>,
+) -> bool {
+    for i in 2..index {
+        let Some(earlier) = word_at(node.bytes, i) else {
+            return false;
+        };
+        if has_same_target(&earlier, branch) {
+            sentence.add(b"the branch ");
+            sentence.typed(earlier.bytes);
+            sentence.add(b" leads to the same node; write both as one branch, \"");
+            add_union(sentence, &earlier, branch);
+            sentence.add(b"\"");
+            return true;
+        }
+    }
+    false
+}
+
+fn has_same_target(earlier: &Word<'_>, branch: &Word<'_>) -> bool {
+    match (behind_colon(earlier), behind_colon(branch)) {
+        (Some(first), Some(second)) => first.bytes == second.bytes,
+        _ => false,
+    }
+}
+
+// Appends the branch with the letters of both.
+fn add_union(sentence: &mut Sentence, earlier: &Word<'_>, branch: &Word<'_>) {
+    for letter in LETTERS {
+        if has(letters_of(earlier), *letter) || has(letters_of(branch), *letter) {
+            sentence.add(&[*letter]);
+        }
+    }
+    sentence.add(b":");
+    if let Some(target) = behind_colon(branch) {
+        sentence.add(target.bytes);
+    }
+}

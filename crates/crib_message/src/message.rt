@@ -1,0 +1,156 @@
+//! The message of a refusal or a fault, as it is written to standard error.
+ghost use Rattle.std.specs.Prelude.{◌≡◌, ◌≤◌, ◌+◌, ◌++◌, [], ◌∷◌, length, codes, decimal};
+ghost use Rattle.std.specs.List.{filter};
+ghost use Rattle.arrayvec.specs.ArrayVec.{array_vec_len};
+ghost use Rattle.crib_message.specs.Message.{IsMessage, IsRefusalMessage, IsFaultMessage};
+ghost use Rattle.crib_message.specs.Message.{heading, is_plain, message_text, place_words};
+
+use crate::excerpt::{excerpt_of, is_plain};
+use crate::explained::{Explained, explain};
+use crate::lines::line_at;
+use crate::place::{Place, Section};
+use crate::sentence::Sentence;
+use arrayvec::ArrayVec;
+use crib_input::{Refusal, Sections};
+use crib_run::{FaultCause, Reason};
+use itoa::Buffer;
+use std::fmt::Write;
+
+/// A message of at most 1,000 bytes: lines of text.
+#[derive(Drop)]
+pub struct Message {
+    text: ArrayVec<u8, 1000>,
+}
+
+impl Message {
+    /// Returns the bytes of the message.
+    #[tactic(auto, unfolding(crate::specs::Message::message_text))]
+    pub fn as_slice(&self) -> &[u8]
+        ensures { result.now ≡ message_text self.now }
+    {
+        self.text.as_slice()
+    }
+
+    fn of_program(program: &[u8]) -> Message
+        requires { length program.now ≤ 20 }
+        ensures { result.text.items ≡ program.now ++ codes ": " }
+    {
+        let mut message = Message {
+            text: ArrayVec::new(),
+        };
+        message.add(program);
+        message.add(b": ");
+        message
+    }
+
+    fn add(&mut self, bytes: &[u8])
+        requires { array_vec_len self.old.text + length bytes.now ≤ 1000 }
+        ensures items { self.new.text.items ≡ self.old.text.items ++ bytes.now }
+        ensures len { array_vec_len self.new.text ≡ array_vec_len self.old.text + length bytes.now }
+    {
+        self.text.try_extend_from_slice(bytes).unwrap();
+    }
+
+    // Appends the bytes 32 to 126 of a sentence.
+    fn add_sentence(&mut self, sentence: &[u8])
+        requires { array_vec_len self.old.text + length sentence.now ≤ 1000 }
+        ensures items { self.new.text.items ≡ self.old.text.items ++ filter is_plain sentence.now }
+        ensures len { array_vec_len self.new.text ≤ array_vec_len self.old.text + length sentence.now }
+    {
+        for byte in sentence {
+            if is_plain(*byte) {
+                self.add(&[*byte]);
+            }
+        }
+    }
+
+    // Appends at most ten digits.
+    fn add_number(&mut self, number: u32)
+        requires { array_vec_len self.old.text ≤ 990 }
+        ensures items { self.new.text.items ≡ self.old.text.items ++ decimal number }
+        ensures len { array_vec_len self.new.text ≤ array_vec_len self.old.text + 10 }
+    {
+        self.add(Buffer::new().format(number).as_bytes());
+    }
+
+    fn add_place(&mut self, line: u32, place: Place)
+        requires { array_vec_len self.old.text ≤ 900 }
+        ensures items { self.new.text.items ≡ self.old.text.items
+            ++ (codes "line " ++ (decimal line ++ (place_words place ++ codes ": "))) }
+        ensures len { array_vec_len self.new.text ≤ array_vec_len self.old.text + 46 }
+    {
+        self.add(b"line ");
+        self.add_number(line);
+        match place.section {
+            Section::Plan => self.add_line_of(place.number, b" of the plan"),
+            Section::Game => self.add_line_of(place.number, b" of the game"),
+            Section::Problem | Section::After => {}
+        }
+        self.add(b": ");
+    }
+
+    fn add_line_of(&mut self, number: u32, section: &[u8])
+        requires room { array_vec_len self.old.text ≤ 950 }
+        requires short { length section.now ≤ 12 }
+        ensures items { self.new.text.items ≡ self.old.text.items
+            ++ (codes ", line " ++ (decimal number ++ section.now)) }
+        ensures len { array_vec_len self.new.text ≤ array_vec_len self.old.text + 29 }
+    {
+        self.add(b", line ");
+        self.add_number(number);
+        self.add(section);
+    }
+}
+
+/// Returns the message of a refusal or a fault. It begins with the name of the program, of at most 20 bytes.
+/// The input is the one that is refused, and may be empty for a fault or for a refusal of line 0.
+#[tactic(auto, unfolding(crate::specs::Message::message_text))]
+pub fn message_of(program: &[u8], sections: Sections, input: &[u8], reason: &Reason) -> Message
+    requires { length program.now ≤ 20 }
+    ensures { IsMessage program.now input.now reason.now (message_text result) }
+{
+    match reason {
+        Reason::Refused(refusal) => refusal_message(program, sections, input, refusal),
+        Reason::Fault(cause) => fault_message(program, *cause),
+    }
+}
+
+fn refusal_message(program: &[u8], sections: Sections, input: &[u8], refusal: &Refusal) -> Message
+    requires { length program.now ≤ 20 }
+    ensures { IsRefusalMessage program.now input.now refusal.now.line result.text.items }
+{
+    let Explained { sentence, mark } = explain(sections, input, refusal);
+    let place = Place::of_line(sections, input, refusal.line);
+    let mut message = headed(program, refusal.line, place);
+    message.add_sentence(sentence.as_slice());
+    message.add(b"\n");
+    if let Some(line) = line_at(input, refusal.line) {
+        message.add(excerpt_of(refusal.line, line, mark).as_slice());
+    }
+    message
+}
+
+// Returns the heading of a refusal.
+fn headed(program: &[u8], line: u32, place: Place) -> Message
+    requires { length program.now ≤ 20 }
+    ensures items { result.text.items ≡ heading program.now line place }
+    ensures len { array_vec_len result.text ≤ 68 }
+{
+    let mut message = Message::of_program(program);
+    if line > 0 {
+        message.add_place(line, place);
+    }
+    message
+}
+
+fn fault_message(program: &[u8], cause: FaultCause) -> Message
+    requires { length program.now ≤ 20 }
+    ensures { IsFaultMessage program.now result.text.items }
+{
+    let mut sentence = Sentence::new();
+    let _whole = write!(sentence, "{cause}");
+    let mut message = Message::of_program(program);
+    message.add_sentence(sentence.as_slice());
+    message.add(b"\n");
+    message
+}

@@ -1,0 +1,66 @@
+//! Slips in the words of sides, goals, acts and nodes.
+use crate::line_words::bytes_of;
+use crate::scene::Scene;
+use crate::section_slips::is_comment;
+use crate::slips::Slip;
+use crate::spelling::{bare, is_word, word_slip};
+use crib_cards::read_card;
+use crib_text::read_number;
+
+// What people call the two sides.
+const SIDES: [&str; 30] = [
+    "owner", "opponent", "own", "opp", "me", "i", "us", "we", "my", "mine", "self", "myself",
+    "you", "your", "they", "them", "their", "he", "him", "she", "her", "it", "other", "pone",
+    "dealer", "player", "computer", "cpu", "a", "b",
+];
+
+/// Returns the slip in a word that should be `owner` or `opponent`.
+pub(crate) fn side_slip(word: &[u8]) -> Option<Slip> {
+    if let Some(slip) = word_slip(word, &["owner", "opponent"]) {
+        return Some(slip);
+    }
+    if is_side(word) {
+        Some(Slip::Sides)
+    } else {
+        None
+    }
+}
+
+fn is_side(word: &[u8]) -> bool {
+    SIDES
+        .iter()
+        .any(|side| is_word(bare(word), side.as_bytes()))
+}
+
+/// Returns the slip in a word that should be `own` or `opp`.
+pub(crate) fn act_slip(word: &[u8]) -> Option<Slip> {
+    if is_comment(word) {
+        return Some(Slip::Comment);
+    }
+    if is_word(word, b"go") || read_card(word).is_some() {
+        return Some(Slip::ActorFirst);
+    }
+    if let Some(slip) = word_slip(word, &["own", "opp"]) {
+        return Some(slip);
+    }
+    if is_side(word) {
+        Some(Slip::Actors)
+    } else {
+        None
+    }
+}
+
+/// Returns the slip in the word behind `goal`.
+pub(crate) fn goal_slip(scene: &Scene<'_>, kind: &[u8]) -> Option<Slip> {
+    let holes = bytes_of(scene.line, 2);
+    if let Some(number) = read_number(kind) {
+        return Some(Slip::GoalHoles(number));
+    }
+    match kind {
+        b"stop" if !scene.is_second() => Some(Slip::StopNeedsSecond),
+        b"win" | b"stop" => None,
+        b"holes" if holes.is_empty() => Some(Slip::GoalNumber),
+        b"holes" => None,
+        _ => word_slip(kind, &["win", "holes", "stop"]),
+    }
+}

@@ -1,0 +1,2 @@
+pub mod PlanExamples
+pub mod PlanSheets

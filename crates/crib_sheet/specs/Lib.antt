@@ -1,0 +1,3 @@
+pub mod GameShow
+pub mod PlanSheet
+pub mod PlanSheetLaws

@@ -10,12 +10,12 @@ use Rattle.crib_problem.specs.Setup.{Setup}
 use Rattle.crib_problem.specs.Spelling.{problem_text}
 use Rattle.crib_plan.specs.declared.plan.Node.{Node}
 use Rattle.crib_plan.specs.Nodes.{most_nodes}
-use Rattle.crib_game.specs.declared.ending.Ending.{Ending}
-use Rattle.crib_game.specs.declared.ending.Ending.TheVariants as ending
+use Rattle.crib_game.specs.declared.following.ending.Ending.{Ending}
+use Rattle.crib_game.specs.declared.following.ending.Ending.TheVariants as ending
 use Rattle.crib_game.specs.declared.fault.GameFault.{GameFault}
-use Rattle.crib_game.specs.declared.game.Game.{Game}
-use Rattle.crib_game.specs.declared.report.Report.{Report}
-use Rattle.crib_game.specs.declared.report.Row.{Row}
+use Rattle.crib_game.specs.declared.section.game.Game.{Game}
+use Rattle.crib_game.specs.declared.replaying.report.Report.{Report}
+use Rattle.crib_game.specs.declared.replaying.report.Row.{Row}
 use Rattle.crib_game.specs.Replay.{game_fault, record_of, report_of, replay_result, unless_fault}
 use Rattle.crib_game.specs.Spelling.{game_text}
 use Rattle.crib_game.proofs.FollowLawProofs.{answer_law}

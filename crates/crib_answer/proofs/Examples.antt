@@ -7,9 +7,9 @@ use Rattle.crib_problem.specs.Spelling.{problem_text, problem_lines}
 use Rattle.crib_plan.specs.declared.plan.Node.{Node}
 use Rattle.crib_plan.specs.Nodes.{ArePlan}
 use Rattle.crib_plan.specs.Spelling.{plan_text, plan_lines}
-use Rattle.crib_game.specs.declared.game.Game.{Game}
-use Rattle.crib_game.specs.declared.ending.Ending.{Ending}
-use Rattle.crib_game.specs.declared.ending.Ending.TheVariants as ending
+use Rattle.crib_game.specs.declared.section.game.Game.{Game}
+use Rattle.crib_game.specs.declared.following.ending.Ending.{Ending}
+use Rattle.crib_game.specs.declared.following.ending.Ending.TheVariants as ending
 use Rattle.crib_game.specs.Spelling.{game_text, game_lines}
 use Rattle.crib_text.specs.Refusals.{no_memory}
 use Rattle.crib_check.specs.Sure.{Ends}

@@ -7,8 +7,8 @@ use Rattle.crib_show.specs.declared.outcomes.ShowRow.{ShowRow}
 use Rattle.crib_show.specs.declared.outcomes.Outcome.{Outcome}
 use Rattle.crib_show.specs.Words.{outcome_word, show_word}
 use Rattle.crib_cards.specs.Words.{side_word}
-use Rattle.crib_game.specs.declared.ending.Ending.{Ending}
-use Rattle.crib_game.specs.declared.ending.Ending.TheVariants as ending
+use Rattle.crib_game.specs.declared.following.ending.Ending.{Ending}
+use Rattle.crib_game.specs.declared.following.ending.Ending.TheVariants as ending
 use Rattle.crib_game.specs.Words.{ending_word}
 use Rattle.crib_answer.specs.Answer.{counted_line, play_line}
 use Rattle.crib_answer.specs.Private.Replies.{score_tail}

@@ -7,9 +7,9 @@ use Rattle.crib_text.specs.Refusals.{Refusal}
 use Rattle.crib_text.specs.Spelling.{line_text}
 use Rattle.crib_show.specs.declared.outcomes.ShowRow.{ShowRow}
 use Rattle.crib_show.specs.Words.{outcome_word, show_word}
-use Rattle.crib_game.specs.declared.ending.Ending.{Ending}
-use Rattle.crib_game.specs.declared.ending.Ending.TheVariants as ending
-use Rattle.crib_game.specs.declared.report.Report.{Report}
+use Rattle.crib_game.specs.declared.following.ending.Ending.{Ending}
+use Rattle.crib_game.specs.declared.following.ending.Ending.TheVariants as ending
+use Rattle.crib_game.specs.declared.replaying.report.Report.{Report}
 use Rattle.crib_game.specs.Words.{ending_word}
 use Rattle.crib_answer.specs.declared.job.Job.{Job}
 use Rattle.crib_answer.specs.declared.job.Job.TheVariants.{Replay, Follow, Check, Solve, Board}
@@ -80,7 +80,7 @@ abbrev pub found_reply : Option (List Node) → Reply
 found_reply (Some plan) = record { output = plan_text plan; status = Yes }
 found_reply None = record { output = line_text (codes "none" ∷ []); status = No }
 
--- the number of the fault for a plan that was found and has too many nodes
+-- the fault "the plan that was found has too many nodes"
 abbrev pub too_large : ℕ
 too_large = 50
 

@@ -2,9 +2,9 @@
 use Rattle.std.specs.Prelude.{◌≡◌, ℕ, List, [], ◌∷◌, map}
 use Rattle.crib_cards.specs.declared.sides.Scores.{Scores}
 use Rattle.crib_problem.specs.Setup.{Setup}
-use Rattle.crib_game.specs.declared.game.Game.{Game}
-use Rattle.crib_game.specs.declared.report.Report.{Report}
-use Rattle.crib_game.specs.declared.report.Row.{Row}
+use Rattle.crib_game.specs.declared.section.game.Game.{Game}
+use Rattle.crib_game.specs.declared.replaying.report.Report.{Report}
+use Rattle.crib_game.specs.declared.replaying.report.Row.{Row}
 use Rattle.crib_board.specs.Board.{board_of}
 use Rattle.crib_answer.specs.declared.job.Job.TheVariants.{Replay, Board}
 use Rattle.crib_answer.specs.Answer.{Answers, board_reply, report_reply}

@@ -5,8 +5,8 @@ use Rattle.crib_text.specs.Spelling.{line_text}
 use Rattle.crib_problem.specs.Setup.{Setup}
 use Rattle.crib_plan.specs.declared.plan.Node.{Node}
 use Rattle.crib_plan.specs.Spelling.{plan_text}
-use Rattle.crib_game.specs.declared.game.Game.{Game}
-use Rattle.crib_game.specs.declared.ending.Ending.{Ending}
+use Rattle.crib_game.specs.declared.section.game.Game.{Game}
+use Rattle.crib_game.specs.declared.following.ending.Ending.{Ending}
 use Rattle.crib_game.specs.Spelling.{game_text}
 use Rattle.crib_check.specs.Sure.{IsSure, GoesOn, Ends}
 use Rattle.crib_check.specs.Failing.{IsFirstFailing}

@@ -11,7 +11,7 @@ use Rattle.crib_cards.specs.declared.sides.Scores.{Scores}
 use Rattle.crib_show.specs.declared.outcomes.ShowRow.{ShowRow}
 use Rattle.crib_show.specs.declared.outcomes.Outcome.{Outcome}
 use Rattle.crib_show.specs.Words.{outcome_word, show_word}
-use Rattle.crib_game.specs.declared.report.Row.{Row}
+use Rattle.crib_game.specs.declared.replaying.report.Row.{Row}
 use Rattle.crib_problem.specs.Spelling.{move_word}
 use Rattle.crib_board.specs.Board.{hole_byte, outcome_line, right_in, row_line, row_lines, score_columns, show_line, side_column, with_space}
 use Rattle.crib_board.specs.Board.{track_line}

@@ -11,8 +11,8 @@ use Rattle.crib_know.specs.Knowledge.{played_events}
 use Rattle.crib_know.specs.Hidden.{AgreesWith, BeginsAfter}
 use Rattle.crib_know.proofs.LedHistories.{MayCome}
 use Rattle.crib_know.proofs.RecordTurns.{agrees_before, agreeing_led}
-use Rattle.crib_game.specs.declared.game.Game.{Game}
-use Rattle.crib_game.specs.declared.ending.Ending.{Ending}
+use Rattle.crib_game.specs.declared.section.game.Game.{Game}
+use Rattle.crib_game.specs.declared.following.ending.Ending.{Ending}
 use Rattle.crib_check.specs.Failing.{IsFailing}
 use Rattle.crib_check.specs.Private.Histories.{place_by, IsStatedEvent, FollowsBy, Extends, history_of_game}
 use Rattle.crib_check.proofs.PlaceByHistory.{begun_late, follows_to}

@@ -27,9 +27,9 @@ use Rattle.crib_know.proofs.CardsLeft.{own_played}
 use Rattle.crib_know.proofs.Deals.{dealt_is}
 use Rattle.crib_know.proofs.RecordTurns.{possible_led}
 use Rattle.crib_know.proofs.KnowledgeFacts.{are_taken}
-use Rattle.crib_game.specs.declared.game.Game.{Game}
-use Rattle.crib_game.specs.declared.ending.Ending.{Ending}
-use Rattle.crib_game.specs.declared.ending.Ending.TheVariants as ending
+use Rattle.crib_game.specs.declared.section.game.Game.{Game}
+use Rattle.crib_game.specs.declared.following.ending.Ending.{Ending}
+use Rattle.crib_game.specs.declared.following.ending.Ending.TheVariants as ending
 use Rattle.crib_game.specs.declared.fault.GameFault.{GameFault}
 use Rattle.crib_game.specs.Replay.{acts_back, is_done_for, full_of, record_of}
 use Rattle.crib_game.specs.Following.{place_of, is_stuck}

@@ -6,9 +6,9 @@ use Rattle.crib_cards.specs.Sets.{set_where, set_without_all}
 use Rattle.crib_cards.specs.Order.{is_before}
 use Rattle.crib_cards.specs.Deals.{deal_numbers}
 use Rattle.crib_problem.specs.Setup.{IsSetup}
-use Rattle.crib_game.specs.declared.game.Game.{Game}
-use Rattle.crib_game.specs.declared.ending.Ending.{Ending}
-use Rattle.crib_game.specs.declared.ending.Ending.TheVariants as ending
+use Rattle.crib_game.specs.declared.section.game.Game.{Game}
+use Rattle.crib_game.specs.declared.following.ending.Ending.{Ending}
+use Rattle.crib_game.specs.declared.following.ending.Ending.TheVariants as ending
 use Rattle.crib_know.specs.Knowledge.{Knowledge, knowledge_after}
 use Rattle.crib_know.specs.Hidden.{KnowsAfter, IsFirstDeal}
 use Rattle.crib_know.specs.Private.Choice.{chosen_cards}

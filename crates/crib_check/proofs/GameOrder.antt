@@ -15,7 +15,7 @@ use Rattle.crib_cards.specs.declared.letters.Letter.{Letter}
 use Rattle.crib_cards.specs.declared.moves.Move.{Move}
 use Rattle.crib_cards.specs.declared.moves.Act.{Act}
 use Rattle.crib_play.specs.History.{Event, Own, Theirs, event_by, event_of}
-use Rattle.crib_game.specs.declared.game.Game.{Game}
+use Rattle.crib_game.specs.declared.section.game.Game.{Game}
 use Rattle.crib_check.specs.Failing.{opponent_letters, comes_before}
 use Rattle.crib_check.specs.Private.Histories.{Extends, history_of_game}
 use Rattle.crib_know.proofs.CardsLeft.{eqb_same}

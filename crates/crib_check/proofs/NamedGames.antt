@@ -19,9 +19,9 @@ use Rattle.crib_plan.specs.Places.{stated_card}
 use Rattle.crib_know.specs.Hidden.{AgreesWith, IsFirstDeal}
 use Rattle.crib_know.proofs.Events.{Plays, plays_of}
 use Rattle.crib_know.proofs.Deals.{dealt_is}
-use Rattle.crib_game.specs.declared.game.Game.{Game}
-use Rattle.crib_game.specs.declared.ending.Ending.{Ending}
-use Rattle.crib_game.specs.declared.ending.Ending.TheVariants as ending
+use Rattle.crib_game.specs.declared.section.game.Game.{Game}
+use Rattle.crib_game.specs.declared.following.ending.Ending.{Ending}
+use Rattle.crib_game.specs.declared.following.ending.Ending.TheVariants as ending
 use Rattle.crib_game.specs.Replay.{acts_back, record_of}
 use Rattle.crib_game.specs.Followed.{IsRecordUnder, ending_with}
 use Rattle.crib_game.specs.Private.Judging.{full_at}

@@ -31,9 +31,9 @@ use Rattle.crib_know.specs.Knowledge.{played_events, knowledge_after}
 use Rattle.crib_know.proofs.LedHistories as hidden
 use Rattle.crib_know.specs.Hidden.{AgreesWith, BeginsAfter}
 use Rattle.crib_know.proofs.Events.{events}
-use Rattle.crib_game.specs.declared.game.Game.{Game}
-use Rattle.crib_game.specs.declared.ending.Ending.{Ending}
-use Rattle.crib_game.specs.declared.ending.Ending.TheVariants as ending
+use Rattle.crib_game.specs.declared.section.game.Game.{Game}
+use Rattle.crib_game.specs.declared.following.ending.Ending.{Ending}
+use Rattle.crib_game.specs.declared.following.ending.Ending.TheVariants as ending
 use Rattle.crib_game.specs.Replay.{acts_back, full_of, is_done_for}
 use Rattle.crib_game.specs.Following.{is_stuck}
 use Rattle.crib_game.specs.Followed.{ending_with, ending_without}

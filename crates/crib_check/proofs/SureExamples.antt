@@ -29,8 +29,8 @@ use Rattle.crib_game.specs.Following.{IsAsStated, Follows, is_stuck, place_of}
 use Rattle.crib_check.specs.Sure.{IsSure, IsFollowed, GoesOn, Ends}
 use Rattle.crib_check.specs.Verdicts.{KeepsOn}
 use Rattle.crib_check.specs.declared.verdict.Verdict.TheVariants.{Fails}
-use Rattle.crib_game.specs.declared.game.Game.{Game}
-use Rattle.crib_game.specs.declared.ending.Ending.TheVariants as ending
+use Rattle.crib_game.specs.declared.section.game.Game.{Game}
+use Rattle.crib_game.specs.declared.following.ending.Ending.TheVariants as ending
 
 -- ---- steps that stand here too, so that the examples rest on definitions alone
 has_passed : (p : ℕ → Bool) (cards : List ℕ) (card : ℕ) → list_all p cards ≡ true → has cards card ≡ true → p card ≡ true

@@ -27,9 +27,9 @@ use Rattle.crib_plan.specs.declared.plan.Node.{Node}
 use Rattle.crib_plan.specs.Places.{stated_card}
 use Rattle.crib_know.specs.Knowledge.{played_events}
 use Rattle.crib_know.proofs.Deals.{dealt_is}
-use Rattle.crib_game.specs.declared.game.Game.{Game}
-use Rattle.crib_game.specs.declared.ending.Ending.{Ending}
-use Rattle.crib_game.specs.declared.ending.Ending.TheVariants as ending
+use Rattle.crib_game.specs.declared.section.game.Game.{Game}
+use Rattle.crib_game.specs.declared.following.ending.Ending.{Ending}
+use Rattle.crib_game.specs.declared.following.ending.Ending.TheVariants as ending
 use Rattle.crib_game.specs.Replay.{full_of, is_done_for}
 use Rattle.crib_game.specs.Following.{place_of, IsAsStated, is_playable, is_stuck}
 use Rattle.crib_game.specs.Followed.{IsRecordUnder, ending_with, ending_without}

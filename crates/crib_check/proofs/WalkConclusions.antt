@@ -29,12 +29,12 @@ use Rattle.crib_plan.specs.Places.{stated_card}
 use Rattle.crib_know.specs.Knowledge.{Knowledge, asked_now, count_after, own_left}
 use Rattle.crib_know.specs.Hidden.{AgreesWith, CanDoAt, CanShow, KnowsAfter}
 use Rattle.crib_know.proofs.LedHistories.{MayCome}
-use Rattle.crib_know.proofs.OwnCalls.{own_may}
+use Rattle.crib_know.proofs.CallLemmas.{own_may}
 use Rattle.crib_know.proofs.PassingIsAgreeing.{theirs_asked, theirs_letter}
 use Rattle.crib_cards.proofs.LetterPlaces.{place_small, same_letter}
-use Rattle.crib_game.specs.declared.game.Game.{Game}
-use Rattle.crib_game.specs.declared.ending.Ending.{Ending}
-use Rattle.crib_game.specs.declared.ending.Ending.TheVariants as ending
+use Rattle.crib_game.specs.declared.section.game.Game.{Game}
+use Rattle.crib_game.specs.declared.following.ending.Ending.{Ending}
+use Rattle.crib_game.specs.declared.following.ending.Ending.TheVariants as ending
 use Rattle.crib_game.specs.Replay.{acts_back}
 use Rattle.crib_game.specs.Followed.{ending_with, ending_without}
 use Rattle.crib_play.specs.Fitting.{fits_at}

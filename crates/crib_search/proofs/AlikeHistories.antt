@@ -26,9 +26,9 @@ use Rattle.crib_know.proofs.LedHistories.{IsLed}
 use Rattle.crib_know.proofs.ChosenRanks.{ranks_of}
 use Rattle.crib_know.proofs.CardsLeft.{filter_present_by, has-filter_parts, has-filter_from, remaining}
 use Rattle.crib_know.proofs.CardLists.{count_here, count_map, found_by}
-use Rattle.crib_know.proofs.AgreeingIsPassing.{MightPlay, MightGo}
-use Rattle.crib_know.proofs.PassingIsAgreeing.{can_play_might, can_go_might}
-use Rattle.crib_know.proofs.KnowledgeFacts.{shows_play, shows_pass}
+use Rattle.crib_know.proofs.AgreeingIsPassing.{Might}
+use Rattle.crib_know.proofs.PassingIsAgreeing.{can_might}
+use Rattle.crib_know.proofs.KnowledgeFacts.{shows}
 use Rattle.crib_search.proofs.Options.{IsOption}
 use Rattle.crib_cards.proofs.Members.{distinct_left}
 use Rattle.crib_cards.proofs.SetCounts.{count_cons}
@@ -157,8 +157,8 @@ module _ (problem : Setup) where
     pub asked_alike : asked_now problem one ≡ asked_now problem other
     asked_alike = ap (λ (letters : List Letter). asked_after (start_of problem) (filled_record (start_of problem) letters)) (letters_alike one other alike)
 
-    might_play : (rank : ℕ) → MightPlay problem one rank → MightPlay problem other rank
-    might_play rank might =
+    might_alike : (letter : Letter) → Might problem one letter → Might problem other letter
+    might_alike (Seen rank) might =
         let fit = might.fits in
         let high = might.high in
         let count = count_alike one other alike in
@@ -171,13 +171,10 @@ module _ (problem : Setup) where
           free = let F : List ℕ → Type 0 = λ ranks. ranks_of ranks rank < count_rank rank (unseen_of problem) in
               subst F (theirs_alike one other alike) might.free;
         }
-
-    might_go : MightGo problem one → MightGo problem other
-    might_go might =
+    might_alike Go might =
         let high = might.high in
         let count = count_alike one other alike in
         record { asked = sym asked_alike ∙ might.asked; high = omega (arith, high, count) }
 
     pub show_alike : BeginsAfter problem other → (letter : Letter) → CanShow problem one letter → CanShow problem other letter
-    show_alike begun (Seen rank) can = shows_play problem setup other led_other begun rank (might_play rank (can_play_might problem setup one rank can))
-    show_alike begun Go can = shows_pass problem setup other led_other begun (might_go (can_go_might problem setup one can))
+    show_alike begun letter can = shows problem setup other led_other begun letter (might_alike letter (can_might problem setup one letter can))

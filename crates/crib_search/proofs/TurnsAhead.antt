@@ -24,7 +24,7 @@ use Rattle.crib_know.specs.Knowledge.{knowledge_after, asked_now}
 use Rattle.crib_know.specs.Private.Knowledge.{at_first_lead}
 use Rattle.crib_know.proofs.OpeningLawProofs.{setup_at_first_lead, begun_at_first_lead}
 use Rattle.crib_know.proofs.LedHistories.{IsLed}
-use Rattle.crib_know.proofs.PassingIsAgreeing.{can_play_might, can_go_might}
+use Rattle.crib_know.proofs.PassingIsAgreeing.{can_might}
 use Rattle.crib_know.proofs.KnowledgeFacts.{are_taken, high_own_go}
 use Rattle.crib_search.specs.Private.Ahead.{turns_ahead_at, turns_ahead}
 use Rattle.crib_play.proofs.ActSteps.{begun_count}
@@ -162,6 +162,6 @@ turn_falls problem setup (Own move.Go) history led =
     less_after problem setup history led.0 Owner Go led.1.0 (high_own_go (at_first_lead problem) (setup_at_first_lead problem setup) history
     (led_bare problem history led.0) (begun_at_first_lead problem history) led.1)
 turn_falls problem setup (Theirs (Seen rank)) history led =
-    let might = can_play_might problem setup history rank led.1 in less_after problem setup history led.0 Opponent (Seen rank) might.asked might.fits
+    let might = can_might problem setup history (Seen rank) led.1 in less_after problem setup history led.0 Opponent (Seen rank) might.asked might.fits
 turn_falls problem setup (Theirs Go) history led =
-    let might = can_go_might problem setup history led.1 in less_after problem setup history led.0 Opponent Go might.asked might.high
+    let might = can_might problem setup history Go led.1 in less_after problem setup history led.0 Opponent Go might.asked might.high

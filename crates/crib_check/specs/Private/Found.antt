@@ -4,7 +4,7 @@ use Rattle.crib_cards.specs.declared.sides.Dealt.{Dealt}
 use Rattle.crib_play.specs.History.{Event}
 use Rattle.crib_problem.specs.Setup.{Setup, played_back}
 use Rattle.crib_plan.specs.declared.plan.Node.{Node}
-use Rattle.crib_game.specs.declared.game.Game.{Game}
+use Rattle.crib_game.specs.declared.section.game.Game.{Game}
 use Rattle.crib_game.specs.Replay.{acts_back}
 use Rattle.crib_check.specs.declared.keys.Key.{Key}
 use Rattle.crib_check.specs.declared.failure.Failure.{Failure}

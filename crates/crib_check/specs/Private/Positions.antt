@@ -13,8 +13,8 @@ use Rattle.crib_play.specs.History.{Event, Own}
 use Rattle.crib_problem.specs.Setup.{Setup}
 use Rattle.crib_plan.specs.declared.plan.Node.{Node}
 use Rattle.crib_know.specs.Hidden.{AgreesWith, CanDoAt, KnowsAfter}
-use Rattle.crib_game.specs.declared.game.Game.{Game}
-use Rattle.crib_game.specs.declared.ending.Ending.{Ending}
+use Rattle.crib_game.specs.declared.section.game.Game.{Game}
+use Rattle.crib_game.specs.declared.following.ending.Ending.{Ending}
 use Rattle.crib_game.specs.Replay.{acts_back}
 use Rattle.crib_cards.specs.Deals.{deal_numbers, is_in_pack_order}
 use Rattle.crib_check.specs.declared.keys.Key.{Key}

@@ -1,5 +1,6 @@
 pub mod Lines
 pub mod OwedReplies
+pub mod Reasons
 pub mod Replies
 pub mod ToldAnswers
 pub mod CutShortInputs

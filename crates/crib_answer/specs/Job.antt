@@ -1,6 +1,8 @@
--- The names of the jobs.
+-- The names of the jobs, and what their inputs have.
 use Rattle.std.specs.Prelude.{ℕ, List, [], ◌∷◌, Result, codes, find, map, ok_or}
 use Rattle.std.specs.Str.{bytes_eq}
+use Rattle.crib_input.specs.declared.sections.Sections.{Sections}
+use Rattle.crib_input.specs.declared.sections.Sections.TheVariants.{Problem, Question, Played, PlayedUnder}
 use Rattle.crib_answer.specs.declared.job.Job.{Job}
 use Rattle.crib_answer.specs.declared.job.Job.TheVariants.{Replay, Follow, Check, Solve, Board}
 use Rattle.crib_answer.specs.declared.job.UnknownJob.{UnknownJob}
@@ -24,3 +26,11 @@ job_names = map name_of all_jobs
 -- the job with a name, or an error if no job has this name
 abbrev pub job_called : List ℕ → Result Job UnknownJob
 job_called text = ok_or (find (λ job. bytes_eq text (name_of job)) all_jobs) (record {})
+
+-- the sections that the input of a job has to have
+abbrev pub sections_of : Job → Sections
+sections_of Replay = Played
+sections_of Follow = PlayedUnder
+sections_of Check = Question
+sections_of Solve = Problem
+sections_of Board = Played

@@ -1,7 +1,8 @@
 //! The jobs that the program can do.
 ghost use Rattle.std.specs.Prelude.{◌≡◌};
-ghost use Rattle.crib_answer.specs.Job.{job_called};
+ghost use Rattle.crib_answer.specs.Job.{job_called, sections_of};
 
+use crib_input::Sections;
 use std::str::FromStr;
 use thiserror::Error;
 
@@ -32,6 +33,20 @@ const BOARD: &str = "board";
 
 /// The names of the jobs, in the order in which the help text lists them.
 pub static NAMES: [&str; 5] = [CHECK, SOLVE, REPLAY, BOARD, FOLLOW];
+
+impl Job {
+    /// Returns the sections that the input of the job has to have.
+    pub fn sections(self) -> Sections
+        ensures { result ≡ sections_of self }
+    {
+        match self {
+            Job::Solve => Sections::Problem,
+            Job::Check => Sections::Question,
+            Job::Replay | Job::Board => Sections::Played,
+            Job::Follow => Sections::PlayedUnder,
+        }
+    }
+}
 
 /// The error of a word that is not the name of a job.
 #[derive(Clone, Copy, Debug, PartialEq, Eq, Error)]

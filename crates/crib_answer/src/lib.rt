@@ -6,6 +6,7 @@ mod ending;
 mod job;
 mod laws;
 mod passed;
+mod reason;
 mod report;
 mod solve;
 mod verdict;
@@ -13,6 +14,7 @@ mod verdict;
 pub use answering::answer_to;
 pub use job::{Job, NAMES, UnknownJob};
 pub use laws::{agreement_law, check_law, reply_law, solve_law};
+pub use reason::reason_of;
 
 #[cfg(test)]
 mod tests;

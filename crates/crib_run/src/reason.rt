@@ -11,6 +11,9 @@ pub enum FaultCause {
     /// 9: the reader failed, or the 8,400,000 calls of reading ran out.
     #[error("the input can't be read")]
     ReadFailed,
+    /// 10: the writer failed, or the 8,400,000 calls of writing ran out. The number is not printed.
+    #[error("the answer can't be written")]
+    WriteFailed,
     /// 11: an allocation failed.
     #[error("out of memory")]
     NoMemory,
@@ -20,25 +23,26 @@ pub enum FaultCause {
 }
 
 impl FaultCause {
-    /// Returns the number of the fault, which the program prints.
+    /// Returns the number of the fault (docs/FORMATS.md, "Faults").
     pub fn number(self) -> u8
         ensures { result ≡ fault_number self }
     {
         match self {
             FaultCause::ReadFailed => 9,
+            FaultCause::WriteFailed => 10,
             FaultCause::NoMemory => 11,
             FaultCause::TooLarge => 50,
         }
     }
 }
 
-/// Why there is no answer to the question: the input is refused, or there is a fault.
+/// Why a question has no answer: the input is refused, or there is a fault.
 #[derive(Clone, Copy, Debug, PartialEq, Eq, Error)]
 pub enum Reason {
     /// The input is refused.
     #[error(transparent)]
     Refused(Refusal),
-    /// The input was not read, or its answer was not found.
+    /// The input was not read, or its answer was not found or not written.
     #[error(transparent)]
     Fault(FaultCause),
 }

@@ -1,0 +1,11 @@
+use Rattle.std.proofs.Common.{refl}
+use Rattle.crib_answer.proofs.OwedReplies.{long_answers}
+use Rattle.crib_answer.proofs.Reasons.{of_game}
+use Rattle.crib_answer.proofs.reason.refusal_in.Goals as goal
+
+pub returns-then-input-gt-MAX_INPUT : goal.returns-then-input-gt-MAX_INPUT
+returns-then-input-gt-MAX_INPUT g c =
+    long_answers c.args.job c.args.input.now _ c.if-input-gt-MAX_INPUT.true (rw (c.from.ensures, c.of_input.ensures) refl)
+
+pub returns-in-Replay : goal.returns-in-Replay
+returns-in-Replay g c = of_game c.args.job c.args.input.now c.game_refusal.result c.in-Replay.is c.game_refusal.ensures

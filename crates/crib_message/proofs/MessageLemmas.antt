@@ -1,5 +1,7 @@
 -- Lemmas about the text of a message, which is appended piece by piece.
-use Rattle.std.proofs.Common.{◌≡◌, ℕ, ◌++◌, List, [], ◌∷◌, refl, ap, ◌∙◌, append_assoc}
+use Rattle.std.proofs.Common.{◌≡◌, ℕ, ◌++◌, List, [], ◌∷◌, length, take, Option, Result, Ok, Err, OnOk, IfErr, refl, sym, subst, ap, ◌∙◌, append_assoc}
+use Rattle.std.proofs.Math.Seq.{take-length}
+use Rattle.std.specs.Io.KnownBytes.{Appends}
 use Rattle.std.specs.Prelude.{Some, None, MatchOption}
 use Rattle.crib_text.specs.Spelling.{line_feed}
 use Rattle.crib_message.specs.Message.{numbered_line, IsExcerpt}
@@ -30,3 +32,9 @@ shows_none input excerpt number e is = rw e is
 pub nothing_added : (bytes : List ℕ) → bytes ≡ bytes ++ []
 nothing_added [] = refl
 nothing_added (byte ∷ bytes) = ap (λ (xs : List ℕ). byte ∷ xs) (nothing_added bytes)
+
+-- what was sent of some bytes is a beginning of them
+pub sent_part : {E : Type 0} (sent : E → ℕ) (result : Result (Unit {0}) E) (old new : Option (List ℕ)) (bytes : List ℕ) → OnOk result (Appends old new bytes)
+    → IfErr result (λ stopped. Appends old new (take (sent stopped) bytes)) → (count : ℕ) × Appends old new (take count bytes)
+sent_part sent (Ok done) old new bytes all part = (length bytes, subst (λ (b : List ℕ). Appends old new b) (sym (take-length bytes)) all)
+sent_part sent (Err stopped) old new bytes all part = (sent stopped, part)

@@ -1,6 +1,7 @@
 -- The message of a refusal or a fault.
 use Rattle.std.specs.Prelude.{◌≡◌, ◌-◌, ◌/◌, ◌%◌, ℕ, Bool, true, List, [], ◌∷◌, ◌++◌, codes, decimal, flat_map}
-use Rattle.std.specs.Prelude.{Option, None, MatchOption, All, nat_le, ◌&&◌, ◌==◌, if◌then◌else◌, slice_get, slice_index}
+use Rattle.std.specs.Prelude.{Option, None, MatchOption, All, nat_le, ◌&&◌, ◌==◌, if◌then◌else◌, slice_get, slice_index, take}
+use Rattle.std.specs.Io.KnownBytes.{Appends}
 use Rattle.crib_text.specs.Spelling.{line_feed}
 use Rattle.crib_text.specs.Words.{lines_of}
 use Rattle.crib_input.specs.Refusals.{refusal_of}
@@ -92,3 +93,8 @@ abbrev pub IsMessage : List ℕ → List ℕ → Reason → List ℕ → Type 0
 IsMessage program input (Refused refusal) text =
     IsRefusalMessage program input (refusal_of refusal).line text
 IsMessage program input (Fault _) text = IsFaultMessage program text
+
+-- a message is written to a device, or a beginning of it
+abbrev pub Says : List ℕ → List ℕ → Reason → Option (List ℕ) → Option (List ℕ) → Type 0
+Says program input reason old new =
+    (text : List ℕ) × (sent : ℕ) × IsMessage program input reason text × Appends old new (take sent text)

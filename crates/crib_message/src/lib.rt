@@ -24,6 +24,7 @@ mod plans;
 mod problem_words;
 mod rows;
 mod said;
+mod saying;
 mod scene;
 mod section_slips;
 mod sentence;
@@ -37,6 +38,7 @@ mod word_slips;
 mod words;
 
 pub use message::{Message, message_of};
+pub use saying::say;
 
 #[cfg(test)]
 mod tests;

@@ -26,7 +26,8 @@ impl Message {
     /// Returns the bytes of the message.
     #[tactic(auto, unfolding(crate::specs::Message::message_text))]
     pub fn as_slice(&self) -> &[u8]
-        ensures { result.now ≡ message_text self.now }
+        ensures text { result.now ≡ message_text self.now }
+        ensures short { length result.now ≤ 1000 }
     {
         self.text.as_slice()
     }

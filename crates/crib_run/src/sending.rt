@@ -3,13 +3,16 @@ ghost use Rattle.std.specs.Prelude.{◌≡◌};
 ghost use Rattle.crib_text.specs.Device.{HasFailed};
 ghost use Rattle.crib_text.specs.Refusals.{no_memory};
 ghost use Rattle.crib_text.specs.Transfer.{IsReadingFault};
+ghost use Rattle.crib_run.specs.Reason.{reason_reply};
 ghost use Rattle.crib_run.specs.Reply.{fault_reply, reply_of};
 ghost use Rattle.crib_run.specs.Run.{Sends, unread_reply};
 
 use crate::answer::Answer;
 use crate::faults::{memory_answer, read_fault_answer};
+use crate::reason::{FaultCause, Reason};
 use crate::refusal::too_long_answer;
 use crate::status::Status;
+use crib_input::Refusal;
 use crib_text::{Sink, TextCause, TextFault, put};
 use std::alloc::{Allocator, Global};
 
@@ -23,6 +26,18 @@ pub fn unread_answer<A: Allocator>(fault: TextFault) -> Answer<A>
         TextCause::ReadFault => read_fault_answer(),
         TextCause::NoMemory => memory_answer(),
         _ => too_long_answer(),
+    }
+}
+
+/// Returns the reason why no whole input was read.
+pub fn unread_reason(fault: TextFault) -> Reason
+    requires { IsReadingFault fault }
+    ensures { reason_reply result ≡ unread_reply fault.cause }
+{
+    match fault.cause {
+        TextCause::ReadFault => Reason::Fault(FaultCause::ReadFailed),
+        TextCause::NoMemory => Reason::Fault(FaultCause::NoMemory),
+        _ => Reason::Refused(Refusal::from(TextFault::of_input(TextCause::TooLong))),
     }
 }
 

@@ -1,9 +1,8 @@
 -- The place of a plan after a record depends on the history alone, and so does whether the record follows the plan.
-use Rattle.std.proofs.Common.{◌≡◌, ℕ, zero, suc, ◌<◌, ◌≤◌, Bool, true, false, cond, List, [], ◌∷◌, map, length, length-append, is_some, refl, sym, ap, subst}
+use Rattle.std.proofs.Common.{◌≡◌, ℕ, ◌≤◌, Bool, true, false, cond, leb, List, [], ◌∷◌, map, length, length-append, refl, sym, ap, subst}
 use Rattle.std.proofs.Common.{◌∙◌, inl, inr, arith}
-use Rattle.std.specs.Prelude.{slice_get}
 use Rattle.std.proofs.lemmas.List.{length-map, length-reverse}
-use Rattle.std.proofs.lemmas.Bool.{cases_Bool, cond-true, cond-false, both_ways}
+use Rattle.std.proofs.lemmas.Bool.{cases_Bool, cond-true, cond-false, both_ways, le-leb, lt-leb}
 use Rattle.crib_cards.specs.Letters.{letter_of}
 use Rattle.crib_cards.specs.declared.sides.Side.{Side}
 use Rattle.crib_cards.specs.declared.sides.Side.TheVariants.{Owner, Opponent}
@@ -21,34 +20,22 @@ use Rattle.crib_plan.specs.Places.{plan_start}
 use Rattle.crib_problem.specs.Setup.{Setup, played_back}
 use Rattle.crib_know.specs.Knowledge.{played_events}
 use Rattle.crib_know.specs.Hidden.{BeginsAfter}
-use Rattle.crib_game.specs.Replay.{next_played}
-use Rattle.crib_game.specs.Following.{place_after_turn, place_of, IsAsStated, Follows}
-use Rattle.crib_check.specs.Private.Histories.{is_early, place_after_event, place_by, IsStatedEvent, FollowsBy}
-
--- a history as long as the opening is not shorter than it
-pub past_played : {A : Type 0} (listed : List A) (n : ℕ) → length listed ≤ n → is_some (slice_get listed n) ≡ false
-past_played [] n enough = refl
-past_played (x ∷ xs) zero enough = absurd (omega arith)
-past_played (x ∷ xs) (suc n) enough = past_played xs n (omega arith)
-
-at_played : {A : Type 0} (listed : List A) (n : ℕ) → n < length listed → is_some (slice_get listed n) ≡ true
-at_played [] n less = absurd (omega arith)
-at_played (x ∷ xs) zero less = refl
-at_played (x ∷ xs) (suc n) less = at_played xs n (omega arith)
+use Rattle.crib_game.specs.Following.{opening_is_over, place_after_turn, place_of, IsAsStated, Follows}
+use Rattle.crib_check.specs.Private.Histories.{is_late, place_after_event, place_by, IsStatedEvent, FollowsBy}
 
 -- during the opening the plan stays at its start, and no card need be stated
 early_place : (plan : List Node) (played : List Act) (history : List Event) → length history ≤ length played → place_by plan played history ≡ plan_start plan
 early_place plan played [] most = refl
 early_place plan played (event ∷ history) most =
-    cond-true (is_early played history) (place_by plan played history) (place_after_event plan (place_by plan played history) event)
-    (at_played played (length history) (omega arith))
+    cond-false (is_late played history) (place_after_event plan (place_by plan played history) event) (place_by plan played history)
+    (lt-leb (length played) (length history) (omega arith))
     ∙ early_place plan played history (omega arith)
 
 early_follows : (plan : List Node) (played : List Act) (history : List Event) → length history ≤ length played → FollowsBy plan played history
 early_follows plan played [] most = tt
 early_follows plan played (event ∷ history) most = (
   early_follows plan played history (omega arith),
-  λ late. absurd (both_ways (is_early played history) late (at_played played (length history) (omega arith))),
+  λ late. absurd (both_ways (is_late played history) (lt-leb (length played) (length history) (omega arith)) late),
 )
 
 played_long : (problem : Setup) → length (played_events problem) ≡ length problem.played
@@ -60,17 +47,17 @@ place_at_start plan problem = (let long = played_long problem in early_place pla
 pub follows_at_start : (plan : List Node) (problem : Setup) → FollowsBy plan problem.played (played_events problem)
 follows_at_start plan problem = (let long = played_long problem in early_follows plan problem.played (played_events problem) (omega (arith, long)))
 
-pub begun_late : (problem : Setup) (history : List Event) → BeginsAfter problem history → is_early problem.played history ≡ false
+pub begun_late : (problem : Setup) (history : List Event) → BeginsAfter problem history → is_late problem.played history ≡ true
 begun_late problem history begun =
     let long = ap length begun.parts ∙ length-append begun.later (played_events problem) in
     let same = played_long problem in
-    past_played problem.played (length history) (omega (arith, long, same))
+    le-leb (length problem.played) (length history) (omega (arith, long, same))
 
 -- a turn after the opening moves the place
 pub place_later : (plan : List Node) (problem : Setup) (event : Event) (history : List Event) → BeginsAfter problem history →
     place_by plan problem.played (event ∷ history) ≡ place_after_event plan (place_by plan problem.played history) event
 place_later plan problem event history begun =
-    cond-false (is_early problem.played history) (place_by plan problem.played history) (place_after_event plan (place_by plan problem.played history) event)
+    cond-true (is_late problem.played history) (place_after_event plan (place_by plan problem.played history) event) (place_by plan problem.played history)
     (begun_late problem history begun)
 
 module _ (plan : List Node) (given : List Act) (pone : Side) where
@@ -94,11 +81,11 @@ module _ (plan : List Node) (given : List Act) (pone : Side) where
   history_silent turn past v = ap (map event_of) (acts_silent pone turn past v)
 
   -- whether the opening is over after a record
-  abbrev early : List Move → Bool
-  early past = is_some (next_played given pone past)
+  abbrev over : List Move → Bool
+  over past = opening_is_over given pone past
 
-  early_is : (past : List Move) → early past ≡ is_early given (history_of pone past)
-  early_is past = ap (λ (n : ℕ). is_some (slice_get given n)) (sym (length-map (acts_of pone past) event_of))
+  over_is_late : (past : List Move) → over past ≡ is_late given (history_of pone past)
+  over_is_late past = ap (λ (n : ℕ). leb (length given) n) (sym (length-map (acts_of pone past) event_of))
 
   abbrev moved : Next → Move → List Move → Next
   moved place turn past = place_after_turn plan (mover pone (letters_of past)) turn (is_visible pone (letter_of turn) (letters_of past)) place
@@ -116,14 +103,14 @@ module _ (plan : List Node) (given : List Act) (pone : Side) where
       let before = place_history past in
       elim (cases_Bool b) [
         | inl v ↦
-            ap (λ (visible : Bool). cond (early past) here (place_after_turn plan m turn visible here)) v
-            ∙ ap (λ (place : Next). cond (early past) here place) (visible_place m turn here)
-            ∙ (λ i. cond (early_is past i) (before i) (place_after_event plan (before i) (event_by m turn)))
+            ap (λ (visible : Bool). cond (over past) (place_after_turn plan m turn visible here) here) v
+            ∙ ap (λ (place : Next). cond (over past) place here) (visible_place m turn here)
+            ∙ (λ i. cond (over_is_late past i) (place_after_event plan (before i) (event_by m turn)) (before i))
             ∙ ap (place_by plan given) (sym (history_visible turn past v))
         | inr v ↦
-            ap (λ (visible : Bool). cond (early past) here (place_after_turn plan m turn visible here)) v
-            ∙ ap (λ (place : Next). cond (early past) here place) (silent_place m turn past here v)
-            ∙ same_either (early past) here
+            ap (λ (visible : Bool). cond (over past) (place_after_turn plan m turn visible here) here) v
+            ∙ ap (λ (place : Next). cond (over past) place here) (silent_place m turn past here v)
+            ∙ same_either (over past) here
             ∙ before
             ∙ ap (place_by plan given) (sym (history_silent turn past v))
       ]
@@ -152,7 +139,7 @@ module _ (plan : List Node) (given : List Act) (pone : Side) where
       elim (cases_Bool (is_visible pone (letter_of turn) (letters_of past))) [
         | inl v ↦
             subst F (sym (history_visible turn past v))
-            (before, λ late. subst S (place_history past) (stated_to m turn (place_of plan given pone past) (follows.1 (early_is past ∙ late))))
+            (before, λ late. subst S (place_history past) (stated_to m turn (place_of plan given pone past) (follows.1 (over_is_late past ∙ late))))
         | inr v ↦ subst F (sym (history_silent turn past v)) before
       ]
 
@@ -166,7 +153,7 @@ module _ (plan : List Node) (given : List Act) (pone : Side) where
         | inl v ↦
             let both : FollowsBy plan given (event_by m turn ∷ history_of pone past) = subst F (history_visible turn past v) follows in (
               follows_from past both.0,
-              λ late. stated_from m turn (place_of plan given pone past) (subst S (sym (place_history past)) (both.1 (sym (early_is past) ∙ late))),
+              λ late. stated_from m turn (place_of plan given pone past) (subst S (sym (place_history past)) (both.1 (sym (over_is_late past) ∙ late))),
             )
         | inr v ↦ (follows_from past (subst F (history_silent turn past v) follows), λ late. stated_silent m turn past (place_of plan given pone past) v)
       ]

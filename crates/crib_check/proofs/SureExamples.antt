@@ -2,7 +2,7 @@
 -- After an ace the owner's ace makes a pair and 31. After a go his two makes 31.
 use Rattle.std.proofs.Common.{arith, ◌≡◌, ◌⊎◌, ◌<◌, refl, sym, ap, ◌∙◌, subst, inl, inr, ℕ, Bool, true, false, eqb, not, ◌||◌, cond}
 use Rattle.std.proofs.Common.{List, [], ◌∷◌, ◌++◌, length, filter, replicate, Option, Some, None}
-use Rattle.std.specs.Prelude.{IsTrue, IsFalse, is_some, if◌then◌else◌}
+use Rattle.std.specs.Prelude.{IsTrue, IsFalse, if◌then◌else◌}
 use Rattle.std.specs.List.{list_all, list_any}
 use Rattle.std.proofs.lemmas.Bool.{both_ways, cases_Bool, eqb-true, eq-eqb, and_parts, or_cases, or_left, or_right}
 use Rattle.crib_cards.specs.Sets.{has, set_where}
@@ -24,8 +24,8 @@ use Rattle.crib_problem.specs.Setup.{Setup, IsDealOf, start_of, hands_of, played
 use Rattle.crib_plan.specs.declared.plan.Next.TheVariants.{End, To}
 use Rattle.crib_plan.specs.declared.plan.Node.{Node}
 use Rattle.crib_plan.specs.declared.plan.Node.TheVariants.{Play, See}
-use Rattle.crib_game.specs.Replay.{next_played, is_done_for, full_of}
-use Rattle.crib_game.specs.Following.{IsAsStated, Follows, is_stuck, place_of}
+use Rattle.crib_game.specs.Replay.{is_done_for, full_of}
+use Rattle.crib_game.specs.Following.{opening_is_over, IsAsStated, Follows, is_stuck, place_of}
 use Rattle.crib_check.specs.Sure.{IsSure, IsFollowed, GoesOn, Ends}
 use Rattle.crib_check.specs.Verdicts.{KeepsOn}
 use Rattle.crib_check.specs.declared.verdict.Verdict.TheVariants.{Fails}
@@ -180,7 +180,7 @@ stated number card e = ap number_in e
 
 abbrev AsPlanned : Move → List Move → Type 0
 AsPlanned turn past =
-    IsFalse (is_some (next_played at_29.played Owner past)) →
+    IsTrue (opening_is_over at_29.played Owner past) →
     IsAsStated ace_or_two (place_of ace_or_two at_29.played Owner past) (mover Owner (letters_of past)) turn
 
 further : (dealt : Dealt) (turn : Move) (past : List Move) → IsDealOf at_29 dealt → Course past →

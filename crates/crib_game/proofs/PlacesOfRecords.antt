@@ -1,7 +1,7 @@
 -- The place of a plan along a filled record, and the visible turns that do not stray.
 use Rattle.std.proofs.Common.{◌≡◌, ℕ, zero, suc, Bool, true, false, cond, not, eqb, List, [], ◌∷◌, Option, Some, None, refl, sym, ap, ◌∙◌, inl, inr}
 use Rattle.std.specs.Prelude.{is_some}
-use Rattle.std.proofs.lemmas.Bool.{cases_Bool, eq-eqb, eqb-true, not-false}
+use Rattle.std.proofs.lemmas.Bool.{cases_Bool, eq-eqb, eqb-true, not-true, not-false}
 use Rattle.crib_cards.specs.Letters.{letter_of}
 use Rattle.crib_cards.specs.Start.{Start, pone_of}
 use Rattle.crib_cards.specs.declared.sides.Side.{Side}
@@ -19,12 +19,13 @@ use Rattle.crib_plan.specs.declared.plan.Next.{Next}
 use Rattle.crib_plan.specs.declared.plan.Node.{Node}
 use Rattle.crib_plan.specs.Places.{stated_card}
 use Rattle.crib_game.specs.Laws.{NoneStrays}
-use Rattle.crib_game.specs.Following.{place_after_turn, place_of, IsAsStated, Follows}
+use Rattle.crib_game.specs.Following.{place_after_turn, opening_is_over, place_of, IsAsStated, Follows}
 use Rattle.crib_cards.specs.declared.moves.Act.{Act}
 use Rattle.crib_problem.specs.Setup.{Setup, start_of}
 use Rattle.crib_game.specs.declared.replaying.remark.Remark.TheVariants.{Fine, Astray}
 use Rattle.crib_game.specs.Replay.{remark_of, next_played, by_rules}
 use Rattle.crib_game.specs.Followed.{is_stated, strays_at, by_plan}
+use Rattle.crib_game.proofs.OpeningEnds.{over_is}
 
 -- ---- the place
 -- a silent go leaves the place
@@ -33,9 +34,9 @@ go_stays plan Owner visible place unseen = refl
 go_stays plan Opponent true place unseen = cc
 go_stays plan Opponent false place unseen = refl
 
-either : (b : Bool) (place other : Next) → other ≡ place → cond b place other ≡ place
-either true place other e = refl
-either false place other e = e
+either : (b : Bool) (place other : Next) → other ≡ place → cond b other place ≡ place
+either true place other e = e
+either false place other e = refl
 
 pub place_gos : (n : ℕ) (plan : List Node) (played : List Act) (start : Start) (past : List Move) →
     place_of plan played (pone_of start) (with_silent_moves n start past) ≡ place_of plan played (pone_of start) past
@@ -46,11 +47,15 @@ place_gos (suc n) plan played start past =
       | inl s ↦
           ap (place_of plan played pone) (silent_go n start past s)
           ∙ place_gos n plan played start (move.Go ∷ past)
-          ∙ either (is_some (next_played played pone past)) (place_of plan played pone past) (place_after_turn plan (mover pone (letters_of past)) move.Go
+          ∙ either (opening_is_over played pone past) (place_of plan played pone past) (place_after_turn plan (mover pone (letters_of past)) move.Go
           (is_visible pone Go (letters_of past)) (place_of plan played pone past))
           (go_stays plan (mover pone (letters_of past)) (is_visible pone Go (letters_of past)) (place_of plan played pone past) (silent_unheard start past s))
       | inr s ↦ ap (place_of plan played pone) (silent_stop (suc n) start past s)
     ]
+
+turned : (b : Bool) (place other : Next) → cond b place other ≡ cond (not b) other place
+turned true place other = refl
+turned false place other = refl
 
 -- a visible turn after the opening moves the place
 pub place_more : (plan : List Node) (played : List Act) (start : Start) (side : Side) (turn : Move) (seen : List Move) →
@@ -63,6 +68,10 @@ place_more plan played start side turn seen is visible =
     let past = filled_moves start seen in
     let here = place_of plan played (pone_of start) past in
     (λ i. cond (is_some (next_played played (pone_of start) past)) here (place_after_turn plan (is i) turn (sym visible i) here))
+    ∙ turned (is_some (next_played played (pone_of start) past)) here (place_after_turn plan (mover (pone_of start) (letters_of past)) turn
+    (is_visible (pone_of start) (letter_of turn) (letters_of past)) here)
+    ∙ (λ i. cond (sym (over_is played (pone_of start) past) i) (place_after_turn plan (mover (pone_of start) (letters_of past)) turn
+    (is_visible (pone_of start) (letter_of turn) (letters_of past)) here) here)
     ∙ sym (place_gos 3 plan played start (turn ∷ past))
 
 -- ---- what is stated
@@ -103,13 +112,17 @@ module _ (problem : Setup) (plan : List Node) where
   abbrev pone : Side
   pone = pone_of (start_of problem)
 
+  -- no turn of an opening that is over comes next
+  none_left : (past : List Move) → opening_is_over problem.played pone past ≡ true → is_some (next_played problem.played pone past) ≡ false
+  none_left past over = not-true (is_some (next_played problem.played pone past)) (sym (over_is problem.played pone past) ∙ over)
+
   pub follows_from : (played : List Move) → NoneStrays (by_plan plan problem) pone played → Follows plan problem.played pone played
   follows_from [] none = tt
   follows_from (turn ∷ past) none = (
     follows_from past none.0,
-    λ later. as_stated plan (place_of plan problem.played pone past) pone (mover pone (letters_of past)) turn past
+    λ over. as_stated plan (place_of plan problem.played pone past) pone (mover pone (letters_of past)) turn past
         (λ seen. not_astray (next_played problem.played pone past) (strays_at plan (place_of plan problem.played pone past) (mover pone (letters_of past))
-        turn) (act_by pone turn past) (none.1 seen) later),
+        turn) (act_by pone turn past) (none.1 seen) (none_left past over)),
   )
 
   pub as_played_from : (played : List Move) → NoneStrays (by_plan plan problem) pone played → NoneStrays (by_rules problem) pone played
@@ -127,5 +140,6 @@ module _ (problem : Setup) (plan : List Node) where
     none_strays_from past follows.0 none.0,
     λ seen. plan_fine (next_played problem.played pone past) (strays_at plan (place_of plan problem.played pone past) (mover pone (letters_of past)) turn)
         (act_by pone turn past) (none.1 seen)
-        (λ later. not_strays plan (place_of plan problem.played pone past) (mover pone (letters_of past)) turn (follows.1 later)),
+        (λ later. not_strays plan (place_of plan problem.played pone past) (mover pone (letters_of past)) turn
+        (follows.1 (over_is problem.played pone past ∙ ap not later))),
   )

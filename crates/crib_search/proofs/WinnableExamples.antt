@@ -1,0 +1,183 @@
+-- A worked example of problems that are winnable, and of one that isn't. The opening is 2C, own 6C, 4C, own JH, and a go of each side at 22, so the opponent
+-- leads one of the ten-cards. No plan is sure, since a plan can't tell JC from JS. But after each of these two a plan is sure.
+use Rattle.std.proofs.Common.{arith, ◌≡◌, refl, sym, ap, subst, inl, inr, ℕ, Bool, true, false, List, [], ◌∷◌, ◌++◌, Option, Some, None}
+use Rattle.crib_cards.specs.Sets.{set_where}
+use Rattle.crib_cards.specs.declared.sides.Dealt.{Dealt}
+use Rattle.crib_cards.specs.declared.sides.Side.TheVariants.{Owner, Opponent}
+use Rattle.crib_cards.specs.declared.letters.Letter.TheVariants.{Seen}
+use Rattle.crib_cards.specs.declared.moves.Move.{Move}
+use Rattle.crib_cards.specs.declared.moves.Move.TheVariants.{Card, Go}
+use Rattle.crib_cards.specs.declared.moves.Act.{Act}
+use Rattle.crib_play.specs.Legal.{IsLegal}
+use Rattle.crib_play.specs.History.{Event, Own, Theirs}
+use Rattle.crib_show.specs.Outcome.{outcome_of}
+use Rattle.crib_show.specs.Show.{hand_points, crib_points}
+use Rattle.crib_problem.specs.declared.problem.Goal.TheVariants.{Win}
+use Rattle.crib_problem.specs.declared.problem.Version.TheVariants.{Two}
+use Rattle.crib_problem.specs.Setup.{Setup, IsSetup, IsDealOf, start_of, hands_of}
+use Rattle.crib_know.specs.Knowledge.{played_events}
+use Rattle.crib_search.specs.Finder.{Finds, FindsTree, IsFound}
+use Rattle.crib_search.specs.Winnable.{IsWinnable}
+use Rattle.crib_search.proofs.LawProofs.{none_law}
+
+abbrev opp : Move → Act
+opp what = record { side = Opponent; what = what }
+
+abbrev own : Move → Act
+own what = record { side = Owner; what = what }
+
+-- the owner deals, and wants to win. Two gos end the pile of 2C 6C 4C JH, and QH and KC are left to the owner
+abbrev pub before_the_lead : Setup
+before_the_lead = record {
+  version = Two;
+  dealer = Owner;
+  scores = record { owner = 111; opponent = 113 };
+  starter = 51;
+  hold = 20 ∷ 42 ∷ 48 ∷ 46 ∷ [];
+  thrown = 44 ∷ 47 ∷ [];
+  goal = Win;
+  played = opp (Card 4) ∷ own (Card 20) ∷ opp (Card 12) ∷ own (Card 42) ∷ opp Go ∷ own Go ∷ [];
+}
+
+-- ---- before the lead no plan is sure
+before_the_lead_is_a_setup : IsSetup before_the_lead
+unfolding set_where
+before_the_lead_is_a_setup = record {
+  held = refl;
+  two_thrown = refl;
+  cards = (omega arith, (omega arith, (omega arith, (omega arith, (omega arith, (omega arith, (omega arith, tt)))))));
+  distinct = refl;
+  owner_score = omega arith;
+  opponent_score = omega arith;
+  goal_in_range = tt;
+  of_version = tt;
+  few = omega arith;
+  moves = (omega arith, (omega arith, (omega arith, (omega arith, (tt, (tt, tt))))));
+  allowed = ((((((tt, refl), refl), refl), refl), refl), refl);
+}
+
+-- a flush in clubs, and the jack of the starter's suit with a queen
+abbrev flush : Dealt
+flush = record { hold = 4 ∷ 12 ∷ 40 ∷ 36 ∷ []; throw = 0 ∷ 1 ∷ [] }
+
+abbrev his_nobs : Dealt
+his_nobs = record { hold = 4 ∷ 12 ∷ 43 ∷ 45 ∷ []; throw = 0 ∷ 1 ∷ [] }
+
+flush_is_a_deal : IsDealOf before_the_lead flush
+unfolding set_where
+flush_is_a_deal = record { deal = record { held = refl; thrown = refl; distinct = refl; hidden_before = refl }; fixed = refl }
+
+his_nobs_is_a_deal : IsDealOf before_the_lead his_nobs
+unfolding set_where
+his_nobs_is_a_deal = record { deal = record { held = refl; thrown = refl; distinct = refl; hidden_before = refl }; fixed = refl }
+
+-- the turns of the opening, the last one first
+abbrev six_turns : List Move
+six_turns = Go ∷ Go ∷ Card 42 ∷ Card 12 ∷ Card 20 ∷ Card 4 ∷ []
+
+abbrev LegalFor : Dealt → List Move → Type 0
+LegalFor dealt played = IsLegal (start_of before_the_lead) (hands_of before_the_lead dealt) played
+
+clubs_led : LegalFor flush (Card 40 ∷ six_turns)
+clubs_led = (
+  (
+    (
+      (
+        (
+          ((tt, record { not_done = refl; may_take = (refl, refl) }), record { not_done = refl; may_take = (refl, refl) }),
+          record { not_done = refl; may_take = (refl, refl) },
+        ),
+        record { not_done = refl; may_take = (refl, refl) },
+      ),
+      record { not_done = refl; may_take = refl },
+    ),
+    record { not_done = refl; may_take = refl },
+  ),
+  record { not_done = refl; may_take = (refl, refl) },
+)
+
+spades_led : LegalFor his_nobs (Card 43 ∷ six_turns)
+spades_led = (
+  (
+    (
+      (
+        (
+          ((tt, record { not_done = refl; may_take = (refl, refl) }), record { not_done = refl; may_take = (refl, refl) }),
+          record { not_done = refl; may_take = (refl, refl) },
+        ),
+        record { not_done = refl; may_take = (refl, refl) },
+      ),
+      record { not_done = refl; may_take = refl },
+    ),
+    record { not_done = refl; may_take = refl },
+  ),
+  record { not_done = refl; may_take = (refl, refl) },
+)
+
+-- JC QH TC: a run for three, a go, and a flush
+clubs_run : LegalFor flush (Card 36 ∷ Card 46 ∷ Card 40 ∷ six_turns)
+clubs_run = ((clubs_led, record { not_done = refl; may_take = (refl, refl) }), record { not_done = refl; may_take = (refl, refl) })
+
+clubs_end : LegalFor flush (Card 48 ∷ Go ∷ Go ∷ Card 36 ∷ Card 46 ∷ Card 40 ∷ six_turns)
+clubs_end =
+    (((clubs_run, record { not_done = refl; may_take = refl }), record { not_done = refl; may_take = refl }), record { not_done = refl; may_take = (refl, refl) })
+
+-- JS KC QD: a run for three, a go, a run of three in the hand, and his nobs
+spades_run : LegalFor his_nobs (Card 45 ∷ Card 48 ∷ Card 43 ∷ six_turns)
+spades_run = ((spades_led, record { not_done = refl; may_take = (refl, refl) }), record { not_done = refl; may_take = (refl, refl) })
+
+spades_end : LegalFor his_nobs (Card 46 ∷ Go ∷ Go ∷ Card 45 ∷ Card 48 ∷ Card 43 ∷ six_turns)
+spades_end =
+    (((spades_run, record { not_done = refl; may_take = refl }), record { not_done = refl; may_take = refl }), record { not_done = refl; may_take = (refl, refl) })
+
+-- the history up to the lead of a jack
+abbrev jack_led : List Event
+jack_led = Theirs (Seen 11) ∷ played_events before_the_lead
+
+none_after_queen : Finds 28 before_the_lead (Own (Card 46) ∷ jack_led) None
+unfolding outcome_of hand_points crib_points
+none_after_queen = inl (
+  (
+    Seen 10,
+    (flush, (flush_is_a_deal, (Card 36 ∷ Card 46 ∷ Card 40 ∷ six_turns, clubs_run, refl))),
+    (
+      None,
+      inr (λ reached. (let lost = reached flush (flush_is_a_deal, (Card 48 ∷ Go ∷ Go ∷ Card 36 ∷ Card 46 ∷ Card 40 ∷ six_turns, clubs_end, refl)) in cc), refl),
+      refl,
+    ),
+  ),
+  refl,
+)
+
+none_after_king : Finds 28 before_the_lead (Own (Card 48) ∷ jack_led) None
+unfolding outcome_of hand_points crib_points
+none_after_king = inl (
+  (
+    Seen 12,
+    (his_nobs, (his_nobs_is_a_deal, (Card 45 ∷ Card 48 ∷ Card 43 ∷ six_turns, spades_run, refl))),
+    (
+      None,
+      inr
+      (λ reached. (let lost = reached his_nobs (his_nobs_is_a_deal, (Card 46 ∷ Go ∷ Go ∷ Card 45 ∷ Card 48 ∷ Card 43 ∷ six_turns, spades_end, refl)) in cc), refl),
+      refl,
+    ),
+  ),
+  refl,
+)
+
+no_tree : FindsTree before_the_lead None
+unfolding FindsTree
+no_tree = inl (
+  (
+    Seen 11,
+    (flush, (flush_is_a_deal, (Card 40 ∷ six_turns, clubs_led, refl))),
+    (None, none_after_king, (None, none_after_queen, refl)),
+  ),
+  refl,
+)
+
+none_is_found : IsFound before_the_lead None
+none_is_found = (None, no_tree, refl)
+
+pub no_plan_is_sure : IsWinnable before_the_lead → ⊥
+no_plan_is_sure = none_law before_the_lead before_the_lead_is_a_setup none_is_found

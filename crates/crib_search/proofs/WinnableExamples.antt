@@ -20,10 +20,10 @@ use Rattle.crib_search.specs.Finder.{Finds, FindsTree, IsFound}
 use Rattle.crib_search.specs.Winnable.{IsWinnable}
 use Rattle.crib_search.proofs.LawProofs.{none_law}
 
-abbrev opp : Move → Act
+abbrev pub opp : Move → Act
 opp what = record { side = Opponent; what = what }
 
-abbrev own : Move → Act
+abbrev pub own : Move → Act
 own what = record { side = Owner; what = what }
 
 -- the owner deals, and wants to win. Two gos end the pile of 2C 6C 4C JH, and QH and KC are left to the owner
@@ -72,7 +72,7 @@ unfolding set_where
 his_nobs_is_a_deal = record { deal = record { held = refl; thrown = refl; distinct = refl; hidden_before = refl }; fixed = refl }
 
 -- the turns of the opening, the last one first
-abbrev six_turns : List Move
+abbrev pub six_turns : List Move
 six_turns = Go ∷ Go ∷ Card 42 ∷ Card 12 ∷ Card 20 ∷ Card 4 ∷ []
 
 abbrev LegalFor : Dealt → List Move → Type 0

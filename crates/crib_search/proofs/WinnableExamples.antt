@@ -1,43 +1,24 @@
--- A worked example of problems that are winnable, and of one that isn't. The opening is 2C, own 6C, 4C, own JH, and a go of each side at 22, so the opponent
--- leads one of the ten-cards. No plan is sure, since a plan can't tell JC from JS. But after each of these two a plan is sure.
-use Rattle.std.proofs.Common.{arith, ◌≡◌, refl, sym, ap, subst, inl, inr, ℕ, Bool, true, false, List, [], ◌∷◌, ◌++◌, Option, Some, None}
-use Rattle.crib_cards.specs.Sets.{set_where}
+-- A worked example of a problem that isn't winnable, although each problem that it may become is. The opponent leads one of ten cards. No plan is sure before
+-- the lead, since a plan can't tell JC from JS. But if the suit of the lead is known, a plan is sure, whichever card it is.
+use Rattle.std.proofs.Common.{arith, ◌≡◌, refl, inl, inr, ℕ, true, eqb, List, [], ◌∷◌, filter, None}
+use Rattle.crib_cards.specs.Cards.{card_value}
+use Rattle.crib_cards.specs.Sets.{has, set_where}
 use Rattle.crib_cards.specs.declared.sides.Dealt.{Dealt}
-use Rattle.crib_cards.specs.declared.sides.Side.TheVariants.{Owner, Opponent}
 use Rattle.crib_cards.specs.declared.letters.Letter.TheVariants.{Seen}
 use Rattle.crib_cards.specs.declared.moves.Move.{Move}
 use Rattle.crib_cards.specs.declared.moves.Move.TheVariants.{Card, Go}
-use Rattle.crib_cards.specs.declared.moves.Act.{Act}
 use Rattle.crib_play.specs.Legal.{IsLegal}
 use Rattle.crib_play.specs.History.{Event, Own, Theirs}
 use Rattle.crib_show.specs.Outcome.{outcome_of}
 use Rattle.crib_show.specs.Show.{hand_points, crib_points}
-use Rattle.crib_problem.specs.declared.problem.Goal.TheVariants.{Win}
-use Rattle.crib_problem.specs.declared.problem.Version.TheVariants.{Two}
-use Rattle.crib_problem.specs.Setup.{Setup, IsSetup, IsDealOf, start_of, hands_of}
+use Rattle.crib_problem.specs.Setup.{Setup, IsSetup, IsDealOf, start_of, hands_of, unseen_of}
+use Rattle.crib_plan.specs.declared.plan.Next.TheVariants.{End, To}
+use Rattle.crib_plan.specs.declared.plan.Node.TheVariants.{Play}
 use Rattle.crib_know.specs.Knowledge.{played_events}
 use Rattle.crib_search.specs.Finder.{Finds, FindsTree, IsFound}
 use Rattle.crib_search.specs.Winnable.{IsWinnable}
 use Rattle.crib_search.proofs.LawProofs.{none_law}
-
-abbrev pub opp : Move → Act
-opp what = record { side = Opponent; what = what }
-
-abbrev pub own : Move → Act
-own what = record { side = Owner; what = what }
-
--- the owner deals, and wants to win. Two gos end the pile of 2C 6C 4C JH, and QH and KC are left to the owner
-abbrev pub before_the_lead : Setup
-before_the_lead = record {
-  version = Two;
-  dealer = Owner;
-  scores = record { owner = 111; opponent = 113 };
-  starter = 51;
-  hold = 20 ∷ 42 ∷ 48 ∷ 46 ∷ [];
-  thrown = 44 ∷ 47 ∷ [];
-  goal = Win;
-  played = opp (Card 4) ∷ own (Card 20) ∷ opp (Card 12) ∷ own (Card 42) ∷ opp Go ∷ own Go ∷ [];
-}
+use Rattle.crib_search.proofs.LeadExamples.{before_the_lead, after_lead, leads, plan_after, plan_is_sure, six_turns}
 
 -- ---- before the lead no plan is sure
 before_the_lead_is_a_setup : IsSetup before_the_lead
@@ -70,10 +51,6 @@ flush_is_a_deal = record { deal = record { held = refl; thrown = refl; distinct 
 his_nobs_is_a_deal : IsDealOf before_the_lead his_nobs
 unfolding set_where
 his_nobs_is_a_deal = record { deal = record { held = refl; thrown = refl; distinct = refl; hidden_before = refl }; fixed = refl }
-
--- the turns of the opening, the last one first
-abbrev pub six_turns : List Move
-six_turns = Go ∷ Go ∷ Card 42 ∷ Card 12 ∷ Card 20 ∷ Card 4 ∷ []
 
 abbrev LegalFor : Dealt → List Move → Type 0
 LegalFor dealt played = IsLegal (start_of before_the_lead) (hands_of before_the_lead dealt) played
@@ -179,5 +156,21 @@ no_tree = inl (
 none_is_found : IsFound before_the_lead None
 none_is_found = (None, no_tree, refl)
 
-pub no_plan_is_sure : IsWinnable before_the_lead → ⊥
-no_plan_is_sure = none_law before_the_lead before_the_lead_is_a_setup none_is_found
+pub not_winnable_before_the_lead : IsWinnable before_the_lead → ⊥
+not_winnable_before_the_lead = none_law before_the_lead before_the_lead_is_a_setup none_is_found
+
+-- ---- after each lead a plan is sure
+-- the opponent said go at 22, so they lead a ten-card
+pub leads_are_ten_cards : filter (λ card. eqb (card_value card) 10) (unseen_of before_the_lead) ≡ leads
+unfolding set_where
+leads_are_ten_cards = refl
+
+pub winnable_after_each_lead : (lead : ℕ) → has leads lead ≡ true → IsWinnable (after_lead lead)
+winnable_after_each_lead lead is = record { plan = plan_after lead; sure = plan_is_sure lead is }
+
+-- QH first after JS, and KC first after JC
+pub queen_after_jack_of_spades : plan_after 43 ≡ Play 46 (To 1) ∷ Play 48 End ∷ []
+queen_after_jack_of_spades = refl
+
+pub king_after_jack_of_clubs : plan_after 40 ≡ Play 48 (To 1) ∷ Play 46 End ∷ []
+king_after_jack_of_clubs = refl

@@ -18,7 +18,8 @@ use Rattle.crib_know.specs.Knowledge.{played_events}
 use Rattle.crib_search.specs.Finder.{Finds, FindsTree, IsFound}
 use Rattle.crib_search.specs.Winnable.{IsWinnable}
 use Rattle.crib_search.proofs.LawProofs.{none_law}
-use Rattle.crib_search.proofs.LeadExamples.{before_the_lead, after_lead, leads, plan_after, plan_is_sure, six_turns}
+use Rattle.crib_search.proofs.LeadExamples.{before_the_lead, after_lead, leads, plan_after, six_turns}
+use Rattle.crib_search.proofs.LeadPlans.{plan_is_sure}
 
 -- ---- before the lead no plan is sure
 before_the_lead_is_a_setup : IsSetup before_the_lead

@@ -2,36 +2,30 @@
 -- ten-cards. The owner has KC and QH left, and plays one of them on the lead.
 use Rattle.std.proofs.Common.{arith, ◌≡◌, refl, sym, ap, ◌∙◌, subst, inl, inr, ℕ, Bool, true, false, eqb, not, ◌&&◌, ◌||◌, Option, Some, None}
 use Rattle.std.proofs.Common.{List, [], ◌∷◌, ◌++◌, length, filter}
-use Rattle.std.specs.Prelude.{IsTrue, IsFalse, is_some, if◌then◌else◌}
+use Rattle.std.specs.Prelude.{is_some, if◌then◌else◌}
 use Rattle.std.specs.List.{list_all, list_any}
-use Rattle.std.proofs.lemmas.Bool.{both_ways, cases_Bool, eqb-true, eq-eqb, and_parts, not-true, or_cases, or_left, or_right}
-use Rattle.crib_cards.specs.Sets.{has, set_where, are_distinct}
+use Rattle.std.proofs.lemmas.Bool.{both_ways, cases_Bool, eqb-true, and_parts, or_cases, or_left, or_right}
+use Rattle.crib_cards.specs.Sets.{has, set_where}
 use Rattle.crib_cards.specs.declared.sides.Dealt.{Dealt}
 use Rattle.crib_cards.specs.declared.sides.Side.TheVariants.{Owner, Opponent}
 use Rattle.crib_cards.specs.declared.moves.Move.{Move}
 use Rattle.crib_cards.specs.declared.moves.Move.TheVariants.{Card, Go}
 use Rattle.crib_cards.specs.declared.moves.Act.{Act}
-use Rattle.crib_cards.specs.Letters.{letter_of}
-use Rattle.crib_play.specs.Legal.{MayCome, IsLegal, cards_of, cards_left, fits, letters_of}
-use Rattle.crib_play.specs.History.{act_by, acts_of}
-use Rattle.crib_play.specs.Filled.{is_visible}
+use Rattle.crib_play.specs.Legal.{cards_of, cards_left, fits}
 use Rattle.crib_show.specs.Outcome.{outcome_of}
-use Rattle.crib_show.specs.Show.{hand_points, crib_points}
+use Rattle.crib_show.specs.Show.{hand_points}
 use Rattle.crib_show.specs.declared.outcomes.Outcome.{Outcome}
 use Rattle.crib_show.specs.declared.outcomes.Outcome.TheVariants.{Reached, Lost, Short}
-use Rattle.crib_show.proofs.ReorderedLists.{Reordered, behind, front, both, same_order, length-reordered, list_any-reordered, are_distinct-reordered}
-use Rattle.crib_show.proofs.OrderLaw.{reordered-append, outcome_of-reordered}
+use Rattle.crib_show.proofs.ReorderedLists.{Reordered, behind, front, both, same_order}
 use Rattle.crib_problem.specs.declared.problem.Goal.TheVariants.{Win}
 use Rattle.crib_problem.specs.declared.problem.Version.TheVariants.{Two}
-use Rattle.crib_problem.specs.Setup.{Setup, IsDealOf, start_of, hands_of, played_back, unseen_of, fixed_cards}
+use Rattle.crib_problem.specs.Setup.{Setup, start_of, hands_of, played_back, unseen_of, fixed_cards}
 use Rattle.crib_plan.specs.declared.plan.Next.{Next}
 use Rattle.crib_plan.specs.declared.plan.Next.TheVariants.{End, To}
 use Rattle.crib_plan.specs.declared.plan.Node.{Node}
 use Rattle.crib_plan.specs.declared.plan.Node.TheVariants.{Play}
-use Rattle.crib_know.proofs.CardsLeft.{has-filter_parts, has-filter_from}
 use Rattle.crib_game.specs.Replay.{next_played, is_done_for, full_of, same_act}
-use Rattle.crib_game.specs.Following.{IsAsStated, Follows, is_stuck, place_of}
-use Rattle.crib_check.specs.Sure.{IsSure, IsFollowed}
+use Rattle.crib_game.specs.Following.{is_stuck, place_of}
 
 abbrev pub opp : Move → Act
 opp what = record { side = Opponent; what = what }
@@ -109,8 +103,7 @@ brought_front (first ∷ cards) card h =
     elim (or_cases (eqb first card) (has cards card) h) [
       | inl here ↦ (cards, subst (λ number. Reordered (first ∷ cards) (number ∷ cards)) (eqb-true first card here) (same_order (first ∷ cards)))
       | inr there ↦
-          let found = brought_front cards card there in
-          (
+          let found = brought_front cards card there in (
             first ∷ found.0,
             both (first ∷ cards) (first ∷ card ∷ found.0) (card ∷ first ∷ found.0) (behind first cards (card ∷ found.0) found.1) (front first card found.0),
           )

@@ -1,10 +1,10 @@
 -- The plans of the worked leads are sure. After the opening the opponent has the lead and one ten-card more.
-use Rattle.std.proofs.Common.{arith, ◌≡◌, refl, sym, ap, ◌∙◌, subst, inl, inr, ℕ, Bool, true, false, eqb, not, ◌&&◌, ◌||◌, Option, Some, None}
-use Rattle.std.proofs.Common.{List, [], ◌∷◌, ◌++◌, length, filter}
-use Rattle.std.specs.Prelude.{IsTrue, IsFalse, is_some, if◌then◌else◌}
-use Rattle.std.specs.List.{list_all, list_any}
-use Rattle.std.proofs.lemmas.Bool.{both_ways, cases_Bool, eqb-true, eq-eqb, and_parts, not-true, or_cases, or_left, or_right}
-use Rattle.crib_cards.specs.Sets.{has, set_where, are_distinct}
+use Rattle.std.proofs.Common.{arith, ◌≡◌, refl, sym, ap, ◌∙◌, subst, inl, inr, ℕ, Bool, true, false, eqb, not, ◌||◌, Option, Some, None}
+use Rattle.std.proofs.Common.{List, [], ◌∷◌, ◌++◌}
+use Rattle.std.specs.Prelude.{IsTrue, IsFalse, is_some}
+use Rattle.std.specs.List.{list_any}
+use Rattle.std.proofs.lemmas.Bool.{both_ways, eqb-true, eq-eqb, and_parts, not-true, or_cases, or_left, or_right}
+use Rattle.crib_cards.specs.Sets.{has, are_distinct}
 use Rattle.crib_cards.specs.declared.sides.Dealt.{Dealt}
 use Rattle.crib_cards.specs.declared.sides.Side.TheVariants.{Owner, Opponent}
 use Rattle.crib_cards.specs.declared.moves.Move.{Move}
@@ -15,20 +15,16 @@ use Rattle.crib_play.specs.Legal.{MayCome, IsLegal, cards_of, cards_left, fits, 
 use Rattle.crib_play.specs.History.{act_by, acts_of}
 use Rattle.crib_play.specs.Filled.{is_visible}
 use Rattle.crib_show.specs.Outcome.{outcome_of}
-use Rattle.crib_show.specs.Show.{hand_points, crib_points}
 use Rattle.crib_show.specs.declared.outcomes.Outcome.{Outcome}
 use Rattle.crib_show.specs.declared.outcomes.Outcome.TheVariants.{Reached, Lost, Short}
 use Rattle.crib_show.proofs.ReorderedLists.{Reordered, behind, front, both, same_order, length-reordered, list_any-reordered, are_distinct-reordered}
 use Rattle.crib_show.proofs.OrderLaw.{reordered-append, outcome_of-reordered}
-use Rattle.crib_problem.specs.declared.problem.Goal.TheVariants.{Win}
-use Rattle.crib_problem.specs.declared.problem.Version.TheVariants.{Two}
 use Rattle.crib_problem.specs.Setup.{Setup, IsDealOf, start_of, hands_of, played_back, unseen_of, fixed_cards}
 use Rattle.crib_plan.specs.declared.plan.Next.{Next}
 use Rattle.crib_plan.specs.declared.plan.Next.TheVariants.{End, To}
 use Rattle.crib_plan.specs.declared.plan.Node.{Node}
-use Rattle.crib_plan.specs.declared.plan.Node.TheVariants.{Play}
 use Rattle.crib_know.proofs.CardsLeft.{has-filter_parts, has-filter_from}
-use Rattle.crib_game.specs.Replay.{next_played, is_done_for, full_of, same_act}
+use Rattle.crib_game.specs.Replay.{next_played, is_done_for, full_of}
 use Rattle.crib_game.specs.Following.{IsAsStated, Follows, is_stuck, place_of}
 use Rattle.crib_check.specs.Sure.{IsSure, IsFollowed}
 use Rattle.crib_search.proofs.LeadExamples.{opp, own, before_the_lead, after_lead, leads, first_after, second_after, plan_after, all_pass}
@@ -61,9 +57,9 @@ held : (lead : ℕ) → has leads lead ≡ true → (dealt : Dealt) → IsDealOf
 held lead is dealt deal =
     let hold = dealt.hold in
     let fixed : (card : ℕ) → has (4 ∷ 12 ∷ lead ∷ []) card ≡ true → has hold card ≡ true = λ card h. all_pass (has hold) (fixed_cards (after_lead lead)) card
-        deal.fixed (all_pass (has (fixed_cards (after_lead lead))) (4 ∷ 12 ∷ lead ∷ []) card (are_fixed lead is) h) in
+    deal.fixed (all_pass (has (fixed_cards (after_lead lead))) (4 ∷ 12 ∷ lead ∷ []) card (are_fixed lead is) h) in
     let lead_here = or_right (eqb 4 lead) (has (12 ∷ lead ∷ []) lead)
-        (or_right (eqb 12 lead) (has (lead ∷ []) lead) (or_left (eqb lead lead) false (eq-eqb lead lead refl))) in
+    (or_right (eqb 12 lead) (has (lead ∷ []) lead) (or_left (eqb lead lead) false (eq-eqb lead lead refl))) in
     let one = brought_front hold 4 (fixed 4 refl) in
     let in_one = sym (list_any-reordered (λ card. eqb card 12) hold (4 ∷ one.0) one.1) ∙ fixed 12 refl in
     let two = brought_front one.0 12 in_one in
@@ -73,7 +69,7 @@ held lead is dealt deal =
     let in_rest = the_other (eqb 12 lead) (has two.0 lead) (not-true (eqb 12 lead) (not_12 lead is)) not_first in
     let three = brought_front two.0 lead in_rest in
     let by_three = both hold (4 ∷ 12 ∷ two.0) (4 ∷ 12 ∷ lead ∷ three.0) by_two
-        (behind 4 (12 ∷ two.0) (12 ∷ lead ∷ three.0) (behind 12 two.0 (lead ∷ three.0) three.1)) in
+    (behind 4 (12 ∷ two.0) (12 ∷ lead ∷ three.0) (behind 12 two.0 (lead ∷ three.0) three.1)) in
     let four = sym (length-reordered hold (4 ∷ 12 ∷ lead ∷ three.0) by_three) ∙ deal.deal.held in
     let last = one_card three.0 (omega (arith, four)) in
     of_last last.0 (subst (λ (cards : List ℕ). Reordered hold (4 ∷ 12 ∷ lead ∷ cards)) last.1 by_three)
@@ -81,16 +77,16 @@ held lead is dealt deal =
     of_last : (last : ℕ) → Reordered dealt.hold (4 ∷ 12 ∷ lead ∷ last ∷ []) → Held lead dealt
     of_last last listed =
         let first_now = both (4 ∷ 12 ∷ lead ∷ last ∷ []) (4 ∷ last ∷ 12 ∷ lead ∷ []) (last ∷ 4 ∷ 12 ∷ lead ∷ [])
-            (behind 4 (12 ∷ lead ∷ last ∷ []) (last ∷ 12 ∷ lead ∷ [])
-            (both (12 ∷ lead ∷ last ∷ []) (12 ∷ last ∷ lead ∷ []) (last ∷ 12 ∷ lead ∷ [])
-            (behind 12 (lead ∷ last ∷ []) (last ∷ lead ∷ []) (front lead last [])) (front 12 last (lead ∷ []))))
-            (front 4 last (12 ∷ lead ∷ [])) in
+        (behind 4 (12 ∷ lead ∷ last ∷ []) (last ∷ 12 ∷ lead ∷ [])
+        (both (12 ∷ lead ∷ last ∷ []) (12 ∷ last ∷ lead ∷ []) (last ∷ 12 ∷ lead ∷ [])
+        (behind 12 (lead ∷ last ∷ []) (last ∷ lead ∷ []) (front lead last [])) (front 12 last (lead ∷ []))))
+        (front 4 last (12 ∷ lead ∷ [])) in
         let order = both dealt.hold (4 ∷ 12 ∷ lead ∷ last ∷ []) (last ∷ 4 ∷ 12 ∷ lead ∷ []) listed first_now in
         let distinct = sym (are_distinct-reordered (dealt.hold ++ dealt.throw) (last ∷ 4 ∷ 12 ∷ lead ∷ dealt.throw)
-            (reordered-append dealt.hold (last ∷ 4 ∷ 12 ∷ lead ∷ []) dealt.throw order)) ∙ deal.deal.distinct in
+        (reordered-append dealt.hold (last ∷ 4 ∷ 12 ∷ lead ∷ []) dealt.throw order)) ∙ deal.deal.distinct in
         let apart = and_parts (not (has (4 ∷ 12 ∷ lead ∷ dealt.throw) last)) (are_distinct (4 ∷ 12 ∷ lead ∷ dealt.throw)) distinct in
         let here = list_any-reordered (λ card. eqb card last) dealt.hold (last ∷ 4 ∷ 12 ∷ lead ∷ []) order
-            ∙ or_left (eqb last last) (has (4 ∷ 12 ∷ lead ∷ []) last) (eq-eqb last last refl) in
+        ∙ or_left (eqb last last) (has (4 ∷ 12 ∷ lead ∷ []) last) (eq-eqb last last refl) in
         record {
           last = last;
           order = order;
@@ -145,8 +141,8 @@ module _ (lead : ℕ) (is : has leads lead ≡ true) (dealt : Dealt) (deal : IsD
   has_ten : IsFalse (list_any (fits four_turns) (cards_left (hands_of problem dealt) Opponent four_turns)) → has (tens lead) last ≡ true
   has_ten none =
       let is_left = the_other (has (4 ∷ 12 ∷ lead ∷ []) last) (not (has (cards_of four_turns) last)) hidden.other
-          (all_pass (λ card. has (4 ∷ 12 ∷ lead ∷ []) card || not (has (cards_of four_turns) card)) (unseen_of before_the_lead) last
-          (still_left lead is) hidden.unseen) in
+      (all_pass (λ card. has (4 ∷ 12 ∷ lead ∷ []) card || not (has (cards_of four_turns) card)) (unseen_of before_the_lead) last
+      (still_left lead is) hidden.unseen) in
       let left = has-filter_from (λ card. not (has (cards_of four_turns) card)) dealt.hold last in_hold is_left in
       let stops = none_passes (fits four_turns) (cards_left (hands_of problem dealt) Opponent four_turns) last none left in
       the_other (has (4 ∷ 12 ∷ lead ∷ []) last) (has (tens lead) last) hidden.other

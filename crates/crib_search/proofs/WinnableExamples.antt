@@ -11,7 +11,7 @@ use Rattle.crib_play.specs.Legal.{IsLegal}
 use Rattle.crib_play.specs.History.{Event, Own, Theirs}
 use Rattle.crib_show.specs.Outcome.{outcome_of}
 use Rattle.crib_show.specs.Show.{hand_points, crib_points}
-use Rattle.crib_problem.specs.Setup.{Setup, IsSetup, IsDealOf, start_of, hands_of, unseen_of}
+use Rattle.crib_problem.specs.Setup.{IsSetup, IsDealOf, start_of, hands_of, unseen_of}
 use Rattle.crib_plan.specs.declared.plan.Next.TheVariants.{End, To}
 use Rattle.crib_plan.specs.declared.plan.Node.TheVariants.{Play}
 use Rattle.crib_know.specs.Knowledge.{played_events}
@@ -136,7 +136,7 @@ none_after_king = inl (
     (
       None,
       inr
-      (λ reached. (let lost = reached his_nobs (his_nobs_is_a_deal, (Card 46 ∷ Go ∷ Go ∷ Card 45 ∷ Card 48 ∷ Card 43 ∷ six_turns, spades_end, refl)) in cc), refl),
+          (λ reached. (let lost = reached his_nobs (his_nobs_is_a_deal, (Card 46 ∷ Go ∷ Go ∷ Card 45 ∷ Card 48 ∷ Card 43 ∷ six_turns, spades_end, refl)) in cc), refl),
       refl,
     ),
   ),

@@ -180,7 +180,8 @@ module _ (lead : ℕ) (is : has leads lead ≡ true) (dealt : Dealt) (deal : IsD
   further : (turn : Move) (past : List Move) → Courses past → MayCome (start_of problem) (hands_of problem dealt) turn past →
       Follows plan problem.played Opponent (turn ∷ past) → IsLeft (left_after lead (acts_of Opponent (turn ∷ past))) → Courses (turn ∷ past)
   further (Card card) past nothing come follows on =
-      subst (λ (card : ℕ). Courses (Card card ∷ [])) (the_card 4 card (own (Card 20) ∷ opp (Card 12) ∷ own (Card 42) ∷ opp Go ∷ own Go ∷ opp (Card lead) ∷ []) on) two
+      subst (λ (card : ℕ). Courses (Card card ∷ []))
+      (the_card 4 card (own (Card 20) ∷ opp (Card 12) ∷ own (Card 42) ∷ opp Go ∷ own Go ∷ opp (Card lead) ∷ []) on) two
   further Go past nothing come follows on = absurd on
   further (Card card) past two come follows on =
       subst (λ (card : ℕ). Courses (Card card ∷ Card 4 ∷ [])) (the_card 20 card (opp (Card 12) ∷ own (Card 42) ∷ opp Go ∷ own Go ∷ opp (Card lead) ∷ []) on) six
@@ -212,7 +213,8 @@ module _ (lead : ℕ) (is : has leads lead ≡ true) (dealt : Dealt) (deal : IsD
   further Go past (at_30 ten) come follows on = the_close ten
   further (Card card) past (the_close ten) come follows on =
       let place = second_place (place_of plan problem.played Opponent past) (placed lead last is ten) in
-      let states = subst (λ (at : Next). IsAsStated plan at Owner (Card card)) place (follows.1 (not-true (is_some (next_played problem.played Opponent past)) (late lead last is ten))) in
+      let after_opening = not-true (is_some (next_played problem.played Opponent past)) (late lead last is ten) in
+      let states = subst (λ (at : Next). IsAsStated plan at Owner (Card card)) place (follows.1 after_opening) in
       subst (λ (card : ℕ). Courses (Card card ∷ to_close lead last)) (stated (second_after lead) card states) (the_end ten)
   further Go past (the_close ten) come follows on = absurd (both_ways (can_play past) come.may_take (own_plays lead last is ten))
   further turn past (the_end ten) come follows on = absurd (both_ways (is_done_for problem past) come.not_done (done_at_end lead last is ten))
@@ -253,9 +255,11 @@ module _ (lead : ℕ) (is : has leads lead ≡ true) (dealt : Dealt) (deal : IsD
   done_well played (own_go ten) done = absurd (both_ways false refl done)
   done_well played (the_lead ten) done = absurd (both_ways (is_done_for problem played) (not-true (is_done_for problem played) (on_at_lead lead is)) done)
   done_well played (the_first ten) done = absurd (both_ways (is_done_for problem played) (not-true (is_done_for problem played) (on_at_first lead is)) done)
-  done_well played (the_last ten) done = absurd (both_ways (is_done_for problem played) (not-true (is_done_for problem played) (on_at_last lead last is ten)) done)
+  done_well played (the_last ten) done =
+      absurd (both_ways (is_done_for problem played) (not-true (is_done_for problem played) (on_at_last lead last is ten)) done)
   done_well played (at_30 ten) done = absurd (both_ways (is_done_for problem played) (not-true (is_done_for problem played) (on_at_30 lead last is ten)) done)
-  done_well played (the_close ten) done = absurd (both_ways (is_done_for problem played) (not-true (is_done_for problem played) (on_at_close lead last is ten)) done)
+  done_well played (the_close ten) done =
+      absurd (both_ways (is_done_for problem played) (not-true (is_done_for problem played) (on_at_close lead last is ten)) done)
   done_well played (the_end ten) done =
       outcome_of-reordered (full_of problem dealt played) dealt (with_last lead last dealt) (record { hold = hidden.order; throw = same_order dealt.throw })
       ∙ reached_is (outcome_of (full_of problem (with_last lead last dealt) played)) (wins dealt lead last is ten)

@@ -1,5 +1,5 @@
--- A worked example of a problem that isn't winnable, although each problem that it may become is. The opponent leads one of ten cards. No plan is sure before
--- the lead, since a plan can't tell JC from JS. But if the suit of the lead is known, a plan is sure, whichever card it is.
+-- A worked example of a problem that isn't winnable, although it is after each lead whose suit is known. The opponent leads one of ten cards. No plan is sure
+-- before the lead, because a plan can't tell JC from JS. But if the suit of the lead is known, a plan is sure, whichever card it is.
 use Rattle.std.proofs.Common.{arith, ◌≡◌, refl, inl, inr, ℕ, true, eqb, List, [], ◌∷◌, filter, None}
 use Rattle.crib_cards.specs.Cards.{card_value}
 use Rattle.crib_cards.specs.Sets.{has, set_where}
@@ -98,7 +98,10 @@ clubs_run = ((clubs_led, record { not_done = refl; may_take = (refl, refl) }), r
 
 clubs_end : LegalFor flush (Card 48 ∷ Go ∷ Go ∷ Card 36 ∷ Card 46 ∷ Card 40 ∷ six_turns)
 clubs_end =
-    (((clubs_run, record { not_done = refl; may_take = refl }), record { not_done = refl; may_take = refl }), record { not_done = refl; may_take = (refl, refl) })
+    (
+      ((clubs_run, record { not_done = refl; may_take = refl }), record { not_done = refl; may_take = refl }),
+      record { not_done = refl; may_take = (refl, refl) },
+    )
 
 -- JS KC QD: a run for three, a go, a run of three in the hand, and his nobs
 spades_run : LegalFor his_nobs (Card 45 ∷ Card 48 ∷ Card 43 ∷ six_turns)
@@ -106,7 +109,10 @@ spades_run = ((spades_led, record { not_done = refl; may_take = (refl, refl) }),
 
 spades_end : LegalFor his_nobs (Card 46 ∷ Go ∷ Go ∷ Card 45 ∷ Card 48 ∷ Card 43 ∷ six_turns)
 spades_end =
-    (((spades_run, record { not_done = refl; may_take = refl }), record { not_done = refl; may_take = refl }), record { not_done = refl; may_take = (refl, refl) })
+    (
+      ((spades_run, record { not_done = refl; may_take = refl }), record { not_done = refl; may_take = refl }),
+      record { not_done = refl; may_take = (refl, refl) },
+    )
 
 -- the history up to the lead of a jack
 abbrev jack_led : List Event
@@ -136,7 +142,8 @@ none_after_king = inl (
     (
       None,
       inr
-          (λ reached. (let lost = reached his_nobs (his_nobs_is_a_deal, (Card 46 ∷ Go ∷ Go ∷ Card 45 ∷ Card 48 ∷ Card 43 ∷ six_turns, spades_end, refl)) in cc), refl),
+          (λ reached. (let lost = reached his_nobs
+          (his_nobs_is_a_deal, (Card 46 ∷ Go ∷ Go ∷ Card 45 ∷ Card 48 ∷ Card 43 ∷ six_turns, spades_end, refl)) in cc), refl),
       refl,
     ),
   ),

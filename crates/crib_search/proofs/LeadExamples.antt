@@ -33,7 +33,8 @@ opp what = record { side = Opponent; what = what }
 abbrev pub own : Move → Act
 own what = record { side = Owner; what = what }
 
--- the owner deals, and wants to win. Two gos end the pile of 2C 6C 4C JH, and QH and KC are left to the owner
+-- the owner deals, and wants to win; the starter is KS. Two gos end the pile of 2C 6C 4C JH, and KC and QH are left to the owner. The opponent is at 113, and
+-- wins with eight points in the play and the hand
 abbrev pub before_the_lead : Setup
 before_the_lead = record {
   version = Two;

@@ -92,7 +92,7 @@ spades_led = (
   record { not_done = refl; may_take = (refl, refl) },
 )
 
--- JC QH TC: a run for three, a go, and a flush
+-- JC QH TC: a run of three, a go, and a flush make eight
 clubs_run : LegalFor flush (Card 36 ∷ Card 46 ∷ Card 40 ∷ six_turns)
 clubs_run = ((clubs_led, record { not_done = refl; may_take = (refl, refl) }), record { not_done = refl; may_take = (refl, refl) })
 
@@ -103,7 +103,7 @@ clubs_end =
       record { not_done = refl; may_take = (refl, refl) },
     )
 
--- JS KC QD: a run for three, a go, a run of three in the hand, and his nobs
+-- JS KC QD: a run of three, a go, a run of three in the hand with the starter, and his nobs make eight
 spades_run : LegalFor his_nobs (Card 45 ∷ Card 48 ∷ Card 43 ∷ six_turns)
 spades_run = ((spades_led, record { not_done = refl; may_take = (refl, refl) }), record { not_done = refl; may_take = (refl, refl) })
 
@@ -168,7 +168,7 @@ pub not_winnable_before_the_lead : IsWinnable before_the_lead → ⊥
 not_winnable_before_the_lead = none_law before_the_lead before_the_lead_is_a_setup none_is_found
 
 -- ---- after each lead a plan is sure
--- the opponent said go at 22, so they lead a ten-card
+-- the opponent said go at 22, and so has only ten-cards left
 pub leads_are_ten_cards : filter (λ card. eqb (card_value card) 10) (unseen_of before_the_lead) ≡ leads
 unfolding set_where
 leads_are_ten_cards = refl

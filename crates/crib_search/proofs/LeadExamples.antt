@@ -1,0 +1,319 @@
+-- The plans after each lead of a worked problem. The opening is 2C, own 6C, 4C, own JH, and a go of each side at 22, so the opponent has 2C, 4C and two
+-- ten-cards. The owner has KC and QH left, and plays one of them on the lead.
+use Rattle.std.proofs.Common.{arith, ◌≡◌, refl, sym, ap, ◌∙◌, subst, inl, inr, ℕ, Bool, true, false, eqb, not, ◌&&◌, ◌||◌, Option, Some, None}
+use Rattle.std.proofs.Common.{List, [], ◌∷◌, ◌++◌, length, filter}
+use Rattle.std.specs.Prelude.{is_some, if◌then◌else◌}
+use Rattle.std.specs.List.{list_all, list_any}
+use Rattle.std.proofs.lemmas.Bool.{both_ways, cases_Bool, eqb-true, and_parts, or_cases, or_left, or_right}
+use Rattle.crib_cards.specs.Sets.{has, set_where}
+use Rattle.crib_cards.specs.declared.sides.Dealt.{Dealt}
+use Rattle.crib_cards.specs.declared.sides.Side.TheVariants.{Owner, Opponent}
+use Rattle.crib_cards.specs.declared.moves.Move.{Move}
+use Rattle.crib_cards.specs.declared.moves.Move.TheVariants.{Card, Go}
+use Rattle.crib_cards.specs.declared.moves.Act.{Act}
+use Rattle.crib_play.specs.Legal.{cards_of, cards_left, fits}
+use Rattle.crib_show.specs.Outcome.{outcome_of}
+use Rattle.crib_show.specs.Show.{hand_points}
+use Rattle.crib_show.specs.declared.outcomes.Outcome.{Outcome}
+use Rattle.crib_show.specs.declared.outcomes.Outcome.TheVariants.{Reached, Lost, Short}
+use Rattle.crib_show.proofs.ReorderedLists.{Reordered, behind, front, both, same_order}
+use Rattle.crib_problem.specs.declared.problem.Goal.TheVariants.{Win}
+use Rattle.crib_problem.specs.declared.problem.Version.TheVariants.{Two}
+use Rattle.crib_problem.specs.Setup.{Setup, start_of, hands_of, played_back, unseen_of, fixed_cards}
+use Rattle.crib_plan.specs.declared.plan.Next.{Next}
+use Rattle.crib_plan.specs.declared.plan.Next.TheVariants.{End, To}
+use Rattle.crib_plan.specs.declared.plan.Node.{Node}
+use Rattle.crib_plan.specs.declared.plan.Node.TheVariants.{Play}
+use Rattle.crib_game.specs.Replay.{next_played, is_done_for, full_of, same_act}
+use Rattle.crib_game.specs.Following.{is_stuck, place_of}
+
+abbrev pub opp : Move → Act
+opp what = record { side = Opponent; what = what }
+
+abbrev pub own : Move → Act
+own what = record { side = Owner; what = what }
+
+-- the owner deals, and wants to win; the starter is KS. Two gos end the pile of 2C 6C 4C JH, and KC and QH are left to the owner. The opponent is at 113, and
+-- wins with eight points in the play and the hand
+abbrev pub before_the_lead : Setup
+before_the_lead = record {
+  version = Two;
+  dealer = Owner;
+  scores = record { owner = 111; opponent = 113 };
+  starter = 51;
+  hold = 20 ∷ 42 ∷ 48 ∷ 46 ∷ [];
+  thrown = 44 ∷ 47 ∷ [];
+  goal = Win;
+  played = opp (Card 4) ∷ own (Card 20) ∷ opp (Card 12) ∷ own (Card 42) ∷ opp Go ∷ own Go ∷ [];
+}
+
+-- the same problem after the lead of a card
+abbrev pub after_lead : ℕ → Setup
+after_lead lead = record before_the_lead {
+  played = opp (Card 4) ∷ own (Card 20) ∷ opp (Card 12) ∷ own (Card 42) ∷ opp Go ∷ own Go ∷ opp (Card lead) ∷ [];
+}
+
+-- the ten-cards that are unseen: the tens, JC JD JS, QD, and KD KH
+abbrev pub leads : List ℕ
+leads = 36 ∷ 37 ∷ 38 ∷ 39 ∷ 40 ∷ 41 ∷ 43 ∷ 45 ∷ 49 ∷ 50 ∷ []
+
+-- KC goes first after a ten, JC and JD, and QH after JS, a queen and a king
+abbrev pub first_after : ℕ → ℕ
+first_after lead = if has (36 ∷ 37 ∷ 38 ∷ 39 ∷ 40 ∷ 41 ∷ []) lead then 48 else 46
+
+abbrev pub second_after : ℕ → ℕ
+second_after lead = if has (36 ∷ 37 ∷ 38 ∷ 39 ∷ 40 ∷ 41 ∷ []) lead then 46 else 48
+
+abbrev pub plan_after : ℕ → List Node
+plan_after lead = Play (first_after lead) (To 1) ∷ Play (second_after lead) End ∷ []
+
+-- ---- lists
+pub all_pass : (p : ℕ → Bool) (cards : List ℕ) (card : ℕ) → list_all p cards ≡ true → has cards card ≡ true → p card ≡ true
+all_pass p [] card all h = absurd (both_ways false refl h)
+all_pass p (first ∷ cards) card all h =
+    let parts = and_parts (p first) (list_all p cards) all in
+    elim (or_cases (eqb first card) (has cards card) h) [
+      | inl here ↦ ap p (sym (eqb-true first card here)) ∙ parts.0
+      | inr there ↦ all_pass p cards card parts.1 there
+    ]
+
+pub any_passes : (p : ℕ → Bool) (cards : List ℕ) (card : ℕ) → has cards card ≡ true → p card ≡ true → list_any p cards ≡ true
+any_passes p [] card h pass = absurd (both_ways false refl h)
+any_passes p (first ∷ cards) card h pass =
+    elim (or_cases (eqb first card) (has cards card) h) [
+      | inl here ↦ or_left (p first) (list_any p cards) (ap p (eqb-true first card here) ∙ pass)
+      | inr there ↦ or_right (p first) (list_any p cards) (any_passes p cards card there pass)
+    ]
+
+pub none_passes : (p : ℕ → Bool) (cards : List ℕ) (card : ℕ) → list_any p cards ≡ false → has cards card ≡ true → p card ≡ false
+none_passes p cards card none h =
+    elim (cases_Bool (p card)) [
+      | inl pass ↦ absurd (both_ways (list_any p cards) none (any_passes p cards card h pass))
+      | inr fails ↦ fails
+    ]
+
+pub all_before : (p : ℕ → Bool) (cards more : List ℕ) → list_all p (cards ++ more) ≡ true → list_all p cards ≡ true
+all_before p [] more all = refl
+all_before p (first ∷ cards) more all =
+    let parts = and_parts (p first) (list_all p (cards ++ more)) all in
+    ap (λ b. b && list_all p cards) parts.0 ∙ all_before p cards more parts.1
+
+pub brought_front : (cards : List ℕ) (card : ℕ) → has cards card ≡ true → (others : List ℕ) × Reordered cards (card ∷ others)
+brought_front [] card h = absurd (both_ways false refl h)
+brought_front (first ∷ cards) card h =
+    elim (or_cases (eqb first card) (has cards card) h) [
+      | inl here ↦ (cards, subst (λ number. Reordered (first ∷ cards) (number ∷ cards)) (eqb-true first card here) (same_order (first ∷ cards)))
+      | inr there ↦
+          let found = brought_front cards card there in (
+            first ∷ found.0,
+            both (first ∷ cards) (first ∷ card ∷ found.0) (card ∷ first ∷ found.0) (behind first cards (card ∷ found.0) found.1) (front first card found.0),
+          )
+    ]
+
+pub one_card : (cards : List ℕ) → length cards ≡ 1 → (card : ℕ) × (cards ≡ card ∷ [])
+one_card [] e = absurd (omega (arith, e))
+one_card (card ∷ []) e = (card, refl)
+one_card (card ∷ other ∷ cards) e = absurd (omega (arith, e))
+
+each_lead : (test : ℕ → Bool) → list_all test leads ≡ true → (lead : ℕ) → has leads lead ≡ true → test lead ≡ true
+each_lead test all lead is = all_pass test leads lead all is
+
+-- the ten-cards that the opponent may hold beside the lead
+abbrev pub tens : ℕ → List ℕ
+tens lead = filter (λ card. not (eqb lead card)) leads
+
+each_last : (test : ℕ → ℕ → Bool) → list_all (λ lead. list_all (test lead) (tens lead)) leads ≡ true → (lead last : ℕ) → has leads lead ≡ true →
+    has (tens lead) last ≡ true → test lead last ≡ true
+each_last test all lead last is ten = all_pass (test lead) (tens lead) last (each_lead (λ lead. list_all (test lead) (tens lead)) all lead is) ten
+
+-- ---- what is left of the opening after some acts, or none if they differ from it
+abbrev pub left_with : Act → Option (List Act) → Option (List Act)
+left_with act None = None
+left_with act (Some []) = Some []
+left_with act (Some (next ∷ more)) = if same_act next act then Some more else None
+
+abbrev pub left_after : ℕ → List Act → Option (List Act)
+left_after lead [] = Some (after_lead lead).played
+left_after lead (act ∷ before) = left_with act (left_after lead before)
+
+abbrev pub IsLeft : Option (List Act) → Type 0
+IsLeft None = ⊥
+IsLeft (Some acts) = Unit {0}
+
+abbrev pub is_over : Option (List Act) → Bool
+is_over None = false
+is_over (Some []) = true
+is_over (Some (act ∷ acts)) = false
+
+left_before : (act : Act) (it : Option (List Act)) → IsLeft (left_with act it) → IsLeft it
+left_before act None is = is
+left_before act (Some acts) is = tt
+
+pub left_visible : (visible : Bool) (lead : ℕ) (act : Act) (acts : List Act) → IsLeft (left_after lead (if visible then act ∷ acts else acts)) →
+    IsLeft (left_after lead acts)
+left_visible true lead act acts is = left_before act (left_after lead acts) is
+left_visible false lead act acts is = is
+
+pub the_card : (number card : ℕ) (more : List Act) → IsLeft (if eqb number card then Some more else None) → number ≡ card
+the_card number card more is =
+    elim (cases_Bool (eqb number card)) [
+      | inl same ↦ eqb-true number card same
+      | inr other ↦ absurd (subst (λ (test : Bool). IsLeft (if test then Some more else None)) other is)
+    ]
+
+-- ---- the records of the plan, the last turn first
+abbrev pub six_turns : List Move
+six_turns = Go ∷ Go ∷ Card 42 ∷ Card 12 ∷ Card 20 ∷ Card 4 ∷ []
+
+abbrev pub four_turns : List Move
+four_turns = Card 42 ∷ Card 12 ∷ Card 20 ∷ Card 4 ∷ []
+
+abbrev pub to_lead : ℕ → List Move
+to_lead lead = Card lead ∷ six_turns
+
+abbrev pub to_first : ℕ → List Move
+to_first lead = Card (first_after lead) ∷ to_lead lead
+
+abbrev pub to_last : ℕ → ℕ → List Move
+to_last lead last = Card last ∷ to_first lead
+
+abbrev pub to_close : ℕ → ℕ → List Move
+to_close lead last = Go ∷ Go ∷ to_last lead last
+
+abbrev to_end : ℕ → ℕ → List Move
+to_end lead last = Card (second_after lead) ∷ to_close lead last
+
+pub data Course (lead last : ℕ) : List Move → Type 0 where
+  nothing : Course lead last []
+  two : Course lead last (Card 4 ∷ [])
+  six : Course lead last (Card 20 ∷ Card 4 ∷ [])
+  four : Course lead last (Card 12 ∷ Card 20 ∷ Card 4 ∷ [])
+  jack : Course lead last four_turns
+  their_go : has (tens lead) last ≡ true → Course lead last (Go ∷ four_turns)
+  own_go : has (tens lead) last ≡ true → Course lead last six_turns
+  the_lead : has (tens lead) last ≡ true → Course lead last (to_lead lead)
+  the_first : has (tens lead) last ≡ true → Course lead last (to_first lead)
+  the_last : has (tens lead) last ≡ true → Course lead last (to_last lead last)
+  at_30 : has (tens lead) last ≡ true → Course lead last (Go ∷ to_last lead last)
+  the_close : has (tens lead) last ≡ true → Course lead last (to_close lead last)
+  the_end : has (tens lead) last ≡ true → Course lead last (to_end lead last)
+
+-- ---- what is computed for each lead, and for each last card of the opponent
+abbrev nobody : Dealt
+nobody = record { hold = []; throw = [] }
+
+abbrev pub free : ℕ → List Move → Bool
+free lead past = not (is_stuck (plan_after lead) (after_lead lead).played (start_of (after_lead lead)) (hands_of (after_lead lead) nobody) past)
+
+abbrev goes_on : ℕ → List Move → Bool
+goes_on lead past = not (is_done_for (after_lead lead) past)
+
+abbrev pub can_play : List Move → Bool
+can_play past = list_any (fits past) (cards_left (hands_of before_the_lead nobody) Owner past)
+
+abbrev pub is_second : Next → Bool
+is_second End = false
+is_second (To node) = eqb node 1
+
+abbrev pub is_reached : Outcome → Bool
+is_reached Reached = true
+is_reached Lost = false
+is_reached Short = false
+
+abbrev pub with_last : ℕ → ℕ → Dealt → Dealt
+with_last lead last dealt = record dealt { hold = last ∷ 4 ∷ 12 ∷ lead ∷ [] }
+
+pub begins : (lead : ℕ) → has leads lead ≡ true → is_over (left_after lead (played_back (after_lead lead))) ≡ true
+begins = each_lead (λ lead. is_over (left_after lead (played_back (after_lead lead)))) refl
+
+pub are_fixed : (lead : ℕ) → has leads lead ≡ true → list_all (has (fixed_cards (after_lead lead))) (4 ∷ 12 ∷ lead ∷ []) ≡ true
+are_fixed = each_lead (λ lead. list_all (has (fixed_cards (after_lead lead))) (4 ∷ 12 ∷ lead ∷ [])) refl
+
+pub not_4 : (lead : ℕ) → has leads lead ≡ true → not (eqb 4 lead) ≡ true
+not_4 = each_lead (λ lead. not (eqb 4 lead)) refl
+
+pub not_12 : (lead : ℕ) → has leads lead ≡ true → not (eqb 12 lead) ≡ true
+not_12 = each_lead (λ lead. not (eqb 12 lead)) refl
+
+pub only_tens : (lead : ℕ) → has leads lead ≡ true →
+    list_all (λ card. fits four_turns card || (has (4 ∷ 12 ∷ lead ∷ []) card || has (tens lead) card)) (unseen_of before_the_lead) ≡ true
+unfolding set_where
+only_tens = each_lead (λ lead.
+    list_all (λ card. fits four_turns card || (has (4 ∷ 12 ∷ lead ∷ []) card || has (tens lead) card)) (unseen_of before_the_lead)) refl
+
+pub still_left : (lead : ℕ) → has leads lead ≡ true →
+    list_all (λ card. has (4 ∷ 12 ∷ lead ∷ []) card || not (has (cards_of four_turns) card)) (unseen_of before_the_lead) ≡ true
+unfolding set_where
+still_left = each_lead (λ lead.
+    list_all (λ card. has (4 ∷ 12 ∷ lead ∷ []) card || not (has (cards_of four_turns) card)) (unseen_of before_the_lead)) refl
+
+pub must_play : (lead : ℕ) → has leads lead ≡ true → can_play (to_lead lead) ≡ true
+must_play = each_lead (λ lead. can_play (to_lead lead)) refl
+
+pub all_shown : (lead : ℕ) → has leads lead ≡ true → list_all (has (cards_of (to_first lead))) (4 ∷ 12 ∷ lead ∷ []) ≡ true
+all_shown = each_lead (λ lead. list_all (has (cards_of (to_first lead))) (4 ∷ 12 ∷ lead ∷ [])) refl
+
+pub free_at_lead : (lead : ℕ) → has leads lead ≡ true → free lead (to_lead lead) ≡ true
+free_at_lead = each_lead (λ lead. free lead (to_lead lead)) refl
+
+pub free_at_first : (lead : ℕ) → has leads lead ≡ true → free lead (to_first lead) ≡ true
+free_at_first = each_lead (λ lead. free lead (to_first lead)) refl
+
+pub on_at_lead : (lead : ℕ) → has leads lead ≡ true → goes_on lead (to_lead lead) ≡ true
+on_at_lead = each_lead (λ lead. goes_on lead (to_lead lead)) refl
+
+pub on_at_first : (lead : ℕ) → has leads lead ≡ true → goes_on lead (to_first lead) ≡ true
+on_at_first = each_lead (λ lead. goes_on lead (to_first lead)) refl
+
+pub is_left : (lead last : ℕ) → has leads lead ≡ true → has (tens lead) last ≡ true → not (has (cards_of (to_first lead)) last) ≡ true
+is_left = each_last (λ lead last. not (has (cards_of (to_first lead)) last)) refl
+
+pub last_fits : (lead last : ℕ) → has leads lead ≡ true → has (tens lead) last ≡ true → fits (to_first lead) last ≡ true
+last_fits = each_last (λ lead last. fits (to_first lead) last) refl
+
+pub own_stops : (lead last : ℕ) → has leads lead ≡ true → has (tens lead) last ≡ true → not (can_play (to_last lead last)) ≡ true
+own_stops = each_last (λ lead last. not (can_play (to_last lead last))) refl
+
+pub own_plays : (lead last : ℕ) → has leads lead ≡ true → has (tens lead) last ≡ true → can_play (to_close lead last) ≡ true
+own_plays = each_last (λ lead last. can_play (to_close lead last)) refl
+
+pub four_shown : (lead last : ℕ) → has leads lead ≡ true → has (tens lead) last ≡ true →
+    list_all (has (cards_of (Go ∷ to_last lead last))) (last ∷ 4 ∷ 12 ∷ lead ∷ []) ≡ true
+four_shown = each_last (λ lead last. list_all (has (cards_of (Go ∷ to_last lead last))) (last ∷ 4 ∷ 12 ∷ lead ∷ [])) refl
+
+pub late : (lead last : ℕ) → has leads lead ≡ true → has (tens lead) last ≡ true →
+    not (is_some (next_played (after_lead lead).played Opponent (to_close lead last))) ≡ true
+late = each_last (λ lead last. not (is_some (next_played (after_lead lead).played Opponent (to_close lead last)))) refl
+
+pub placed : (lead last : ℕ) → has leads lead ≡ true → has (tens lead) last ≡ true →
+    is_second (place_of (plan_after lead) (after_lead lead).played Opponent (to_close lead last)) ≡ true
+placed = each_last (λ lead last. is_second (place_of (plan_after lead) (after_lead lead).played Opponent (to_close lead last))) refl
+
+pub free_at_last : (lead last : ℕ) → has leads lead ≡ true → has (tens lead) last ≡ true → free lead (to_last lead last) ≡ true
+free_at_last = each_last (λ lead last. free lead (to_last lead last)) refl
+
+pub free_at_30 : (lead last : ℕ) → has leads lead ≡ true → has (tens lead) last ≡ true → free lead (Go ∷ to_last lead last) ≡ true
+free_at_30 = each_last (λ lead last. free lead (Go ∷ to_last lead last)) refl
+
+pub free_at_close : (lead last : ℕ) → has leads lead ≡ true → has (tens lead) last ≡ true → free lead (to_close lead last) ≡ true
+free_at_close = each_last (λ lead last. free lead (to_close lead last)) refl
+
+pub free_at_end : (lead last : ℕ) → has leads lead ≡ true → has (tens lead) last ≡ true → free lead (to_end lead last) ≡ true
+free_at_end = each_last (λ lead last. free lead (to_end lead last)) refl
+
+pub on_at_last : (lead last : ℕ) → has leads lead ≡ true → has (tens lead) last ≡ true → goes_on lead (to_last lead last) ≡ true
+on_at_last = each_last (λ lead last. goes_on lead (to_last lead last)) refl
+
+pub on_at_30 : (lead last : ℕ) → has leads lead ≡ true → has (tens lead) last ≡ true → goes_on lead (Go ∷ to_last lead last) ≡ true
+on_at_30 = each_last (λ lead last. goes_on lead (Go ∷ to_last lead last)) refl
+
+pub on_at_close : (lead last : ℕ) → has leads lead ≡ true → has (tens lead) last ≡ true → goes_on lead (to_close lead last) ≡ true
+on_at_close = each_last (λ lead last. goes_on lead (to_close lead last)) refl
+
+pub done_at_end : (lead last : ℕ) → has leads lead ≡ true → has (tens lead) last ≡ true → is_done_for (after_lead lead) (to_end lead last) ≡ true
+done_at_end = each_last (λ lead last. is_done_for (after_lead lead) (to_end lead last)) refl
+
+pub wins : (dealt : Dealt) (lead last : ℕ) → has leads lead ≡ true → has (tens lead) last ≡ true →
+    is_reached (outcome_of (full_of (after_lead lead) (with_last lead last dealt) (to_end lead last))) ≡ true
+unfolding outcome_of hand_points
+wins dealt = each_last (λ lead last. is_reached (outcome_of (full_of (after_lead lead) (with_last lead last dealt) (to_end lead last)))) refl

@@ -69,8 +69,8 @@ impl WorstShow {
         hand.plain + self.most_sought(plain, &sought, hand.suits, crib + hand.suits)
     }
 
-    // The greatest number up to `bound` for which some throw gives at least this many of the sought points, or 0.
-    // `spare` is the most points that suits add to the hand.
+    // The greatest number up to `bound` for which some throw scores at least this many of these points, or 0. `spare`
+    // is the most points that suits add to the hand.
     fn most_sought(&self, plain: &PlainCribs, sought: &Sought, spare: u8, bound: u8) -> u8
         requires plain { ArePlain self.now.starter self.now.own_throw plain.now }
         requires range { spare ≤ 6 }
@@ -168,7 +168,7 @@ impl Throws<'_> {
             && enough <= self.sought_points(first, second)
     }
 
-    // The points that are sought, with these two cards thrown.
+    // The points to make as great as possible, with these two cards thrown.
     fn sought_points(&self, first: Card, second: Card) -> u8
         ensures { result ≡ sought_points self.now.worst.now self.now.sought.now first second }
     {

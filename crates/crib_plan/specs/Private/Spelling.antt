@@ -8,7 +8,7 @@ use Rattle.crib_plan.specs.declared.plan.Node.{Node}
 use Rattle.crib_plan.specs.declared.plan.Node.TheVariants.{Play, See}
 use Rattle.crib_plan.specs.Spelling.{branch_word}
 
--- the nodes of earlier branches, with those of some more branches added
+-- the given nodes, with those of some branches added
 abbrev pub seen_after : List ℕ → List Next → List ℕ
 seen_after before [] = before
 seen_after before (End ∷ branches) = seen_after before branches

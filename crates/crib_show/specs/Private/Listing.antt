@@ -43,8 +43,8 @@ points_pass worst (HandOrShort least counted) hand crib =
 abbrev pub passes : WorstShow → Test → Dealt → Bool
 passes worst test dealt = points_pass worst test (hidden_hand worst dealt) (hidden_crib worst dealt)
 
--- the first deal made of the cards that are taken and n more cards of a list. The choices are tried in dictionary
--- order, and only with cards that may be chosen
+-- the first deal made of the chosen cards and n more cards of a list. The choices are tried in dictionary order, and
+-- only with cards that may be chosen
 unfoldable pub first_choice : (List ℕ → Option Dealt) → (ℕ → Bool) → List ℕ → ℕ → List ℕ → Option Dealt
 first_choice gives may taken zero cards = gives taken
 first_choice gives may taken (suc n) [] = None
@@ -81,7 +81,7 @@ try_hold worst test hold =
 abbrev pub may_be_held : WorstShow → ℕ → Bool
 may_be_held worst card = nat_lt 0 (count_at worst.ranks (rank_of card))
 
--- the first deal that passes and whose hold is the cards that are taken and n more of a list
+-- the first deal that passes and whose hold is the chosen cards and n more of a list
 abbrev pub first_hold : WorstShow → Test → List ℕ → ℕ → List ℕ → Option Dealt
 first_hold worst test taken n cards = first_choice (try_hold worst test) (may_be_held worst) taken n cards
 

@@ -35,7 +35,6 @@ impl<T> Counted<T> {
         inner
     }
 
-    // The count of failed calls.
     fn failed_calls(&self) -> u64
         ensures { result ≡ counted_faults self.now }
     {

@@ -45,7 +45,7 @@ impl WorstShow {
         self.greatest_total(&plain, self.greatest_crib(&plain))
     }
 
-    // The points of the greatest crib over the hidden deals that agree. Some hidden deal must agree.
+    // The points of the greatest crib among the hidden deals that agree. Some hidden deal must agree.
     pub(crate) fn greatest_crib(&self, plain: &PlainCribs) -> u8
         requires deal { HasDeal self.now }
         requires plain { ArePlain self.now.starter self.now.own_throw plain.now }

@@ -1,5 +1,4 @@
-//! The laws of equality, for sets of cards and counts of ranks. The function does nothing; its contract states the
-//! laws.
+//! The laws of equality for card sets and rank counts. The function does nothing; its contract states the laws.
 ghost use Rattle.std.specs.Bool.{Decides};
 ghost use Rattle.std.specs.Prelude.{◌≡◌, ℕ, List};
 ghost use Rattle.crib_cards.specs.Sets.{IsCardSet};
@@ -7,11 +6,11 @@ ghost use Rattle.crib_cards.specs.Sets.{IsCardSet};
 use crate::counts::RankCounts;
 use crate::sets::CardSet;
 
-/// `==` answers yes exactly where two values are the same.
+/// `==` is true exactly if two values are the same.
 ///
-/// - `sets`: two sets of cards are equal exactly where they have the same cards. The law is about lists that are sets;
+/// - `sets`: two sets of cards are equal exactly if they have the same cards. The law is about lists that are sets;
 ///   each `CardSet` is one, as [`CardSet::lowest`] states.
-/// - `counts`: two `RankCounts` are equal exactly where the count of each rank is the same.
+/// - `counts`: two `RankCounts` are equal exactly if the count of each rank is the same.
 pub fn equal_law()
     ensures sets { (one other : List ℕ) → IsCardSet one → IsCardSet other →
         Decides (⟦<CardSet as PartialEq>⟧.eq one other) (one ≡ other) }

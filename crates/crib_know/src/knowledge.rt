@@ -1,18 +1,18 @@
-//! What the owner knows, in two halves: what he sees, and what the opponent has shown.
+//! What the owner knows, in two halves: what the owner sees, and what the opponent has shown.
 ghost use Rattle.std.specs.Prelude.{◌≡◌};
 
 use crib_cards::{CardSet, RankCounts};
 use crib_play::Round;
 
-/// What the owner sees: the round, his cards left, the unseen cards and the fixed cards.
+/// What the owner sees: the round, the owner's cards left, the unseen cards and the fixed cards.
 ///
-/// Only the round is hashed. In one problem few of these values have the same round.
+/// Only the round is hashed, because in one problem few of these values have the same round.
 #[derive(PartialEq, Eq, Drop, Debug)]
 #[derive_where(Hash)]
 pub struct Sight {
-    /// What lies on the table, and whom the rules ask.
+    /// What lies on the table, and the player to move.
     pub round: Round,
-    /// The owner's cards that are not played.
+    /// The owner's cards that have not been played.
     #[derive_where(skip(Hash))]
     pub own_left: CardSet,
     /// The cards that the owner does not see at the first lead.
@@ -23,16 +23,16 @@ pub struct Sight {
     pub fixed: CardSet,
 }
 
-/// What the opponent has shown of his four cards.
+/// What the opponent has shown of their four cards.
 #[derive(Clone, Copy, PartialEq, Eq, Debug)]
 #[derive_where(Hash)]
 pub struct Shown {
-    /// How many cards of each rank he has played.
+    /// How many cards of each rank the opponent has played.
     pub ranks_seen: RankCounts,
-    /// How many cards he has left, 0 to 4.
+    /// How many cards the opponent has left, 0 to 4.
     #[derive_where(skip(Hash))]
     pub opponent_left: u8,
-    /// The least value that each card left to him can have, 1 to 10.
+    /// The least value that each card left to the opponent can have, 1 to 10.
     pub least: u8,
 }
 

@@ -1,4 +1,4 @@
--- The laws of see lines: when a branch is refused, in the words of the format.
+-- The laws of see lines: when a branch is refused, in the terms of the format.
 use Rattle.std.specs.Prelude.{◌≡◌, ◌≢◌, ℕ, ◌<◌, ◌≤◌, ◌==◌, Bool, true, false, List, [], ◌∷◌, ◌++◌, ◌⊎◌, length, map}
 use Rattle.std.specs.Prelude.{count_by, slice_index, Some, None, IsOk, Err, codes, decimal}
 use Rattle.std.specs.List.{list_any, position_or_len, AllByRecursion}
@@ -33,7 +33,7 @@ letter_number byte = position_or_len (λ letter. letter == byte) letter_bytes
 abbrev pub first_number : List ℕ → ℕ
 first_number set = letter_number (slice_index set 0)
 
--- whether a letter stands in some branches
+-- whether a letter occurs in some branches
 abbrev pub has_letter : List Branch → ℕ → Bool
 has_letter branches letter = list_any (λ branch. has branch.set letter) branches
 
@@ -41,14 +41,14 @@ has_letter branches letter = list_any (λ branch. has branch.set letter) branche
 abbrev pub has_node : List Branch → ℕ → Bool
 has_node branches node = list_any (λ branch. branch.node == node) branches
 
--- a place is behind that of the first letter of the last branch, if there is a branch
+-- a place is after that of the first letter of the last branch, if there is a branch
 abbrev pub IsBehindLast : List Branch → ℕ → Type 0
 IsBehindLast [] number = Unit {0}
 IsBehindLast (branch ∷ []) number = first_number branch.set < number
 IsBehindLast (branch ∷ next ∷ branches) number = IsBehindLast (next ∷ branches) number
 
--- letters that may stand in the next branch: they are one or more letters in their order, none stood in an earlier
--- branch, and the first one is behind the first letter of the branch before
+-- letters that are allowed in the next branch: they are one or more letters in their order, none is in an earlier
+-- branch, and the first one is after the first letter of the branch before
 pub record IsNextSet (earlier : List Branch) (set : List ℕ) : Type 0 where
   pub some : 0 < length set
   pub in_order : AreInOrder set letter_bytes
@@ -61,13 +61,13 @@ Pass place count earlier =
     AllByRecursion (λ branch. branch.node ≤ 4294967295) earlier
     × IsOk (branches_in place count no_branches (map branch_spelling earlier))
 
--- behind branches that pass, a word is refused with this number, whatever words follow it
+-- after branches that pass, a word is refused with this number, whatever words follow it
 abbrev pub IsRefused : ℕ → ℕ → List Branch → List ℕ → ℕ → Type 0
 IsRefused place count earlier word number =
     (more : List (List ℕ)) →
     branches_in place count no_branches (map branch_spelling earlier ++ word ∷ more) ≡ Err number
 
--- no colon stands among bytes
+-- bytes contain no colon
 abbrev pub HasNoColon : List ℕ → Type 0
 HasNoColon bytes = list_any (λ byte. byte == colon) bytes ≡ false
 
@@ -81,7 +81,7 @@ ColonLaw =
     (place count : ℕ) (earlier : List Branch) (word : List ℕ) → Pass place count earlier →
     count_by (λ byte. byte == colon) word ≢ 1 → IsRefused place count earlier word bad_line
 
--- second: letters that may not stand there are refused
+-- second: letters that are not allowed there are refused
 abbrev pub SetLaw : Type 0
 SetLaw =
     (place count : ℕ) (earlier : List Branch) (set next : List ℕ) → Pass place count earlier →

@@ -12,7 +12,7 @@ use crate::plan::Node;
 use crib_cards::read_card;
 use crib_text::{Line, TextCause, check_keyword, number_of, word_at};
 
-// The number of nodes in the `nodes` line. Refused are a wrong keyword or number of words (4), a word that is no number
+// The number of nodes in the `nodes` line. It refuses a wrong keyword or number of words (4), a word that is no number
 // (6), and a number above 65,535 (32).
 #[tactic(auto, using(crate::proofs::LineLemmas::words_after), unfolding(crate::specs::Reading::count_in))]
 pub(crate) fn count_of(line: &Line<'_>) -> Result<u16, PlanCause>
@@ -26,7 +26,7 @@ pub(crate) fn count_of(line: &Line<'_>) -> Result<u16, PlanCause>
     Ok(count as u16)
 }
 
-// The node of a line, at `place` in a plan of `count` nodes. The second word says which kind of node it is. A line with
+// The node of a line, at `place` in a plan of `count` nodes. The second word states the kind of node. A line with
 // another second word is refused (4).
 #[tactic(auto, using(crate::proofs::LineLemmas::in_node))]
 pub(crate) fn read_node_line(line: &Line<'_>, place: u16, count: u16) -> Result<Node, PlanCause>
@@ -72,7 +72,7 @@ fn see_of(line: &Line<'_>, place: u16, count: u16) -> Result<Node, PlanCause>
     Ok(Node::See { next })
 }
 
-// Checks that a line begins with the number of its node. Refused are a word that is no number (6) and another number
+// Checks that a line begins with the number of its node. It refuses a word that is no number (6) and another number
 // (4).
 #[tactic(auto, unfolding(crate::specs::Reading::own_number_in))]
 fn check_own_number(place: u16, word: &[u8]) -> Result<(), PlanCause>

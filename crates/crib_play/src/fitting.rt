@@ -12,7 +12,7 @@ pub fn fits(card: Card, count: u8) -> bool
     count.saturating_add(card.rank().value()) <= 31
 }
 
-/// Whether some card of the set fits at this count. For the empty set the answer is no.
+/// Whether some card of the set fits at this count. False for the empty set.
 pub fn any_fits(cards: CardSet, count: u8) -> bool
     ensures { result ≡ list_any (fits_at count) cards }
 {

@@ -16,7 +16,7 @@ LinesCutLaw =
     problem_at (record { number = number; lines = front }) ≡
     Err (record { line = number + length front; number = cut_short })
 
--- each proper beginning of the text of a problem is refused as cut short, at the line of the first byte that is missing
+-- each proper beginning of the text of a problem is refused as cut short, at the line of the first missing byte
 abbrev pub TextCutLaw : Type 0
 TextCutLaw =
     (problem : Setup) (front : List ℕ) (next : ℕ) (back : List ℕ) → IsSetup problem →

@@ -17,7 +17,7 @@ use std::alloc::Allocator;
 // The greatest number of acts in a section.
 const MOST_ACTS: u32 = 32;
 
-/// Returns the card that a word spells. The word is refused with 5 where it is no card.
+/// Returns the card that a word spells. A word that is no card is refused with 5.
 pub fn card_of(word: &[u8]) -> Result<Card, TextCause>
     ensures { Gives (λ card. card) cause_number result (card_in word.now) }
 {
@@ -27,9 +27,8 @@ pub fn card_of(word: &[u8]) -> Result<Card, TextCause>
     }
 }
 
-/// Returns the number of acts that a line announces: the keyword, and then a number up to 32. The line is refused with
-/// 4 for another keyword or another number of words. It is refused with 6 where the second word is not a number up to
-/// 32.
+/// Returns the number of acts that a line states: the keyword, and then a number up to 32. The line is refused with 4
+/// for another keyword or another number of words. It is refused with 6 if the second word is not a number up to 32.
 #[tactic(auto, using(crate::proofs::LineLemmas::words_after), unfolding(crate::specs::Reading::acts_count_in))]
 pub fn acts_count_of(line: &Line<'_>, keyword: &[u8]) -> Result<u32, TextCause>
     ensures count { Gives (λ count. count) cause_number result (acts_count_in keyword.now (line_of line.now).words) }
@@ -66,8 +65,8 @@ fn move_of(word: &[u8]) -> Result<Move, TextCause>
     Ok(Move::Card(card_of(word)?))
 }
 
-/// Returns the act of a line such as `own 2C` or `opp go`. The line is refused with 4 where it has not two words or the
-/// first is neither `own` nor `opp`. It is refused with 5 where the second word is neither `go` nor a card.
+/// Returns the act of a line such as `own 2C` or `opp go`. The line is refused with 4 if it has not two words or the
+/// first is neither `own` nor `opp`. It is refused with 5 if the second word is neither `go` nor a card.
 #[tactic(auto, using(crate::proofs::ActLemmas::two_in_act))]
 pub fn act_of(line: &Line<'_>) -> Result<Act, TextCause>
     ensures { Gives (λ act. act) cause_number result (act_in (line_of line.now).words) }

@@ -1,4 +1,4 @@
-//! The counted shows of one problem, kept from one end of the play to the next.
+//! The counted shows of one problem, kept between the ends of the play.
 ghost use Rattle.std.specs.Prelude.{◌≡◌, ℕ, ◌+◌, ◌*◌, ◌<◌, ◌≤◌, List, length};
 ghost use Rattle.crib_show.specs.Private.Places.{IsPlace};
 ghost use Rattle.crib_show.specs.Places.{below, many, place_among};
@@ -15,20 +15,20 @@ use crib_cards::Card;
 /// How many choices of four ranks there are.
 const PLACES: usize = 1820;
 
-/// The value of points that have not been worked out.
+/// The value of points that have not been computed.
 const NOT_KEPT: u8 = 255;
 
-/// The counted shows of one problem, kept from one end of the play to the next.
+/// The counted shows of one problem, kept between the ends of the play.
 ///
-/// Within a problem the starter, the owner's cards, the unseen and the fixed cards stay the same. So what has been
-/// worked out for some ranks of the opponent holds at every end with these ranks, whatever the scores are.
+/// Within a problem the starter, the owner's cards, the unseen and the fixed cards stay the same. So the points
+/// computed for some ranks of the opponent hold at every end with these ranks, whatever the scores.
 #[derive(Clone, Debug, Drop)]
 pub struct ExtremesByRanks {
     pub(crate) own: OwnPoints,
     kept: [Extremes; PLACES],
 }
 
-/// The points that have been worked out for some ranks of the opponent, in four bytes.
+/// The points that have been computed for some ranks of the opponent, in four bytes.
 #[derive(Clone, Copy, Debug)]
 pub struct Extremes {
     /// The points of the greatest hand.
@@ -42,7 +42,7 @@ pub struct Extremes {
 }
 
 impl Extremes {
-    // Nothing has been worked out.
+    // Nothing has been computed.
     fn new() -> Self
         ensures { (worst : WorstShow) → AreKept worst result }
     {
@@ -54,7 +54,7 @@ impl Extremes {
         }
     }
 
-    // The points of the greatest hand. They are worked out if they are not kept. Some hidden deal must agree.
+    // The points of the greatest hand, computed unless they are kept. Some hidden deal must agree.
     pub(crate) fn greatest_hand(&mut self, worst: &WorstShow) -> u8
         requires deal { HasDeal worst.now }
         requires kept { AreKept worst.now self.old }
@@ -69,7 +69,7 @@ impl Extremes {
         points
     }
 
-    // The points of the least crib. They are worked out if they are not kept. Some hidden deal must agree.
+    // The points of the least crib, computed unless they are kept. Some hidden deal must agree.
     pub(crate) fn least_crib(&mut self, worst: &WorstShow, own: &mut OwnPoints) -> u8
         requires deal { HasDeal worst.now }
         requires own { AreOwnPoints worst.now.starter worst.now.own_hold worst.now.own_throw own.old }
@@ -87,7 +87,7 @@ impl Extremes {
         points
     }
 
-    // The points of the greatest crib. They are worked out if they are not kept. Some hidden deal must agree.
+    // The points of the greatest crib, computed unless they are kept. Some hidden deal must agree.
     pub(crate) fn greatest_crib(&mut self, worst: &WorstShow, own: &mut OwnPoints) -> u8
         requires deal { HasDeal worst.now }
         requires own { AreOwnPoints worst.now.starter worst.now.own_hold worst.now.own_throw own.old }
@@ -105,8 +105,7 @@ impl Extremes {
         points
     }
 
-    // The points of the greatest sum of hand and crib. They are worked out if they are not kept. Some hidden deal must
-    // agree.
+    // The points of the greatest sum of hand and crib, computed unless they are kept. Some hidden deal must agree.
     pub(crate) fn greatest_total(&mut self, worst: &WorstShow, own: &mut OwnPoints) -> u8
         requires deal { HasDeal worst.now }
         requires own { AreOwnPoints worst.now.starter worst.now.own_hold worst.now.own_throw own.old }
@@ -127,7 +126,7 @@ impl Extremes {
 }
 
 impl ExtremesByRanks {
-    /// The shows of a problem with these cards, of which nothing has been looked at yet.
+    /// The shows of a problem with these cards, none of which has been counted yet.
     pub fn new(hold: &[Card; 4], throw: &[Card; 2], starter: Card) -> ExtremesByRanks
         ensures { (unseen fixed : List ℕ) → AreExtremes starter hold.now throw.now unseen fixed result }
     {
@@ -141,7 +140,7 @@ impl ExtremesByRanks {
         }
     }
 
-    /// What is kept of a show in the place of its ranks.
+    /// The points kept for a show, at the place of its ranks.
     pub(crate) fn kept(&self, worst: &WorstShow, place: usize) -> Extremes
         requires shows { AreExtremesFor worst.now self.now }
         requires place { IsPlace worst.now.ranks place }
@@ -150,7 +149,7 @@ impl ExtremesByRanks {
         self.kept[place]
     }
 
-    /// Keeps what has been worked out of a show, in the place of its ranks.
+    /// Keeps the points computed for a show, at the place of its ranks.
     pub(crate) fn keep(&mut self, worst: &WorstShow, place: usize, kept: Extremes)
         requires shows { AreExtremesFor worst.now self.old }
         requires place { IsPlace worst.now.ranks place }
@@ -174,7 +173,7 @@ impl WorstShow {
     }
 }
 
-/// The place of some counts of ranks among all choices of so many cards.
+/// The place of some rank counts among all choices of this number of cards.
 fn place_among(counts: &[u8], cards: u8) -> usize
     requires counts { length counts.now ≤ 13 }
     requires cards { cards ≤ 4 }
@@ -190,7 +189,7 @@ fn place_among(counts: &[u8], cards: u8) -> usize
     }
 }
 
-/// How many choices there are, among so many ranks, of fewer cards.
+/// How many choices of fewer cards there are among this number of ranks.
 fn below(ranks: usize, cards: u8) -> usize
     requires ranks { ranks < 13 }
     requires cards { cards ≤ 4 }
@@ -200,7 +199,7 @@ fn below(ranks: usize, cards: u8) -> usize
     FEWER[cards as usize][ranks]
 }
 
-/// How many choices there are of fewer cards, among no rank and more.
+/// How many choices of fewer cards there are: a row for each of 0 to 4 cards, a column for each of 0 to 12 ranks.
 const FEWER: [[usize; 13]; 5] = [
     [0, 0, 0, 0, 0, 0, 0, 0, 0, 0, 0, 0, 0],
     [1, 1, 1, 1, 1, 1, 1, 1, 1, 1, 1, 1, 1],

@@ -19,12 +19,12 @@ use crib_cards::{Card, Rank, Suit};
 pub enum Sought {
     /// Those of the crib.
     Crib,
-    /// Those of the crib, and those that suits add to the opponent's hand of these ranks.
+    /// Those of the crib, and the most that suits add to the opponent's hand of these ranks.
     CribAndHand([Rank; 4]),
 }
 
-// The opponent's throws, and the points that are sought among them. `spare` is the most points that suits add to the
-// hand.
+// The opponent's throws, and the points that are searched for among them. `spare` is the most points that suits add to
+// the hand.
 #[derive(Drop)]
 struct Throws<'a> {
     worst: &'a WorstShow,
@@ -45,7 +45,7 @@ impl WorstShow {
         self.greatest_total(&plain, self.greatest_crib(&plain))
     }
 
-    // The points of the greatest crib over the hidden deals that agree. Some hidden deal must agree.
+    // The points of the greatest crib among the hidden deals that agree. Some hidden deal must agree.
     pub(crate) fn greatest_crib(&self, plain: &PlainCribs) -> u8
         requires deal { HasDeal self.now }
         requires plain { ArePlain self.now.starter self.now.own_throw plain.now }
@@ -69,7 +69,7 @@ impl WorstShow {
         hand.plain + self.most_sought(plain, &sought, hand.suits, crib + hand.suits)
     }
 
-    // The greatest number up to `bound` such that some throw gives so many of the points that are sought, or 0. `spare`
+    // The greatest number up to `bound` for which some throw scores at least this many of these points, or 0. `spare`
     // is the most points that suits add to the hand.
     fn most_sought(&self, plain: &PlainCribs, sought: &Sought, spare: u8, bound: u8) -> u8
         requires plain { ArePlain self.now.starter self.now.own_throw plain.now }
@@ -91,7 +91,7 @@ impl WorstShow {
         most
     }
 
-    // The show without these two cards among the unseen ones. The opponent threw them, so he cannot hold them.
+    // The show with these two thrown cards removed from the unseen ones, since the opponent can't hold them.
     fn without_throw(&self, first: Card, second: Card) -> WorstShow
         ensures { result ≡ without_throw self.now first second }
     {
@@ -168,7 +168,7 @@ impl Throws<'_> {
             && enough <= self.sought_points(first, second)
     }
 
-    // The points that are sought, with these two cards thrown.
+    // The points to make as great as possible, with these two cards thrown.
     fn sought_points(&self, first: Card, second: Card) -> u8
         ensures { result ≡ sought_points self.now.worst.now self.now.sought.now first second }
     {

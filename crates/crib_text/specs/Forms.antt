@@ -3,7 +3,7 @@ use Rattle.std.specs.Prelude.{ℕ, zero, suc, ◌+◌, List, [], ◌∷◌, Resu
 use Rattle.crib_text.specs.Refusals.{Refusal}
 use Rattle.crib_text.specs.Reading.{◌>>=◌, Rest, value_at}
 
--- the values of some words, from left to right, or the refusal of the first word that spells none
+-- the values of some words, from left to right, or the refusal of the first word that spells no value
 unfoldable pub each_in : {A : Type 0} → (List ℕ → Result A ℕ) → List (List ℕ) → Result (List A) ℕ
 each_in read [] = Ok []
 each_in read (word ∷ words) = do
@@ -11,8 +11,8 @@ each_in read (word ∷ words) = do
   values ← each_in read words
   Ok (value ∷ values)
 
--- so many values, one from each line, from a place on, and the lines after them. How a line is read may depend on its
--- place
+-- a number of values, one from each line, and the lines after them. How a line is read may depend on its place, which
+-- is counted from the given one
 unfoldable pub values_at
     : {A : Type 0} → (ℕ → List (List ℕ) → Result A ℕ) → ℕ → ℕ → Rest → Result (List A × Rest) Refusal
 values_at read place zero rest = Ok ([], rest)

@@ -1,3 +1,3 @@
--- What private functions alone cite. No public contract rests on it.
+-- Definitions that only private functions cite. No public contract rests on them.
 pub mod Device
 pub mod Reading

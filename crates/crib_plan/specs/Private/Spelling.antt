@@ -1,4 +1,4 @@
--- The lines of a plan as the code reads and writes them, branch by branch, and the room that they take.
+-- The lines of a plan as the code reads and writes them, branch by branch, and the most bytes that they need.
 use Rattle.std.specs.Prelude.{ℕ, List, [], ◌∷◌, if◌then◌else◌}
 use Rattle.crib_cards.specs.Sets.{has}
 use Rattle.crib_text.specs.Spelling.{space}
@@ -8,7 +8,7 @@ use Rattle.crib_plan.specs.declared.plan.Node.{Node}
 use Rattle.crib_plan.specs.declared.plan.Node.TheVariants.{Play, See}
 use Rattle.crib_plan.specs.Spelling.{branch_word}
 
--- the nodes that stood before, once some more branches have come
+-- the given nodes, with those of some branches added
 abbrev pub seen_after : List ℕ → List Next → List ℕ
 seen_after before [] = before
 seen_after before (End ∷ branches) = seen_after before branches

@@ -1,6 +1,6 @@
--- What a turn changes on the table, step by step, as the code does it. The contracts of `Round` don't speak of these
--- steps. They say what a round stands for (`StandsFor`) and which points a turn adds (`points_added`), by the rules
--- alone.
+-- What a turn changes on the table, step by step, as the code does it. The contracts of `Round` don't mention these
+-- steps. They state what a round represents (`StandsFor`) and the points that a turn adds (`points_added`), by the
+-- rules alone.
 use Rattle.std.specs.Prelude.{ℕ, ◌+◌, ◌-◌, ◌==◌, nat_lt, Bool, true, false, ◌||◌, ◌&&◌, [], ◌∷◌, ◌++◌, if◌then◌else◌}
 use Rattle.crib_cards.specs.declared.sides.Side.{Side}
 use Rattle.crib_cards.specs.declared.sides.Side.TheVariants.{Owner, Opponent}
@@ -27,7 +27,7 @@ with_seat table Opponent seat = record table { opponent = seat }
 abbrev pub seat_after_close : Seat → Seat
 seat_after_close seat = record { left = seat.left; may_be_asked = nat_lt 0 seat.left }
 
--- a seat with one card less, of a side that has not said go: it is heard if a card is left
+-- a seat with one card fewer, of a side that has not said go: it is heard if a card is left
 abbrev pub with_card_less : Seat → Seat
 with_card_less seat = record { left = seat.left - 1; may_be_asked = nat_lt 0 (seat.left - 1) }
 
@@ -44,7 +44,7 @@ table_after_close table =
 abbrev pub with_points : Standing → Side → ℕ → Standing
 with_points table side points = record table { scores = scores_with table.scores side points }
 
--- the table with somebody else asked
+-- the table with another player to move
 abbrev pub with_asked : Standing → Turn → Standing
 with_asked table turn = record table { asked = turn }
 
@@ -52,7 +52,7 @@ with_asked table turn = record table { asked = turn }
 abbrev pub points_of_laying : Standing → ℕ → ℕ
 points_of_laying table rank = card_points (8 - (table.owner.left + table.opponent.left)) (table.pile ++ rank ∷ [])
 
--- the table with a card of a side on the pile: its points are scored, and the side has one card less
+-- the table with a card of a side on the pile: its points are scored, and the side has one card fewer
 abbrev pub with_card_on_pile : Standing → Side → ℕ → Standing
 with_card_on_pile table side rank =
     with_seat
@@ -69,16 +69,16 @@ table_after_laying table side rank =
     if count_of (table.pile ++ rank ∷ []) == 31 then table_after_close (with_card_on_pile table side rank)
     else with_card_on_pile table side rank
 
--- whom the rules ask in a new count, after a turn of a side: nobody where the deal is done, otherwise the other side if
--- it is heard, and otherwise the same side
+-- the player to move in a new count, after a turn of a side: nobody if the deal is done, otherwise the other side if it
+-- is heard, and otherwise the same side
 abbrev pub next_to_lead : Standing → Side → Turn
 next_to_lead table side =
     if is_over table then turns.Over
     else if (seat_of table (other_side side)).may_be_asked then side_asked (other_side side)
     else side_asked side
 
--- the table after a turn of a side and the silent gos that follow it. Where the deal is done nobody is asked. Otherwise
--- the other side is asked if it is heard, and else the same side if it is. If neither is heard, the count closes, the
+-- the table after a turn of a side and the silent gos that follow it. If the deal is done, nobody is to move. Otherwise
+-- the other side is to move if it is heard, and else the same side if it is. If neither is heard, the count closes, the
 -- player of the last card gets 1, and a new count begins
 abbrev pub with_next_asked : Standing → Side → Standing
 with_next_asked table side =

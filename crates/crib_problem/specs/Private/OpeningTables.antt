@@ -1,4 +1,4 @@
--- What a table holds after some acts of an opening.
+-- What a table represents after some acts of an opening.
 use Rattle.std.specs.Prelude.{◌≡◌, ℕ, ◌+◌, List, Option, Some, None, length, IsTrue}
 use Rattle.crib_cards.specs.Cards.{IsCard}
 use Rattle.crib_cards.specs.Sets.{has}
@@ -16,8 +16,8 @@ use Rattle.crib_problem.specs.declared.turns.OpeningTable.{OpeningTable}
 use Rattle.crib_problem.specs.Refusals.{already_over}
 use Rattle.crib_problem.specs.Played.{OpeningBasis, record_by, own_left_by, seen_by, least_by, turn_refusal}
 
--- each card of the owner's hold is a card of the pack that he knows, and the number of his cards left and the number
--- that he has played make four together
+-- each card of the owner's hold is a known card of the pack, and the cards that the owner has left and has played are
+-- four together
 pub record Keeps (basis : OpeningBasis) (before : List Act) : Type 0 where
   pub known : (card : ℕ) → IsTrue (has basis.hold card) → IsCard card × IsTrue (has basis.known card)
   pub four :
@@ -31,7 +31,7 @@ pub record IsAfter (table : OpeningTable) (basis : OpeningBasis) (before : List 
   pub least : table.least ≡ least_by basis before
   pub keeps : Keeps basis before
 
--- the table is the one after some acts on some board
+-- the table is the one after some acts, for some basis
 pub record IsReal (table : OpeningTable) : Type 0 where
   pub basis : OpeningBasis
   pub before : List Act
@@ -42,7 +42,7 @@ abbrev pub refusal_at : OpeningTable → Act → Option ℕ
 refusal_at table act =
     turn_refusal table.seen table.round.asked (count_of table.round.pile) table.own table.least act
 
--- the refusal of a turn by whom the rules ask after it: the deal is done where they ask nobody
+-- the refusal of a turn, given the player to move after it: the deal is done if there is none
 abbrev pub end_refusal : Turn → Option ℕ
 end_refusal turns.Owner = None
 end_refusal turns.Opponent = None

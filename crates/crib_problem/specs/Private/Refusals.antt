@@ -1,4 +1,4 @@
--- The number of a refusal that may be missing.
+-- The number of an optional refusal.
 use Rattle.std.specs.Prelude.{ℕ, Option, Some, None}
 use Rattle.crib_problem.specs.declared.fault.ProblemCause.{ProblemCause}
 use Rattle.crib_problem.specs.Refusals.{problem_cause_number}

@@ -1,4 +1,4 @@
--- The parts of a line that are written by themselves.
+-- The parts of a line that functions of their own write.
 use Rattle.std.specs.Prelude.{ℕ, List, [], ◌∷◌, ◌++◌}
 use Rattle.crib_cards.specs.CardText.{card_text}
 use Rattle.crib_cards.specs.declared.moves.Move.{Move}

@@ -1,5 +1,5 @@
--- The greatest hand and the least crib, from the numbers of cards of each rank and from the suits of the hidden cards.
--- These definitions follow the code. Worst says what the public calls answer.
+-- The greatest hand and the least crib, from rank counts and from the suits of the hidden cards. These definitions
+-- follow the code. Worst defines what the public calls return.
 use Rattle.std.specs.Prelude.{ℕ, ◌+◌, ◌==◌, nat_lt, max, min, Bool, not, ◌&&◌, ◌||◌, List}
 use Rattle.std.specs.Prelude.{[], ◌∷◌, ◌++◌, map, replicate, if◌then◌else◌}
 use Rattle.std.specs.List.{list_all}
@@ -9,7 +9,7 @@ use Rattle.crib_show.specs.declared.deals.WorstShow.{WorstShow}
 use Rattle.crib_show.specs.Show.{are_of_suit, crib_flush, hand_flush, jack_points}
 use Rattle.crib_show.specs.Worst.{plain_with}
 
--- the ranks of cards, from how many there are of each rank. The counts begin with some rank
+-- the ranks of cards in order, from their counts. The first count is that of the given rank
 abbrev pub ranks_from : ℕ → List ℕ → List ℕ
 ranks_from rank [] = []
 ranks_from rank (count ∷ counts) = replicate count rank ++ ranks_from (rank + 1) counts
@@ -18,8 +18,8 @@ ranks_from rank (count ∷ counts) = replicate count rank ++ ranks_from (rank + 
 abbrev pub cards_in_suit : ℕ → List ℕ → List ℕ
 cards_in_suit suit ranks = map (λ rank. card_of rank suit) ranks
 
--- whether cards of the opponent's ranks may be his hold: they are different unseen cards, and the fixed ones are among
--- them
+-- whether cards of the opponent's ranks may be the opponent's hold: they are different unseen cards, and the fixed ones
+-- are among them
 abbrev pub may_be_hold : WorstShow → List ℕ → Bool
 may_be_hold worst cards = list_all (has worst.unseen) cards && list_all (has cards) worst.fixed && are_distinct cards
 
@@ -27,7 +27,7 @@ may_be_hold worst cards = list_all (has worst.unseen) cards && list_all (has car
 abbrev pub suit_points : List ℕ → ℕ → ℕ
 suit_points cards starter = hand_flush cards starter + jack_points cards starter
 
--- the points that suits add if the opponent's ranks are in one suit, or 0 if he cannot hold these cards
+-- the points that suits add if the opponent's ranks are in one suit, or 0 if these cards can't be the hold
 abbrev pub suited_points : WorstShow → List ℕ → ℕ → ℕ
 suited_points worst ranks suit =
     if may_be_hold worst (cards_in_suit suit ranks) then suit_points (cards_in_suit suit ranks) worst.starter else 0
@@ -36,7 +36,7 @@ suited_points worst ranks suit =
 abbrev pub right_jack : WorstShow → ℕ
 right_jack worst = card_of jack (suit_of worst.starter)
 
--- whether the opponent may hold this jack: it is unseen, and it is fixed or he holds more jacks than are fixed
+-- whether the opponent may hold this jack: it is unseen, and it is fixed or the hold has more jacks than are fixed
 abbrev pub may_have_jack : WorstShow → Bool
 may_have_jack worst =
     has worst.unseen (right_jack worst)
@@ -57,7 +57,7 @@ most_suit_points worst ranks =
 abbrev pub is_free : WorstShow → ℕ → Bool
 is_free worst card = has worst.unseen card && not (has worst.fixed card)
 
--- whether enough unseen cards of two ranks are left for the throw, once the hold has its ranks
+-- whether enough unseen cards of two ranks are left for the throw, after the hold has its ranks
 abbrev pub has_room : WorstShow → ℕ → ℕ → Bool
 has_room worst first second =
     if first == second then nat_lt (count_at worst.ranks first + 1) (count_rank first worst.unseen)
@@ -74,7 +74,7 @@ abbrev pub crib_suit_points : WorstShow → ℕ → ℕ → ℕ
 crib_suit_points worst first second =
     crib_flush (crib_with worst first second) worst.starter + jack_points (crib_with worst first second) worst.starter
 
--- more points than any crib has. It stands for a throw that is not possible
+-- more points than any crib has. It marks a throw that is not possible
 abbrev pub no_crib : ℕ
 no_crib = 255
 

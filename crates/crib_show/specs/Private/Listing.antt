@@ -1,5 +1,5 @@
--- The hidden deals that agree, tried one by one in dictionary order. These definitions follow the code. Worst says what
--- the public calls answer, without any listing.
+-- The hidden deals that agree, tried one by one in dictionary order. These definitions follow the code. Worst defines
+-- what the public calls return, without any listing.
 use Rattle.std.specs.Prelude.{ℕ, ◌+◌, zero, suc, nat_lt, nat_le, Bool, true, false, not, ◌&&◌, ◌||◌, List, []}
 use Rattle.std.specs.Prelude.{◌∷◌, ◌++◌, map, Option, Some, None, IsTrue, IsFalse, if◌then◌else◌}
 use Rattle.std.specs.List.{list_all}
@@ -19,18 +19,19 @@ use Rattle.crib_show.specs.declared.listing.Test.TheVariants.{Any, Hand, Total, 
 use Rattle.crib_show.specs.Outcome.{outcome_of}
 use Rattle.crib_show.specs.Worst.{AgreesInShow, with_dealt, hidden_hand, hidden_crib}
 
--- whether an outcome is that the owner reaches his goal
+-- whether the owner reaches the goal with this outcome
 abbrev pub is_reached : Outcome → Bool
 is_reached Reached = true
 is_reached Lost = false
 is_reached Short = false
 
--- whether the owner does not reach his goal with this hidden deal
+-- whether the owner misses the goal with this hidden deal
 abbrev pub fails : WorstShow → Dealt → Bool
 fails worst dealt = not (is_reached (outcome_of (with_dealt worst dealt)))
 
--- whether the points of a hand and of a crib pass a test. Any points pass; or the hand has enough; or hand and crib
--- together have enough; or the hand has enough or the crib does not bring the owner from a score to the target
+-- whether the points of a hand and of a crib pass a test. `Any` accepts all points, `Hand` a hand with enough, and
+-- `Total` a hand and a crib with enough together. `HandOrShort` accepts a hand with enough, or a crib that doesn't take
+-- the owner from a score to the target
 abbrev pub points_pass : WorstShow → Test → ℕ → ℕ → Bool
 points_pass worst Any hand crib = true
 points_pass worst (Hand least) hand crib = nat_le least hand
@@ -42,8 +43,8 @@ points_pass worst (HandOrShort least counted) hand crib =
 abbrev pub passes : WorstShow → Test → Dealt → Bool
 passes worst test dealt = points_pass worst test (hidden_hand worst dealt) (hidden_crib worst dealt)
 
--- the first deal that is made of some cards and n others of a list. The choices are tried in dictionary order, and only
--- of cards that may be chosen
+-- the first deal made of the chosen cards and n more cards of a list. The choices are tried in dictionary order, and
+-- only with cards that may be chosen
 unfoldable pub first_choice : (List ℕ → Option Dealt) → (ℕ → Bool) → List ℕ → ℕ → List ℕ → Option Dealt
 first_choice gives may taken zero cards = gives taken
 first_choice gives may taken (suc n) [] = None
@@ -63,15 +64,15 @@ try_throw worst test hold throw =
 abbrev pub any_card : ℕ → Bool
 any_card card = true
 
--- the first deal with a hold that passes and whose throw is two of some other cards
+-- the first deal with this hold that passes and whose throw is two of some other cards
 abbrev pub first_throw : WorstShow → Test → List ℕ → List ℕ → Option Dealt
 first_throw worst test hold others = first_choice (try_throw worst test hold) any_card [] 2 others
 
--- whether four cards may be the opponent's hold: they have his ranks, and the fixed cards are among them
+-- whether four cards may be the opponent's hold: they have the opponent's ranks, and the fixed cards are among them
 abbrev pub may_hold : WorstShow → List ℕ → Bool
 may_hold worst hold = bytes_eq (rank_counts (map rank_of hold)) worst.ranks && list_all (has hold) worst.fixed
 
--- the first deal with a hold that passes
+-- the first deal with this hold that passes, if the opponent may hold it
 abbrev pub try_hold : WorstShow → Test → List ℕ → Option Dealt
 try_hold worst test hold =
     if may_hold worst hold then first_throw worst test hold (set_without_all worst.unseen hold) else None
@@ -80,7 +81,7 @@ try_hold worst test hold =
 abbrev pub may_be_held : WorstShow → ℕ → Bool
 may_be_held worst card = nat_lt 0 (count_at worst.ranks (rank_of card))
 
--- the first deal that passes and whose hold is some cards and n others of a list
+-- the first deal that passes and whose hold is the chosen cards and n more of a list
 abbrev pub first_hold : WorstShow → Test → List ℕ → ℕ → List ℕ → Option Dealt
 first_hold worst test taken n cards = first_choice (try_hold worst test) (may_be_held worst) taken n cards
 

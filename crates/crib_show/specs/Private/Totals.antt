@@ -1,5 +1,5 @@
--- The greatest crib, and the greatest sum of hand and crib, sought among the throws of two cards. These definitions
--- follow the code. Worst says what the public call answers.
+-- The greatest crib, and the greatest sum of hand and crib, searched for among the throws of two cards. These
+-- definitions follow the code. Worst defines what the public call returns.
 use Rattle.std.specs.Prelude.{ℕ, ◌+◌, ◌≤◌, ◌==◌, nat_le, Bool, not, ◌&&◌, ◌||◌, IsTrue, IsFalse}
 use Rattle.crib_cards.specs.Cards.{IsRank, card_of}
 use Rattle.crib_cards.specs.Sets.{set_without}
@@ -10,12 +10,12 @@ use Rattle.crib_show.specs.Private.Extremes.{crib_with, has_room, is_free, most_
 use Rattle.crib_show.specs.Private.Extremes.{plain_crib}
 use Rattle.crib_show.specs.Show.{crib_points}
 
--- the show without two cards among the unseen ones. The opponent threw them, so he cannot hold them
+-- the show with two thrown cards removed from the unseen ones, since the opponent can't hold them
 abbrev pub without_throw : WorstShow → ℕ → ℕ → WorstShow
 without_throw worst first second = record worst { unseen = set_without (set_without worst.unseen first) second }
 
--- the points that are sought with these two cards thrown: those of the crib alone, or with the most that suits can add
--- to the hand of some ranks
+-- the points to make as great as possible, with these two cards thrown: those of the crib alone, or of the crib and the
+-- most that suits can add to the hand of some ranks
 abbrev pub sought_points : WorstShow → Sought → ℕ → ℕ → ℕ
 sought_points worst Crib first second = crib_points (crib_with worst first second) worst.starter
 sought_points worst (CribAndHand ranks) first second =

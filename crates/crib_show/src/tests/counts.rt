@@ -11,7 +11,7 @@ const HANDS: [u32; 30] = [
     2_496, 444, 356, 3_680, 0, 0, 0, 76, 4,
 ];
 
-// How many cribs have so many points. A crib has a flush only if the starter is of its suit.
+// How many cribs have each number of points. A crib has a flush only if the starter is of its suit.
 const CRIBS: [u32; 30] = [
     1_022_208, 99_792, 2_839_800, 508_908, 2_868_960, 703_496, 1_787_176, 755_320, 1_118_336,
     358_368, 378_240, 43_880, 310_956, 16_548, 88_132, 9_072, 57_288, 11_196, 2_264, 0, 7_828,

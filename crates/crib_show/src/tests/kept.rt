@@ -1,4 +1,4 @@
-//! Answers with what is kept of the shows of one problem.
+//! Results from the kept points of one problem's shows.
 ghost use Rattle.crib_show.specs.Extremes.{AreExtremesFor};
 
 use crate::tests::{ACES, counted, twos_against};
@@ -6,7 +6,7 @@ use crate::{ExtremesByRanks, WorstShow};
 use crib_cards::Side;
 use std::process::Abort;
 
-// whether an answer with what is kept is the one that is worked out anew
+// checks that the result from kept points equals the one computed anew
 fn answers_alike(rt: &impl Abort, worst: &WorstShow, shows: &mut ExtremesByRanks)
     requires { AreExtremesFor worst.now shows.old }
     ensures { AreExtremesFor worst.now shows.new }

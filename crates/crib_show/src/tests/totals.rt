@@ -2,7 +2,7 @@
 use crate::crib_points;
 use crate::tests::{ACES, four, twos_against};
 
-// Apart, the greatest hand has 9 points and the greatest crib 29. Both need the jack of hearts.
+// Separately, the greatest hand has 9 points and the greatest crib 29. Both need the jack of hearts.
 #[test]
 fn counts_the_most_that_hand_and_crib_of_one_deal_have(rt: HostRuntime) {
     let ranks: [&[u8]; 4] = [b"AC", b"AC", b"AC", b"JC"];

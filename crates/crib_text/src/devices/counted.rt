@@ -9,7 +9,7 @@ use std::io;
 use std::io::{Error, ErrorKind, Read, Write};
 
 /// A reader or a writer of std, with a count of its failed calls. Each call is one call of the reader or writer inside
-/// and moves the same bytes. A write fails also where it takes no byte of a slice that isn't empty.
+/// and moves the same bytes. A write also fails if it writes no byte of a slice that isn't empty.
 #[derive(Debug, Drop)]
 pub struct Counted<T> {
     inner: T,
@@ -35,7 +35,6 @@ impl<T> Counted<T> {
         inner
     }
 
-    // The count of failed calls.
     fn failed_calls(&self) -> u64
         ensures { result ≡ counted_faults self.now }
     {
@@ -56,14 +55,14 @@ impl From<Error> for Glitch {
     }
 }
 
-// Returns the count after one more failure. It stays at `u64::MAX`.
+// Returns the count after one more failure, capped at `u64::MAX`.
 fn next_after(faults: u64) -> u64
     ensures { result ≡ next_count faults }
 {
     faults.saturating_add(1)
 }
 
-// Returns the result of a call from that of the call inside, and counts an error.
+// Returns the result of a call, given that of the call inside, and counts an error.
 fn noted(outcome: io::Result<usize>, faults: &mut u64) -> Result<usize, Glitch>
     ensures answer { result ≡ noted_as outcome }
     ensures counted { CountsFailure faults.old faults.new outcome }

@@ -9,26 +9,26 @@ use crate::fault::{TextCause, TextFault};
 use std::alloc::Allocator;
 use thiserror::Error;
 
-/// The most bytes of an input, and of what one call of [`put`] writes.
+/// The most bytes of an input, and of one call of [`put`].
 pub const MAX_INPUT: usize = 8_388_608;
 
 /// The most calls of a device that [`read_all`] or [`put`] makes.
 pub const MAX_TURNS: u32 = 8_400_000;
 
-// How many bytes one call asks for.
+// The size of the buffer for one read.
 const PIECE: usize = 8192;
 
 /// Not all bytes were written: the writer failed, or the 8,400,000 calls ran out.
 #[derive(Clone, Copy, Debug, PartialEq, Eq, Error)]
 #[error("the writer failed after {sent} bytes")]
 pub struct Stopped {
-    /// How many bytes were written. They are the first ones.
+    /// How many bytes were written, from the first one on.
     pub sent: usize,
 }
 
-/// Reads all bytes up to the end of the input, at most 8,388,608. It makes at most 8,400,000 calls, and makes an
-/// interrupted one again. It is refused at line 0: with 2 as soon as more bytes have come, with 9 where a call fails or
-/// the calls run out, and with 11 where memory is refused.
+/// Reads all bytes up to the end of the input, at most 8,388,608. It makes at most 8,400,000 calls, and retries an
+/// interrupted one. Errors are refusals at line 0: 2 as soon as there are more bytes, 9 if a call fails or the calls
+/// run out, and 11 if memory runs out.
 #[tactic(auto, using(crate::proofs::LoopFacts::known_bytes))]
 pub fn read_all<A: Allocator + Copy, S: Source>(
     alloc: A,
@@ -65,9 +65,8 @@ pub fn read_all<A: Allocator + Copy, S: Source>(
     Err(TextFault::of_input(TextCause::ReadFault))
 }
 
-/// Writes all bytes, which may be at most 8,388,608. It makes at most 8,400,000 calls, and makes an interrupted one
-/// again with the bytes that are left. It stops where a call fails or the calls run out. Then exactly the first `sent`
-/// bytes were written.
+/// Writes all bytes, at most 8,388,608. It makes at most 8,400,000 calls, and retries an interrupted one with the bytes
+/// that are left. It stops if a call fails or the calls run out. Then exactly the first `sent` bytes were written.
 #[tactic(auto, using(crate::proofs::LoopFacts::known_bytes))]
 pub fn put<W: Sink>(sink: &mut W, bytes: &[u8]) -> Result<(), Stopped>
     requires { length bytes.now ≤ MAX_INPUT }

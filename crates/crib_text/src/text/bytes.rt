@@ -7,8 +7,8 @@ ghost use Rattle.crib_text.specs.Words as words;
 use crate::devices::MAX_INPUT;
 use crate::fault::{TextCause, TextFault};
 
-// Checks that the bytes are lines of a text. They are refused with 1 where a byte is neither LF nor 32 to 126, at the
-// line of the first such byte. Otherwise they are refused with 3 where the last byte isn't LF, at the last line.
+// Checks that the bytes are lines of a text. They are refused with 1 if a byte is neither LF nor 32 to 126, at the line
+// of the first such byte. Otherwise they are refused with 3 if the last byte isn't LF, at the last line.
 #[tactic(auto, using(crate::proofs::ByteLemmas::checking))]
 pub(crate) fn check_bytes(bytes: &[u8]) -> Result<(), TextFault>
     requires { length bytes.now ≤ MAX_INPUT }
@@ -41,7 +41,7 @@ fn is_text_byte(byte: u8) -> bool
     byte == b'\n' || (b' ' <= byte && byte <= b'~')
 }
 
-// Whether the last byte is LF. For no bytes the answer is yes.
+// Whether the last byte is LF. True if there are no bytes.
 #[tactic(auto, using(crate::proofs::ByteLemmas::ending))]
 fn is_ended(bytes: &[u8]) -> bool
     ensures { result ≡ words.is_ended bytes.now }

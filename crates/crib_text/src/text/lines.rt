@@ -7,7 +7,7 @@ use super::line::{Line, len_before};
 use crate::devices::MAX_INPUT;
 use crate::fault::{TextCause, TextFault};
 
-/// The lines of a text that are left, and the number of the first of them. A refused call leaves them as they were.
+/// The lines of a text that are left, and the number of the first of them. A refused call leaves them unchanged.
 #[derive(Clone, Copy, Debug)]
 pub struct Lines<'a> {
     source: &'a [u8],
@@ -26,8 +26,8 @@ impl<'a> Lines<'a> {
     ghost use Rattle.crib_text.specs.Spelling.{line_text};
     ghost use Rattle.crib_text.specs.Lines.{IsLineOf, rest_of, source_of, place_of, line_of, line_place};
 
-    /// Returns the lines of a text, which may have at most 8,388,608 bytes. The text is refused with 1 where a byte is
-    /// neither LF nor 32 to 126, at the line of the first such byte. Otherwise it is refused with 3 where the last byte
+    /// Returns the lines of a text, which may have at most 8,388,608 bytes. The text is refused with 1 if a byte is
+    /// neither LF nor 32 to 126, at the line of the first such byte. Otherwise it is refused with 3 if the last byte
     /// isn't LF, at the last line. The empty text has no lines.
     #[tactic(auto, using(crate::proofs::ByteLemmas::checked_ended), unfolding(crate::specs::Lines::rest_of, crate::specs::Lines::source_of, crate::specs::Lines::place_of, crate::specs::Reading::all_lines))]
     pub fn new(bytes: &'a [u8]) -> Result<Lines<'a>, TextFault>
@@ -44,8 +44,8 @@ impl<'a> Lines<'a> {
         })
     }
 
-    /// Returns the next line and moves on. It is refused with 3 where no line is left, at the line that is missing. It
-    /// is refused with 4 where a word is empty: the line has no byte, a space stands at an end, or two spaces meet.
+    /// Returns the next line and moves on. It is refused with 3 if no line is left, at the line that is missing. It is
+    /// refused with 4 if a word is empty: the line has no byte, a space is at an end, or two spaces meet.
     pub fn next_line(&mut self) -> Result<Line<'a>, TextFault>
         ensures exact { Reads line_of text_refusal line_at (rest_of self.old) (rest_of self.new) result }
         ensures slice { IfOk result (IsLineOf (source_of self.old)) }
@@ -89,7 +89,7 @@ impl<'a> Lines<'a> {
         number
     }
 
-    /// Checks that no line is left. Otherwise it is refused with 8, at the first line that is left.
+    /// Checks that no line is left. Otherwise refuses with 8, at the first line that is left.
     pub fn finish(&self) -> Result<(), TextFault>
         ensures { Gives (λ _. tt) text_refusal result (end_at (rest_of self.now)) }
     {

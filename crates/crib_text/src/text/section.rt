@@ -1,5 +1,5 @@
-//! What the lines of all sections have in common. What is read in the words of a line is refused for a cause alone, and
-//! `in_line` says the line.
+//! What the lines of all sections have in common. Reading the words of a line refuses with a cause alone, and `in_line`
+//! adds the line.
 ghost use Rattle.std.specs.Prelude.{◌≡◌, ◌<◌, ◌+◌, Some, Ok, Err, length, drop, slice_get, MatchResult, OnOk};
 ghost use Rattle.crib_text.specs.Refusals.{cause_number};
 ghost use Rattle.crib_text.specs.Reading.{Gives, after_keyword, number_in, header_in};
@@ -21,7 +21,7 @@ pub fn word_at<'a>(line: &Line<'a>, index: usize) -> &'a [u8]
     }
 }
 
-/// Checks that the first word of a line is this keyword, and that so many words follow it. Otherwise the line is
+/// Checks that the first word of a line is this keyword, and that `count` words follow it. Otherwise the line is
 /// refused with 4.
 #[tactic(auto, using(crate::proofs::SectionLemmas::a_keyword))]
 pub fn check_keyword(line: &Line<'_>, keyword: &[u8], count: u32) -> Result<(), TextCause>
@@ -35,7 +35,7 @@ pub fn check_keyword(line: &Line<'_>, keyword: &[u8], count: u32) -> Result<(), 
     Ok(())
 }
 
-/// Returns the number that a word spells. The word is refused with 6 where it spells none.
+/// Returns the number that a word spells. A word that spells none is refused with 6.
 #[tactic(auto, unfolding(crate::specs::Reading::number_in))]
 pub fn number_of(word: &[u8]) -> Result<u32, TextCause>
     ensures { Gives (λ number. number) cause_number result (number_in word.now) }
@@ -47,8 +47,7 @@ pub fn number_of(word: &[u8]) -> Result<u32, TextCause>
 }
 
 /// Checks that a line is the first line of a section, as `plan 1` is: the name, and the version 1. It is refused with 4
-/// for another name or another number of words, with 6 where the second word is no number, and with 7 for another
-/// version.
+/// for another name or another number of words, with 6 if the second word is no number, and with 7 for another version.
 #[tactic(auto, using(crate::proofs::SectionLemmas::a_header), unfolding(crate::specs::Reading::header_in))]
 pub fn read_header(line: &Line<'_>, name: &[u8]) -> Result<(), TextCause>
     ensures { Gives (λ _. tt) cause_number result (header_in name.now (line_of line.now).words) }
@@ -71,7 +70,7 @@ pub fn fault_in<C>(line: &Line<'_>, cause: C) -> Fault<C>
     }
 }
 
-/// Returns what was read in a line, or the refusal of the line for the cause.
+/// Returns what was read in a line, or the refusal of the line for this cause.
 pub fn in_line<T, C>(line: &Line<'_>, read: Result<T, C>) -> Result<T, Fault<C>>
     ensures { MatchResult read (λ value. result ≡ Ok value)
         (λ cause. result ≡ Err (record { line = (line_of line.now).number; cause = cause })) }

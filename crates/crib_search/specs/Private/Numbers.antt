@@ -1,5 +1,5 @@
--- The numbers that the code gives to the nodes of a plan, from a walk over the kept nodes. `plan_of_tree` says the same
--- of trees. A walk leaves a node after all nodes that the node leads to.
+-- The numbers that the code gives to the nodes of a plan, from a walk over the kept nodes. `plan_of_tree` defines the
+-- same for trees. A walk leaves a node after all nodes that the node leads to.
 use Rattle.std.specs.Prelude.{◌≡◌, ℕ, ◌-◌, ◌<◌, ◌==◌, List, [], ◌∷◌, ◌++◌, length, map, slice_get}
 use Rattle.std.specs.Prelude.{Option, Some, None, if◌then◌else◌}
 use Rattle.std.specs.List.{AllZip}

@@ -5,7 +5,7 @@ ghost use Rattle.crib_run.specs.Status.{code_of};
 /// The exit status of the program (docs/FORMATS.md, "Exit statuses").
 #[derive(Clone, Copy, Debug, PartialEq, Eq)]
 pub enum Status {
-    /// The answer is given, or it is yes.
+    /// The answer is printed, or it is yes.
     Yes,
     /// The answer is no.
     No,

@@ -40,7 +40,7 @@ pub record HasWalkedOf {A T : Type 0} (holds : T → Key → Type 0) (problem : 
   pub back : result ≡ None → after.trail.items ≡ trail
   pub found : IsFoundFrom problem plan key history after.trail.items result
 
--- the same of a walk as it was before
+-- the same, by the walk as it was before
 abbrev pub HasWalked :
     {A T : Type 0} → (T → Key → Type 0) → Walk A T → Key → List Event → Walk A T → Option Failure → Type 0
 HasWalked holds before = HasWalkedOf holds before.problem.now before.plan.now before.trail.items

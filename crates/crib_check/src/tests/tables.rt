@@ -35,7 +35,7 @@ fn keeps_keys(rt: HostRuntime) {
 }
 
 /// A table that refuses none of the puts, every second one, or all. It notices a key that is put twice, or that was put
-/// before it was asked for.
+/// before it was looked up.
 #[derive(Drop)]
 struct Watched {
     set: KeySet<Global>,

@@ -41,7 +41,7 @@ pub(crate) trait Follower {
 }
 
 // Judges a game. Returns it after its last act, or the first refusal: that of a card of the opponent, that of an act,
-// or that of the first missing act of the opening. The follower gives the remark on each act.
+// or that of the first missing act of the opening. The follower returns the remark on each act.
 pub(crate) fn judge<F: Follower>(
     problem: &Problem,
     game: &Game,

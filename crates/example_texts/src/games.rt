@@ -1,34 +1,34 @@
 //! Games.
 
-// A game in which the opponent holds four aces. It takes their throw, and the lines of the acts.
+// A game in which the opponent holds four aces. The macro takes their throw, and the lines of the acts.
 macro_rules! aces {
     ($throw:literal, $acts:literal) => {
         concat!("game 1\nhold AC AD AH AS\nthrow ", $throw, "\nacts ", $acts)
     };
 }
 
-// The whole game of the aces and the twos, in which the owner leads. It takes the opponent's throw.
+// The whole game of the aces and the twos, in which the owner leads. The macro takes the opponent's throw.
 macro_rules! owner_leads {
     ($throw:literal) => {
         aces!($throw, "8\nown 2C\nopp AC\nown 2D\nopp AD\nown 2H\nopp AH\nown 2S\nopp AS\n")
     };
 }
 
-// The whole game of the aces and the twos, in which the opponent leads. It takes their throw.
+// The whole game of the aces and the twos, in which the opponent leads. The macro takes their throw.
 macro_rules! opponent_leads {
     ($throw:literal) => {
         aces!($throw, "8\nopp AC\nown 2C\nopp AD\nown 2D\nopp AH\nown 2H\nopp AS\nown 2S\n")
     };
 }
 
-// A game for `CLOSE`. It takes the lines of the acts.
+// A game for `CLOSE`. The macro takes the lines of the acts.
 macro_rules! close {
     ($acts:literal) => {
         concat!("game 1\nhold AD AH AS 2S\nthrow 3C 3D\nacts ", $acts)
     };
 }
 
-// A game for `TENS`. It takes the opponent's hold, and the lines of the acts.
+// A game for `TENS`. The macro takes the opponent's hold, and the lines of the acts.
 macro_rules! tens {
     ($hold:literal, $acts:literal) => {
         concat!("game 1\nhold ", $hold, "\nthrow 5H 7D\nacts ", $acts)

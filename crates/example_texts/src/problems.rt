@@ -1,6 +1,7 @@
 //! Problems.
 
-// A problem with four twos. It takes the dealer, the scores, the goal and, in version 2, the lines of the opening.
+// A problem with four twos. The macro takes the dealer, the scores, the goal and, in version 2, the lines of the
+// opening.
 macro_rules! twos {
     ($dealer:literal, $score:literal, $goal:literal) => {
         twos!("1", $dealer, $score, $goal, "")
@@ -16,7 +17,7 @@ macro_rules! twos {
     };
 }
 
-// A problem in which the opponent is two holes from 121. It takes the version, and the lines of the opening.
+// A problem in which the opponent is two holes from 121. The macro takes the version, and the lines of the opening.
 macro_rules! close {
     ($version:literal, $opening:literal) => {
         concat!(
@@ -26,7 +27,7 @@ macro_rules! close {
     };
 }
 
-// A problem with a ten and small clubs. It takes the version, and the lines of the opening.
+// A problem with a ten and small clubs. The macro takes the version, and the lines of the opening.
 macro_rules! tens {
     ($version:literal, $opening:literal) => {
         concat!(
@@ -37,8 +38,8 @@ macro_rules! tens {
 }
 
 // The owner deals, says go at 29 and pegs one hole for the last card. The opponent, who is four holes from 121, leads
-// their last two cards. Both are threes or higher, since neither fitted at 29. It takes the owner's score, and the
-// goal.
+// their last two cards. Both are threes or higher, since neither fitted at 29. The macro takes the owner's score, and
+// the goal.
 macro_rules! last_two {
     ($score:literal, $goal:literal) => {
         concat!(

@@ -22,8 +22,8 @@ use crib_text::{Lines, TextFault, fault_in, in_line, read_header};
 /// those after the section.
 ///
 /// A refusal names the first line that is wrong, and leaves the lines as they were. Its number is 3 for a missing line,
-/// 4 for a wrong keyword or a wrong number of words, 5 for a word that is no card, 6 for a word that is no number or
-/// for more than 32 acts, and 7 for a version other than 1.
+/// 4 for a wrong keyword or a wrong number of words, 5 for a word that is not a card, 6 for a word that is not a number
+/// or for more than 32 acts, and 7 for a version other than 1.
 pub fn read_game(lines: &mut Lines<'_>) -> Result<Game, TextFault>
     // If a game is read, the lines are its spelling, and then those that are left.
     ensures found { IfOk result (λ game. IsGame game

@@ -34,7 +34,7 @@ abbrev pub AreMarks : List (Option ℕ) → List ℕ → Type 0
 AreMarks marks left = (place : ℕ) → place < length marks → slice_get marks place ≡ Some (mark_of place left)
 
 -- a walk from a place. If the place names a tree, and the places left before name some trees, then the places left
--- after name the trees that a walk of this tree makes of these
+-- after name the trees after a walk of this tree
 abbrev pub IsWalk : List DraftNode → DraftPlace → List ℕ → List ℕ → Type 0
 IsWalk draft_nodes draft_place before after =
     (tree : Tree) (trees : List Tree) → Names draft_nodes tree draft_place → AreLeft draft_nodes trees before →

@@ -1,4 +1,4 @@
--- The reply that each job owes to an input: the text that is written, and the exit status.
+-- The right reply of each job to an input: the text that is written, and the exit status.
 use Rattle.std.specs.Prelude.{◌≡◌, ◌⊎◌, ℕ, List, [], ◌∷◌, ◌++◌, flat_map, codes, decimal}
 use Rattle.std.specs.Prelude.{Option, Some, None, Result, Ok, Err}
 use Rattle.crib_cards.specs.declared.sides.Scores.{Scores}
@@ -48,7 +48,7 @@ report_reply report = record {
   status = Yes;
 }
 
--- the status of an ending: yes if the owner reached his goal, and no otherwise
+-- the status of an ending: yes if the owner reached the goal, and no otherwise
 abbrev pub ending_status : Ending → Status
 ending_status ending.Open = No
 ending_status ending.Stuck = No
@@ -68,8 +68,8 @@ verdict_reply (Fails result game) = record {
   status = No;
 }
 
--- a reply is the one that `check` owes to what was read: that of a right verdict on the problem and the plan, or that
--- of the refusal
+-- a reply is right for `check`, by what was read: it is that of a right verdict on the problem and the plan, or that of
+-- the refusal
 abbrev pub AnswersCheck : Result (Setup × List Node) Refusal → Reply → Type 0
 AnswersCheck (Ok question) reply =
     (verdict : Verdict) × IsRight question.0 question.1 verdict × (reply ≡ verdict_reply verdict)
@@ -84,15 +84,15 @@ found_reply None = record { output = line_text (codes "none" ∷ []); status = N
 abbrev pub too_large : ℕ
 too_large = 50
 
--- a reply is the one that is owed to a problem: that of what the finder finds, or a fault if the plan that was found
--- has more nodes than a plan may have
+-- a reply is right for a problem: it is that of what the finder finds, or a fault if the plan that was found has more
+-- nodes than a plan may have
 abbrev pub AnswersProblem : Setup → Reply → Type 0
 AnswersProblem problem reply =
     ((plan : Option (List Node)) × IsFound problem plan × (¬ ExceedsLimit problem most_nodes)
     × (reply ≡ found_reply plan))
     ⊎ (ExceedsLimit problem most_nodes × (reply ≡ fault_reply too_large))
 
--- a reply is the one that `solve` owes to what was read: the one that is owed to the problem, or that of the refusal
+-- a reply is right for `solve`, by what was read: it is right for the problem, or it is that of the refusal
 abbrev pub AnswersSolve : Result Setup Refusal → Reply → Type 0
 AnswersSolve (Ok problem) reply = AnswersProblem problem reply
 AnswersSolve (Err refusal) reply = reply ≡ refusal_reply refusal
@@ -106,7 +106,7 @@ abbrev pub reply_by : {A : Type 0} → (A → Reply) → Result A Refusal → Re
 reply_by reply (Ok value) = reply value
 reply_by reply (Err refusal) = refusal_reply refusal
 
--- a reply is the one that a job owes to an input
+-- a reply is the right one of a job to an input
 abbrev pub Answers : Job → List ℕ → Reply → Type 0
 Answers Replay input reply = reply ≡ reply_by report_reply (report_of_input input)
 Answers Follow input reply = reply ≡ reply_by ending_reply (ending_of_input input)

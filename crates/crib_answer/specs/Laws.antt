@@ -1,4 +1,4 @@
--- The laws of the replies. They say what the bytes of an input spell, by the bytes of the reply that is owed to it.
+-- The laws of the replies. They say what the bytes of an input spell, by the bytes of the right reply to it.
 use Rattle.std.specs.Prelude.{◌≡◌, ◌⊎◌, ◌↔◌, ◌<◌, ℕ, List, ◌∷◌, ◌++◌, length, Result, Ok, codes}
 use Rattle.crib_text.specs.Refusals.{Refusal, cut_short, too_long}
 use Rattle.crib_text.specs.Words.{line_after}
@@ -25,12 +25,13 @@ use Rattle.crib_answer.specs.Telling.{holds_line, fails_line, none_line}
 
 -- ---- every job
 
--- at most one reply of a job is owed to an input
+-- a job has at most one right reply to an input
 abbrev pub OneReplyLaw : Type 0
 OneReplyLaw =
     (job : Job) (input : List ℕ) (one other : Reply) → Answers job input one → Answers job input other → one ≡ other
 
--- to an input of more bytes than an input may have, each job owes the refusal that it is too long, with line 0
+-- for an input of more bytes than an input may have, the right reply of each job is the refusal that it is too long,
+-- with line 0
 abbrev pub TooLongLaw : Type 0
 TooLongLaw =
     (job : Job) (input : List ℕ) → most_bytes < length input →
@@ -58,33 +59,34 @@ CutShortLaw =
 
 -- ---- check
 
--- if `holds` is owed, the input spells a problem and a plan that is sure for it, and the play goes on until the deal is
--- done
+-- if the right reply is `holds`, the input spells a problem and a plan that is sure for it, and the play goes on until
+-- the deal is done
 abbrev pub HoldsLaw : Type 0
 HoldsLaw =
     (input : List ℕ) (reply : Reply) → Answers Check input reply → reply.output ≡ holds_line → HasSurePlan input
 
--- if `fails` with an ending is owed, the input spells a problem and a plan. The text after that line spells the first
--- failing game of the plan, and this game has this ending
+-- if the right reply begins with `fails` and an ending, the input spells a problem and a plan. The text after that line
+-- spells the first failing game of the plan, and this game has this ending
 abbrev pub FailsLaw : Type 0
 FailsLaw =
     (input : List ℕ) (reply : Reply) (result : Ending) (text : List ℕ) → Answers Check input reply →
     reply.output ≡ fails_line result ++ text → HasFailingPlan input result text
 
--- if an input spells a problem and a plan, each reply that is owed is `holds`, or `fails` with an ending and a game
+-- if an input spells a problem and a plan, each right reply is `holds`, or `fails` with an ending and a game
 abbrev pub EitherLaw : Type 0
 EitherLaw =
     (input : List ℕ) (problem : Setup) (plan : List Node) (reply : Reply) → SpellsPlan input problem plan →
     Answers Check input reply →
     (reply ≡ verdict_reply Holds) ⊎ ((result : Ending) × (game : Game) × (reply ≡ verdict_reply (Fails result game)))
 
--- if an input spells a problem and a plan that is sure for it, `holds` is owed
+-- if an input spells a problem and a plan that is sure for it, `holds` is the right reply
 abbrev pub SureLaw : Type 0
 SureLaw =
     (input : List ℕ) (problem : Setup) (plan : List Node) → SpellsPlan input problem plan → IsSure problem plan →
     Answers Check input (verdict_reply Holds)
 
--- if an input spells a problem and a plan that has a first failing game, `fails` is owed with its ending and this game
+-- if an input spells a problem and a plan that has a first failing game, the right reply is `fails` with its ending and
+-- this game
 abbrev pub FailingLaw : Type 0
 FailingLaw =
     (input : List ℕ) (problem : Setup) (plan : List Node) (result : Ending) (game : Game) →
@@ -93,35 +95,36 @@ FailingLaw =
 
 -- ---- solve
 
--- if a text that begins with `plan` is owed, the input spells a problem, the text spells a plan that is sure for it,
--- and the play goes on until the deal is done
+-- if the right reply begins with `plan`, the input spells a problem, the reply spells a plan that is sure for it, and
+-- the play goes on until the deal is done
 abbrev pub PlanLaw : Type 0
 PlanLaw =
     (input : List ℕ) (reply : Reply) (more : List ℕ) → Answers Solve input reply →
     reply.output ≡ codes "plan" ++ more → IsSolvedBy input reply.output
 
--- if `none` is owed, the input spells a problem for which no plan is sure
+-- if the right reply is `none`, the input spells a problem for which no plan is sure
 abbrev pub NoneLaw : Type 0
 NoneLaw =
     (input : List ℕ) (reply : Reply) → Answers Solve input reply → reply.output ≡ none_line → HasNoPlan input
 
 -- ---- several jobs
 
--- if `check` owes `fails` with an ending and a game to an input, `follow` owes this ending to that input with the game
--- after it
+-- if the right reply of `check` to an input is `fails` with an ending and a game, this ending is the right reply of
+-- `follow` to that input with the game after it
 abbrev pub FailedGameLaw : Type 0
 FailedGameLaw =
     (input : List ℕ) (reply : Reply) (result : Ending) (text : List ℕ) → Answers Check input reply →
     reply.output ≡ fails_line result ++ text → Answers Follow (input ++ text) (ending_reply result)
 
--- if `solve` owes a plan to an input, `check` owes `holds` to that input with the plan after it
+-- if the right reply of `solve` to an input is a plan, `holds` is the right reply of `check` to that input with the
+-- plan after it
 abbrev pub FoundPlanLaw : Type 0
 FoundPlanLaw =
     (input : List ℕ) (reply : Reply) (more : List ℕ) → Answers Solve input reply →
     reply.output ≡ codes "plan" ++ more → Answers Check (input ++ reply.output) (verdict_reply Holds)
 
--- if `follow` owes an ending to an input, the input spells a problem, a plan and a game. The problem and the game
--- without the plan have a report with the acts of this game
+-- if the right reply of `follow` to an input is an ending, the input spells a problem, a plan and a game. The problem
+-- and the game without the plan have a report with the acts of this game
 abbrev pub FollowedGameLaw : Type 0
 FollowedGameLaw =
     (input : List ℕ) (result : Ending) → Answers Follow input (ending_reply result) →
@@ -134,7 +137,8 @@ SameRefusalLaw =
     (input : List ℕ) (refusal : Refusal) →
     Answers Replay input (refusal_reply refusal) ↔ Answers Board input (refusal_reply refusal)
 
--- if `replay` owes scores to an input, one report of the problem and the game makes the replies of `replay` and `board`
+-- if the right reply of `replay` to an input has scores, one report of the problem and the game makes the replies of
+-- `replay` and `board`
 abbrev pub SameReportLaw : Type 0
 SameReportLaw =
     (input : List ℕ) (reply : Reply) (more : List ℕ) → Answers Replay input reply →

@@ -15,7 +15,7 @@ abbrev pub last_scores : Scores → List Row → Scores
 last_scores first [] = first
 last_scores first (row ∷ rows) = last_scores row.scores rows
 
--- an input spells a problem and a game, and one report makes the replies that `replay` and `board` owe to it. The
+-- an input spells a problem and a game, and one report makes the right replies of `replay` and `board` to it. The
 -- report has a row for each act of the game, and its scores are those after the last row
 pub record IsReported (input : List ℕ) (problem : Setup) (game : Game) : Type 0 where
   pub report : Report

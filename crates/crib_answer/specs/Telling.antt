@@ -1,4 +1,4 @@
--- What the replies of `check` and `solve` tell of the input.
+-- What the replies of `check` and `solve` guarantee about the input.
 use Rattle.std.specs.Prelude.{◌≡◌, ◌⊎◌, ℕ, List, [], ◌∷◌, ◌++◌, codes}
 use Rattle.crib_text.specs.Refusals.{no_memory}
 use Rattle.crib_text.specs.Spelling.{line_text}
@@ -77,11 +77,11 @@ fails_line result = line_text (codes "fails" ∷ ending_word result ∷ [])
 abbrev pub none_line : List ℕ
 none_line = line_text (codes "none" ∷ [])
 
--- ---- what the text and the status tell
+-- ---- what the text and the status guarantee
 
--- what the reply of `check` tells, by its status. Yes: the text is `holds`, and the plan is sure. No: the text is
+-- what the reply of `check` guarantees, by its status. Yes: the text is `holds`, and the plan is sure. No: the text is
 -- `fails`, the ending and the first failing game of the plan. Refused: the input spells no problem and plan. Fault: the
--- text says that memory was refused
+-- text says that an allocation failed
 abbrev pub CheckTells : List ℕ → List ℕ → Status → Type 0
 CheckTells input text Yes = HasSurePlan input × (text ≡ holds_line)
 CheckTells input text No =
@@ -89,9 +89,9 @@ CheckTells input text No =
 CheckTells input text Refused = (problem : Setup) (plan : List Node) → ¬ SpellsPlan input problem plan
 CheckTells input text Fault = text ≡ fault_line no_memory
 
--- what the reply of `solve` tells, by its status. Yes: the text spells a plan that is sure. No: the text is `none`, and
--- no plan is sure. Refused: the input spells no problem. Fault: the text says that memory was refused; or it says that
--- the plan that was found has too many nodes, and some plan is sure
+-- what the reply of `solve` guarantees, by its status. Yes: the text spells a plan that is sure. No: the text is
+-- `none`, and no plan is sure. Refused: the input spells no problem. Fault: the text says that an allocation failed; or
+-- it says that the plan that was found has too many nodes, and some plan is sure
 abbrev pub SolveTells : List ℕ → List ℕ → Status → Type 0
 SolveTells input text Yes = IsSolvedBy input text
 SolveTells input text No = HasNoPlan input × (text ≡ none_line)
@@ -99,7 +99,8 @@ SolveTells input text Refused = (problem : Setup) → ¬ SpellsProblem input pro
 SolveTells input text Fault =
     (text ≡ fault_line no_memory) ⊎ (HasSomePlan input × (text ≡ fault_line too_large))
 
--- what the text and the status of a reply tell of the input. For a job other than `check` and `solve` this says nothing
+-- what the text and the status of a reply guarantee about the input. For a job other than `check` and `solve` this says
+-- nothing
 abbrev pub StatusTells : Job → List ℕ → Reply → Type 0
 StatusTells Check input reply = CheckTells input reply.output reply.status
 StatusTells Solve input reply = SolveTells input reply.output reply.status

@@ -24,7 +24,7 @@ pub(crate) fn ending_answer<A: Allocator>(ending: Ending) -> Answer<A>
     }
 }
 
-/// Adds the line with the word of an ending, at most 8 bytes with its LF.
+/// Appends the line with the word of an ending, at most 8 bytes with its LF.
 #[tactic(auto, using(crate::proofs::Lines::words))]
 pub(crate) fn add_ending(text: &mut ShortText, ending: Ending)
     requires { array_vec_len text.old + 8 ≤ 282 }
@@ -35,7 +35,7 @@ pub(crate) fn add_ending(text: &mut ShortText, ending: Ending)
     add(text, b"\n");
 }
 
-// The status of an ending: `Yes` if the owner reached his goal, and `No` otherwise.
+// The status of an ending: `Yes` if the owner reached the goal, and `No` otherwise.
 fn status_of(ending: Ending) -> Status
     ensures { result ≡ ending_status ending }
 {

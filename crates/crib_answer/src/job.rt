@@ -11,9 +11,9 @@ use thiserror::Error;
 pub enum Job {
     /// `replay`: reads a problem and a game, and reports the scores, the counted hands and the outcome.
     Replay,
-    /// `follow`: reads a problem, a plan and a game, and says how the game stands under the plan.
+    /// `follow`: reads a problem, a plan and a game, and reports the ending of the game under the plan.
     Follow,
-    /// `check`: reads a problem and a plan, and says whether the plan is sure.
+    /// `check`: reads a problem and a plan, and reports whether the plan is sure.
     Check,
     /// `solve`: reads a problem, and finds a plan that is sure if there is one.
     Solve,

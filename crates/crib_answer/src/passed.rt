@@ -25,8 +25,8 @@ impl<'a, A: Allocator> PassedPlan<'a, A> {
     }
 }
 
-/// Checks a plan. Returns it if it is sure for the problem, and `None` if it is not. Memory is for the checker's table
-/// of positions alone. If it is refused, the result is the same.
+/// Checks a plan. Returns it if it is sure for the problem, and `None` if it is not. Only the checker's position table
+/// allocates memory. If an allocation fails, the result is the same.
 pub(crate) fn passed<'a, A: Allocator + Copy>(
     alloc: A,
     problem: &'a Problem,

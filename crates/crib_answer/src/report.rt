@@ -31,8 +31,8 @@ pub(crate) fn report_answer<A: Allocator>(report: &Report) -> Answer<A>
     }
 }
 
-// Adds the end of a line: the owner's score and then the opponent's, in holes, each after a space, and LF. That is at
-// most 24 bytes.
+// Appends the end of a line: the owner's score and then the opponent's, in holes, each after a space, and LF. That is
+// at most 24 bytes.
 #[tactic(auto, using(crib_text::proofs::RoomLemmas::short, crate::proofs::Lines::score_tails))]
 fn add_scores(text: &mut ShortText, scores: Scores)
     requires { array_vec_len text.old + 24 ≤ 282 }
@@ -46,7 +46,7 @@ fn add_scores(text: &mut ShortText, scores: Scores)
     add(text, b"\n");
 }
 
-// Adds the line of a hand or crib that was counted, at most 48 bytes.
+// Appends the line of a hand or crib that was counted, at most 48 bytes.
 #[tactic(auto, using(crib_text::proofs::RoomLemmas::short, crate::proofs::Lines::counted_lines))]
 fn add_row(text: &mut ShortText, row: &ShowRow)
     requires { array_vec_len text.old + 48 ≤ 282 }
@@ -61,7 +61,7 @@ fn add_row(text: &mut ShortText, row: &ShowRow)
     add_scores(text, row.scores);
 }
 
-// Adds a line for each hand or crib that was counted.
+// Appends a line for each hand or crib that was counted.
 fn add_show(text: &mut ShortText, rows: &[ShowRow])
     requires { array_vec_len text.old + 48 * length rows.now ≤ 282 }
     ensures items { text.new.items ≡ text.old.items ++ flat_map counted_line rows.now }
@@ -72,7 +72,7 @@ fn add_show(text: &mut ShortText, rows: &[ShowRow])
     }
 }
 
-// Adds the line of the outcome, or `open` if there is none.
+// Appends the line of the outcome, or `open` if there is none.
 #[tactic(auto, using(crate::proofs::Lines::words))]
 fn add_outcome(text: &mut ShortText, over: Option<Outcome>)
     requires { array_vec_len text.old + 8 ≤ 282 }

@@ -17,7 +17,7 @@ use std::alloc::Allocator;
 /// - the plan that was found, with the status `Yes`, after the checker has found it to be sure;
 /// - `none` with the status `No`, if no plan is sure;
 /// - `fault 50` with the status `Fault`, if the plan that was found has more than 65,535 nodes;
-/// - `fault 11` with the status `Fault`, if memory was refused.
+/// - `fault 11` with the status `Fault`, if an allocation failed.
 #[tactic(auto, using(crate::proofs::Lines::solved))]
 pub(crate) fn solve_answer<A: Allocator + Copy>(alloc: A, problem: &Problem) -> Answer<A>
     ensures { AnswersProblem problem.now (reply_of result) ⊎ (reply_of result ≡ fault_reply no_memory) }
@@ -32,7 +32,7 @@ pub(crate) fn solve_answer<A: Allocator + Copy>(alloc: A, problem: &Problem) -> 
     }
 }
 
-// The answer with this plan as its text. It is `fault 11` if memory for the text is refused.
+// The answer with this plan as its text. It is `fault 11` if the allocation for the text fails.
 #[tactic(auto, unfolding(crib_run::specs::Reply::reply_of, crib_run::specs::Text::text_bytes))]
 fn plan_answer<A: Allocator + Copy>(alloc: A, passed: &PassedPlan<'_, A>) -> Answer<A>
     ensures { (reply_of result ≡ found_reply (Some passed.now.plan.now)) ⊎ (reply_of result ≡ fault_reply no_memory) }

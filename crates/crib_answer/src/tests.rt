@@ -1,4 +1,4 @@
-//! Each public call once. The tests of `cribplan` have the answers, as a run writes them.
+//! One test of each public function. The tests of `cribplan` have the answers, as a run writes them.
 use crate::*;
 use crib_run::{Answer, Status};
 use example_texts::boards::LAST_CARD_BOARD;

@@ -13,8 +13,8 @@ use crib_run::{Answer, ShortText, Status, Text, add, line_answer, memory_answer}
 use std::alloc::Allocator;
 
 /// Returns the answer to a verdict (docs/FORMATS.md, "check"): `holds` with the status `Yes`, or `fails`, the ending
-/// and the first failing game with the status `No`. Only the text of the game takes memory. If it is refused, the
-/// answer is `fault 11`.
+/// and the first failing game with the status `No`. Only the text of the game is allocated. If that fails, the answer
+/// is `fault 11`.
 #[tactic(auto, using(crate::proofs::Lines::verdicts))]
 pub(crate) fn verdict_answer<A: Allocator + Copy>(alloc: A, verdict: &Verdict) -> Answer<A>
     ensures { (reply_of result ≡ verdict_reply verdict.now)

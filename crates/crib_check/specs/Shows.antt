@@ -1,4 +1,4 @@
--- The hidden deals that the show may meet.
+-- The hidden deals that are possible in the show.
 use Rattle.crib_cards.specs.Sets.{set_of}
 use Rattle.crib_show.specs.declared.deals.WorstShow.{WorstShow}
 use Rattle.crib_show.specs.declared.extremes.ExtremesByRanks.{ExtremesByRanks}

@@ -1,11 +1,11 @@
-//! Positions, as a table keeps them.
+//! Positions, as a table stores them.
 
 use crib_plan::Next;
 
-/// A position as a table keeps it: the number of what the owner sees, the number of what the opponent has shown, and
-/// the place of the plan.
+/// A position as a table stores it: the index of what the owner sees, the index of what the opponent has shown, and the
+/// place of the plan.
 ///
-/// Only the numbers are hashed. Few positions have the same two numbers.
+/// Only the two indices are hashed. Few positions share both.
 #[derive(Clone, Copy, PartialEq, Eq)]
 #[derive_where(Hash)]
 pub struct Entry {

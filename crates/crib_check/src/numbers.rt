@@ -1,4 +1,4 @@
-//! Values that a set keeps once, under numbers.
+//! Values that a set stores once each, with their indices.
 ghost use Rattle.std.specs.Prelude.{IfSome, IfNone, IfOk};
 ghost use Rattle.std.specs.List.{position_or_len};
 ghost use Rattle.crib_check.specs.Private.Numbers.{IsMore, IsNumber};
@@ -8,10 +8,10 @@ use indexmap::IndexSet;
 use std::alloc::Allocator;
 use std::hash::{BuildHasherDefault, FoldHasher, Hash};
 
-// Values, each of which is kept once. The number of a value is how many came before it.
+// Values, each of which is stored once. The index of a value is how many came before it.
 pub(crate) type Numbered<T, A> = IndexSet<T, BuildHasherDefault<FoldHasher>, A>;
 
-// The number of a value, if it is kept.
+// The index of a value, if it is stored.
 pub(crate) fn number_of<T: Eq + Hash, A: Allocator>(kept: &Numbered<T, A>, value: &T) -> Option<u32>
     ensures number { IfSome result (IsNumber (T.eq value.now) kept.now.keys) }
     ensures none { IfNone result (IsNumber (T.eq value.now) kept.now.keys
@@ -23,7 +23,7 @@ pub(crate) fn number_of<T: Eq + Hash, A: Allocator>(kept: &Numbered<T, A>, value
     }
 }
 
-// Keeps a value, and returns its number. It is refused if memory is, or if the number would be 2^32 or more.
+// Stores a value, and returns its index. It fails if an allocation fails, or if the index would be 2^32 or more.
 pub(crate) fn keep<T: Eq + Hash + Drop, A: Allocator>(
     kept: &mut Numbered<T, A>,
     value: T,

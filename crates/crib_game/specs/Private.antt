@@ -1,4 +1,4 @@
--- What private functions alone cite. No public contract rests on it.
+-- Definitions that only private functions cite. No public contract rests on them.
 pub mod Judging
 pub mod Tracing
 pub mod Walking

@@ -1,4 +1,4 @@
--- The number of nodes that an input states. Memory for a plan is asked for once this number is read.
+-- The number of nodes that an input states. Memory for a plan is allocated once this number is read.
 use Rattle.std.specs.Prelude.{ℕ, List, Result, Ok}
 use Rattle.crib_text.specs.Refusals.{Refusal}
 use Rattle.crib_text.specs.Reading.{◌>>=◌, Rest}

@@ -24,15 +24,15 @@ input_cause_number (Game fault) = game_fault_number fault
 abbrev pub refusal_of : refusals.Refusal → Refusal
 refusal_of refusal = record { line = refusal.line; number = input_cause_number refusal.cause }
 
--- a result tells what was read: its value is the one that was read, seen through `view`, or it has the same refusal. If
--- memory was refused, it tells nothing
+-- a result agrees with what was read: its value, seen through `view`, is the one that was read, or it has the same
+-- refusal. If an allocation failed, this says nothing
 abbrev pub Tells : {X Y : Type 0} → (X → Y) → Result X NotRead → Result Y Refusal → Type 0
 Tells view (Ok value) said = said ≡ Ok (view value)
 Tells view (Err (not_reads.Refused refusal)) said = said ≡ Err (refusal_of refusal)
 Tells view (Err not_reads.Memory) said = Unit {0}
 
--- an input was not read for a fault of a plan: memory was refused if the fault has this number, and otherwise it is the
--- refusal
+-- an input was not read because of a fault of its plan: an allocation failed if the fault has the number `no_memory`,
+-- and otherwise the input has the refusal of the fault
 abbrev pub IsForPlan : Fault PlanCause → NotRead → Type 0
 IsForPlan fault (not_reads.Refused refusal) =
     (refusal_of refusal ≡ plan_refusal fault) × (plan_cause_number fault.cause ≢ no_memory)

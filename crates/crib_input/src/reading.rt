@@ -1,4 +1,4 @@
-//! Reads whole inputs. Each call takes at most 8,388,608 bytes, and refuses a line after the last section.
+//! Reads whole inputs. Each call accepts at most 8,388,608 bytes, and refuses a line after the last section.
 ghost use Rattle.std.specs.Prelude.{◌≡◌, ◌≤◌, Err, IsOk, length};
 ghost use Rattle.crib_text.specs.Reading.{Gives};
 ghost use Rattle.crib_input.specs.Input.{played_of_input, played_under_of_input, problem_of_input, question_of_input};
@@ -53,8 +53,7 @@ pub fn problem_of(input: &[u8]) -> Result<Problem, Refusal>
 }
 
 /// Reads a problem and a plan. Returns them. Fails with the first refusal, or with [`NotRead::Memory`] if the
-/// allocation for the plan fails. That is tried only if the problem and the first two lines of the plan are not
-/// refused.
+/// allocation for the plan fails. It allocates only if the problem and the first two lines of the plan are not refused.
 #[tactic(auto, unfolding(crate::specs::Input::input_lines, crate::specs::Input::question_of_input, crate::specs::Input::question_at, crate::specs::Memory::count_of_input, crate::specs::Memory::count_behind))]
 pub fn question_of<A: Allocator + Copy>(alloc: A, input: &[u8]) -> Result<Question<A>, NotRead>
     requires { length input.now ≤ MAX_INPUT }
@@ -88,8 +87,8 @@ pub fn played_of(input: &[u8]) -> Result<Played, Refusal>
 }
 
 /// Reads a problem, a plan and a game. Returns them. Fails with the first refusal, or with [`NotRead::Memory`] if the
-/// allocation for the plan fails. That is tried only if the problem and the first two lines of the plan are not
-/// refused. The game may not fit the problem, and it may stray from the plan.
+/// allocation for the plan fails. It allocates only if the problem and the first two lines of the plan are not refused.
+/// The game may not fit the problem, and it may stray from the plan.
 #[tactic(auto, unfolding(crate::specs::Input::input_lines, crate::specs::Input::played_under_of_input, crate::specs::Input::played_under_at, crate::specs::Memory::count_of_input, crate::specs::Memory::count_behind))]
 pub fn played_under_of<A: Allocator + Copy>(
     alloc: A,

@@ -1,6 +1,6 @@
 //! The sections of an input.
 
-/// The sections that an input has to have, in their order.
+/// The sections that an input must have, in their order.
 #[derive(Clone, Copy, Debug, PartialEq, Eq)]
 pub enum Sections {
     /// A problem.

@@ -35,7 +35,7 @@ fault_line number = line_text (codes "fault" ∷ decimal number ∷ [])
 abbrev pub fault_reply : ℕ → Reply
 fault_reply number = record { output = fault_line number; status = Fault }
 
--- the reply to an input that was not read: that of its refusal, or the fault that memory was refused
+-- the reply to an input that was not read: that of its refusal, or the fault of a failed allocation
 abbrev pub not_read_reply : NotRead → Reply
 not_read_reply (not_reads.Refused refusal) = refusal_reply (refusal_of refusal)
 not_read_reply not_reads.Memory = fault_reply no_memory

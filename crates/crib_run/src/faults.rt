@@ -23,7 +23,7 @@ pub fn line_answer<A: Allocator>(line: &[u8], status: Status) -> Answer<A>
     }
 }
 
-/// Returns the answer of a fault: `fault N`, with the status `Fault` (docs/FORMATS.md, "Faults"). The call takes no
+/// Returns the answer of a fault: `fault N`, with the status `Fault` (docs/FORMATS.md, "Faults"). It allocates no
 /// memory.
 #[tactic(auto, using(crib_text::proofs::RoomLemmas::short, crate::proofs::Lines::faults), unfolding(crate::specs::Reply::reply_of, crate::specs::Text::text_bytes))]
 pub fn fault_answer<A: Allocator>(number: u8) -> Answer<A>

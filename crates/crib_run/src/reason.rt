@@ -8,7 +8,7 @@ use thiserror::Error;
 /// The cause of a fault.
 #[derive(Clone, Copy, Debug, PartialEq, Eq, Error)]
 pub enum FaultCause {
-    /// 9: the reader failed, or the 8,400,000 calls of reading ran out.
+    /// 9: the reader failed, or the limit of 8,400,000 calls of the reader was reached.
     #[error("the input can't be read")]
     ReadFailed,
     /// 10: the writer failed, or the 8,400,000 calls of writing ran out. The number is not printed.

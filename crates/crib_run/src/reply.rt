@@ -1,4 +1,4 @@
-//! What an answer says: the bytes of its text, and its status.
+//! The reply of an answer: the bytes of its text, and its status.
 ghost use Rattle.std.specs.Prelude.{◌≡◌, ◌≤◌, length};
 ghost use Rattle.crib_run.specs.Reply.{reply_of};
 
@@ -17,7 +17,7 @@ impl<A: Allocator> Answer<A> {
         self.text.as_slice()
     }
 
-    /// Returns the status of the answer. The program ends with it once the text is written.
+    /// Returns the status of the answer. The program exits with it once the text is written.
     #[tactic(auto, unfolding(crate::specs::Reply::reply_of))]
     pub fn status(&self) -> Status
         ensures { result ≡ (reply_of self.now).status }

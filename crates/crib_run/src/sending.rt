@@ -52,7 +52,7 @@ pub fn send<A: Allocator, W: Sink>(sink: &mut W, answer: &Answer<A>) -> Status
     }
 }
 
-/// Writes `fault 11`, for memory that was refused before the input was read. Returns `Fault`.
+/// Writes `fault 11`, for an allocation that failed before the input was read. Returns `Fault`.
 pub fn memory_fault<W: Sink>(sink: &mut W) -> Status
     ensures { Sends (fault_reply no_memory) (W.contents sink.old) (W.contents sink.new)
         (HasFailed (W.faults sink.old) (W.faults sink.new)) result }

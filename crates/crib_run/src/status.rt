@@ -2,16 +2,16 @@
 ghost use Rattle.std.specs.Prelude.{◌≡◌};
 ghost use Rattle.crib_run.specs.Status.{code_of};
 
-/// What the exit status says (docs/FORMATS.md, "Exit statuses").
+/// The exit status of the program (docs/FORMATS.md, "Exit statuses").
 #[derive(Clone, Copy, Debug, PartialEq, Eq)]
 pub enum Status {
-    /// The answer is given, or it is yes.
+    /// The answer is printed, or it is yes.
     Yes,
     /// The answer is no.
     No,
     /// The input or the command line is refused.
     Refused,
-    /// A device failed, memory was refused, or the plan that was found is too large.
+    /// A device or an allocation failed, or the plan that was found is too large.
     Fault,
 }
 

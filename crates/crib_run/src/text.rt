@@ -7,16 +7,16 @@ use arrayvec::ArrayVec;
 use itoa::Buffer;
 use std::alloc::Allocator;
 
-/// A text of at most 282 bytes, which takes no memory. The longest one is that of a plan that fails: a line of at most
-/// 14 bytes, and a game of at most 268.
+/// A text of at most 282 bytes, which needs no allocation. The longest one is the answer for a plan that fails: a line
+/// of at most 14 bytes, and a game of at most 268.
 pub type ShortText = ArrayVec<u8, 282>;
 
 /// The text of an answer.
 #[derive(Drop)]
 pub enum Text<A: Allocator> {
-    /// A text of at most 282 bytes. It is a part of the answer and takes no memory.
+    /// A text of at most 282 bytes. It is stored in the answer and needs no allocation.
     Short(ShortText),
-    /// The text of a plan or of a board. It takes memory, which is asked for once.
+    /// The text of a plan or of a board. It is allocated once.
     Section(Vec<u8, A>),
 }
 
@@ -33,7 +33,7 @@ impl<A: Allocator> Text<A> {
     }
 }
 
-/// Adds bytes to a text that has room for them.
+/// Appends bytes to a text that has room for them.
 pub fn add(text: &mut ShortText, bytes: &[u8])
     requires { array_vec_len text.old + length bytes.now ≤ 282 }
     ensures items { text.new.items ≡ text.old.items ++ bytes.now }
@@ -42,8 +42,8 @@ pub fn add(text: &mut ShortText, bytes: &[u8])
     text.try_extend_from_slice(bytes).unwrap();
 }
 
-/// Adds the decimal digits of a number to a text that has room for them. These are at most ten bytes, and at most three
-/// if the number is less than 256.
+/// Appends the decimal digits of a number to a text that has room for them. These are at most ten bytes, and at most
+/// three if the number is less than 256.
 pub fn add_number(text: &mut ShortText, number: u32)
     requires { array_vec_len text.old + length (decimal number) ≤ 282 }
     ensures items { text.new.items ≡ text.old.items ++ decimal number }

@@ -1,4 +1,4 @@
-//! The numbers of a plan's nodes. A walk over the nodes of a plan in the making gives them.
+//! The numbers of a plan's nodes, from a walk over the nodes of a plan in the making.
 ghost use Rattle.std.specs.Prelude.{◌≡◌, ◌<◌, ◌≤◌, [], ◌∷◌, length, map, slice_get, Some, is_some, IfOk};
 ghost use Rattle.std.specs.List.{AllByRecursion};
 ghost use Rattle.crib_search.specs.Private.Nodes.{AreKept, IsBelow, IsEarlier};
@@ -38,7 +38,7 @@ impl<'a, A: Allocator> Model for Numbering<'a, A> {
 }
 
 impl<'a, A: Allocator + Copy> Numbering<'a, A> {
-    /// The walk from a place, over all nodes that the plan goes on to. Fails if memory was refused.
+    /// The walk from a place, over all nodes that the plan goes on to. It fails if an allocation fails.
     pub(crate) fn new(
         alloc: A,
         nodes: &'a Nodes<A>,
@@ -65,7 +65,7 @@ impl<'a, A: Allocator + Copy> Numbering<'a, A> {
         self.order.len()
     }
 
-    /// The nodes of the plan by their numbers. Fails if memory was refused.
+    /// The nodes of the plan by their numbers. It fails if an allocation fails.
     pub(crate) fn plan_nodes(&self, alloc: A) -> Result<Vec<Node, A>, AllocError>
         requires { length self.now.left ≤ 65535 }
         ensures { IfOk result

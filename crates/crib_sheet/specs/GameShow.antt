@@ -12,7 +12,7 @@ combination kind cards = record { kind = kind; cards = record { items = cards } 
 abbrev pub no_combination : Combination
 no_combination = combination Fifteen []
 
--- the points of so many cards that make this
+-- the points of a combination of this kind with this many cards
 abbrev pub worth : Kind → ℕ → ℕ
 worth Fifteen cards = 2
 worth Pair cards = 2

@@ -11,8 +11,8 @@ use Rattle.crib_plan.specs.declared.plan.Node.TheVariants.{Play, See}
 use Rattle.crib_plan.specs.Places.{plan_start}
 use Rattle.crib_plan.specs.Spelling.{leads_to}
 
--- a row of a sheet, from some point on. It is done; or a card to play, and the row behind it; or it looks at what the
--- opponent shows, with lines below it; or it goes on in the paragraph of this number
+-- a row of a sheet, from some point on: nothing more; or a card to play, and the row after it; or a look at what the
+-- opponent shows, with lines below it; or the number of the paragraph in which the row goes on
 mutual
   pub data Row : Type 0 where
     Over : Row
@@ -20,8 +20,8 @@ mutual
     Looks : Lines → Row
     Named : ℕ → Row
 
-  -- the lines below a look, each with the letters that it is for, and its row. Of each of the fourteen letters it is
-  -- told whether the line is for it
+  -- the lines below a look, each with the letters that it is for, and its row. The list says for each of the fourteen
+  -- letters whether the line is for it
   pub data Lines : Type 0 where
     NoLine : Lines
     Line : List Bool → Row → Lines → Lines
@@ -42,7 +42,7 @@ row_named [] number = Over
 row_named (paragraph ∷ others) number =
     if paragraph.number == number then paragraph.row else row_named others number
 
--- where a reader goes on: a row that names a paragraph sends them there
+-- where a reader goes on: at a row that names a paragraph, in that paragraph
 abbrev pub read_on : Sheet → Row → Row
 read_on sheet Over = Over
 read_on sheet (Plays card row) = Plays card row
@@ -56,7 +56,7 @@ card_on (Plays card row) = Some card
 card_on (Looks lines) = None
 card_on (Named number) = None
 
--- where a reader is after a card of the owner: behind the card that was stated
+-- where a reader is after a card of the owner: after the card that was stated
 abbrev pub read_card : Sheet → Row → Row
 read_card sheet Over = Over
 read_card sheet (Plays card row) = read_on sheet row
@@ -67,12 +67,12 @@ read_card sheet (Named number) = Named number
 abbrev pub is_for : List Bool → Letter → Bool
 is_for set letter = unwrap_or (slice_get set (letter_place letter)) false
 
--- the row of the first line that is for a letter. In no line nothing more is stated
+-- the row of the first line that is for a letter. If no line is, nothing more is stated
 abbrev pub row_for : Lines → Letter → Row
 row_for NoLine letter = Over
 row_for (Line set row others) letter = if is_for set letter then row else row_for others letter
 
--- where a reader is after a letter of the opponent: at a look in the line for this letter, and else where they were
+-- where a reader is after a letter of the opponent: at a look, in the line for this letter; otherwise, where they were
 abbrev pub read_letter : Sheet → Row → Letter → Row
 read_letter sheet Over letter = Over
 read_letter sheet (Plays card row) letter = Plays card row
@@ -118,7 +118,7 @@ abbrev pub row_of : (ℕ → Bool) → List Paragraph → Node → Row
 row_of apart later (Play card next) = Plays card (row_to apart later next)
 row_of apart later (See branches) = Looks (lines_to apart later branches 0 branches)
 
--- a node's row, in front of those of the later nodes
+-- a node's row, before those of the later nodes
 abbrev pub with_row : (ℕ → Bool) → ℕ → Node → List Paragraph → List Paragraph
 with_row apart place node later = record { number = place; row = row_of apart later node } ∷ later
 

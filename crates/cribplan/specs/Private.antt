@@ -1,2 +1,2 @@
--- What private functions alone cite. No public contract rests on it.
+-- Definitions that only private functions cite. No public contract rests on them.
 pub mod Command

@@ -1,34 +1,34 @@
 //! Games.
 
-// A game in which the opponent holds four aces: his throw, and the lines of the acts.
+// A game in which the opponent holds four aces. The macro takes their throw, and the lines of the acts.
 macro_rules! aces {
     ($throw:literal, $acts:literal) => {
         concat!("game 1\nhold AC AD AH AS\nthrow ", $throw, "\nacts ", $acts)
     };
 }
 
-// The whole game of the aces and the twos, in which the owner leads: the opponent's throw.
+// The whole game of the aces and the twos, in which the owner leads. The macro takes the opponent's throw.
 macro_rules! owner_leads {
     ($throw:literal) => {
         aces!($throw, "8\nown 2C\nopp AC\nown 2D\nopp AD\nown 2H\nopp AH\nown 2S\nopp AS\n")
     };
 }
 
-// The whole game of the aces and the twos, in which the opponent leads: his throw.
+// The whole game of the aces and the twos, in which the opponent leads. The macro takes their throw.
 macro_rules! opponent_leads {
     ($throw:literal) => {
         aces!($throw, "8\nopp AC\nown 2C\nopp AD\nown 2D\nopp AH\nown 2H\nopp AS\nown 2S\n")
     };
 }
 
-// A game for `CLOSE`: the lines of the acts.
+// A game for `CLOSE`. The macro takes the lines of the acts.
 macro_rules! close {
     ($acts:literal) => {
         concat!("game 1\nhold AD AH AS 2S\nthrow 3C 3D\nacts ", $acts)
     };
 }
 
-// A game for `TENS`: the opponent's hold, and the lines of the acts.
+// A game for `TENS`. The macro takes the opponent's hold, and the lines of the acts.
 macro_rules! tens {
     ($hold:literal, $acts:literal) => {
         concat!("game 1\nhold ", $hold, "\nthrow 5H 7D\nacts ", $acts)
@@ -74,16 +74,16 @@ pub const TWO_AND_ACE: &str = aces!("3C 3D", "2\nown 2C\nopp AC\n");
 /// `TWO_AND_ACE`, with the ace of diamonds.
 pub const TWO_AND_DIAMOND: &str = aces!("3C 3D", "2\nown 2C\nopp AD\n");
 
-/// The owner leads a nine that he does not hold.
+/// The owner leads a nine that they do not hold.
 pub const NOT_HELD: &str = aces!("3C 3D", "1\nown 9C\n");
 
-/// The owner plays his first two again.
+/// The owner plays their first two again.
 pub const PLAYED_TWICE: &str = aces!("3C 3D", "3\nown 2C\nopp AC\nown 2C\n");
 
 /// The owner plays twice in a row.
 pub const OUT_OF_TURN: &str = aces!("3C 3D", "2\nown 2C\nown 2H\n");
 
-/// The opponent pairs an ace, and pegs the two holes that he needs to reach 121.
+/// The opponent pairs an ace, and pegs the two holes that they need to reach 121.
 pub const PAIRED: &str = close!("2\nown AC\nopp AD\n");
 
 /// `PAIRED`, with a third act, which comes too late.
@@ -95,7 +95,7 @@ pub const KING: &str = "game 1\nhold AC AD AH KC\nthrow AS 3C\nacts 2\nown 2C\no
 /// `KING`, before the answer.
 pub const BEFORE_THE_KING: &str = "game 1\nhold AC AD AH KC\nthrow AS 3C\nacts 1\nown 2C\n";
 
-/// The opponent says go at 22, so he holds tens alone.
+/// The opponent says go at 22, so they hold only tens.
 pub const GO_AT_22: &str =
     "game 1\nhold 6C TC TD TH\nthrow AC AD\nacts 6\nown 2C\nopp 6C\nown 2D\nopp TC\nown 2H\nopp go\n";
 
@@ -106,7 +106,7 @@ pub const LAST_CARD: &str = tens!(
     "10\nown TC\nopp TD\nown 9C\nopp go\nown 2C\nopp KD\nown 8C\nopp KH\nopp go\nopp QS\n"
 );
 
-/// What `replay` answers to `TENS` and `LAST_CARD`.
+/// The answer of `replay` to `TENS` and `LAST_CARD`.
 pub const LAST_CARD_ANSWER: &str =
     "play 2 4\nhand owner 9 11 4\nhand opponent 2 11 6\ncrib opponent 9 11 15\nshort\n";
 
@@ -116,13 +116,13 @@ pub const NO_TEN_PLAYED: &str = tens!("TD KD KH QS", "0\n");
 /// A game of `TENS` in which the opponent leads in place of the owner.
 pub const TAKES_THE_LEAD: &str = tens!("TD KD KH QS", "1\nopp TD\n");
 
-/// A game of `TENS` in which the owner leads a king that he does not hold.
+/// A game of `TENS` in which the owner leads a king that they do not hold.
 pub const LEADS_A_KING: &str = tens!("TD KD KH QS", "1\nown KC\n");
 
 /// A game of `TENS` in which the opponent's king makes 39.
 pub const PAST_31: &str = tens!("TD KD KH QS", "4\nown TC\nopp TD\nown 9C\nopp KD\n");
 
-/// A game of `TENS` in which the opponent says go at 29, but his two fits.
+/// A game of `TENS` in which the opponent says go at 29, but their two fits.
 pub const FALSE_GO: &str = tens!(
     "TD 2D KH QS",
     "6\nown TC\nopp TD\nown 9C\nopp go\nown 2C\nopp 2D\n"
@@ -133,6 +133,6 @@ pub const MAKES_31: &str = "game 1\nhold QD 9D 7D 8D\nthrow AH JD\nacts 10\n\
     own TC\nopp QD\nown KC\nopp go\nown go\nopp 9D\nown 4C\nopp 7D\nown 3C\nopp 8D\n";
 
 /// A game of `LAST_TWO`. The opponent leads a nine, the owner plays the seven, and the opponent's eight makes a run of
-/// three. The owner's nine does not fit, and the last card gives the opponent his fourth hole.
+/// three. The owner's nine does not fit, and the last card gives the opponent their fourth hole.
 pub const RUN_LOST: &str = "game 1\nhold 8D 9C KD KS\nthrow AC AD\nacts 10\n\
     opp KD\nown 3D\nopp KS\nown 6H\nopp go\nown go\nopp 9C\nown 7S\nopp 8D\nown go\n";

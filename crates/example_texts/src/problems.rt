@@ -1,6 +1,7 @@
 //! Problems.
 
-// A problem with four twos: the dealer, the scores, the goal and, in version 2, the lines of the opening.
+// A problem with four twos. The macro takes the dealer, the scores, the goal and, in version 2, the lines of the
+// opening.
 macro_rules! twos {
     ($dealer:literal, $score:literal, $goal:literal) => {
         twos!("1", $dealer, $score, $goal, "")
@@ -16,7 +17,7 @@ macro_rules! twos {
     };
 }
 
-// A problem in which the opponent is two holes from 121: its version, and the lines of the opening.
+// A problem in which the opponent is two holes from 121. The macro takes the version, and the lines of the opening.
 macro_rules! close {
     ($version:literal, $opening:literal) => {
         concat!(
@@ -26,7 +27,7 @@ macro_rules! close {
     };
 }
 
-// A problem with a ten and small clubs: its version, and the lines of the opening.
+// A problem with a ten and small clubs. The macro takes the version, and the lines of the opening.
 macro_rules! tens {
     ($version:literal, $opening:literal) => {
         concat!(
@@ -37,7 +38,8 @@ macro_rules! tens {
 }
 
 // The owner deals, says go at 29 and pegs one hole for the last card. The opponent, who is four holes from 121, leads
-// his last two cards. Both are threes or higher, since neither fitted at 29. The owner's score, and the goal.
+// their last two cards. Both are threes or higher, since neither fitted at 29. The macro takes the owner's score, and
+// the goal.
 macro_rules! last_two {
     ($score:literal, $goal:literal) => {
         concat!(
@@ -48,7 +50,7 @@ macro_rules! last_two {
     };
 }
 
-/// Four twos of the pone. The goal is twelve holes, which his hand makes.
+/// Four twos of the pone. The goal is twelve holes, which the owner's hand makes.
 pub const TWELVE: &str = twos!("opponent", "0 0", "holes 12");
 
 /// `TWELVE`, with a goal of one hole more, which is too many.
@@ -57,7 +59,7 @@ pub const THIRTEEN: &str = twos!("opponent", "0 0", "holes 13");
 /// The four twos of the dealer, who is one hole from 121.
 pub const NEAR: &str = twos!("owner", "120 0", "win");
 
-/// The four twos of the dealer. The goal is thirteen holes, which he makes in every game.
+/// The four twos of the dealer. The goal is thirteen holes, which the dealer makes in every game.
 pub const DEALERS_THIRTEEN: &str = twos!("owner", "100 0", "holes 13");
 
 /// `DEALERS_THIRTEEN`, with a goal of one hole more, which is too many.
@@ -78,7 +80,7 @@ pub const STOP_FAR: &str = twos!("opponent", "0 0", "stop", "played 0\n");
 /// `STOP_FAR`, with the opponent one hole from 121.
 pub const STOP_NEAR: &str = twos!("opponent", "0 120", "stop", "played 0\n");
 
-/// `STOP_FAR`, with the opponent 29 holes from 121. His hand and his crib decide.
+/// `STOP_FAR`, with the opponent 29 holes from 121. The opponent's hand and crib decide.
 pub const STOP_SHOW: &str = twos!("opponent", "0 92", "stop", "played 0\n");
 
 /// The opponent is two holes from 121.
@@ -110,16 +112,17 @@ pub const LAST_MAKES_31: &str =
 pub const NINES: &str =
     "problem 1\ndealer opponent\nscore 0 0\nstarter 8C\nhold 9S 9D TD QC\nthrow 2H 5C\ngoal holes 5\n";
 
-/// The owner's hole for the last card brings him to one hole from 121. The opponent leads his last two cards.
+/// The owner's hole for the last card brings them to one hole from 121. The opponent leads their last two cards.
 pub const LAST_TWO: &str = last_two!("119", "win");
 
 /// `LAST_TWO`, with the goal to stop the opponent.
 pub const LAST_TWO_STOP: &str = last_two!("119", "stop");
 
-/// `LAST_TWO`, with one hole less for the owner, so he is two holes from 121. Against a king and then a queen he makes
-/// only one. He answers the king with the seven or the nine, and the count is 17 or 19. The queen makes it 27 or 29,
-/// and his other card does not fit. The opponent gets one hole for the last card. The owner leads his eighth card and
-/// gets one hole. Nothing else scores. The opponent counts first, needs three holes, and gets six for three kings.
+/// `LAST_TWO`, with one hole less for the owner, which leaves them two holes from 121. Against a king and then a queen
+/// the owner makes only one. The owner answers the king with the seven or the nine, and the count is 17 or 19. The
+/// queen makes it 27 or 29, and the owner's other card does not fit. The opponent gets one hole for the last card. The
+/// owner leads their eighth card and gets one hole. Nothing else scores. The opponent counts first, needs three holes,
+/// and gets six for three kings.
 pub const LAST_TWO_BEHIND: &str = last_two!("118", "win");
 
 /// The dealer's goal is three holes in a whole play.

@@ -1,4 +1,4 @@
--- The bytes that a reader has still to give, and those that a writer was given.
+-- The bytes that a reader has not read yet, and those that a writer has written.
 use Rattle.std.specs.Prelude.{ℕ, List}
 use Rattle.failing_devices.specs.declared.Feed.{Feed}
 use Rattle.failing_devices.specs.declared.Tray.{Tray}

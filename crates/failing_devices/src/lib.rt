@@ -1,5 +1,5 @@
-//! For tests: a reader and a writer over memory. They move a given number of bytes a call. They fail, or are
-//! interrupted, at the calls that the test names.
+//! For tests: a reader and a writer over memory. They move at most a given number of bytes at each call. They fail, or
+//! are interrupted, at the calls that the test names.
 #![tactic(auto)]
 
 ghost use Rattle.std.specs.Prelude.{◌≡◌, [], Some, length};
@@ -12,19 +12,19 @@ use std::io::{Error, ErrorKind, Read, Write};
 #[cfg(test)]
 mod tests;
 
-/// Which calls of a device give an error, and of which kind. The first call is number 1. A call that gives an error
+/// Which calls of a device return an error, and of which kind. The first call is number 1. A call that returns an error
 /// moves no byte.
 #[derive(Clone, Copy)]
 pub enum Trouble {
-    /// No call gives an error.
+    /// No call returns an error.
     Never,
-    /// This call gives an error, and no other.
+    /// Only this call returns an error.
     At(u64, ErrorKind),
-    /// This call gives an error, and so does each later one.
+    /// This call and each later one return an error.
     From(u64, ErrorKind),
 }
 
-// Counts the calls of a device, and gives the error of each call that is to fail.
+// Counts the calls of a device, and returns the error of each call that must fail.
 #[derive(Clone, Copy)]
 struct Calls {
     made: u64,
@@ -51,7 +51,7 @@ pub struct Feed<'a> {
 }
 
 impl<'a> Feed<'a> {
-    /// A reader that gives these bytes. A call gives at most `piece` of them, or one if `piece` is 0.
+    /// Returns a reader of these bytes. A call reads at most `piece` of them, or one if `piece` is 0.
     pub fn new(bytes: &'a [u8], piece: usize, trouble: Trouble) -> Feed<'a>
         ensures { fed_bytes result ≡ bytes.now }
     {
@@ -63,7 +63,7 @@ impl<'a> Feed<'a> {
         }
     }
 
-    /// The number of bytes that are still to be given.
+    /// The number of bytes that are not read yet.
     pub fn left(&self) -> usize
         ensures { result ≡ length (fed_bytes self.now) }
     {
@@ -93,8 +93,8 @@ pub struct Tray<A: Allocator> {
 }
 
 impl<A: Allocator> Tray<A> {
-    /// A writer that takes at most `piece` bytes a call. If `piece` is 0, it takes none. A call also fails if memory
-    /// was refused.
+    /// Returns a writer that accepts at most `piece` bytes at each call. If `piece` is 0, it accepts none. A call also
+    /// fails if an allocation fails.
     pub fn new(alloc: A, piece: usize, trouble: Trouble) -> Tray<A>
         ensures { tray_bytes result ≡ [] }
     {

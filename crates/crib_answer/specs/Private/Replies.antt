@@ -1,4 +1,4 @@
--- What private functions alone cite: the ends of lines.
+-- The ends of lines.
 use Rattle.std.specs.Prelude.{ℕ, List, ◌∷◌}
 use Rattle.crib_cards.specs.declared.sides.Scores.{Scores}
 use Rattle.crib_text.specs.Spelling.{space, line_text}

@@ -21,7 +21,7 @@ use Rattle.crib_check.specs.declared.keys.Key.{Key}
 use Rattle.crib_check.specs.Failing.{IsFailing, comes_before, is_suited}
 use Rattle.crib_check.specs.Private.Histories.{place_by, FollowsBy, IsStatedEvent, Extends, history_of_game}
 
--- a position stands for a history: the history follows the plan, the knowledge is what the owner knows after it, and
+-- a position represents a history: the history follows the plan, the knowledge is what the owner knows after it, and
 -- the place is that of the plan after it
 pub record StandsAt (problem : Setup) (plan : List Node) (key : Key) (history : List Event) : Type 0 where
   pub knows : KnowsAfter key.know problem history
@@ -33,7 +33,7 @@ abbrev pub HoldsFrom : Setup → List Node → List Event → Type 0
 HoldsFrom problem plan history =
     (game : Game) (result : Ending) → IsFailing problem plan game result → Extends history (history_of_game game) → ⊥
 
--- a position is settled: no failing game goes on from a history that it stands for
+-- a position is settled: no failing game goes on from a history that it represents
 abbrev pub IsSettled : Setup → List Node → Key → Type 0
 IsSettled problem plan key =
     (history : List Event) → StandsAt problem plan key history → HoldsFrom problem plan history
@@ -48,11 +48,11 @@ pub record IsFirstFrom (problem : Setup) (plan : List Node) (history : List Even
   pub first : (other : Game) (others_ending : Ending) → IsFailing problem plan other others_ending →
       Extends history (history_of_game other) → IsFalse (comes_before other game)
 
--- the move that the plan gives the owner at a position: he can make it, and a card is the stated one
+-- a move that the plan gives the owner at a position: the owner can make it, and a card is the stated one
 abbrev pub MayTakeAt : List Node → Key → Move → Type 0
 MayTakeAt plan key what = CanDoAt key.know what × IsStatedEvent plan key.place (Own what)
 
--- the owner is stuck: he is asked and a card of his fits, but no card that he holds and that fits is stated
+-- the owner is stuck: they are to move and a card of theirs fits, but no card that they hold and that fits is stated
 abbrev pub IsStuckAt : List Node → Key → Type 0
 IsStuckAt plan key = IsTrue (is_stuck_at key.know.round key.know.own_left (stated_card plan key.place))
 

@@ -12,8 +12,8 @@ use Rattle.crib_check.specs.Private.Histories.{history_of_trail}
 use Rattle.crib_check.specs.Private.Positions.{IsSettled, StandsAt}
 use Rattle.crib_check.specs.Shows.{AreExtremesOf}
 
--- a walk of a problem and a plan: its table of positions holds settled ones alone, and its table of shows is right. The
--- first argument is what it is for a table to hold a position
+-- a walk of a problem and a plan: its position table holds only settled positions, and its table of shows is right. The
+-- first argument is the property that a table holds a position
 pub record IsWalkOf {A T : Type 0} (holds : T → Key → Type 0) (problem : Setup) (plan : List Node) (walk : Walk A T)
     : Type 0 where
   pub same_problem : walk.problem.now ≡ problem
@@ -25,14 +25,14 @@ pub record IsWalkOf {A T : Type 0} (holds : T → Key → Type 0) (problem : Set
 abbrev pub history_at : {A T : Type 0} → Walk A T → List Event
 history_at walk = history_of_trail walk.problem.now walk.trail.items
 
--- a walk may go on from a position, which stands for a history
+-- a walk may go on from a position, which represents a history
 pub record MayWalk {A T : Type 0} (holds : T → Key → Type 0) (walk : Walk A T) (key : Key) (history : List Event)
     : Type 0 where
   pub kept : IsWalkOf holds walk.problem.now walk.plan.now walk
   pub here : StandsAt walk.problem.now walk.plan.now key history
 
--- a walk has gone over all games from a position, up to the first failing one: it is still one of the problem and the
--- plan, its trail is as before if there is no failure, and the result is right
+-- a walk has gone over all games from a position, up to the first failing one: it is still a walk of the problem and
+-- the plan, its trail is as before if there is no failure, and the result is right
 pub record HasWalkedOf {A T : Type 0} (holds : T → Key → Type 0) (problem : Setup) (plan : List Node)
     (trail : List TrailEvent) (key : Key) (history : List Event) (after : Walk A T) (result : Option Failure)
     : Type 0 where
@@ -40,7 +40,7 @@ pub record HasWalkedOf {A T : Type 0} (holds : T → Key → Type 0) (problem : 
   pub back : result ≡ None → after.trail.items ≡ trail
   pub found : IsFoundFrom problem plan key history after.trail.items result
 
--- the same of a walk as it was before
+-- the same, by the walk as it was before
 abbrev pub HasWalked :
     {A T : Type 0} → (T → Key → Type 0) → Walk A T → Key → List Event → Walk A T → Option Failure → Type 0
 HasWalked holds before = HasWalkedOf holds before.problem.now before.plan.now before.trail.items

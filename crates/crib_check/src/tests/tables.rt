@@ -35,7 +35,7 @@ fn keeps_keys(rt: HostRuntime) {
 }
 
 /// A table that refuses none of the puts, every second one, or all. It notices a key that is put twice, or that was put
-/// before it was asked for.
+/// before it was looked up.
 #[derive(Drop)]
 struct Watched {
     set: KeySet<Global>,
@@ -103,8 +103,8 @@ impl Settled for Watched {
     }
 }
 
-/// The number of positions of the four twos whose deal is not done. In 1,575 of them the owner is asked. The walk of
-/// `bench/positions`, which shares no code with this one, meets as many.
+/// The number of positions of the four twos whose deal is not done. In 1,575 of them the owner is to move. The walk of
+/// `bench/positions`, which shares no code with this one, visits as many.
 const POSITIONS: u32 = 3470;
 
 #[test]
@@ -119,7 +119,7 @@ fn settles_each_position_after_it_was_asked_for_and_once(rt: HostRuntime) {
     assert_eq!(rt; table.puts, POSITIONS);
 }
 
-/// Whether each row comes out with this table.
+/// Checks the verdict of each row with this table.
 fn come_out_with<T: Settled>(rt: &(impl Abort + AllocGlobal), rows: &[Row], table: &mut T) {
     for row in rows {
         let (of, by, _) = *row;
@@ -128,7 +128,7 @@ fn come_out_with<T: Settled>(rt: &(impl Abort + AllocGlobal), rows: &[Row], tabl
     }
 }
 
-/// Whether all rows come out with this table, which serves one after another.
+/// Checks the verdicts of all rows with this one table, row after row.
 fn all_come_out_with<T: Settled>(rt: &(impl Abort + AllocGlobal), table: &mut T) {
     come_out_with(rt, &SURE, table);
     come_out_with(rt, &SHORT, table);

@@ -1,4 +1,4 @@
--- How acts are judged in the code: by the round and the cards that are left to each side.
+-- How the code judges acts: by the round and the cards that each side has left.
 use Rattle.std.specs.Prelude.{ℕ, ◌+◌, ◌≤◌, Bool, true, false, List, Option}
 use Rattle.crib_cards.specs.Cards.{card_value}
 use Rattle.crib_cards.specs.Sets.{set_of, set_without}
@@ -28,18 +28,18 @@ is_over turns.Owner = false
 is_over turns.Opponent = false
 is_over turns.Over = true
 
--- the cards that are left to a side
+-- the cards that a side has left
 abbrev pub held_cards_of : HeldCards → Side → List ℕ
 held_cards_of held Owner = held.owner
 held_cards_of held Opponent = held.opponent
 
--- the cards that are left after a move. A card that is played is left to neither side
+-- the cards that each side has left after a move. A card that is played is removed from both
 abbrev pub held_cards_after : HeldCards → Move → HeldCards
 held_cards_after held (move.Card card) =
     record { owner = set_without held.owner card; opponent = set_without held.opponent card }
 held_cards_after held move.Go = held
 
--- the cards that are left to the sides after some moves
+-- the cards that each side has left after some moves
 abbrev pub left_by : Hands → List Move → HeldCards
 left_by hands moves =
     record { owner = set_of (cards_left hands Owner moves); opponent = set_of (cards_left hands Opponent moves) }

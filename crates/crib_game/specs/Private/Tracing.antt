@@ -1,4 +1,4 @@
--- How a plan is followed in the code: by its place, the round, and the cards that are left to the owner.
+-- How the code follows a plan: by its place, the round, and the cards that the owner has left.
 use Rattle.std.specs.Prelude.{◌≡◌, ℕ, Bool, not, ◌&&◌, List, Option}
 use Rattle.std.specs.List.{list_any}
 use Rattle.crib_cards.specs.Start.{pone_of}
@@ -19,14 +19,14 @@ use Rattle.crib_game.specs.Private.Judging.{is_over, full_at}
 use Rattle.crib_game.specs.Private.Walking.{record_after}
 use Rattle.crib_game.specs.Followed.{ending_without}
 
--- whether the owner is stuck in a round: he is asked and a card of his fits, but no card is stated that he holds and
--- that fits
+-- whether the owner is stuck in a round: the owner is to move and a card of theirs fits, but no card is stated that
+-- they hold and that fits
 abbrev pub is_stuck_at : Standing → List ℕ → Option ℕ → Bool
 is_stuck_at table cards stated =
     asks table.asked Owner && list_any (fits_at (count_of table.pile)) cards
     && not (is_playable_at (count_of table.pile) cards stated)
 
--- how a game stands, by its round, the cards that are left to the owner, and the stated card
+-- the ending of a game, by its round, the cards that the owner has left, and the stated card
 abbrev pub ending_at : Setup → Dealt → Standing → List ℕ → Option ℕ → Ending
 ending_at problem dealt table cards stated =
     ending_without (outcome_if_done (is_over table.asked) (full_at problem dealt table))

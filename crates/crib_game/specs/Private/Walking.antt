@@ -1,4 +1,4 @@
--- What is known in the code along the acts of a game, and after the last one.
+-- What the code knows along the acts of a game, and after the last one.
 use Rattle.std.specs.Prelude.{◌≡◌, Bool, List, None, is_some, IsTrue}
 use Rattle.crib_cards.specs.Deals.{six_cards}
 use Rattle.crib_cards.specs.Letters.{letter_of}
@@ -25,7 +25,8 @@ pub record CanBeJudged (problem : Setup) (dealt : Dealt) : Type 0 where
   pub six : AreSixCards dealt
   pub unseen : first_seen (known_cards problem) 1 (six_cards dealt) ≡ None
 
--- a game after some acts, of which none is refused: its round stands for them, and its cards are those that are left
+-- a game after some acts, none of which is refused: its round is the one after them, and its cards are those that are
+-- left
 pub record IsJudged (judge : Judge) (start : Start) (hands : Hands) (walk : JudgedGame) (before : List Act) : Type 0
   where
     pub stands : StandsFor walk.round start (letters_of (moves_of before))
@@ -42,8 +43,8 @@ pub record IsJudgedGame (judge : Judge) (problem : Setup) (game : Game) (walk : 
 abbrev pub record_after : Setup → List Act → List Move
 record_after problem before = filled_moves (start_of problem) (moves_of before)
 
--- an act may come next after some acts: it is of the side that is asked, and it is visible. It is played if the opening
--- has a turn at its place, and the row is its row
+-- an act may come next after some acts: its side is to move, and it is visible. `is_played` is whether the opening has
+-- a turn at its place, and `row` is the row of the act
 pub record IsNext (problem : Setup) (before : List Act) (act : Act) (is_played : Bool) (row : Row) : Type 0 where
   pub side : act.side ≡ mover (pone_of (start_of problem)) (letters_of (record_after problem before))
   pub visible : IsTrue

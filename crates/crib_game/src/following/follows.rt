@@ -16,17 +16,18 @@ use crib_play::{Round, Turn, any_fits, fits};
 use crib_problem::Problem;
 use std::alloc::Allocator;
 
-/// Follows a plan through a game. Returns how the game stands under the plan, or the first refusal. It takes no memory.
+/// Follows a plan through a game. Returns the ending of the game under the plan, or the first refusal. It allocates no
+/// memory.
 ///
-/// There is an ending exactly where the opponent's six cards are a deal of the problem, and the acts are the visible
-/// turns of a legal record that begins with the opening and then follows the plan. The opening is the turns that the
-/// problem says were played. After it, each card of the owner is the one stated at the place just before.
+/// It returns an ending exactly when the opponent's six cards are a deal of the problem, and the acts are the visible
+/// turns of a legal record that begins with the opening and then follows the plan. The opening is the visible turns
+/// that the problem lists as played. After it, each card of the owner is the one stated at the place just before.
 ///
 /// The place is [`start`] until the opening is over. After that a card of the owner moves it on, a letter of the
-/// opponent moves it along its branch, and a go of the owner leaves it.
+/// opponent moves it along its branch, and a go of the owner leaves it unchanged.
 ///
-/// The first refusal is that of a replay, with [`GameFault::Strays`] (46) among them. Only an act after the opening
-/// strays. Within an act 46 comes after 44, the other side's turn, and before 41, a card that is not held.
+/// The first refusal is that of a replay, with one more cause: [`GameFault::Strays`] (46). Only an act after the
+/// opening can stray. For one act, 46 comes after 44 (the other side's turn) and before 41 (a card that is not held).
 pub fn follow<A: Allocator>(
     problem: &Problem,
     plan: &Plan<A>,
@@ -89,7 +90,7 @@ fn is_stated(stated: Option<Card>, card: Card) -> bool
     }
 }
 
-// The place of the plan after an act. A turn of the opening leaves it.
+// The place of the plan after an act. A turn of the opening leaves it unchanged.
 fn place_with<A: Allocator>(plan: &Plan<A>, place: Next, is_played: bool, act: &Act) -> Next
     ensures { result ≡ (if is_played then place else place_after_turn plan.now act.now.side act.now.what true place) }
 {
@@ -100,8 +101,8 @@ fn place_with<A: Allocator>(plan: &Plan<A>, place: Next, is_played: bool, act: &
     }
 }
 
-// The place of the plan after an act behind the opening. A card of the owner moves it, and so does a letter of the
-// opponent.
+// The place of the plan after an act that is not in the opening. A card of the owner moves it, and so does a letter of
+// the opponent.
 fn place_after_act<A: Allocator>(plan: &Plan<A>, place: Next, act: &Act) -> Next
     ensures { result ≡ place_after_turn plan.now act.now.side act.now.what true place }
 {
@@ -114,7 +115,7 @@ fn place_after_act<A: Allocator>(plan: &Plan<A>, place: Next, act: &Act) -> Next
     }
 }
 
-// How a game stands after some acts, where the plan states this card.
+// The ending of a game after some acts. `stated` is the card that the plan states there.
 fn ending(problem: &Problem, dealt: &Dealt, walk: &JudgedGame, stated: Option<Card>) -> Ending
     ensures { result ≡ ending_at problem.now dealt.now walk.now.round walk.now.held.owner stated }
 {
@@ -125,7 +126,7 @@ fn ending(problem: &Problem, dealt: &Dealt, walk: &JudgedGame, stated: Option<Ca
     }
 }
 
-// Whether the owner is asked and a card of his fits, but no card is stated that he holds and that fits.
+// Whether the owner is to move and a card of theirs fits, but no card is stated that they hold and that fits.
 fn is_stuck(round: &Round, cards: CardSet, stated: Option<Card>) -> bool
     ensures { result ≡ is_stuck_at round.now cards stated }
 {

@@ -17,13 +17,12 @@ use crate::section::Game;
 use crib_cards::{Act, Card, Dealt};
 use crib_problem::Problem;
 
-/// Who goes along with the acts of a game, and keeps something of them. `first` is what the follower was before the
-/// first act.
+/// A follower of the acts of a game, which keeps something of them. `first` is the follower before the first act.
 pub(crate) trait Follower {
-    // The judge of acts, for a follower that began so.
+    // The judge of acts, for a follower that began as this one.
     ghost judge_of: { Self → Setup → Judge };
 
-    // A follower that began as the first one has followed these acts. The last act stands first.
+    // A follower that began as the first one has followed these acts. The list has the last act first.
     ghost has_followed: { Self → Self → Setup → List Act → Type 0 };
 
     // The remark on the next act. `played` is the turn of the opening at its place, if there is one.
@@ -42,7 +41,7 @@ pub(crate) trait Follower {
 }
 
 // Judges a game. Returns it after its last act, or the first refusal: that of a card of the opponent, that of an act,
-// or that of the first missing act of the opening. The follower gives the remark on each act.
+// or that of the first missing act of the opening. The follower returns the remark on each act.
 pub(crate) fn judge<F: Follower>(
     problem: &Problem,
     game: &Game,
@@ -99,7 +98,7 @@ fn judge_acts<F: Follower>(
     Ok(walk)
 }
 
-// The turn of the opening after so many acts, if there is one.
+// The turn of the opening after `acts` acts, if there is one.
 fn played_at(problem: &Problem, acts: u8) -> Option<Act>
     ensures { result ≡ slice_get problem.now.played acts }
 {
@@ -135,7 +134,7 @@ fn deal_fault(problem: &Problem, dealt: &Dealt) -> Option<GameFault>
     None
 }
 
-// The opponent's hold, and then his throw.
+// The opponent's hold, and then their throw.
 fn six_cards(dealt: &Dealt) -> [Card; 6]
     ensures cards { result ≡ six_cards dealt.now }
     ensures held { length dealt.now.hold ≡ 4 }

@@ -1,4 +1,4 @@
-//! A game as its acts go on: the round, and the cards that each side has left.
+//! A game act by act: the round, and the cards that each side has left.
 ghost use Rattle.std.specs.Prelude.{◌≡◌, ◌≢◌, ◌≤◌, List, [], ◌∷◌};
 ghost use Rattle.crib_cards.specs.Letters.{letter_of};
 ghost use Rattle.crib_cards.specs.Sets.{set_of};
@@ -79,9 +79,9 @@ impl JudgedGame {
         self.round.next() == Turn::Over
     }
 
-    // The refusal of an act, if there is one. `place` is counted from 1. The first of these is given: the remark that
-    // the opening has another turn (47), an act after the end (45), the other side's turn (44), the remark that the act
-    // strays from the plan (46), and what is wrong with the move (41 to 43).
+    // The refusal of an act, if there is one. `place` is counted from 1. The first of these is returned: the remark
+    // that the opening has another turn (47), an act after the end (45), the other side's turn (44), the remark that
+    // the act strays from the plan (46), and what is wrong with the move (41 to 43).
     pub(crate) fn fault(&self, act: &Act, place: u8, remark: Remark) -> Option<GameFault>
         ensures { result ≡ fault_at remark self.now.round (held_cards_of self.now.held act.now.side) act.now place }
     {
@@ -108,9 +108,9 @@ impl JudgedGame {
         }
     }
 
-    // Takes an act of the side that is asked, and returns its row. The count is the one with the act's card, 31
-    // included, or the one at which a go is said. The points are those of the act and of the silent gos after it. The
-    // scores are those after them.
+    // Makes an act of the side to move, and returns its row. The row's count includes the act's card, and 31 stays 31.
+    // For a go it is the count at which the go is said. The points are those of the act and of the silent gos after it.
+    // The scores are those after them.
     pub(crate) fn take(&mut self, act: &Act) -> Row
         requires asked { self.old.round.asked ≢ Turn.Over }
         requires may { MayShowAt act.now.what self.old.round }
@@ -191,7 +191,7 @@ fn count_at(round: &Round, what: Move) -> u8
     }
 }
 
-// Makes the move of the side that is asked. Returns the points of the move and of the silent gos after it.
+// Makes the move of the side to move. Returns the points of the move and of the silent gos after it.
 fn show(round: &mut Round, what: Move) -> u8
     requires asked { round.old.asked ≢ Turn.Over }
     requires may { MayShowAt what round.old }

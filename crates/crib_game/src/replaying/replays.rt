@@ -17,15 +17,15 @@ use crib_show::Full;
 /// Replays a game against its problem. Returns the report, or the first refusal (docs/FORMATS.md, "Which one is
 /// printed").
 ///
-/// There is a report exactly where the opponent's six cards are a deal of the problem, the acts are the visible turns
-/// of a legal record, and they begin with the opening. The opening is the turns that the problem says were played. The
-/// report has a row for each act, the hands that the show counts, the scores after the last act, and the outcome of a
-/// deal that is done.
+/// It returns a report exactly when the opponent's six cards are a deal of the problem, the acts are the visible turns
+/// of a legal record, and they begin with the opening. The opening is the visible turns that the problem lists as
+/// played. The report has a row for each act, the hands that the show counts, the scores after the last act, and the
+/// outcome of a deal that is done.
 ///
 /// The first refusal is that of the first card of the opponent that is known or the same as an earlier one (40). If
 /// there is none, it is that of the first act that is wrong. If there is none either, it is that of the first missing
-/// act of the opening (47). An act can be wrong in several ways. The first of these is given: it is not the turn of the
-/// opening (47), it comes after the end (45), it is the other side's turn (44), the card is not held (41), the card
+/// act of the opening (47). If an act is wrong in several ways, the first of these is returned: it is not the turn of
+/// the opening (47), it comes after the end (45), it is the other side's turn (44), the card is not held (41), the card
 /// does not fit (42), it is a go while a card fits (43).
 pub fn replay(problem: &Problem, game: &Game) -> Result<Report, GameFault>
     ensures legal { OnOk result ((played : List Move) × IsRecordOf problem.now game.now played) }
@@ -45,7 +45,7 @@ pub fn replay(problem: &Problem, game: &Game) -> Result<Report, GameFault>
     })
 }
 
-// The rows of the acts so far. No act strays from them.
+// The rows of the acts so far. This follower has no plan, so no act strays.
 #[derive(Drop)]
 struct RowsSoFar {
     rows: ArrayVec<Row, 32>,

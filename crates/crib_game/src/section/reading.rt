@@ -18,12 +18,12 @@ use crib_problem::{act_of, acts_count_of};
 use crib_text::{Lines, TextFault, fault_in, in_line, read_header};
 
 /// Reads a game section (docs/FORMATS.md, "A game"): `game 1`, the opponent's four cards after `hold` and two after
-/// `throw`, the number of acts after `acts`, and one line for each act. If a game is read, the lines stand behind the
-/// section.
+/// `throw`, the number of acts after `acts`, and one line for each act. If a game is read, the lines that are left are
+/// those after the section.
 ///
-/// A refusal names the first line that is wrong, and leaves the lines as they were. Its number is 3 where a line is
-/// missing, 4 for a wrong keyword or a wrong number of words, 5 for a word that is no card, 6 for a word that is no
-/// number or for more than 32 acts, and 7 for a version other than 1.
+/// A refusal names the first line that is wrong, and leaves the lines as they were. Its number is 3 for a missing line,
+/// 4 for a wrong keyword or a wrong number of words, 5 for a word that is not a card, 6 for a word that is not a number
+/// or for more than 32 acts, and 7 for a version other than 1.
 pub fn read_game(lines: &mut Lines<'_>) -> Result<Game, TextFault>
     // If a game is read, the lines are its spelling, and then those that are left.
     ensures found { IfOk result (λ game. IsGame game
@@ -31,7 +31,7 @@ pub fn read_game(lines: &mut Lines<'_>) -> Result<Game, TextFault>
     // If the lines begin with the spelling of a game, this game is read.
     ensures only { (game : Game) (rest : List (List ℕ)) → IsGame game
         → (rest_of lines.old).lines ≡ map line_bytes (game_lines game) ++ rest → result ≡ Ok game }
-    // This says which game is read, and which refusal is given.
+    // Which game is read, and which refusal is returned.
     ensures exact { Reads (λ game. game) text_refusal game_at (rest_of lines.old) (rest_of lines.new) result }
     ensures err { OnErr result (lines.new ≡ lines.old) }
 {

@@ -13,8 +13,8 @@ use std::alloc::Allocator;
 // The most bytes of a game's text: four lines of 7, 17, 12 and at most 8 bytes, and 32 acts of at most 7 bytes each.
 const LONGEST: usize = 268;
 
-/// The text of a game section (docs/FORMATS.md, "A game"), at most 268 bytes. The cards stand in the order that `game`
-/// has. It fails only where memory is refused (number 11, line 0). It asks for memory once, before it writes the first
+/// Returns the text of a game section (docs/FORMATS.md, "A game"), at most 268 bytes. The cards keep the order of
+/// `game`. It fails only if its allocation fails (number 11, line 0). It allocates once, before it writes the first
 /// byte.
 #[tactic(auto, unfolding(crate::specs::Spelling::game_text, crate::specs::Spelling::game_lines))]
 pub fn write_game<A: Allocator + Copy>(alloc: A, game: &Game) -> Result<Vec<u8, A>, TextFault>

@@ -1,4 +1,4 @@
--- The nodes that the code keeps of plans in the making, and the trees that they stand for.
+-- The nodes that the code keeps of plans in the making, and the trees that they represent.
 use Rattle.std.specs.Prelude.{◌≡◌, ℕ, ◌<◌, ◌==◌, Bool, true, false, List, [], ◌∷◌, length, slice_get, Option}
 use Rattle.std.specs.Prelude.{Some, None}
 use Rattle.std.specs.List.{AllByRecursion}
@@ -19,7 +19,7 @@ abbrev pub IsBelow : ℕ → DraftNode → Type 0
 IsBelow count (Play card next) = IsCard card × IsEarlier count next
 IsBelow count (See nexts) = (length nexts ≡ 14) × AllByRecursion (IsEarlier count) nexts
 
--- kept nodes: each leads only to nodes before it, and each stands once
+-- kept nodes: each leads only to nodes before it, and no node is kept twice
 pub record AreKept (draft_nodes : List DraftNode) : Type 0 where
   pub earlier : (place : ℕ) (draft_node : DraftNode) → slice_get draft_nodes place ≡ Some draft_node →
       IsBelow place draft_node
@@ -57,7 +57,7 @@ NamesFound draft_nodes None found = found ≡ None
 NamesFound draft_nodes (Some tree) found =
     (draft_place : DraftPlace) × (found ≡ Some draft_place) × Names draft_nodes tree draft_place
 
--- the place of the first node among some places, if one is no end
+-- the first of some places that is not the end, if there is one
 abbrev pub first_place : List DraftPlace → Option ℕ
 first_place [] = None
 first_place (End ∷ draft_places) = first_place draft_places

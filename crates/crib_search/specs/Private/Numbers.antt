@@ -1,5 +1,5 @@
--- The numbers that the code gives to the nodes of a plan, from a walk over the kept nodes. `plan_of_tree` says the same
--- of trees. A walk leaves a node after all nodes that the node leads to.
+-- The numbers that the code gives to the nodes of a plan, from a walk over the kept nodes. `plan_of_tree` defines the
+-- same for trees. A walk leaves a node after all nodes that the node leads to.
 use Rattle.std.specs.Prelude.{◌≡◌, ℕ, ◌-◌, ◌<◌, ◌==◌, List, [], ◌∷◌, ◌++◌, length, map, slice_get}
 use Rattle.std.specs.Prelude.{Option, Some, None, if◌then◌else◌}
 use Rattle.std.specs.List.{AllZip}
@@ -33,13 +33,14 @@ mark_of place (other ∷ left) = if other == place then Some (length left) else 
 abbrev pub AreMarks : List (Option ℕ) → List ℕ → Type 0
 AreMarks marks left = (place : ℕ) → place < length marks → slice_get marks place ≡ Some (mark_of place left)
 
--- a walk from a place: for each tree that the place names, it leaves the places of what the walk of the tree leaves
+-- a walk from a place. If the place names a tree, and the places left before name some trees, then the places left
+-- after name the trees after a walk of this tree
 abbrev pub IsWalk : List DraftNode → DraftPlace → List ℕ → List ℕ → Type 0
 IsWalk draft_nodes draft_place before after =
     (tree : Tree) (trees : List Tree) → Names draft_nodes tree draft_place → AreLeft draft_nodes trees before →
     AreLeft draft_nodes (trees_after_walk tree trees) after
 
--- a walk from some places, one after another: the same, for the branches that they name
+-- a walk from some places, one after another: the same for the branches that the places name
 abbrev pub IsWalkAll : List DraftNode → List DraftPlace → List ℕ → List ℕ → Type 0
 IsWalkAll draft_nodes draft_places before after =
     (branches : Branches) (trees : List Tree) → NameAll draft_nodes branches draft_places →

@@ -1,4 +1,4 @@
--- What the code answers for a knowledge. `Finds` says the same of a history.
+-- What the code finds for a knowledge. `Finds` defines the same for a history.
 use Rattle.std.specs.Prelude.{◌≡◌, ℕ, ◌<◌, ◌≤◌, Bool, ◌&&◌, List, ◌∷◌, Option, Some}
 use Rattle.std.specs.Prelude.{None}
 use Rattle.crib_cards.specs.Sets.{has}
@@ -24,7 +24,7 @@ pub record Drafts : Type 0 where
   pub problem : Setup
   pub draft_nodes : List DraftNode
 
--- the search has come further: its problem is the same, and each kept node stays at its place
+-- the search at a later time: its problem is the same, and each kept node stays at its place
 pub record IsLater (before after : Drafts) : Type 0 where
   pub same : after.problem ≡ before.problem
   pub more : IsMore before.draft_nodes after.draft_nodes
@@ -53,7 +53,7 @@ pub record AreAnswers (drafts : Drafts) (answers : Knowledge → Option (Option 
   pub each : (know : Knowledge) (found : Option DraftPlace) → IsHere drafts.problem know → answers know ≡ Some found →
       IsAnswer drafts know found
 
--- the same as `IsAnswer`, where the owner tries some cards in their order
+-- the same as `IsAnswer`, if the owner tries these cards in their order
 abbrev pub IsTried : Drafts → Knowledge → List ℕ → Option DraftPlace → Type 0
 IsTried drafts know cards found =
     (history : List Event) (more : ℕ) → KnowsAfter know drafts.problem history → turns_ahead know ≤ more →
@@ -71,6 +71,6 @@ IsBranch drafts know letter (Some draft_place) =
     (tree : Tree) × Names drafts.draft_nodes tree draft_place
     × BranchFinds (λ further after. Finds more drafts.problem further after) drafts.problem history letter tree
 
--- whether a card is left to the owner and fits
+-- whether the owner still has a card and it fits
 abbrev pub may_play : Knowledge → ℕ → Bool
 may_play know card = has know.own_left card && fits_at (count_of know.round.pile) card

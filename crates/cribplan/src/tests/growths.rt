@@ -1,4 +1,4 @@
-//! Runs while memory is refused, one growth after another.
+//! Runs in which one allocation after another fails.
 use crate::tests::follows::ONE_GAME;
 use crate::tests::runs::{joined, joined_with, numbered, outcome_of};
 use crib_answer::Job;
@@ -10,7 +10,7 @@ use example_texts::problems::{TENS, THIRTEEN, TWELVE};
 use refusing_alloc::Refusing;
 use std::process::Abort;
 
-// How many refused growths led to `fault 11`, and how many changed nothing of what was written.
+// How many failed allocations led to `fault 11`, and how many changed nothing in the output.
 #[derive(Clone, Copy, Debug, PartialEq, Eq)]
 struct Refusals {
     told: u32,
@@ -24,8 +24,8 @@ fn told_alone(told: u32) -> Refusals {
     }
 }
 
-// Refuses the first growth of a run, then the second, and so on, until no growth is refused. Asserts that each time
-// `fault 11` alone was written, or `wanted` with `status`. Returns how many there were of each.
+// Fails the first allocation of a run, then the second, and so on, until none fails. Asserts that each time `fault 11`
+// alone was written, or `wanted` with `status`. Returns how many there were of each.
 fn refuse_each(
     rt: &(impl Abort + AllocGlobal),
     job: Job,
@@ -54,7 +54,7 @@ fn refuse_each(
     panic!(rt; "a run that never ends to grow")
 }
 
-// Each run asks for its input first. `replay` asks for nothing more.
+// Each run allocates memory for its input first. `replay` allocates nothing more.
 #[test]
 fn of_replay(rt: HostRuntime) {
     let sections = [TENS, LAST_CARD];
@@ -62,7 +62,7 @@ fn of_replay(rt: HostRuntime) {
     assert_eq!(rt; replayed, told_alone(1));
 }
 
-// `board` asks for its text.
+// `board` allocates its text.
 #[test]
 fn of_board(rt: HostRuntime) {
     let sections = [TENS, LAST_CARD];
@@ -70,7 +70,7 @@ fn of_board(rt: HostRuntime) {
     assert_eq!(rt; drawn, told_alone(2));
 }
 
-// `follow` asks for the plan, unless it has no nodes.
+// `follow` allocates the plan, unless it has no nodes.
 #[test]
 fn of_follow(rt: HostRuntime) {
     for (sections, wanted, told) in [
@@ -93,7 +93,8 @@ fn of_follow(rt: HostRuntime) {
     assert_eq!(rt; strayed, told_alone(2));
 }
 
-// `check` asks for the plan, and its refusal is told. The table of positions asks too, and its refusals change nothing.
+// `check` allocates the plan, and reports it if that fails. The position table allocates too, and a failure there
+// changes nothing.
 #[test]
 fn of_check(rt: HostRuntime) {
     let checked = refuse_each(&rt, Job::Check, &[TWELVE, TWOS], "holds\n", Status::Yes);
@@ -101,8 +102,8 @@ fn of_check(rt: HostRuntime) {
     assert!(rt; checked.passed_over > 0);
 }
 
-// `check` asks for the plan, and for the text of the failing game. The first game fails, so the table of positions
-// keeps nothing.
+// `check` allocates the plan, and the text of the failing game. The first game fails, so the position table keeps
+// nothing.
 #[test]
 fn of_check_that_fails(rt: HostRuntime) {
     let short = joined(&rt, &["fails short\n", OWNER_LEADS]);
@@ -111,8 +112,8 @@ fn of_check_that_fails(rt: HostRuntime) {
     assert_eq!(rt; checked, told_alone(3));
 }
 
-// `solve` asks for the nodes and for the text of the plan, and their refusals are told. Its tables ask too, and their
-// refusals change nothing.
+// `solve` allocates the nodes and the text of the plan, and reports it if one of these allocations fails. Its tables
+// allocate too, and a failure there changes nothing.
 #[test]
 fn of_solve(rt: HostRuntime) {
     let solved = refuse_each(&rt, Job::Solve, &[TWELVE], TWOS, Status::Yes);
@@ -120,7 +121,7 @@ fn of_solve(rt: HostRuntime) {
     assert!(rt; solved.passed_over > 0);
 }
 
-// If there is no plan, only its tables ask.
+// If there is no plan, only its tables allocate.
 #[test]
 fn of_solve_without_a_plan(rt: HostRuntime) {
     let unsolved = refuse_each(&rt, Job::Solve, &[THIRTEEN], "none\n", Status::No);
@@ -128,7 +129,7 @@ fn of_solve_without_a_plan(rt: HostRuntime) {
     assert!(rt; unsolved.passed_over > 0);
 }
 
-// An input that is refused asks for itself alone, unless it has a plan that is read.
+// A refused input needs memory for itself only, unless it has a plan that is read.
 #[test]
 fn of_refused_inputs(rt: HostRuntime) {
     for (job, sections, wanted) in [

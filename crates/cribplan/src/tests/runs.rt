@@ -40,7 +40,7 @@ fn word_and_number(alloc: Global, word: &str, number: u64) -> io::Result<String>
     Ok(text)
 }
 
-/// What a failed assertion tells of the pass with this number.
+/// The message of a failed assertion in the pass with this number.
 pub fn numbered(rt: &(impl Abort + AllocGlobal), word: &str, number: u64) -> String {
     word_and_number(rt.alloc(), word, number).expect(rt, "memory")
 }
@@ -52,7 +52,7 @@ pub struct Written {
     pub status: Status,
 }
 
-/// Runs a job with a reader and a writer that takes all bytes. The memory of the run is that of `heap`. The function
+/// Runs a job with a reader and a writer that accepts all bytes. The memory of the run is that of `heap`. The function
 /// has no contract: a test judges the outcome when it runs.
 pub fn outcome<A: Allocator + Copy, R: Read + Drop>(
     alloc: Global,
@@ -73,7 +73,7 @@ pub fn outcome_of<A: Allocator + Copy>(alloc: Global, heap: A, job: Job, input: 
 }
 
 impl Written {
-    /// Asserts that this text was written, with this status. A failed assertion tells `what` the run was given.
+    /// Asserts that this text was written, with this status. A failed assertion names `what` the run was given.
     pub fn is(&self, rt: &impl Abort, wanted: &str, status: Status, what: &str) {
         let text = str::from_utf8(self.text.as_slice()).expect(rt, "a text");
         assert_eq!(rt; text, wanted, "to {what}");

@@ -162,8 +162,9 @@ fn cuts_a_long_line_around_the_mark(rt: HostRuntime) {
     let mark = Mark { from: 100, to: 103 };
     let excerpt = excerpt_of(7, &line, Some(mark));
     let wanted = concat!(
-        "  7 | ...aaaaaaaaaaaaaaaaaaaaaaaaaaaaaaaaaaaaaaaaaaaaaaaaaaaaaaaaaaaa...\n",
-        "    |                            ^^^\n",
+        "  7 | ...aaaaaaaaaaaaaaaaaaaaaaaaaaaaaaaaaaaaaaaaaaaaaaaaaa",
+        "aaaaaaaaaaaaaaaaaaaaaaaaaaaaaaaaaaaaaaaaaaaaaaaaaa...\n",
+        "    |                                            ^^^\n",
     );
     assert_eq!(rt; std::str::from_utf8(excerpt.as_slice()), Ok(wanted));
 }

@@ -34,7 +34,6 @@ mod table;
 mod text_words;
 mod turns;
 mod word_slips;
-mod words;
 
 pub use message::{Message, message_of};
 

@@ -7,7 +7,7 @@ use crate::numbers::are_two_numbers;
 use crate::rows::Row;
 use crate::said::{Wanted, thing_is, word_is};
 use crate::scene::Scene;
-use crate::section_slips::{is_comment, order_slip};
+use crate::section_slips::{is_comment, keyword_of, order_slip};
 use crate::slips::Slip;
 use crate::spelling::word_slip;
 use crate::word_slips::{act_slip, goal_slip, side_slip};
@@ -134,15 +134,18 @@ fn extra_slip(scene: &Scene<'_>, extra: &Word<'_>) -> Option<Slip> {
     if is_comment(extra.bytes) {
         return Some(Slip::Comment);
     }
+    if let Some(keyword) = keyword_of(extra.bytes) {
+        return Some(Slip::NewLine(keyword));
+    }
     if !scene.row().has_cards() {
         return None;
     }
     if extra.bytes.len() == 1 {
         return Some(Slip::Together);
     }
-    match cards_slip(scene) {
-        Some(slip) => Some(slip),
-        None => card_slip(extra.bytes),
+    match (cards_slip(scene), card_slip(extra.bytes)) {
+        (Some(slip), _) | (None, Some(slip)) => Some(slip),
+        (None, None) => Some(Slip::CardSign),
     }
 }
 
@@ -218,7 +221,7 @@ fn bad_goal(scene: &Scene<'_>) -> Explained {
 
 fn bad_act(scene: &Scene<'_>, first: &Word<'_>) -> Explained {
     if !matches!(first.bytes, b"own" | b"opp") {
-        let slip = match act_slip(first.bytes) {
+        let slip = match act_slip(scene.line, first.bytes) {
             Some(slip) => Some(slip),
             None => order_slip(scene),
         };

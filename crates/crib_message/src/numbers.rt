@@ -61,7 +61,7 @@ fn bad_node_number(scene: &Scene<'_>) -> Option<Explained> {
         let branch = word_of(scene.line, index)?;
         let target = target_in(&branch)?;
         if target.bytes.is_empty() {
-            let slip = Some(Slip::ColonBlank);
+            let slip = word_of(scene.line, index.saturating_add(1)).map(|_| Slip::ColonBlank);
             return Some(word_is(&branch, &TextCause::BadNumber, TARGET, slip));
         }
         if read_number(target.bytes).is_none() {

@@ -108,10 +108,7 @@ const ROWS: &[Row] = &[
     ),
     (
         after_starter!("throw 6C 6D\n"),
-        concat!(
-            "\"throw\" is not expected here; expected: hold and four cards. The lines of a problem are ",
-            "problem, dealer, score, starter, hold, throw and goal, in this order.",
-        ),
+        "\"throw\" is not expected here; expected: hold and four cards. The line hold is missing.",
     ),
     (
         after_starter!("hold 2C 3C 4C 5C\nthrow 6C\n"),
@@ -123,10 +120,7 @@ const ROWS: &[Row] = &[
     ),
     (
         after_starter!("hold 2C 3C 4C 5C\ngoal win\n"),
-        concat!(
-            "\"goal\" is not expected here; expected: throw and two cards. The lines of a problem are problem, ",
-            "dealer, score, starter, hold, throw and goal, in this order.",
-        ),
+        "\"goal\" is not expected here; expected: throw and two cards. The line throw is missing.",
     ),
     (
         after_throw!("goal 5\n"),

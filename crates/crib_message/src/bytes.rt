@@ -55,7 +55,7 @@ fn byte_slip(scene: &Scene<'_>, rest: &[u8]) -> Option<Slip> {
         [b'\r', ..] => Some(Slip::CarriageReturn),
         [b'\t', ..] => Some(Slip::Tab),
         [0x1B, ..] => Some(Slip::ColourCode),
-        [0..=31, ..] | [127, ..] => Some(Slip::NoText),
+        [0..=31, ..] | [127, ..] => Some(Slip::Control),
         _ => Some(sign_slip(rest)),
     }
 }
@@ -73,12 +73,14 @@ fn mark_slip(scene: &Scene<'_>) -> Option<Slip> {
     }
 }
 
-// Whether the beginning of the input has bytes that no text file has.
+// Whether the beginning of the input has three bytes that no text file has.
 fn has_controls(input: &[u8]) -> bool {
     input
         .iter()
         .take(512)
-        .any(|byte| matches!(*byte, 0..=8 | 14..=26 | 28..=31))
+        .filter(|byte| matches!(**byte, 0..=8 | 14..=26 | 28..=31))
+        .count()
+        >= 3
 }
 
 // The slip of a sign that is no ASCII.

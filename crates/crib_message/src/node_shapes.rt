@@ -8,7 +8,7 @@ use crate::said::{Wanted, word_is};
 use crate::scene::Scene;
 use crate::section_slips::{is_comment, order_slip};
 use crate::slips::Slip;
-use crate::spelling::word_slip;
+use crate::spelling::{bare, word_slip};
 use crib_cards::read_card;
 use crib_text::{TextCause, read_number};
 
@@ -39,7 +39,7 @@ pub(crate) fn bad_node(scene: &Scene<'_>, first: &Word<'_>) -> Explained {
 }
 
 fn bad_kind(scene: &Scene<'_>, first: &Word<'_>, kind: &[u8]) -> Explained {
-    if matches!(first.bytes, b"play" | b"see") {
+    if read_number(bare(first.bytes)).is_none() {
         return unexpected(scene, first, Some(Slip::NodeNumber));
     }
     match word_of(scene.line, 1) {
@@ -52,19 +52,14 @@ fn bad_play(scene: &Scene<'_>, first: &Word<'_>) -> Explained {
     match word_count(scene.line) {
         4 => bad_number(scene, first),
         0..=2 => line_end(scene, CARD_AND_TARGET, None),
-        3 => no_target(scene),
-        _ => extra_word(scene, first),
-    }
-}
-
-// Marks the word in place of the card, or the end of the line if that word is a card.
-fn no_target(scene: &Scene<'_>) -> Explained {
-    match word_of(scene.line, 2) {
-        Some(word) if read_card(word.bytes).is_none() => {
-            let slip = card_slip(word.bytes);
-            word_is(&word, &TextCause::BadLine, CARD_AND_TARGET, slip)
-        }
-        _ => line_end(scene, TARGET, None),
+        count => match word_of(scene.line, 2) {
+            Some(word) if read_card(word.bytes).is_none() => {
+                let slip = card_slip(word.bytes);
+                word_is(&word, &TextCause::BadLine, CARD_AND_TARGET, slip)
+            }
+            _ if count == 3 => line_end(scene, TARGET, None),
+            _ => extra_word(scene, first),
+        },
     }
 }
 

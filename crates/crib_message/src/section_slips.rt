@@ -28,7 +28,8 @@ pub(crate) fn order_slip(scene: &Scene<'_>) -> Option<Slip> {
     if scene.is_header() {
         return header_slip(scene, first);
     }
-    if scene.row() == Row::Played {
+    let is_played = first == b"played".as_slice() && scene.place.section == Section::Problem;
+    if scene.row() == Row::Played || is_played {
         return Some(Slip::SecondNeedsPlayed);
     }
     let is_item = is_act(scene.line) || is_node(scene.line);
@@ -84,7 +85,7 @@ fn header_slip(scene: &Scene<'_>, first: &[u8]) -> Option<Slip> {
         b"played" if !scene.is_second() => Some(Slip::PlayedNeedsSecond),
         b"problem" => Some(Slip::OneProblem),
         b"plan" | b"game" => Some(sections_slip(scene.sections)),
-        b"fails" if scene.place.section == Section::Game => Some(Slip::Verdict),
+        b"fails" | b"holds" if scene.place.section == Section::Game => Some(Slip::Verdict),
         b"nodes" if scene.place.section == Section::Plan => Some(Slip::PlanOrder),
         b"hold" | b"throw" | b"acts" if scene.place.section == Section::Game => {
             Some(Slip::GameOrder)

@@ -28,6 +28,8 @@ pub(crate) enum Slip {
     ColourCode,
     #[error("The input is no text.")]
     NoText,
+    #[error("Remove this control character.")]
+    Control,
     #[error("Write plain ASCII letters, digits and signs.")]
     NotAscii,
 
@@ -44,6 +46,8 @@ pub(crate) enum Slip {
     Comment,
     #[error("Begin a new line at the word {0}.")]
     NewLine(&'static str),
+    #[error("Begin this line with the word {0}.")]
+    Begin(&'static str),
 
     // Sections, and lines of them.
     #[error("This command reads a problem and nothing else.")]
@@ -77,7 +81,7 @@ pub(crate) enum Slip {
     Verdict,
     #[error("Turns that were played already need problem 2 on line 1.")]
     PlayedNeedsSecond,
-    #[error("In a problem 2 the line played follows; at the first lead it is played 0.")]
+    #[error("In a problem 2 the line played follows the goal; at the first lead it is played 0.")]
     SecondNeedsPlayed,
     #[error("The goal stop needs problem 2 on line 1, and a line played 0 behind the goal.")]
     StopNeedsSecond,
@@ -115,6 +119,10 @@ pub(crate) enum Slip {
     NodesFromZero,
     #[error("Acts stand in a game, and a plan has nodes: 0 play 2C end.")]
     ActInPlan,
+    #[error("Nodes stand in a plan, and a game has acts: own 2C.")]
+    NodeInGame,
+    #[error("Leave this branch out: a letter in no branch leads to the end.")]
+    BranchToEnd,
     #[error("A plan states no go of the owner: leave this node out.")]
     OwnGo,
     #[error("Write no blank at the colon of a branch.")]

@@ -52,8 +52,11 @@ pub(crate) fn act_slip(line: &[u8], word: &[u8]) -> Option<Slip> {
 /// Returns the slip in the word behind `goal`.
 pub(crate) fn goal_slip(scene: &Scene<'_>, kind: &[u8]) -> Option<Slip> {
     let holes = bytes_of(scene.line, 2);
-    if let Some(number) = read_number(kind) {
-        return Some(Slip::GoalHoles(number));
+    if let Some(number) = read_number(bare(kind)) {
+        return Some(match number {
+            0 => Slip::GoalNumber,
+            _ => Slip::GoalHoles(number),
+        });
     }
     match kind {
         b"stop" if !scene.is_second() => Some(Slip::StopNeedsSecond),

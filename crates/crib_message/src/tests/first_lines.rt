@@ -332,7 +332,7 @@ const ROWS: &[Row] = &[
         "\"\\x1b\" is neither LF nor 32 to 126. Remove the colour codes of a terminal.",
     ),
     (
-        "problem 1\u{1}\n",
+        "problem 1\u{1}\u{2}\u{3}\n",
         "\"\\x01\" is neither LF nor 32 to 126. The input is no text.",
     ),
     (
@@ -367,6 +367,14 @@ const ROWS: &[Row] = &[
             "a carriage return (CR) is neither LF nor 32 to 126. A line ends with LF alone: save the file with Unix ",
             "line ends.",
         ),
+    ),
+    (
+        after_scores!("starter = KD\n"),
+        "\"=\" is not expected here; expected: starter and a card",
+    ),
+    (
+        "problem 1\ndealer\x0bowner\n",
+        "\"\\x0b\" is neither LF nor 32 to 126. Remove this control character.",
     ),
 ];
 

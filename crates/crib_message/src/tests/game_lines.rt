@@ -220,6 +220,16 @@ const GAMES: &[Row] = &[
             "game 1.",
         ),
     ),
+    (
+        after_goal!(
+            "1",
+            "game 1\nhold 7C 8C 9C TC\nthrow 7D 8D\nacts 1\n0 play 2C end\n"
+        ),
+        concat!(
+            "\"0\" is not expected here; expected: own or opp, and then a card or go. Nodes stand in a plan, and a ",
+            "game has acts: own 2C.",
+        ),
+    ),
 ];
 
 #[test]

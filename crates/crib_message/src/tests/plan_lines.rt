@@ -122,8 +122,8 @@ const ROWS: &[Row] = &[
     (
         after_goal!("2", "plan 1\nnodes 0\n"),
         concat!(
-            "\"plan\" is not expected here; expected: played and the number of turns that follow. In a problem ",
-            "2 the line played follows; at the first lead it is played 0.",
+            "\"plan\" is not expected here; expected: played and the number of turns that follow. In a problem 2 the ",
+            "line played follows the goal; at the first lead it is played 0.",
         ),
     ),
     (
@@ -179,6 +179,24 @@ const ROWS: &[Row] = &[
         concat!(
             "\"see\" is not expected here; expected: a node, such as 0 play 2C end or 0 see A2:1. A node begins with ",
             "its number: 0 play 2C end.",
+        ),
+    ),
+    (
+        after_goal!("1", "plan 1\nnodes 1\nnode 0 play 2C end\n"),
+        concat!(
+            "\"node\" is not expected here; expected: a node, such as 0 play 2C end or 0 see A2:1. A node begins ",
+            "with its number: 0 play 2C end.",
+        ),
+    ),
+    (
+        after_goal!("1", "plan 1\nnodes 1\n0 play the 2C end\n"),
+        "\"the\" is not expected here; expected: a card, and then a later node or end",
+    ),
+    (
+        after_goal!("1", "plan 1\nnodes 2\n0 see A:End\n"),
+        concat!(
+            "\"End\" is not a number that may stand here; expected: the number of a later node behind the colon. ",
+            "Leave this branch out: a letter in no branch leads to the end.",
         ),
     ),
 ];

@@ -1,9 +1,9 @@
 //! The branches of a see line that are refused.
 
 use crate::explained::Explained;
+use crate::line_words::{Word, word_of};
 use crate::plans::{LETTERS, NodeLine, behind_colon, marked, said_of};
 use crate::sentence::Sentence;
-use crate::words::{Word, word_at};
 use crib_plan::PlanCause;
 
 // The branches that are looked at. A line with more has a letter twice among these.
@@ -12,7 +12,7 @@ const MOST_BRANCHES: usize = 15;
 // Explains the first wrong branch of a see line.
 pub(crate) fn bad_branch(node: &NodeLine<'_>, cause: PlanCause) -> Option<Explained> {
     for i in 2..2 + MOST_BRANCHES {
-        let branch = word_at(node.bytes, i)?;
+        let branch = word_of(node.bytes, i)?;
         let mut sentence = said_of(branch.bytes, cause);
         sentence.add(b": ");
         if has_wrong_letters(&mut sentence, &branch)
@@ -71,9 +71,12 @@ fn add_no_letter(sentence: &mut Sentence, letter: u8) {
     match letter {
         b'0' | b'1' => sentence.add(b"; a ten is T, and an ace A"),
         b'a' | b't' | b'j' | b'q' | b'k' => sentence.add(b"; a rank is a capital"),
-        b'G' => sentence.add(b"; a go is a small g"),
+        b'G' | b'o' => sentence.add(b"; a go is a small g alone"),
         b'C' | b'D' | b'H' | b'S' => sentence.add(b"; a branch has ranks and no suits"),
-        _ => {}
+        other if !other.is_ascii_alphanumeric() => {
+            sentence.add(b"; write each letter, with no sign between two, as in A23:1")
+        }
+        _ => sentence.add(b"; write each rank by its letter"),
     }
 }
 
@@ -97,7 +100,7 @@ fn stood_before(
 ) -> bool {
     for letter in letters_of(branch) {
         for i in 2..index {
-            let Some(earlier) = word_at(node.bytes, i) else {
+            let Some(earlier) = word_of(node.bytes, i) else {
                 return false;
             };
             if has(letters_of(&earlier), *letter) {
@@ -120,7 +123,7 @@ fn is_out_of_order(
     branch: &Word<'_>,
 ) -> bool {
     for i in 2..index {
-        let Some(earlier) = word_at(node.bytes, i) else {
+        let Some(earlier) = word_of(node.bytes, i) else {
             return false;
         };
         if first_place(&earlier) > first_place(branch) {
@@ -145,7 +148,7 @@ fn has_old_target(
     branch: &Word<'_>,
 ) -> bool {
     for i in 2..index {
-        let Some(earlier) = word_at(node.bytes, i) else {
+        let Some(earlier) = word_of(node.bytes, i) else {
             return false;
         };
         if has_same_target(&earlier, branch) {

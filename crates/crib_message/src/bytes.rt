@@ -1,7 +1,7 @@
 //! Bytes that no text has.
 use crate::explained::Explained;
 use crate::line_words::Word;
-use crate::said::{Wanted, word_is};
+use crate::said::{Wanted, thing_is, word_is};
 use crate::scene::Scene;
 use crate::slips::Slip;
 use crib_text::TextCause;
@@ -12,12 +12,22 @@ pub(crate) fn bad_byte(scene: &Scene<'_>) -> Option<Explained> {
     let rest = scene.line.get(from..)?;
     let bytes = character(rest)?;
     let word = Word { bytes, from };
-    Some(word_is(
-        &word,
-        &TextCause::BadByte,
-        Wanted::Nothing,
-        byte_slip(scene, rest),
-    ))
+    let slip = byte_slip(scene, rest);
+    let cause = TextCause::BadByte;
+    Some(match name_of(slip, rest) {
+        Some(name) => thing_is(name, Some(word.mark()), &cause, Wanted::Nothing, slip),
+        None => word_is(&word, &cause, Wanted::Nothing, slip),
+    })
+}
+
+// Returns the name of the byte with which the rest of a line begins, if this is its slip.
+fn name_of(slip: Option<Slip>, rest: &[u8]) -> Option<&'static str> {
+    match slip {
+        Some(Slip::CarriageReturn) if rest.len() == 1 => Some("a Windows line end (CR)"),
+        Some(Slip::CarriageReturn) => Some("a carriage return (CR)"),
+        Some(Slip::Tab) => Some("a tab"),
+        _ => None,
+    }
 }
 
 fn is_plain(byte: u8) -> bool {
@@ -45,7 +55,7 @@ fn byte_slip(scene: &Scene<'_>, rest: &[u8]) -> Option<Slip> {
         [b'\r', ..] => Some(Slip::CarriageReturn),
         [b'\t', ..] => Some(Slip::Tab),
         [0x1B, ..] => Some(Slip::ColourCode),
-        [0..=31, ..] | [127, ..] => Some(Slip::NoText),
+        [0..=31, ..] | [127, ..] => Some(Slip::Control),
         _ => Some(sign_slip(rest)),
     }
 }
@@ -63,12 +73,14 @@ fn mark_slip(scene: &Scene<'_>) -> Option<Slip> {
     }
 }
 
-// Whether the beginning of the input has bytes that no text file has.
+// Whether the beginning of the input has three bytes that no text file has.
 fn has_controls(input: &[u8]) -> bool {
     input
         .iter()
         .take(512)
-        .any(|byte| matches!(*byte, 0..=8 | 14..=26 | 28..=31))
+        .filter(|byte| matches!(**byte, 0..=8 | 14..=26 | 28..=31))
+        .count()
+        >= 3
 }
 
 // The slip of a sign that is no ASCII.

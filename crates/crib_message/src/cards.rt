@@ -40,6 +40,7 @@ fn first_card(row: Row) -> usize {
 fn explained(row: Row, word: &Word<'_>) -> Explained {
     let (wanted, slip) = match row {
         Row::Act => (MOVE, move_slip(word.bytes)),
+        Row::Node if is_go(word.bytes) => (CARD, Some(Slip::OwnGo)),
         _ => (CARD, card_slip(word.bytes)),
     };
     match slip {
@@ -50,11 +51,14 @@ fn explained(row: Row, word: &Word<'_>) -> Explained {
 
 /// Returns the slip in a word that should be a card or `go`, if it is a known one.
 pub(crate) fn move_slip(word: &[u8]) -> Option<Slip> {
-    let plain = bare(word);
-    if GOES.iter().any(|go| is_word(plain, go.as_bytes())) {
+    if is_go(word) {
         return Some(Slip::Go);
     }
     card_slip(word)
+}
+
+fn is_go(word: &[u8]) -> bool {
+    GOES.iter().any(|go| is_word(bare(word), go.as_bytes()))
 }
 
 /// Returns the slip in a word that should be a card, if it is a known one.

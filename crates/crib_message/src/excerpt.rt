@@ -9,16 +9,16 @@ use arrayvec::ArrayVec;
 use itoa::Buffer;
 
 // The most bytes of a line that are shown.
-const SHOWN: usize = 60;
+const SHOWN: usize = 100;
 
 // How many bytes are shown before the mark, if the line is cut there.
-const BEFORE: usize = 24;
+const BEFORE: usize = 40;
 
-/// A line as it is shown, at most 525 bytes.
-pub(crate) type Excerpt = ArrayVec<u8, 525>;
+/// A line as it is shown, at most 842 bytes.
+pub(crate) type Excerpt = ArrayVec<u8, 842>;
 
 // The line with the mark, which stands below.
-type Below = ArrayVec<u8, 260>;
+type Below = ArrayVec<u8, 420>;
 
 // A line in three stretches, of which the middle one is shown.
 #[derive(Clone, Copy, Debug)]
@@ -28,7 +28,7 @@ struct Window<'a> {
     after: &'a [u8],
 }
 
-/// Returns a line with its number and the mark below it. At most 60 bytes of the line are shown, with `...` where it
+/// Returns a line with its number and the mark below it. At most 100 bytes of the line are shown, with `...` where it
 /// is cut. Bytes other than 32 to 126 are shown as `\xNN`.
 pub(crate) fn excerpt_of(number: u32, line: &[u8], mark: Option<Mark>) -> Excerpt
     ensures { IsExcerpt number line.now result.items }
@@ -42,10 +42,10 @@ pub(crate) fn excerpt_of(number: u32, line: &[u8], mark: Option<Mark>) -> Excerp
     excerpt
 }
 
-// Cuts a line so that its first 60 bytes are shown, or 60 around the mark.
+// Cuts a line so that its first 100 bytes are shown, or 100 around the mark.
 fn window_on(line: &[u8], mark: Option<Mark>) -> Window<'_>
     ensures cut { line.now ≡ result.before.now ++ (result.shown.now ++ result.after.now) }
-    ensures short { length result.shown.now ≤ 60 }
+    ensures short { length result.shown.now ≤ 100 }
 {
     let wanted = match mark {
         Some(mark) => mark.from.saturating_sub(BEFORE),
@@ -63,10 +63,10 @@ fn window_on(line: &[u8], mark: Option<Mark>) -> Window<'_>
 
 // Returns the number of a line, the bytes of its window, and LF.
 fn shown(number: u32, window: Window<'_>) -> Excerpt
-    requires { length window.shown.now ≤ 60 }
+    requires { length window.shown.now ≤ 100 }
     ensures items { result.items
         ≡ shown_line number window.entry.before.now window.entry.shown.now window.entry.after.now }
-    ensures short { array_vec_len result ≤ 262 }
+    ensures short { array_vec_len result ≤ 422 }
 {
     let mut excerpt = Excerpt::new();
     add(&mut excerpt, b"  ");
@@ -83,7 +83,7 @@ fn shown(number: u32, window: Window<'_>) -> Excerpt
 
 // Appends `...` if there are bytes that are not shown.
 fn add_dots(excerpt: &mut Excerpt, hidden: &[u8])
-    requires { array_vec_len excerpt.old ≤ 522 }
+    requires { array_vec_len excerpt.old ≤ 839 }
     ensures items { excerpt.new.items ≡ excerpt.old.items ++ dots hidden.now }
     ensures len { array_vec_len excerpt.new ≤ array_vec_len excerpt.old + 3 }
 {
@@ -94,7 +94,7 @@ fn add_dots(excerpt: &mut Excerpt, hidden: &[u8])
 
 // Appends a byte, as `\xNN` if it is not 32 to 126.
 fn add_byte(excerpt: &mut Excerpt, byte: u8)
-    requires { array_vec_len excerpt.old ≤ 521 }
+    requires { array_vec_len excerpt.old ≤ 838 }
     ensures items { excerpt.new.items ≡ excerpt.old.items ++ shown_byte byte }
     ensures len { array_vec_len excerpt.new ≤ array_vec_len excerpt.old + 4 }
 {
@@ -106,7 +106,7 @@ fn add_byte(excerpt: &mut Excerpt, byte: u8)
 }
 
 fn add(excerpt: &mut Excerpt, bytes: &[u8])
-    requires { array_vec_len excerpt.old + length bytes.now ≤ 525 }
+    requires { array_vec_len excerpt.old + length bytes.now ≤ 842 }
     ensures items { excerpt.new.items ≡ excerpt.old.items ++ bytes.now }
     ensures len { array_vec_len excerpt.new ≡ array_vec_len excerpt.old + length bytes.now }
 {

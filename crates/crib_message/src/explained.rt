@@ -37,13 +37,9 @@ pub(crate) fn explain(sections: Sections, input: &[u8], refusal: &Refusal) -> Ex
         place: Place::of_line(sections, input, number),
     };
     let explained = match refusal.cause {
-        Cause::Text(cause) | Cause::Problem(ProblemCause::Text(cause)) => {
-            Some(text_explained(&scene, cause))
-        }
-        Cause::Plan(PlanCause::Text(cause)) => match explain_plan(&scene, PlanCause::Text(cause)) {
-            Some(explained) => Some(explained),
-            None => Some(text_explained(&scene, cause)),
-        },
+        Cause::Text(cause)
+        | Cause::Problem(ProblemCause::Text(cause))
+        | Cause::Plan(PlanCause::Text(cause)) => Some(text_explained(&scene, cause)),
         Cause::Problem(
             cause @ (ProblemCause::SameCard | ProblemCause::BadScore | ProblemCause::BadGoal),
         ) if number < 9 => Some(problem_explained(&scene, cause)),

@@ -92,7 +92,7 @@ fn add_turn(
                 add_not_held(sentence, table, act.side, card);
             }
         }
-        GameFault::DoesNotFit(_) => add_too_high(sentence, table, act.side),
+        GameFault::DoesNotFit(_) => add_too_high(sentence, table, act),
         GameFault::MustPlay(_) => add_must_play(sentence, table, act.side),
         _ => {
             add_ended(sentence, table);

@@ -35,7 +35,6 @@ mod table;
 mod text_words;
 mod turns;
 mod word_slips;
-mod words;
 
 pub use message::{Message, message_of};
 pub use saying::say;

@@ -1,5 +1,6 @@
 //! Lines with a wrong word, or with too few or too many words.
 use crate::cards::{card_slip, move_slip};
+use crate::counts::is_node;
 use crate::explained::{Explained, Mark};
 use crate::line_words::{Word, bytes_of, word_count, word_of};
 use crate::node_shapes::bad_node;
@@ -7,9 +8,9 @@ use crate::numbers::are_two_numbers;
 use crate::rows::Row;
 use crate::said::{Wanted, thing_is, word_is};
 use crate::scene::Scene;
-use crate::section_slips::{is_comment, order_slip};
+use crate::section_slips::{is_comment, keyword_of, order_slip};
 use crate::slips::Slip;
-use crate::spelling::word_slip;
+use crate::spelling::{bare, word_slip};
 use crate::word_slips::{act_slip, goal_slip, side_slip};
 use crib_cards::read_card;
 use crib_text::{TextCause, read_number};
@@ -79,8 +80,10 @@ fn thing(scene: &Scene<'_>, found: &str, from: usize, slip: Slip) -> Explained {
 }
 
 fn wrong_keyword(scene: &Scene<'_>, word: &Word<'_>) -> Explained {
-    let slip = match word_slip(word.bytes, &[scene.row().keyword()]) {
+    let keyword = scene.row().keyword();
+    let slip = match word_slip(word.bytes, &[keyword]) {
         Some(slip) => Some(slip),
+        None if bytes_of(scene.line, 1) == keyword.as_bytes() => Some(Slip::Begin(keyword)),
         None => order_slip(scene),
     };
     unexpected(scene, word, slip)
@@ -134,15 +137,21 @@ fn extra_slip(scene: &Scene<'_>, extra: &Word<'_>) -> Option<Slip> {
     if is_comment(extra.bytes) {
         return Some(Slip::Comment);
     }
-    if !scene.row().has_cards() {
+    if let Some(keyword) = keyword_of(extra.bytes) {
+        return Some(Slip::NewLine(keyword));
+    }
+    if matches!(extra.bytes, b"own" | b"opp") {
+        return Some(Slip::ActALine);
+    }
+    if !scene.row().has_cards() || bare(extra.bytes).is_empty() {
         return None;
     }
     if extra.bytes.len() == 1 {
         return Some(Slip::Together);
     }
-    match cards_slip(scene) {
-        Some(slip) => Some(slip),
-        None => card_slip(extra.bytes),
+    match (cards_slip(scene), card_slip(extra.bytes)) {
+        (Some(slip), _) | (None, Some(slip)) => Some(slip),
+        (None, None) => Some(Slip::CardSign),
     }
 }
 
@@ -182,7 +191,10 @@ fn two_in_one(row: Row, word: &[u8]) -> Option<Slip> {
     if !row.has_cards() || read_card(word).is_some() {
         return None;
     }
-    card_slip(word)
+    match card_slip(word) {
+        Some(slip) => Some(slip),
+        None => Some(Slip::CardSign),
+    }
 }
 
 /// Says that the end of the line is not expected, and what the line may be.
@@ -218,8 +230,9 @@ fn bad_goal(scene: &Scene<'_>) -> Explained {
 
 fn bad_act(scene: &Scene<'_>, first: &Word<'_>) -> Explained {
     if !matches!(first.bytes, b"own" | b"opp") {
-        let slip = match act_slip(first.bytes) {
+        let slip = match act_slip(scene.line, first.bytes) {
             Some(slip) => Some(slip),
+            None if is_node(scene.line) => Some(Slip::NodeInGame),
             None => order_slip(scene),
         };
         return unexpected(scene, first, slip);

@@ -16,10 +16,10 @@ use crib_run::{FaultCause, Reason};
 use itoa::Buffer;
 use std::fmt::Write;
 
-/// A message of at most 1,000 bytes: lines of text.
+/// A message of at most 1,500 bytes: lines of text.
 #[derive(Drop)]
 pub struct Message {
-    text: ArrayVec<u8, 1000>,
+    text: ArrayVec<u8, 1500>,
 }
 
 impl Message {
@@ -45,7 +45,7 @@ impl Message {
     }
 
     fn add(&mut self, bytes: &[u8])
-        requires { array_vec_len self.old.text + length bytes.now ≤ 1000 }
+        requires { array_vec_len self.old.text + length bytes.now ≤ 1500 }
         ensures items { self.new.text.items ≡ self.old.text.items ++ bytes.now }
         ensures len { array_vec_len self.new.text ≡ array_vec_len self.old.text + length bytes.now }
     {
@@ -54,7 +54,7 @@ impl Message {
 
     // Appends the bytes 32 to 126 of a sentence.
     fn add_sentence(&mut self, sentence: &[u8])
-        requires { array_vec_len self.old.text + length sentence.now ≤ 1000 }
+        requires { array_vec_len self.old.text + length sentence.now ≤ 1500 }
         ensures items { self.new.text.items ≡ self.old.text.items ++ filter is_plain sentence.now }
         ensures len { array_vec_len self.new.text ≤ array_vec_len self.old.text + length sentence.now }
     {
@@ -67,7 +67,7 @@ impl Message {
 
     // Appends at most ten digits.
     fn add_number(&mut self, number: u32)
-        requires { array_vec_len self.old.text ≤ 990 }
+        requires { array_vec_len self.old.text ≤ 1490 }
         ensures items { self.new.text.items ≡ self.old.text.items ++ decimal number }
         ensures len { array_vec_len self.new.text ≤ array_vec_len self.old.text + 10 }
     {
@@ -75,7 +75,7 @@ impl Message {
     }
 
     fn add_place(&mut self, line: u32, place: Place)
-        requires { array_vec_len self.old.text ≤ 900 }
+        requires { array_vec_len self.old.text ≤ 1400 }
         ensures items { self.new.text.items ≡ self.old.text.items
             ++ (codes "line " ++ (decimal line ++ (place_words place ++ codes ": "))) }
         ensures len { array_vec_len self.new.text ≤ array_vec_len self.old.text + 46 }
@@ -91,7 +91,7 @@ impl Message {
     }
 
     fn add_line_of(&mut self, number: u32, section: &[u8])
-        requires room { array_vec_len self.old.text ≤ 950 }
+        requires room { array_vec_len self.old.text ≤ 1450 }
         requires short { length section.now ≤ 12 }
         ensures items { self.new.text.items ≡ self.old.text.items
             ++ (codes ", line " ++ (decimal number ++ section.now)) }

@@ -6,7 +6,7 @@ use crate::rows::Row;
 use crate::said::{Wanted, word_is};
 use crate::scene::Scene;
 use crate::slips::Slip;
-use crate::spelling::{bare, word_slip};
+use crate::spelling::{bare, is_word, word_slip};
 use crib_text::{TextCause, read_number};
 
 const TARGET: Wanted = Wanted::Words("the number of a later node behind the colon");
@@ -61,8 +61,12 @@ fn bad_node_number(scene: &Scene<'_>) -> Option<Explained> {
         let branch = word_of(scene.line, index)?;
         let target = target_in(&branch)?;
         if target.bytes.is_empty() {
-            let slip = Some(Slip::ColonBlank);
+            let slip = word_of(scene.line, index.saturating_add(1)).map(|_| Slip::ColonBlank);
             return Some(word_is(&branch, &TextCause::BadNumber, TARGET, slip));
+        }
+        if is_word(bare(target.bytes), b"end") {
+            let slip = Some(Slip::BranchToEnd);
+            return Some(word_is(&target, &TextCause::BadNumber, TARGET, slip));
         }
         if read_number(target.bytes).is_none() {
             return explained(&target, TARGET);

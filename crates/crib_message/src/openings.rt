@@ -30,8 +30,15 @@ pub(crate) fn explain_turn(input: &[u8], line: u32, cause: ProblemCause) -> Opti
         return None;
     };
     let mut sentence = Sentence::new();
-    add_found(&mut sentence, &act, cause);
-    let _full = write!(sentence, " is {cause}: ");
+    match cause {
+        ProblemCause::DoesNotFit | ProblemCause::AlreadyOver => {
+            let _full = write!(sentence, "{cause}: ");
+        }
+        _ => {
+            add_found(&mut sentence, &act, cause);
+            let _full = write!(sentence, " is {cause}: ");
+        }
+    }
     add_reason(&mut sentence, &mut table, &act, cause);
     Some(Explained {
         sentence,
@@ -94,6 +101,11 @@ fn add_reason(sentence: &mut Sentence, table: &mut Table<'_>, act: &Act, cause: 
         ProblemCause::SameCard => {
             if let Move::Card(card) = act.what {
                 let _is_known = add_place(sentence, table, act.side, card);
+                if table.mover() == Some(act.side.other()) {
+                    sentence.add(b"; it is ");
+                    add_side(sentence, act.side.other());
+                    sentence.add(b"'s turn");
+                }
             }
         }
         ProblemCause::NotHeld => {
@@ -101,12 +113,16 @@ fn add_reason(sentence: &mut Sentence, table: &mut Table<'_>, act: &Act, cause: 
                 add_not_held(sentence, table, act.side, card);
             }
         }
-        ProblemCause::DoesNotFit => add_too_high(sentence, table, act.side),
+        ProblemCause::DoesNotFit => add_too_high(sentence, table, act),
         ProblemCause::MustPlay => add_must_play(sentence, table, act.side),
         ProblemCause::NoDeal => add_no_deal(sentence, table, &act.what),
         _ => {
+            sentence.add(b"with ");
+            add_found(sentence, act, cause);
+            sentence.add(b" ");
             table.take(act);
             add_ended(sentence, table);
+            sentence.add(b"; an opening stops before such a turn");
         }
     }
 }

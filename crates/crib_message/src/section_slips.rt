@@ -7,6 +7,12 @@ use crate::scene::Scene;
 use crate::slips::Slip;
 use crib_input::Sections;
 
+// The words with which lines begin.
+const KEYWORDS: [&str; 12] = [
+    "problem", "dealer", "score", "starter", "hold", "throw", "goal", "played", "plan", "nodes",
+    "game", "acts",
+];
+
 /// Returns the slip in a line that is another one than was expected, if it is a known one.
 pub(crate) fn order_slip(scene: &Scene<'_>) -> Option<Slip> {
     let first = bytes_of(scene.line, 0);
@@ -22,14 +28,33 @@ pub(crate) fn order_slip(scene: &Scene<'_>) -> Option<Slip> {
     if scene.is_header() {
         return header_slip(scene, first);
     }
-    if scene.row() == Row::Played {
+    let is_played = first == b"played".as_slice() && scene.place.section == Section::Problem;
+    if scene.row() == Row::Played || is_played {
         return Some(Slip::SecondNeedsPlayed);
     }
     let is_item = is_act(scene.line) || is_node(scene.line);
     if is_keyword(first) || (is_item && !scene.is_counted()) {
-        return Some(section_order(scene.place.section));
+        return Some(missing_or_moved(scene));
     }
     None
+}
+
+// Says that the line that is expected is missing, or in which order the lines of the section stand.
+fn missing_or_moved(scene: &Scene<'_>) -> Slip {
+    let keyword = scene.row().keyword();
+    let mut number = 0u32;
+    for line in scene.input.split(|byte| *byte == b'\n') {
+        number = number.saturating_add(1);
+        if number < scene.number {
+            continue;
+        }
+        match bytes_of(line, 0) {
+            b"plan" | b"game" => break,
+            first if first == keyword.as_bytes() => return section_order(scene.place.section),
+            _ => {}
+        }
+    }
+    Slip::Missing(keyword)
 }
 
 /// Whether a word begins a comment of some language.
@@ -60,6 +85,7 @@ fn header_slip(scene: &Scene<'_>, first: &[u8]) -> Option<Slip> {
         b"played" if !scene.is_second() => Some(Slip::PlayedNeedsSecond),
         b"problem" => Some(Slip::OneProblem),
         b"plan" | b"game" => Some(sections_slip(scene.sections)),
+        b"fails" | b"holds" if scene.place.section == Section::Game => Some(Slip::Verdict),
         b"nodes" if scene.place.section == Section::Plan => Some(Slip::PlanOrder),
         b"hold" | b"throw" | b"acts" if scene.place.section == Section::Game => {
             Some(Slip::GameOrder)
@@ -87,19 +113,13 @@ fn section_order(section: Section) -> Slip {
 }
 
 fn is_keyword(word: &[u8]) -> bool {
-    matches!(
-        word,
-        b"problem"
-            | b"dealer"
-            | b"score"
-            | b"starter"
-            | b"hold"
-            | b"throw"
-            | b"goal"
-            | b"played"
-            | b"plan"
-            | b"nodes"
-            | b"game"
-            | b"acts"
-    )
+    keyword_of(word).is_some()
+}
+
+/// Returns the keyword that a word is.
+pub(crate) fn keyword_of(word: &[u8]) -> Option<&'static str> {
+    KEYWORDS
+        .iter()
+        .copied()
+        .find(|keyword| keyword.as_bytes() == word)
 }

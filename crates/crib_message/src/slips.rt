@@ -11,7 +11,7 @@ pub(crate) enum Slip {
     ByteOrderMark,
     #[error("Save the file as plain ASCII, not as UTF-16.")]
     Utf16,
-    #[error("A line ends with LF alone: remove the CR of Windows line ends.")]
+    #[error("A line ends with LF alone: save the file with Unix line ends.")]
     CarriageReturn,
     #[error("Write a blank in place of the tab.")]
     Tab,
@@ -28,6 +28,8 @@ pub(crate) enum Slip {
     ColourCode,
     #[error("The input is no text.")]
     NoText,
+    #[error("Remove this control character.")]
+    Control,
     #[error("Write plain ASCII letters, digits and signs.")]
     NotAscii,
 
@@ -42,6 +44,10 @@ pub(crate) enum Slip {
     Blanks,
     #[error("Comments are not allowed.")]
     Comment,
+    #[error("Begin a new line at the word {0}.")]
+    NewLine(&'static str),
+    #[error("Begin this line with the word {0}.")]
+    Begin(&'static str),
 
     // Sections, and lines of them.
     #[error("This command reads a problem and nothing else.")]
@@ -58,6 +64,8 @@ pub(crate) enum Slip {
     OneProblem,
     #[error("The lines of a problem are problem, dealer, score, starter, hold, throw and goal, in this order.")]
     ProblemOrder,
+    #[error("The line {0} is missing.")]
+    Missing(&'static str),
     #[error("A plan begins with the lines plan 1 and nodes N.")]
     PlanOrder,
     #[error("A game begins with the lines game 1, hold, throw and acts, in this order.")]
@@ -69,9 +77,11 @@ pub(crate) enum Slip {
         count: u32,
         found: u32,
     },
+    #[error("Leave out this line of an answer: a game begins with game 1.")]
+    Verdict,
     #[error("Turns that were played already need problem 2 on line 1.")]
     PlayedNeedsSecond,
-    #[error("In a problem 2 the line played follows; at the first lead it is played 0.")]
+    #[error("In a problem 2 the line played follows the goal; at the first lead it is played 0.")]
     SecondNeedsPlayed,
     #[error("The goal stop needs problem 2 on line 1, and a line played 0 behind the goal.")]
     StopNeedsSecond,
@@ -95,6 +105,8 @@ pub(crate) enum Slip {
     ActorFirst,
     #[error("Write each act on a line of its own.")]
     ActALine,
+    #[error("Write no number in front of an act.")]
+    NumberedAct,
     #[error("Write a go as go.")]
     Go,
     #[error("Write goal holes {0}.")]
@@ -105,7 +117,15 @@ pub(crate) enum Slip {
     NodeNumber,
     #[error("The first node has the number 0.")]
     NodesFromZero,
-    #[error("Write no blank behind the colon of a branch.")]
+    #[error("Acts stand in a game, and a plan has nodes: 0 play 2C end.")]
+    ActInPlan,
+    #[error("Nodes stand in a plan, and a game has acts: own 2C.")]
+    NodeInGame,
+    #[error("Leave this branch out: a letter in no branch leads to the end.")]
+    BranchToEnd,
+    #[error("A plan states no go of the owner: leave this node out.")]
+    OwnGo,
+    #[error("Write no blank at the colon of a branch.")]
     ColonBlank,
     #[error("Write a blank between two branches, and no other sign.")]
     BranchSign,

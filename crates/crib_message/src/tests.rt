@@ -49,17 +49,10 @@ mod plans;
 mod strays;
 
 use crate::excerpt::excerpt_of;
-use crate::explained::{Explained, Mark};
+use crate::explained::{Mark, explain};
 use crate::lines::line_at;
-use crate::place::Place;
-use crate::scene::Scene;
-use crate::text_words::{problem_explained, text_explained};
 use crate::*;
-use crib_input::{
-    Cause, NotRead, Refusal, Sections, played_of, played_under_of, problem_of, question_of,
-};
-use crib_plan::PlanCause;
-use crib_problem::ProblemCause;
+use crib_input::{NotRead, Refusal, Sections, played_of, played_under_of, problem_of, question_of};
 use crib_run::{FaultCause, Reason};
 use crib_text::MAX_INPUT;
 use std::process::Abort;
@@ -74,9 +67,7 @@ fn are_explained(rt: &(impl Abort + AllocGlobal), sections: Sections, rows: &[Ro
         let Some(refusal) = refusal_of(rt, sections, bytes) else {
             panic!(rt; "not refused: {input}");
         };
-        let Some(explained) = explained(sections, bytes, &refusal) else {
-            panic!(rt; "refused for another cause: {input}");
-        };
+        let explained = explain(sections, bytes, &refusal);
         let said = std::str::from_utf8(explained.sentence.as_slice());
         assert_eq!(rt; said, Ok(*wanted), "of {input}");
     }
@@ -99,23 +90,6 @@ fn refusal_of(
             Err(NotRead::Refused(refusal)) => Some(refusal),
             _ => None,
         },
-    }
-}
-
-fn explained(sections: Sections, input: &[u8], refusal: &Refusal) -> Option<Explained> {
-    let scene = Scene {
-        sections,
-        input,
-        number: refusal.line,
-        line: line_at(input, refusal.line).unwrap_or(b""),
-        place: Place::of_line(sections, input, refusal.line),
-    };
-    match refusal.cause {
-        Cause::Text(cause)
-        | Cause::Problem(ProblemCause::Text(cause))
-        | Cause::Plan(PlanCause::Text(cause)) => Some(text_explained(&scene, cause)),
-        Cause::Problem(cause) => Some(problem_explained(&scene, cause)),
-        _ => None,
     }
 }
 
@@ -162,8 +136,9 @@ fn cuts_a_long_line_around_the_mark(rt: HostRuntime) {
     let mark = Mark { from: 100, to: 103 };
     let excerpt = excerpt_of(7, &line, Some(mark));
     let wanted = concat!(
-        "  7 | ...aaaaaaaaaaaaaaaaaaaaaaaaaaaaaaaaaaaaaaaaaaaaaaaaaaaaaaaaaaaa...\n",
-        "    |                            ^^^\n",
+        "  7 | ...aaaaaaaaaaaaaaaaaaaaaaaaaaaaaaaaaaaaaaaaaaaaaaaaaa",
+        "aaaaaaaaaaaaaaaaaaaaaaaaaaaaaaaaaaaaaaaaaaaaaaaaaa...\n",
+        "    |                                            ^^^\n",
     );
     assert_eq!(rt; std::str::from_utf8(excerpt.as_slice()), Ok(wanted));
 }

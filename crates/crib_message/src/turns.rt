@@ -175,8 +175,18 @@ pub(crate) fn has(cards: &[Card], card: Card) -> bool {
 }
 
 // Appends what fits, instead of a card that is too high.
-pub(crate) fn add_too_high(sentence: &mut Sentence, table: &Table<'_>, side: Side) {
-    add_left(sentence, table);
+pub(crate) fn add_too_high(sentence: &mut Sentence, table: &Table<'_>, act: &Act) {
+    let side = act.side;
+    if let Move::Card(card) = act.what {
+        sentence.card(card);
+        sentence.add(b" counts ");
+        sentence.number(u32::from(card.rank().value()));
+    }
+    sentence.add(b", the count is ");
+    sentence.number(u32::from(table.count()));
+    sentence.add(b", and ");
+    sentence.number(u32::from(table.left()));
+    sentence.add(b" is left to 31");
     let Some(cards) = table.held(side) else {
         sentence.add(b"; \"opp go\" may be missing before this line");
         return;

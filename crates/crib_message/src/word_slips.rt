@@ -16,13 +16,9 @@ const SIDES: [&str; 30] = [
 
 /// Returns the slip in a word that should be `owner` or `opponent`.
 pub(crate) fn side_slip(word: &[u8]) -> Option<Slip> {
-    if let Some(slip) = word_slip(word, &["owner", "opponent"]) {
-        return Some(slip);
-    }
-    if is_side(word) {
-        Some(Slip::Sides)
-    } else {
-        None
+    match word_slip(word, &["owner", "opponent"]) {
+        Some(slip) => Some(slip),
+        None => Some(Slip::Sides),
     }
 }
 
@@ -32,10 +28,13 @@ fn is_side(word: &[u8]) -> bool {
         .any(|side| is_word(bare(word), side.as_bytes()))
 }
 
-/// Returns the slip in a word that should be `own` or `opp`.
-pub(crate) fn act_slip(word: &[u8]) -> Option<Slip> {
+/// Returns the slip in a line that should begin with `own` or `opp`, and begins with this word.
+pub(crate) fn act_slip(line: &[u8], word: &[u8]) -> Option<Slip> {
     if is_comment(word) {
         return Some(Slip::Comment);
+    }
+    if read_number(bare(word)).is_some() && matches!(bytes_of(line, 1), b"own" | b"opp") {
+        return Some(Slip::NumberedAct);
     }
     if is_word(word, b"go") || read_card(word).is_some() {
         return Some(Slip::ActorFirst);
@@ -53,8 +52,11 @@ pub(crate) fn act_slip(word: &[u8]) -> Option<Slip> {
 /// Returns the slip in the word behind `goal`.
 pub(crate) fn goal_slip(scene: &Scene<'_>, kind: &[u8]) -> Option<Slip> {
     let holes = bytes_of(scene.line, 2);
-    if let Some(number) = read_number(kind) {
-        return Some(Slip::GoalHoles(number));
+    if let Some(number) = read_number(bare(kind)) {
+        return Some(match number {
+            0 => Slip::GoalNumber,
+            _ => Slip::GoalHoles(number),
+        });
     }
     match kind {
         b"stop" if !scene.is_second() => Some(Slip::StopNeedsSecond),

@@ -45,7 +45,10 @@ const ROWS: &[Row] = &[
     ),
     (
         after_scores!("starter King of Diamonds\n"),
-        "\"King\" is not expected here; expected: starter and a card",
+        concat!(
+            "\"King\" is not expected here; expected: starter and a card. Write a card as two letters, its rank and ",
+            "its suit: TS.",
+        ),
     ),
     (
         after_scores!("starter ??\n"),
@@ -156,11 +159,14 @@ const ROWS: &[Row] = &[
     ),
     (
         "problem 1\r\ndealer owner\r\n",
-        "\"\\x0d\" is neither LF nor 32 to 126. A line ends with LF alone: remove the CR of Windows line ends.",
+        concat!(
+            "a Windows line end (CR) is neither LF nor 32 to 126. A line ends with LF alone: save the file with Unix ",
+            "line ends.",
+        ),
     ),
     (
         "problem\t1\n",
-        "\"\\x09\" is neither LF nor 32 to 126. Write a blank in place of the tab.",
+        "a tab is neither LF nor 32 to 126. Write a blank in place of the tab.",
     ),
     (
         "\u{feff}problem 1\n",
@@ -308,10 +314,7 @@ const ROWS: &[Row] = &[
     ),
     (
         after_scores!("hold 2C 3C 4C 5C\n"),
-        concat!(
-            "\"hold\" is not expected here; expected: starter and a card. The lines of a problem are problem, ",
-            "dealer, score, starter, hold, throw and goal, in this order.",
-        ),
+        "\"hold\" is not expected here; expected: starter and a card. The line starter is missing.",
     ),
     (
         "p\0r\0o\0b\0",
@@ -329,7 +332,7 @@ const ROWS: &[Row] = &[
         "\"\\x1b\" is neither LF nor 32 to 126. Remove the colour codes of a terminal.",
     ),
     (
-        "problem 1\u{1}\n",
+        "problem 1\u{1}\u{2}\u{3}\n",
         "\"\\x01\" is neither LF nor 32 to 126. The input is no text.",
     ),
     (
@@ -339,6 +342,39 @@ const ROWS: &[Row] = &[
     (
         "plan 1\nnodes 0\n",
         "\"plan\" is not expected here; expected: problem 1 or problem 2. The problem comes first.",
+    ),
+    (
+        after_scores!("hold 2C 3C 4C 5C\nstarter KD\n"),
+        concat!(
+            "\"hold\" is not expected here; expected: starter and a card. The lines of a problem are problem, ",
+            "dealer, score, starter, hold, throw and goal, in this order.",
+        ),
+    ),
+    (
+        "problem 1 dealer owner score 0 0\n",
+        "\"dealer\" is not expected here; expected: problem 1 or problem 2. Begin a new line at the word dealer.",
+    ),
+    (
+        "problem 1\ndealer Bob\n",
+        concat!(
+            "\"Bob\" is not expected here; expected: dealer owner or dealer opponent. The owner is the player whose ",
+            "plan it is, and the opponent is the other one.",
+        ),
+    ),
+    (
+        "problem 1\rdealer owner\r",
+        concat!(
+            "a carriage return (CR) is neither LF nor 32 to 126. A line ends with LF alone: save the file with Unix ",
+            "line ends.",
+        ),
+    ),
+    (
+        after_scores!("starter = KD\n"),
+        "\"=\" is not expected here; expected: starter and a card",
+    ),
+    (
+        "problem 1\ndealer\x0bowner\n",
+        "\"\\x0b\" is neither LF nor 32 to 126. Remove this control character.",
     ),
 ];
 

@@ -52,7 +52,7 @@ const GAMES: &[Row] = &[
             "1",
             "game 1\nhold 7C 8C 9C TC\nthrow 7D 8D\nacts 2\n1 own 2C\n"
         ),
-        "\"1\" is not expected here; expected: own or opp, and then a card or go",
+        "\"1\" is not expected here; expected: own or opp, and then a card or go. Write no number in front of an act.",
     ),
     (
         after_goal!(
@@ -133,10 +133,7 @@ const GAMES: &[Row] = &[
     ),
     (
         after_goal!("1", "game 1\nthrow 7C 8C\n"),
-        concat!(
-            "\"throw\" is not expected here; expected: hold and four cards. A game begins with the lines game ",
-            "1, hold, throw and acts, in this order.",
-        ),
+        "\"throw\" is not expected here; expected: hold and four cards. The line hold is missing.",
     ),
     (
         after_goal!("1", ""),
@@ -168,10 +165,7 @@ const GAMES: &[Row] = &[
     ),
     (
         after_goal!("1", "game 1\nhold 7C 8C 9C TC\nthrow 7D 8D\nown 2C\n"),
-        concat!(
-            "\"own\" is not expected here; expected: acts and the number of acts that follow. A game begins ",
-            "with the lines game 1, hold, throw and acts, in this order.",
-        ),
+        "\"own\" is not expected here; expected: acts and the number of acts that follow. The line acts is missing.",
     ),
     (
         after_goal!(
@@ -218,6 +212,23 @@ const GAMES: &[Row] = &[
     (
         after_goal!("1", "game 1\nhold 7C 8C 9C TC\nthrow 7D\n"),
         "the end of the line is not expected here; expected: throw and two cards. The number of cards here is 1.",
+    ),
+    (
+        after_goal!("1", "fails stuck\ngame 1\n"),
+        concat!(
+            "\"fails\" is not expected here; expected: game 1. Leave out this line of an answer: a game begins with ",
+            "game 1.",
+        ),
+    ),
+    (
+        after_goal!(
+            "1",
+            "game 1\nhold 7C 8C 9C TC\nthrow 7D 8D\nacts 1\n0 play 2C end\n"
+        ),
+        concat!(
+            "\"0\" is not expected here; expected: own or opp, and then a card or go. Nodes stand in a plan, and a ",
+            "game has acts: own 2C.",
+        ),
     ),
 ];
 

@@ -153,9 +153,9 @@ const ROWS: &[Row] = &[
             "game 1\nhold TD KD KH QS\nthrow 5H 7D\nacts 4\nown TC\nopp KD\nown 9C\nopp TD\n"
         ),
         concat!(
-            "cribplan: line 15, line 8 of the game: act 4 plays a card that does not fit: the count is 29, ",
-            "so a card fits if it counts 2 or less; the opponent holds no card that fits, so \"opp go\" is ",
-            "missing before this line\n",
+            "cribplan: line 15, line 8 of the game: act 4 plays a card that does not fit: TD counts 10, the count is ",
+            "29, and 2 is left to 31; the opponent holds no card that fits, so \"opp go\" is missing before this ",
+            "line\n",
             "  15 | opp TD\n",
             "     |     ^^\n",
         ),
@@ -292,9 +292,9 @@ const ROWS: &[Row] = &[
             "own TC\nopp TD\nown 9C\nopp go\nown 2C\nopp KD\nown 8C\nopp KH\nopp QS\n"
         ),
         concat!(
-            "cribplan: line 20, line 13 of the game: act 9 plays a card that does not fit: the count is 28, ",
-            "so a card fits if it counts 3 or less; the opponent holds no card that fits, so \"opp go\" is ",
-            "missing before this line\n",
+            "cribplan: line 20, line 13 of the game: act 9 plays a card that does not fit: QS counts 10, the count ",
+            "is 28, and 3 is left to 31; the opponent holds no card that fits, so \"opp go\" is missing before this ",
+            "line\n",
             "  20 | opp QS\n",
             "     |     ^^\n",
         ),
@@ -369,8 +369,8 @@ const ROWS: &[Row] = &[
             "game 1\nhold TD KD KH QS\nthrow 5H 7D\nacts 5\nown TC\nopp TD\nown 9C\nopp go\nown 8C\n"
         ),
         concat!(
-            "cribplan: line 16, line 9 of the game: act 5 plays a card that does not fit: the count is 29, ",
-            "so a card fits if it counts 2 or less; the owner holds 2C 8C, of which 2C fits\n",
+            "cribplan: line 16, line 9 of the game: act 5 plays a card that does not fit: 8C counts 8, the count is ",
+            "29, and 2 is left to 31; the owner holds 2C 8C, of which 2C fits\n",
             "  16 | own 8C\n",
             "     |     ^^\n",
         ),

@@ -108,10 +108,7 @@ const ROWS: &[Row] = &[
     ),
     (
         after_starter!("throw 6C 6D\n"),
-        concat!(
-            "\"throw\" is not expected here; expected: hold and four cards. The lines of a problem are ",
-            "problem, dealer, score, starter, hold, throw and goal, in this order.",
-        ),
+        "\"throw\" is not expected here; expected: hold and four cards. The line hold is missing.",
     ),
     (
         after_starter!("hold 2C 3C 4C 5C\nthrow 6C\n"),
@@ -123,10 +120,7 @@ const ROWS: &[Row] = &[
     ),
     (
         after_starter!("hold 2C 3C 4C 5C\ngoal win\n"),
-        concat!(
-            "\"goal\" is not expected here; expected: throw and two cards. The lines of a problem are problem, ",
-            "dealer, score, starter, hold, throw and goal, in this order.",
-        ),
+        "\"goal\" is not expected here; expected: throw and two cards. The line throw is missing.",
     ),
     (
         after_throw!("goal 5\n"),
@@ -186,8 +180,8 @@ const ROWS: &[Row] = &[
     (
         after_goal!("2", ""),
         concat!(
-            "the input ends here; expected: played and the number of turns that follow. In a problem 2 the ",
-            "line played follows; at the first lead it is played 0.",
+            "the input ends here; expected: played and the number of turns that follow. In a problem 2 the line ",
+            "played follows the goal; at the first lead it is played 0.",
         ),
     ),
     (
@@ -207,6 +201,42 @@ const ROWS: &[Row] = &[
     (
         after_goal!("1", "problem 1\n"),
         "\"problem\" is after the last section; expected: the end of the input. An input has one problem.",
+    ),
+    (
+        after_starter!("hold none\n"),
+        concat!(
+            "\"none\" is not expected here; expected: hold and four cards. Write a card as two letters, its rank and ",
+            "its suit: TS.",
+        ),
+    ),
+    (
+        after_starter!("my hold 2C 3C 4C 5C\n"),
+        "\"my\" is not expected here; expected: hold and four cards. Begin this line with the word hold.",
+    ),
+    (
+        after_throw!("goal 0\n"),
+        "\"0\" is not expected here; expected: goal win or goal holes N. Write goal holes and the number of holes.",
+    ),
+    (
+        after_throw!("goal +12\n"),
+        "\"+12\" is not expected here; expected: goal win or goal holes N. Write goal holes 12.",
+    ),
+    (
+        after_goal!("2", "played 1 own 2C\n"),
+        concat!(
+            "\"own\" is not expected here; expected: played and the number of turns that follow. Write each act on a ",
+            "line of its own.",
+        ),
+    ),
+    (
+        concat!(
+            "problem 2\ndealer owner\nscore 0 0\nstarter KD\nhold 2C 3C 4C 5C\nthrow 6C 6D\n",
+            "played 0\ngoal win\n"
+        ),
+        concat!(
+            "\"played\" is not expected here; expected: goal win, goal holes N or goal stop. In a problem 2 the line ",
+            "played follows the goal; at the first lead it is played 0.",
+        ),
     ),
 ];
 

@@ -33,8 +33,8 @@ const ROWS: &[Row] = &[
             "played 7\nown TC\nopp TD\nown 8C\nopp go\nown 2C\nown 9C\nopp 2D\n"
         ),
         concat!(
-            "cribplan: line 14: 9C is a card that does not fit: the count is 30, so a card fits if it ",
-            "counts 1 or less; the owner holds no card that fits, so \"own go\" is missing before this line\n",
+            "cribplan: line 14: a card that does not fit: 9C counts 9, the count is 30, and 1 is left to 31; the ",
+            "owner holds no card that fits, so \"own go\" is missing before this line\n",
             "  14 | own 9C\n",
             "     |     ^^\n",
         ),
@@ -82,7 +82,8 @@ const ROWS: &[Row] = &[
     (
         problem!("2", "0 119", "played 2\nown TC\nopp TD\n"),
         concat!(
-            "cribplan: line 10: TD is a turn that ends the deal: the opponent reached hole 121\n",
+            "cribplan: line 10: a turn that ends the deal: with TD the opponent reached hole 121; an opening stops ",
+            "before such a turn\n",
             "  10 | opp TD\n",
             "     |     ^^\n",
         ),
@@ -115,8 +116,8 @@ const ROWS: &[Row] = &[
     (
         problem!("2", "0 0", "played 4\nown TC\nopp TD\nown 9C\nopp KD\n"),
         concat!(
-            "cribplan: line 12: KD is a card that does not fit: the count is 29, so a card fits if it ",
-            "counts 2 or less; \"opp go\" may be missing before this line\n",
+            "cribplan: line 12: a card that does not fit: KD counts 10, the count is 29, and 2 is left to 31; \"opp ",
+            "go\" may be missing before this line\n",
             "  12 | opp KD\n",
             "     |     ^^\n",
         ),
@@ -224,6 +225,14 @@ const ROWS: &[Row] = &[
             "is 5; they hold 9C, which fits\n",
             "  16 | opp go\n",
             "     | ^^^\n",
+        ),
+    ),
+    (
+        problem!("2", "0 0", "played 1\nopp TC\n"),
+        concat!(
+            "cribplan: line 9: TC is a card that stood before: the owner holds TC; it is the owner's turn\n",
+            "  9 | opp TC\n",
+            "    |     ^^\n",
         ),
     ),
 ];

@@ -21,8 +21,8 @@ const ROWS: &[Row] = &[
     (
         after_goal!("1", "plan 1\nnodes 2\n0 see A: 1\n"),
         concat!(
-            "\"A:\" is not a number that may stand here; expected: the number of a later node behind the ",
-            "colon. Write no blank behind the colon of a branch.",
+            "\"A:\" is not a number that may stand here; expected: the number of a later node behind the colon. ",
+            "Write no blank at the colon of a branch.",
         ),
     ),
     (
@@ -40,8 +40,8 @@ const ROWS: &[Row] = &[
     (
         after_goal!("1", "plan 1\nnodes 2\n0 play 2C 1 # ok\n"),
         concat!(
-            "\"#\" is not expected here; expected: a node, such as 0 play 2C end or 0 see A2:1. Comments are ",
-            "not allowed.",
+            "\"#\" is not expected here; expected: the end of the line, since a play node has a card and one later ",
+            "node or end. Comments are not allowed.",
         ),
     ),
     (
@@ -79,18 +79,18 @@ const ROWS: &[Row] = &[
     ),
     (
         after_goal!("1", "plan 1\nnodes 2\n0 play go 1\n"),
-        "\"go\" is not a card; expected: a rank of A23456789TJQK and then a suit of CDHS, such as TS",
+        "\"go\" is not a card. A plan states no go of the owner: leave this node out.",
     ),
     (
         after_goal!("1", "plan 1\nnodes 2\nown 2C\n"),
-        "\"2C\" is not expected here; expected: a node, such as 0 play 2C end or 0 see A2:1",
+        concat!(
+            "\"own\" is not expected here; expected: a node, such as 0 play 2C end or 0 see A2:1. Acts stand in a ",
+            "game, and a plan has nodes: 0 play 2C end.",
+        ),
     ),
     (
         after_goal!("1", "plan 1\n0 play 2C end\n"),
-        concat!(
-            "\"0\" is not expected here; expected: nodes and the number of nodes that follow. A plan begins ",
-            "with the lines plan 1 and nodes N.",
-        ),
+        "\"0\" is not expected here; expected: nodes and the number of nodes that follow. The line nodes is missing.",
     ),
     (
         after_goal!("1", "Plan 1\n"),
@@ -122,8 +122,8 @@ const ROWS: &[Row] = &[
     (
         after_goal!("2", "plan 1\nnodes 0\n"),
         concat!(
-            "\"plan\" is not expected here; expected: played and the number of turns that follow. In a problem ",
-            "2 the line played follows; at the first lead it is played 0.",
+            "\"plan\" is not expected here; expected: played and the number of turns that follow. In a problem 2 the ",
+            "line played follows the goal; at the first lead it is played 0.",
         ),
     ),
     (
@@ -150,6 +150,53 @@ const ROWS: &[Row] = &[
         concat!(
             "\"play\" is not expected here; expected: a node, such as 0 play 2C end or 0 see A2:1. ",
             "A node begins with its number: 0 play 2C end.",
+        ),
+    ),
+    (
+        after_goal!("1", "plan 1\nnodes 2\n0 play 2C,1\n"),
+        "\"2C,1\" is not expected here; expected: a card, and then a later node or end",
+    ),
+    (
+        after_goal!("1", "plan 1\nnodes 2\n0 see A :1\n"),
+        concat!(
+            "\"A\" is not expected here; expected: letters, one colon and a later node, such as A23:1. Write no ",
+            "blank at the colon of a branch.",
+        ),
+    ),
+    (
+        after_goal!("1", "plan 1\nnodes 2\n0 see A:\n"),
+        "\"A:\" is not a number that may stand here; expected: the number of a later node behind the colon",
+    ),
+    (
+        after_goal!("1", "plan 1\nnodes 3\n0 play 2C 1\n1 play 3C end\ngame 1\n"),
+        concat!(
+            "\"game\" is not expected here; expected: a node, such as 0 play 2C end or 0 see A2:1. Line 9 says nodes ",
+            "3, but the number of lines for it is 2.",
+        ),
+    ),
+    (
+        after_goal!("1", "plan 1\nnodes 1\nsee A:1\n"),
+        concat!(
+            "\"see\" is not expected here; expected: a node, such as 0 play 2C end or 0 see A2:1. A node begins with ",
+            "its number: 0 play 2C end.",
+        ),
+    ),
+    (
+        after_goal!("1", "plan 1\nnodes 1\nnode 0 play 2C end\n"),
+        concat!(
+            "\"node\" is not expected here; expected: a node, such as 0 play 2C end or 0 see A2:1. A node begins ",
+            "with its number: 0 play 2C end.",
+        ),
+    ),
+    (
+        after_goal!("1", "plan 1\nnodes 1\n0 play the 2C end\n"),
+        "\"the\" is not expected here; expected: a card, and then a later node or end",
+    ),
+    (
+        after_goal!("1", "plan 1\nnodes 2\n0 see A:End\n"),
+        concat!(
+            "\"End\" is not a number that may stand here; expected: the number of a later node behind the colon. ",
+            "Leave this branch out: a letter in no branch leads to the end.",
         ),
     ),
 ];

@@ -114,8 +114,8 @@ const ROWS: &[Row] = &[
     (
         problem!("1", "0 0", "plan 1\nnodes 2\n0 see G:1\n1 play TC end\n"),
         concat!(
-            "cribplan: line 10, line 3 of the plan: \"G:1\" is not a branch that may stand here: \"G\" is none ",
-            "of the letters A23456789TJQKg; a go is a small g\n",
+            "cribplan: line 10, line 3 of the plan: \"G:1\" is not a branch that may stand here: \"G\" is none of ",
+            "the letters A23456789TJQKg; a go is a small g alone\n",
             "  10 | 0 see G:1\n",
             "     |       ^^^\n",
         ),
@@ -171,8 +171,8 @@ const ROWS: &[Row] = &[
     (
         problem!("1", "0 0", "plan 1\nnodes 1\n1 play TC end\n"),
         concat!(
-            "cribplan: line 10, line 3 of the plan: \"1\" is not expected here; expected: 0, the number of ",
-            "this node (the first one is 0)\n",
+            "cribplan: line 10, line 3 of the plan: \"1\" is not expected here; expected: 0, the number of this ",
+            "node. The first node has the number 0.\n",
             "  10 | 1 play TC end\n",
             "     | ^\n",
         ),
@@ -180,7 +180,8 @@ const ROWS: &[Row] = &[
     (
         problem!("1", "0 0", "plan 1\nnodes 1\n0 plays TC end\n"),
         concat!(
-            "cribplan: line 10, line 3 of the plan: \"plays\" is not expected here; expected: play or see\n",
+            "cribplan: line 10, line 3 of the plan: \"plays\" is not expected here; expected: a node, such as 0 play ",
+            "2C end or 0 see A2:1. Did you mean play?\n",
             "  10 | 0 plays TC end\n",
             "     |   ^^^^^\n",
         ),
@@ -188,35 +189,35 @@ const ROWS: &[Row] = &[
     (
         problem!("1", "0 0", "plan 1\nnodes 1\n0 play TC\n"),
         concat!(
-            "cribplan: line 10, line 3 of the plan: the line ends too early; expected: 0 play CARD NODE, ",
-            "with the number of a later node or end\n",
+            "cribplan: line 10, line 3 of the plan: the end of the line is not expected here; expected: the number ",
+            "of a later node, or end\n",
             "  10 | 0 play TC\n",
-            "     |        ^^\n",
+            "     |          ^\n",
         ),
     ),
     (
         problem!("1", "0 0", "plan 1\nnodes 1\n0 play\n"),
         concat!(
-            "cribplan: line 10, line 3 of the plan: the line ends too early; expected: 0 play CARD NODE, ",
-            "with the number of a later node or end\n",
+            "cribplan: line 10, line 3 of the plan: the end of the line is not expected here; expected: a card, and ",
+            "then a later node or end\n",
             "  10 | 0 play\n",
-            "     |   ^^^^\n",
+            "     |       ^\n",
         ),
     ),
     (
         problem!("1", "0 0", "plan 1\nnodes 1\n0\n"),
         concat!(
-            "cribplan: line 10, line 3 of the plan: \"0\" is not expected here; expected: 0 play CARD NODE, ",
-            "or 0 see LETTERS:NODE ..\n",
+            "cribplan: line 10, line 3 of the plan: the end of the line is not expected here; expected: a node, such ",
+            "as 0 play 2C end or 0 see A2:1\n",
             "  10 | 0\n",
-            "     | ^\n",
+            "     |  ^\n",
         ),
     ),
     (
         problem!("1", "0 0", "plan 1\nnodes 1\n0 play TC 1 2\n"),
         concat!(
-            "cribplan: line 10, line 3 of the plan: \"2\" is not expected here; expected: the end of the ",
-            "line, since a play line has a card and one node\n",
+            "cribplan: line 10, line 3 of the plan: \"2\" is not expected here; expected: the end of the line, since ",
+            "a play node has a card and one later node or end\n",
             "  10 | 0 play TC 1 2\n",
             "     |             ^\n",
         ),
@@ -224,8 +225,8 @@ const ROWS: &[Row] = &[
     (
         problem!("1", "0 0", "plan 1\nnodes 1\nx play TC end\n"),
         concat!(
-            "cribplan: line 10, line 3 of the plan: \"x\" is not a number that may stand here; expected: 0, ",
-            "the number of this node (the first one is 0)\n",
+            "cribplan: line 10, line 3 of the plan: \"x\" is not a number that may stand here; expected: 0, the ",
+            "number of this node. Write a number in digits alone.\n",
             "  10 | x play TC end\n",
             "     | ^\n",
         ),
@@ -233,8 +234,8 @@ const ROWS: &[Row] = &[
     (
         problem!("1", "0 0", "plan 1\nnodes 1\n0 play TC x\n"),
         concat!(
-            "cribplan: line 10, line 3 of the plan: \"x\" is not a number that may stand here; expected: the ",
-            "number of a later node, or end\n",
+            "cribplan: line 10, line 3 of the plan: \"x\" is not a number that may stand here; expected: the number ",
+            "of a later node, or end. Write a number in digits alone.\n",
             "  10 | 0 play TC x\n",
             "     |           ^\n",
         ),
@@ -242,8 +243,8 @@ const ROWS: &[Row] = &[
     (
         problem!("1", "0 0", "plan 1\nnodes 2\n0 see A1\n1 play TC end\n"),
         concat!(
-            "cribplan: line 10, line 3 of the plan: \"A1\" is not expected here; expected: letters, one colon ",
-            "and a node, as in A2:1\n",
+            "cribplan: line 10, line 3 of the plan: \"A1\" is not expected here; expected: letters, one colon and a ",
+            "later node, such as A23:1\n",
             "  10 | 0 see A1\n",
             "     |       ^^\n",
         ),
@@ -251,8 +252,8 @@ const ROWS: &[Row] = &[
     (
         problem!("1", "0 0", "plan 1\nnodes 2\n0 see A:1:1\n1 play TC end\n"),
         concat!(
-            "cribplan: line 10, line 3 of the plan: \"A:1:1\" is not expected here; expected: letters, one ",
-            "colon and a node, as in A2:1\n",
+            "cribplan: line 10, line 3 of the plan: \"A:1:1\" is not expected here; expected: letters, one colon and ",
+            "a later node, such as A23:1. Write a blank between two branches, and no other sign.\n",
             "  10 | 0 see A:1:1\n",
             "     |       ^^^^^\n",
         ),
@@ -260,8 +261,8 @@ const ROWS: &[Row] = &[
     (
         problem!("1", "0 0", "plan 1\nnodes 2\n0 see A:x\n1 play TC end\n"),
         concat!(
-            "cribplan: line 10, line 3 of the plan: \"x\" is not a number that may stand here; expected: the ",
-            "number of a later node\n",
+            "cribplan: line 10, line 3 of the plan: \"x\" is not a number that may stand here; expected: the number ",
+            "of a later node behind the colon. Write a number in digits alone.\n",
             "  10 | 0 see A:x\n",
             "     |         ^\n",
         ),
@@ -269,8 +270,8 @@ const ROWS: &[Row] = &[
     (
         problem!("1", "0 0", "plan 1\nnodes 1\n1 see A:2\n"),
         concat!(
-            "cribplan: line 10, line 3 of the plan: \"1\" is not expected here; expected: 0, the number of ",
-            "this node (the first one is 0)\n",
+            "cribplan: line 10, line 3 of the plan: \"1\" is not expected here; expected: 0, the number of this ",
+            "node. The first node has the number 0.\n",
             "  10 | 1 see A:2\n",
             "     | ^\n",
         ),
@@ -278,10 +279,46 @@ const ROWS: &[Row] = &[
     (
         problem!("1", "0 0", "plan 1\nnodes 1\n0 play TC -1\n"),
         concat!(
-            "cribplan: line 10, line 3 of the plan: \"-1\" is not a number that may stand here; expected: the ",
-            "number of a later node, or end\n",
+            "cribplan: line 10, line 3 of the plan: \"-1\" is not a number that may stand here; expected: the number ",
+            "of a later node, or end. Write a number without a sign.\n",
             "  10 | 0 play TC -1\n",
             "     |           ^^\n",
+        ),
+    ),
+    (
+        problem!("1", "0 0", "plan 1\nnodes 1\n0 play TC 1\n1 play 9C end\n"),
+        concat!(
+            "cribplan: line 10, line 3 of the plan: \"1\" is not a later node of the plan: node 1 isn't there, since ",
+            "the plan has 1 node, number 0. Line 9 says nodes 1, but the number of lines for it is 2.\n",
+            "  10 | 0 play TC 1\n",
+            "     |           ^\n",
+        ),
+    ),
+    (
+        problem!("1", "0 0", "plan 1\nnodes 2\n0 see go:1\n1 play TC end\n"),
+        concat!(
+            "cribplan: line 10, line 3 of the plan: \"go:1\" is not a branch that may stand here: \"o\" is none of ",
+            "the letters A23456789TJQKg; a go is a small g alone\n",
+            "  10 | 0 see go:1\n",
+            "     |       ^^^^\n",
+        ),
+    ),
+    (
+        problem!("1", "0 0", "plan 1\nnodes 2\n0 see A-5:1\n1 play TC end\n"),
+        concat!(
+            "cribplan: line 10, line 3 of the plan: \"A-5:1\" is not a branch that may stand here: \"-\" is none of ",
+            "the letters A23456789TJQKg; write each letter, with no sign between two, as in A23:1\n",
+            "  10 | 0 see A-5:1\n",
+            "     |       ^^^^^\n",
+        ),
+    ),
+    (
+        problem!("1", "0 0", "plan 1\nnodes 2\n0 see else:1\n1 play TC end\n"),
+        concat!(
+            "cribplan: line 10, line 3 of the plan: \"else:1\" is not a branch that may stand here: \"e\" is none of ",
+            "the letters A23456789TJQKg; write each rank by its letter\n",
+            "  10 | 0 see else:1\n",
+            "     |       ^^^^^^\n",
         ),
     ),
 ];

@@ -15,7 +15,8 @@ use Rattle.crib_run.specs.Reply.{Reply, fault_line, fault_reply, refusal_reply}
 use Rattle.crib_input.specs.declared.refusal.Refusal.{Refusal as Refused}
 use Rattle.crib_input.specs.Refusals.{refusal_of}
 use Rattle.crib_input.specs.Input.{problem_of_input, question_of_input}
-use Rattle.crib_answer.specs.Answer.{Answers, AnswersCheck, AnswersProblem, AnswersSolve, board_reply, ending_reply, ending_status, found_reply, reply_by, report_reply}
+use Rattle.crib_answer.specs.Answer.{Answers, AnswersCheck, AnswersProblem, AnswersSolve, board_reply, ending_reply, ending_status}
+use Rattle.crib_answer.specs.Answer.{found_reply, reply_by, report_reply}
 use Rattle.crib_answer.specs.Answer.{too_large, verdict_reply}
 use Rattle.crib_answer.specs.Input.{board_of_input, ending_of_input, report_of_input}
 use Rattle.crib_answer.specs.Memory.{Makes}

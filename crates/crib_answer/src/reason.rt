@@ -17,6 +17,7 @@ use std::alloc::Allocator;
 /// Returns the reason behind the answer of a job to an input: the refusal or the fault that it names. For a refusal the
 /// input is read again. Returns `None` if the answer is no refusal and no fault, or if memory for that reading is
 /// refused.
+#[tactic(auto, using(crate::proofs::Reasons::refused_is, crate::proofs::Reasons::fault_is))]
 pub fn reason_of<A: Allocator + Copy>(
     alloc: A,
     job: Job,

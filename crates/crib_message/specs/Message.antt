@@ -1,6 +1,7 @@
 -- The message of a refusal or a fault.
 use Rattle.std.specs.Prelude.{◌≡◌, ◌-◌, ◌/◌, ◌%◌, ℕ, Bool, true, List, [], ◌∷◌, ◌++◌, codes, decimal, flat_map}
-use Rattle.std.specs.Prelude.{Option, None, MatchOption, All, nat_le, ◌&&◌, ◌==◌, if◌then◌else◌, slice_get, slice_index, take}
+use Rattle.std.specs.Prelude.{Option, None, MatchOption, All, nat_le, ◌&&◌, ◌==◌, if◌then◌else◌}
+use Rattle.std.specs.Prelude.{slice_get, slice_index, take}
 use Rattle.std.specs.Io.KnownBytes.{Appends}
 use Rattle.crib_text.specs.Spelling.{line_feed}
 use Rattle.crib_text.specs.Words.{lines_of}
@@ -64,6 +65,7 @@ section_words number Plan = codes ", line " ++ (decimal number ++ codes " of the
 section_words number Game = codes ", line " ++ (decimal number ++ codes " of the game")
 section_words number After = []
 
+-- the words for a place in a section
 abbrev pub place_words : Place → List ℕ
 place_words place = section_words place.number place.section
 

@@ -27,7 +27,7 @@ impl Message {
     #[tactic(auto, unfolding(crate::specs::Message::message_text))]
     pub fn as_slice(&self) -> &[u8]
         ensures text { result.now ≡ message_text self.now }
-        ensures short { length result.now ≤ 1000 }
+        ensures short { length result.now ≤ 1500 }
     {
         self.text.as_slice()
     }

@@ -115,7 +115,10 @@ fn names_the_line(rt: HostRuntime) {
     is_said(
         &rt,
         "problem 3\n",
-        "cribplan: line 1: \"3\" is not a version of this section; expected: problem 1 or problem 2\n  1 | problem 3\n    |         ^\n",
+        concat!(
+            "cribplan: line 1: \"3\" is not a version of this section; expected: problem 1 or problem 2\n",
+            "  1 | problem 3\n    |         ^\n",
+        ),
     );
 }
 

@@ -22,7 +22,8 @@ pub unwritten : (reply : Reply) (ended : Status) (chosen : Option Reason) → ch
     → IfSome chosen (λ r. IsReason reply ended r)
 unwritten reply ended chosen is other = rw is (inr (other, refl))
 
-pub explained : (reply : Reply) (input : List ℕ) (ended : Status) (chosen : Option Reason) (old new : Option (List ℕ)) → IfSome chosen (λ r. IsReason reply ended r)
+pub explained : (reply : Reply) (input : List ℕ) (ended : Status) (chosen : Option Reason) (old new : Option (List ℕ))
+    → IfSome chosen (λ r. IsReason reply ended r)
     → MatchOption chosen (Appends old new []) (λ r. Says (codes "cribplan") input r old new) → Explains reply input ended old new
 explained reply input ended None old new is said = inl said
 explained reply input ended (Some reason) old new is said = inr (reason, is, said)

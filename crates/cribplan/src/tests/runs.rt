@@ -1,5 +1,5 @@
 //! Runs over inputs in memory, and what they write.
-use crate::run::run;
+use crate::run::run_with_words;
 use crib_answer::Job;
 use crib_run::Status;
 use crib_text::Counted;
@@ -45,10 +45,11 @@ pub fn numbered(rt: &(impl Abort + AllocGlobal), word: &str, number: u64) -> Str
     word_and_number(rt.alloc(), word, number).expect(rt, "memory")
 }
 
-/// What a run wrote, and its status.
+/// What a run wrote, the words beside it, and its status.
 #[derive(Drop)]
 pub struct Written {
     pub text: Vec<u8>,
+    pub words: Vec<u8>,
     pub status: Status,
 }
 
@@ -61,9 +62,13 @@ pub fn outcome<A: Allocator + Copy, R: Read + Drop>(
     mut source: Counted<R>,
 ) -> Written {
     let mut sink = Counted::new(Tray::new(alloc, 4096, Trouble::Never));
-    let status = run(heap, job, &mut source, &mut sink);
-    let text = sink.into_inner().into_bytes();
-    Written { text, status }
+    let mut words = Counted::new(Tray::new(alloc, 4096, Trouble::Never));
+    let status = run_with_words(heap, job, &mut source, &mut sink, &mut words);
+    Written {
+        text: sink.into_inner().into_bytes(),
+        words: words.into_inner().into_bytes(),
+        status,
+    }
 }
 
 /// Runs a job over these bytes.
@@ -73,11 +78,15 @@ pub fn outcome_of<A: Allocator + Copy>(alloc: Global, heap: A, job: Job, input: 
 }
 
 impl Written {
-    /// Asserts that this text was written, with this status. A failed assertion names `what` the run was given.
+    /// Asserts that this text was written, with this status, and that there are no words beside an accepted input. A
+    /// failed assertion names `what` the run was given.
     pub fn is(&self, rt: &impl Abort, wanted: &str, status: Status, what: &str) {
         let text = str::from_utf8(self.text.as_slice()).expect(rt, "a text");
         assert_eq!(rt; text, wanted, "to {what}");
         assert_eq!(rt; self.status, status, "to {what}");
+        if status == Status::Yes || status == Status::No {
+            assert_eq!(rt; self.words.len(), 0, "to {what}");
+        }
     }
 }
 

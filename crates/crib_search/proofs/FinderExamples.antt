@@ -6,7 +6,6 @@ use Rattle.std.specs.Prelude.{if◌then◌else◌}
 use Rattle.crib_cards.specs.Sets.{set_where}
 use Rattle.crib_cards.specs.declared.letters.Letter.TheVariants.{Seen, Go}
 use Rattle.crib_cards.specs.declared.moves.Move.TheVariants as move
-use Rattle.crib_cards.specs.declared.sides.Side.TheVariants.{Opponent}
 use Rattle.crib_play.specs.declared.turns.Turn.TheVariants as turns
 use Rattle.crib_play.specs.History.{Event, Own, Theirs}
 use Rattle.crib_show.specs.Outcome.{outcome_of}

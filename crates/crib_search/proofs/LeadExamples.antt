@@ -2,7 +2,7 @@
 -- ten-cards. The owner has KC and QH left, and plays one of them on the lead.
 use Rattle.std.proofs.Common.{arith, ◌≡◌, refl, sym, ap, ◌∙◌, subst, inl, inr, ℕ, Bool, true, false, eqb, not, ◌&&◌, ◌||◌, Option, Some, None}
 use Rattle.std.proofs.Common.{List, [], ◌∷◌, ◌++◌, length, filter}
-use Rattle.std.specs.Prelude.{is_some, if◌then◌else◌}
+use Rattle.std.specs.Prelude.{if◌then◌else◌}
 use Rattle.std.specs.List.{list_all, list_any}
 use Rattle.std.proofs.lemmas.Bool.{both_ways, cases_Bool, eqb-true, and_parts, or_cases, or_left, or_right}
 use Rattle.crib_cards.specs.Sets.{has, set_where}
@@ -24,8 +24,8 @@ use Rattle.crib_plan.specs.declared.plan.Next.{Next}
 use Rattle.crib_plan.specs.declared.plan.Next.TheVariants.{End, To}
 use Rattle.crib_plan.specs.declared.plan.Node.{Node}
 use Rattle.crib_plan.specs.declared.plan.Node.TheVariants.{Play}
-use Rattle.crib_game.specs.Replay.{next_played, is_done_for, full_of, same_act}
-use Rattle.crib_game.specs.Following.{is_stuck, place_of}
+use Rattle.crib_game.specs.Replay.{is_done_for, full_of, same_act}
+use Rattle.crib_game.specs.Following.{opening_is_over, is_stuck, place_of}
 
 abbrev pub opp : Move → Act
 opp what = record { side = Opponent; what = what }
@@ -282,8 +282,8 @@ pub four_shown : (lead last : ℕ) → has leads lead ≡ true → has (tens lea
 four_shown = each_last (λ lead last. list_all (has (cards_of (Go ∷ to_last lead last))) (last ∷ 4 ∷ 12 ∷ lead ∷ [])) refl
 
 pub late : (lead last : ℕ) → has leads lead ≡ true → has (tens lead) last ≡ true →
-    not (is_some (next_played (after_lead lead).played Opponent (to_close lead last))) ≡ true
-late = each_last (λ lead last. not (is_some (next_played (after_lead lead).played Opponent (to_close lead last)))) refl
+    opening_is_over (after_lead lead).played Opponent (to_close lead last) ≡ true
+late = each_last (λ lead last. opening_is_over (after_lead lead).played Opponent (to_close lead last)) refl
 
 pub placed : (lead last : ℕ) → has leads lead ≡ true → has (tens lead) last ≡ true →
     is_second (place_of (plan_after lead) (after_lead lead).played Opponent (to_close lead last)) ≡ true

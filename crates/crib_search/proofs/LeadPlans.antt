@@ -1,7 +1,7 @@
 -- The plans of the worked leads are sure. After the opening the opponent has the lead and one ten-card more.
 use Rattle.std.proofs.Common.{arith, ◌≡◌, refl, sym, ap, ◌∙◌, subst, inl, inr, ℕ, Bool, true, false, eqb, not, ◌||◌, Option, Some, None}
 use Rattle.std.proofs.Common.{List, [], ◌∷◌, ◌++◌}
-use Rattle.std.specs.Prelude.{IsTrue, IsFalse, is_some}
+use Rattle.std.specs.Prelude.{IsTrue, IsFalse}
 use Rattle.std.specs.List.{list_any}
 use Rattle.std.proofs.lemmas.Bool.{both_ways, eqb-true, eq-eqb, and_parts, not-true, or_cases, or_left, or_right}
 use Rattle.crib_cards.specs.Sets.{has, are_distinct}
@@ -24,7 +24,7 @@ use Rattle.crib_plan.specs.declared.plan.Next.{Next}
 use Rattle.crib_plan.specs.declared.plan.Next.TheVariants.{End, To}
 use Rattle.crib_plan.specs.declared.plan.Node.{Node}
 use Rattle.crib_know.proofs.CardsLeft.{has-filter_parts, has-filter_from}
-use Rattle.crib_game.specs.Replay.{next_played, is_done_for, full_of}
+use Rattle.crib_game.specs.Replay.{is_done_for, full_of}
 use Rattle.crib_game.specs.Following.{IsAsStated, Follows, is_stuck, place_of}
 use Rattle.crib_check.specs.Sure.{IsSure, IsFollowed}
 use Rattle.crib_search.proofs.LeadExamples.{opp, own, before_the_lead, after_lead, leads, first_after, second_after, plan_after, all_pass}
@@ -213,8 +213,7 @@ module _ (lead : ℕ) (is : has leads lead ≡ true) (dealt : Dealt) (deal : IsD
   further Go past (at_30 ten) come follows on = the_close ten
   further (Card card) past (the_close ten) come follows on =
       let place = second_place (place_of plan problem.played Opponent past) (placed lead last is ten) in
-      let after_opening = not-true (is_some (next_played problem.played Opponent past)) (late lead last is ten) in
-      let states = subst (λ (at : Next). IsAsStated plan at Owner (Card card)) place (follows.1 after_opening) in
+      let states = subst (λ (at : Next). IsAsStated plan at Owner (Card card)) place (follows.1 (late lead last is ten)) in
       subst (λ (card : ℕ). Courses (Card card ∷ to_close lead last)) (stated (second_after lead) card states) (the_end ten)
   further Go past (the_close ten) come follows on = absurd (both_ways (can_play past) come.may_take (own_plays lead last is ten))
   further turn past (the_end ten) come follows on = absurd (both_ways (is_done_for problem past) come.not_done (done_at_end lead last is ten))

@@ -1,6 +1,6 @@
 //! The words beside an answer.
 use crate::run::run_with_words;
-use crate::tests::runs::{joined, joined_with, outcome_of};
+use crate::tests::runs::{joined, joined_with, outcome_with_words};
 use crib_answer::Job;
 use crib_run::Status;
 use crib_text::Counted;
@@ -24,7 +24,7 @@ cribplan: line 5: \"10S\" is not a card. Write ten as T: TS.
 
 // Asserts that a run over an input writes this answer and these words.
 fn says(rt: &(impl Abort + AllocGlobal), job: Job, input: &str, wanted: &str, words: &str) {
-    let written = outcome_of(rt.alloc(), rt.alloc(), job, input.as_bytes());
+    let written = outcome_with_words(rt.alloc(), rt.alloc(), job, input.as_bytes());
     written.is(rt, wanted, Status::Refused, input);
     assert_eq!(rt;
         str::from_utf8(written.words.as_slice()),
@@ -52,7 +52,7 @@ fn each_command_says_why(rt: HostRuntime) {
 fn a_line_of_a_section_is_named(rt: HostRuntime) {
     let input = joined_with(&rt, &[TENS, LAST_CARD], 11, "own QC");
     for job in [Job::Replay, Job::Board] {
-        let written = outcome_of(rt.alloc(), rt.alloc(), job, input.as_bytes());
+        let written = outcome_with_words(rt.alloc(), rt.alloc(), job, input.as_bytes());
         let said = str::from_utf8(written.words.as_slice()).expect(&rt, "a text");
         assert!(rt;
             said.starts_with("cribplan: line 11, line 4 of the game: "),
@@ -88,7 +88,7 @@ fn words_that_are_cut_short_change_nothing(rt: HostRuntime) {
 fn a_fault_has_words(rt: HostRuntime) {
     let input = joined(&rt, &[THIRTEEN, TWOS]);
     let heap = Refusing::after(rt.alloc(), 0);
-    let written = outcome_of(rt.alloc(), &heap, Job::Check, input.as_bytes());
+    let written = outcome_with_words(rt.alloc(), &heap, Job::Check, input.as_bytes());
     written.is(&rt, "fault 11\n", Status::Fault, "no memory");
     assert_eq!(rt;
         written.words.as_slice(),
@@ -122,11 +122,11 @@ fn a_fault_has_words(rt: HostRuntime) {
 #[test]
 fn words_without_memory_are_left_out(rt: HostRuntime) {
     let input = joined_with(&rt, &[THIRTEEN, TWOS], 10, "0 play 2X 1");
-    let plenty = outcome_of(rt.alloc(), rt.alloc(), Job::Check, input.as_bytes());
+    let plenty = outcome_with_words(rt.alloc(), rt.alloc(), Job::Check, input.as_bytes());
     assert!(rt; plenty.words.len() > 0);
     for served in 1..1000 {
         let heap = Refusing::after(rt.alloc(), served);
-        let written = outcome_of(rt.alloc(), &heap, Job::Check, input.as_bytes());
+        let written = outcome_with_words(rt.alloc(), &heap, Job::Check, input.as_bytes());
         if written.status == Status::Refused {
             assert_eq!(rt; written.text.as_slice(), plenty.text.as_slice());
             if !heap.has_refused() {

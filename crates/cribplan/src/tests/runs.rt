@@ -1,5 +1,5 @@
 //! Runs over inputs in memory, and what they write.
-use crate::run::run_with_words;
+use crate::run::{run, run_with_words};
 use crib_answer::Job;
 use crib_run::Status;
 use crib_text::Counted;
@@ -62,6 +62,23 @@ pub fn outcome<A: Allocator + Copy, R: Read + Drop>(
     mut source: Counted<R>,
 ) -> Written {
     let mut sink = Counted::new(Tray::new(alloc, 4096, Trouble::Never));
+    let status = run(heap, job, &mut source, &mut sink);
+    Written {
+        text: sink.into_inner().into_bytes(),
+        words: Vec::new(alloc),
+        status,
+    }
+}
+
+/// Runs a job over these bytes, with a third device for words.
+pub fn outcome_with_words<A: Allocator + Copy>(
+    alloc: Global,
+    heap: A,
+    job: Job,
+    input: &[u8],
+) -> Written {
+    let mut source = Counted::new(Feed::new(input, 4096, Trouble::Never));
+    let mut sink = Counted::new(Tray::new(alloc, 4096, Trouble::Never));
     let mut words = Counted::new(Tray::new(alloc, 4096, Trouble::Never));
     let status = run_with_words(heap, job, &mut source, &mut sink, &mut words);
     Written {
@@ -99,7 +116,7 @@ pub fn writes(
     status: Status,
 ) {
     let input = joined(rt, sections);
-    outcome_of(rt.alloc(), rt.alloc(), job, input.as_bytes()).is(
+    outcome_with_words(rt.alloc(), rt.alloc(), job, input.as_bytes()).is(
         rt,
         wanted,
         status,

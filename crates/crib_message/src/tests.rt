@@ -52,9 +52,11 @@ use crate::excerpt::excerpt_of;
 use crate::explained::{Mark, explain};
 use crate::lines::line_at;
 use crate::*;
-use crib_input::{NotRead, Refusal, Sections, played_of, played_under_of, problem_of, question_of};
+use crib_input::{
+    Cause, NotRead, Refusal, Sections, played_of, played_under_of, problem_of, question_of,
+};
 use crib_run::{FaultCause, Reason};
-use crib_text::MAX_INPUT;
+use crib_text::{MAX_INPUT, TextCause};
 use std::process::Abort;
 
 // An input that is refused, and the sentence that explains why.
@@ -131,6 +133,22 @@ fn names_a_fault(rt: HostRuntime) {
         &Reason::Fault(FaultCause::NoMemory),
     );
     assert_eq!(rt; message.as_slice(), b"cribplan: out of memory\n".as_slice());
+}
+
+#[test]
+fn names_an_input_that_is_too_long(rt: HostRuntime) {
+    let refusal = Refusal {
+        line: 0,
+        cause: Cause::Text(TextCause::TooLong),
+    };
+    let message = message_of(
+        b"cribplan",
+        Sections::Problem,
+        b"",
+        &Reason::Refused(refusal),
+    );
+    let wanted = "cribplan: the input is longer than 8,388,608 bytes\n";
+    assert_eq!(rt; message.as_slice(), wanted.as_bytes());
 }
 
 #[test]

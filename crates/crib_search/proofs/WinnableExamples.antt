@@ -97,22 +97,20 @@ clubs_run : LegalFor flush (Card 36 ∷ Card 46 ∷ Card 40 ∷ six_turns)
 clubs_run = ((clubs_led, record { not_done = refl; may_take = (refl, refl) }), record { not_done = refl; may_take = (refl, refl) })
 
 clubs_end : LegalFor flush (Card 48 ∷ Go ∷ Go ∷ Card 36 ∷ Card 46 ∷ Card 40 ∷ six_turns)
-clubs_end =
-    (
-      ((clubs_run, record { not_done = refl; may_take = refl }), record { not_done = refl; may_take = refl }),
-      record { not_done = refl; may_take = (refl, refl) },
-    )
+clubs_end = (
+  ((clubs_run, record { not_done = refl; may_take = refl }), record { not_done = refl; may_take = refl }),
+  record { not_done = refl; may_take = (refl, refl) },
+)
 
 -- JS KC QD: a run of three, a go, a run of three in the hand with the starter, and his nobs make eight
 spades_run : LegalFor his_nobs (Card 45 ∷ Card 48 ∷ Card 43 ∷ six_turns)
 spades_run = ((spades_led, record { not_done = refl; may_take = (refl, refl) }), record { not_done = refl; may_take = (refl, refl) })
 
 spades_end : LegalFor his_nobs (Card 46 ∷ Go ∷ Go ∷ Card 45 ∷ Card 48 ∷ Card 43 ∷ six_turns)
-spades_end =
-    (
-      ((spades_run, record { not_done = refl; may_take = refl }), record { not_done = refl; may_take = refl }),
-      record { not_done = refl; may_take = (refl, refl) },
-    )
+spades_end = (
+  ((spades_run, record { not_done = refl; may_take = refl }), record { not_done = refl; may_take = refl }),
+  record { not_done = refl; may_take = (refl, refl) },
+)
 
 -- the history up to the lead of a jack
 abbrev jack_led : List Event
@@ -141,9 +139,11 @@ none_after_king = inl (
     (his_nobs, (his_nobs_is_a_deal, (Card 45 ∷ Card 48 ∷ Card 43 ∷ six_turns, spades_run, refl))),
     (
       None,
-      inr
-          (λ reached. (let lost = reached his_nobs
-          (his_nobs_is_a_deal, (Card 46 ∷ Go ∷ Go ∷ Card 45 ∷ Card 48 ∷ Card 43 ∷ six_turns, spades_end, refl)) in cc), refl),
+      inr (
+        λ reached. (let lost = reached his_nobs
+            (his_nobs_is_a_deal, (Card 46 ∷ Go ∷ Go ∷ Card 45 ∷ Card 48 ∷ Card 43 ∷ six_turns, spades_end, refl)) in cc),
+        refl,
+      ),
       refl,
     ),
   ),

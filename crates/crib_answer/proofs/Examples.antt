@@ -1,5 +1,5 @@
 -- Worked examples of what a reply tells by its text and its status.
-use Rattle.std.proofs.Common.{arith, ◌≡◌, refl, sym, subst, inl, inr, ℕ, List, [], ◌++◌, codes}
+use Rattle.std.proofs.Common.{arith, ◌≡◌, refl, sym, subst, inl, inr, ℕ, List, [], ◌∷◌, ◌++◌, codes, map, Ok, Err}
 use Rattle.std.specs.Fmt.{digits}
 use Rattle.crib_cards.specs.Sets.{set_where}
 use Rattle.crib_problem.specs.Setup.{Setup, IsSetup}
@@ -15,13 +15,36 @@ use Rattle.crib_text.specs.Refusals.{no_memory}
 use Rattle.crib_check.specs.Sure.{Ends}
 use Rattle.crib_check.proofs.SureExamples.{at_29, ace_or_two, ace_or_two_is_sure, ace_or_two_goes_on}
 use Rattle.crib_search.specs.Winnable.{IsWinnable}
-use Rattle.crib_answer.specs.declared.job.Job.TheVariants.{Replay, Check, Solve}
+use Rattle.crib_answer.specs.declared.job.Job.TheVariants.{Replay, Check, Solve, Board, Follow}
+use Rattle.crib_answer.specs.Job.{all_jobs, job_names, job_called, sections_of}
+use Rattle.crib_answer.specs.Memory.{AsksForMemory}
+use Rattle.crib_input.specs.declared.sections.Sections.TheVariants as sections
 use Rattle.crib_run.specs.declared.status.Status.TheVariants.{Yes, No, Refused, Fault}
 use Rattle.crib_run.specs.Reply.{fault_line}
 use Rattle.crib_answer.specs.Answer.{too_large}
+use Rattle.crib_input.specs.Input.{most_bytes}
 use Rattle.crib_input.specs.Spelled.{SpellsProblem, SpellsPlan}
 use Rattle.crib_answer.specs.Telling.{HasFailingPlan, IsSolvedBy, HasNoPlan}
 use Rattle.crib_answer.specs.Telling.{CheckTells, SolveTells, StatusTells, holds_line, fails_line, none_line}
+
+-- ---- the jobs: their names, in the order of the help text, and what their inputs have
+pub names_in_order : job_names ≡ codes "check" ∷ codes "solve" ∷ codes "replay" ∷ codes "board" ∷ codes "follow" ∷ []
+names_in_order = refl
+
+pub jobs_by_name : map job_called (codes "check" ∷ codes "solve" ∷ codes "replay" ∷ codes "board" ∷ codes "follow" ∷ codes "Check" ∷ [])
+    ≡ Ok Check ∷ Ok Solve ∷ Ok Replay ∷ Ok Board ∷ Ok Follow ∷ Err (record {}) ∷ []
+jobs_by_name = refl
+
+pub sections_by_job : map sections_of all_jobs ≡ sections.Question ∷ sections.Problem ∷ sections.Played ∷ sections.Played ∷ sections.PlayedUnder ∷ []
+sections_by_job = refl
+
+-- `replay` never asks for memory
+pub replay_asks_for_none : AsksForMemory Replay [] → ⊥
+replay_asks_for_none asks = asks
+
+-- an input has at most 8,388,608 bytes
+pub longest_input : most_bytes ≡ 8388608
+longest_input = refl
 
 -- ---- the lines
 pub holds : holds_line ≡ codes "holds\n"

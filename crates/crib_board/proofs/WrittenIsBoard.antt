@@ -110,15 +110,15 @@ unfolding track_line
 line_written old side front back first holes =
     regroup_line old (side_column side) (with_space (right_in 3 first)) (codes " ") (map (hole_byte front back) (range_with_len first holes)) (codes "\n")
 
-regroup_track : (old a b c d : List ℕ) → (((old ++ a) ++ b) ++ c) ++ d ≡ old ++ (((a ++ b) ++ c) ++ d)
-regroup_track old a b c d = simp append_assoc
+pub regroup_four : (old a b c d : List ℕ) → (((old ++ a) ++ b) ++ c) ++ d ≡ old ++ (((a ++ b) ++ c) ++ d)
+regroup_four old a b c d = simp append_assoc
 
 pub track_written : (old : List ℕ) (side : Side) (front back : Option ℕ)
     → (((old ++ track_line side front back 1 30) ++ track_line side front back 31 30) ++ track_line side front back 61 30) ++ track_line side front back 91 31
     ≡ old ++ track_lines side front back
 unfolding track_lines
 track_written old side front back =
-    regroup_track old (track_line side front back 1 30) (track_line side front back 31 30) (track_line side front back 61 30) (track_line side front back 91 31)
+    regroup_four old (track_line side front back 1 30) (track_line side front back 31 30) (track_line side front back 61 30) (track_line side front back 91 31)
 
 -- one hole more
 pub holes_more : (old text new : List ℕ) (front back : Option ℕ) (first holes byte : ℕ) → text ≡ old ++ map (hole_byte front back) (range_with_len first holes)

@@ -51,10 +51,9 @@ mod strays;
 use crate::excerpt::excerpt_of;
 use crate::explained::{Mark, explain};
 use crate::lines::line_at;
+use crate::tests::messages::refusal_of;
 use crate::*;
-use crib_input::{
-    Cause, NotRead, Refusal, Sections, played_of, played_under_of, problem_of, question_of,
-};
+use crib_input::{Cause, Refusal, Sections, problem_of};
 use crib_run::{FaultCause, Reason};
 use crib_text::{MAX_INPUT, TextCause};
 use std::process::Abort;
@@ -72,26 +71,6 @@ fn are_explained(rt: &(impl Abort + AllocGlobal), sections: Sections, rows: &[Ro
         let explained = explain(sections, bytes, &refusal);
         let said = std::str::from_utf8(explained.sentence.as_slice());
         assert_eq!(rt; said, Ok(*wanted), "of {input}");
-    }
-}
-
-fn refusal_of(
-    rt: &(impl Abort + AllocGlobal),
-    sections: Sections,
-    bytes: &[u8],
-) -> Option<Refusal> {
-    assert!(rt; bytes.len() <= MAX_INPUT);
-    match sections {
-        Sections::Problem => problem_of(bytes).err(),
-        Sections::Question => match question_of(rt.alloc(), bytes) {
-            Err(NotRead::Refused(refusal)) => Some(refusal),
-            _ => None,
-        },
-        Sections::Played => played_of(bytes).err(),
-        Sections::PlayedUnder => match played_under_of(rt.alloc(), bytes) {
-            Err(NotRead::Refused(refusal)) => Some(refusal),
-            _ => None,
-        },
     }
 }
 

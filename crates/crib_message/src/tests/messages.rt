@@ -36,8 +36,8 @@ fn refusal_in(not_read: &NotRead) -> Option<Refusal> {
     }
 }
 
-// Returns the refusal of an input with these sections.
-fn refusal_of(
+/// Returns the refusal of an input with these sections, of which the game is judged too.
+pub(crate) fn refusal_of(
     rt: &(impl Abort + AllocGlobal),
     sections: Sections,
     bytes: &[u8],

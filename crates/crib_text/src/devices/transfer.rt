@@ -1,7 +1,7 @@
 //! Reading an input to its end, and writing an answer whole.
 ghost use Rattle.std.specs.Prelude.{◌≡◌, ◌≤◌, ◌<◌, length, take, vec_len, IfOk, OnOk, IfErr, OnErr, IfSome};
 ghost use Rattle.std.specs.Io.KnownBytes.{Appends, Consumes, IsAtEnd};
-ghost use Rattle.crib_text.specs.Device.{HasFailed};
+ghost use Rattle.crib_text.specs.Device.{HasFailed, HasNotFallen};
 ghost use Rattle.crib_text.specs.Transfer.{IsReadingFault};
 
 use super::device::{Glitch, Sink, Source};
@@ -75,6 +75,7 @@ pub fn put<W: Sink>(sink: &mut W, bytes: &[u8]) -> Result<(), Stopped>
         (take stopped.sent bytes.now)) }
     ensures cut { IfErr result (λ stopped. stopped.sent < length bytes.now) }
     ensures failed { OnErr result (HasFailed (W.faults sink.old) (W.faults sink.new)) }
+    ensures counted { HasNotFallen (W.faults sink.old) (W.faults sink.new) }
 {
     let mut sent = 0;
     for _turn in 0..MAX_TURNS {

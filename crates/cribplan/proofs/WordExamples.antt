@@ -2,10 +2,10 @@
 use Rattle.std.proofs.Common.{◌≡◌, List, [], ◌∷◌, Some, None, codes, refl}
 use Rattle.std.specs.Str.{chars}
 use Rattle.clap.specs.Walk.{Text}
-use Rattle.clap.specs.declared.error.kind.ErrorKind.TheVariants.{DisplayHelp, InvalidValue, MissingRequiredArgument}
-use Rattle.clap.specs.declared.error.kind.ErrorKind.TheVariants.{TooManyValues, UnknownArgument}
+use Rattle.clap.specs.declared.error.kind.ErrorKind.TheVariants.{DisplayHelp, InvalidValue}
 use Rattle.crib_answer.specs.declared.job.Job.TheVariants.{Check, Replay}
-use Rattle.cribplan.specs.Command.{IsJobWords, refusal_from, words_refusal, without_mark}
+use Rattle.crib_words.specs.Command.{refusal_from, without_mark}
+use Rattle.cribplan.specs.Command.{IsJobWords, words_refusal}
 
 -- a command line: `cribplan`, and then some words
 abbrev typed : List Text → List Text
@@ -15,82 +15,18 @@ check_alone : IsJobWords (typed (codes "check" ∷ [])) Check
 unfolding without_mark
 check_alone = refl
 
--- the program may have another name
-another_program : IsJobWords (codes "./plans" ∷ codes "replay" ∷ []) Replay
+replay_behind_a_mark : IsJobWords (typed (codes "--" ∷ codes "replay" ∷ [])) Replay
 unfolding without_mark
-another_program = refl
-
-check_behind_a_mark : IsJobWords (typed (codes "--" ∷ codes "check" ∷ [])) Check
-unfolding without_mark
-check_behind_a_mark = refl
-
-check_before_a_mark : IsJobWords (typed (codes "check" ∷ codes "--" ∷ [])) Check
-unfolding without_mark
-check_before_a_mark = refl
+replay_behind_a_mark = refl
 
 check_is_taken : words_refusal (typed (codes "check" ∷ [])) ≡ None
 unfolding refusal_from chars
 check_is_taken = refl
 
-no_words : words_refusal [] ≡ Some MissingRequiredArgument
-unfolding refusal_from
-no_words = refl
-
-no_command : words_refusal (typed []) ≡ Some MissingRequiredArgument
-unfolding refusal_from
-no_command = refl
-
 another_name : words_refusal (typed (codes "play" ∷ [])) ≡ Some InvalidValue
 unfolding refusal_from chars
 another_name = refl
 
--- a name with a capital letter is another name
-large_letters : words_refusal (typed (codes "Check" ∷ [])) ≡ Some InvalidValue
-unfolding refusal_from chars
-large_letters = refl
-
-a_file_behind : words_refusal (typed (codes "solve" ∷ codes "f.txt" ∷ [])) ≡ Some UnknownArgument
-unfolding refusal_from chars
-a_file_behind = refl
-
-two_names : words_refusal (typed (codes "check" ∷ codes "check" ∷ [])) ≡ Some UnknownArgument
-unfolding refusal_from chars
-two_names = refl
-
 help : words_refusal (typed (codes "--help" ∷ [])) ≡ Some DisplayHelp
 unfolding refusal_from chars
 help = refl
-
-short_help : words_refusal (typed (codes "solve" ∷ codes "-h" ∷ [])) ≡ Some DisplayHelp
-unfolding refusal_from chars
-short_help = refl
-
-help_behind_a_wrong_name : words_refusal (typed (codes "play" ∷ codes "--help" ∷ [])) ≡ Some InvalidValue
-unfolding refusal_from chars
-help_behind_a_wrong_name = refl
-
-help_with_a_value : words_refusal (typed (codes "--help=check" ∷ [])) ≡ Some TooManyValues
-unfolding refusal_from chars
-help_with_a_value = refl
-
-no_version : words_refusal (typed (codes "--version" ∷ [])) ≡ Some UnknownArgument
-unfolding refusal_from chars
-no_version = refl
-
-no_letter : words_refusal (typed (codes "-v" ∷ [])) ≡ Some UnknownArgument
-unfolding refusal_from chars
-no_letter = refl
-
--- a hyphen alone is no option
-a_hyphen : words_refusal (typed (codes "-" ∷ [])) ≡ Some InvalidValue
-unfolding refusal_from chars
-a_hyphen = refl
-
--- no word after `--` is an option
-help_behind_a_mark : words_refusal (typed (codes "--" ∷ codes "--help" ∷ [])) ≡ Some InvalidValue
-unfolding refusal_from
-help_behind_a_mark = refl
-
-two_marks : words_refusal (typed (codes "--" ∷ codes "--" ∷ codes "check" ∷ [])) ≡ Some UnknownArgument
-unfolding refusal_from
-two_marks = refl

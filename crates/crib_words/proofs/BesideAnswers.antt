@@ -1,15 +1,12 @@
 -- What is written beside an answer is the message of the reason behind it.
-use Rattle.std.proofs.Common.{◌≡◌, ◌≢◌, ℕ, List, [], Option, Some, None, IfSome, inl, inr, codes, refl}
-use Rattle.std.specs.Prelude.{MatchOption}
-use Rattle.std.specs.Io.KnownBytes.{Appends}
-use Rattle.crib_message.specs.Message.{Says}
+use Rattle.std.proofs.Common.{◌≡◌, ◌≢◌, ℕ, List, Option, Some, None, IfSome, inl, inr, refl}
 use Rattle.crib_run.specs.declared.reason.FaultCause.TheVariants.{WriteFailed}
 use Rattle.crib_run.specs.declared.reason.Reason.{Reason}
 use Rattle.crib_run.specs.declared.reason.Reason.TheVariants.{Fault}
 use Rattle.crib_run.specs.declared.status.Status.{Status}
 use Rattle.crib_run.specs.Reason.{reason_reply}
 use Rattle.crib_run.specs.Reply.{Reply}
-use Rattle.cribplan.specs.Words.{Explains, IsReason}
+use Rattle.crib_words.specs.Beside.{Explains, IsReason, SaysIfAny}
 
 -- a reason that is the one of the reply
 pub replied : (reply : Reply) (ended : Status) (chosen reason : Option Reason) → chosen ≡ reason → IfSome reason (λ r. reply ≡ reason_reply r)
@@ -22,8 +19,7 @@ pub unwritten : (reply : Reply) (ended : Status) (chosen : Option Reason) → ch
     → IfSome chosen (λ r. IsReason reply ended r)
 unwritten reply ended chosen is other = rw is (inr (other, refl))
 
-pub explained : (reply : Reply) (input : List ℕ) (ended : Status) (chosen : Option Reason) (old new : Option (List ℕ))
-    → IfSome chosen (λ r. IsReason reply ended r)
-    → MatchOption chosen (Appends old new []) (λ r. Says (codes "cribplan") input r old new) → Explains reply input ended old new
-explained reply input ended None old new is said = inl said
-explained reply input ended (Some reason) old new is said = inr (reason, is, said)
+pub explained : (program : List ℕ) (reply : Reply) (input : List ℕ) (ended : Status) (chosen : Option Reason) (old new : Option (List ℕ))
+    → IfSome chosen (λ r. IsReason reply ended r) → SaysIfAny program input chosen old new → Explains program reply input ended old new
+explained program reply input ended None old new is said = inl said
+explained program reply input ended (Some reason) old new is said = inr (reason, is, said)

@@ -1,0 +1,6 @@
+pub mod ClapApp
+mod WordExamples
+pub mod WordLemmas
+pub mod CommandLemmas
+pub mod BesideAnswers
+pub mod NamedCommands

@@ -1,0 +1,16 @@
+//! A program, as its command line describes it.
+
+/// A program with several commands, one of which is the only word of its command line.
+#[derive(Clone, Copy, Debug)]
+pub struct Program {
+    /// The name of the program.
+    pub name: &'static str,
+    /// The usage line of the help text. It shows where the input comes from.
+    pub usage: &'static str,
+    /// The names of the commands, in the order in which the help text lists them.
+    pub commands: &'static [&'static str],
+    /// The end of the help text, below the options.
+    pub after_help: &'static str,
+    /// What is printed below the refusal of a second word or of an unknown option.
+    pub hint: &'static str,
+}

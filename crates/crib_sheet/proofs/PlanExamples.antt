@@ -1,36 +1,38 @@
 -- Worked examples of the sheets of plans.
 use Rattle.std.specs.Prelude.{◌≡◌, ℕ, ◌==◌, false, refl, List, [], ◌∷◌, ◌++◌, map, replicate, codes, None, Some}
+use Rattle.std.specs.Fmt.{digits}
 use Rattle.crib_cards.specs.Sets.{has}
 use Rattle.crib_cards.specs.declared.letters.Letter.TheVariants.{Seen, Go}
 use Rattle.crib_plan.specs.declared.plan.Next.TheVariants.{End, To}
 use Rattle.crib_plan.specs.declared.plan.Node.{Node}
 use Rattle.crib_plan.specs.declared.plan.Node.TheVariants.{Play, See}
 use Rattle.crib_plan.specs.Spelling.{letter_bytes}
+use Rattle.crib_sheet.specs.PlanText.{label, paragraph_text, rank_words, sheet_text}
 use Rattle.crib_sheet.specs.PlanSheet.{Row, Lines, Sheet, Over, Plays, Looks, Named, NoLine, Line, OwnCard, Shown, sheet_with, sheet_card}
 
 -- a look, with the letters of each line as a plan writes them
-abbrev lines_of : List (List ℕ × Row) → Lines
+abbrev pub lines_of : List (List ℕ × Row) → Lines
 lines_of [] = NoLine
 lines_of (line ∷ others) = Line (map (has line.0) letter_bytes) line.1 (lines_of others)
 
-abbrev look : List (List ℕ × Row) → Row
+abbrev pub look : List (List ℕ × Row) → Row
 look lines = Looks (lines_of lines)
 
 -- the deuce and the eights that are held
-abbrev deuce : ℕ
+abbrev pub deuce : ℕ
 deuce = 7
 
 abbrev diamond : ℕ
 diamond = 29
 
-abbrev heart : ℕ
+abbrev pub heart : ℕ
 heart = 30
 
-abbrev spade : ℕ
+abbrev pub spade : ℕ
 spade = 31
 
 -- it leads an eight, and looks at the dealer's card
-abbrev three_eights : List Node
+abbrev pub three_eights : List Node
 three_eights =
     Play diamond (To 1) ∷ See (To 8 ∷ To 6 ∷ To 2 ∷ replicate 10 (To 8) ++ End ∷ []) ∷
     Play heart (To 3) ∷ See (To 7 ∷ To 4 ∷ replicate 11 (To 7) ++ End ∷ []) ∷ Play spade (To 5) ∷ Play deuce End ∷
@@ -44,7 +46,7 @@ eights_row last =
     (codes "3", Plays heart (look ((codes "A3456789TJQK", Plays deuce last) ∷ (codes "2", Plays spade (Plays deuce Over)) ∷ []))) ∷ []))
 
 -- the sheet in which the last node has a paragraph of its own
-abbrev eights_sheet : Sheet
+abbrev pub eights_sheet : Sheet
 eights_sheet = sheet_with (λ node. node == 10) three_eights
 
 pub one_paragraph : eights_sheet ≡ record { first = eights_row (Named 10); paragraphs = record { number = 10; row = Plays spade Over } ∷ [] }
@@ -80,3 +82,24 @@ in_the_paragraph = refl
 pub after_a_go : sheet_card eights_sheet (OwnCard ∷ Shown Go ∷ []) ≡ None
 unfolding sheet_with sheet_card
 after_a_go = refl
+
+-- the texts of both sheets
+pub text_of_one_paragraph : sheet_text eights_sheet
+    ≡ codes "8D, then look:\n    A 4-K : 2S 8H, then see [10]\n    2     : 8H 2S, then see [10]\n    3     : 8H, then look:\n"
+    ++ codes "        A 3-K : 2S, then see [10]\n        2     : 8S 2S\n\n[10] 8S\n"
+unfolding sheet_text sheet_with label rank_words paragraph_text digits
+text_of_one_paragraph = refl
+
+pub text_of_no_paragraph : sheet_text (sheet_with (λ node. false) three_eights) ≡ codes
+    "8D, then look:\n    A 4-K : 2S 8H 8S\n    2     : 8H 2S 8S\n    3     : 8H, then look:\n        A 3-K : 2S 8S\n        2     : 8S 2S\n"
+unfolding sheet_text sheet_with label rank_words
+text_of_no_paragraph = refl
+
+-- a label with two neighbours, and with a go
+pub label_of_neighbours : label (map (has (codes "A2468Tg")) letter_bytes) ≡ codes "A 2 4 6 8 T go"
+unfolding label rank_words
+label_of_neighbours = refl
+
+pub label_of_all : label (map (has (codes "A23456789TJQKg")) letter_bytes) ≡ codes "A-K go"
+unfolding label rank_words
+label_of_all = refl

@@ -82,14 +82,14 @@ past_end apart place (first ∷ nodes) (suc i) is =
     let e : place + suc i ≡ place + 1 + i = omega arith in
     rw (ne_eqb place (place + suc i) (λ e. absurd (omega arith))) (ap (row_named (rows_from apart (place + 1) nodes)) e ∙ past_end apart (place + 1) nodes i is)
 
-stands : (apart : ℕ → Bool) (plan : List Node) (i : ℕ) (node : Node) → slice_get plan i ≡ Some node → Stands apart (rows_from apart 0 plan) i node
+pub stands : (apart : ℕ → Bool) (plan : List Node) (i : ℕ) (node : Node) → slice_get plan i ≡ Some node → Stands apart (rows_from apart 0 plan) i node
 stands apart plan i node is = subst (λ k. Stands apart (rows_from apart 0 plan) k node) (zero-add i) (stands_at apart 0 plan i node is)
 
 past : (apart : ℕ → Bool) (plan : List Node) (i : ℕ) → slice_get plan i ≡ None → row_named (rows_from apart 0 plan) i ≡ Over
 past apart plan i is = ap (row_named (rows_from apart 0 plan)) (sym (zero-add i)) ∙ past_end apart 0 plan i is
 
 -- what is asked of nodes holds of each
-node_fits : (place count : ℕ) (nodes : List Node) (i : ℕ) (node : Node) → AreNodes place count nodes → slice_get nodes i ≡ Some node →
+pub node_fits : (place count : ℕ) (nodes : List Node) (i : ℕ) (node : Node) → AreNodes place count nodes → slice_get nodes i ≡ Some node →
     IsNode (place + i) count node
 node_fits place count [] i node are is = absurd cc
 node_fits place count (first ∷ nodes) zero node are is =
@@ -159,7 +159,7 @@ any_more p (first ∷ all) (suc from) branch branches is none not =
       | inr e ↦ rw e (any_more p all from branch branches is (rw e at none) not)
     ]
 
-rest_of : (all : List Next) (from : ℕ) (branch : Next) (branches : List Next) → drop from all ≡ branch ∷ branches → drop (suc from) all ≡ branches
+pub rest_of : (all : List Next) (from : ℕ) (branch : Next) (branches : List Next) → drop from all ≡ branch ∷ branches → drop (suc from) all ≡ branches
 rest_of [] zero branch branches is = absurd cc
 rest_of [] (suc from) branch branches is = absurd cc
 rest_of (first ∷ all) zero branch branches is = cc

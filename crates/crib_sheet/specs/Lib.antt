@@ -1,3 +1,15 @@
+pub mod GamePlay
 pub mod GameShow
+pub mod GameShowLaws
+pub mod GameText
+pub mod Heading
+pub mod PlanBranches
+pub mod PlanHead
+pub mod PlanOutline
+pub mod PlanPage
 pub mod PlanSheet
 pub mod PlanSheetLaws
+pub mod PlanSheetSize
+pub mod PlanText
+pub mod PlanTextLaws
+pub mod Private

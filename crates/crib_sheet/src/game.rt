@@ -1,4 +1,16 @@
 //! The sheet of a game: what each point is for.
+mod acts;
 mod combination;
+mod counted;
+mod laws;
+mod reason;
+mod reasons;
+mod shows;
+mod text;
 
 pub use combination::{Combination, Kind};
+pub use laws::combination_law;
+pub use reason::PlayReason;
+pub use reasons::{PlayReasons, reasons_of};
+pub use shows::{Combinations, crib_combinations, hand_combinations};
+pub use text::{write_acts, write_game_sheet};

@@ -2,7 +2,16 @@
 #![tactic(auto)]
 
 mod game;
+mod heading;
 mod plan;
 
-pub use game::{Combination, Kind};
-pub use plan::sheet_law;
+pub use game::{
+    Combination, Combinations, Kind, PlayReason, PlayReasons, combination_law, crib_combinations,
+    hand_combinations, reasons_of, write_acts, write_game_sheet,
+};
+pub use plan::{
+    Outline, plan_head, plan_size_law, send_plan_sheet, sheet_law, sheet_text_law, text_size_law,
+};
+
+#[cfg(test)]
+mod tests;

@@ -1,0 +1,153 @@
+-- The combinations of a hand or a crib add up to its points.
+use Rattle.std.proofs.Common.{◌≡◌, ℕ, ◌+◌, ◌*◌, suc, eqb, Bool, true, false, cond, ◌&&◌, ◌||◌, List, [], ◌∷◌, ◌++◌, length, map, filter, sum_by, count_by}
+use Rattle.std.proofs.Common.{refl, sym, ap, ◌∙◌, arith, zero-add}
+use Rattle.std.specs.List.{list_any}
+use Rattle.std.proofs.lemmas.List.Sums.{sum_by-append, sum_by-cons}
+use Rattle.crib_cards.specs.Cards.{rank_of, suit_of, jack}
+use Rattle.crib_show.specs.Show.{choices, is_fifteen, is_pair, are_of_suit, hand_flush, crib_flush, jack_points, plain_points, hand_points, crib_points}
+use Rattle.crib_show.specs.Show.{fifteen_points, pair_points, run_points}
+use Rattle.crib_show.proofs.Choices.{sum_by-choices}
+use Rattle.crib_show.proofs.ReorderedLists.{Reordered, behind, front, both, same_order}
+use Rattle.crib_show.proofs.RankLaw.{plain_of_ranks-reordered}
+use Rattle.crib_show.proofs.OrderLaw.{map-reordered}
+use Rattle.crib_sheet.specs.declared.game.combination.Kind.{Kind}
+use Rattle.crib_sheet.specs.declared.game.combination.Kind.TheVariants.{Fifteen, Pair, Run, Flush, Jack}
+use Rattle.crib_sheet.specs.declared.game.combination.Combination.{Combination}
+use Rattle.crib_sheet.specs.GameShow.{combination, worth, points_of, counts_as, combinations_of, plain_combinations, flush_in_hand, flush_in_crib}
+use Rattle.crib_sheet.specs.GameShow.{jack_among, hand_combinations, crib_combinations}
+
+-- those of some choices that are of a kind, each as a combination
+abbrev pub passing : Kind → List ℕ → List (List ℕ) → List Combination
+passing kind all sets = map (combination kind) (filter (λ cards. counts_as kind all (map rank_of cards)) sets)
+
+-- the points of a choice of ranks
+abbrev counted : Kind → List ℕ → List ℕ → ℕ
+counted kind all ranks = cond (counts_as kind all ranks) (worth kind (length ranks)) 0
+
+same_length : (cards : List ℕ) → length (map rank_of cards) ≡ length cards
+same_length [] = refl
+same_length (card ∷ cards) = ap suc (same_length cards)
+
+passing_points : (kind : Kind) (all : List ℕ) (sets : List (List ℕ)) →
+    sum_by points_of (passing kind all sets) ≡ sum_by (λ cards. counted kind all (map rank_of cards)) sets
+passing_points kind all [] = refl
+passing_points kind all (cards ∷ sets) =
+    one (counts_as kind all (map rank_of cards)) (passing_points kind all sets)
+    ∙ sym (sum_by-cons (λ cards. counted kind all (map rank_of cards)) cards sets)
+  where
+    one : (b : Bool) → sum_by points_of (passing kind all sets) ≡ sum_by (λ cards. counted kind all (map rank_of cards)) sets →
+        sum_by points_of (map (combination kind) (cond b (cards ∷ filter (λ cards. counts_as kind all (map rank_of cards)) sets)
+        (filter (λ cards. counts_as kind all (map rank_of cards)) sets)))
+        ≡ (let n : ℕ = cond b (worth kind (length (map rank_of cards))) 0 in n) + sum_by (λ cards. counted kind all (map rank_of cards)) sets
+    one true rest =
+        sum_by-cons points_of (combination kind cards) (passing kind all sets)
+        ∙ (λ i. worth kind (sym (same_length cards) i) + rest i)
+    one false rest = rest ∙ sym (zero-add (sum_by (λ cards. counted kind all (map rank_of cards)) sets))
+
+-- the ranks of the choices are the choices of the ranks
+chosen_ranks : (f : List ℕ → ℕ) (cards : List ℕ) → sum_by (λ chosen. f (map rank_of chosen)) (choices cards) ≡ sum_by f (choices (map rank_of cards))
+chosen_ranks f [] = refl
+chosen_ranks f (card ∷ cards) =
+    sum_by-choices (λ chosen. f (map rank_of chosen)) card cards
+    ∙ (λ i. chosen_ranks (λ ranks. f (rank_of card ∷ ranks)) cards i + chosen_ranks f cards i)
+    ∙ sym (sum_by-choices f (rank_of card) (map rank_of cards))
+
+kind_points : (kind : Kind) (all : List ℕ) →
+    sum_by points_of (combinations_of kind all) ≡ sum_by (counted kind (map rank_of all)) (choices (map rank_of all))
+unfolding combinations_of
+kind_points kind all =
+    passing_points kind (map rank_of all) (choices all) ∙ chosen_ranks (counted kind (map rank_of all)) all
+
+-- two points each
+twice : (p : List ℕ → Bool) (sets : List (List ℕ)) → sum_by (λ set. cond (p set) 2 0) sets ≡ 2 * count_by p sets
+twice p [] = refl
+twice p (set ∷ sets) =
+    let rest = twice p sets in
+    let first = sum_by-cons (λ set. cond (p set) 2 0) set sets in
+    let counts = sum_by-cons (λ set. cond (p set) 1 0) set sets in
+    elim (p set) as (λ b. sum_by (λ set. cond (p set) 2 0) (set ∷ sets) ≡ (let n : ℕ = cond b 2 0 in n) + sum_by (λ set. cond (p set) 2 0) sets →
+    count_by p (set ∷ sets) ≡ (let n : ℕ = cond b 1 0 in n) + count_by p sets →
+    sum_by (λ set. cond (p set) 2 0) (set ∷ sets) ≡ 2 * count_by p (set ∷ sets)) [
+      | true ↦ λ e d. omega (arith, rest, e, d)
+      | false ↦ λ e d. omega (arith, rest, e, d)
+    ] first counts
+
+pub starter_first : (cards : List ℕ) (starter : ℕ) → Reordered (cards ++ starter ∷ []) (starter ∷ cards)
+starter_first [] starter = same_order (starter ∷ [])
+starter_first (card ∷ cards) starter =
+    both (card ∷ cards ++ starter ∷ []) (card ∷ starter ∷ cards) (starter ∷ card ∷ cards)
+    (behind card (cards ++ starter ∷ []) (starter ∷ cards) (starter_first cards starter)) (front card starter cards)
+
+-- the points of the fifteens, runs and pairs
+plain_sum : (all : List ℕ) → sum_by points_of (plain_combinations all) ≡ plain_points all
+plain_sum all =
+    let fifteens = kind_points Fifteen all ∙ twice is_fifteen (choices (map rank_of all)) in
+    let runs = kind_points Run all in
+    let pairs = kind_points Pair all ∙ twice is_pair (choices (map rank_of all)) in
+    let apart = sum_by-append points_of (combinations_of Fifteen all) (combinations_of Run all) in
+    sum_by-append points_of (combinations_of Fifteen all ++ combinations_of Run all) (combinations_of Pair all)
+    ∙ (λ i. (apart ∙ (λ j. fifteens j + runs j)) i + pairs i)
+    ∙ regroup (fifteen_points (map rank_of all)) (run_points (map rank_of all)) (pair_points (map rank_of all))
+  where
+    regroup : (a b c : ℕ) → a + b + c ≡ a + c + b
+    regroup a b c = omega arith
+
+plain_sum_of : (cards : List ℕ) (starter : ℕ) → sum_by points_of (plain_combinations (cards ++ starter ∷ [])) ≡ plain_points (starter ∷ cards)
+plain_sum_of cards starter =
+    plain_sum (cards ++ starter ∷ [])
+    ∙ plain_of_ranks-reordered (map rank_of (cards ++ starter ∷ [])) (map rank_of (starter ∷ cards))
+    (map-reordered rank_of (cards ++ starter ∷ []) (starter ∷ cards) (starter_first cards starter))
+
+hand_flush_sum : (cards : List ℕ) (starter : ℕ) → length cards ≡ 4 → sum_by points_of (flush_in_hand cards starter) ≡ hand_flush cards starter
+hand_flush_sum [] starter four = refl
+hand_flush_sum (a ∷ []) starter four = absurd (omega (arith, four))
+hand_flush_sum (a ∷ b ∷ []) starter four = absurd (omega (arith, four))
+hand_flush_sum (a ∷ b ∷ c ∷ []) starter four = absurd (omega (arith, four))
+hand_flush_sum (a ∷ b ∷ c ∷ d ∷ []) starter four =
+    either (are_of_suit a (b ∷ c ∷ d ∷ starter ∷ [])) (are_of_suit a (b ∷ c ∷ d ∷ []))
+  where
+    either : (all hand : Bool) →
+        sum_by points_of (cond all (combination Flush (a ∷ b ∷ c ∷ d ∷ starter ∷ []) ∷ []) (cond hand (combination Flush (a ∷ b ∷ c ∷ d ∷ []) ∷ []) []))
+        ≡ (let n : ℕ = cond all 5 (cond hand 4 0) in n)
+    either true hand = refl
+    either false true = refl
+    either false false = refl
+hand_flush_sum (a ∷ b ∷ c ∷ d ∷ e ∷ more) starter four = absurd (omega (arith, four))
+
+crib_flush_sum : (cards : List ℕ) (starter : ℕ) → length cards ≡ 4 → sum_by points_of (flush_in_crib cards starter) ≡ crib_flush cards starter
+crib_flush_sum [] starter four = absurd (omega (arith, four))
+crib_flush_sum (a ∷ []) starter four = absurd (omega (arith, four))
+crib_flush_sum (a ∷ b ∷ []) starter four = absurd (omega (arith, four))
+crib_flush_sum (a ∷ b ∷ c ∷ []) starter four = absurd (omega (arith, four))
+crib_flush_sum (a ∷ b ∷ c ∷ d ∷ []) starter four = either (are_of_suit starter (a ∷ b ∷ c ∷ d ∷ []))
+  where
+    either : (all : Bool) → sum_by points_of (cond all (combination Flush (a ∷ b ∷ c ∷ d ∷ starter ∷ []) ∷ []) []) ≡ (let n : ℕ = cond all 5 0 in n)
+    either true = refl
+    either false = refl
+crib_flush_sum (a ∷ b ∷ c ∷ d ∷ e ∷ more) starter four = absurd (omega (arith, four))
+
+jack_sum : (cards : List ℕ) (starter : ℕ) → sum_by points_of (jack_among cards starter) ≡ jack_points cards starter
+jack_sum [] starter = refl
+jack_sum (card ∷ cards) starter = either (eqb (rank_of card) jack && eqb (suit_of card) (suit_of starter)) (jack_sum cards starter)
+  where
+    either : (is : Bool) → sum_by points_of (jack_among cards starter) ≡ jack_points cards starter →
+        sum_by points_of (cond is (combination Jack (card ∷ []) ∷ []) (jack_among cards starter))
+        ≡ (let n : ℕ = cond (is || list_any (λ card. eqb (rank_of card) jack && eqb (suit_of card) (suit_of starter)) cards) 1 0 in n)
+    either true rest = refl
+    either false rest = rest
+
+-- what is counted in a hand adds up to its points
+pub hand_sum : (cards : List ℕ) (starter : ℕ) → length cards ≡ 4 → sum_by points_of (hand_combinations cards starter) ≡ hand_points cards starter
+unfolding hand_combinations hand_points
+hand_sum cards starter four =
+    let apart = sum_by-append points_of (plain_combinations (cards ++ starter ∷ [])) (flush_in_hand cards starter) in
+    sum_by-append points_of (plain_combinations (cards ++ starter ∷ []) ++ flush_in_hand cards starter) (jack_among cards starter)
+    ∙ (λ i. (apart ∙ (λ j. plain_sum_of cards starter j + hand_flush_sum cards starter four j)) i + jack_sum cards starter i)
+
+-- what is counted in a crib adds up to its points
+pub crib_sum : (cards : List ℕ) (starter : ℕ) → length cards ≡ 4 → sum_by points_of (crib_combinations cards starter) ≡ crib_points cards starter
+unfolding crib_combinations crib_points
+crib_sum cards starter four =
+    let apart = sum_by-append points_of (plain_combinations (cards ++ starter ∷ [])) (flush_in_crib cards starter) in
+    sum_by-append points_of (plain_combinations (cards ++ starter ∷ []) ++ flush_in_crib cards starter) (jack_among cards starter)
+    ∙ (λ i. (apart ∙ (λ j. plain_sum_of cards starter j + crib_flush_sum cards starter four j)) i + jack_sum cards starter i)

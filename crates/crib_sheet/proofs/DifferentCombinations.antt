@@ -1,0 +1,194 @@
+-- No combination is listed twice.
+use Rattle.std.proofs.Common.{◌≡◌, ◌≢◌, ℕ, suc, ◌<◌, eqb, Bool, true, false, cond, not, ◌&&◌, ◌||◌, List, [], ◌∷◌, ◌++◌, map, filter}
+use Rattle.std.proofs.Common.{refl, sym, ap, ◌∙◌, arith, true≢false}
+use Rattle.std.specs.List.{AllByRecursion}
+use Rattle.std.proofs.lemmas.Bool.{eq-eqb}
+use Rattle.crib_cards.specs.Cards.{rank_of, suit_of, jack}
+use Rattle.crib_cards.specs.Sets.{has, are_distinct}
+use Rattle.crib_show.specs.Show.{choices, are_of_suit}
+use Rattle.crib_show.proofs.ReorderedLists.{are_distinct-reordered}
+use Rattle.crib_sheet.specs.declared.game.combination.Kind.{Kind}
+use Rattle.crib_sheet.specs.declared.game.combination.Kind.TheVariants.{Fifteen, Pair, Run, Flush, Jack}
+use Rattle.crib_sheet.specs.declared.game.combination.Combination.{Combination}
+use Rattle.crib_sheet.specs.GameShow.{combination, counts_as, combinations_of, plain_combinations, flush_in_hand, flush_in_crib}
+use Rattle.crib_sheet.specs.GameShow.{jack_among, hand_combinations, crib_combinations}
+use Rattle.crib_sheet.specs.GameShowLaws.{AllDiffer, HandListLaw, CribListLaw}
+use Rattle.crib_sheet.proofs.CombinationPoints.{starter_first}
+
+-- what holds of all entries
+all_every : {X : Type 0} (P : X → Type 0) → ((x : X) → P x) → (xs : List X) → AllByRecursion P xs
+all_every P holds [] = tt
+all_every P holds (x ∷ xs) = (holds x, all_every P holds xs)
+
+all_weaker : {X : Type 0} (P Q : X → Type 0) → ((x : X) → P x → Q x) → (xs : List X) → AllByRecursion P xs → AllByRecursion Q xs
+all_weaker P Q weaker [] all = tt
+all_weaker P Q weaker (x ∷ xs) all = (weaker x all.0, all_weaker P Q weaker xs all.1)
+
+all_both : {X : Type 0} (P : X → Type 0) (xs ys : List X) → AllByRecursion P xs → AllByRecursion P ys → AllByRecursion P (xs ++ ys)
+all_both P [] ys all more = more
+all_both P (x ∷ xs) ys all more = (all.0, all_both P xs ys all.1 more)
+
+all_map : {X Y : Type 0} (P : Y → Type 0) (f : X → Y) (xs : List X) → AllByRecursion (λ x. P (f x)) xs → AllByRecursion P (map f xs)
+all_map P f [] all = tt
+all_map P f (x ∷ xs) all = (all.0, all_map P f xs all.1)
+
+all_filter : {X : Type 0} (P : X → Type 0) (p : X → Bool) (xs : List X) → AllByRecursion P xs → AllByRecursion P (filter p xs)
+all_filter P p [] all = tt
+all_filter P p (x ∷ xs) all = one (p x) (all_filter P p xs all.1)
+  where
+    one : (b : Bool) → AllByRecursion P (filter p xs) → AllByRecursion P (cond b (x ∷ filter p xs) (filter p xs))
+    one true rest = (all.0, rest)
+    one false rest = rest
+
+-- lists whose entries differ
+differ_map : {X Y : Type 0} (f : X → Y) → ((x y : X) → f x ≡ f y → x ≡ y) → (xs : List X) → AllDiffer xs → AllDiffer (map f xs)
+differ_map f apart [] differ = tt
+differ_map f apart (x ∷ xs) differ = (
+  all_map (λ y. f x ≢ y) f xs (all_weaker (λ y. x ≢ y) (λ y. f x ≢ f y) (λ y not e. not (apart x y e)) xs differ.0),
+  differ_map f apart xs differ.1,
+)
+
+differ_filter : {X : Type 0} (p : X → Bool) (xs : List X) → AllDiffer xs → AllDiffer (filter p xs)
+differ_filter p [] differ = tt
+differ_filter p (x ∷ xs) differ = one (p x) (differ_filter p xs differ.1)
+  where
+    one : (b : Bool) → AllDiffer (filter p xs) → AllDiffer (cond b (x ∷ filter p xs) (filter p xs))
+    one true rest = (all_filter (λ y. x ≢ y) p xs differ.0, rest)
+    one false rest = rest
+
+differ_both : {X : Type 0} (xs ys : List X) → AllDiffer xs → AllDiffer ys → AllByRecursion (λ x. AllByRecursion (λ y. x ≢ y) ys) xs → AllDiffer (xs ++ ys)
+differ_both [] ys differ more apart = more
+differ_both (x ∷ xs) ys differ more apart = (all_both (λ y. x ≢ y) xs ys differ.0 apart.0, differ_both xs ys differ.1 more apart.1)
+
+split : (b d : Bool) → (not b && d) ≡ true → (b ≡ false) × (d ≡ true)
+split true d is = absurd cc
+split false d is = (refl, is)
+
+neither : (b d : Bool) → (b || d) ≡ false → (b ≡ false) × (d ≡ false)
+neither true d is = absurd cc
+neither false d is = (refl, is)
+
+-- no choice begins with a card that is not there
+begins : (card : ℕ) (cards : List ℕ) → has cards card ≡ false → AllByRecursion (λ set. (rest : List ℕ) → card ∷ rest ≢ set) (choices cards)
+begins card [] out = (λ rest e. absurd cc, tt)
+begins card (other ∷ cards) out =
+    let outs = neither (eqb other card) (has cards card) out in
+    all_both (λ set. (rest : List ℕ) → card ∷ rest ≢ set) (map (λ set. other ∷ set) (choices cards)) (choices cards)
+    (all_map (λ set. (rest : List ℕ) → card ∷ rest ≢ set) (λ set. other ∷ set) (choices cards)
+    (all_every (λ set. (rest : List ℕ) → card ∷ rest ≢ other ∷ set)
+    (λ set rest e. let same : card ≡ other = cc in true≢false (sym (eq-eqb other card (sym same)) ∙ outs.0)) (choices cards)))
+    (begins card cards outs.1)
+
+-- the choices from different cards differ
+choices_differ : (cards : List ℕ) → are_distinct cards ≡ true → AllDiffer (choices cards)
+choices_differ [] are = (tt, tt)
+choices_differ (card ∷ cards) are =
+    let parts = split (has cards card) (are_distinct cards) are in
+    let rest = choices_differ cards parts.1 in
+    differ_both (map (λ set. card ∷ set) (choices cards)) (choices cards)
+    (differ_map (λ set. card ∷ set) (λ set other e. cc) (choices cards) rest) rest
+    (all_map (λ set. AllByRecursion (λ other. set ≢ other) (choices cards)) (λ set. card ∷ set) (choices cards)
+    (all_every (λ set. AllByRecursion (λ other. card ∷ set ≢ other) (choices cards))
+    (λ set. all_weaker (λ other. (rest : List ℕ) → card ∷ rest ≢ other) (λ other. card ∷ set ≢ other) (λ other begins. begins set) (choices cards)
+    (begins card cards parts.0)) (choices cards)))
+
+-- the place of a kind in a list of combinations
+abbrev order : Kind → ℕ
+order Fifteen = 0
+order Run = 1
+order Pair = 2
+order Flush = 3
+order Jack = 4
+
+abbrev AreAt : ℕ → List Combination → Type 0
+AreAt place made = AllByRecursion (λ one. order one.kind ≡ place) made
+
+-- different combinations, of kinds before a place
+record Stands (place : ℕ) (made : List Combination) : Type 0 where
+  before : AllByRecursion (λ one. order one.kind < place) made
+  differ : AllDiffer made
+
+joined : (place : ℕ) (made more : List Combination) → Stands place made → AreAt place more → AllDiffer more → Stands (suc place) (made ++ more)
+joined place made more stands at differ = record {
+  before =
+      all_both (λ one. order one.kind < suc place) made more
+      (all_weaker (λ one. order one.kind < place) (λ one. order one.kind < suc place) (λ one below. omega (arith, below)) made stands.before)
+      (all_weaker (λ one. order one.kind ≡ place) (λ one. order one.kind < suc place) (λ one is. omega (arith, is)) more at);
+  differ =
+      differ_both made more stands.differ differ
+      (all_weaker (λ one. order one.kind < place) (λ one. AllByRecursion (λ other. one ≢ other) more)
+      (λ one below. all_weaker (λ other. order other.kind ≡ place) (λ other. one ≢ other)
+      (λ other is e. let same : order one.kind ≡ order other.kind = ap (λ m. order m.kind) e in absurd (omega (arith, below, is, same))) more at) made
+      stands.before);
+}
+
+kind_at : (kind : Kind) (all : List ℕ) → AreAt (order kind) (combinations_of kind all)
+unfolding combinations_of
+kind_at kind all =
+    all_map (λ one. order one.kind ≡ order kind) (combination kind) (filter (λ cards. counts_as kind (map rank_of all) (map rank_of cards)) (choices all))
+    (all_every (λ cards. order kind ≡ order kind) (λ cards. refl)
+    (filter (λ cards. counts_as kind (map rank_of all) (map rank_of cards)) (choices all)))
+
+kind_differs : (kind : Kind) (all : List ℕ) → are_distinct all ≡ true → AllDiffer (combinations_of kind all)
+unfolding combinations_of
+kind_differs kind all are =
+    differ_map (combination kind) (λ cards others e. ap (λ m. m.cards.items) e)
+    (filter (λ cards. counts_as kind (map rank_of all) (map rank_of cards)) (choices all))
+    (differ_filter (λ cards. counts_as kind (map rank_of all) (map rank_of cards)) (choices all) (choices_differ all are))
+
+plain_stands : (all : List ℕ) → are_distinct all ≡ true → Stands 3 (plain_combinations all)
+plain_stands all are =
+    joined 2 (combinations_of Fifteen all ++ combinations_of Run all) (combinations_of Pair all)
+    (joined 1 (combinations_of Fifteen all) (combinations_of Run all)
+    (joined 0 [] (combinations_of Fifteen all) (record { before = tt; differ = tt }) (kind_at Fifteen all) (kind_differs Fifteen all are))
+    (kind_at Run all) (kind_differs Run all are)) (kind_at Pair all) (kind_differs Pair all are)
+
+-- a list of one combination of a kind, or of none
+abbrev AreAlone : ℕ → List Combination → Type 0
+AreAlone place made = AreAt place made × AllDiffer made
+
+hand_flush_alone : (cards : List ℕ) (starter : ℕ) → AreAlone 3 (flush_in_hand cards starter)
+hand_flush_alone [] starter = (tt, tt)
+hand_flush_alone (card ∷ cards) starter = either (are_of_suit card (cards ++ starter ∷ [])) (are_of_suit card cards)
+  where
+    either : (all hand : Bool) →
+        AreAlone 3 (cond all (combination Flush (card ∷ cards ++ starter ∷ []) ∷ []) (cond hand (combination Flush (card ∷ cards) ∷ []) []))
+    either true hand = ((refl, tt), (tt, tt))
+    either false true = ((refl, tt), (tt, tt))
+    either false false = (tt, tt)
+
+crib_flush_alone : (cards : List ℕ) (starter : ℕ) → AreAlone 3 (flush_in_crib cards starter)
+crib_flush_alone cards starter = either (are_of_suit starter cards)
+  where
+    either : (all : Bool) → AreAlone 3 (cond all (combination Flush (cards ++ starter ∷ []) ∷ []) [])
+    either true = ((refl, tt), (tt, tt))
+    either false = (tt, tt)
+
+jack_alone : (cards : List ℕ) (starter : ℕ) → AreAlone 4 (jack_among cards starter)
+jack_alone [] starter = (tt, tt)
+jack_alone (card ∷ cards) starter = either (eqb (rank_of card) jack && eqb (suit_of card) (suit_of starter)) (jack_alone cards starter)
+  where
+    either : (is : Bool) → AreAlone 4 (jack_among cards starter) → AreAlone 4 (cond is (combination Jack (card ∷ []) ∷ []) (jack_among cards starter))
+    either true rest = ((refl, tt), (tt, tt))
+    either false rest = rest
+
+all_distinct : (cards : List ℕ) (starter : ℕ) → are_distinct (starter ∷ cards) ≡ true → are_distinct (cards ++ starter ∷ []) ≡ true
+all_distinct cards starter are = are_distinct-reordered (cards ++ starter ∷ []) (starter ∷ cards) (starter_first cards starter) ∙ are
+
+pub hand_list_law : HandListLaw
+unfolding hand_combinations
+hand_list_law cards starter are =
+    let flush = hand_flush_alone cards starter in
+    let last = jack_alone cards starter in
+    let plain = plain_stands (cards ++ starter ∷ []) (all_distinct cards starter are) in
+    (joined 4 (plain_combinations (cards ++ starter ∷ []) ++ flush_in_hand cards starter) (jack_among cards starter)
+    (joined 3 (plain_combinations (cards ++ starter ∷ [])) (flush_in_hand cards starter) plain flush.0 flush.1) last.0 last.1).differ
+
+pub crib_list_law : CribListLaw
+unfolding crib_combinations
+crib_list_law cards starter are =
+    let flush = crib_flush_alone cards starter in
+    let last = jack_alone cards starter in
+    let plain = plain_stands (cards ++ starter ∷ []) (all_distinct cards starter are) in
+    (joined 4 (plain_combinations (cards ++ starter ∷ []) ++ flush_in_crib cards starter) (jack_among cards starter)
+    (joined 3 (plain_combinations (cards ++ starter ∷ [])) (flush_in_crib cards starter) plain flush.0 flush.1) last.0 last.1).differ

@@ -1,0 +1,118 @@
+-- The labels of lines, as they are put together.
+use Rattle.std.proofs.Common.{◌≡◌, ℕ, zero, suc, ◌+◌, ◌-◌, ◌*◌, max, ◌<◌, ◌≤◌, ◌∙◌, Bool, true, false, List, [], ◌∷◌, ◌++◌, Option, Some, None, length, map}
+use Rattle.std.proofs.Common.{take, drop, get_or, replicate, refl, ap, sym, subst, inl, inr, append_assoc, length-append, add-one, arith}
+use Rattle.std.specs.List.{list_any, join_with_byte, flat_map}
+use Rattle.std.proofs.lemmas.Bool.{cases_Bool}
+use Rattle.std.proofs.lemmas.List.{append-nil, take-replicate, drop_more}
+use Rattle.std.proofs.lemmas.Grind.{flat_map-append}
+use Rattle.std.proofs.Math.Seq.{drop-nil}
+use Rattle.crib_text.specs.Spelling.{space}
+use Rattle.crib_plan.specs.declared.plan.Next.{Next}
+use Rattle.crib_plan.specs.declared.plan.Next.TheVariants.{End, To}
+use Rattle.crib_plan.specs.Spelling.{leads_to}
+use Rattle.crib_sheet.specs.PlanSheet.{Paragraph, lines_to, row_to, Line}
+use Rattle.crib_sheet.specs.PlanOutline.{apart_in}
+use Rattle.crib_sheet.specs.PlanText.{range_words, rank_words, go_words, label, label_column, label_width}
+use Rattle.crib_sheet.specs.Private.Pages.{new_node, spaced, spaced_label, width_at}
+
+-- words with a space between two, and words with a space before each
+spaced_words : (word : List ℕ) (words : List (List ℕ)) → space ∷ join_with_byte space (word ∷ words) ≡ spaced (word ∷ words)
+spaced_words word [] = ap (λ (rest : List ℕ). space ∷ rest) (sym (append-nil word))
+spaced_words word (next ∷ words) = ap (λ (rest : List ℕ). space ∷ (word ++ rest)) (spaced_words next words)
+
+joined : (words : List (List ℕ)) → join_with_byte space words ≡ drop 1 (spaced words)
+joined [] = refl
+joined (word ∷ words) = ap (drop 1) (spaced_words word words)
+
+pub label_is : (set : List Bool) → label set ≡ drop 1 (spaced_label set)
+unfolding label spaced_label
+label_is set = joined (rank_words 0 0 (take 13 set) ++ go_words (drop 13 set))
+
+pub column_is : (width : ℕ) (set : List Bool) → width ≤ 28 →
+    drop 1 (spaced_label set) ++ take (width - length (drop 1 (spaced_label set))) (replicate 28 space) ≡ label_column width set
+column_is width set narrow =
+    let e = sym (label_is set) in
+    rw e (ap (λ (blank : List ℕ). label set ++ blank) (take-replicate (width - length (label set)) 28 space (omega arith)))
+
+pub column_from : (width : ℕ) (set : List Bool) (written : List ℕ) → written ≡ drop 1 (spaced_label set) → width ≤ 28 →
+    written ++ take (width - length written) (replicate 28 space) ≡ label_column width set
+column_from width set written is narrow =
+    ap (λ (bytes : List ℕ). bytes ++ take (width - length bytes) (replicate 28 space)) is ∙ column_is width set narrow
+
+-- one more letter
+pub ranks_in : (ranks : List Bool) (i before : ℕ) (d : Bool) → i < length ranks → get_or ranks i d ≡ true →
+    rank_words i before (drop i ranks) ≡ rank_words (i + 1) (before + 1) (drop (i + 1) ranks)
+unfolding rank_words
+ranks_in ranks i before d inside is = ap (rank_words i before) (drop_more ranks i d inside ∙ ap (λ (b : Bool). b ∷ drop (i + 1) ranks) is)
+
+pub ranks_out : (ranks : List Bool) (i before : ℕ) (d : Bool) → i < length ranks → get_or ranks i d ≡ false →
+    rank_words i before (drop i ranks) ≡ range_words i before ++ rank_words (i + 1) 0 (drop (i + 1) ranks)
+unfolding rank_words
+ranks_out ranks i before d inside is = ap (rank_words i before) (drop_more ranks i d inside ∙ ap (λ (b : Bool). b ∷ drop (i + 1) ranks) is)
+
+-- the lines of a look, from a letter on
+skip : (apart : ℕ → Bool) (later : List Paragraph) (all : List Next) (i : ℕ) (branch : Next) → new_node (take i all) branch ≡ None →
+    lines_to apart later all i (branch ∷ drop (i + 1) all) ≡ lines_to apart later all (i + 1) (drop (i + 1) all)
+skip apart later all i End none = refl
+skip apart later all i (To node) none =
+    elim (cases_Bool (list_any (leads_to node) (take i all))) [
+      | inl e ↦ rw e refl
+      | inr e ↦ (let h : Some node ≡ None = (rw e at none) in absurd cc)
+    ]
+
+begin : (apart : ℕ → Bool) (later : List Paragraph) (all : List Next) (i node : ℕ) (branch : Next) → new_node (take i all) branch ≡ Some node →
+    lines_to apart later all i (branch ∷ drop (i + 1) all)
+    ≡ Line (map (leads_to node) all) (row_to apart later (To node)) (lines_to apart later all (i + 1) (drop (i + 1) all))
+begin apart later all i node End some = absurd cc
+begin apart later all i node (To other) some =
+    elim (cases_Bool (list_any (leads_to other) (take i all))) [
+      | inl e ↦ (let h : None ≡ Some node = (rw e at some) in absurd cc)
+      | inr e ↦
+          (let h : Some other ≡ Some node = (rw e at some) in
+          let same : other ≡ node = cc in
+          rw e (ap (λ (k : ℕ). Line (map (leads_to k) all) (row_to apart later (To k)) (lines_to apart later all (i + 1) (drop (i + 1) all))) same))
+    ]
+
+pub line_none : (apart : ℕ → Bool) (later : List Paragraph) (all : List Next) (i : ℕ) (d : Next) → i < length all →
+    new_node (take i all) (get_or all i d) ≡ None → lines_to apart later all i (drop i all) ≡ lines_to apart later all (i + 1) (drop (i + 1) all)
+line_none apart later all i d inside none = ap (lines_to apart later all i) (drop_more all i d inside) ∙ skip apart later all i (get_or all i d) none
+
+pub line_new : (apart : ℕ → Bool) (later : List Paragraph) (all : List Next) (i node : ℕ) (d : Next) → i < length all →
+    new_node (take i all) (get_or all i d) ≡ Some node →
+    lines_to apart later all i (drop i all)
+    ≡ Line (map (leads_to node) all) (row_to apart later (To node)) (lines_to apart later all (i + 1) (drop (i + 1) all))
+line_new apart later all i node d inside some =
+    ap (lines_to apart later all i) (drop_more all i d inside) ∙ begin apart later all i node (get_or all i d) some
+
+pub width_none : (all : List Next) (i : ℕ) (d : Next) → i < length all → new_node (take i all) (get_or all i d) ≡ None →
+    width_at all i ≡ width_at all (i + 1)
+unfolding width_at
+width_none all i d inside none = ap label_width (line_none (apart_in []) [] all i d inside none)
+
+pub width_new : (all : List Next) (i node : ℕ) (d : Next) → i < length all → new_node (take i all) (get_or all i d) ≡ Some node →
+    width_at all i ≡ max (length (label (map (leads_to node) all))) (width_at all (i + 1))
+unfolding width_at
+width_new all i node d inside some = ap label_width (line_new (apart_in []) [] all i node d inside some)
+
+letters_past : (ranks : List Bool) (i : ℕ) → length ranks ≤ i → drop i ranks ≡ []
+letters_past [] i past = drop-nil i
+letters_past (holds ∷ ranks) zero past = absurd (omega arith)
+letters_past (holds ∷ ranks) (suc i) past = letters_past ranks i (omega arith)
+
+pub ranks_end : (ranks : List Bool) (i before : ℕ) → i ≡ 13 → length ranks ≡ 13 → rank_words i before (drop i ranks) ≡ range_words 13 before
+unfolding rank_words
+ranks_end ranks i before here long =
+    ap (rank_words i before) (letters_past ranks i (omega arith)) ∙ ap (λ (k : ℕ). range_words k before) here
+
+pub branches_past : (all : List Next) (i : ℕ) → length all ≤ i → drop i all ≡ []
+branches_past [] i past = drop-nil i
+branches_past (branch ∷ all) zero past = absurd (omega arith)
+branches_past (branch ∷ all) (suc i) past = branches_past all i (omega arith)
+
+pub width_end : (all : List Next) (i : ℕ) → length all ≤ i → width_at all i ≡ 0
+unfolding width_at
+width_end all i past = ap (λ (branches : List Next). label_width (lines_to (apart_in []) [] all i branches)) (branches_past all i past)
+
+pub ruleset columns = (label_is, column_is)
+
+pub ruleset widths = (width_none, width_new)

@@ -1,0 +1,197 @@
+-- The rows of a sheet fit in few levels and few cards.
+use Rattle.std.proofs.Common.{◌≡◌, ℕ, zero, suc, ◌+◌, ◌<◌, ◌≤◌, Bool, false, List, [], ◌∷◌, length, map, filter, take, drop, slice_get}
+use Rattle.std.proofs.Common.{Some, refl, sym, ap, subst, ◌∙◌, arith, inl, inr}
+use Rattle.std.specs.List.{list_any, AllByRecursion}
+use Rattle.std.proofs.lemmas.Bool.{cases_Bool, cases_eq, ne_eqb, eq-eqb}
+use Rattle.std.proofs.lemmas.Option.{slice_get_within}
+use Rattle.crib_plan.specs.declared.plan.Next.{Next}
+use Rattle.crib_plan.specs.declared.plan.Next.TheVariants.{End, To}
+use Rattle.crib_plan.specs.declared.plan.Node.{Node}
+use Rattle.crib_plan.specs.declared.plan.Node.TheVariants.{Play, See}
+use Rattle.crib_plan.specs.Spelling.{leads_to}
+use Rattle.crib_sheet.specs.PlanSheet.{Row, Paragraph, Over, Named, row_named, row_to, lines_to, row_of, rows_from}
+use Rattle.crib_sheet.specs.PlanSheet.{sheet_with}
+use Rattle.crib_sheet.specs.PlanSheetSize.{level_count, levels_below, most_cards, most_cards_below, greatest, sheet_levels, sheet_cards}
+use Rattle.crib_sheet.specs.PlanOutline.{apart_in}
+use Rattle.crib_sheet.specs.Private.Spots.{levels_at, cards_at, is_apart_at, AreLow, HasSize, AreSized}
+use Rattle.crib_sheet.specs.declared.plan.spots.Spot.{Spot}
+
+-- a row has at most so many levels. It begins with at most so many cards, and has lines of at most five cards
+pub record IsSmall (levels cards : ℕ) (row : Row) : Type 0 where
+  pub depth : level_count row ≤ levels
+  pub width : (before : ℕ) → before + cards ≤ 5 → most_cards before row ≤ 5
+
+small_over : (levels cards : ℕ) → IsSmall levels cards Over
+small_over levels cards = record { depth = omega arith; width = λ before few. omega arith }
+
+small_named : (levels cards number : ℕ) → IsSmall levels cards (Named number)
+small_named levels cards number = record { depth = omega arith; width = λ before few. omega arith }
+
+module _ (apart : ℕ → Bool) (spots : List Spot) (low : AreLow spots) where
+  -- a paragraph whose node stands in place is as small as is known of it, and each is small
+  pub record Fits (paragraph : Paragraph) : Type 0 where
+    pub known : apart paragraph.number ≡ false → IsSmall (levels_at spots (To paragraph.number)) (cards_at spots (To paragraph.number)) paragraph.row
+    pub small : IsSmall 5 5 paragraph.row
+
+  named_fits : (later : List Paragraph) (number : ℕ) → AllByRecursion Fits later → apart number ≡ false →
+      IsSmall (levels_at spots (To number)) (cards_at spots (To number)) (row_named later number)
+  named_fits [] number all here = small_over (levels_at spots (To number)) (cards_at spots (To number))
+  named_fits (paragraph ∷ later) number all here =
+      elim (cases_eq paragraph.number number) [
+        | inl e ↦
+            (let there : apart paragraph.number ≡ false = ap apart e ∙ here in
+            rw (eq-eqb paragraph.number number e)
+            (subst (λ k. IsSmall (levels_at spots (To k)) (cards_at spots (To k)) paragraph.row) e (all.0.known there)))
+        | inr differs ↦ rw (ne_eqb paragraph.number number differs) (named_fits later number all.1 here)
+      ]
+
+  to_fits : (later : List Paragraph) (next : Next) → AllByRecursion Fits later →
+      IsSmall (levels_at spots next) (cards_at spots next) (row_to apart later next)
+  to_fits later End all = small_over 0 0
+  to_fits later (To number) all =
+      elim (cases_Bool (apart number)) [
+        | inl e ↦ rw e (small_named (levels_at spots (To number)) (cards_at spots (To number)) number)
+        | inr e ↦ rw e (named_fits later number all e)
+      ]
+
+  lines_deep : (later : List Paragraph) (levels : ℕ) (all : List Next) (from : ℕ) (branches : List Next) → AllByRecursion Fits later →
+      0 < levels → AllByRecursion (λ next. levels_at spots next < levels) branches →
+      levels_below (lines_to apart later all from branches) < levels
+  lines_deep later levels all from [] fit some each = omega arith
+  lines_deep later levels all from (End ∷ branches) fit some each = lines_deep later levels all (from + 1) branches fit some each.1
+  lines_deep later levels all from (To number ∷ branches) fit some each =
+      let rest = lines_deep later levels all (from + 1) branches fit some each.1 in
+      let here = (to_fits later (To number) fit).depth in
+      let below = each.0 in
+      elim (cases_Bool (list_any (leads_to number) (take from all))) [
+        | inl e ↦ rw e rest
+        | inr e ↦ rw e (omega (arith, rest, here, below))
+      ]
+
+  lines_wide : (later : List Paragraph) (all : List Next) (from : ℕ) (branches : List Next) → AllByRecursion Fits later →
+      most_cards_below (lines_to apart later all from branches) ≤ 5
+  lines_wide later all from [] fit = omega arith
+  lines_wide later all from (End ∷ branches) fit = lines_wide later all (from + 1) branches fit
+  lines_wide later all from (To number ∷ branches) fit =
+      let rest = lines_wide later all (from + 1) branches fit in
+      let few = low.cards (To number) in
+      let here = (to_fits later (To number) fit).width 0 (omega (arith, few)) in
+      elim (cases_Bool (list_any (leads_to number) (take from all))) [
+        | inl e ↦ rw e rest
+        | inr e ↦ rw e (omega (arith, rest, here))
+      ]
+
+  node_fits : (later : List Paragraph) (levels cards : ℕ) (node : Node) → AllByRecursion Fits later → HasSize spots levels cards node →
+      IsSmall levels cards (row_of apart later node)
+  node_fits later levels cards (Play card next) fit size =
+      let row = to_fits later next fit in
+      let flat = size.0 in
+      let short = size.1 in record {
+        depth = omega (arith, row.depth, flat);
+        width = λ before few. row.width (before + 1) (omega (arith, few, short));
+      }
+  node_fits later levels cards (See branches) fit size =
+      let deep = lines_deep later levels branches 0 branches fit size.0 size.1 in
+      let wide = lines_wide later branches 0 branches fit in record {
+        depth = omega (arith, deep);
+        width = λ before few. omega (arith, few, wide);
+      }
+
+  all_low : (branches : List Next) → AllByRecursion (λ next. levels_at spots next < 5) branches
+  all_low [] = tt
+  all_low (next ∷ branches) = (omega (arith, low.levels next), all_low branches)
+
+  each_small : (node : Node) → HasSize spots 5 5 node
+  each_small (Play card next) = (omega (arith, low.levels next), omega (arith, low.cards next))
+  each_small (See branches) = (omega arith, all_low branches)
+
+  rows_fit : (place : ℕ) (nodes : List Node) →
+      ((i : ℕ) (node : Node) → slice_get nodes i ≡ Some node → apart (place + i) ≡ false →
+      HasSize spots (levels_at spots (To (place + i))) (cards_at spots (To (place + i))) node) →
+      AllByRecursion Fits (rows_from apart place nodes)
+  rows_fit place [] sized = tt
+  rows_fit place (node ∷ nodes) sized =
+      let later = rows_fit (place + 1) nodes
+      (λ i other is.
+      subst (λ k. apart k ≡ false → HasSize spots (levels_at spots (To k)) (cards_at spots (To k)) other) (omega arith) (sized (suc i) other is)) in
+      let e : place + 0 ≡ place = omega arith in
+      let here = subst (λ k. apart k ≡ false → HasSize spots (levels_at spots (To k)) (cards_at spots (To k)) node) e (sized 0 node refl) in (
+        record {
+          known = λ inline. node_fits (rows_from apart (place + 1) nodes) (levels_at spots (To place)) (cards_at spots (To place)) node later (here inline);
+          small = node_fits (rows_from apart (place + 1) nodes) 5 5 node later (each_small node);
+        },
+        later,
+      )
+
+  kept_small : (rows : List Paragraph) → AllByRecursion Fits rows →
+      (greatest level_count (map (λ paragraph. paragraph.row) (filter (λ paragraph. apart paragraph.number) rows)) ≤ 5)
+      × (greatest (most_cards 0) (map (λ paragraph. paragraph.row) (filter (λ paragraph. apart paragraph.number) rows)) ≤ 5)
+  kept_small [] all = (omega arith, omega arith)
+  kept_small (paragraph ∷ rows) all =
+      let rest = kept_small rows all.1 in
+      let deep = rest.0 in
+      let wide = rest.1 in
+      let depth = all.0.small.depth in
+      let width = all.0.small.width 0 (omega arith) in
+      elim (cases_Bool (apart paragraph.number)) [
+        | inl e ↦ rw e ((omega (arith, deep, depth), omega (arith, wide, width)))
+        | inr e ↦ rw e ((deep, wide))
+      ]
+
+-- the rows behind node 0 fit, and so the sheet does
+rest_fits : (apart : ℕ → Bool) (spots : List Spot) (low : AreLow spots) (plan : List Node) →
+    ((i : ℕ) (node : Node) → 1 ≤ i → slice_get plan i ≡ Some node → apart i ≡ false → HasSize spots (levels_at spots (To i)) (cards_at spots (To i)) node) →
+    AllByRecursion (Fits apart spots low) (rows_from apart 1 (drop 1 plan))
+rest_fits apart spots low [] sized = tt
+rest_fits apart spots low (node ∷ nodes) sized =
+    rows_fit apart spots low 1 nodes
+    (λ i other is.
+    subst (λ k. apart k ≡ false → HasSize spots (levels_at spots (To k)) (cards_at spots (To k)) other) (omega arith)
+    (sized (suc i) other (omega arith) is))
+
+pub sheet_fits : (apart : ℕ → Bool) (spots : List Spot) (plan : List Node) → AreLow spots →
+    ((i : ℕ) (node : Node) → 1 ≤ i → slice_get plan i ≡ Some node → apart i ≡ false → HasSize spots (levels_at spots (To i)) (cards_at spots (To i)) node) →
+    (sheet_levels (sheet_with apart plan) ≤ 5) × (sheet_cards (sheet_with apart plan) ≤ 5)
+unfolding sheet_with
+sheet_fits apart spots [] low sized = (omega arith, omega arith)
+sheet_fits apart spots (node ∷ nodes) low sized =
+    let later = rest_fits apart spots low (node ∷ nodes) sized in
+    let rest = kept_small apart spots low (rows_from apart 1 nodes) later in
+    let deep = rest.0 in
+    let wide = rest.1 in
+    let first = node_fits apart spots low (rows_from apart 1 nodes) 5 5 node later (each_small apart spots low node) in
+    let depth = first.depth in
+    let width = first.width 0 (omega arith) in
+    elim (cases_Bool (apart 0)) [
+      | inl e ↦ rw e ((omega (arith, deep, depth), omega (arith, wide, width)))
+      | inr e ↦ rw e ((omega (arith, deep, depth), omega (arith, wide, width)))
+    ]
+
+pub apart_same : (spots : List Spot) (i : ℕ) → i < length spots → apart_in (map (λ spot. spot.is_apart) spots) i ≡ is_apart_at spots i
+apart_same [] i within = absurd (omega arith)
+apart_same (spot ∷ spots) zero within = refl
+apart_same (spot ∷ spots) (suc i) within = apart_same spots i (omega arith)
+
+-- a node without a paragraph has the size that is known of it
+sized_apart : (spots : List Spot) (plan : List Node) → length spots ≡ length plan → AreSized 1 plan spots → (i : ℕ) (node : Node) → 1 ≤ i →
+    slice_get plan i ≡ Some node → apart_in (map (λ spot. spot.is_apart) spots) i ≡ false → HasSize spots (levels_at spots (To i)) (cards_at spots (To i)) node
+sized_apart spots plan long are i node above found inline =
+    are.sized i node above found (sym (apart_same spots i (omega (arith, slice_get_within plan i node found))) ∙ inline)
+
+pub rows_behind : (spots : List Spot) (plan : List Node) → length spots ≡ length plan → (low : AreLow spots) → AreSized 1 plan spots →
+    AllByRecursion (Fits (apart_in (map (λ spot. spot.is_apart) spots)) spots low)
+    (rows_from (apart_in (map (λ spot. spot.is_apart) spots)) 1 (drop 1 plan))
+rows_behind spots plan long low are = rest_fits (apart_in (map (λ spot. spot.is_apart) spots)) spots low plan (sized_apart spots plan long are)
+
+pub outline_fits : (spots : List Spot) (plan : List Node) → length spots ≡ length plan → AreLow spots → AreSized 1 plan spots →
+    (sheet_levels (sheet_with (apart_in (map (λ spot. spot.is_apart) spots)) plan) ≤ 5)
+    × (sheet_cards (sheet_with (apart_in (map (λ spot. spot.is_apart) spots)) plan) ≤ 5)
+outline_fits spots plan long low are =
+    sheet_fits (apart_in (map (λ spot. spot.is_apart) spots)) spots plan low (sized_apart spots plan long are)
+
+pub cards_fit : (flags : List Bool) (spots seen : List Spot) (plan nodes : List Node) → flags ≡ map (λ spot. spot.is_apart) seen → seen ≡ spots →
+    nodes ≡ plan → length spots ≡ length nodes → AreLow spots → AreSized 1 nodes spots → sheet_cards (sheet_with (apart_in flags) plan) ≤ 5
+cards_fit flags spots seen plan nodes is same known long low are =
+    let equal : map (λ spot. spot.is_apart) spots ≡ flags = ap (map (λ (s : Spot). s.is_apart)) (sym same) ∙ sym is in
+    subst (λ p. sheet_cards (sheet_with (apart_in flags) p) ≤ 5) known
+    (subst (λ fs. sheet_cards (sheet_with (apart_in fs) nodes) ≤ 5) equal (outline_fits spots nodes long low are).1)

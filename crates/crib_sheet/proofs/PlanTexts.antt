@@ -1,0 +1,284 @@
+-- A sheet can be read back from its text: two different sheets have different texts.
+use Rattle.std.proofs.Common.{◌≡◌, ℕ, zero, suc, ◌+◌, ◌-◌, ◌*◌, ◌<◌, Bool, true, false, not, eqb, List, [], ◌∷◌, ◌++◌, length, get_or, replicate, codes}
+use Rattle.std.proofs.Common.{decimal, flat_map, refl, sym, ap, ◌∙◌, arith, append_assoc}
+use Rattle.std.specs.List.{list_any, list_all, AllByRecursion}
+use Rattle.std.proofs.lemmas.Bool.{agree_below, agree_below_at, and_parts, and_from, true≢false, ne_eqb, eq-eqb}
+use Rattle.std.proofs.lemmas.List.{append_cancel_left, replicate_more}
+use Rattle.std.proofs.lemmas.Fmt.{decimal_injective}
+use Rattle.crib_cards.specs.Cards.{IsCard, rank_of}
+use Rattle.crib_cards.specs.CardText.{card_text, rank_letter}
+use Rattle.crib_cards.proofs.CardTextLemmas.{card_text-injective}
+use Rattle.crib_text.specs.Spelling.{space}
+use Rattle.crib_plan.proofs.WordLemmas.{IsDigit, decimal_digits}
+use Rattle.crib_sheet.specs.PlanSheet.{Row, Lines, Paragraph, Sheet, Over, Plays, Looks, Named, NoLine, Line}
+use Rattle.crib_sheet.specs.PlanText.{label, label_width, indent, before_rest, row_text, lines_text, paragraph_text, sheet_text}
+use Rattle.crib_sheet.specs.PlanTextLaws.{IsRow, AreLines, IsParagraph, TextsHaveOneSheet}
+use Rattle.crib_sheet.proofs.PlanLabels.{is_label_byte, blanks, same_labels, label_bytes, label_first}
+
+-- ---- cutting a text at a byte
+
+abbrev other_than : ℕ → ℕ → Bool
+other_than byte other = not (eqb other byte)
+
+cut_at : (byte : ℕ) (front front' rest rest' : List ℕ) → list_all (other_than byte) front ≡ true → list_all (other_than byte) front' ≡ true →
+    front ++ byte ∷ rest ≡ front' ++ byte ∷ rest' → (front ≡ front') × (rest ≡ rest')
+cut_at byte [] [] rest rest' none none' same = (refl, cc)
+cut_at byte [] (first' ∷ front') rest rest' none none' same =
+    let e : first' ≡ byte = cc in
+    absurd (true≢false (sym (and_parts (other_than byte first') (list_all (other_than byte) front') none').0 ∙ ap not (eq-eqb first' byte e)))
+cut_at byte (first ∷ front) [] rest rest' none none' same =
+    let e : first ≡ byte = cc in
+    absurd (true≢false (sym (and_parts (other_than byte first) (list_all (other_than byte) front) none).0 ∙ ap not (eq-eqb first byte e)))
+cut_at byte (first ∷ front) (first' ∷ front') rest rest' none none' same =
+    let e : first ≡ first' = cc in
+    let others : front ++ byte ∷ rest ≡ front' ++ byte ∷ rest' = cc in
+    let cut = cut_at byte front front' rest rest' (and_parts (other_than byte first) (list_all (other_than byte) front) none).1
+    (and_parts (other_than byte first') (list_all (other_than byte) front') none').1 others in
+    (let f : front ≡ front' = cut.0 in cc, cut.1)
+
+-- ---- numbers
+
+digits_no_bracket : (digits : List ℕ) → AllByRecursion IsDigit digits → list_all (other_than 93) digits ≡ true
+digits_no_bracket [] all = refl
+digits_no_bracket (digit ∷ digits) all =
+    let h = all.0.1 in
+    let f : eqb digit 93 ≡ false = ne_eqb digit 93 (λ is. omega arith) in
+    rw (f, digits_no_bracket digits all.1) refl
+
+-- a number and its closing bracket
+same_numbers : (number number' : ℕ) (rest rest' : List ℕ) → number < 65535 → number' < 65535 →
+    decimal number ++ 93 ∷ rest ≡ decimal number' ++ 93 ∷ rest' → (number ≡ number') × (rest ≡ rest')
+same_numbers number number' rest rest' small small' same =
+    let cut = cut_at 93 (decimal number) (decimal number') rest rest' (digits_no_bracket (decimal number) (decimal_digits number (omega arith)))
+    (digits_no_bracket (decimal number') (decimal_digits number' (omega arith))) same in
+    (decimal_injective number number' (omega arith) (omega arith) cut.0, cut.1)
+
+-- ---- cards
+
+same_cards : (card card' : ℕ) (rest rest' : List ℕ) → IsCard card → IsCard card' → card_text card ++ rest ≡ card_text card' ++ rest' →
+    (card ≡ card') × (rest ≡ rest')
+same_cards card card' rest rest' is is' same =
+    (card_text-injective card card' is is' cc, cc)
+
+-- ---- blanks
+
+blanks_more : (count : ℕ) (rest : List ℕ) → blanks (replicate count space ++ rest) ≡ count + blanks rest
+blanks_more zero rest = omega arith
+blanks_more (suc count) rest = omega (arith, blanks_more count rest)
+
+-- ---- what begins a text
+
+-- no card begins with a byte that is the letter of no rank
+no_card : (byte card : ℕ) → agree_below (λ c. eqb (rank_letter (rank_of c)) byte) (λ _. false) 52 ≡ true → IsCard card →
+    rank_letter (rank_of card) ≡ byte → ⊥
+no_card byte card none is same =
+    true≢false (sym (eq-eqb (rank_letter (rank_of card)) byte same)
+    ∙ agree_below_at (λ c. eqb (rank_letter (rank_of c)) byte) (λ _. false) 52 card none is)
+
+-- the bytes with which two texts begin
+first_byte : (byte byte' : ℕ) (rest rest' : List ℕ) → byte ∷ rest ≡ byte' ∷ rest' → byte ≡ byte'
+first_byte byte byte' rest rest' same = ap (λ bytes. get_or bytes 0 0) same
+
+clash : (byte byte' : ℕ) (rest rest' : List ℕ) → (byte ≡ byte' → ⊥) → byte ∷ rest ≡ byte' ∷ rest' → ⊥
+clash byte byte' rest rest' differ same = differ (first_byte byte byte' rest rest' same)
+
+look_or_see : (rest rest' : List ℕ) → codes ", then " ++ 108 ∷ rest ≡ codes ", then " ++ 115 ∷ rest' → ⊥
+look_or_see rest rest' same = let e : ◌≡◌ {A = ℕ} 108 115 = ap (λ bytes. get_or bytes 7 0) same in absurd (omega arith)
+
+-- what stands after a card tells what comes
+after_card : (level : ℕ) (row row' : Row) (rest rest' : List ℕ) →
+    (before_rest row ++ row_text level row) ++ rest ≡ (before_rest row' ++ row_text level row') ++ rest' →
+    row_text level row ++ rest ≡ row_text level row' ++ rest'
+after_card level Over Over rest rest' same =
+    same
+after_card level Over (Plays card' row') rest rest' same =
+    absurd (clash 10 32 _ _ (λ e. omega arith) same)
+after_card level Over (Looks lines') rest rest' same =
+    absurd (clash 10 44 _ _ (λ e. omega arith) same)
+after_card level Over (Named number') rest rest' same =
+    absurd (clash 10 44 _ _ (λ e. omega arith) same)
+after_card level (Plays card row) Over rest rest' same =
+    absurd (clash 32 10 _ _ (λ e. omega arith) same)
+after_card level (Plays card row) (Plays card' row') rest rest' same =
+    append_cancel_left (32 ∷ []) (row_text level (Plays card row) ++ rest) (row_text level (Plays card' row') ++ rest') same
+after_card level (Plays card row) (Looks lines') rest rest' same =
+    absurd (clash 32 44 _ _ (λ e. omega arith) same)
+after_card level (Plays card row) (Named number') rest rest' same =
+    absurd (clash 32 44 _ _ (λ e. omega arith) same)
+after_card level (Looks lines) Over rest rest' same =
+    absurd (clash 44 10 _ _ (λ e. omega arith) same)
+after_card level (Looks lines) (Plays card' row') rest rest' same =
+    absurd (clash 44 32 _ _ (λ e. omega arith) same)
+after_card level (Looks lines) (Looks lines') rest rest' same =
+    append_cancel_left (codes ", then ") (row_text level (Looks lines) ++ rest) (row_text level (Looks lines') ++ rest') same
+after_card level (Looks lines) (Named number') rest rest' same =
+    absurd (look_or_see _ _ same)
+after_card level (Named number) Over rest rest' same =
+    absurd (clash 44 10 _ _ (λ e. omega arith) same)
+after_card level (Named number) (Plays card' row') rest rest' same =
+    absurd (clash 44 32 _ _ (λ e. omega arith) same)
+after_card level (Named number) (Looks lines') rest rest' same =
+    absurd (look_or_see _ _ (sym same))
+after_card level (Named number) (Named number') rest rest' same =
+    append_cancel_left (codes ", then ") (row_text level (Named number) ++ rest) (row_text level (Named number') ++ rest') same
+
+-- ---- a line
+
+regroup : (indented name more row others rest : List ℕ) →
+    ((((indented ++ (name ++ more)) ++ 32 ∷ 58 ∷ 32 ∷ []) ++ row) ++ others) ++ rest
+    ≡ indented ++ ((name ++ (more ++ 32 ∷ [])) ++ 58 ∷ 32 ∷ (row ++ (others ++ rest)))
+regroup indented name more row others rest = simp append_assoc
+
+-- a line, cut before its label and at its colon
+abbrev blanks_after : ℕ → List Bool → ℕ
+blanks_after width set = width - length (label set) + 1
+
+line_is : (level width : ℕ) (set : List Bool) (row : Row) (others : Lines) (rest : List ℕ) →
+    lines_text level width (Line set row others) ++ rest
+    ≡ indent level ++ ((label set ++ replicate (blanks_after width set) space) ++ 58 ∷ 32 ∷ (row_text level row ++ (lines_text level width others ++ rest)))
+line_is level width set row others rest =
+    regroup (indent level) (label set) (replicate (width - length (label set)) space) (row_text level row) (lines_text level width others) rest
+    ∙ ap (λ (more : List ℕ). indent level ++ ((label set ++ more) ++ 58 ∷ 32 ∷ (row_text level row ++ (lines_text level width others ++ rest))))
+    (replicate_more (width - length (label set)) space)
+
+no_colon : (bytes : List ℕ) → list_all is_label_byte bytes ≡ true → list_all (other_than 58) bytes ≡ true
+no_colon [] all = refl
+no_colon (byte ∷ bytes) all =
+    let parts = and_parts (is_label_byte byte) (list_all is_label_byte bytes) all in
+    and_from _ _ (and_parts (other_than 58 byte) (other_than 10 byte) parts.0).0 (no_colon bytes parts.1)
+
+front_no_colon : (width : ℕ) (set : List Bool) → list_all (other_than 58) (label set ++ replicate (blanks_after width set) space) ≡ true
+front_no_colon width set = no_colon (label set ++ replicate (blanks_after width set) space) (label_bytes set (blanks_after width set))
+
+-- a line begins with four blanks for each level
+blanks_line : (level width : ℕ) (set : List Bool) (row : Row) (others : Lines) (rest : List ℕ) → length set ≡ 14 → list_any (λ flag. flag) set ≡ true →
+    blanks (lines_text level width (Line set row others) ++ rest) ≡ 4 * level
+blanks_line level width set row others rest long some =
+    let end : List ℕ = 58 ∷ 32 ∷ (row_text level row ++ (lines_text level width others ++ rest)) in
+    ap blanks (line_is level width set row others rest)
+    ∙ blanks_more (4 * level) ((label set ++ replicate (blanks_after width set) space) ++ end)
+    ∙ ap (λ k. 4 * level + k) (ap blanks (append_assoc (label set) (replicate (blanks_after width set) space) end)
+    ∙ label_first set (replicate (blanks_after width set) space ++ end) long some)
+    ∙ (omega arith)
+
+blanks_lines : (level width : ℕ) (lines : Lines) (rest : List ℕ) → AreLines lines → blanks rest < 4 * level →
+    blanks (lines_text level width lines ++ rest) < 4 * (level + 1)
+blanks_lines level width NoLine rest are less = omega arith
+blanks_lines level width (Line set row others) rest are less = omega (arith, blanks_line level width set row others rest are.0 are.1)
+
+-- ---- rows and lines
+
+mutual
+  same_rows : (row : Row) (level : ℕ) (row' : Row) (rest rest' : List ℕ) → IsRow row → IsRow row' →
+      blanks rest < 4 * (level + 1) → blanks rest' < 4 * (level + 1) → row_text level row ++ rest ≡ row_text level row' ++ rest' →
+      (row ≡ row') × (rest ≡ rest')
+  same_rows Over level Over rest rest' is is' few few' same = (refl, append_cancel_left (10 ∷ []) rest rest' same)
+  same_rows Over level (Plays card' row') rest rest' is is' few few' same = absurd (no_card 10 card' refl is'.0 (sym (first_byte 10 _ _ _ same)))
+  same_rows Over level (Looks lines') rest rest' is is' few few' same = absurd (clash 10 108 _ _ (λ e. omega arith) same)
+  same_rows Over level (Named number') rest rest' is is' few few' same = absurd (clash 10 115 _ _ (λ e. omega arith) same)
+  same_rows (Plays card row) level Over rest rest' is is' few few' same = absurd (no_card 10 card refl is.0 (first_byte _ 10 _ _ same))
+  same_rows (Plays card row) level (Plays card' row') rest rest' is is' few few' same =
+      let cut = same_cards card card' ((before_rest row ++ row_text level row) ++ rest) ((before_rest row' ++ row_text level row') ++ rest') is.0 is'.0 same in
+      let after = same_rows row level row' rest rest' is.1 is'.1 few few' (after_card level row row' rest rest' cut.1) in
+      (let e : card ≡ card' = cut.0 in let f : row ≡ row' = after.0 in cc, after.1)
+  same_rows (Plays card row) level (Looks lines') rest rest' is is' few few' same = absurd (no_card 108 card refl is.0 (first_byte _ 108 _ _ same))
+  same_rows (Plays card row) level (Named number') rest rest' is is' few few' same = absurd (no_card 115 card refl is.0 (first_byte _ 115 _ _ same))
+  same_rows (Looks lines) level Over rest rest' is is' few few' same = absurd (clash 108 10 _ _ (λ e. omega arith) same)
+  same_rows (Looks lines) level (Plays card' row') rest rest' is is' few few' same = absurd (no_card 108 card' refl is'.0 (sym (first_byte 108 _ _ _ same)))
+  same_rows (Looks lines) level (Looks lines') rest rest' is is' few few' same =
+      let below = same_lines lines (level + 1) (label_width lines) (label_width lines') lines' rest rest' is is' few few'
+      (append_cancel_left (codes "look:\n") (lines_text (level + 1) (label_width lines) lines ++ rest)
+      (lines_text (level + 1) (label_width lines') lines' ++ rest') same) in
+      (ap Looks below.0, below.1)
+  same_rows (Looks lines) level (Named number') rest rest' is is' few few' same = absurd (clash 108 115 _ _ (λ e. omega arith) same)
+  same_rows (Named number) level Over rest rest' is is' few few' same = absurd (clash 115 10 _ _ (λ e. omega arith) same)
+  same_rows (Named number) level (Plays card' row') rest rest' is is' few few' same = absurd (no_card 115 card' refl is'.0 (sym (first_byte 115 _ _ _ same)))
+  same_rows (Named number) level (Looks lines') rest rest' is is' few few' same = absurd (clash 115 108 _ _ (λ e. omega arith) same)
+  same_rows (Named number) level (Named number') rest rest' is is' few few' same =
+      let numbered = append_cancel_left (codes "see [") ((decimal number ++ codes "]\n") ++ rest) ((decimal number' ++ codes "]\n") ++ rest') same in
+      let cut = same_numbers number number' (10 ∷ rest) (10 ∷ rest') is is'
+      (sym (append_assoc (decimal number) (codes "]\n") rest) ∙ numbered ∙ append_assoc (decimal number') (codes "]\n") rest') in
+      (ap Named cut.0, append_cancel_left (10 ∷ []) rest rest' cut.1)
+
+  same_lines : (lines : Lines) (level width width' : ℕ) (lines' : Lines) (rest rest' : List ℕ) → AreLines lines → AreLines lines' →
+      blanks rest < 4 * level → blanks rest' < 4 * level → lines_text level width lines ++ rest ≡ lines_text level width' lines' ++ rest' →
+      (lines ≡ lines') × (rest ≡ rest')
+  same_lines NoLine level width width' NoLine rest rest' are are' few few' same = (refl, same)
+  same_lines NoLine level width width' (Line set' row' others') rest rest' are are' few few' same =
+      absurd (omega (arith, ap blanks same, blanks_line level width' set' row' others' rest' are'.0 are'.1))
+  same_lines (Line set row others) level width width' NoLine rest rest' are are' few few' same =
+      absurd (omega (arith, ap blanks same, blanks_line level width set row others rest are.0 are.1))
+  same_lines (Line set row others) level width width' (Line set' row' others') rest rest' are are' few few' same =
+      let end : List ℕ = lines_text level width others ++ rest in
+      let end' : List ℕ = lines_text level width' others' ++ rest' in
+      let front : List ℕ = label set ++ replicate (blanks_after width set) space in
+      let front' : List ℕ = label set' ++ replicate (blanks_after width' set') space in
+      let lined = append_cancel_left (indent level) (front ++ 58 ∷ 32 ∷ (row_text level row ++ end)) (front' ++ 58 ∷ 32 ∷ (row_text level row' ++ end'))
+      (sym (line_is level width set row others rest) ∙ same ∙ line_is level width' set' row' others' rest') in
+      let cut = cut_at 58 front front' (32 ∷ (row_text level row ++ end)) (32 ∷ (row_text level row' ++ end'))
+      (front_no_colon width set) (front_no_colon width' set') lined in
+      let colon : 32 ∷ (row_text level row ++ end) ≡ 32 ∷ (row_text level row' ++ end') = cut.1 in
+      let e : set ≡ set' = same_labels set set' (blanks_after width set) (blanks_after width' set') are.0 are'.0 cut.0 in
+      let here = same_rows row level row' end end' are.2 are'.2
+      (blanks_lines level width others rest are.3 few) (blanks_lines level width' others' rest' are'.3 few') cc in
+      let after = same_lines others level width width' others' rest rest' are.3 are'.3 few few' here.1 in
+      (let f : row ≡ row' = here.0 in let g : others ≡ others' = after.0 in cc, after.1)
+
+-- ---- sheets
+
+paragraph_regroup : (numbered row more : List ℕ) → ((10 ∷ 91 ∷ (numbered ++ 93 ∷ 32 ∷ [])) ++ row) ++ more ≡ 10 ∷ 91 ∷ (numbered ++ 93 ∷ 32 ∷ (row ++ more))
+paragraph_regroup numbered row more = simp append_assoc
+
+pub paragraph_is : (paragraph : Paragraph) (more : List ℕ) →
+    paragraph_text paragraph ++ more ≡ 10 ∷ 91 ∷ (decimal paragraph.number ++ 93 ∷ 32 ∷ (row_text 0 paragraph.row ++ more))
+unfolding paragraph_text
+paragraph_is paragraph more = paragraph_regroup (decimal paragraph.number) (row_text 0 paragraph.row) more
+
+-- no paragraph goes on with a line of the row before it
+blanks_paragraphs : (paragraphs : List Paragraph) → blanks (flat_map paragraph_text paragraphs) < 4
+blanks_paragraphs [] = omega arith
+blanks_paragraphs (paragraph ∷ paragraphs) =
+    omega (arith, ap blanks (paragraph_is paragraph (flat_map paragraph_text paragraphs)))
+
+paragraph_of : ℕ → Row → Paragraph
+paragraph_of number row = record { number = number; row = row }
+
+same_paragraph : (paragraph paragraph' : Paragraph) → paragraph.number ≡ paragraph'.number → paragraph.row ≡ paragraph'.row → paragraph ≡ paragraph'
+unfolding paragraph_of
+same_paragraph paragraph paragraph' number row =
+    ap (λ n. paragraph_of n paragraph.row) number ∙ ap (paragraph_of paragraph'.number) row
+
+sheet_of : Row → List Paragraph → Sheet
+sheet_of first paragraphs = record { first = first; paragraphs = paragraphs }
+
+same_sheet : (sheet sheet' : Sheet) → sheet.first ≡ sheet'.first → sheet.paragraphs ≡ sheet'.paragraphs → sheet ≡ sheet'
+unfolding sheet_of
+same_sheet sheet sheet' first others = ap (λ row. sheet_of row sheet.paragraphs) first ∙ ap (sheet_of sheet'.first) others
+
+same_paragraphs : (paragraphs paragraphs' : List Paragraph) → AllByRecursion IsParagraph paragraphs → AllByRecursion IsParagraph paragraphs' →
+    flat_map paragraph_text paragraphs ≡ flat_map paragraph_text paragraphs' → paragraphs ≡ paragraphs'
+same_paragraphs [] [] are are' same = refl
+same_paragraphs [] (paragraph' ∷ paragraphs') are are' same =
+    let e : 0 ≡ suc _ = ap length (same ∙ paragraph_is paragraph' (flat_map paragraph_text paragraphs')) in absurd (omega arith)
+same_paragraphs (paragraph ∷ paragraphs) [] are are' same =
+    let e : 0 ≡ suc _ = ap length (sym same ∙ paragraph_is paragraph (flat_map paragraph_text paragraphs)) in absurd (omega arith)
+same_paragraphs (paragraph ∷ paragraphs) (paragraph' ∷ paragraphs') are are' same =
+    let more : List ℕ = flat_map paragraph_text paragraphs in
+    let more' : List ℕ = flat_map paragraph_text paragraphs' in
+    let numbered = append_cancel_left (10 ∷ 91 ∷ [])
+    (decimal paragraph.number ++ 93 ∷ 32 ∷ (row_text 0 paragraph.row ++ more)) (decimal paragraph'.number ++ 93 ∷ 32 ∷ (row_text 0 paragraph'.row ++ more'))
+    (sym (paragraph_is paragraph more) ∙ same ∙ paragraph_is paragraph' more') in
+    let cut = same_numbers paragraph.number paragraph'.number (32 ∷ (row_text 0 paragraph.row ++ more)) (32 ∷ (row_text 0 paragraph'.row ++ more'))
+    are.0.0 are'.0.0 numbered in
+    let rows = same_rows paragraph.row 0 paragraph'.row more more' are.0.1 are'.0.1 (blanks_paragraphs paragraphs) (blanks_paragraphs paragraphs')
+    (append_cancel_left (32 ∷ []) (row_text 0 paragraph.row ++ more) (row_text 0 paragraph'.row ++ more') cut.1) in
+    let same_one : paragraph ≡ paragraph' = same_paragraph paragraph paragraph' cut.0 rows.0 in
+    let others : paragraphs ≡ paragraphs' = same_paragraphs paragraphs paragraphs' are.1 are'.1 rows.1 in
+    cc (same_one, others)
+
+pub one_text : TextsHaveOneSheet
+unfolding sheet_text
+one_text sheet sheet' is is' same =
+    let rows = same_rows sheet.first 0 sheet'.first (flat_map paragraph_text sheet.paragraphs) (flat_map paragraph_text sheet'.paragraphs) is.0 is'.0
+    (blanks_paragraphs sheet.paragraphs) (blanks_paragraphs sheet'.paragraphs) same in
+    same_sheet sheet sheet' rows.0 (same_paragraphs sheet.paragraphs sheet'.paragraphs is.1 is'.1 rows.1)

@@ -1,0 +1,186 @@
+-- The rows and lines of a sheet, put on a device.
+use Rattle.std.proofs.Common.{◌≡◌, ℕ, zero, suc, ◌+◌, ◌-◌, max, ◌<◌, ◌≤◌, ◌∙◌, Bool, true, false, List, [], ◌∷◌, ◌++◌, Option, Some, None, length, map, filter}
+use Rattle.std.proofs.Common.{drop, take, get_or, codes, decimal, inl, inr, refl, ap, sym, subst, append_assoc, arith}
+use Rattle.std.specs.List.{AllByRecursion, flat_map, list_any}
+use Rattle.std.proofs.lemmas.Bool.{cases_Bool}
+use Rattle.std.proofs.Math.Seq.{drop-nil}
+use Rattle.std.proofs.lemmas.List.{append-nil}
+use Rattle.crib_cards.specs.CardText.{card_text}
+use Rattle.crib_plan.specs.declared.plan.Next.{Next}
+use Rattle.crib_plan.specs.declared.plan.Next.TheVariants.{End, To}
+use Rattle.crib_plan.specs.declared.plan.Node.{Node}
+use Rattle.crib_plan.specs.declared.plan.Node.TheVariants.{Play, See}
+use Rattle.crib_plan.specs.Nodes.{IsLater, IsNode, ArePlan}
+use Rattle.crib_plan.specs.Spelling.{leads_to}
+use Rattle.crib_sheet.specs.PlanSheet.{Row, Lines, Paragraph, Named, NoLine, Looks, lines_to, rows_from}
+use Rattle.crib_sheet.specs.PlanOutline.{apart_in}
+use Rattle.crib_sheet.specs.PlanText.{row_text, lines_text, before_rest, indent, label, label_column, label_width, paragraph_text}
+use Rattle.crib_sheet.specs.PlanPage.{none_needed}
+use Rattle.crib_sheet.specs.Private.Pages.{first_text, IsDeep, place_row, node_row, lines_at, line_front, width_at, new_node, numbered_text, paragraphs_text}
+use Rattle.crib_sheet.proofs.Labels.{branches_past}
+use Rattle.crib_sheet.proofs.PlanRows.{place_end, place_apart, place_node, node_play, node_see, node_at, no_line, new_line, lines_end_at, room}
+
+-- ---- places
+
+pub row_of_end : (flags : List Bool) (plan : List Node) (level : ℕ) (place : Next) → place ≡ End →
+    codes "\n" ≡ row_text level (place_row flags plan place)
+row_of_end flags plan level place is = ap (row_text level) (sym (ap (place_row flags plan) is ∙ place_end flags plan))
+
+pub row_of_name : (flags : List Bool) (plan : List Node) (level node : ℕ) (place : Next) → place ≡ To node → apart_in flags node ≡ true →
+    row_text 0 (Named node) ≡ row_text level (place_row flags plan place)
+row_of_name flags plan level node place is apart =
+    ap (row_text level) (sym (ap (place_row flags plan) is ∙ place_apart flags plan node apart))
+
+pub row_of_node : (flags : List Bool) (plan : List Node) (level node : ℕ) (place : Next) → place ≡ To node → apart_in flags node ≡ false →
+    row_text level (node_row flags plan node) ≡ row_text level (place_row flags plan place)
+row_of_node flags plan level node place is apart =
+    ap (row_text level) (sym (ap (place_row flags plan) is ∙ place_node flags plan node apart))
+
+-- ---- nodes
+
+pub row_of_play : (flags : List Bool) (plan : List Node) (level i card : ℕ) (next : Next) (d : Node) → ArePlan plan → i < length plan →
+    get_or plan i d ≡ Play card next →
+    card_text card ++ before_rest (place_row flags plan next) ++ row_text level (place_row flags plan next) ≡ row_text level (node_row flags plan i)
+row_of_play flags plan level i card next d are inside is = ap (row_text level) (sym (node_play flags plan i card next d are inside is))
+
+any_width : (apart : ℕ → Bool) (later : List Paragraph) (all : List Next) (from : ℕ) (branches : List Next) →
+    label_width (lines_to apart later all from branches) ≡ label_width (lines_to (apart_in []) [] all from branches)
+any_width apart later all from [] = refl
+any_width apart later all from (End ∷ branches) = any_width apart later all (from + 1) branches
+any_width apart later all from (To node ∷ branches) =
+    let rest = any_width apart later all (from + 1) branches in
+    elim (cases_Bool (list_any (leads_to node) (take from all))) [
+      | inl e ↦ rw e rest
+      | inr e ↦ rw e (ap (max (length (label (map (leads_to node) all)))) rest)
+    ]
+
+width_same : (flags : List Bool) (plan : List Node) (branches : List Next) → label_width (lines_at flags plan branches 0) ≡ width_at branches 0
+unfolding lines_at width_at
+width_same flags plan branches = any_width (apart_in flags) (rows_from (apart_in flags) 0 plan) branches 0 branches
+
+pub row_of_look : (flags : List Bool) (plan : List Node) (level i : ℕ) (branches : List Next) (d : Node) → ArePlan plan → i < length plan →
+    get_or plan i d ≡ See branches →
+    codes "look:\n" ++ lines_text (level + 1) (width_at branches 0) (lines_at flags plan branches 0) ≡ row_text level (node_row flags plan i)
+row_of_look flags plan level i branches d are inside is =
+    ap (λ (width : ℕ). codes "look:\n" ++ lines_text (level + 1) width (lines_at flags plan branches 0)) (sym (width_same flags plan branches))
+    ∙ ap (row_text level) (sym (node_see flags plan i branches d are inside is))
+
+-- what a walk may ask of the nodes that a node leads to
+pub deep_later : (level place count : ℕ) (next : Next) → level ≤ place + 1 → IsLater place count next → IsDeep level count next
+deep_later level place count End deep later = tt
+deep_later level place count (To node) deep later = let above = later.0 in (omega arith, later.1)
+
+pub room_later : (place count : ℕ) (next : Next) → place < count → IsLater place count next → room count next + 1 ≤ count - place
+room_later place count End inside later = omega arith
+room_later place count (To node) inside later = let above = later.0 in let below = later.1 in omega arith
+
+pub later_play : (plan : List Node) (i card : ℕ) (next : Next) (d : Node) → ArePlan plan → i < length plan → get_or plan i d ≡ Play card next →
+    IsLater i (length plan) next
+later_play plan i card next d are inside is =
+    let fits : IsNode i (length plan) (Play card next) = subst (IsNode i (length plan)) is (node_at plan i d are inside) in fits.1
+
+pub later_see : (plan : List Node) (i : ℕ) (branches : List Next) (d : Node) → ArePlan plan → i < length plan → get_or plan i d ≡ See branches →
+    (length branches ≡ 14) × AllByRecursion (IsLater i (length plan)) branches
+later_see plan i branches d are inside is =
+    let fits : IsNode i (length plan) (See branches) = subst (IsNode i (length plan)) is (node_at plan i d are inside) in fits
+
+branch_there : (place count : ℕ) (branches : List Next) (i : ℕ) (d : Next) → AllByRecursion (IsLater place count) branches → i < length branches →
+    IsLater place count (get_or branches i d)
+branch_there place count [] i d all inside = absurd (omega arith)
+branch_there place count (branch ∷ branches) zero d all inside = all.0
+branch_there place count (branch ∷ branches) (suc i) d all inside = branch_there place count branches i d all.1 (omega arith)
+
+begun : (all : List Next) (branch : Next) (node : ℕ) → new_node all branch ≡ Some node → branch ≡ To node
+begun all End node is = absurd cc
+begun all (To other) node is =
+    elim (cases_Bool (list_any (leads_to other) all)) [
+      | inl e ↦ (let h : None ≡ Some node = (rw e at is) in absurd cc)
+      | inr e ↦ (let h : Some other ≡ Some node = (rw e at is) in let same : other ≡ node = cc in ap To same)
+    ]
+
+-- the node of a line is later than that of its look
+pub later_line : (place count : ℕ) (branches : List Next) (i node : ℕ) (d : Next) → AllByRecursion (IsLater place count) branches → i < length branches →
+    new_node (take i branches) (get_or branches i d) ≡ Some node → IsLater place count (To node)
+later_line place count branches i node d all inside some =
+    subst (IsLater place count) (begun (take i branches) (get_or branches i d) node some) (branch_there place count branches i d all inside)
+
+-- ---- lines
+
+nodes_past : (plan : List Node) (i : ℕ) → length plan ≤ i → drop i plan ≡ []
+nodes_past [] i past = drop-nil i
+nodes_past (node ∷ plan) zero past = absurd (omega arith)
+nodes_past (node ∷ plan) (suc i) past = nodes_past plan i (omega arith)
+
+-- one more line
+pub line_more : (flags : List Bool) (plan : List Node) (level width : ℕ) (all : List Next) (i node : ℕ) (d : Next) → i < length all →
+    new_node (take i all) (get_or all i d) ≡ Some node →
+    (line_front level width (map (leads_to node) all) ++ row_text level (place_row flags plan (To node)))
+    ++ lines_text level width (lines_at flags plan all (i + 1)) ≡ lines_text level width (lines_at flags plan all i)
+unfolding line_front
+line_more flags plan level width all i node d inside some = ap (lines_text level width) (sym (new_line flags plan all i node d inside some))
+
+pub line_skipped : (flags : List Bool) (plan : List Node) (level width : ℕ) (all : List Next) (i : ℕ) (d : Next) → i < length all →
+    new_node (take i all) (get_or all i d) ≡ None →
+    lines_text level width (lines_at flags plan all (i + 1)) ≡ lines_text level width (lines_at flags plan all i)
+line_skipped flags plan level width all i d inside none = ap (lines_text level width) (sym (no_line flags plan all i d inside none))
+
+pub no_more_lines : (flags : List Bool) (plan : List Node) (level width : ℕ) (all : List Next) (i : ℕ) → length all ≤ i →
+    lines_text level width (lines_at flags plan all i) ≡ []
+no_more_lines flags plan level width all i past = ap (lines_text level width) (lines_end_at flags plan all i (branches_past all i past))
+
+-- ---- paragraphs
+
+pub no_more_paragraphs : (flags : List Bool) (plan : List Node) (i : ℕ) → length plan ≤ i → paragraphs_text flags plan i ≡ []
+unfolding paragraphs_text
+no_more_paragraphs flags plan i past =
+    ap (λ (nodes : List Node). flat_map paragraph_text (filter (λ paragraph. apart_in flags paragraph.number) (rows_from (apart_in flags) i nodes)))
+    (nodes_past plan i past)
+
+pub numbered_is : (flags : List Bool) (plan : List Node) (node : ℕ) →
+    (codes "\n[" ++ (decimal node ++ codes "] ")) ++ row_text 0 (node_row flags plan node) ≡ numbered_text flags plan node
+unfolding numbered_text paragraph_text
+numbered_is flags plan node = simp append_assoc
+
+-- ---- the first row
+
+pub first_of_none : (flags : List Bool) (plan : List Node) → length plan ≡ 0 → codes "No card is needed.\n" ≡ first_text flags plan
+unfolding first_text place_row
+first_of_none flags [] empty = refl
+first_of_none flags (node ∷ plan) empty = absurd (omega arith)
+
+-- a node's row is more than nothing
+node_needed : (flags : List Bool) (plan : List Node) → ArePlan plan → 0 < length plan → (node : Node) → get_or plan 0 (Play 0 End) ≡ node →
+    none_needed (node_row flags plan 0) ≡ []
+node_needed flags plan are some (Play card next) is = ap none_needed (node_play flags plan 0 card next (Play 0 End) are some is)
+node_needed flags plan are some (See branches) is = ap none_needed (node_see flags plan 0 branches (Play 0 End) are some is)
+
+some_needed : (flags : List Bool) (plan : List Node) → ArePlan plan → 0 < length plan → none_needed (place_row flags plan (To 0)) ≡ []
+some_needed flags plan are some =
+    elim (cases_Bool (apart_in flags 0)) [
+      | inl e ↦ ap none_needed (place_apart flags plan 0 e)
+      | inr e ↦ ap none_needed (place_node flags plan 0 e) ∙ node_needed flags plan are some (get_or plan 0 (Play 0 End)) refl
+    ]
+
+pub first_of_some : (flags : List Bool) (plan : List Node) → ArePlan plan → 0 < length plan →
+    row_text 0 (place_row flags plan (To 0)) ≡ first_text flags plan
+unfolding first_text
+first_of_some flags [] are some = absurd (omega arith)
+first_of_some flags (node ∷ plan) are some =
+    ap (λ (none : List ℕ). none ++ row_text 0 (place_row flags (node ∷ plan) (To 0))) (sym (some_needed flags (node ∷ plan) are some))
+
+-- ---- the pieces of a line, of a name and of a look
+
+pub front_is : (level width : ℕ) (set : List Bool) → indent level ++ (label_column width set ++ codes " : ") ≡ line_front level width set
+unfolding line_front
+front_is level width set = sym (append_assoc (indent level) (label_column width set) (codes " : "))
+
+pub name_is : (node : ℕ) → codes "see [" ++ (decimal node ++ codes "]\n") ≡ row_text 0 (Named node)
+name_is node = refl
+
+pub name_front : (node : ℕ) → codes "\n[" ++ (decimal node ++ codes "] ") ≡ codes "\n[" ++ (decimal node ++ codes "] ")
+name_front node = refl
+
+pub look_is : (flags : List Bool) (plan : List Node) (level width : ℕ) (branches : List Next) → width ≡ width_at branches 0 →
+    codes "look:\n" ++ lines_text (level + 1) width (lines_at flags plan branches 0)
+    ≡ codes "look:\n" ++ lines_text (level + 1) (width_at branches 0) (lines_at flags plan branches 0)
+look_is flags plan level width branches is = ap (λ (k : ℕ). codes "look:\n" ++ lines_text (level + 1) k (lines_at flags plan branches 0)) is

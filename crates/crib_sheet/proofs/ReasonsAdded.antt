@@ -1,0 +1,172 @@
+-- The reasons that a visible turn adds: its own, and the go of a close that the silent gos after it bring.
+use Rattle.std.proofs.Common.{◌≡◌, ℕ, zero, suc, ◌+◌, Bool, true, false, cond, List, [], ◌∷◌, ◌++◌, length, map, drop, reverse}
+use Rattle.std.proofs.Common.{refl, sym, ap, subst, ◌∙◌, inl, inr, arith}
+use Rattle.std.proofs.lemmas.Bool.{cases_Bool, false≢true}
+use Rattle.std.proofs.lemmas.List.{append-nil, append_assoc, drop_at, map-append, reverse-append}
+use Rattle.crib_cards.specs.Letters.{letter_of}
+use Rattle.crib_cards.specs.Start.{Start}
+use Rattle.crib_cards.specs.declared.letters.Letter.{Letter}
+use Rattle.crib_cards.specs.declared.letters.Letter.TheVariants.{Seen, Go}
+use Rattle.crib_cards.specs.declared.moves.Act.{Act}
+use Rattle.crib_play.specs.Record.{Record, cards_in, closes, is_begun, is_close, pile_of, sequence_of}
+use Rattle.crib_play.specs.Points.{points_in, turn_points}
+use Rattle.crib_play.specs.Filled.{filled_record, is_silent_next, points_added, with_silent_gos}
+use Rattle.crib_play.specs.Legal.{letters_of}
+use Rattle.crib_play.specs.History.{moves_of}
+use Rattle.crib_problem.specs.Setup.{Setup, start_of}
+use Rattle.crib_game.specs.declared.section.game.Game.{Game}
+use Rattle.crib_game.specs.declared.replaying.report.Row.{Row}
+use Rattle.crib_game.specs.Replay.{act_rows, acts_back, report_of}
+use Rattle.crib_sheet.specs.declared.game.reason.PlayReason.{PlayReason}
+use Rattle.crib_sheet.specs.declared.game.reason.PlayReason.TheVariants as reason
+use Rattle.crib_sheet.specs.GamePlay.{act_reasons, game_reasons, reason_if, reasons_added, reasons_in, reasons_points, turn_reasons}
+use Rattle.crib_sheet.proofs.ReasonPoints.{points_append, points_if, points_of_turn}
+
+-- ---- gos after a record
+-- what some gos after a record bring: one close or none
+pub record GosAfter (past full : Record) (closed : Bool) : Type 0 where
+  pub reasons : reasons_in full ≡ reasons_in past ++ reason_if closed reason.Go
+  pub points : points_in full ≡ cond closed 1 0 + points_in past
+  pub pile : pile_of full ≡ cond closed [] (pile_of past)
+  pub cards : cards_in full ≡ cards_in past
+  pub begun : closed ≡ true → is_begun (pile_of past) ≡ true
+
+no_gos : (past : Record) → GosAfter past past false
+no_gos past = record {
+  reasons = sym (append-nil (reasons_in past));
+  points = omega arith;
+  pile = refl;
+  cards = refl;
+  begun = λ e. absurd (false≢true e);
+}
+
+pub pile_after_go : (past : Record) → pile_of (Go ∷ past) ≡ cond (closes Go past) [] (pile_of past)
+pile_after_go past = step (closes Go past) (sequence_of past)
+  where
+    step : (b : Bool) (recent : List Letter) → cards_in (cond b [] (Go ∷ recent)) ≡ cond b [] (cards_in recent)
+    step true recent = refl
+    step false recent = refl
+
+pub pile_after_card : (rank : ℕ) (past : Record) → pile_of (Seen rank ∷ past) ≡ cond (closes (Seen rank) past) [] (pile_of past ++ rank ∷ [])
+pile_after_card rank past = step (closes (Seen rank) past) (sequence_of past)
+  where
+    step : (b : Bool) (recent : List Letter) → cards_in (cond b [] (Seen rank ∷ recent)) ≡ cond b [] (cards_in recent ++ rank ∷ [])
+    step true recent = refl
+    step false recent = refl
+
+-- a go that is a close comes after a card
+close_begun : (recent : List Letter) → is_close Go recent ≡ true → is_begun (cards_in recent) ≡ true
+close_begun [] e = absurd (false≢true e)
+close_begun (Seen rank ∷ recent) e = absurd (false≢true e)
+close_begun (Go ∷ recent) e = e
+
+open_go : (past full : Record) (closed : Bool) → closes Go past ≡ false → GosAfter (Go ∷ past) full closed → GosAfter past full closed
+open_go past full closed e gos =
+    let same : pile_of (Go ∷ past) ≡ pile_of past = pile_after_go past ∙ ap (λ (b : Bool). cond b [] (pile_of past)) e in
+    let none : ◌≡◌ {A = ℕ} (cond (closes Go past) 1 0) 0 = ap (λ (b : Bool). cond b 1 0) e in
+    record {
+      reasons = gos.reasons
+          ∙ ap (λ (b : Bool). reasons_in past ++ reason_if b reason.Go ++ reason_if closed reason.Go) e
+          ∙ ap (λ (some : List PlayReason). some ++ reason_if closed reason.Go) (append-nil (reasons_in past));
+      points = omega (arith, gos.points, none);
+      pile = gos.pile ∙ ap (λ (pile : List ℕ). cond closed [] pile) same;
+      cards = gos.cards;
+      begun = λ is. ap is_begun (sym same) ∙ gos.begun is;
+    }
+
+closing_go : (past full : Record) → closes Go past ≡ true → GosAfter (Go ∷ past) full false → GosAfter past full true
+closing_go past full e gos =
+    let one : ◌≡◌ {A = ℕ} (cond (closes Go past) 1 0) 1 = ap (λ (b : Bool). cond b 1 0) e in
+    record {
+      reasons = gos.reasons ∙ append-nil (reasons_in (Go ∷ past)) ∙ ap (λ (b : Bool). reasons_in past ++ reason_if b reason.Go) e;
+      points = omega (arith, gos.points, one);
+      pile = gos.pile ∙ pile_after_go past ∙ ap (λ (b : Bool). cond b [] (pile_of past)) e;
+      cards = gos.cards;
+      begun = λ _. close_begun (sequence_of past) e;
+    }
+
+-- gos over an empty pile are no close
+not_closed : (past full : Record) (closed : Bool) → pile_of past ≡ [] → GosAfter past full closed → closed ≡ false
+not_closed past full true empty gos = absurd (false≢true (sym (ap is_begun empty) ∙ gos.begun refl))
+not_closed past full false empty gos = refl
+
+pub gos_after : (n : ℕ) (start : Start) (past : Record) → (closed : Bool) × GosAfter past (with_silent_gos n start past) closed
+gos_after zero start past = (false, no_gos past)
+gos_after (suc n) start past =
+    elim (cases_Bool (is_silent_next start past)) [
+      | inl silent ↦
+          let more = with_silent_gos n start (Go ∷ past) in
+          let rest = gos_after n start (Go ∷ past) in
+          let all = with_go past more rest.0 rest.1 in
+          (all.0, subst (λ (b : Bool). GosAfter past (cond b more past) all.0) (sym silent) all.1)
+      | inr heard ↦ (false, subst (λ (b : Bool). GosAfter past (cond b (with_silent_gos n start (Go ∷ past)) past) false) (sym heard) (no_gos past))
+    ]
+  where
+    with_go : (before full : Record) (closed : Bool) → GosAfter (Go ∷ before) full closed → (all : Bool) × GosAfter before full all
+    with_go before full closed gos =
+        elim (cases_Bool (closes Go before)) [
+          | inl e ↦
+              let empty : pile_of (Go ∷ before) ≡ [] = pile_after_go before ∙ ap (λ (b : Bool). cond b [] (pile_of before)) e in
+              (true, closing_go before full e (subst (GosAfter (Go ∷ before) full) (not_closed (Go ∷ before) full closed empty gos) gos))
+          | inr e ↦ (closed, open_go before full closed e gos)
+        ]
+
+-- ---- one more visible turn
+-- what a visible turn adds, with the silent gos after it
+pub record TurnAdds (start : Start) (turn : Letter) (seen : List Letter) (closed : Bool) : Type 0 where
+  pub reasons : reasons_added start turn seen ≡ turn_reasons turn (filled_record start seen) ++ reason_if closed reason.Go
+  pub points : points_added start turn seen ≡ turn_points turn (filled_record start seen) + cond closed 1 0
+  pub pile : pile_of (filled_record start (turn ∷ seen)) ≡ cond closed [] (pile_of (turn ∷ filled_record start seen))
+  pub cards : cards_in (filled_record start (turn ∷ seen)) ≡ cards_in (turn ∷ filled_record start seen)
+  pub begun : closed ≡ true → is_begun (pile_of (turn ∷ filled_record start seen)) ≡ true
+
+pub turn_adds : (start : Start) (turn : Letter) (seen : List Letter) → (closed : Bool) × TurnAdds start turn seen closed
+turn_adds start turn seen =
+    let past = filled_record start seen in
+    let gos = gos_after 3 start (turn ∷ past) in
+    let own = turn_reasons turn past in
+    let go = reason_if gos.0 reason.Go in (
+      gos.0,
+      record {
+        reasons = ap (drop (length (reasons_in past))) (gos.1.reasons ∙ append_assoc (reasons_in past) own go)
+            ∙ drop_at (reasons_in past) (own ++ go) (length (reasons_in past)) refl;
+        points = omega (arith, gos.1.points);
+        pile = gos.1.pile;
+        cards = gos.1.cards;
+        begun = gos.1.begun;
+      },
+    )
+
+-- the points of the reasons that a visible turn adds are those that it adds
+pub points_of_added : (start : Start) (turn : Letter) (seen : List Letter) → reasons_points (reasons_added start turn seen) ≡ points_added start turn seen
+points_of_added start turn seen =
+    let past = filled_record start seen in
+    let adds = turn_adds start turn seen in
+    ap reasons_points adds.1.reasons
+    ∙ points_append (turn_reasons turn past) (reason_if adds.0 reason.Go)
+    ∙ (λ i. points_of_turn turn past i + points_if adds.0 reason.Go i)
+    ∙ sym adds.1.points
+
+-- ---- a game, row by row
+points_of_acts : (start : Start) (acts : List Act) → map reasons_points (act_reasons start acts) ≡ map (λ (row : Row). row.points) (act_rows start acts)
+points_of_acts start [] = refl
+points_of_acts start (act ∷ before) =
+    λ i. points_of_added start (letter_of act.what) (letters_of (moves_of before)) i ∷ points_of_acts start before i
+
+map_reverse : {X Y : Type 0} (f : X → Y) (xs : List X) → map f (reverse xs) ≡ reverse (map f xs)
+map_reverse f [] = refl
+map_reverse f (x ∷ xs) =
+    ap (map f) (reverse-append (x ∷ []) xs)
+    ∙ map-append f (reverse xs) (x ∷ [])
+    ∙ ap (λ ys. ys ++ f x ∷ []) (map_reverse f xs)
+    ∙ sym (reverse-append (f x ∷ []) (map f xs))
+
+-- the points of the reasons of a game's acts are those of the rows of its report
+pub points_of_game : (problem : Setup) (game : Game) →
+    map reasons_points (game_reasons problem game) ≡ map (λ (row : Row). row.points) (report_of problem game).rows.items
+points_of_game problem game =
+    let start = start_of problem in
+    let acts = acts_back game in
+    map_reverse reasons_points (act_reasons start acts)
+    ∙ ap reverse (points_of_acts start acts)
+    ∙ sym (map_reverse (λ (row : Row). row.points) (act_rows start acts))

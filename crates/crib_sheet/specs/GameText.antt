@@ -1,0 +1,251 @@
+-- The text of the sheet of a game: the problem, the acts with the reasons of their points, the hands with what counts
+-- in them, and the outcome.
+use Rattle.std.specs.Prelude.{ℕ, zero, suc, ◌+◌, ◌==◌, Bool, true, false, List, [], ◌∷◌, ◌++◌, length, map, flat_map}
+use Rattle.std.specs.Prelude.{take, Option, Some, None, Result, Ok, Err, codes, decimal, if◌then◌else◌}
+use Rattle.crib_cards.specs.CardText.{card_text}
+use Rattle.crib_cards.specs.declared.moves.Move.{Move}
+use Rattle.crib_cards.specs.declared.moves.Move.TheVariants as move
+use Rattle.crib_cards.specs.declared.sides.Dealt.{Dealt}
+use Rattle.crib_cards.specs.declared.sides.Side.{Side}
+use Rattle.crib_cards.specs.declared.sides.Side.TheVariants.{Owner, Opponent}
+use Rattle.crib_cards.specs.declared.sides.Scores.{Scores}
+use Rattle.crib_cards.specs.Start.{pone_of, hand_of}
+use Rattle.crib_show.specs.declared.outcomes.Outcome.{Outcome}
+use Rattle.crib_show.specs.declared.outcomes.Outcome.TheVariants.{Reached, Lost, Short}
+use Rattle.crib_show.specs.declared.outcomes.ShowRow.{ShowRow}
+use Rattle.crib_problem.specs.declared.problem.Goal.{Goal}
+use Rattle.crib_problem.specs.declared.problem.Goal.TheVariants.{Win, Holes, Stop}
+use Rattle.crib_problem.specs.Setup.{Setup, start_of, hands_of}
+use Rattle.crib_problem.specs.Spelling.{move_word}
+use Rattle.crib_game.specs.declared.fault.GameFault.{GameFault}
+use Rattle.crib_game.specs.declared.section.game.Game.{Game}
+use Rattle.crib_game.specs.declared.replaying.report.Row.{Row}
+use Rattle.crib_game.specs.declared.replaying.report.Report.{Report}
+use Rattle.crib_game.specs.Replay.{replay_result}
+use Rattle.crib_board.specs.Board.{right_in, left_in}
+use Rattle.crib_sheet.specs.declared.game.combination.Kind.{Kind}
+use Rattle.crib_sheet.specs.declared.game.combination.Kind.TheVariants as kind
+use Rattle.crib_sheet.specs.declared.game.combination.Combination.{Combination}
+use Rattle.crib_sheet.specs.declared.game.reason.PlayReason.{PlayReason}
+use Rattle.crib_sheet.specs.declared.game.reason.PlayReason.TheVariants.{Fifteen, ThirtyOne, Alike, Run, Go, LastCard}
+use Rattle.crib_sheet.specs.GamePlay.{reason_points, game_reasons}
+use Rattle.crib_sheet.specs.GameShow.{points_of, hand_combinations, crib_combinations}
+use Rattle.crib_sheet.specs.Heading.{role_word, spaced_cards, heading_text}
+
+-- ---- reasons
+
+-- the word for the number of cards alike: 2, 3 or 4
+abbrev pub alike_word : ℕ → List ℕ
+alike_word cards =
+    if cards == 2 then codes "pair" else if cards == 3 then codes "three alike" else codes "four alike"
+
+-- the word for the number of cards in a run: 3 to 7
+abbrev pub run_word : ℕ → List ℕ
+run_word cards =
+    if cards == 3 then codes "run of three" else if cards == 4 then codes "run of four"
+    else if cards == 5 then codes "run of five" else if cards == 6 then codes "run of six" else codes "run of seven"
+
+-- the word for a reason
+abbrev pub reason_word : PlayReason → List ℕ
+reason_word Fifteen = codes "fifteen"
+reason_word ThirtyOne = codes "thirty-one"
+reason_word (Alike cards) = alike_word cards
+reason_word (Run cards) = run_word cards
+reason_word Go = codes "go"
+reason_word LastCard = codes "last card"
+
+-- a reason and its points: `pair 2`
+unfoldable pub reason_text : PlayReason → List ℕ
+reason_text reason = reason_word reason ++ codes " " ++ decimal (reason_points reason)
+
+-- one more reason, after a comma
+abbrev pub next_reason : PlayReason → List ℕ
+next_reason reason = codes ", " ++ reason_text reason
+
+-- whose the points of a move are, if they are not the mover's: those of a go are the last player's
+abbrev pub taker_text : Side → Side → Move → List ℕ
+taker_text dealer last (move.Card card) = []
+taker_text dealer last move.Go = codes " (to the " ++ role_word dealer last ++ codes ")"
+
+-- the points of an act, with the reasons for them, if there are any: `  4: fifteen 2, pair 2`
+unfoldable pub points_text : Side → Side → Row → List PlayReason → List ℕ
+points_text dealer last row [] = []
+points_text dealer last row (reason ∷ reasons) =
+    codes "  " ++ decimal row.points ++ codes ": " ++ reason_text reason ++ flat_map next_reason reasons
+    ++ taker_text dealer last row.act.what
+
+-- ---- acts
+
+-- both scores in columns, the owner's first
+unfoldable pub score_text : Scores → List ℕ
+score_text scores = codes " " ++ right_in 3 scores.owner ++ codes "  " ++ right_in 3 scores.opponent
+
+-- the columns of an act: its number, side, card or go, count, and both scores after it
+unfoldable pub act_text : Side → ℕ → Row → List ℕ
+act_text dealer number row =
+    right_in 2 number ++ codes " " ++ left_in 6 (role_word dealer row.act.side) ++ codes " " ++ move_word row.act.what
+    ++ codes "      " ++ right_in 2 row.count ++ score_text row.scores
+
+-- the line of an act. `last` is the side that played the last card, which may be this one
+unfoldable pub act_line : Side → ℕ → Side → Row → List PlayReason → List ℕ
+act_line dealer number last row reasons =
+    act_text dealer number row ++ points_text dealer last row reasons ++ codes "\n"
+
+-- the side that played the last card after an act
+abbrev pub last_after : Side → Move → Side → Side
+last_after side (move.Card card) last = side
+last_after side move.Go last = last
+
+-- the lines of some acts with their reasons, numbered from a number. `last` is the side that played the last card
+-- before them
+unfoldable pub act_lines : Side → ℕ → Side → List Row → List (List PlayReason) → List ℕ
+act_lines dealer number last [] reasons = []
+act_lines dealer number last (row ∷ rows) [] = []
+act_lines dealer number last (row ∷ rows) (reasons ∷ others) =
+    act_line dealer number (last_after row.act.side row.act.what last) row reasons
+    ++ act_lines dealer (number + 1) (last_after row.act.side row.act.what last) rows others
+
+-- the lines of the acts of a report with their reasons. Before the first card there is no point
+abbrev pub rows_text : Setup → Report → List (List PlayReason) → List ℕ
+rows_text problem report reasons =
+    act_lines problem.dealer 1 (pone_of (start_of problem)) report.rows.items reasons
+
+-- ---- the show
+
+-- what a combination of this kind with this many cards is called
+abbrev pub kind_word : Kind → ℕ → List ℕ
+kind_word kind.Fifteen cards = codes "fifteen"
+kind_word kind.Pair cards = codes "pair"
+kind_word kind.Run cards = run_word cards
+kind_word kind.Flush cards = codes "flush"
+kind_word kind.Jack cards = codes "his nobs"
+
+-- the line of a combination: `  fifteen 2: 8D 7C`
+unfoldable pub combination_line : Combination → List ℕ
+combination_line made =
+    codes "  " ++ kind_word made.kind (length made.cards.items) ++ codes " " ++ decimal (points_of made)
+    ++ codes ":" ++ spaced_cards made.cards.items ++ codes "\n"
+
+-- the lines of what counts in a hand or in the crib
+abbrev pub combination_lines : List Combination → List ℕ
+combination_lines [] = codes "  nothing counts\n"
+combination_lines (made ∷ others) = flat_map combination_line (made ∷ others)
+
+-- what is counted: a hand or the crib
+abbrev pub counted_word : Bool → List ℕ
+counted_word crib = if crib then codes "crib" else codes "hand"
+
+-- some points in words
+abbrev pub points_words : ℕ → List ℕ
+points_words points = if points == 1 then codes "1 point" else decimal points ++ codes " points"
+
+-- the cards of a hand or of the crib
+abbrev pub counted_cards : Setup → Dealt → ShowRow → List ℕ
+counted_cards problem dealt row =
+    if row.crib then problem.thrown ++ dealt.throw else hand_of (hands_of problem dealt) row.side
+
+-- what counts in a hand or in the crib
+abbrev pub counted_combinations : Setup → Dealt → ShowRow → List Combination
+counted_combinations problem dealt row =
+    if row.crib then crib_combinations (counted_cards problem dealt row) problem.starter
+    else hand_combinations (counted_cards problem dealt row) problem.starter
+
+-- a counted hand or the crib: its side, its cards, and the starter
+unfoldable pub counted_name : Setup → List ℕ → ShowRow → List ℕ
+counted_name problem cards row =
+    codes "\nThe " ++ role_word problem.dealer row.side ++ codes "'s " ++ counted_word row.crib ++ codes ":"
+    ++ spaced_cards cards ++ codes " with " ++ card_text problem.starter
+
+-- the points of a counted hand or of the crib, and both scores after it
+unfoldable pub counted_points : ShowRow → List ℕ
+counted_points row =
+    codes ", " ++ points_words row.points ++ codes " (you " ++ decimal row.scores.owner ++ codes ", they "
+    ++ decimal row.scores.opponent ++ codes ")\n"
+
+-- the lines of a counted hand or of the crib, after an empty line
+unfoldable pub counted_text : Setup → Dealt → ShowRow → List ℕ
+counted_text problem dealt row =
+    counted_name problem (counted_cards problem dealt row) row ++ counted_points row
+    ++ combination_lines (counted_combinations problem dealt row)
+
+-- ---- the sheet
+
+-- the line of the opponent's cards
+unfoldable pub dealt_line : Setup → Dealt → List ℕ
+dealt_line problem dealt =
+    codes "The " ++ role_word problem.dealer Opponent ++ codes " holds" ++ spaced_cards dealt.hold
+    ++ codes " and threw" ++ spaced_cards dealt.throw ++ codes ".\n"
+
+-- that the owner keeps the opponent from winning
+unfoldable pub kept_words : Side → List ℕ
+kept_words dealer = codes "you keep the " ++ role_word dealer Opponent ++ codes " from winning"
+
+-- what the owner did who reached a goal
+abbrev pub reached_words : Side → Goal → List ℕ
+reached_words dealer Win = codes "you win"
+reached_words dealer (Holes holes) = codes "you reach your goal"
+reached_words dealer Stop = kept_words dealer
+
+-- how a deal of this dealer ended, for an owner with this goal
+abbrev pub ending_words : Side → Goal → Outcome → List ℕ
+ending_words dealer goal Reached = reached_words dealer goal
+ending_words dealer goal Lost = codes "the " ++ role_word dealer Opponent ++ codes " wins"
+ending_words dealer goal Short = codes "you fall short of your goal"
+
+-- the line of the outcome of a deal that is done, after an empty line
+unfoldable pub over_text : Setup → Outcome → List ℕ
+over_text problem outcome =
+    codes "\nThe deal is over: " ++ ending_words problem.dealer problem.goal outcome ++ codes ".\n"
+
+-- the line of the outcome, if the deal is done, after an empty line
+abbrev pub outcome_text : Setup → Option Outcome → List ℕ
+outcome_text problem None = codes "\nThe deal isn't over yet.\n"
+outcome_text problem (Some outcome) = over_text problem outcome
+
+-- the heading of the columns of acts, after an empty line
+abbrev pub columns_line : List ℕ
+columns_line = codes "\n # side   card count you they  points\n"
+
+-- the sheet of a game with this report and these reasons of its acts
+unfoldable pub sheet_of : Setup → Dealt → Report → List (List PlayReason) → List ℕ
+sheet_of problem dealt report reasons =
+    heading_text problem ++ dealt_line problem dealt ++ columns_line ++ rows_text problem report reasons
+    ++ flat_map (counted_text problem dealt) report.show.items ++ outcome_text problem report.over
+
+-- the sheet of a replay: that of its report, or its refusal
+abbrev pub sheet_for : Setup → Game → Result Report GameFault → Result (List ℕ) GameFault
+sheet_for problem game (Ok report) = Ok (sheet_of problem game.opp report (game_reasons problem game))
+sheet_for problem game (Err fault) = Err fault
+
+-- the sheet of a game, or the refusal of its replay
+abbrev pub game_sheet_text : Setup → Game → Result (List ℕ) GameFault
+game_sheet_text problem game = sheet_for problem game (replay_result problem game)
+
+-- ---- the acts of a refused game
+
+-- the game with its first acts alone
+abbrev pub beginning : Game → ℕ → Game
+beginning game acts = record game { acts = record { items = take acts game.acts.items } }
+
+-- the lines of a game's acts, if it is accepted
+abbrev pub lines_if_accepted : Setup → Game → Result Report GameFault → Option (List ℕ)
+lines_if_accepted problem game (Ok report) = Some (rows_text problem report (game_reasons problem game))
+lines_if_accepted problem game (Err fault) = None
+
+-- the first of two texts that there is, or nothing
+abbrev pub text_or : Option (List ℕ) → List ℕ → List ℕ
+text_or (Some text) other = text
+text_or None other = other
+
+-- the lines of the longest accepted beginning of a game with at most this many acts, or nothing if there is none
+unfoldable pub accepted_text : Setup → Game → ℕ → List ℕ
+accepted_text problem game zero =
+    text_or (lines_if_accepted problem (beginning game 0) (replay_result problem (beginning game 0))) []
+accepted_text problem game (suc acts) =
+    text_or
+    (lines_if_accepted problem (beginning game (suc acts)) (replay_result problem (beginning game (suc acts))))
+    (accepted_text problem game acts)
+
+-- the lines of the acts of the longest accepted beginning of a game
+abbrev pub accepted_acts_text : Setup → Game → List ℕ
+accepted_acts_text problem game = accepted_text problem game (length game.acts.items)

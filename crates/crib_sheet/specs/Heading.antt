@@ -1,0 +1,71 @@
+-- The heading of a sheet: the problem in words.
+use Rattle.std.specs.Prelude.{ℕ, ◌==◌, List, [], ◌∷◌, ◌++◌, length, flat_map, codes, decimal, if◌then◌else◌}
+use Rattle.crib_cards.specs.CardText.{card_text}
+use Rattle.crib_cards.specs.Sides.{same_side}
+use Rattle.crib_cards.specs.declared.sides.Side.{Side}
+use Rattle.crib_cards.specs.declared.sides.Side.TheVariants.{Owner, Opponent}
+use Rattle.crib_text.specs.Spelling.{space}
+use Rattle.crib_problem.specs.declared.problem.Goal.{Goal}
+use Rattle.crib_problem.specs.declared.problem.Goal.TheVariants.{Win, Holes, Stop}
+use Rattle.crib_problem.specs.Setup.{Setup}
+
+-- the word for a side in a deal of this dealer: `dealer` or `pone`
+abbrev pub role_word : Side → Side → List ℕ
+role_word dealer side = if same_side dealer side then codes "dealer" else codes "pone"
+
+-- a card after a space
+abbrev pub spaced_card : ℕ → List ℕ
+spaced_card card = space ∷ card_text card
+
+-- cards, each after a space
+abbrev pub spaced_cards : List ℕ → List ℕ
+spaced_cards cards = flat_map spaced_card cards
+
+-- the owner's part in a deal of this dealer, and score
+unfoldable pub own_score : Side → ℕ → List ℕ
+own_score dealer score = codes "You are the " ++ role_word dealer Owner ++ codes " at " ++ decimal score
+
+-- the opponent's part in a deal of this dealer, and score
+unfoldable pub other_score : Side → ℕ → List ℕ
+other_score dealer score =
+    codes ", and the " ++ role_word dealer Opponent ++ codes " is at " ++ decimal score
+
+-- the line of both scores at the first lead, and of the starter
+unfoldable pub scores_line : Setup → List ℕ
+scores_line problem =
+    own_score problem.dealer problem.scores.owner ++ other_score problem.dealer problem.scores.opponent
+    ++ codes ". The starter is " ++ card_text problem.starter ++ codes ".\n"
+
+-- the line of the owner's cards
+unfoldable pub own_line : Setup → List ℕ
+own_line problem =
+    codes "You hold" ++ spaced_cards problem.hold ++ codes " and threw" ++ spaced_cards problem.thrown ++ codes ".\n"
+
+-- some holes in words
+abbrev pub holes_words : ℕ → List ℕ
+holes_words holes = if holes == 1 then codes "1 hole" else decimal holes ++ codes " holes"
+
+-- what the owner wants of a deal of this dealer
+abbrev pub goal_words : Side → Goal → List ℕ
+goal_words dealer Win = codes "to win"
+goal_words dealer (Holes holes) = holes_words holes ++ codes " or more in this deal"
+goal_words dealer Stop = codes "to keep the " ++ role_word dealer Opponent ++ codes " from winning in this deal"
+
+-- the line of the goal
+unfoldable pub goal_line : Setup → List ℕ
+goal_line problem = codes "You want " ++ goal_words problem.dealer problem.goal ++ codes ".\n"
+
+-- the line of an opening with this many turns. An opening without a turn has none
+unfoldable pub opening_line : ℕ → List ℕ
+opening_line turns =
+    if turns == 0 then []
+    else if turns == 1 then codes "The first turn was played already. The scores are those before it.\n"
+    else
+    codes "The first " ++ decimal turns
+    ++ codes " turns were played already. The scores are those before them.\n"
+
+-- the heading of a sheet: whose deal it is, the scores at the first lead, the starter, the owner's cards and goal, and
+-- how much was played already
+unfoldable pub heading_text : Setup → List ℕ
+heading_text problem =
+    scores_line problem ++ own_line problem ++ goal_line problem ++ opening_line (length problem.played)

@@ -1,0 +1,45 @@
+-- The head of the sheet of a plan: the position, and whether the plan is sure.
+use Rattle.std.specs.Prelude.{ℕ, List, [], ◌∷◌, ◌++◌, flat_map, Result, Ok, Err, codes}
+use Rattle.crib_cards.specs.declared.moves.Act.{Act}
+use Rattle.crib_cards.specs.declared.sides.Side.{Side}
+use Rattle.crib_text.specs.Spelling.{line_feed}
+use Rattle.crib_problem.specs.Setup.{Setup}
+use Rattle.crib_problem.specs.Spelling.{move_word}
+use Rattle.crib_game.specs.declared.fault.GameFault.{GameFault}
+use Rattle.crib_game.specs.declared.following.ending.Ending.{Ending}
+use Rattle.crib_game.specs.declared.following.ending.Ending.TheVariants.{Open, Stuck, Lost, Short, Reached}
+use Rattle.crib_check.specs.declared.verdict.Verdict.{Verdict}
+use Rattle.crib_check.specs.declared.verdict.Verdict.TheVariants.{Holds, Fails}
+use Rattle.crib_sheet.specs.GameText.{game_sheet_text}
+use Rattle.crib_sheet.specs.Heading.{role_word, heading_text}
+
+-- the line of a turn of the opening: `  pone 8D`
+unfoldable pub turn_line : Side → Act → List ℕ
+turn_line dealer act = codes "  " ++ role_word dealer act.side ++ codes " " ++ move_word act.what ++ codes "\n"
+
+-- the lines of the opening
+abbrev pub turn_lines : Side → List Act → List ℕ
+turn_lines dealer acts = flat_map (turn_line dealer) acts
+
+-- that a plan is sure, before an empty line
+abbrev pub sure_line : List ℕ
+sure_line = codes "This plan is sure: it reaches your goal against every hand and every play.\n\n"
+
+-- that a plan is not sure, by the ending of the first game in which it fails
+abbrev pub failing_line : Ending → List ℕ
+failing_line Open = codes "This plan is not sure.\n"
+failing_line Stuck = codes "This plan is not sure. In this game it states no card that you can play:\n"
+failing_line Lost = codes "This plan is not sure. In this game you lose:\n"
+failing_line Short = codes "This plan is not sure. In this game you fall short of your goal:\n"
+failing_line Reached = codes "This plan is not sure.\n"
+
+-- the sheet of a game, after an empty line
+abbrev pub game_lines : Result (List ℕ) GameFault → List ℕ
+game_lines (Ok sheet) = line_feed ∷ sheet
+game_lines (Err fault) = []
+
+-- the head of a plan's sheet. A plan that is not sure says so first, with the sheet of the first game in which it fails
+unfoldable pub head_text : Setup → Verdict → List ℕ
+head_text problem Holds = heading_text problem ++ turn_lines problem.dealer problem.played ++ sure_line
+head_text problem (Fails ending game) =
+    failing_line ending ++ game_lines (game_sheet_text problem game) ++ codes "\nThe plan:\n\n"

@@ -1,0 +1,7 @@
+-- Definitions that only private functions cite. No public contract rests on them.
+pub mod Chosen
+pub mod Pages
+pub mod PlayWalk
+pub mod Puts
+pub mod Spots
+pub mod Ways

@@ -1,0 +1,83 @@
+//! Which nodes of a plan have paragraphs of their own.
+ghost use Rattle.std.specs.Prelude.{◌≡◌, ◌+◌, ◌*◌, ◌≤◌, length, map, IfOk};
+ghost use Rattle.crib_sheet.specs.PlanBranches.{plan_branches};
+ghost use Rattle.crib_sheet.specs.PlanOutline.{apart_in};
+ghost use Rattle.crib_sheet.specs.PlanSheet.{sheet_with};
+ghost use Rattle.crib_sheet.specs.PlanSheetSize.{sheet_cards, sheet_levels, sheet_lines};
+ghost use Rattle.crib_sheet.specs.PlanText.{sheet_text};
+
+use crate::plan::spots::{Spot, spots_of};
+use crib_plan::Plan;
+use std::alloc::{AllocError, Allocator, Global};
+use std::marker::Model;
+
+/// Which nodes of a plan have paragraphs of their own on its sheet: an entry for each node.
+///
+/// A see node has one if its row would be printed twice or more. A node has one if rows would go on there with more
+/// than four cards, or with more than four levels of lines. A node has one if two nodes lead to it and it leads to a
+/// look that has none. Node 0 has none. A node that the start doesn't lead to may have one too, though no row names it.
+#[derive(Drop)]
+pub struct Outline<A: Allocator = Global> {
+    pub(crate) flags: Vec<bool, A>,
+}
+
+impl<A: Allocator> Model for Outline<A> {
+    ghost use Rattle.std.specs.Prelude.{List, Bool};
+
+    ghost Value = { List Bool };
+
+    ghost view = { λ outline. outline.flags.items };
+}
+
+impl<A: Allocator + Copy> Outline<A> {
+    /// Chooses the nodes that get paragraphs. Fails if an allocation fails.
+    ///
+    /// - `length`: there is an entry for each node.
+    /// - `levels`, `cards`: the sheet has at most five levels of lines, and at most five cards in a line.
+    /// - `lines`: no line below a look is printed twice, so that there are at most as many as the plan has branches.
+    /// - `size`: the text of the sheet has at most 76 bytes for each branch and for each node, and 76 more.
+    #[tactic(auto, using(crate::proofs::PlanFits::outline_fits, crate::proofs::PlanOutlines::outline_lines))]
+    pub fn of<B: Allocator>(alloc: A, plan: &Plan<B>) -> Result<Outline<A>, AllocError>
+        ensures length { IfOk result (λ outline. length outline ≡ length plan.now) }
+        ensures levels { IfOk result (λ outline. sheet_levels (sheet_with (apart_in outline) plan.now) ≤ 5) }
+        ensures cards { IfOk result (λ outline. sheet_cards (sheet_with (apart_in outline) plan.now) ≤ 5) }
+        ensures lines { IfOk result (λ outline. sheet_lines (sheet_with (apart_in outline) plan.now)
+            ≤ plan_branches plan.now) }
+        ensures size { IfOk result (λ outline. length (sheet_text (sheet_with (apart_in outline) plan.now))
+            ≤ 76 * (plan_branches plan.now + length plan.now + 1)) }
+    {
+        let spots = spots_of(alloc, plan.nodes())?;
+        let flags = flags_of(alloc, spots.as_slice())?;
+        Ok(Outline { flags })
+    }
+}
+
+impl<A: Allocator> Outline<A> {
+    // The entries, one for each node.
+    pub(crate) fn flags(&self) -> &[bool]
+        ensures { result.now ≡ self.now }
+    {
+        self.flags.as_slice()
+    }
+}
+
+// For each node, whether it has a paragraph of its own.
+fn flags_of<A: Allocator>(alloc: A, spots: &[Spot]) -> Result<Vec<bool, A>, AllocError>
+    ensures { IfOk result (λ flags. flags.items ≡ map (λ spot. spot.is_apart) spots.now) }
+{
+    let mut flags = Vec::with_capacity(alloc, spots.len())?;
+    for spot in spots {
+        flags.push(spot.is_apart)?;
+    }
+    Ok(flags)
+}
+
+/// Whether a node has a paragraph of its own.
+pub(crate) fn is_apart(flags: &[bool], node: u16) -> bool
+    ensures { result ≡ apart_in flags.now node }
+{
+    match flags.get(node as usize) {
+        Some(flag) => *flag,
+        None => false,
+    }
+}

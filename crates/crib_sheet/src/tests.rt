@@ -1,0 +1,3 @@
+mod game_sheets;
+mod reasons;
+mod shows;

@@ -1,0 +1,57 @@
+-- What the replies guarantee about the input.
+use Rattle.std.specs.Prelude.{◌≡◌, ℕ, List, Ok, Err}
+use Rattle.crib_text.specs.Refusals.{Refusal, no_memory}
+use Rattle.crib_problem.specs.Setup.{Setup}
+use Rattle.crib_plan.specs.declared.plan.Node.{Node}
+use Rattle.crib_game.specs.declared.section.game.Game.{Game}
+use Rattle.crib_check.specs.Sure.{IsSure}
+use Rattle.crib_input.specs.Spelled.{SpellsGame, SpellsPlan}
+use Rattle.crib_run.specs.declared.status.Status.{Status}
+use Rattle.crib_run.specs.declared.status.Status.TheVariants.{Yes, No, Refused, Fault}
+use Rattle.crib_run.specs.Reply.{Reply, fault_line, refusal_reply}
+use Rattle.crib_answer.specs.Input.{report_of_input}
+use Rattle.crib_answer.specs.Telling.{HasSurePlan}
+use Rattle.crib_sheet.specs.GameText.{game_sheet_text}
+use Rattle.cribsheet.specs.declared.job.SheetJob.{SheetJob}
+use Rattle.cribsheet.specs.declared.job.SheetJob.TheVariants.{Plan, Game as GameJob}
+
+-- an input spells a problem and a plan that is not sure
+pub record HasUnsurePlan (input : List ℕ) : Type 0 where
+  pub problem : Setup
+  pub plan : List Node
+  pub spelled : SpellsPlan input problem plan
+  pub unsure : ¬ IsSure problem plan
+
+-- an input spells a problem and a game, and `text` is the sheet of the game
+pub record HasGameSheet (input text : List ℕ) : Type 0 where
+  pub problem : Setup
+  pub game : Game
+  pub spelled : SpellsGame input problem game
+  pub sheet : game_sheet_text problem game ≡ Ok text
+
+-- what the reply of `plan` guarantees, by its status. Yes: the plan is sure. No: it is not. Refused: the input spells
+-- no problem and plan. Fault: the text says that an allocation failed
+abbrev pub PlanTells : List ℕ → List ℕ → Status → Type 0
+PlanTells input text Yes = HasSurePlan input
+PlanTells input text No = HasUnsurePlan input
+PlanTells input text Refused = (problem : Setup) (plan : List Node) → ¬ SpellsPlan input problem plan
+PlanTells input text Fault = text ≡ fault_line no_memory
+
+-- `replay` of cribplan refuses an input, and `text` is the line of its refusal
+pub record IsRefusedByReplay (input text : List ℕ) : Type 0 where
+  pub refusal : Refusal
+  pub refused : report_of_input input ≡ Err refusal
+  pub line : text ≡ (refusal_reply refusal).output
+
+-- what the reply of `game` guarantees, by its status. Yes: the text is the sheet of the game. It is never no. Refused:
+-- the text is the line with which `replay` refuses the input. Fault: the text says that an allocation failed
+abbrev pub GameTells : List ℕ → List ℕ → Status → Type 0
+GameTells input text Yes = HasGameSheet input text
+GameTells input text No = ⊥
+GameTells input text Refused = IsRefusedByReplay input text
+GameTells input text Fault = text ≡ fault_line no_memory
+
+-- what the text and the status of a reply guarantee about the input
+abbrev pub SheetTells : SheetJob → List ℕ → Reply → Type 0
+SheetTells Plan input reply = PlanTells input reply.output reply.status
+SheetTells GameJob input reply = GameTells input reply.output reply.status

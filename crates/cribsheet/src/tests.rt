@@ -1,0 +1,8 @@
+//! Tests of runs that read from memory and write to memory, and of the words of the command line.
+mod failures;
+mod games;
+mod growths;
+mod messages;
+mod plans;
+mod runs;
+mod words;

@@ -1,0 +1,51 @@
+//! Runs in which one allocation after another fails.
+use crate::job::SheetJob;
+use crate::tests::runs::{joined, outcome_of, written_of};
+use crib_run::Status;
+use example_texts::games::LAST_CARD;
+use example_texts::plans::TWOS;
+use example_texts::problems::{TENS, THIRTEEN, TWELVE};
+use refusing_alloc::Refusing;
+use std::process::Abort;
+
+// Fails the first allocation of a run, then the second, and so on, until none fails. Asserts that each time `fault 11`
+// alone was written, or the whole sheet. Returns how many of them led to `fault 11`, and how many changed nothing.
+fn refuse_each(rt: &(impl Abort + AllocGlobal), job: SheetJob, sections: &[&str]) -> (u32, u32) {
+    let input = joined(rt, sections);
+    let whole = written_of(rt, job, sections);
+    let mut told = 0u32;
+    let mut passed_over = 0u32;
+    for served in 0..1000 {
+        let heap = Refusing::after(rt.alloc(), served);
+        let written = outcome_of(rt.alloc(), &heap, job, input.as_bytes());
+        if written.status == Status::Fault {
+            assert!(rt; heap.has_refused());
+            written.is(rt, "fault 11\n", Status::Fault, "no memory");
+            told = told.saturating_add(1);
+        } else {
+            written.is(rt, whole.text(rt), whole.status, "some memory");
+            if !heap.has_refused() {
+                return (told, passed_over);
+            }
+            passed_over = passed_over.saturating_add(1);
+        }
+    }
+    panic!(rt; "a run that never ends to grow")
+}
+
+// The input, and the text of the sheet.
+#[test]
+fn of_a_game(rt: HostRuntime) {
+    let refused = refuse_each(&rt, SheetJob::Game, &[TENS, LAST_CARD]);
+    assert_eq!(rt; refused, (2, 0));
+}
+
+// The input, the plan, the outline and the head. The position table allocates too, and a failure there changes nothing.
+#[test]
+fn of_a_plan(rt: HostRuntime) {
+    let (told, passed_over) = refuse_each(&rt, SheetJob::Plan, &[TWELVE, TWOS]);
+    assert!(rt; told >= 4);
+    assert!(rt; passed_over > 0);
+    let (told, _passed_over) = refuse_each(&rt, SheetJob::Plan, &[THIRTEEN, TWOS]);
+    assert!(rt; told >= 4);
+}

@@ -1,0 +1,120 @@
+//! Runs over inputs in memory, and what they write.
+use crate::job::SheetJob;
+use crate::run::run_with_words;
+use crib_run::Status;
+use crib_text::Counted;
+use failing_devices::{Feed, Tray, Trouble};
+use std::alloc::{Allocator, Global};
+use std::process::Abort;
+use std::str;
+
+/// The text of some sections.
+pub fn joined(rt: &(impl Abort + AllocGlobal), sections: &[&str]) -> String {
+    let mut text = String::new(rt.alloc());
+    for section in sections {
+        text.push_str(section).expect(rt, "memory");
+    }
+    text
+}
+
+/// The text of some sections, with `changed` in the place of line `number`. Lines are counted from 1.
+pub fn joined_with(
+    rt: &(impl Abort + AllocGlobal),
+    sections: &[&str],
+    number: usize,
+    changed: &str,
+) -> String {
+    let mut text = String::new(rt.alloc());
+    for (place, line) in (1..100usize).zip(joined(rt, sections).lines()) {
+        let line = if place == number { changed } else { line };
+        text.push_str(line).expect(rt, "memory");
+        text.push('\n').expect(rt, "memory");
+    }
+    text
+}
+
+/// What a run wrote, the words beside it, and its status.
+#[derive(Drop)]
+pub struct Written {
+    pub text: Vec<u8>,
+    pub words: Vec<u8>,
+    pub status: Status,
+}
+
+/// Runs a job over these bytes. The reader and the writers move at most `piece` bytes at each call. The reader fails as
+/// `given` says, and the writer as `taken` says. The memory of the run is that of `heap`. The function has no contract:
+/// a test judges the outcome when it runs.
+pub fn outcome<A: Allocator + Copy>(
+    alloc: Global,
+    heap: A,
+    job: SheetJob,
+    input: &[u8],
+    piece: usize,
+    given: Trouble,
+    taken: Trouble,
+) -> Written {
+    let mut source = Counted::new(Feed::new(input, piece, given));
+    let mut sink = Counted::new(Tray::new(alloc, piece, taken));
+    let mut words = Counted::new(Tray::new(alloc, piece, Trouble::Never));
+    let status = run_with_words(heap, job, &mut source, &mut sink, &mut words);
+    Written {
+        text: sink.into_inner().into_bytes(),
+        words: words.into_inner().into_bytes(),
+        status,
+    }
+}
+
+/// Runs a job over these bytes with devices that never fail.
+pub fn outcome_of<A: Allocator + Copy>(
+    alloc: Global,
+    heap: A,
+    job: SheetJob,
+    input: &[u8],
+) -> Written {
+    outcome(
+        alloc,
+        heap,
+        job,
+        input,
+        4096,
+        Trouble::Never,
+        Trouble::Never,
+    )
+}
+
+/// Runs a job over some sections.
+pub fn written_of(rt: &(impl Abort + AllocGlobal), job: SheetJob, sections: &[&str]) -> Written {
+    let input = joined(rt, sections);
+    outcome_of(rt.alloc(), rt.alloc(), job, input.as_bytes())
+}
+
+impl Written {
+    /// The text of the sheet.
+    pub fn text<'a>(&'a self, rt: &impl Abort) -> &'a str {
+        str::from_utf8(self.text.as_slice()).expect(rt, "a text")
+    }
+
+    /// The words beside it.
+    pub fn words<'a>(&'a self, rt: &impl Abort) -> &'a str {
+        str::from_utf8(self.words.as_slice()).expect(rt, "a text")
+    }
+
+    /// Asserts that this text was written, with this status.
+    pub fn is(&self, rt: &impl Abort, wanted: &str, status: Status, what: &str) {
+        assert_eq!(rt; self.text(rt), wanted, "to {what}");
+        assert_eq!(rt; self.status, status, "to {what}");
+    }
+
+    /// Asserts that a sheet with these parts was written, in this order, with this status and no words.
+    pub fn has(&self, rt: &impl Abort, parts: &[&str], status: Status) {
+        let mut rest = self.text(rt);
+        for part in parts {
+            match rest.split_once(*part) {
+                Some((_, after)) => rest = after,
+                None => panic!(rt; "no {part} in {rest}"),
+            }
+        }
+        assert_eq!(rt; self.status, status);
+        assert_eq!(rt; self.words.len(), 0);
+    }
+}

@@ -1,69 +1,34 @@
-"""Single changes of definitions: another comparison, side, number, field, order, or one of its cases for its neighbour.
+"""Single changes of definitions, in what a definition says and never in its signature or in the patterns of its cases.
 
-A change is made in what a definition says and never in its signature or in the patterns of its cases. What a change can
-turn into what is read from the sources: the variants of a type, fields of one type in a record, definitions of one
-signature in a module.
+The kinds: a clause of a product or a record dropped; a case with its neighbour's body, or a condition denied; a side
+turned; a list not reversed; a filter or a bound dropped; one number more or less; `<` for `≤`; a field, an argument or
+a definition exchanged with one of its type; a base case changed; a body that gives up. What can stand for what is read
+from the sources: the variants of a type, the fields of a record, the signatures of the definitions.
 """
 import re
 from collections.abc import Iterator
 from dataclasses import dataclass
 
 from example_crate import PRELUDE, Module, blocks_of, module_of
+from spec_source import ROOT
 
-# What a change names, and the library has not.
-HELPERS = f"""use {PRELUDE}.{{◌≡◌, ◌≤◌, ℕ, ◌==◌, Bool, not, List, [], ◌∷◌, ◌++◌}}
-infix 40 ◌=/=◌
-abbrev pub ◌=/=◌ : ℕ → ℕ → Bool
-a =/= b = not (a == b)
-
-infixl 65 ◌+first◌ ◌+second◌
-abbrev pub ◌+first◌ : ℕ → ℕ → ℕ
-a +first b = a
-
-abbrev pub ◌+second◌ : ℕ → ℕ → ℕ
-a +second b = b
-
-infixl 65 ◌++first◌ ◌++turned◌
-abbrev pub ◌++first◌ : {{A : Type 0}} → List A → List A → List A
-a ++first b = a
-
-abbrev pub ◌++turned◌ : {{A : Type 0}} → List A → List A → List A
-a ++turned b = b ++ a
-
-infixr 67 ◌∷last◌ ◌∷none◌
-abbrev pub ◌∷last◌ : {{A : Type 0}} → A → List A → List A
-a ∷last b = b ++ a ∷ []
-
-abbrev pub ◌∷none◌ : {{A : Type 0}} → A → List A → List A
-a ∷none b = b
-
-infix 4 ◌≡any◌
-abbrev pub ◌≡any◌ : {{A : Type 0}} → A → A → Type 0
-a ≡any b = a ≡ a
-
-infix 50 ◌≤any◌
-abbrev pub ◌≤any◌ : ℕ → ℕ → Type 0
-a ≤any b = 0 ≤ b
-
-abbrev pub itself : {{A : Type 0}} → A → A
-itself a = a
-
-abbrev pub unfiltered : {{A : Type 0}} → (A → Bool) → List A → List A
-unfiltered f xs = xs
-
-abbrev pub IsAny : Bool → Type 0
-IsAny b = b ≡ b
-"""
+HELPERS = (ROOT / "tools/changed_words.txt").read_text()  # what a change names, and the library has not
 HELPER_NAMES = {name.strip("◌"): name for name in re.findall(r"^abbrev pub (\S+) :", HELPERS, re.M)}
 TURNED = {
-    "nat_le": ["nat_lt"], "nat_lt": ["nat_le"], "==": ["=/="], "true": ["false"], "false": ["true"],
-    "&&": ["||"], "||": ["&&"], "min": ["max"], "max": ["min"], "take": ["drop"], "drop": ["take"],
+    "nat_le": ["nat_lt", "nat_ge", "nat_any"], "nat_lt": ["nat_le", "nat_gt", "nat_any"], "==": ["=/="],
+    "true": ["false"], "false": ["true"], "&&": ["||", "&&first", "&&second"], "||": ["&&", "&&first", "&&second"],
+    "min": ["max", "first_of", "second_of"], "max": ["min", "first_of", "second_of"], "take": ["drop"], "drop": ["take"],
+    "length": ["one_longer"], "other_side": ["itself"],
     "list_any": ["list_all"], "list_all": ["list_any"], "not": ["itself"], "reverse": ["itself"],
     "filter": ["unfiltered"], "+": ["+first", "+second"], "-": ["+first"], "++": ["++turned", "++first"],
     "∷": ["∷last", "∷none"], "IsTrue": ["IsFalse", "IsAny"], "IsFalse": ["IsTrue", "IsAny"],
     "≤": ["<", "≤any"], "<": ["≤", "≤any"], "≡": ["≡any"],
 }
 OPERATORS = ("&&", "||", "≤", "<")
+ATOMIC = re.compile(r"[≡≤<]|\bIs(?:True|False)\b")  # a clause that is dropped by a change of one of its words
+GIVEN_UP = {"Bool": ["give_true", "give_false"], "ℕ": ["give_zero"], "Type 0": ["Dropped"], "List": ["give_none"], "Option": ["give_nothing"]}
+OTHERWISE = {"ℕ": ["one_more"], "List": ["but_first", "from_behind"]}
+ENOUGH = 3  # the changes of a definition below which its bodies give up, too
 IN_LISTS = ("list_any", "list_all")
 TOKEN = re.compile(r"\"[^\"]*\"|--[^\n]*|[\w'◌]+(?:\.[\w']+)*|\s+|∷|\+\+|&&|\|\||==|[^\s\w]")
 SIGNED = r"(?:abbrev |unfoldable )?(?:pub )?(?:data )?([\w'◌-]+)(?: [({][^)}]*[)}])* :"
@@ -99,12 +64,18 @@ class Sources:
         self.texts = texts
         self.fields: dict[str, set[str]] = {}
         self.signatures: dict[Module, dict[str, str]] = {}
+        aliases: dict[str, str] = {}
         for module, text in texts.items():
             for block in blocks_of(text):
                 self.add_fields(block)
             if module[0] == "specs" and not module[2].startswith("declared."):
-                signed = r"^(?:abbrev |unfoldable )?pub ([\w'-]+) : ([^\n]*)$"
-                self.signatures[module] = dict(re.findall(signed, text, re.M))
+                signed = r"^(?:abbrev |unfoldable )?pub ([\w'-]+) :((?:[^\n=]|\n +)*)$"
+                found = re.findall(signed, text, re.M)
+                self.signatures[module] = {name: " ".join(signature.split()) for name, signature in found}
+                aliases.update(re.findall(r"^abbrev pub (\w+) : Type 0\n\1 = (.*)$", text, re.M))
+        for signatures in self.signatures.values():
+            for name, signature in signatures.items():
+                signatures[name] = re.sub(r"\w+", lambda word: aliases.get(word[0], word[0]), signature)
 
     def add_fields(self, block: str) -> None:
         by_type: dict[str, list[str]] = {}
@@ -118,7 +89,7 @@ class Sources:
 
     def variants(self, module: Module) -> list[str]:
         """The variants without a value, of the type whose variants a module has."""
-        return re.findall(r"^  (\w+) : the_data$", self.texts[module], re.M)
+        return re.findall(r"^  (\w+) : the_data$", self.texts.get(module, ""), re.M)
 
     def alike(self, module: Module, name: str) -> str | None:
         """The next definition of a module with the same signature."""
@@ -132,6 +103,7 @@ class Header:
 
     def __init__(self, sources: Sources, text: str) -> None:
         self.names: set[str] = set()
+        self.signatures: dict[str, str] = {}
         self.turned: dict[str, list[tuple[str, str]]] = {}  # a name: what it may turn into, with the import for that
         for path, names, alias in re.findall(r"^use ([\w.]+?)(?:\.\{([^}]*)\}| as (\w+))$", text, re.M):
             its = [name.strip() for name in names.split(",") if name.strip()]
@@ -141,6 +113,8 @@ class Header:
             if place.endswith(".TheVariants"):
                 self.add_variants(sources, (kind, crate, place), path, its, alias)
             elif module:
+                signed = sources.signatures.get(module, {})
+                self.signatures.update({name: signed[name] for name in its if name in signed})
                 for name in its:
                     other = sources.alike(module, name)
                     if other:
@@ -214,6 +188,89 @@ def edits_in(sources: Sources, header: Header, block: str, span: tuple[int, int]
             yield from ((start, end, f"{field[1]}.{other}", "") for other in sorted(sources.fields.get(field[2], ())))
         if token == "if":
             yield from negated(tokens, n, block)
+        if token in header.signatures:
+            yield from exchanged(tokens[n + 1:], parts_of(header.signatures[token], "→"), block)
+
+
+def parts_of(text: str, sign: str) -> list[str]:
+    """The parts of a text between signs that no bracket encloses, blanks and all."""
+    parts, depth = [""], 0
+    for letter in text:
+        depth += (letter in "({") - (letter in ")}")
+        if letter == sign and not depth:
+            parts.append("")
+        else:
+            parts[-1] += letter
+    return parts
+
+
+def exchanged(tokens: list[re.Match[str]], types: list[str], block: str) -> Iterator[Edit]:
+    """A call with two neighbouring arguments of one type, each in the place of the other."""
+    spans: list[tuple[int, int]] = []
+    at = 0
+    while at < len(tokens) and re.match(r"[\w(]", tokens[at][0]) and tokens[at][0] not in ("then", "else", "of"):
+        depth, end = 0, at
+        while end < len(tokens):
+            depth += (tokens[end][0] == "(") - (tokens[end][0] == ")")
+            if depth == 0:
+                break
+            end += 1
+        if end == len(tokens):
+            break
+        spans.append((tokens[at].start(), tokens[end].end()))
+        at = end + 1
+    for n in range(min(len(spans), len(types) - 1) - 1):
+        (start, middle), (after, end) = spans[n], spans[n + 1]
+        if types[n].strip() == types[n + 1].strip():
+            yield start, end, block[after:end] + block[middle:after] + block[start:middle], ""
+
+
+def patterns_of(block: str, span: tuple[int, int]) -> list[str]:
+    """The patterns before a side."""
+    head = block[block.rfind("\n", 0, span[0]) + 1:span[0]].rstrip(" =")
+    return re.findall(r"\((?:[^()]|\([^()]*\))*\)|\S+", head)[1:]
+
+
+def of_arguments(block: str, span: tuple[int, int], signature: str) -> Iterator[Edit]:
+    """Each use of an argument for another argument of its type."""
+    patterns = patterns_of(block, span)
+    types = [part.strip() for part in parts_of(signature, "→")]
+    for pattern, kind in zip(patterns, types):
+        others = [other for other, its in zip(patterns, types) if its == kind and other != pattern and other.isidentifier()]
+        if pattern.isidentifier() and others:
+            for found in re.finditer(rf"(?<![\w.']){pattern}(?![\w'])", block[slice(*span)]):
+                yield span[0] + found.start(), span[0] + found.end(), others[0], ""
+
+
+def kind_of(type_: str) -> str:
+    """A type without what it is of."""
+    return type_ if type_ == "Type 0" else type_.split(" ")[0]
+
+
+def otherwise(block: str, span: tuple[int, int], signature: str) -> Iterator[Edit]:
+    """Each use of an argument with one more, or of a list without its first or from behind."""
+    for pattern, kind in zip(patterns_of(block, span), parts_of(signature, "→")):
+        for new in OTHERWISE.get(kind_of(kind.strip()), []) if pattern.isidentifier() else []:
+            for found in re.finditer(rf"(?<![\w.']){pattern}(?![\w'.])", block[slice(*span)]):
+                yield span[0] + found.start(), span[0] + found.end(), f"({new} {pattern})", ""
+
+
+def dropped(block: str, span: tuple[int, int]) -> Iterator[Edit]:
+    """A product or a field without a clause that no change of a word drops."""
+    at = span[0]
+    for part in parts_of(block[slice(*span)], "×"):
+        clause = part.strip()
+        start = at + part.index(clause) if clause else at
+        at += len(part) + 1
+        is_clause = re.search(r" [a-z(]", clause) and not re.fullmatch(r"\(\w+ :.*\)", clause)
+        if is_clause and not ATOMIC.search(clause) and re.match(r"¬|[A-Z]|\(", clause):
+            yield start, start + len(clause), "Dropped", ""
+
+
+def given_up(block: str, span: tuple[int, int], result: str) -> Iterator[Edit]:
+    """A body that looks at nothing."""
+    for new in GIVEN_UP.get(kind_of(result), []):
+        yield *span, f" {new}" + "\n" * block[slice(*span)].endswith("\n"), ""
 
 
 def negated(tokens: list[re.Match[str]], n: int, block: str) -> Iterator[Edit]:
@@ -250,17 +307,23 @@ def changes_of(sources: Sources, module: Module, wanted: set[str]) -> Iterator[C
     """The changes of the wanted definitions of a module, each new text once."""
     text, at, seen = sources.texts[module], 0, set()
     header = Header(sources, text)
+    header.signatures.update(sources.signatures.get(module, {}))
     for block in blocks_of(text):
         at = text.index(block, at)
         names = names_of(block)
         if not set(names) & wanted or block.startswith(("use ", "infix")) or re.search(r"^pub data ", block, re.M):
             continue
         spans = list(sides_of(block))
-        edits = [edit for span in spans for edit in edits_in(sources, header, block, span)]
-        for start, end, new, line in [*edits, *neighbours(block, spans)]:
+        edits = [edit for span in spans for edit in [*edits_in(sources, header, block, span), *dropped(block, span)]]
+        signature = sources.signatures.get(module, {}).get(names[0], "")
+        edits += [edit for span in spans for edit in of_arguments(block, span, signature)] + [*neighbours(block, spans)]
+        if len(edits) < ENOUGH:
+            edits += [edit for span in spans for edit in given_up(block, span, parts_of(signature, "→")[-1].strip())]
+            edits += [edit for span in spans for edit in otherwise(block, span, signature)]
+        for start, end, new, line in edits:
             changed = block[:start] + new + block[end:]
             if changed not in seen and changed != block:
                 seen.add(changed)
                 whole = text[:at] + changed + text[at + len(block):]
-                whole = header.with_import(whole, "not" if "not" in line else new, line)
+                whole = header.with_import(whole, "not" if "not" in line else new.strip(" ()\n").split(" ")[0], line)
                 yield Change(module, names[0], shown_line(changed, start, start + len(new)), whole)

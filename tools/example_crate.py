@@ -128,6 +128,12 @@ class Declared:
             outer = "List" if rust[0] == "[" else rust.split("<")[0]
             home = "Rattle.pins.specs.Library" if outer.endswith("Vec") else PRELUDE
             return f"{outer} ({inner})" if " " in inner else f"{outer} {inner}", uses | {f"use {home}.{{{outer}}}"}
+        rust = rust.replace("&'static ", "&")
+        if rust == "&str":
+            return "Bor (List ℕ)", {f"use {PRELUDE}.{{ℕ, List}}", "use Rattle.std.specs.Borrow.{Bor}"}
+        if rust == "&[&str]":
+            inner, uses = self.type_in_antt(crate, "&str")
+            return f"Bor (List ({inner}))", uses
         if rust.startswith("&"):
             inner, uses = self.type_in_antt(crate, re.search(r"\[(\w+)\]", rust)[1])
             return f"Bor (List {inner})", uses | {f"use {PRELUDE}.{{List}}", "use Rattle.std.specs.Borrow.{Bor}"}
@@ -197,6 +203,81 @@ def gathered(wanted: set[Module]) -> dict[Module, str]:
         texts.update(made)
         ahead += [its for text in made.values() for its in modules_in(text) if its not in texts]
     return texts
+
+
+DECLARED = r"^(?:abbrev |unfoldable )?(?:pub )?(?:record |data )?([\w'◌-]+|◌[^\s◌]+◌)(?: [({].*[)}])? :"
+USE = re.compile(r"^(?:pub )?use ([\w.]+?)(?:\.\{([^}]*)\}| as (\w+))?$", re.M)
+
+
+class Parts:
+    """A module: its imports, its declarations, and of each the names that it declares and the words that it has."""
+
+    def __init__(self, module: Module, text: str) -> None:
+        self.module = module
+        self.text = text
+        self.is_declared = module[2].startswith("declared.")
+        blocks = [text] if self.is_declared else blocks_of(text)
+        code = [re.sub(r"--.*", "", block) for block in blocks]
+        self.uses = USE.findall("\n".join(line for its in code for line in its.splitlines() if "use " in line))
+        lines = [[line for line in its.splitlines() if not line.startswith(("use ", "infix"))] for its in code]
+        self.fixities = [line for its in code for line in its.splitlines() if line.startswith("infix")]
+        self.blocks = ["\n".join(its) for its in lines]
+        self.names = [self.declared_in(block) for block in self.blocks]
+        tokens = [re.findall(r"[\w'-]+(?:\.[\w'-]+)*", block) for block in self.blocks]
+        self.words = [{word for token in its for word in (token, token.split(".")[0], ".".join(token.split(".")[:2]))}
+                      | set(re.findall(r"(?<!\S)[^\s\w]+(?!\S)", block)) for its, block in zip(tokens, self.blocks)]
+
+    def declared_in(self, block: str) -> set[str]:
+        depth = "(?:  )?" if "mutual" in block or self.is_declared else ""
+        names = re.findall(DECLARED.replace("^", "^" + depth), block, re.M)
+        names += re.findall(r"^pub record (\w+)", block, re.M)  # one whose parameters are on more lines
+        if re.search(r"^pub data |^data ", block, re.M):
+            names += re.findall(r"^  (\w+) :", block, re.M)
+        return {name.strip("◌") for name in names} | ({self.module[2].split(".")[-1]} if self.is_declared else set())
+
+    def names_in(self, kept: set[int]) -> set[str]:
+        return set().union(*(self.names[n] for n in kept))
+
+    def resting(self, hit: dict[Module, set[str]], first: set[str]) -> set[int]:
+        """The declarations that rest on names of other modules, or are the first."""
+        words: set[str] = set()
+        for path, names, alias in self.uses:
+            crate, kind, place = (re.match(r"Rattle\.(\w+)\.(specs|proofs)\.(.*)", path) or re.match("()()()", "")).groups()
+            its = hit.get(module_of(crate, kind, place) or self.module, set())
+            if names:
+                pairs = [(name.strip().split(" as ") * 2)[:2] for name in names.split(",")]
+                words |= {used.strip("◌") for name, used in pairs if name.strip("◌") in its}
+            else:
+                words |= {f"{alias or place.split('.')[-1]}.{name}" for name in its}
+        found = {n for n, names in enumerate(self.names) if names & first}
+        size = -1
+        while size != len(found):
+            size = len(found)
+            known = words | self.names_in(found)
+            found |= {n for n, its in enumerate(self.words) if its & known and (self.names[n] or self.is_declared)}
+        return found
+
+    def open_text(self) -> str:
+        """The text with all that it declares open to other modules."""
+        text = re.sub(r"^(abbrev |unfoldable )?(?!pub |use |infix|abbrev|unfoldable|record|data|mutual)(?=[\w'-]+(?: [({].*[)}])? :)",
+                      r"\1pub ", self.text, flags=re.M)
+        return re.sub(r"^(abbrev |unfoldable )?(?=(record|data) \w+.* where$)", r"\1pub ", text, flags=re.M)
+
+    def narrowed(self, kept: set[int], fronts: dict[Module, str]) -> str:
+        """A copy that has some of the declarations, and the others from the module itself."""
+        if self.is_declared:
+            return renamed(self.text, fronts)
+        kind, crate, name = self.module
+        others = set().union(*self.names) - self.names_in(kept)
+        folded = {one for its, block in zip(self.names, self.blocks) if re.search("^unfoldable ", block, re.M) for one in its}
+        again = ""
+        for word, its in (("", others - folded), ("unfoldable ", others & folded)):
+            marked = sorted(one if re.match(r"\w", one) else f"◌{one}◌" for one in its)
+            again += f"{word}pub use Rattle.pins.{kind}.{crate}.{name}.{{{', '.join(marked)}}}\n" if marked else ""
+        uses = "".join(line + "\n" for line in self.text.splitlines() if line.startswith("use "))
+        fixed = "".join(line + "\n" for line in self.fixities if set(re.findall(r"◌(\S+?)◌", line)) & self.names_in(kept))
+        its = Parts(self.module, "\n\n".join(self.blocks[n].strip("\n") for n in sorted(kept))).open_text()
+        return renamed(uses, fronts) + again + fixed + "\n" + renamed(its, fronts) + "\n"
 
 
 def file_of(module: Module, front: str = "") -> str:

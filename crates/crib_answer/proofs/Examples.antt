@@ -1,4 +1,4 @@
--- Worked examples of what a reply tells by its text and its status.
+-- Worked examples of what the text and the status of a reply mean.
 use Rattle.std.proofs.Common.{arith, ◌≡◌, refl, sym, subst, inl, inr, ℕ, List, [], ◌∷◌, ◌++◌, codes, map, Ok, Err}
 use Rattle.std.specs.Fmt.{digits}
 use Rattle.crib_cards.specs.Sets.{set_where}
@@ -24,8 +24,8 @@ use Rattle.crib_run.specs.Reply.{fault_line}
 use Rattle.crib_answer.specs.Answer.{too_large}
 use Rattle.crib_input.specs.Input.{most_bytes}
 use Rattle.crib_input.specs.Spelled.{SpellsProblem, SpellsPlan}
-use Rattle.crib_answer.specs.Telling.{HasFailingPlan, IsSolvedBy, HasNoPlan}
-use Rattle.crib_answer.specs.Telling.{CheckTells, SolveTells, StatusTells, holds_line, fails_line, none_line}
+use Rattle.crib_answer.specs.Meaning.{HasFailingPlan, IsSolvedBy, HasNoPlan}
+use Rattle.crib_answer.specs.Meaning.{CheckMeans, SolveMeans, StatusMeans, holds_line, fails_line, none_line}
 
 -- ---- the jobs: their names, in the order of the help text, and what their inputs have
 pub names_in_order : job_names ≡ codes "check" ∷ codes "solve" ∷ codes "replay" ∷ codes "board" ∷ codes "follow" ∷ []
@@ -127,38 +127,38 @@ unfolding problem_text problem_lines
 nothing_is_no_plan problem plan is = (let text = is.text in cc)
 
 -- ---- check. `Ends` is assumed here. check_law states it
-pub a_sure_plan_holds : Ends at_29 → CheckTells (the_problem ++ the_plan) (codes "holds\n") Yes
+pub a_sure_plan_holds : Ends at_29 → CheckMeans (the_problem ++ the_plan) (codes "holds\n") Yes
 a_sure_plan_holds ends = (
   record { problem = at_29; plan = ace_or_two; spelled = problem_and_plan; sure = ace_or_two_is_sure; goes_on = ace_or_two_goes_on; ends = ends },
   refl,
 )
 
-pub holds_is_written : CheckTells (the_problem ++ the_plan) [] Yes → ⊥
-holds_is_written told = (let text = told.1 in cc)
+pub holds_is_written : CheckMeans (the_problem ++ the_plan) [] Yes → ⊥
+holds_is_written means = (let text = means.1 in cc)
 
 pub a_failing_plan_fails : (game : Game) (input : List ℕ) → HasFailingPlan input ending.Short (game_text game) →
-    CheckTells input (codes "fails short\n" ++ game_text game) No
+    CheckMeans input (codes "fails short\n" ++ game_text game) No
 a_failing_plan_fails game input has = (ending.Short, game_text game, has, refl)
 
 pub first_failing_game_is_written : (input : List ℕ) (result : Ending) → HasFailingPlan input result [] → ⊥
 unfolding game_text game_lines
 first_failing_game_is_written input result has = (let text = has.game_is in cc)
 
-pub fails_is_written : (input : List ℕ) → CheckTells input [] No → ⊥
-fails_is_written input told = (let text = told.3 in cc)
+pub fails_is_written : (input : List ℕ) → CheckMeans input [] No → ⊥
+fails_is_written input means = (let text = means.3 in cc)
 
-pub no_problem_is_refused : (text : List ℕ) → CheckTells [] text Refused
+pub no_problem_is_refused : (text : List ℕ) → CheckMeans [] text Refused
 no_problem_is_refused text = nothing_is_no_plan
 
-pub want_of_memory : (input : List ℕ) → CheckTells input (codes "fault 11\n") Fault
+pub want_of_memory : (input : List ℕ) → CheckMeans input (codes "fault 11\n") Fault
 unfolding digits
 want_of_memory input = refl
 
-pub want_of_memory_is_written : (input : List ℕ) → CheckTells input [] Fault → ⊥
-want_of_memory_is_written input told = (let text = told in cc)
+pub want_of_memory_is_written : (input : List ℕ) → CheckMeans input [] Fault → ⊥
+want_of_memory_is_written input means = (let text = means in cc)
 
 -- ---- solve
-pub a_sure_plan_is_written : Ends at_29 → SolveTells the_problem the_plan Yes
+pub a_sure_plan_is_written : Ends at_29 → SolveMeans the_problem the_plan Yes
 unfolding plan_text plan_lines digits
 a_sure_plan_is_written ends = record {
   problem = at_29;
@@ -174,40 +174,40 @@ pub no_text_is_no_plan : (input : List ℕ) → IsSolvedBy input [] → ⊥
 unfolding plan_text plan_lines
 no_text_is_no_plan input is = (let text = is.plan_is in cc)
 
-pub none_where_no_plan_is_sure : (input : List ℕ) → HasNoPlan input → SolveTells input (codes "none\n") No
+pub none_where_no_plan_is_sure : (input : List ℕ) → HasNoPlan input → SolveMeans input (codes "none\n") No
 none_where_no_plan_is_sure input has = (has, refl)
 
 -- the problem has a sure plan, so it is wrong to say that it has none
 pub not_none_where_a_plan_is_sure : (is : HasNoPlan the_problem) → is.problem ≡ at_29 → ⊥
 not_none_where_a_plan_is_sure is e = is.none (subst IsWinnable (sym e) (record { plan = ace_or_two; sure = ace_or_two_is_sure }))
 
-pub none_is_written : (input : List ℕ) → SolveTells input [] No → ⊥
-none_is_written input told = (let text = told.1 in cc)
+pub none_is_written : (input : List ℕ) → SolveMeans input [] No → ⊥
+none_is_written input means = (let text = means.1 in cc)
 
-pub no_problem_to_solve_is_refused : (text : List ℕ) → SolveTells [] text Refused
+pub no_problem_to_solve_is_refused : (text : List ℕ) → SolveMeans [] text Refused
 no_problem_to_solve_is_refused text = nothing_is_no_problem
 
-pub want_of_memory_to_solve : (input : List ℕ) → SolveTells input (codes "fault 11\n") Fault
+pub want_of_memory_to_solve : (input : List ℕ) → SolveMeans input (codes "fault 11\n") Fault
 unfolding digits
 want_of_memory_to_solve input = inl refl
 
-pub some_plan_too_large : SolveTells the_problem (codes "fault 50\n") Fault
+pub some_plan_too_large : SolveMeans the_problem (codes "fault 50\n") Fault
 unfolding digits
 some_plan_too_large = inr (record { problem = at_29; spelled = problem_alone; some = record { plan = ace_or_two; sure = ace_or_two_is_sure } }, refl)
 
-pub fault_is_written : (input : List ℕ) → SolveTells input [] Fault → ⊥
+pub fault_is_written : (input : List ℕ) → SolveMeans input [] Fault → ⊥
 fault_is_written input (inl text) = cc
-fault_is_written input (inr told) = (let text = told.1 in cc)
+fault_is_written input (inr means) = (let text = means.1 in cc)
 
--- ---- what each job tells
-pub check_is_told : Ends at_29 → StatusTells Check (the_problem ++ the_plan) (record { output = codes "holds\n"; status = Yes })
-check_is_told ends = a_sure_plan_holds ends
+-- ---- what the reply of each job means
+pub check_means_a_sure_plan : Ends at_29 → StatusMeans Check (the_problem ++ the_plan) (record { output = codes "holds\n"; status = Yes })
+check_means_a_sure_plan ends = a_sure_plan_holds ends
 
-pub solve_is_told : Ends at_29 → StatusTells Solve the_problem (record { output = the_plan; status = Yes })
-solve_is_told ends = a_sure_plan_is_written ends
+pub solve_means_a_sure_plan : Ends at_29 → StatusMeans Solve the_problem (record { output = the_plan; status = Yes })
+solve_means_a_sure_plan ends = a_sure_plan_is_written ends
 
-pub nothing_is_not_solved : (text : List ℕ) → StatusTells Solve [] (record { output = text; status = Yes }) → ⊥
-nothing_is_not_solved text told = nothing_is_no_problem told.problem told.spelled
+pub nothing_is_not_solved : (text : List ℕ) → StatusMeans Solve [] (record { output = text; status = Yes }) → ⊥
+nothing_is_not_solved text means = nothing_is_no_problem means.problem means.spelled
 
-pub replay_tells_nothing : (text : List ℕ) → StatusTells Replay [] (record { output = text; status = No })
-replay_tells_nothing text = tt
+pub replay_means_nothing : (text : List ℕ) → StatusMeans Replay [] (record { output = text; status = No })
+replay_means_nothing text = tt

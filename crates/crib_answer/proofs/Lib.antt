@@ -1,8 +1,8 @@
 pub mod Lines
-pub mod OwedReplies
+pub mod RightReplies
 pub mod Reasons
 pub mod Replies
-pub mod ToldAnswers
+pub mod AnswerMeanings
 pub mod CutShortInputs
 pub mod Examples
 pub mod JudgedInputs

@@ -23,11 +23,11 @@ use Rattle.crib_answer.specs.Memory.{Makes}
 use Rattle.crib_answer.proofs.Agreement.{same_refusal_law}
 use Rattle.crib_answer.proofs.Replies.{one_reply_law}
 
--- if a job answers an input with a refusal, this is the refusal that is owed
+-- if a job answers an input with a refusal, this is the refusal of the input
 pub refused_is : (job : Job) (input : List ℕ) (reply : Reply) (refusal : Refusal) → Makes job input reply → reply.status ≡ statuses.Refused
     → Answers job input (refusal_reply refusal) → reply ≡ refusal_reply refusal
-refused_is job input reply refusal (inl answers) e owed = one_reply_law job input reply (refusal_reply refusal) answers owed
-refused_is job input reply refusal (inr want) e owed =
+refused_is job input reply refusal (inl made) e answers = one_reply_law job input reply (refusal_reply refusal) made answers
+refused_is job input reply refusal (inr want) e answers =
     let none : statuses.Fault ≡ statuses.Refused = sym (ap (λ (r : Reply). r.status) want.1) ∙ e in absurd cc
 
 -- ---- faults

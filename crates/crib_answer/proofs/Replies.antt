@@ -27,10 +27,10 @@ use Rattle.crib_run.specs.Reply.{Reply}
 use Rattle.crib_run.specs.Reply.{refusal_reply, fault_reply}
 use Rattle.crib_answer.specs.Answer.{AnswersCheck, AnswersProblem, AnswersSolve, verdict_reply, found_reply, too_large}
 use Rattle.crib_answer.specs.Laws.{OneReplyLaw, HoldsLaw, FailsLaw, EitherLaw, SureLaw, FailingLaw, PlanLaw, NoneLaw}
-use Rattle.crib_answer.specs.Telling.{holds_line, fails_line, none_line}
+use Rattle.crib_answer.specs.Meaning.{holds_line, fails_line, none_line}
 use Rattle.crib_input.proofs.Inputs.{problem_accepted, question_accepted, question_spelled}
 
--- ---- texts are told apart by their first byte
+-- ---- texts differ in their first byte
 
 abbrev pub first_byte : List ℕ → ℕ
 first_byte [] = 0
@@ -40,7 +40,7 @@ first_byte (byte ∷ bytes) = byte
 pub first_of : (reply stated : Reply) (text : List ℕ) → reply ≡ stated → reply.output ≡ text → first_byte stated.output ≡ first_byte text
 first_of reply stated text is e = ap (λ (r : Reply). first_byte r.output) (sym is) ∙ ap first_byte e
 
--- ---- the words of endings are told apart by their second letter
+-- ---- the words of endings differ in their second letter
 
 abbrev ending_with : ℕ → Ending
 ending_with letter =

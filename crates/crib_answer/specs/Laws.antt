@@ -19,9 +19,9 @@ use Rattle.crib_answer.specs.Input.{board_of_input, ending_of_input, report_of_i
 use Rattle.crib_run.specs.Reply.{Reply}
 use Rattle.crib_run.specs.Reply.{refusal_reply}
 use Rattle.crib_answer.specs.Answer.{Answers, verdict_reply, ending_reply}
-use Rattle.crib_answer.specs.Telling.{HasSurePlan, HasFailingPlan, IsSolvedBy, HasNoPlan}
+use Rattle.crib_answer.specs.Meaning.{HasSurePlan, HasFailingPlan, IsSolvedBy, HasNoPlan}
 use Rattle.crib_answer.specs.Reported.{IsReported}
-use Rattle.crib_answer.specs.Telling.{holds_line, fails_line, none_line}
+use Rattle.crib_answer.specs.Meaning.{holds_line, fails_line, none_line}
 
 -- ---- every job
 

@@ -3,7 +3,7 @@ ghost use Rattle.std.specs.Prelude.{◌≡◌, ◌≤◌, length, vec_len};
 ghost use Rattle.crib_answer.specs.Answer.{board_reply};
 ghost use Rattle.crib_answer.specs.Memory.{Makes};
 ghost use Rattle.crib_run.specs.Reply.{reply_of};
-ghost use Rattle.crib_answer.specs.Telling.{StatusTells};
+ghost use Rattle.crib_answer.specs.Meaning.{StatusMeans};
 
 use crate::ending::ending_answer;
 use crate::job::Job;
@@ -22,10 +22,10 @@ use std::alloc::Allocator;
 
 /// Returns the whole answer of a job to an input of any length: its text and its status (docs/FORMATS.md, "Answers").
 ///
-/// - `owed`: the answer is the reply that the job owes to these bytes, or it is `fault 11` because memory was refused.
+/// - `answers`: the answer is the right reply of the job to these bytes, or `fault 11` because an allocation failed.
 ///   `replay` never asks for memory. `follow` and `check` ask for it only if the problem and the first two lines of the
 ///   plan are not refused. `solve` and `board` ask for it only if the input is not refused.
-/// - `told`: the status and the text tell this of the input:
+/// - `means`: the status and the text mean this for the input:
 ///   - `check`, `Yes`: the text is `holds`, and the plan of the input is sure.
 ///   - `check`, `No`: the text is `fails`, the ending, and the first failing game of the plan.
 ///   - `solve`, `Yes`: the text is a plan that is sure for the problem of the input.
@@ -34,8 +34,8 @@ use std::alloc::Allocator;
 ///   - `Fault`: memory was refused. Or the job is `solve`, some plan is sure, and the plan that was found has more than
 ///     65,535 nodes.
 pub fn answer_to<A: Allocator + Copy>(alloc: A, job: Job, input: &[u8]) -> Answer<A>
-    ensures owed { Makes job input.now (reply_of result) }
-    ensures told { StatusTells job input.now (reply_of result) }
+    ensures answers { Makes job input.now (reply_of result) }
+    ensures means { StatusMeans job input.now (reply_of result) }
 {
     if input.len() > MAX_INPUT {
         return too_long_answer();

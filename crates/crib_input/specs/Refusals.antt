@@ -26,10 +26,10 @@ refusal_of refusal = record { line = refusal.line; number = input_cause_number r
 
 -- a result agrees with what was read: its value, seen through `view`, is the one that was read, or it has the same
 -- refusal. If an allocation failed, this says nothing
-abbrev pub Tells : {X Y : Type 0} → (X → Y) → Result X NotRead → Result Y Refusal → Type 0
-Tells view (Ok value) said = said ≡ Ok (view value)
-Tells view (Err (not_reads.Refused refusal)) said = said ≡ Err (refusal_of refusal)
-Tells view (Err not_reads.Memory) said = Unit {0}
+abbrev pub ReadsAs : {X Y : Type 0} → (X → Y) → Result X NotRead → Result Y Refusal → Type 0
+ReadsAs view (Ok value) said = said ≡ Ok (view value)
+ReadsAs view (Err (not_reads.Refused refusal)) said = said ≡ Err (refusal_of refusal)
+ReadsAs view (Err not_reads.Memory) said = Unit {0}
 
 -- an input was not read because of a fault of its plan: an allocation failed if the fault has the number `no_memory`,
 -- and otherwise the input has the refusal of the fault

@@ -3,7 +3,7 @@ ghost use Rattle.std.specs.Prelude.{◌≡◌, ◌≤◌, Err, IsOk, length};
 ghost use Rattle.crib_text.specs.Reading.{Gives};
 ghost use Rattle.crib_input.specs.Input.{played_of_input, played_under_of_input, problem_of_input, question_of_input};
 ghost use Rattle.crib_input.specs.Memory.{count_of_input};
-ghost use Rattle.crib_input.specs.Refusals.{Tells, refusal_of};
+ghost use Rattle.crib_input.specs.Refusals.{ReadsAs, refusal_of};
 
 use crate::refusal::{NotRead, Refusal};
 use crib_game::{Game, read_game};
@@ -57,7 +57,7 @@ pub fn problem_of(input: &[u8]) -> Result<Problem, Refusal>
 #[tactic(auto, unfolding(crate::specs::Input::input_lines, crate::specs::Input::question_of_input, crate::specs::Input::question_at, crate::specs::Memory::count_of_input, crate::specs::Memory::count_behind))]
 pub fn question_of<A: Allocator + Copy>(alloc: A, input: &[u8]) -> Result<Question<A>, NotRead>
     requires { length input.now ≤ MAX_INPUT }
-    ensures read { Tells (λ question. (question.problem, question.plan)) result (question_of_input input.now) }
+    ensures read { ReadsAs (λ question. (question.problem, question.plan)) result (question_of_input input.now) }
     ensures asked { result ≡ Err NotRead.Memory → IsOk (count_of_input input.now) }
 {
     let mut lines = Lines::new(input)?;
@@ -95,7 +95,7 @@ pub fn played_under_of<A: Allocator + Copy>(
     input: &[u8],
 ) -> Result<PlayedUnder<A>, NotRead>
     requires { length input.now ≤ MAX_INPUT }
-    ensures read { Tells (λ played. (played.problem, played.plan, played.game, played.first)) result
+    ensures read { ReadsAs (λ played. (played.problem, played.plan, played.game, played.first)) result
         (played_under_of_input input.now) }
     ensures asked { result ≡ Err NotRead.Memory → IsOk (count_of_input input.now) }
 {

@@ -19,18 +19,18 @@ use Rattle.crib_sheet.specs.PlanText.{letter_byte, range_words, rank_words, go_w
 place_of : ℕ → ℕ
 place_of byte = position_or_len (λ known. eqb known byte) rank_letters
 
--- whether a letter, after the letter at `last` and a dash or nothing, tells this place
-abbrev tells : ℕ → ℕ → Bool → ℕ → Bool
-tells place last true here = leb last place && leb place here
-tells place last false here = eqb here place
+-- whether a letter, after the letter at `last` and a dash or nothing, marks this place
+abbrev marks : ℕ → ℕ → Bool → ℕ → Bool
+marks place last true here = leb last place && leb place here
+marks place last false here = eqb here place
 
--- whether the rest of a label tells a place, after the letter at `last`, and after a dash or not
+-- whether the rest of a label marks a place, after the letter at `last`, and after a dash or not
 abbrev covers : ℕ → ℕ → Bool → List ℕ → Bool
 covers place last dashed [] = false
 covers place last dashed (byte ∷ bytes) =
     cond (eqb byte 32) (covers place 0 false bytes)
     (cond (eqb byte 45) (covers place last true bytes)
-    (tells place last dashed (place_of byte) || covers place (place_of byte) false bytes))
+    (marks place last dashed (place_of byte) || covers place (place_of byte) false bytes))
 
 covers_space : (place last : ℕ) (dashed : Bool) (word rest : List ℕ) →
     covers place last dashed (word ++ 32 ∷ rest) ≡ (covers place last dashed word || covers place 0 false rest)
@@ -43,8 +43,8 @@ covers_space place last dashed (byte ∷ word) rest =
             | inl dash ↦ rw (other, dash) (covers_space place last true word rest)
             | inr letter ↦
                 rw (other, letter)
-                (ap (λ b. tells place last dashed (place_of byte) || b) (covers_space place (place_of byte) false word rest)
-                ∙ sym (or_assoc (tells place last dashed (place_of byte)) (covers place (place_of byte) false word) (covers place 0 false rest)))
+                (ap (λ b. marks place last dashed (place_of byte) || b) (covers_space place (place_of byte) false word rest)
+                ∙ sym (or_assoc (marks place last dashed (place_of byte)) (covers place (place_of byte) false word) (covers place 0 false rest)))
           ]
     ]
 
@@ -78,9 +78,9 @@ place_of-letter : (here : ℕ) → here < 13 → place_of (letter_byte here) ≡
 unfolding place_of
 place_of-letter here small = eqb-true _ here (agree_below_at (λ k. eqb (place_of (letter_byte k)) k) (λ _. true) 13 here refl small)
 
-letter_tells : (place last : ℕ) (dashed : Bool) (here : ℕ) (rest : List ℕ) → here < 13 →
-    covers place last dashed (letter_byte here ∷ rest) ≡ (tells place last dashed here || covers place here false rest)
-letter_tells place last dashed here rest small = rw (letter_no_space here small, letter_no_dash here small, place_of-letter here small) refl
+letter_marks : (place last : ℕ) (dashed : Bool) (here : ℕ) (rest : List ℕ) → here < 13 →
+    covers place last dashed (letter_byte here ∷ rest) ≡ (marks place last dashed here || covers place here false rest)
+letter_marks place last dashed here rest small = rw (letter_no_space here small, letter_no_dash here small, place_of-letter here small) refl
 
 -- whether a place is among so many before another
 abbrev run : ℕ → ℕ → ℕ → Bool
@@ -153,28 +153,28 @@ run_range place first more =
           ]
     ]
 
-range_tells : (place behind before : ℕ) → before ≤ behind → behind ≤ 13 →
+range_marks : (place behind before : ℕ) → before ≤ behind → behind ≤ 13 →
     list_any (covers place 0 false) (range_words behind before) ≡ run place behind before
-range_tells place behind zero few small = sym (run_none place behind)
-range_tells place behind (suc zero) few small =
+range_marks place behind zero few small = sym (run_none place behind)
+range_marks place behind (suc zero) few small =
     let e : behind - 1 + 1 ≡ behind = omega arith in
-    rw (letter_tells place 0 false (behind - 1) [] (omega arith), run_one place (behind - 1), e)
+    rw (letter_marks place 0 false (behind - 1) [] (omega arith), run_one place (behind - 1), e)
     (or-false (run place behind 1 || false) ∙ or-false (run place behind 1))
-range_tells place behind (suc (suc zero)) few small =
+range_marks place behind (suc (suc zero)) few small =
     let e : behind - 2 + 1 ≡ behind - 1 = omega arith in
     let f : behind - 1 + 1 ≡ behind = omega arith in
     let one : eqb (behind - 2) place ≡ run place (behind - 1) 1 = rw e at (run_one place (behind - 2)) in
     let two : run place behind 2 ≡ (run place (behind - 1) 1 || eqb (behind - 1) place) = rw f at (run_more place (behind - 1) 1) in
     rw (
-      letter_tells place 0 false (behind - 2) [] (omega arith),
-      letter_tells place 0 false (behind - 1) [] (omega arith),
+      letter_marks place 0 false (behind - 2) [] (omega arith),
+      letter_marks place 0 false (behind - 1) [] (omega arith),
       one,
       two,
       or-false (run place (behind - 1) 1),
       or-false (eqb (behind - 1) place),
       or-false (eqb (behind - 1) place),
     ) refl
-range_tells place behind (suc (suc (suc more))) few small =
+range_marks place behind (suc (suc (suc more))) few small =
     let first : ℕ = behind - (3 + more) in
     let e : behind - (3 + more) + (2 + more) ≡ behind - 1 = omega arith in
     let f : behind - 1 + 1 ≡ behind = omega arith in
@@ -182,8 +182,8 @@ range_tells place behind (suc (suc (suc more))) few small =
     let range : (eqb (behind - (3 + more)) place || (leb (behind - (3 + more)) place && leb place (behind - 1))) ≡ run place behind (suc (suc (suc more))) =
     rw (e, f, g) at (run_range place (behind - (3 + more)) (2 + more)) in
     rw (
-      letter_tells place 0 false (behind - (3 + more)) (45 ∷ letter_byte (behind - 1) ∷ []) (omega arith),
-      letter_tells place (behind - (3 + more)) true (behind - 1) [] (omega arith),
+      letter_marks place 0 false (behind - (3 + more)) (45 ∷ letter_byte (behind - 1) ∷ []) (omega arith),
+      letter_marks place (behind - (3 + more)) true (behind - 1) [] (omega arith),
       or-false (leb (behind - (3 + more)) place && leb place (behind - 1)),
       range,
     ) (or-false (run place behind (suc (suc (suc more)))))
@@ -195,30 +195,30 @@ abbrev has_from : ℕ → ℕ → List Bool → Bool
 has_from place from [] = false
 has_from place from (flag ∷ set) = (flag && eqb from place) || has_from place (from + 1) set
 
-words_tell : (place behind before : ℕ) (set : List Bool) → before ≤ behind → behind + length set ≤ 13 →
+words_mark : (place behind before : ℕ) (set : List Bool) → before ≤ behind → behind + length set ≤ 13 →
     list_any (covers place 0 false) (rank_words behind before set) ≡ (run place behind before || has_from place behind set)
 unfolding rank_words
-words_tell place behind before [] few small = range_tells place behind before few (omega arith) ∙ sym (or-false (run place behind before))
-words_tell place behind before (true ∷ set) few small =
-    words_tell place (behind + 1) (before + 1) set (omega arith) (omega arith)
+words_mark place behind before [] few small = range_marks place behind before few (omega arith) ∙ sym (or-false (run place behind before))
+words_mark place behind before (true ∷ set) few small =
+    words_mark place (behind + 1) (before + 1) set (omega arith) (omega arith)
     ∙ ap (λ b. b || has_from place (behind + 1) set) (run_more place behind before)
     ∙ or_assoc (run place behind before) (eqb behind place) (has_from place (behind + 1) set)
-words_tell place behind before (false ∷ set) few small =
+words_mark place behind before (false ∷ set) few small =
     list_any-append (covers place 0 false) (range_words behind before) (rank_words (behind + 1) 0 set)
-    ∙ ap (λ b. b || list_any (covers place 0 false) (rank_words (behind + 1) 0 set)) (range_tells place behind before few (omega arith))
+    ∙ ap (λ b. b || list_any (covers place 0 false) (rank_words (behind + 1) 0 set)) (range_marks place behind before few (omega arith))
     ∙ ap (λ b. run place behind before || b)
-    (words_tell place (behind + 1) 0 set (omega arith) (omega arith) ∙ ap (λ b. b || has_from place (behind + 1) set) (run_none place (behind + 1)))
+    (words_mark place (behind + 1) 0 set (omega arith) (omega arith) ∙ ap (λ b. b || has_from place (behind + 1) set) (run_none place (behind + 1)))
 
-go_tells : (place : ℕ) (set : List Bool) → length set ≡ 1 → list_any (covers place 0 false) (go_words set) ≡ has_from place 13 set
+go_marks : (place : ℕ) (set : List Bool) → length set ≡ 1 → list_any (covers place 0 false) (go_words set) ≡ has_from place 13 set
 unfolding place_of
-go_tells place [] one = absurd (omega arith)
-go_tells place (true ∷ []) one =
+go_marks place [] one = absurd (omega arith)
+go_marks place (true ∷ []) one =
     elim (cases_Bool (eqb 13 place)) [
       | inl e ↦ rw e refl
       | inr e ↦ rw e refl
     ]
-go_tells place (false ∷ []) one = refl
-go_tells place (flag ∷ next ∷ set) one = absurd (omega arith)
+go_marks place (false ∷ []) one = refl
+go_marks place (flag ∷ next ∷ set) one = absurd (omega arith)
 
 has_from-append : (place from : ℕ) (front back : List Bool) →
     has_from place from (front ++ back) ≡ (has_from place from front || has_from place (from + length front) back)
@@ -230,17 +230,17 @@ has_from-append place from (flag ∷ front) back =
     ap (λ b. (flag && eqb from place) || b) rest
     ∙ sym (or_assoc (flag && eqb from place) (has_from place (from + 1) front) (has_from place (from + suc (length front)) back))
 
--- a label tells just the letters of its set
-label_tells : (place : ℕ) (set : List Bool) → length set ≡ 14 → covers place 0 false (label set) ≡ has_from place 0 set
+-- a label marks just the letters of its set
+label_marks : (place : ℕ) (set : List Bool) → length set ≡ 14 → covers place 0 false (label set) ≡ has_from place 0 set
 unfolding label
-label_tells place set long =
+label_marks place set long =
     let ranks : length (take 13 set) ≡ 13 = length-take-le 13 set (omega arith) in
     let one : length (drop 13 set) ≡ 1 = omega (arith, length-drop 13 set) in
     covers_words place (rank_words 0 0 (take 13 set) ++ go_words (drop 13 set))
     ∙ list_any-append (covers place 0 false) (rank_words 0 0 (take 13 set)) (go_words (drop 13 set))
     ∙ ap (λ b. b || list_any (covers place 0 false) (go_words (drop 13 set)))
-    (words_tell place 0 0 (take 13 set) (omega arith) (omega arith) ∙ ap (λ b. b || has_from place 0 (take 13 set)) (run_none place 0))
-    ∙ ap (λ b. has_from place 0 (take 13 set) || b) (go_tells place (drop 13 set) one)
+    (words_mark place 0 0 (take 13 set) (omega arith) (omega arith) ∙ ap (λ b. b || has_from place 0 (take 13 set)) (run_none place 0))
+    ∙ ap (λ b. has_from place 0 (take 13 set) || b) (go_marks place (drop 13 set) one)
     ∙ ap (λ k. has_from place 0 (take 13 set) || has_from place k (drop 13 set)) (let e : 13 ≡ 0 + length (take 13 set) = omega arith in e)
     ∙ sym (has_from-append place 0 (take 13 set) (drop 13 set))
     ∙ ap (has_from place 0) (take-append-drop 13 set)
@@ -275,9 +275,9 @@ pub same_labels : (set set' : List Bool) (count count' : ℕ) → length set ≡
 same_labels set set' count count' long long' same =
     same_sets 0 set set' (long ∙ sym long')
     (λ place above.
-    sym (label_tells place set long) ∙ sym (covers_blanks place (label set) count)
+    sym (label_marks place set long) ∙ sym (covers_blanks place (label set) count)
     ∙ ap (covers place 0 false) same
-    ∙ covers_blanks place (label set') count' ∙ label_tells place set' long')
+    ∙ covers_blanks place (label set') count' ∙ label_marks place set' long')
 
 -- ---- the bytes of a label
 
@@ -380,4 +380,4 @@ pub label_first : (set : List Bool) (rest : List ℕ) → length set ≡ 14 → 
 unfolding label
 label_first set rest long some =
     joined_first (rank_words 0 0 (take 13 set) ++ go_words (drop 13 set)) rest (words_plain set)
-    (λ empty. some_letter 0 set some (λ place. sym (label_tells place set long) ∙ ap (λ words. covers place 0 false (join_with_byte 32 words)) empty))
+    (λ empty. some_letter 0 set some (λ place. sym (label_marks place set long) ∙ ap (λ words. covers place 0 false (join_with_byte 32 words)) empty))

@@ -14,10 +14,10 @@ none_needed (Named number) = []
 unfoldable pub legend_text : List ℕ
 legend_text =
     codes "\n"
-    ++ codes "Play the cards of a row in order, one at each of your turns. If none of your\n"
-    ++ codes "cards fits, say go and stay there. At \"look\", go on in the line of what the\n"
-    ++ codes "opponent shows next, a rank or go; what is in no line ends what you need to\n"
-    ++ codes "know. At \"see [n]\", go on at once in the paragraph that begins with [n].\n"
+    ++ codes "Play a row in order, one card at each of your turns. If none of your cards\n"
+    ++ codes "fits, say go and stay there. At \"look\", go on in the line of what they show\n"
+    ++ codes "next: a rank, or a go, even after yours. At the end of a row, or if there is\n"
+    ++ codes "no line, nothing is left to decide. At \"see [n]\", go on in paragraph [n].\n"
 
 -- the page of a sheet
 unfoldable pub page_text : Sheet → List ℕ

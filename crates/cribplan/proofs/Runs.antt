@@ -1,15 +1,15 @@
--- What a job owes to an input tells of it what `StatusTells` states.
+-- The replies of each job have the meaning that `StatusMeans` states.
 use Rattle.std.proofs.Common.{inl, refl}
-use Rattle.crib_run.proofs.Runs.{AreTold}
+use Rattle.crib_run.proofs.Runs.{HaveMeaning}
 use Rattle.crib_answer.specs.declared.job.Job.{Job}
 use Rattle.crib_answer.specs.Memory.{Makes}
-use Rattle.crib_answer.specs.Telling.{StatusTells}
-use Rattle.crib_answer.proofs.OwedReplies.{long_answers}
-use Rattle.crib_answer.proofs.ToldAnswers.{makes_tells, memory_tells}
+use Rattle.crib_answer.specs.Meaning.{StatusMeans}
+use Rattle.crib_answer.proofs.RightReplies.{long_answers}
+use Rattle.crib_answer.proofs.AnswerMeanings.{makes_means, memory_means}
 
-pub job_told : (job : Job) → AreTold (Makes job) (StatusTells job)
-job_told job = record {
-  owed = makes_tells job;
-  long = λ input long. makes_tells job input _ (inl (long_answers job input _ long refl));
-  memory = memory_tells job;
+pub job_means : (job : Job) → HaveMeaning (Makes job) (StatusMeans job)
+job_means job = record {
+  answers = makes_means job;
+  long = λ input long. makes_means job input _ (inl (long_answers job input _ long refl));
+  memory = memory_means job;
 }

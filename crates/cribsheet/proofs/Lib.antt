@@ -1,5 +1,5 @@
 pub mod JobWords
-pub mod ToldSheets
+pub mod SheetMeanings
 pub mod SentSheets
 pub mod MadeSheets
 mod SheetExamples

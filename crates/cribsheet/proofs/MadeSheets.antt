@@ -1,4 +1,4 @@
--- What the readers and the writers of sheets return is what the job owes to the input.
+-- What the readers and the writers of sheets return is a right reply of the job to the input.
 use Rattle.std.proofs.Common.{◌≡◌, ◌⊎◌, inl, inr, ℕ, Bool, List, [], Option, Result, Ok, Err, length, refl, sym, ap, subst}
 use Rattle.std.specs.Prelude.{take}
 use Rattle.std.specs.Io.KnownBytes.{Appends}

@@ -1,4 +1,4 @@
--- Worked examples of the words of the command line, and of what a sheet tells.
+-- Worked examples of the words of the command line, and of what a sheet means.
 use Rattle.std.proofs.Common.{◌≡◌, ◌⊎◌, inl, inr, ℕ, List, [], ◌∷◌, ◌++◌, Some, None, Ok, Err, codes, refl}
 use Rattle.std.specs.Fmt.{digits}
 use Rattle.std.specs.Str.{chars}
@@ -19,7 +19,7 @@ use Rattle.cribsheet.specs.Beside.{AreShown}
 use Rattle.cribsheet.specs.Command.{IsJobWords, words_refusal}
 use Rattle.cribsheet.specs.Job.{job_called, sections_of}
 use Rattle.cribsheet.specs.Sheet.{game_reply, verdict_status}
-use Rattle.cribsheet.specs.Telling.{GameTells, HasUnsurePlan, PlanTells}
+use Rattle.cribsheet.specs.Meaning.{GameMeans, HasUnsurePlan, PlanMeans}
 
 -- ---- the words
 plan_is_called : job_called (codes "plan") ≡ Ok Plan
@@ -63,8 +63,8 @@ unsure_is_no game = refl
 a_game_is_yes : game_reply (codes "a") ≡ record { output = codes "a"; status = Yes }
 a_game_is_yes = refl
 
--- ---- what a sheet tells. `Ends` is assumed here
-a_sure_plan : (input text : List ℕ) → SpellsPlan input at_29 ace_or_two → Ends at_29 → PlanTells input text Yes
+-- ---- what a sheet means. `Ends` is assumed here
+a_sure_plan : (input text : List ℕ) → SpellsPlan input at_29 ace_or_two → Ends at_29 → PlanMeans input text Yes
 a_sure_plan input text spelled ends = record {
   problem = at_29;
   plan = ace_or_two;
@@ -74,25 +74,25 @@ a_sure_plan input text spelled ends = record {
   ends = ends;
 }
 
-no_yes_of_nothing : (text : List ℕ) → PlanTells [] text Yes → ⊥
-no_yes_of_nothing text told = nothing_is_no_plan told.problem told.plan told.spelled
+no_yes_of_nothing : (text : List ℕ) → PlanMeans [] text Yes → ⊥
+no_yes_of_nothing text means = nothing_is_no_plan means.problem means.plan means.spelled
 
-no_no_of_nothing : (text : List ℕ) → PlanTells [] text No → ⊥
-no_no_of_nothing text told = nothing_is_no_plan told.problem told.plan told.spelled
+no_no_of_nothing : (text : List ℕ) → PlanMeans [] text No → ⊥
+no_no_of_nothing text means = nothing_is_no_plan means.problem means.plan means.spelled
 
-nothing_is_refused : (text : List ℕ) → PlanTells [] text Refused
+nothing_is_refused : (text : List ℕ) → PlanMeans [] text Refused
 nothing_is_refused text = nothing_is_no_plan
 
-plan_without_memory : (input : List ℕ) → PlanTells input (codes "fault 11\n") Fault
+plan_without_memory : (input : List ℕ) → PlanMeans input (codes "fault 11\n") Fault
 unfolding digits
 plan_without_memory input = refl
 
-game_without_memory : (input : List ℕ) → GameTells input (codes "fault 11\n") Fault
+game_without_memory : (input : List ℕ) → GameMeans input (codes "fault 11\n") Fault
 unfolding digits
 game_without_memory input = refl
 
-a_game_is_never_no : (input text : List ℕ) → GameTells input text No → ⊥
-a_game_is_never_no input text told = told
+a_game_is_never_no : (input text : List ℕ) → GameMeans input text No → ⊥
+a_game_is_never_no input text means = means
 
 -- ---- the acts beside a refusal
 no_acts_are_shown : (input : List ℕ) → AreShown input []

@@ -1,6 +1,6 @@
 pub mod Job
 pub mod Command
 pub mod Sheet
-pub mod Telling
+pub mod Meaning
 pub mod Beside
 pub mod Private

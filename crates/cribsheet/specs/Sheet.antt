@@ -56,7 +56,7 @@ AnswersPlan (Ok question) reply =
     × (reply ≡ plan_reply question.0 question.1 verdict apart)
 AnswersPlan (Err refusal) reply = reply ≡ refusal_reply refusal
 
--- ---- what is owed
+-- ---- right replies
 
 -- a reply is a right one of a job to an input
 abbrev pub SheetAnswers : SheetJob → List ℕ → Reply → Type 0

@@ -2,11 +2,11 @@
 ghost use Rattle.std.specs.Prelude.{◌≡◌, ◌⊎◌, ℕ, List, IfSome, []};
 ghost use Rattle.std.specs.Io.KnownBytes.{Appends};
 ghost use Rattle.crib_text.specs.Device.{HasFailed};
-ghost use Rattle.crib_run.specs.Run.{Delivers, RunTells};
+ghost use Rattle.crib_run.specs.Run.{Delivers, RunMeans};
 ghost use Rattle.crib_words.specs.Beside.{input_of};
 ghost use Rattle.cribsheet.specs.Beside.{ExplainsSheet};
 ghost use Rattle.cribsheet.specs.Sheet.{SheetMakes};
-ghost use Rattle.cribsheet.specs.Telling.{SheetTells};
+ghost use Rattle.cribsheet.specs.Meaning.{SheetMeans};
 
 use crate::beside::explain_sheet;
 use crate::job::SheetJob;
@@ -21,14 +21,14 @@ use std::alloc::Allocator;
 /// standard error"). If an act of a game is refused, the acts before it follow. Nothing there changes the sheet or the
 /// status. An input of more than 8,388,608 bytes is refused. All memory is asked for before the first byte is written.
 ///
-/// - `owed`: what is written is a reply that the job owes to what was read. It is the whole reply, or a proper
-///   beginning of it if the writer failed. If the reader tells its bytes, these are what was read. `plan` owes the
-///   position and the verdict in words, the sheet of the plan and how to read it, with the status `Yes` if the plan is
-///   sure and `No` if it is not. `game` owes the sheet of the game, with the status `Yes`. Both owe the refusal of the
-///   input if it has one, or `fault 11` if memory was refused.
-/// - `told`: what the run tells of the input. If the reader tells its bytes, these are the input. The status `Yes` of
-///   `plan` says that the plan of the input is sure, and `No` that it is not. The status `Fault` says that memory was
-///   refused, or that a device failed.
+/// - `answers`: what is written is a right reply of the job to what was read. It is the whole reply, or a proper
+///   beginning of it if the writer failed. If the bytes of the reader are known, these are what was read. `plan` writes
+///   the position and the verdict in words, the sheet of the plan and how to read it, with the status `Yes` if the plan
+///   is sure and `No` if it is not. `game` writes the sheet of the game, with the status `Yes`. Both write the refusal
+///   of the input if it has one, or `fault 11` if an allocation failed.
+/// - `means`: what the status means for the input. If the bytes of the reader are known, these are the input. The status
+///   `Yes` of `plan` means that the plan of the input is sure, and `No` that it is not. The status `Fault` means that an
+///   allocation or a device failed.
 /// - `words`: what is written to the third device is nothing, or the message of the reason behind the reply, with the
 ///   acts before a refused one, or a beginning of that.
 /// - `silent`: nothing is written there if the status is `Yes` or `No`.
@@ -39,11 +39,11 @@ pub fn run_with_words<A: Allocator + Copy, S: Source, W: Sink, E: Sink>(
     sink: &mut W,
     words: &mut E,
 ) -> Status
-    ensures owed { Delivers (SheetMakes job) (S.remaining source.old)
+    ensures answers { Delivers (SheetMakes job) (S.remaining source.old)
         (HasFailed (S.faults source.old) (S.faults source.new)) (W.contents sink.old) (W.contents sink.new)
         (HasFailed (W.faults sink.old) (W.faults sink.new)) result }
-    ensures told { (input : List ℕ) × IfSome (S.remaining source.old) (λ bytes. input ≡ bytes)
-        × RunTells (SheetTells job) input (W.contents sink.old) (W.contents sink.new)
+    ensures means { (input : List ℕ) × IfSome (S.remaining source.old) (λ bytes. input ≡ bytes)
+        × RunMeans (SheetMeans job) input (W.contents sink.old) (W.contents sink.new)
         (HasFailed (S.faults source.old) (S.faults source.new) ⊎ HasFailed (W.faults sink.old) (W.faults sink.new))
         result }
     ensures words { (run : Delivers (SheetMakes job) (S.remaining source.old)

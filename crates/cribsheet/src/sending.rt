@@ -22,7 +22,7 @@ pub struct Ended {
     pub reason: Option<Reason>,
 }
 
-/// Sends what a job owes to an input.
+/// Sends a right reply of a job to an input.
 pub fn send_sheet<A: Allocator + Copy, W: Sink>(
     alloc: A,
     job: SheetJob,

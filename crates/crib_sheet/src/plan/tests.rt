@@ -100,10 +100,10 @@ const DEEP_SHEET: &str = "look:
 ";
 
 const LEGEND: &str = "
-Play the cards of a row in order, one at each of your turns. If none of your
-cards fits, say go and stay there. At \"look\", go on in the line of what the
-opponent shows next, a rank or go; what is in no line ends what you need to
-know. At \"see [n]\", go on at once in the paragraph that begins with [n].
+Play a row in order, one card at each of your turns. If none of your cards
+fits, say go and stay there. At \"look\", go on in the line of what they show
+next: a rank, or a go, even after yours. At the end of a row, or if there is
+no line, nothing is left to decide. At \"see [n]\", go on in paragraph [n].
 ";
 
 fn plan(rt: &(impl Abort + AllocGlobal), text: &str) -> Plan<Global> {

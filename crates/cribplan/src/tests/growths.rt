@@ -13,13 +13,13 @@ use std::process::Abort;
 // How many failed allocations led to `fault 11`, and how many changed nothing in the output.
 #[derive(Clone, Copy, Debug, PartialEq, Eq)]
 struct Refusals {
-    told: u32,
+    reported: u32,
     passed_over: u32,
 }
 
-fn told_alone(told: u32) -> Refusals {
+fn reported_alone(reported: u32) -> Refusals {
     Refusals {
-        told,
+        reported,
         passed_over: 0,
     }
 }
@@ -34,7 +34,7 @@ fn refuse_each(
     status: Status,
 ) -> Refusals {
     let input = joined(rt, sections);
-    let mut refusals = told_alone(0);
+    let mut refusals = reported_alone(0);
     for served in 0..1000 {
         let heap = Refusing::after(rt.alloc(), served);
         let outcome = outcome_of(rt.alloc(), &heap, job, input.as_bytes());
@@ -42,7 +42,7 @@ fn refuse_each(
         if outcome.status == Status::Fault {
             assert!(rt; heap.has_refused());
             outcome.is(rt, "fault 11\n", Status::Fault, what.as_str());
-            refusals.told = refusals.told.saturating_add(1);
+            refusals.reported = refusals.reported.saturating_add(1);
         } else {
             outcome.is(rt, wanted, status, what.as_str());
             if !heap.has_refused() {
@@ -59,7 +59,7 @@ fn refuse_each(
 fn of_replay(rt: HostRuntime) {
     let sections = [TENS, LAST_CARD];
     let replayed = refuse_each(&rt, Job::Replay, &sections, LAST_CARD_ANSWER, Status::Yes);
-    assert_eq!(rt; replayed, told_alone(1));
+    assert_eq!(rt; replayed, reported_alone(1));
 }
 
 // `board` allocates its text.
@@ -67,19 +67,19 @@ fn of_replay(rt: HostRuntime) {
 fn of_board(rt: HostRuntime) {
     let sections = [TENS, LAST_CARD];
     let drawn = refuse_each(&rt, Job::Board, &sections, LAST_CARD_BOARD, Status::Yes);
-    assert_eq!(rt; drawn, told_alone(2));
+    assert_eq!(rt; drawn, reported_alone(2));
 }
 
 // `follow` allocates the plan, unless it has no nodes.
 #[test]
 fn of_follow(rt: HostRuntime) {
-    for (sections, wanted, told) in [
+    for (sections, wanted, reported) in [
         (ONE_GAME, "short\n", 2),
         ([THIRTEEN, TWOS, NO_ACTS], "open\n", 2),
         ([THIRTEEN, NO_PLAN, NO_ACTS], "stuck\n", 1),
     ] {
         let followed = refuse_each(&rt, Job::Follow, &sections, wanted, Status::No);
-        assert_eq!(rt; followed, told_alone(told), "with {wanted}");
+        assert_eq!(rt; followed, reported_alone(reported), "with {wanted}");
     }
     let strays = joined_with(&rt, &ONE_GAME, 20, "own 2H");
     let refused = "refused line 20: 46\n";
@@ -90,7 +90,7 @@ fn of_follow(rt: HostRuntime) {
         refused,
         Status::Refused,
     );
-    assert_eq!(rt; strayed, told_alone(2));
+    assert_eq!(rt; strayed, reported_alone(2));
 }
 
 // `check` allocates the plan, and reports it if that fails. The position table allocates too, and a failure there
@@ -98,7 +98,7 @@ fn of_follow(rt: HostRuntime) {
 #[test]
 fn of_check(rt: HostRuntime) {
     let checked = refuse_each(&rt, Job::Check, &[TWELVE, TWOS], "holds\n", Status::Yes);
-    assert_eq!(rt; checked.told, 2);
+    assert_eq!(rt; checked.reported, 2);
     assert!(rt; checked.passed_over > 0);
 }
 
@@ -109,7 +109,7 @@ fn of_check_that_fails(rt: HostRuntime) {
     let short = joined(&rt, &["fails short\n", OWNER_LEADS]);
     let sections = [THIRTEEN, TWOS];
     let checked = refuse_each(&rt, Job::Check, &sections, short.as_str(), Status::No);
-    assert_eq!(rt; checked, told_alone(3));
+    assert_eq!(rt; checked, reported_alone(3));
 }
 
 // `solve` allocates the nodes and the text of the plan, and reports it if one of these allocations fails. Its tables
@@ -117,7 +117,7 @@ fn of_check_that_fails(rt: HostRuntime) {
 #[test]
 fn of_solve(rt: HostRuntime) {
     let solved = refuse_each(&rt, Job::Solve, &[TWELVE], TWOS, Status::Yes);
-    assert!(rt; solved.told >= 3, "the input, the nodes and the text");
+    assert!(rt; solved.reported >= 3, "the input, the nodes and the text");
     assert!(rt; solved.passed_over > 0);
 }
 
@@ -125,7 +125,7 @@ fn of_solve(rt: HostRuntime) {
 #[test]
 fn of_solve_without_a_plan(rt: HostRuntime) {
     let unsolved = refuse_each(&rt, Job::Solve, &[THIRTEEN], "none\n", Status::No);
-    assert_eq!(rt; unsolved.told, 1);
+    assert_eq!(rt; unsolved.reported, 1);
     assert!(rt; unsolved.passed_over > 0);
 }
 
@@ -141,6 +141,6 @@ fn of_refused_inputs(rt: HostRuntime) {
         (Job::Follow, ["problem 1\n", ""], "refused line 2: 3\n"),
     ] {
         let refused = refuse_each(&rt, job, &sections, wanted, Status::Refused);
-        assert_eq!(rt; refused, told_alone(1));
+        assert_eq!(rt; refused, reported_alone(1));
     }
 }

@@ -25,10 +25,10 @@ pub record IsFor (reply : Reply) (ended : Ended) : Type 0 where
   pub reason : IfSome ended.reason (λ known. IsReason reply ended.status known)
   pub silent : (ended.status ≡ Yes) ⊎ (ended.status ≡ No) → ended.reason ≡ None
 
--- a reply that the job owes to the input was sent
+-- a reply that answers the input was sent
 pub record IsSent
     (job : SheetJob) (input : List ℕ) (old new : Option (List ℕ)) (failed : Type 0) (ended : Ended) : Type 0 where
   pub reply : Reply
-  pub owed : SheetMakes job input reply
+  pub answers : SheetMakes job input reply
   pub sent : Sends reply old new failed ended.status
   pub why : IsFor reply ended

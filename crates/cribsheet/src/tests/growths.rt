@@ -13,7 +13,7 @@ use std::process::Abort;
 fn refuse_each(rt: &(impl Abort + AllocGlobal), job: SheetJob, sections: &[&str]) -> (u32, u32) {
     let input = joined(rt, sections);
     let whole = written_of(rt, job, sections);
-    let mut told = 0u32;
+    let mut reported = 0u32;
     let mut passed_over = 0u32;
     for served in 0..1000 {
         let heap = Refusing::after(rt.alloc(), served);
@@ -21,11 +21,11 @@ fn refuse_each(rt: &(impl Abort + AllocGlobal), job: SheetJob, sections: &[&str]
         if written.status == Status::Fault {
             assert!(rt; heap.has_refused());
             written.is(rt, "fault 11\n", Status::Fault, "no memory");
-            told = told.saturating_add(1);
+            reported = reported.saturating_add(1);
         } else {
             written.is(rt, whole.text(rt), whole.status, "some memory");
             if !heap.has_refused() {
-                return (told, passed_over);
+                return (reported, passed_over);
             }
             passed_over = passed_over.saturating_add(1);
         }
@@ -43,9 +43,9 @@ fn of_a_game(rt: HostRuntime) {
 // The input, the plan, the outline and the head. The position table allocates too, and a failure there changes nothing.
 #[test]
 fn of_a_plan(rt: HostRuntime) {
-    let (told, passed_over) = refuse_each(&rt, SheetJob::Plan, &[TWELVE, TWOS]);
-    assert!(rt; told >= 4);
+    let (reported, passed_over) = refuse_each(&rt, SheetJob::Plan, &[TWELVE, TWOS]);
+    assert!(rt; reported >= 4);
     assert!(rt; passed_over > 0);
-    let (told, _passed_over) = refuse_each(&rt, SheetJob::Plan, &[THIRTEEN, TWOS]);
-    assert!(rt; told >= 4);
+    let (reported, _passed_over) = refuse_each(&rt, SheetJob::Plan, &[THIRTEEN, TWOS]);
+    assert!(rt; reported >= 4);
 }

@@ -1,5 +1,5 @@
 use Rattle.crib_run.specs.Reply.{reply_of}
-use Rattle.crib_answer.proofs.OwedReplies.{verdict_made}
+use Rattle.crib_answer.proofs.RightReplies.{verdict_made}
 use Rattle.crib_answer.proofs.answering.check_answer.Goals as goal
 
 pub returns-in-Ok : goal.returns-in-Ok

@@ -1,5 +1,5 @@
 use Rattle.crib_answer.proofs.Replies.{one_reply_law}
-use Rattle.crib_answer.proofs.OwedReplies.{too_long_law}
+use Rattle.crib_answer.proofs.RightReplies.{too_long_law}
 use Rattle.crib_answer.proofs.CutShortInputs.{cut_short_law}
 use Rattle.crib_answer.proofs.laws.reply_law.Goals as goal
 

@@ -1,5 +1,5 @@
 use Rattle.std.proofs.Common.{refl}
-use Rattle.crib_answer.proofs.OwedReplies.{long_answers}
+use Rattle.crib_answer.proofs.RightReplies.{long_answers}
 use Rattle.crib_answer.proofs.Reasons.{of_game}
 use Rattle.crib_answer.proofs.reason.refusal_in.Goals as goal
 

@@ -1,7 +1,7 @@
 use Rattle.std.proofs.Common.{Some}
 use Rattle.crib_search.specs.Finder.{IsFound}
 use Rattle.crib_run.specs.Reply.{reply_of}
-use Rattle.crib_answer.proofs.OwedReplies.{plan_made}
+use Rattle.crib_answer.proofs.RightReplies.{plan_made}
 use Rattle.crib_answer.proofs.solve.solve_answer.Goals as goal
 
 pub returns-in-Some : goal.returns-in-Some

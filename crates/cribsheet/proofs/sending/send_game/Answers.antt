@@ -12,10 +12,10 @@ returns-in-Ok g c =
     tt c.status.ensures c.ended_with.ensures.status c.ended_with.ensures.reason in
     record {
       reply = reply;
-      owed = inl (c.game_answer-answer.ensures ∙ sym (ap (reply_by game_reply) c.in-Ok.ensures.text));
+      answers = inl (c.game_answer-answer.ensures ∙ sym (ap (reply_by game_reply) c.in-Ok.ensures.text));
       sent = ended.sent;
       why = ended.why;
     }
 
 pub returns-in-Err : goal.returns-in-Err
-returns-in-Err g c = record { reply = _; owed = c.in-Err.ensures.reason; sent = c.send_reason.ensures.sent; why = c.send_reason.ensures.why }
+returns-in-Err g c = record { reply = _; answers = c.in-Err.ensures.reason; sent = c.send_reason.ensures.sent; why = c.send_reason.ensures.why }

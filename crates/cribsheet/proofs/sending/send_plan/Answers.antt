@@ -10,7 +10,7 @@ returns-in-Ok g c =
     let sent = sent_head c.as_slice-head.result.now sheet.head.items _ _ _ _ _ _ (search rules) c.send_plan_sheet-status.ensures in
     let ended = ended_as (sheet_reply sheet) None _ _ _ c.send_plan_sheet-status.result sheet.status c.ended_with.result sent
     tt refl c.ended_with.ensures.status c.ended_with.ensures.reason in
-    record { reply = sheet_reply sheet; owed = c.in-Ok.ensures.sheet; sent = ended.sent; why = ended.why }
+    record { reply = sheet_reply sheet; answers = c.in-Ok.ensures.sheet; sent = ended.sent; why = ended.why }
 
 pub returns-in-Err : goal.returns-in-Err
-returns-in-Err g c = record { reply = _; owed = c.in-Err.ensures.reason; sent = c.send_reason.ensures.sent; why = c.send_reason.ensures.why }
+returns-in-Err g c = record { reply = _; answers = c.in-Err.ensures.reason; sent = c.send_reason.ensures.sent; why = c.send_reason.ensures.why }

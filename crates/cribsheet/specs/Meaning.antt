@@ -10,7 +10,7 @@ use Rattle.crib_run.specs.declared.status.Status.{Status}
 use Rattle.crib_run.specs.declared.status.Status.TheVariants.{Yes, No, Refused, Fault}
 use Rattle.crib_run.specs.Reply.{Reply, fault_line, refusal_reply}
 use Rattle.crib_answer.specs.Input.{report_of_input}
-use Rattle.crib_answer.specs.Telling.{HasSurePlan}
+use Rattle.crib_answer.specs.Meaning.{HasSurePlan}
 use Rattle.crib_sheet.specs.GameText.{game_sheet_text}
 use Rattle.cribsheet.specs.declared.job.SheetJob.{SheetJob}
 use Rattle.cribsheet.specs.declared.job.SheetJob.TheVariants.{Plan, Game as GameJob}
@@ -31,11 +31,11 @@ pub record HasGameSheet (input text : List ℕ) : Type 0 where
 
 -- what the reply of `plan` guarantees, by its status. Yes: the plan is sure. No: it is not. Refused: the input spells
 -- no problem and plan. Fault: the text says that an allocation failed
-abbrev pub PlanTells : List ℕ → List ℕ → Status → Type 0
-PlanTells input text Yes = HasSurePlan input
-PlanTells input text No = HasUnsurePlan input
-PlanTells input text Refused = (problem : Setup) (plan : List Node) → ¬ SpellsPlan input problem plan
-PlanTells input text Fault = text ≡ fault_line no_memory
+abbrev pub PlanMeans : List ℕ → List ℕ → Status → Type 0
+PlanMeans input text Yes = HasSurePlan input
+PlanMeans input text No = HasUnsurePlan input
+PlanMeans input text Refused = (problem : Setup) (plan : List Node) → ¬ SpellsPlan input problem plan
+PlanMeans input text Fault = text ≡ fault_line no_memory
 
 -- `replay` of cribplan refuses an input, and `text` is the line of its refusal
 pub record IsRefusedByReplay (input text : List ℕ) : Type 0 where
@@ -45,13 +45,13 @@ pub record IsRefusedByReplay (input text : List ℕ) : Type 0 where
 
 -- what the reply of `game` guarantees, by its status. Yes: the text is the sheet of the game. It is never no. Refused:
 -- the text is the line with which `replay` refuses the input. Fault: the text says that an allocation failed
-abbrev pub GameTells : List ℕ → List ℕ → Status → Type 0
-GameTells input text Yes = HasGameSheet input text
-GameTells input text No = ⊥
-GameTells input text Refused = IsRefusedByReplay input text
-GameTells input text Fault = text ≡ fault_line no_memory
+abbrev pub GameMeans : List ℕ → List ℕ → Status → Type 0
+GameMeans input text Yes = HasGameSheet input text
+GameMeans input text No = ⊥
+GameMeans input text Refused = IsRefusedByReplay input text
+GameMeans input text Fault = text ≡ fault_line no_memory
 
 -- what the text and the status of a reply guarantee about the input
-abbrev pub SheetTells : SheetJob → List ℕ → Reply → Type 0
-SheetTells Plan input reply = PlanTells input reply.output reply.status
-SheetTells GameJob input reply = GameTells input reply.output reply.status
+abbrev pub SheetMeans : SheetJob → List ℕ → Reply → Type 0
+SheetMeans Plan input reply = PlanMeans input reply.output reply.status
+SheetMeans GameJob input reply = GameMeans input reply.output reply.status

@@ -1,4 +1,4 @@
--- The replies that are owed to an input that is too long, to a verdict, and to what the finder finds.
+-- The right replies to an input that is too long, to a verdict, and to what the finder finds.
 use Rattle.std.proofs.Common.{◌≡◌, ◌≢◌, ◌⊎◌, ℕ, ◌<◌, List, Option, Some, inl, inr, Result, length, Ok, refl, sym, ap, ◌∙◌, subst}
 use Rattle.crib_text.specs.Refusals.{Refusal, no_memory, too_long}
 use Rattle.crib_answer.specs.declared.job.Job.{Job}
@@ -21,7 +21,7 @@ use Rattle.crib_answer.specs.Input.{board_of_input, ending_of_input, report_of_i
 use Rattle.crib_answer.specs.Laws.{TooLongLaw}
 use Rattle.crib_answer.specs.Memory.{Makes}
 
--- each job owes the same refusal to an input that is too long
+-- each job answers an input that is too long with the same refusal
 pub long_answers : (job : Job) (input : List ℕ) (reply : Reply) → most_bytes < length input → reply ≡ refusal_reply (record { line = 0; number = too_long })
     → Answers job input reply
 unfolding report_of_input ending_of_input board_of_input problem_of_input question_of_input played_of_input played_under_of_input
@@ -43,12 +43,12 @@ verdict_made input question verdict reply asked right (inl is) =
     inl (subst A (sym asked) (verdict, right, is))
 verdict_made input question verdict reply asked right (inr want) = inr (counted input question asked, want.1)
 
--- the reply to what the finder finds is the one that is owed to the problem
+-- the reply to what the finder finds is a right one for the problem
 pub found_owed : (problem : Setup) (plan : Option (List Node)) (reply : Reply) → IsFound problem plan → ¬ ExceedsLimit problem most_nodes
     → reply ≡ found_reply plan → AnswersProblem problem reply
 found_owed problem plan reply found small is = inl (plan, found, small, is)
 
--- the reply to the plan that was found, as the checker passed it, is owed to the problem. Or it is the fault that memory was refused
+-- the reply to the plan that was found, as the checker passed it, is a right one for the problem. Or it is the fault of a failed allocation
 pub plan_made : (problem : Setup) (plan passed : List Node) (reply : Reply) → IsFound problem (Some plan) → ¬ ExceedsLimit problem most_nodes → passed ≡ plan
     → (reply ≡ found_reply (Some passed)) ⊎ (reply ≡ fault_reply no_memory) → AnswersProblem problem reply ⊎ (reply ≡ fault_reply no_memory)
 plan_made problem plan passed reply found small same (inl is) =

@@ -82,28 +82,28 @@ none_line = line_text (codes "none" ∷ [])
 -- what the reply of `check` guarantees, by its status. Yes: the text is `holds`, and the plan is sure. No: the text is
 -- `fails`, the ending and the first failing game of the plan. Refused: the input spells no problem and plan. Fault: the
 -- text says that an allocation failed
-abbrev pub CheckTells : List ℕ → List ℕ → Status → Type 0
-CheckTells input text Yes = HasSurePlan input × (text ≡ holds_line)
-CheckTells input text No =
+abbrev pub CheckMeans : List ℕ → List ℕ → Status → Type 0
+CheckMeans input text Yes = HasSurePlan input × (text ≡ holds_line)
+CheckMeans input text No =
     (result : Ending) × (game : List ℕ) × HasFailingPlan input result game × (text ≡ fails_line result ++ game)
-CheckTells input text Refused = (problem : Setup) (plan : List Node) → ¬ SpellsPlan input problem plan
-CheckTells input text Fault = text ≡ fault_line no_memory
+CheckMeans input text Refused = (problem : Setup) (plan : List Node) → ¬ SpellsPlan input problem plan
+CheckMeans input text Fault = text ≡ fault_line no_memory
 
 -- what the reply of `solve` guarantees, by its status. Yes: the text spells a plan that is sure. No: the text is
 -- `none`, and no plan is sure. Refused: the input spells no problem. Fault: the text says that an allocation failed; or
 -- it says that the plan that was found has too many nodes, and some plan is sure
-abbrev pub SolveTells : List ℕ → List ℕ → Status → Type 0
-SolveTells input text Yes = IsSolvedBy input text
-SolveTells input text No = HasNoPlan input × (text ≡ none_line)
-SolveTells input text Refused = (problem : Setup) → ¬ SpellsProblem input problem
-SolveTells input text Fault =
+abbrev pub SolveMeans : List ℕ → List ℕ → Status → Type 0
+SolveMeans input text Yes = IsSolvedBy input text
+SolveMeans input text No = HasNoPlan input × (text ≡ none_line)
+SolveMeans input text Refused = (problem : Setup) → ¬ SpellsProblem input problem
+SolveMeans input text Fault =
     (text ≡ fault_line no_memory) ⊎ (HasSomePlan input × (text ≡ fault_line too_large))
 
 -- what the text and the status of a reply guarantee about the input. For a job other than `check` and `solve` this says
 -- nothing
-abbrev pub StatusTells : Job → List ℕ → Reply → Type 0
-StatusTells Check input reply = CheckTells input reply.output reply.status
-StatusTells Solve input reply = SolveTells input reply.output reply.status
-StatusTells Replay input reply = Unit {0}
-StatusTells Follow input reply = Unit {0}
-StatusTells Board input reply = Unit {0}
+abbrev pub StatusMeans : Job → List ℕ → Reply → Type 0
+StatusMeans Check input reply = CheckMeans input reply.output reply.status
+StatusMeans Solve input reply = SolveMeans input reply.output reply.status
+StatusMeans Replay input reply = Unit {0}
+StatusMeans Follow input reply = Unit {0}
+StatusMeans Board input reply = Unit {0}

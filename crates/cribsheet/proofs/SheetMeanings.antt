@@ -1,4 +1,4 @@
--- A reply that a job makes of an input tells of it what `specs/Telling` states.
+-- A reply that a job makes has the meaning that `specs/Meaning` states.
 use Rattle.std.proofs.Common.{◌≡◌, ◌≢◌, ◌⊎◌, inl, inr, ℕ, ◌<◌, Bool, List, length, Option, Some, None, Result, Ok, Err}
 use Rattle.std.proofs.Common.{refl, sym, ap, ◌∙◌, subst}
 use Rattle.crib_text.specs.Refusals.{Refusal, no_memory, too_long}
@@ -20,23 +20,23 @@ use Rattle.crib_input.specs.Spelled.{SpellsPlan}
 use Rattle.crib_input.proofs.Inputs.{question_accepted, question_spelled, read_of_long}
 use Rattle.crib_input.proofs.GameInputs.{played_accepted}
 use Rattle.crib_run.specs.Reply.{Reply, fault_reply, refusal_reply}
-use Rattle.crib_run.proofs.Runs.{AreTold}
+use Rattle.crib_run.proofs.Runs.{HaveMeaning}
 use Rattle.crib_answer.specs.Answer.{reply_by}
 use Rattle.crib_answer.specs.Input.{judgement_of, report_of_input}
 use Rattle.crib_sheet.specs.GameText.{game_sheet_text, sheet_for}
 use Rattle.cribsheet.specs.declared.job.SheetJob.{SheetJob}
 use Rattle.cribsheet.specs.declared.job.SheetJob.TheVariants.{Plan, Game as GameJob}
 use Rattle.cribsheet.specs.Sheet.{AnswersPlan, SheetAnswers, SheetMakes, game_reply, game_sheet_of_input, plan_reply}
-use Rattle.cribsheet.specs.Telling.{GameTells, HasGameSheet, PlanTells, SheetTells}
+use Rattle.cribsheet.specs.Meaning.{GameMeans, HasGameSheet, PlanMeans, SheetMeans}
 
 -- ---- a plan
 
 abbrev OfPlan : List ℕ → Reply → Type 0
-OfPlan input reply = PlanTells input reply.output reply.status
+OfPlan input reply = PlanMeans input reply.output reply.status
 
-verdict_tells : (input : List ℕ) (problem : Setup) (plan : List Node) (verdict : Verdict) (apart : ℕ → Bool) → SpellsPlan input problem plan
+verdict_means : (input : List ℕ) (problem : Setup) (plan : List Node) (verdict : Verdict) (apart : ℕ → Bool) → SpellsPlan input problem plan
     → IsRight problem plan verdict → OfPlan input (plan_reply problem plan verdict apart)
-verdict_tells input problem plan Holds apart spelled right = record {
+verdict_means input problem plan Holds apart spelled right = record {
   problem = problem;
   plan = plan;
   spelled = spelled;
@@ -44,67 +44,67 @@ verdict_tells input problem plan Holds apart spelled right = record {
   goes_on = sure_goes_on problem plan right;
   ends = ends problem spelled.problem_is;
 }
-verdict_tells input problem plan (Fails result game) apart spelled right = record {
+verdict_means input problem plan (Fails result game) apart spelled right = record {
   problem = problem;
   plan = plan;
   spelled = spelled;
   unsure = λ sure. let holds : Fails result game ≡ Holds = (exact_law problem plan (Fails result game) right).1 sure in absurd cc;
 }
 
-plan_tells : (input : List ℕ) (said : Result (Setup × List Node) Refusal) (reply : Reply) → question_of_input input ≡ said → AnswersPlan said reply
+plan_means : (input : List ℕ) (said : Result (Setup × List Node) Refusal) (reply : Reply) → question_of_input input ≡ said → AnswersPlan said reply
     → OfPlan input reply
-plan_tells input (Ok question) reply asked answers =
+plan_means input (Ok question) reply asked answers =
     subst (OfPlan input) (sym answers.3)
-    (verdict_tells input question.0 question.1 answers.0 answers.1 (question_accepted input question asked) answers.2)
-plan_tells input (Err refusal) reply asked is = subst (OfPlan input) (sym is) (λ problem plan spelled.
+    (verdict_means input question.0 question.1 answers.0 answers.1 (question_accepted input question asked) answers.2)
+plan_means input (Err refusal) reply asked is = subst (OfPlan input) (sym is) (λ problem plan spelled.
     let e : Ok (problem, plan) ≡ Err refusal = sym (question_spelled input problem plan spelled) ∙ asked in
     absurd cc)
 
 -- ---- a game
 
 abbrev OfGame : List ℕ → Reply → Type 0
-OfGame input reply = GameTells input reply.output reply.status
+OfGame input reply = GameMeans input reply.output reply.status
 
 -- a game has the sheet of its report, or the refusal of its replay
-judged_tells : (input : List ℕ) (problem : Setup) (game : Game) (first : ℕ) (report : Result Report GameFault)
+judged_means : (input : List ℕ) (problem : Setup) (game : Game) (first : ℕ) (report : Result Report GameFault)
     → played_of_input input ≡ Ok (problem, game, first) → replay_result problem game ≡ report
     → report_of_input input ≡ judgement_of game first report
     → OfGame input (reply_by game_reply (judgement_of game first (sheet_for problem game report)))
-judged_tells input problem game first (Ok report) asked replayed read = record {
+judged_means input problem game first (Ok report) asked replayed read = record {
   problem = problem;
   game = game;
   spelled = played_accepted input (problem, game, first) asked;
   sheet = ap (sheet_for problem game) replayed;
 }
-judged_tells input problem game first (Err fault) asked replayed read = record { refusal = _; refused = read; line = refl }
+judged_means input problem game first (Err fault) asked replayed read = record { refusal = _; refused = read; line = refl }
 
-played_tells : (input : List ℕ) (said : Result (Setup × Game × ℕ) Refusal) → played_of_input input ≡ said
+played_means : (input : List ℕ) (said : Result (Setup × Game × ℕ) Refusal) → played_of_input input ≡ said
     → OfGame input (reply_by game_reply (said >>= λ (problem, game, first). judgement_of game first (game_sheet_text problem game)))
 unfolding report_of_input
-played_tells input (Ok (problem, game, first)) asked =
-    judged_tells input problem game first (replay_result problem game) asked refl
+played_means input (Ok (problem, game, first)) asked =
+    judged_means input problem game first (replay_result problem game) asked refl
     (ap (λ r. r >>= λ (problem, game, first). judgement_of game first (replay_result problem game)) asked)
-played_tells input (Err refusal) asked = record {
+played_means input (Err refusal) asked = record {
   refusal = refusal;
   refused = ap (λ r. r >>= λ (problem, game, first). judgement_of game first (replay_result problem game)) asked;
   line = refl;
 }
 
-game_tells : (input : List ℕ) (reply : Reply) → reply ≡ reply_by game_reply (game_sheet_of_input input) → OfGame input reply
+game_means : (input : List ℕ) (reply : Reply) → reply ≡ reply_by game_reply (game_sheet_of_input input) → OfGame input reply
 unfolding game_sheet_of_input
-game_tells input reply is = subst (OfGame input) (sym is) (played_tells input (played_of_input input) refl)
+game_means input reply is = subst (OfGame input) (sym is) (played_means input (played_of_input input) refl)
 
 -- ---- each job
 
-memory_tells : (job : SheetJob) (input : List ℕ) → SheetTells job input (fault_reply no_memory)
-memory_tells Plan input = refl
-memory_tells GameJob input = refl
+memory_means : (job : SheetJob) (input : List ℕ) → SheetMeans job input (fault_reply no_memory)
+memory_means Plan input = refl
+memory_means GameJob input = refl
 
-makes_tells : (job : SheetJob) (input : List ℕ) (reply : Reply) → SheetMakes job input reply → SheetTells job input reply
-makes_tells Plan input reply (inl answers) = plan_tells input (question_of_input input) reply refl answers
-makes_tells Plan input reply (inr want) = subst (OfPlan input) (sym want.1) (memory_tells Plan input)
-makes_tells GameJob input reply (inl is) = game_tells input reply is
-makes_tells GameJob input reply (inr want) = subst (OfGame input) (sym want.1) (memory_tells GameJob input)
+makes_means : (job : SheetJob) (input : List ℕ) (reply : Reply) → SheetMakes job input reply → SheetMeans job input reply
+makes_means Plan input reply (inl answers) = plan_means input (question_of_input input) reply refl answers
+makes_means Plan input reply (inr want) = subst (OfPlan input) (sym want.1) (memory_means Plan input)
+makes_means GameJob input reply (inl is) = game_means input reply is
+makes_means GameJob input reply (inr want) = subst (OfGame input) (sym want.1) (memory_means GameJob input)
 
 -- both jobs refuse an input that is too long
 long_answers : (job : SheetJob) (input : List ℕ) → most_bytes < length input
@@ -113,9 +113,9 @@ unfolding question_of_input played_of_input game_sheet_of_input
 long_answers Plan input long = rw (read_of_long question_at input long) refl
 long_answers GameJob input long = rw (read_of_long played_at input long) refl
 
-pub job_told : (job : SheetJob) → AreTold (SheetMakes job) (SheetTells job)
-job_told job = record {
-  owed = makes_tells job;
-  long = λ input long. makes_tells job input _ (inl (long_answers job input long));
-  memory = memory_tells job;
+pub job_means : (job : SheetJob) → HaveMeaning (SheetMakes job) (SheetMeans job)
+job_means job = record {
+  answers = makes_means job;
+  long = λ input long. makes_means job input _ (inl (long_answers job input long));
+  memory = memory_means job;
 }

@@ -53,6 +53,10 @@ need_cribplan() {
 # keep_input WORD..: for a recipe that has no words of its own. Keeps standard input in $room/input, in which a byte
 # more than cribplan reads is enough.
 keep_input() {
+    if [ $# -eq 1 ] && [ -f "$1" ]; then
+        say "it reads standard input; type $name < $1"
+        exit 2
+    fi
     [ $# -eq 0 ] || refuse_words
     head -c 8388609 >"$room/input" || exit 3
 }

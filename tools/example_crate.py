@@ -160,12 +160,6 @@ class Parts:
             found |= {n for n, words in enumerate(self.words) if words & known}
         return found
 
-    def open_text(self) -> str:
-        """The text with all that it declares open to other modules."""
-        named = r"(?!pub |use |infix|abbrev|unfoldable|record|data|mutual)(?=[\w'-]+(?: [({].*[)}])? :)"
-        typed = r"(?=(?:record|data) \w+.* where$)"
-        return re.sub(rf"^(abbrev |unfoldable )?(?:{named}|{typed})", r"\1pub ", self.text, flags=re.M)
-
     def narrowed(self, kept: set[int], fronts: dict[Module, str]) -> str:
         """A copy that has some of the declarations, and the others from the module itself."""
         if self.is_declared:
@@ -180,8 +174,14 @@ class Parts:
             again += f"{word}pub use Rattle.pins.{kind}.{crate}.{name}.{{{', '.join(marked)}}}\n" if marked else ""
         uses = "".join(line + "\n" for line in self.text.splitlines() if line.startswith("use "))
         fixed = [line for line in self.fixities if {*re.findall(r"◌(\S+?)◌", line)} & self.names_in(kept)]
-        its = Parts(self.module, "\n\n".join(self.blocks[n].strip("\n") for n in sorted(kept))).open_text()
+        its = "\n\n".join(self.blocks[n].strip("\n") for n in sorted(kept))
         return renamed(uses, fronts) + again + "".join(line + "\n" for line in fixed) + f"\n{renamed(its, fronts)}\n"
+
+
+def opened(text: str) -> str:
+    """A module with all that it declares open to other modules."""
+    named = r"(?!pub |use |infix|abbrev|unfoldable|record|data|mutual)(?=[\w'-]+(?: [({].*[)}])? :)"
+    return re.sub(rf"^(abbrev |unfoldable )?(?:{named}|(?=(?:record|data) \w+.* where$))", r"\1pub ", text, flags=re.M)
 
 
 def without_lemmas(module: Module, text: str) -> str:
@@ -214,7 +214,7 @@ def gathered(wanted: set[Module]) -> dict[Module, str]:
             texts.update({(kind, crate, its): text for its, text in made.items()})
         else:
             text = path_of(module).read_text()
-            texts[module] = without_lemmas(module, text) if module in examples else text
+            texts[module] = opened(without_lemmas(module, text) if module in examples else text)
             made = {name: texts[module]}
         ahead += [its for text in made.values() for its in modules_in(text) if its not in texts]
     return texts

@@ -225,13 +225,9 @@ class Source:
         """The function of that name in a file."""
         return next(one for one in functions_of(CRATES / crate / "src" / file) if one.name == name)
 
-    def theorem(self) -> Function:
-        """The call that the headline is about."""
-        return self.function(*THEOREM)
-
     def of_theorem(self) -> list[Block]:
         """The clause that is the theorem, and all that it rests on."""
-        clause = self.theorem().head(["told"])
+        clause = self.function(*THEOREM).head(["told"])
         return [clause, *self.reached_from([clause])]
 
     def of_module(self, crate: str, module: str) -> dict[str, Block]:

@@ -13,11 +13,10 @@ import re
 from collections.abc import Iterator
 from dataclasses import dataclass
 
-from example_crate import PRELUDE, Module, module_of
+from example_crate import Module, module_of
 from spec_source import ROOT, declared_names, imports_of, paragraphs
 
-HELPERS = (ROOT / "tools/changed_words.txt").read_text()  # what a change names, and the library has not
-OPERATORS = ("&&", "||", "≤", "<")
+HELPERS = (ROOT / "tools/changed_words.txt").read_text()  # the words that a change puts in, as a module
 ATOMIC = re.compile(r"[≡≤<]|\bIs(?:True|False)\b")  # a clause that is dropped by a change of one of its words
 ENOUGH = 3  # the changes of a definition below which its bodies give up, too
 TOKEN = re.compile(r"\"[^\"]*\"|--[^\n]*|[\w'◌]+(?:\.[\w']+)*|\s+|∷|\+\+|&&|\|\||==|[^\s\w]")
@@ -32,19 +31,10 @@ def listed(kind: str) -> dict[str, list[str]]:
     return {word: new.split() for word, new in re.findall(rf"^-- {kind} (.+?): (.*)$", HELPERS, re.M)}
 
 
-def homes_of_words() -> dict[str, str]:
-    """The import that each word needs that may stand for another one."""
-    found = {"not": f"use {PRELUDE}.{{not}}"}
-    for word in (word for words in TURNED.values() for word in words):
-        place = "Rattle.std.specs.List" if word in ("list_any", "list_all") else PRELUDE
-        found[word] = f"use {place}.{{{f'◌{word}◌' if word in OPERATORS else word}}}"
-    for name in re.findall(r"^abbrev pub (\S+) :", HELPERS, re.M):
-        found[name.strip("◌")] = f"use Rattle.pins.specs.Changed.{{{name}}}"
-    return found
-
-
 TURNED, GIVEN_UP, OTHERWISE = listed("the word"), listed("a body of"), listed("an argument of")
-HOMES = homes_of_words()
+EXPORTED = re.findall(r"^(?:pub use \S+\.\{(.*)\}|abbrev pub (\S+) :.*)$", HELPERS, re.M)
+WORDS = [word for words, own in EXPORTED for word in (own or words).split(", ")]
+HOMES = {word.strip("◌"): f"use Rattle.pins.specs.Changed.{{{word}}}" for word in WORDS}  # the import of each word
 
 
 @dataclass(frozen=True)
@@ -80,7 +70,8 @@ class Sources:
                     self.add_fields(re.findall(r"^  pub (\w+) : (.*)$", block, re.M))
             if module[0] == "specs" and not module[2].startswith("declared."):
                 signed = r"^(?:abbrev |unfoldable )?pub ([\w'-]+) :((?:[^\n=]|\n +)*)$"
-                self.signatures[module] = {name: " ".join(said.split()) for name, said in re.findall(signed, text, re.M)}
+                found = re.findall(signed, text, re.M)
+                self.signatures[module] = {name: " ".join(signature.split()) for name, signature in found}
                 aliases.update(re.findall(r"^abbrev pub (\w+) : Type 0\n\1 = (.*)$", text, re.M))
         for signatures in self.signatures.values():
             for name, signature in signatures.items():

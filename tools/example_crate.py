@@ -14,20 +14,17 @@ from pathlib import Path
 from spec_source import CRATES, code_files, declared_names, imports_of, is_of_examples, item_lines, paragraphs
 from spec_source import place_of, type_blocks
 
-PRELUDE = "Rattle.std.specs.Prelude"
 PATH = re.compile(r"\bRattle\.(\w+)\.(specs|proofs)\.(\w+(?:\.\w+)*)")
-LIBRARY = f"""use {PRELUDE}.{{List}}
+LIBRARY = """pub use Rattle.std.specs.Prelude.{ℕ, Bool, List, Option}
+pub use Rattle.std.specs.Borrow.{Bor}
+
 pub record ArrayVec (A : Type 0) : Type 0 where
   pub items : List A
 
 pub record Vec (A : Type 0) : Type 0 where
   pub items : List A
 """
-IMPORTS = [  # of each declared type
-    f"use {PRELUDE}.{{ℕ, Bool, List, Option}}",
-    "use Rattle.std.specs.Borrow.{Bor}",
-    "use Rattle.pins.specs.Library.{ArrayVec, Vec}",
-]
+USES = "use Rattle.pins.specs.Library.{ℕ, Bool, List, Option, Bor, ArrayVec, Vec}"  # of each declared type
 FORMS = {  # types of Rust, and how antt has them
     r"u8|u16|u32|u64|usize": "ℕ",
     r"bool": "Bool",
@@ -108,7 +105,7 @@ class Declared:
         head = re.compile(rf"(?:pub(?:\(\w+\))? )?(struct|enum) {name}\b(?:<([A-Z]\w*))?")
         start, declared = next((n, found) for n, line in enumerate(lines) if (found := head.match(line)))
         body = [re.sub(r"#\[.*?\] ?|//.*", "", line).strip() for line in item_lines(lines, start)[1:-1]]
-        over, uses = declared[2] or "", {*IMPORTS}
+        over, uses = declared[2] or "", {USES}
         parameter = f" ({over} : Type 0)" * bool(over)
         if declared[1] == "struct":
             fields = [found for line in body if (found := re.fullmatch(r"(?:pub(?:\(\w+\))? )?(\w+): (.*),", line))]
@@ -119,7 +116,8 @@ class Declared:
         variants = []
         for variant, one, several in re.findall(r"(\w+)(?:\(([^()]*)\)| \{([^{}]*)\})?,", " ".join(body)):
             named = [part.split(":")[1] for part in several.split(",") if ":" in part]
-            types = [self.type_in_antt(crate, rust, uses) for rust in (re.split(r", (?![^<]*>)", one) if one else named)]
+            held = re.split(r", (?![^<]*>)", one) if one else named
+            types = [self.type_in_antt(crate, rust, uses) for rust in held]
             variants.append(f"  {variant} : " + "".join(f"{antt} → " for antt in types) + f"the_data {over}".strip())
         data = f"pub data the_data{parameter} : Type 0 where"
         inner = f"declared.{place}.TheVariants"

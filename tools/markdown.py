@@ -1,4 +1,4 @@
-"""The pages of the repository: their sections, tables, quotes and names in backticks, and those that a script writes."""
+"""The pages of the repository: their sections, tables, quotes and names in backticks, and what a script writes."""
 
 from __future__ import annotations
 
@@ -14,7 +14,8 @@ PAGES = {str(path.relative_to(ROOT)): path.read_text() for one in PATTERNS for p
 
 def section(text: str, head: str) -> str:
     """The part of a page below a heading, up to the next heading of its kind."""
-    found = re.search(rf"^{re.escape(head)}(?!\w)[^\n]*\n(.*?)(?=^{head.split()[0]} (?![^\n]*  )|\Z)", text, re.M | re.S)
+    end = rf"(?=^{head.split()[0]} (?![^\n]*  )|\Z)"
+    found = re.search(rf"^{re.escape(head)}(?!\w)[^\n]*\n(.*?){end}", text, re.M | re.S)
     return found[1] if found else ""
 
 

@@ -9,11 +9,13 @@ definition, and what the library of the toolchain defines counts for nothing.
 from __future__ import annotations
 
 import re
-from collections.abc import Iterable, Iterator
+from collections.abc import Callable, Iterable, Iterator
 from dataclasses import dataclass
+from itertools import takewhile
 from pathlib import Path
-from typing import NamedTuple
+from typing import NamedTuple, TypeVar
 
+T = TypeVar("T")
 ROOT = Path(__file__).resolve().parent.parent
 CRATES = ROOT / "crates"
 THEOREM = ("crib_answer", "answering.rt", "answer_to")  # the call that the headline is about: its crate, file and name
@@ -24,7 +26,7 @@ IMPORT = re.compile(
 
 
 class Import(NamedTuple):
-    """An import of antt: the crate, `specs` or `proofs`, the place in it, the names with those that they get, an alias."""
+    """An import of antt: crate, `specs` or `proofs`, place, the names with those that they get, and an alias."""
 
     crate: str
     kind: str
@@ -42,21 +44,14 @@ def imports_of(text: str) -> Iterator[Import]:
 
 def code_lines(lines: list[str]) -> list[str]:
     """The lines that count: no blank, no comment, no import, no attribute."""
-    aside = re.compile(r"^\s*($|--|//|#\[|(ghost )?use |(pub )?mod )")
-    return [line for line in lines if not aside.match(line)]
+    return [line for line in lines if not re.match(r"\s*($|--|//|#\[|(ghost )?use |(pub )?mod )", line)]
 
 
 def comment_of(lines: list[str]) -> str:
     """What the comment above a definition says, as one line. The comment above the imports is the file's."""
-    said: list[str] = []
-    for line in lines:
-        if re.match(r"\s*(ghost )?use ", line):
-            said = []
-        elif not line.startswith("--"):
-            break
-        elif not line.startswith("-- ----"):
-            said.append(line.removeprefix("--").strip())
-    return " ".join(said)
+    last = max((n for n, line in enumerate(lines) if re.match(r"\s*(ghost )?use ", line)), default=-1)
+    said = takewhile(lambda line: line.startswith("--"), lines[last + 1 :])
+    return " ".join(line.removeprefix("--").strip() for line in said if not line.startswith("-- ----"))
 
 
 class Block:
@@ -95,6 +90,17 @@ def code_files(crate: str = "*") -> list[Path]:
 def words_in(found: Iterable[Iterable[str]]) -> set[str]:
     """The words of all parts that a pattern found."""
     return {word for parts in found for part in parts for word in re.findall(r"\w+", part)}
+
+
+def reached(roots: Iterable[T], below: Callable[[T], Iterable[T]]) -> list[T]:
+    """Some roots, and all that is below them."""
+    found = dict.fromkeys(roots)
+    ahead = [*found]
+    while ahead:
+        more = [one for one in below(ahead.pop()) if one not in found]
+        found.update(dict.fromkeys(more))
+        ahead += more
+    return [*found]
 
 
 def library_names(crate: str) -> set[str]:
@@ -151,8 +157,8 @@ def type_blocks(path: Path) -> list[tuple[str, Block]]:
 
 @dataclass
 class Function:
-    """A function of src, or a ghost member: its name, the type or trait that it belongs to, whether it is `pub`, whether
-    it stands in a block `impl`, `trait` or `for`, and the lines of its head and of its body."""
+    """A function of src, or a ghost member: its name, the type or trait that it belongs to, whether it is `pub`, what
+    block it stands in (`impl`, `trait` or `for`), and the lines of its head and of its body."""
 
     path: Path
     name: str
@@ -275,11 +281,4 @@ class Source:
 
     def reached_from(self, roots: list[Block]) -> list[Block]:
         """The definitions that some blocks reach, without these blocks."""
-        reached: list[Block] = []
-        seen, ahead = {*roots}, [*roots]
-        while ahead:
-            more = [block for block in self.cited(ahead.pop()) if block not in seen]
-            seen.update(more)
-            reached += more
-            ahead += more
-        return reached
+        return reached(roots, self.cited)[len(roots) :]

@@ -19,8 +19,8 @@ fail() {
     : >"$said"
 }
 
-# add FILE STATUS: adds the numbers of the last line of a part, of which FILE has what it printed. A part fails if it has
-# no such line, or by its status.
+# add FILE STATUS: adds the numbers of the last line of a part, of which FILE has what it printed. A part fails if it
+# has no such line, or by its status.
 add() {
     local more_passed more_failed
     read -r more_passed more_failed < <(tail -n 1 "$1" | sed -n 's/^\([0-9]*\) passed, \([0-9]*\) failed$/\1 \2/p')

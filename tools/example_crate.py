@@ -244,8 +244,3 @@ def with_nodes(files: dict[str, str]) -> dict[str, str]:
             nodes.setdefault("/".join(parts[:n]), {})[parts[n]] = None
     made = {node + (".antt" if "/" in node else "/Lib.antt"): kids for node, kids in nodes.items()}
     return {file: "".join(f"pub mod {kid}\n" for kid in kids) for file, kids in made.items()} | files
-
-
-def crate_files(texts: dict[Module, str]) -> dict[str, str]:
-    """The files of the crate without any change."""
-    return {file_of(module): renamed(text, {}) for module, text in texts.items()} | {"specs/Library.antt": LIBRARY}

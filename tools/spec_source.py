@@ -9,32 +9,49 @@ definition, and what the library of the toolchain defines counts for nothing.
 from __future__ import annotations
 
 import re
-from collections.abc import Iterable, Iterator
+from collections.abc import Callable, Iterable, Iterator
+from dataclasses import dataclass
+from itertools import takewhile
 from pathlib import Path
+from typing import NamedTuple, TypeVar
 
+T = TypeVar("T")
 ROOT = Path(__file__).resolve().parent.parent
+CRATES = ROOT / "crates"
 THEOREM = ("crib_answer", "answering.rt", "answer_to")  # the call that the headline is about: its crate, file and name
 NAME = re.compile(r"(?<![\w.])[^\W\d][\w'-]*(?:\.[\w'-]+)?|>>=|←")
-IMPORT = re.compile(r"^\s*(?:ghost )?use Rattle\.(\w+)\.specs\.([\w.]+?)(?:\.\{([^}]*)\}| as (\w+))?;?$")
+IMPORT = re.compile(
+    r"^ *(?:pub )?(?:ghost )?use (?:Rattle\.(\w+)\.(specs|proofs)\.)?([\w.]+?)(?:\.\{([^}]*)\}| as (\w+))?;?$", re.M
+)
+
+
+class Import(NamedTuple):
+    """An import of antt: crate, `specs` or `proofs`, place, the names with those that they get, and an alias."""
+
+    crate: str
+    kind: str
+    place: str
+    names: dict[str, str]
+    alias: str
+
+
+def imports_of(text: str) -> Iterator[Import]:
+    """The imports of a text. One without names has an alias, if only the last part of its place."""
+    for crate, kind, place, names, alias in IMPORT.findall(text):
+        pairs = [(name.strip().replace("◌", "").split(" as ") * 2)[:2] for name in names.split(",") if name.strip()]
+        yield Import(crate, kind, place, dict(pairs), alias or place.split(".")[-1])
 
 
 def code_lines(lines: list[str]) -> list[str]:
     """The lines that count: no blank, no comment, no import, no attribute."""
-    aside = re.compile(r"^\s*($|--|//|#\[|(ghost )?use |(pub )?mod )")
-    return [line for line in lines if not aside.match(line)]
+    return [line for line in lines if not re.match(r"\s*($|--|//|#\[|(ghost )?use |(pub )?mod )", line)]
 
 
 def comment_of(lines: list[str]) -> str:
     """What the comment above a definition says, as one line. The comment above the imports is the file's."""
-    said: list[str] = []
-    for line in lines:
-        if re.match(r"\s*(ghost )?use ", line):
-            said = []
-        elif not line.startswith("--"):
-            break
-        elif not line.startswith("-- ----"):
-            said.append(line.removeprefix("--").strip())
-    return " ".join(said)
+    last = max((n for n, line in enumerate(lines) if re.match(r"\s*(ghost )?use ", line)), default=-1)
+    said = takewhile(lambda line: line.startswith("--"), lines[last + 1 :])
+    return " ".join(line.removeprefix("--").strip() for line in said if not line.startswith("-- ----"))
 
 
 class Block:
@@ -51,8 +68,13 @@ class Block:
 
 def place_of(path: Path) -> tuple[str, str]:
     """The crate of a file, and the module that it is."""
-    crate, _, *module = path.relative_to(ROOT / "crates").with_suffix("").parts
+    crate, _, *module = path.relative_to(CRATES).with_suffix("").parts
     return crate, ".".join(module)
+
+
+def is_of_examples(path: Path) -> bool:
+    """Whether a file of proofs has worked examples: its first line says so."""
+    return "worked" in path.read_text().split("\n", 1)[0].lower()
 
 
 def crates() -> list[str]:
@@ -62,7 +84,7 @@ def crates() -> list[str]:
 
 def code_files(crate: str = "*") -> list[Path]:
     """The files of src of a crate, or of all crates, in folders too. A folder of tests is left out."""
-    return [path for path in sorted(ROOT.glob(f"crates/{crate}/src/**/*.rt")) if path.parent.name != "tests"]
+    return [path for path in sorted(CRATES.glob(f"{crate}/src/**/*.rt")) if path.parent.name != "tests"]
 
 
 def words_in(found: Iterable[Iterable[str]]) -> set[str]:
@@ -70,94 +92,127 @@ def words_in(found: Iterable[Iterable[str]]) -> set[str]:
     return {word for parts in found for part in parts for word in re.findall(r"\w+", part)}
 
 
-def library_names(crate: str) -> set[str] | None:
+def reached(roots: Iterable[T], below: Callable[[T], Iterable[T]]) -> list[T]:
+    """Some roots, and all that is below them."""
+    found = dict.fromkeys(roots)
+    ahead = [*found]
+    while ahead:
+        more = [one for one in below(ahead.pop()) if one not in found]
+        found.update(dict.fromkeys(more))
+        ahead += more
+    return [*found]
+
+
+def library_names(crate: str) -> set[str]:
     """The names that the `lib.rt` of a crate hands out; none of a program."""
-    library = ROOT / "crates" / crate / "src/lib.rt"
-    if not library.is_file():
-        return None
-    return words_in(re.findall(r"^pub use (?:\w+::)+(?:\{([^}]*)\}|(\w+));|^pub \w+ (\w+)", library.read_text(), re.M))
+    library = CRATES / crate / "src/lib.rt"
+    handed = r"^pub use (?:\w+::)+(?:\{([^}]*)\}|(\w+));|^pub \w+ (\w+)"
+    return words_in(re.findall(handed, library.read_text(), re.M)) if library.is_file() else set()
+
+
+def paragraphs(text: str) -> list[str]:
+    """The declarations of a file of antt: blank lines part them, and what is indented goes on with the one before."""
+    return re.split(r"\n\n(?! )", text)
+
+
+def declared_names(block: str) -> list[str]:
+    """The names that a declaration of antt declares: its own, those of a `mutual` block, and the variants of a type."""
+    aside = re.compile(r" *(--|(pub )?(use|mod) |infix)")
+    code = "\n".join(line for line in block.splitlines() if not aside.match(line))
+    record = re.match(r"\n*(?:pub )?record (\w+)", code)
+    head = r"^ *(?:abbrev |unfoldable )?pub (?:data )?([^\s:(]+)"
+    head += r"|^(?:abbrev |unfoldable |data )?([^\s:(]+)(?: [({].*[)}])* :"
+    head += r"|^ +(\w+) :" if re.search(r"^ *(pub )?data ", code, re.M) else ""
+    names = [record.groups()] if record else re.findall(head, code, re.M)
+    return [name.replace("◌", "") for found in names for name in found if name]
 
 
 def spec_blocks(path: Path) -> Iterator[tuple[str, Block]]:
-    """The definitions of a file of specs. Blank lines part them; what is indented goes on with the one before."""
-    paragraphs: list[str] = []
-    for part in path.read_text().split("\n\n"):
-        if part.startswith(" ") and paragraphs:
-            paragraphs[-1] += "\n\n" + part
-        else:
-            paragraphs.append(part)
-    head = r"^ *(?:abbrev |unfoldable )?pub (?:record |data )?([^\s:(]+)|^([^\s:(]+) :|^ +([A-Z]\w*) :"
-    for part in paragraphs:
-        block = Block(path, "", part.splitlines())
-        text = "\n".join(block.lines)
-        if text.startswith("pub record"):
-            text = block.lines[0]
-        names = [name.replace("◌", "") for found in re.findall(head, text, re.M) for name in found if name]
-        block.name = " ".join(names)
+    """The definitions of a file of specs."""
+    for part in paragraphs(path.read_text()):
+        names = declared_names(part)
+        block = Block(path, " ".join(names), part.splitlines())
         yield from ((name, block) for name in names)
 
 
 def item_lines(lines: list[str], start: int) -> list[str]:
     """The lines of an item of Rust: to the brace that closes it, or to its semicolon."""
     if lines[start].rstrip().endswith((";", "}")):
-        return lines[start:start + 1]
+        return lines[start : start + 1]
     end = next(n for n in range(start, len(lines)) if lines[n].startswith("}"))
-    return lines[start:end + 1]
+    return lines[start : end + 1]
 
 
 def type_blocks(path: Path) -> list[tuple[str, Block]]:
     """The structs, enums and traits that a file of src declares, with their views and invariants."""
     lines = path.read_text().splitlines()
     found: dict[str, list[str]] = {}
-    for n, line in enumerate(lines):
-        declared = re.match(r"(?:pub(?:\(\w+\))? )?(?:struct|enum|trait) (\w+)", line)
-        if declared:
-            found[declared[1]] = item_lines(lines, n)
-    for n, line in enumerate(lines):
-        model = re.match(r"impl.* Model for (\w+)", line)
-        if model and model[1] in found:
-            found[model[1]] = found[model[1]] + item_lines(lines, n)
+    for pattern in (r"(?:pub(?:\(\w+\))? )?(?:struct|enum|trait) (\w+)", r"impl.* Model for (\w+)"):
+        for n, line in enumerate(lines):
+            declared = re.match(pattern, line)
+            if declared and (declared[1] in found or "impl" not in pattern):
+                found[declared[1]] = found.get(declared[1], []) + item_lines(lines, n)
     return [(name, Block(path, name, body)) for name, body in found.items()]
 
 
+@dataclass
 class Function:
-    """A function of src: its name, the type that it is a method of, whether it may be called from without, its head."""
+    """A function of src, or a ghost member: its name, the type or trait that it belongs to, whether it is `pub`, what
+    block it stands in (`impl`, `trait` or `for`), and the lines of its head and of its body."""
 
-    def __init__(self, path: Path, name: str, owner: str | None, is_open: bool, lines: list[str]) -> None:
-        self.path, self.name, self.owner, self.is_open, self.lines = path, name, owner, is_open, lines
+    path: Path
+    name: str
+    owner: str
+    is_pub: bool
+    within: str
+    lines: list[str]
+    body: list[str]
 
     def head(self, clauses: list[str] | None = None) -> Block:
         """The head as a block: all of it, or its types and the clauses of some names."""
-        starts = [n for n, line in enumerate(self.lines) if re.match(r"\s*(requires|ensures)\b", line)]
-        parts = [self.lines[:starts[0]] if starts else self.lines]
-        parts += [self.lines[start:end] for start, end in zip(starts, [*starts[1:], len(self.lines)])]
         if clauses is None:
             return Block(self.path, self.name, self.lines)
-        chosen = [part for part in parts[1:] if re.match(r"\s*ensures (\w*)", part[0])[1] in clauses]
-        return Block(self.path, self.name, sum([parts[0], *chosen], []))
+        is_chosen, chosen = True, []
+        for line in self.lines:
+            if re.match(r"\s*(requires|ensures)\b", line):
+                clause = re.match(r"\s*ensures (\w*)", line)
+                is_chosen = bool(clause and clause[1] in clauses)
+            chosen += [line] * is_chosen
+        return Block(self.path, self.name, chosen)
+
+
+def head_and_body(lines: list[str], start: int) -> tuple[list[str], list[str]]:
+    """The lines of a function's head, to its body or to the semicolon that ends it; and those of its body."""
+    margin = re.match(" *", lines[start])[0]
+    depth = 0
+    for n, line in enumerate(lines[start:], start):
+        depth += line.count("{") - line.count("}")
+        if re.match(rf"{margin}\S", line) and line.endswith(("{", "}")):
+            end = lines.index(margin + "}", n) if line.endswith("{") else n
+            return lines[start : n + (line.strip() not in ("{", "{}"))], lines[n + 1 : end]
+        if line.endswith(";") and not depth:
+            return lines[start : n + 1], []
+    return lines[start:], []
 
 
 def functions_of(path: Path) -> Iterator[Function]:
     """The functions and the ghost members that a file of src declares, in traits and in impls as well."""
     lines = path.read_text().splitlines()
-    owner: str | None = None
-    in_trait = False
+    owner = within = ""
     for n, line in enumerate(lines):
-        if line == "}":
-            owner, in_trait = None, False
         block = re.match(r"(?:pub )?(impl|trait)\b(.*)", line)
+        if line == "}":
+            owner = within = ""
         if block:
             words = re.sub(r"<[^<>]*>", "", re.sub(r"<[^<>]*>", "", block[2])).split(" where ")[0]
-            owner, in_trait = re.findall(r"\w+", words.split(":")[0])[-1], " for " in words or block[1] == "trait"
-        told = re.match(r"    ghost (\w+) = ", line)
-        if told:
+            owner, within = re.findall(r"\w+", words.split(":")[0])[-1], "for" if " for " in words else block[1]
+        ghost = re.match(r"    ghost (\w+) = ", line)
+        if ghost:
             end = next(m for m in range(n, len(lines)) if lines[m].endswith("};"))
-            yield Function(path, told[1], owner, in_trait, lines[n:end + 1])
+            yield Function(path, ghost[1], owner, False, within, lines[n : end + 1], [])
         found = re.match(r"\s*(pub )?(?:pub\(\w+\) )?(?:const )?fn (\w+)", line)
         if found:
-            ends = (m for m in range(n, len(lines)) if lines[m].strip() in ("{", "{}") or lines[m].endswith(";"))
-            end = n if line.endswith(("{", "}")) else next(ends)
-            yield Function(path, found[2], owner, bool(found[1]) or in_trait, lines[n:max(end, n + 1)])
+            yield Function(path, found[2], owner, bool(found[1]), within, *head_and_body(lines, n))
 
 
 class Source:
@@ -167,16 +222,20 @@ class Source:
         self.specs: dict[tuple[str, str, str], Block] = {}  # by crate, module and name
         self.types: dict[tuple[str, str], Block] = {}  # by crate and name
         self.meanings_of: dict[Path, dict[str, Block]] = {}
-        for path in sorted(ROOT.glob("crates/*/specs/**/*.antt")):
-            for name, block in spec_blocks(path):
-                self.specs[(*place_of(path), name)] = block
+        self.instead: dict[str, Block] = {}  # what is read in place of a definition of that name: a law says the same
+        for path in sorted(CRATES.glob("*/specs/**/*.antt")):
+            self.specs.update({(*place_of(path), name): block for name, block in spec_blocks(path)})
         for path in code_files():
-            for name, block in type_blocks(path):
-                self.types[place_of(path)[0], name] = block
+            self.types.update({(place_of(path)[0], name): block for name, block in type_blocks(path)})
 
     def function(self, crate: str, file: str, name: str) -> Function:
         """The function of that name in a file."""
-        return next(one for one in functions_of(ROOT / "crates" / crate / "src" / file) if one.name == name)
+        return next(one for one in functions_of(CRATES / crate / "src" / file) if one.name == name)
+
+    def of_theorem(self) -> list[Block]:
+        """The clause that is the theorem, and all that it rests on."""
+        clause = self.function(*THEOREM).head(["means"])
+        return [clause, *self.reached_from([clause])]
 
     def of_module(self, crate: str, module: str) -> dict[str, Block]:
         """The definitions of a module, by their names."""
@@ -187,9 +246,9 @@ class Source:
         if path not in self.meanings_of:
             (crate, module), text = place_of(path), path.read_text()
             found = self.of_module(crate, module) if path.suffix == ".antt" else self.rust_types(crate, text)
-            for line in text.splitlines():
-                if re.match(r"\s*(ghost )?use Rattle\.\w+\.specs", line):
-                    self.add_import(found, *IMPORT.fullmatch(line).groups(""))
+            for one in imports_of(text):
+                if one.kind == "specs":
+                    self.add_import(found, one)
             self.meanings_of[path] = found
         return self.meanings_of[path]
 
@@ -201,36 +260,26 @@ class Source:
             found.update({n: self.types[its, n] for n in re.findall(r"\w+", names) if (its, n) in self.types})
         return found
 
-    def add_import(self, found: dict[str, Block], crate: str, place: str, names: str, alias: str) -> None:
+    def add_import(self, found: dict[str, Block], one: Import) -> None:
         """Adds what an import names. What is of the library counts for nothing."""
-        place = place.removesuffix(".TheVariants")
+        place = one.place.removesuffix(".TheVariants")
         last = place.split(".")[-1]
-        pairs = [(name.replace("◌", "").split(" as ") * 2)[:2] for name in names.split(", ") if name]
-        for name, used in pairs or [(last, alias)]:
-            if not (ROOT / "crates" / crate).is_dir() or place.startswith("contracts."):
+        for name, used in (one.names or {last: one.alias}).items():
+            if not (CRATES / one.crate).is_dir() or place.startswith("contracts."):
                 found.pop(used, None)
             elif place.startswith("declared."):
-                found[used] = self.types[crate, last]
-            elif names:
-                found[used] = self.specs[crate, place, name]
+                found[used] = self.types[one.crate, last]
+            elif one.names:
+                found[used] = self.specs[one.crate, place, name]
             else:
-                found.update({f"{used}.{its}": block for its, block in self.of_module(crate, place).items()})
+                found.update({f"{used}.{its}": block for its, block in self.of_module(one.crate, place).items()})
 
     def cited(self, block: Block) -> list[Block]:
         """The definitions and the types that a block names."""
         meanings = self.meanings(block.path)
         words = block.words | ({">>="} if "←" in block.words else set())
-        return [meanings[word] for word in sorted(words) if word in meanings]
+        return [*dict.fromkeys(self.instead.get(word, meanings[word]) for word in sorted(words) if word in meanings)]
 
-    def reached_from(self, roots: Iterable[Block]) -> list[Block]:
+    def reached_from(self, roots: list[Block]) -> list[Block]:
         """The definitions that some blocks reach, without these blocks."""
-        roots = list(roots)
-        seen, ahead = {id(block) for block in roots}, list(roots)
-        reached: list[Block] = []
-        while ahead:
-            for block in self.cited(ahead.pop()):
-                if id(block) not in seen:
-                    seen.add(id(block))
-                    reached.append(block)
-                    ahead.append(block)
-        return reached
+        return reached(roots, self.cited)[len(roots) :]

@@ -1,6 +1,6 @@
 # shellcheck shell=bash
-# Counts what a script tries. tools/pages, tools/launcher, examples/run and recipes/test read this file first. It makes
-# the folder $room, which is gone at the end, with the file $said in it for what differs.
+# Counts what a script tries. `.ci/run`, the scripts of tools/ in bash, examples/run and recipes/test read this file
+# first. It makes the folder $room, which is gone at the end, with the file $said in it for what differs.
 passed=0
 failed=0
 room=$(mktemp -d) || exit 1
@@ -17,6 +17,18 @@ fail() {
     echo "FAILED: $1"
     cat "$said"
     : >"$said"
+}
+
+# add FILE STATUS: adds the numbers of the last line of a part, of which FILE has what it printed. A part fails if it
+# has no such line, or by its status.
+add() {
+    local more_passed more_failed
+    read -r more_passed more_failed < <(tail -n 1 "$1" | sed -n 's/^\([0-9]*\) passed, \([0-9]*\) failed$/\1 \2/p')
+    if [ -z "${more_failed:-}" ] || { [ "$2" -ne 0 ] && [ "$more_failed" -eq 0 ]; }; then
+        more_failed=1
+    fi
+    passed=$((passed + ${more_passed:-0}))
+    failed=$((failed + more_failed))
 }
 
 # tell: the last line of a script, and its exit status, 1 where something failed.

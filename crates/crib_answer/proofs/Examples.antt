@@ -211,3 +211,9 @@ nothing_is_not_solved text told = nothing_is_no_problem told.problem told.spelle
 
 pub replay_tells_nothing : (text : List ℕ) → StatusTells Replay [] (record { output = text; status = No })
 replay_tells_nothing text = tt
+
+pub follow_tells_nothing : (text : List ℕ) → StatusTells Follow [] (record { output = text; status = No })
+follow_tells_nothing text = tt
+
+pub board_tells_nothing : (text : List ℕ) → StatusTells Board [] (record { output = text; status = Yes })
+board_tells_nothing text = tt

@@ -24,7 +24,8 @@ use Rattle.crib_run.specs.Reply.{fault_line}
 use Rattle.crib_answer.specs.Answer.{too_large}
 use Rattle.crib_input.specs.Input.{most_bytes}
 use Rattle.crib_input.specs.Spelled.{SpellsProblem, SpellsPlan}
-use Rattle.crib_answer.specs.Telling.{HasFailingPlan, IsSolvedBy, HasNoPlan}
+use Rattle.crib_check.specs.Failing.{IsFirstFailing}
+use Rattle.crib_answer.specs.Telling.{HasFailingPlan, HasSurePlan, HasSomePlan, IsSolvedBy, HasNoPlan}
 use Rattle.crib_answer.specs.Telling.{CheckTells, SolveTells, StatusTells, holds_line, fails_line, none_line}
 
 -- ---- the jobs: their names, in the order of the help text, and what their inputs have
@@ -147,6 +148,21 @@ first_failing_game_is_written input result has = (let text = has.game_is in cc)
 pub fails_is_written : (input : List ℕ) → CheckTells input [] No → ⊥
 fails_is_written input told = (let text = told.3 in cc)
 
+-- no yes without a sure plan, and no first failing game without an input that spells a plan, or without its being the first
+pub no_yes_without_a_sure_plan : (input : List ℕ) → (HasSurePlan input → ⊥) → CheckTells input (codes "holds\n") Yes → ⊥
+no_yes_without_a_sure_plan input none told = none told.0
+
+pub nothing_has_no_sure_plan : HasSurePlan [] → ⊥
+nothing_has_no_sure_plan is = nothing_is_no_plan is.problem is.plan is.spelled
+
+pub nothing_has_no_failing_plan : (result : Ending) (text : List ℕ) → HasFailingPlan [] result text → ⊥
+nothing_has_no_failing_plan result text is = nothing_is_no_plan is.problem is.plan is.spelled
+
+pub no_failing_plan_without_a_first_game : (input text : List ℕ) →
+    ((problem : Setup) (plan : List Node) (game : Game) → IsFirstFailing problem plan game ending.Short → ⊥) →
+    HasFailingPlan input ending.Short text → ⊥
+no_failing_plan_without_a_first_game input text none is = none is.problem is.plan is.game is.first
+
 pub no_problem_is_refused : (text : List ℕ) → CheckTells [] text Refused
 no_problem_is_refused text = nothing_is_no_plan
 
@@ -176,6 +192,19 @@ no_text_is_no_plan input is = (let text = is.plan_is in cc)
 
 pub none_where_no_plan_is_sure : (input : List ℕ) → HasNoPlan input → SolveTells input (codes "none\n") No
 none_where_no_plan_is_sure input has = (has, refl)
+
+pub none_only_without_a_plan : (input : List ℕ) → (HasNoPlan input → ⊥) → SolveTells input (codes "none\n") No → ⊥
+none_only_without_a_plan input some told = some told.0
+
+-- an empty input is no problem, with or without a plan
+pub nothing_has_no_plan : HasNoPlan [] → ⊥
+nothing_has_no_plan is = nothing_is_no_problem is.problem is.spelled
+
+pub nothing_has_some_plan : HasSomePlan [] → ⊥
+nothing_has_some_plan is = nothing_is_no_problem is.problem is.spelled
+
+pub some_plan_is_sure : (input : List ℕ) → ((problem : Setup) → IsWinnable problem → ⊥) → HasSomePlan input → ⊥
+some_plan_is_sure input none is = none is.problem is.some
 
 -- the problem has a sure plan, so it is wrong to say that it has none
 pub not_none_where_a_plan_is_sure : (is : HasNoPlan the_problem) → is.problem ≡ at_29 → ⊥

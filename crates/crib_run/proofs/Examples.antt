@@ -1,7 +1,7 @@
 -- Worked examples of replies and their lines.
 use Rattle.std.specs.Prelude.{◌≡◌, refl, codes}
 use Rattle.std.specs.Fmt.{digits}
-use Rattle.crib_run.specs.declared.status.Status.TheVariants.{No}
+use Rattle.crib_run.specs.declared.answer.Answer as answers
 use Rattle.crib_run.specs.declared.text.Text.TheVariants as texts
 use Rattle.crib_run.specs.Reply.{fault_line, reply_of}
 use Rattle.crib_run.specs.Text.{text_bytes}
@@ -16,11 +16,14 @@ pub allocated_text : (A : Type 0) (text : _) → text_bytes {A = A} (texts.Secti
 unfolding text_bytes
 allocated_text A text = refl
 
--- a reply has the bytes of the answer's text, and its status
-pub reply_of_none : (A : Type 0) → reply_of {A = A} (record { text = texts.Short (record { items = codes "none\n" }); status = No })
-    ≡ record { output = codes "none\n"; status = No }
-unfolding reply_of text_bytes
-reply_of_none A = refl
+-- a reply has the bytes of the answer's text, and the status of the answer
+pub bytes_of_reply : (A : Type 0) (answer : answers.Answer A) → (reply_of answer).output ≡ text_bytes answer.text
+unfolding reply_of
+bytes_of_reply A answer = refl
+
+pub status_of_reply : (A : Type 0) (answer : answers.Answer A) → (reply_of answer).status ≡ answer.status
+unfolding reply_of
+status_of_reply A answer = refl
 
 -- the line of a fault has its number
 pub fault_11 : fault_line 11 ≡ codes "fault 11\n"

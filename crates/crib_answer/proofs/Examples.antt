@@ -235,6 +235,10 @@ check_is_told ends = a_sure_plan_holds ends
 pub solve_is_told : Ends at_29 → StatusTells Solve the_problem (record { output = the_plan; status = Yes })
 solve_is_told ends = a_sure_plan_is_written ends
 
+-- what is told for `check` is that the plan of the input is sure
+pub check_tells_of_a_plan : (input : List ℕ) → (HasSurePlan input → ⊥) → StatusTells Check input (record { output = codes "holds\n"; status = Yes }) → ⊥
+check_tells_of_a_plan input none told = none told.0
+
 pub nothing_is_not_solved : (text : List ℕ) → StatusTells Solve [] (record { output = text; status = Yes }) → ⊥
 nothing_is_not_solved text told = nothing_is_no_problem told.problem told.spelled
 

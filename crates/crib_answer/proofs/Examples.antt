@@ -148,6 +148,10 @@ first_failing_game_is_written input result has = (let text = has.game_is in cc)
 pub fails_is_written : (input : List ℕ) → CheckTells input [] No → ⊥
 fails_is_written input told = (let text = told.3 in cc)
 
+-- a yes says that the input has a sure plan
+pub yes_is_told : (input : List ℕ) → CheckTells input (codes "holds\n") Yes → HasSurePlan input × (codes "holds\n" ≡ codes "holds\n")
+yes_is_told input told = told
+
 -- no yes without a sure plan, and no first failing game without an input that spells a plan, or without its being the first
 pub no_yes_without_a_sure_plan : (input : List ℕ) → (HasSurePlan input → ⊥) → CheckTells input (codes "holds\n") Yes → ⊥
 no_yes_without_a_sure_plan input none told = none told.0
@@ -193,6 +197,9 @@ no_text_is_no_plan input is = (let text = is.plan_is in cc)
 pub none_where_no_plan_is_sure : (input : List ℕ) → HasNoPlan input → SolveTells input (codes "none\n") No
 none_where_no_plan_is_sure input has = (has, refl)
 
+pub none_is_told : (input : List ℕ) → SolveTells input (codes "none\n") No → HasNoPlan input × (codes "none\n" ≡ codes "none\n")
+none_is_told input told = told
+
 pub none_only_without_a_plan : (input : List ℕ) → (HasNoPlan input → ⊥) → SolveTells input (codes "none\n") No → ⊥
 none_only_without_a_plan input some told = some told.0
 
@@ -236,6 +243,9 @@ pub solve_is_told : Ends at_29 → StatusTells Solve the_problem (record { outpu
 solve_is_told ends = a_sure_plan_is_written ends
 
 -- what is told for `check` is that the plan of the input is sure
+pub check_tells_of_its_plan : (input text : List ℕ) → StatusTells Check input (record { output = text; status = Yes }) → CheckTells input text Yes
+check_tells_of_its_plan input text told = told
+
 pub check_tells_of_a_plan : (input : List ℕ) → (HasSurePlan input → ⊥) → StatusTells Check input (record { output = codes "holds\n"; status = Yes }) → ⊥
 check_tells_of_a_plan input none told = none told.0
 

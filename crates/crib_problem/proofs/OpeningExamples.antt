@@ -189,3 +189,7 @@ fifteen_between_threes = refl
 pub dealer_leads_not : AreAllowed (basis_at 0) (theirs 37 ∷ []) → ⊥
 unfolding set_where
 dealer_leads_not are = (let refused = are.1 in cc)
+
+-- nor is it allowed afterwards
+dealer_has_led : AreAllowed (basis_at 0) (own 36 ∷ theirs 37 ∷ []) → ⊥
+dealer_has_led are = dealer_leads_not are.0

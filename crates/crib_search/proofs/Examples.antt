@@ -61,8 +61,8 @@ pub shared_plan : plan_of_tree shared
     ∷ Play 5 (To 3) ∷ Play 4 (To 3) ∷ Play 6 End ∷ []
 shared_plan = refl
 
--- a look that the walk left before the first play is behind it in the list
-pub place_of_a_look : place_of_tree (clubs ∷ look ∷ diamonds ∷ []) look ≡ To 1
+-- the place of a look is its place in the list
+pub place_of_a_look : place_of_tree (clubs ∷ diamonds ∷ look ∷ []) look ≡ To 2
 place_of_a_look = refl
 
 -- a tree that the walk left before is not left again

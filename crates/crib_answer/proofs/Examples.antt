@@ -243,11 +243,11 @@ pub solve_means_a_sure_plan : Ends at_29 → StatusMeans Solve the_problem (reco
 solve_means_a_sure_plan ends = a_sure_plan_is_written ends
 
 -- what is means for `check` is that the plan of the input is sure
-pub check_tells_of_its_plan : (input text : List ℕ) → StatusMeans Check input (record { output = text; status = Yes }) → CheckMeans input text Yes
-check_tells_of_its_plan input text means = means
+pub check_means_its_plan : (input text : List ℕ) → StatusMeans Check input (record { output = text; status = Yes }) → CheckMeans input text Yes
+check_means_its_plan input text means = means
 
-pub check_tells_of_a_plan : (input : List ℕ) → (HasSurePlan input → ⊥) → StatusMeans Check input (record { output = codes "holds\n"; status = Yes }) → ⊥
-check_tells_of_a_plan input none means = none means.0
+pub check_means_a_plan : (input : List ℕ) → (HasSurePlan input → ⊥) → StatusMeans Check input (record { output = codes "holds\n"; status = Yes }) → ⊥
+check_means_a_plan input none means = none means.0
 
 pub nothing_is_not_solved : (text : List ℕ) → StatusMeans Solve [] (record { output = text; status = Yes }) → ⊥
 nothing_is_not_solved text means = nothing_is_no_problem means.problem means.spelled
@@ -255,8 +255,8 @@ nothing_is_not_solved text means = nothing_is_no_problem means.problem means.spe
 pub replay_means_nothing : (text : List ℕ) → StatusMeans Replay [] (record { output = text; status = No })
 replay_means_nothing text = tt
 
-pub follow_tells_nothing : (text : List ℕ) → StatusMeans Follow [] (record { output = text; status = No })
-follow_tells_nothing text = tt
+pub follow_means_nothing : (text : List ℕ) → StatusMeans Follow [] (record { output = text; status = No })
+follow_means_nothing text = tt
 
-pub board_tells_nothing : (text : List ℕ) → StatusMeans Board [] (record { output = text; status = Yes })
-board_tells_nothing text = tt
+pub board_means_nothing : (text : List ℕ) → StatusMeans Board [] (record { output = text; status = Yes })
+board_means_nothing text = tt

@@ -138,7 +138,8 @@ each_letter-loop-place-preserved g t c =
           w.take.new.self w.take.result w.take.ensures in
           let leads = leads_to holds walk.problem.now walk.plan.now walk.trail.items c.loop-place.self kept back c.args.key.now w.go_by_theirs.new.key
           (Theirs letter)
-          (leads_from c.loop-place.self.plan.now c.args.key.now w.copy-next.result w.go_by_theirs.new.key (Theirs letter) w.copy-next.ensures w.go_by_theirs.ensures) in
+          (leads_from c.loop-place.self.plan.now c.args.key.now w.copy-next.result w.go_by_theirs.new.key (Theirs letter) w.copy-next.ensures
+          w.go_by_theirs.ensures) in
           record {
             kept = kept_same holds walk.problem.now walk.plan.now _ _ w.self-is walked.kept;
             back = ap (λ walk. walk.trail.items) w.self-is ∙ walked.back w.in_default.is;

@@ -108,9 +108,11 @@ pub try_cards-place_of_play-requires-clause-earlier : goal.try_cards-place_of_pl
 try_cards-place_of_play-requires-clause-earlier g t c =
     let A : Option DraftPlace → Type 0 = λ found. IsAnswer c.search.new.self c.own_play.new.self found in
     let here = at_later c.args.self.now c.search.new.self c.search.ensures.later (λ problem. IsHere problem c.args.know.now) c.requires.here in
-    answer_earlier c.search.new.self c.own_play.new.self c.in-Some.next
-    (Own (move.Card c.card-item.result) ∷ here.0, (steps_from c.args.know.now c.copy-after.result c.own_play.new.self (Own (move.Card c.card-item.result))
-    c.copy-after.ensures c.own_play.ensures) c.search.new.self.problem here.0 here.1)
+    answer_earlier c.search.new.self c.own_play.new.self c.in-Some.next (
+      Own (move.Card c.card-item.result) ∷ here.0,
+      (steps_from c.args.know.now c.copy-after.result c.own_play.new.self (Own (move.Card c.card-item.result))
+          c.copy-after.ensures c.own_play.ensures) c.search.new.self.problem here.0 here.1,
+    )
     (subst A c.in-Some.is c.in_ok-next.ensures.found)
 
 pub try_cards-returns-in_err-place-in-Some-clause-later : goal.try_cards-returns-in_err-place-in-Some-clause-later

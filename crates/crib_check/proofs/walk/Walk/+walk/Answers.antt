@@ -1,4 +1,4 @@
-use Rattle.std.proofs.Common.{rules, ◌≡◌, ◌⊎◌, ◌∷◌, List, ℕ, length, refl, sym, ap, subst, ◌∙◌, arith}
+use Rattle.std.proofs.Common.{rules, ◌≡◌, ◌∷◌, List, ℕ, length, refl, sym, ap, subst, ◌∙◌, arith}
 use Rattle.std.proofs.lemmas.Bool.{both_ways}
 use Rattle.crib_play.specs.History.{Event, Own, Theirs}
 use Rattle.crib_know.specs.Hidden.{CanShowAt, IsKnown}
@@ -13,17 +13,43 @@ use Rattle.crib_check.proofs.TrailLengths.{trail_more, trail_back, trail_room}
 use Rattle.crib_check.proofs.FoundAtPosition.{found_none, own_found, theirs_found, below_held, below_unshown}
 use Rattle.crib_check.proofs.FoundAtPosition.{one_more_settled, settled_where, none_by}
 use Rattle.crib_check.proofs.walk.Walk.+walk.Goals as goal
-use Rattle.crib_check.proofs.walk.Walk.+walk.Goals.{each_letter-then-can_show+in_default, each_letter-else-can_show}
+use Rattle.crib_check.proofs.walk.Walk.+walk.Goals.{their_turn-then-can_show+in_default, their_turn-else-can_show}
 
 -- ---- at a position
-pub walk-returns-in-Over : goal.walk-returns-in-Over
-walk-returns-in-Over g t c = c.over.ensures
+pub walk-returns-then-is_settled : goal.walk-returns-then-is_settled
+walk-returns-then-is_settled g t c = record {
+  kept = c.requires.kept;
+  back = λ none. refl;
+  found = c.requires.kept.settled c.args.key (c.is_settled.ensures c.if-is_settled.true);
+}
 
-pub walk-returns-in-Owner : goal.walk-returns-in-Owner
-walk-returns-in-Owner g t c = c.own_turn.ensures
+pub walk-returns-then-is_none : goal.walk-returns-then-is_none
+walk-returns-then-is_none g t c =
+    let walk = c.args.self.now in
+    let walked = c.go_on-found.ensures in
+    let none = none_by c.go_on-found.result c.is_none.result c.is_none.ensures c.if-is_none.true in
+    record {
+      kept = record {
+        same_problem = walked.kept.same_problem;
+        same_plan = walked.kept.same_plan;
+        settled = one_more_settled walk.problem.now walk.plan.now (g.T.Settled.holds c.put.new.self) (g.T.Settled.holds c.go_on-found.new.self.table.now)
+            c.args.key (history_at walk) c.requires.here c.put.ensures.held walked.kept.settled
+            (settled_where walk.problem.now walk.plan.now c.args.key (history_at walk) c.go_on-found.new.self.trail.items c.go_on-found.result none
+            walked.found);
+        shows = walked.kept.shows;
+      };
+      back = walked.back;
+      found = walked.found;
+    }
 
-pub walk-returns-in-Opponent : goal.walk-returns-in-Opponent
-walk-returns-in-Opponent g t c = c.their_turn.ensures
+pub go_on-returns-in-Over : goal.go_on-returns-in-Over
+go_on-returns-in-Over g t c = c.over.ensures
+
+pub go_on-returns-in-Owner : goal.go_on-returns-in-Owner
+go_on-returns-in-Owner g t c = c.own_turn.ensures
+
+pub go_on-returns-in-Opponent : goal.go_on-returns-in-Opponent
+go_on-returns-in-Opponent g t c = c.their_turn.ensures
 
 -- ---- the owner's turn
 pub own_turn-go_by_own-requires : goal.own_turn-go_by_own-requires
@@ -57,49 +83,20 @@ pub own_turn-returns-in-None : goal.own_turn-returns-in-None
 own_turn-returns-in-None g t c = c.stuck.ensures
 
 -- ---- the opponent's turn
-pub their_turn-returns-then-has : goal.their_turn-returns-then-has
-their_turn-returns-then-has g t c = record {
-  kept = c.requires.here.kept;
-  back = λ none. refl;
-  found = c.requires.here.kept.settled c.args.key.now (c.has.ensures c.if-has.true);
-}
-
-pub their_turn-returns-then-is_none : goal.their_turn-returns-then-is_none
-their_turn-returns-then-is_none g t c =
-    let walk = c.args.self.now in
-    let walked = c.each_letter-found.ensures in
-    let none = none_by c.each_letter-found.result c.is_none.result c.is_none.ensures c.if-is_none.true in
-    let Held : Key → Type 0 = λ kept. IsKnown kept.know → (other : Key) → IsKnown other.know → g.T.Settled.holds c.put.new.self other
-    → g.T.Settled.holds c.each_letter-found.new.self.table.now other ⊎ (other ≡ kept) in
-    record {
-      kept = record {
-        same_problem = walked.kept.same_problem;
-        same_plan = walked.kept.same_plan;
-        settled = one_more_settled walk.problem.now walk.plan.now (g.T.Settled.holds c.put.new.self)
-            (g.T.Settled.holds c.each_letter-found.new.self.table.now)
-            c.args.key.now (history_at walk) c.requires.here.here (subst Held c.copy.ensures c.put.ensures.held) walked.kept.settled
-            (settled_where walk.problem.now walk.plan.now c.args.key.now (history_at walk) c.each_letter-found.new.self.trail.items
-            c.each_letter-found.result none walked.found);
-        shows = walked.kept.shows;
-      };
-      back = walked.back;
-      found = walked.found;
-    }
-
-pub each_letter-loop-place-init : goal.each_letter-loop-place-init
-each_letter-loop-place-init g t c = record {
+pub their_turn-loop-place-init : goal.their_turn-loop-place-init
+their_turn-loop-place-init g t c = record {
   kept = c.requires.here.kept;
   back = refl;
   below = λ history letter stands can is. absurd (omega (arith, is));
 }
 
-pub each_letter-go_by_theirs-requires : goal.each_letter-go_by_theirs-requires
-each_letter-go_by_theirs-requires g t c =
+pub their_turn-go_by_theirs-requires : goal.their_turn-go_by_theirs-requires
+their_turn-go_by_theirs-requires g t c =
     let C : Key → Type 0 = λ at. CanShowAt at.know c.at-letter.result in
     subst C (sym c.copy-next.ensures) (c.can_show.ensures.shown c.if-can_show.true)
 
-pub each_letter-take-requires : goal.each_letter-take-requires
-each_letter-take-requires g t c κs within =
+pub their_turn-take-requires : goal.their_turn-take-requires
+their_turn-take-requires g t c κs within =
     let walk = c.args.self.now in
     let holds = g.T.Settled.holds in
     let kept = c.loop-place.invariant.kept in
@@ -112,8 +109,8 @@ each_letter-take-requires g t c κs within =
     let may = may_take holds walk.problem.now walk.plan.now walk.trail.items c.loop-place.self kept back c.go_by_theirs.new.key event here in
     search (rules, long, may)
 
-pub each_letter-returns-in-Some : goal.each_letter-returns-in-Some
-each_letter-returns-in-Some g t c =
+pub their_turn-returns-in-Some : goal.their_turn-returns-in-Some
+their_turn-returns-in-Some g t c =
     let walk = c.args.self.now in
     let walked = has_taken g.T.Settled.holds walk.problem.now walk.plan.now walk.trail.items c.loop-place.self c.loop-place.invariant.kept
     c.loop-place.invariant.back c.go_by_theirs.new.key (Theirs c.at-letter.result) c.take.new.self c.take.result c.take.ensures in
@@ -125,15 +122,15 @@ each_letter-returns-in-Some g t c =
           c.at-letter.ensures.valid c.at-letter.ensures.place c.loop-place.invariant.below walked.found;
     }
 
-pub each_letter-loop-place-preserved : goal.each_letter-loop-place-preserved
-each_letter-loop-place-preserved g t c =
+pub their_turn-loop-place-preserved : goal.their_turn-loop-place-preserved
+their_turn-loop-place-preserved g t c =
     let walk = c.args.self.now in
     let holds = g.T.Settled.holds in
     let kept = c.loop-place.invariant.kept in
     let back = c.loop-place.invariant.back in
     let letter = c.at-letter.result in
     elim c.if-can_show.branch [
-      | each_letter-then-can_show+in_default w ↦
+      | their_turn-then-can_show+in_default w ↦
           (let walked = has_taken holds walk.problem.now walk.plan.now walk.trail.items c.loop-place.self kept back w.go_by_theirs.new.key (Theirs letter)
           w.take.new.self w.take.result w.take.ensures in
           let leads = leads_to holds walk.problem.now walk.plan.now walk.trail.items c.loop-place.self kept back c.args.key.now w.go_by_theirs.new.key
@@ -147,7 +144,7 @@ each_letter-loop-place-preserved g t c =
                 (Theirs letter ∷ history_at walk) letter c.loop-place.place w.take.result w.in_default.is c.at-letter.ensures.valid
                 c.at-letter.ensures.place c.loop-place.invariant.below leads walked.found;
           })
-      | each_letter-else-can_show w ↦
+      | their_turn-else-can_show w ↦
           record {
             kept = kept_same holds walk.problem.now walk.plan.now _ _ w.self-is kept;
             back = ap (λ walk. walk.trail.items) w.self-is ∙ back;
@@ -158,8 +155,8 @@ each_letter-loop-place-preserved g t c =
           }
     ]
 
-pub each_letter-returns : goal.each_letter-returns
-each_letter-returns g t c =
+pub their_turn-returns : goal.their_turn-returns
+their_turn-returns g t c =
     let walk = c.args.self.now in
     let S : ℕ → Type 0 = λ place. IsSettledBelow walk.problem.now walk.plan.now c.args.key.now place in
     let end = c.loop-place.auto.place-end in
@@ -175,16 +172,16 @@ each_letter-returns g t c =
 pub take-push-requires : goal.take-push-requires
 take-push-requires g t c =
     let walk = c.args.self.now in
-    let room = trail_room c.args.key.now.know walk.problem.now (as_event c.args.event) walk.trail.items c.requires.here.knows in
+    let room = trail_room c.args.key.know walk.problem.now (as_event c.args.event) walk.trail.items c.requires.here.knows in
     search rules
 
 pub take-walk-found-requires : goal.take-walk-found-requires
 take-walk-found-requires g t c κs within =
     let walk = c.args.self.now in
-    let room = trail_room c.args.key.now.know walk.problem.now (as_event c.args.event) walk.trail.items c.requires.here.knows in
+    let room = trail_room c.args.key.know walk.problem.now (as_event c.args.event) walk.trail.items c.requires.here.knows in
     let more = trail_more walk.problem.now walk.trail.items c.push.new.self.items c.args.event c.push.ensures.items in
-    let S : List Event → Type 0 = λ history. StandsAt walk.problem.now walk.plan.now c.args.key.now history in
-    let may : MayWalk g.T.Settled.holds (record c.args.self.now { trail = c.push.new.self }) c.args.key.now
+    let S : List Event → Type 0 = λ history. StandsAt walk.problem.now walk.plan.now c.args.key history in
+    let may : MayWalk g.T.Settled.holds (record c.args.self.now { trail = c.push.new.self }) c.args.key
     (history_at (record c.args.self.now { trail = c.push.new.self })) = record {
       kept = record { same_problem = refl; same_plan = refl; settled = c.requires.kept.settled; shows = c.requires.kept.shows };
       here = subst S (sym more) c.requires.here;
@@ -205,5 +202,5 @@ take-returns-then-is_none g t c =
       };
       back = λ none. trail_back walk.trail.items c.push.new.self.items c.walk-found.new.self.trail.items c.pop.new.self.items c.args.event c.push.ensures.items
           (walked.back none) c.pop.ensures.rest;
-      found = found_none walk.problem.now walk.plan.now c.args.key.now _ _ _ _ c.walk-found.result none walked.found;
+      found = found_none walk.problem.now walk.plan.now c.args.key _ _ _ _ c.walk-found.result none walked.found;
     }

@@ -6,20 +6,20 @@ use Rattle.crib_check.proofs.walk.Walk.+walk.Given as goal
 abbrev pub decreases-walk : goal.decreases-walk
 decreases-walk g l = 4 * (29 - length l.self.now.trail.items) + 3
 
-abbrev pub decreases-their_turn : goal.decreases-their_turn
-decreases-their_turn g l = 4 * (29 - length l.self.now.trail.items) + 2
+abbrev pub decreases-go_on : goal.decreases-go_on
+decreases-go_on g l = 4 * (29 - length l.self.now.trail.items) + 2
 
 abbrev pub decreases-own_turn : goal.decreases-own_turn
 decreases-own_turn g l = 4 * (29 - length l.self.now.trail.items) + 1
 
-abbrev pub decreases-each_letter : goal.decreases-each_letter
-decreases-each_letter g l = 4 * (29 - length l.self.now.trail.items) + 1
+abbrev pub decreases-their_turn : goal.decreases-their_turn
+decreases-their_turn g l = 4 * (29 - length l.self.now.trail.items) + 1
 
 abbrev pub decreases-take : goal.decreases-take
 decreases-take g l = 4 * (29 - length l.self.now.trail.items)
 
-abbrev pub invariant-each_letter-loop-place : goal.invariant-each_letter-loop-place
-invariant-each_letter-loop-place g l = record {
+abbrev pub invariant-their_turn-loop-place : goal.invariant-their_turn-loop-place
+invariant-their_turn-loop-place g l = record {
   kept : IsWalkOf g.T.Settled.holds l.fn.self.problem.now l.fn.self.plan.now l.self;
   back : l.self.trail.items ≡ l.fn.self.trail.items;
   below : IsSettledBelow l.fn.self.problem.now l.fn.self.plan.now l.key l.place;

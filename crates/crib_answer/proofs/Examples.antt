@@ -24,7 +24,8 @@ use Rattle.crib_run.specs.Reply.{fault_line}
 use Rattle.crib_answer.specs.Answer.{too_large}
 use Rattle.crib_input.specs.Input.{most_bytes}
 use Rattle.crib_input.specs.Spelled.{SpellsProblem, SpellsPlan}
-use Rattle.crib_answer.specs.Meaning.{HasFailingPlan, IsSolvedBy, HasNoPlan}
+use Rattle.crib_check.specs.Failing.{IsFirstFailing}
+use Rattle.crib_answer.specs.Meaning.{HasFailingPlan, HasSurePlan, HasSomePlan, IsSolvedBy, HasNoPlan}
 use Rattle.crib_answer.specs.Meaning.{CheckMeans, SolveMeans, StatusMeans, holds_line, fails_line, none_line}
 
 -- ---- the jobs: their names, in the order of the help text, and what their inputs have
@@ -147,6 +148,25 @@ first_failing_game_is_written input result has = (let text = has.game_is in cc)
 pub fails_is_written : (input : List ℕ) → CheckMeans input [] No → ⊥
 fails_is_written input means = (let text = means.3 in cc)
 
+-- a yes says that the input has a sure plan
+pub yes_means_a_sure_plan : (input : List ℕ) → CheckMeans input (codes "holds\n") Yes → HasSurePlan input × (codes "holds\n" ≡ codes "holds\n")
+yes_means_a_sure_plan input means = means
+
+-- no yes without a sure plan, and no first failing game without an input that spells a plan, or without its being the first
+pub no_yes_without_a_sure_plan : (input : List ℕ) → (HasSurePlan input → ⊥) → CheckMeans input (codes "holds\n") Yes → ⊥
+no_yes_without_a_sure_plan input none means = none means.0
+
+pub nothing_has_no_sure_plan : HasSurePlan [] → ⊥
+nothing_has_no_sure_plan is = nothing_is_no_plan is.problem is.plan is.spelled
+
+pub nothing_has_no_failing_plan : (result : Ending) (text : List ℕ) → HasFailingPlan [] result text → ⊥
+nothing_has_no_failing_plan result text is = nothing_is_no_plan is.problem is.plan is.spelled
+
+pub no_failing_plan_without_a_first_game : (input text : List ℕ) →
+    ((problem : Setup) (plan : List Node) (game : Game) → IsFirstFailing problem plan game ending.Short → ⊥) →
+    HasFailingPlan input ending.Short text → ⊥
+no_failing_plan_without_a_first_game input text none is = none is.problem is.plan is.game is.first
+
 pub no_problem_is_refused : (text : List ℕ) → CheckMeans [] text Refused
 no_problem_is_refused text = nothing_is_no_plan
 
@@ -177,6 +197,22 @@ no_text_is_no_plan input is = (let text = is.plan_is in cc)
 pub none_where_no_plan_is_sure : (input : List ℕ) → HasNoPlan input → SolveMeans input (codes "none\n") No
 none_where_no_plan_is_sure input has = (has, refl)
 
+pub none_means_no_plan : (input : List ℕ) → SolveMeans input (codes "none\n") No → HasNoPlan input × (codes "none\n" ≡ codes "none\n")
+none_means_no_plan input means = means
+
+pub none_only_without_a_plan : (input : List ℕ) → (HasNoPlan input → ⊥) → SolveMeans input (codes "none\n") No → ⊥
+none_only_without_a_plan input some means = some means.0
+
+-- an empty input is no problem, with or without a plan
+pub nothing_has_no_plan : HasNoPlan [] → ⊥
+nothing_has_no_plan is = nothing_is_no_problem is.problem is.spelled
+
+pub nothing_has_some_plan : HasSomePlan [] → ⊥
+nothing_has_some_plan is = nothing_is_no_problem is.problem is.spelled
+
+pub some_plan_is_sure : (input : List ℕ) → ((problem : Setup) → IsWinnable problem → ⊥) → HasSomePlan input → ⊥
+some_plan_is_sure input none is = none is.problem is.some
+
 -- the problem has a sure plan, so it is wrong to say that it has none
 pub not_none_where_a_plan_is_sure : (is : HasNoPlan the_problem) → is.problem ≡ at_29 → ⊥
 not_none_where_a_plan_is_sure is e = is.none (subst IsWinnable (sym e) (record { plan = ace_or_two; sure = ace_or_two_is_sure }))
@@ -206,8 +242,21 @@ check_means_a_sure_plan ends = a_sure_plan_holds ends
 pub solve_means_a_sure_plan : Ends at_29 → StatusMeans Solve the_problem (record { output = the_plan; status = Yes })
 solve_means_a_sure_plan ends = a_sure_plan_is_written ends
 
+-- what is means for `check` is that the plan of the input is sure
+pub check_means_its_plan : (input text : List ℕ) → StatusMeans Check input (record { output = text; status = Yes }) → CheckMeans input text Yes
+check_means_its_plan input text means = means
+
+pub check_means_a_plan : (input : List ℕ) → (HasSurePlan input → ⊥) → StatusMeans Check input (record { output = codes "holds\n"; status = Yes }) → ⊥
+check_means_a_plan input none means = none means.0
+
 pub nothing_is_not_solved : (text : List ℕ) → StatusMeans Solve [] (record { output = text; status = Yes }) → ⊥
 nothing_is_not_solved text means = nothing_is_no_problem means.problem means.spelled
 
 pub replay_means_nothing : (text : List ℕ) → StatusMeans Replay [] (record { output = text; status = No })
 replay_means_nothing text = tt
+
+pub follow_means_nothing : (text : List ℕ) → StatusMeans Follow [] (record { output = text; status = No })
+follow_means_nothing text = tt
+
+pub board_means_nothing : (text : List ℕ) → StatusMeans Board [] (record { output = text; status = Yes })
+board_means_nothing text = tt

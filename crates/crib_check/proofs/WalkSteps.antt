@@ -11,6 +11,14 @@ use Rattle.crib_check.specs.Private.Histories.{history_of_trail}
 use Rattle.crib_check.specs.Private.Positions.{StandsAt}
 use Rattle.crib_check.specs.Private.Walks.{IsWalkOf, MayWalk, HasWalkedOf, HasWalked, history_at}
 
+-- where an event leads from a copy of a position, it leads from the position
+pub leads_from : (plan : List Node) (key copy next : Key) (event : Event) → copy ≡ key →
+    ((p : Setup) (history : List Event) → StandsAt p plan copy history → StandsAt p plan next (event ∷ history)) →
+    (p : Setup) (history : List Event) → StandsAt p plan key history → StandsAt p plan next (event ∷ history)
+leads_from plan key copy next event same leads = λ p history stands.
+    let S : Key → Type 0 = λ at. StandsAt p plan at history in
+    leads p history (subst S (sym same) stands)
+
 -- a walk of a problem and a plan, at the end of a trail
 module _ {A T : Type 0} (holds : T → Key → Type 0) (problem : Setup) (plan : List Node) (trail : List TrailEvent) (walk : Walk A T)
     (kept : IsWalkOf holds problem plan walk) (back : walk.trail.items ≡ trail) where

@@ -5,7 +5,9 @@ use Rattle.crib_cards.specs.Sets.{set_where}
 use Rattle.crib_cards.specs.declared.sides.Side.TheVariants.{Owner, Opponent}
 use Rattle.crib_cards.specs.declared.moves.Act.{Act}
 use Rattle.crib_cards.specs.declared.moves.Move.TheVariants.{Card, Go}
-use Rattle.crib_problem.specs.Played.{AreAllowed, OpeningBasis, act_refusal, least_by, move_refusal}
+use Rattle.crib_play.specs.declared.turns.Turn.TheVariants as turns
+use Rattle.crib_problem.specs.Played.{AreAllowed, OpeningBasis, act_refusal, asked_by, cards_by, cards_played, count_by_acts, least_by, move_refusal}
+use Rattle.crib_problem.specs.Played.{own_left_by, seen_by}
 
 -- the owner holds TC 9C 2C 8C and threw 4S 6S; the starter is 3H, the opponent deals and is at the given score, and the goal is to win
 abbrev basis_at : ℕ → OpeningBasis
@@ -38,6 +40,34 @@ at_29 = own 36 ∷ theirs 37 ∷ own 32 ∷ []
 -- after a go at 29, each card left to the opponent counts 3 or more
 pub least_3 : least_by (basis_at 0) (reverse (own 36 ∷ theirs 37 ∷ own 32 ∷ their_go ∷ [])) ≡ 3
 least_3 = refl
+
+-- after TC TD 9C, a go, 2C and KD: the cards of each side, the last one first
+abbrev to_the_king : List Act
+to_the_king = reverse (own 36 ∷ theirs 37 ∷ own 32 ∷ their_go ∷ own 4 ∷ theirs 49 ∷ [])
+
+pub cards_of_the_opponent : cards_by Opponent to_the_king ≡ 49 ∷ 37 ∷ []
+cards_of_the_opponent = refl
+
+pub cards_of_the_owner : cards_by Owner to_the_king ≡ 4 ∷ 32 ∷ 36 ∷ []
+cards_of_the_owner = refl
+
+pub all_cards : cards_played to_the_king ≡ 49 ∷ 4 ∷ 32 ∷ 37 ∷ 36 ∷ []
+all_cards = refl
+
+-- only 8C is left to the owner, who has seen the starter, the throw, and all that was played
+pub eight_is_left : own_left_by (basis_at 0) to_the_king ≡ 28 ∷ []
+unfolding set_where
+eight_is_left = refl
+
+pub nine_seen : seen_by (basis_at 0) to_the_king ≡ 4 ∷ 10 ∷ 15 ∷ 23 ∷ 28 ∷ 32 ∷ 36 ∷ 37 ∷ 49 ∷ []
+unfolding set_where
+nine_seen = refl
+
+pub count_of_the_king : count_by_acts (basis_at 0) to_the_king ≡ 10
+count_of_the_king = refl
+
+pub owner_after_the_king : asked_by (basis_at 0) to_the_king ≡ turns.Owner
+owner_after_the_king = refl
 
 -- the owner may not say go while his 2C fits; it makes 31
 pub must_play_at_29 : refusal 0 (own 36 ∷ theirs 37 ∷ own 32 ∷ their_go ∷ []) own_go ≡ Some 43
@@ -159,3 +189,7 @@ fifteen_between_threes = refl
 pub dealer_leads_not : AreAllowed (basis_at 0) (theirs 37 ∷ []) → ⊥
 unfolding set_where
 dealer_leads_not are = (let refused = are.1 in cc)
+
+-- nor is it allowed afterwards
+dealer_has_led : AreAllowed (basis_at 0) (own 36 ∷ theirs 37 ∷ []) → ⊥
+dealer_has_led are = dealer_leads_not are.0

@@ -1,5 +1,6 @@
 -- Worked examples of problems: goals, conditions, hidden deals, and games that begin with the opening.
 use Rattle.std.proofs.Common.{arith, ◌≡◌, refl, ap, true, false, [], ◌∷◌, ◌++◌, List, ℕ, length, codes}
+use Rattle.std.specs.Prelude.{replicate}
 use Rattle.std.specs.Fmt.{digits}
 use Rattle.std.specs.List.{AllByRecursion}
 use Rattle.std.proofs.lemmas.Bool.{both_ways}
@@ -50,6 +51,10 @@ pub not_yet_reached : is_done (start_of (record midway { goal = Holes 3 })) (See
 not_yet_reached = refl
 
 -- ---- the conditions of a problem
+-- the starter comes first, then the hold, then the throw
+pub known_in_order : known_cards midway ≡ 49 ∷ 4 ∷ 5 ∷ 6 ∷ 7 ∷ 12 ∷ 21 ∷ []
+known_in_order = refl
+
 seven_cards : AllByRecursion IsCard (known_cards midway)
 seven_cards = (omega arith, (omega arith, (omega arith, (omega arith, (omega arith, (omega arith, (omega arith, tt)))))))
 
@@ -97,6 +102,9 @@ one_thrown is = let two = is.two_thrown in absurd (omega (arith, two))
 
 pub thrown_card_is_held : IsSetup (record midway { thrown = 12 ∷ 7 ∷ [] }) → ⊥
 thrown_card_is_held is = absurd (both_ways false refl is.distinct)
+
+pub thirty_three_turns : IsSetup (record midway { played = replicate 33 (plays Owner 4) }) → ⊥
+thirty_three_turns is = let few = is.few in absurd (omega (arith, few))
 
 -- version 1 has neither the goal `stop` nor an opening
 pub no_stop_in_version_1 : CanSay One Stop [] → ⊥

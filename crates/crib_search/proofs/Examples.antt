@@ -1,9 +1,10 @@
 -- Worked examples of plans as trees.
-use Rattle.std.specs.Prelude.{◌≡◌, refl, [], ◌∷◌, List}
+use Rattle.std.specs.Prelude.{◌≡◌, refl, [], ◌∷◌, List, false}
 use Rattle.crib_plan.specs.declared.plan.Next.TheVariants.{End, To}
 use Rattle.crib_plan.specs.declared.plan.Node.TheVariants.{Play, See}
 use Rattle.crib_search.specs.Finder.{one_of_each_rank}
-use Rattle.crib_search.specs.Trees.{Tree, Finish, Plays, Sees, branches_of, joined_tree, trees_after_walk, plan_of_tree}
+use Rattle.crib_search.specs.Trees.{Tree, Finish, Plays, Sees, branches_of, is_play, joined_tree, trees_with, trees_after_walk}
+use Rattle.crib_search.specs.Trees.{number_of, place_of_tree, plan_of_tree}
 
 -- branches that are the end, except those of the ace, the two and the go
 abbrev after : Tree → Tree → Tree → List Tree
@@ -59,6 +60,24 @@ pub shared_plan : plan_of_tree shared
     ≡ See (To 2 ∷ To 1 ∷ End ∷ End ∷ End ∷ End ∷ End ∷ End ∷ End ∷ End ∷ End ∷ End ∷ End ∷ To 2 ∷ [])
     ∷ Play 5 (To 3) ∷ Play 4 (To 3) ∷ Play 6 End ∷ []
 shared_plan = refl
+
+-- the place of a look is its place in the list
+pub place_of_a_look : place_of_tree (clubs ∷ diamonds ∷ look ∷ []) look ≡ To 2
+place_of_a_look = refl
+
+-- a tree that the walk left before is not left again
+pub left_once : trees_with clubs (clubs ∷ []) (diamonds ∷ clubs ∷ []) ≡ clubs ∷ []
+left_once = refl
+
+-- only the trees before its walk are asked for it
+pub left_by_itself : trees_with clubs (diamonds ∷ []) (clubs ∷ diamonds ∷ []) ≡ clubs ∷ clubs ∷ diamonds ∷ []
+left_by_itself = refl
+
+pub number_in_no_list : number_of clubs [] ≡ 0
+number_in_no_list = refl
+
+pub end_plays_no_card : is_play Finish ≡ false
+end_plays_no_card = refl
 
 -- a tree that is the end has no node
 pub no_nodes : plan_of_tree Finish ≡ []

@@ -2,7 +2,7 @@
 -- holds 2C and AC.
 use Rattle.std.proofs.Common.{arith, ◌≡◌, refl, inl, inr, ℕ, ◌<◌, ◌==◌, length, true, false, List, [], ◌∷◌, ◌++◌, Option, Some, None, replicate}
 use Rattle.std.specs.List.{AllZip}
-use Rattle.std.specs.Prelude.{if◌then◌else◌}
+use Rattle.std.specs.Prelude.{if◌then◌else◌, MatchOption}
 use Rattle.crib_cards.specs.Sets.{set_where}
 use Rattle.crib_cards.specs.declared.letters.Letter.TheVariants.{Seen, Go}
 use Rattle.crib_cards.specs.declared.moves.Move.TheVariants as move
@@ -15,11 +15,12 @@ use Rattle.crib_plan.specs.declared.plan.Node.{Node}
 use Rattle.crib_plan.specs.declared.plan.Node.TheVariants.{Play, See}
 use Rattle.crib_know.specs.Knowledge.{played_events}
 use Rattle.crib_know.specs.Hidden.{CanShow}
-use Rattle.crib_problem.proofs.ExampleProblems.{level}
+use Rattle.crib_problem.specs.declared.problem.Goal.TheVariants.{Holes}
+use Rattle.crib_problem.proofs.ExampleProblems.{level, level_deal}
 use Rattle.crib_check.proofs.SureExamples.{at_29}
 use Rattle.crib_search.specs.Trees.{Tree, Finish, Plays, Sees, branches_of, joined_tree, same_tree, plan_of_tree}
 use Rattle.crib_search.specs.Finder.{Found, Tries, OwnerFinds, LacksBranch, BranchFinds, FindsFor, FindsTree, Finds, IsFound, IsReachedBehind}
-use Rattle.crib_search.specs.Finder.{ExceedsLimit, options, letters}
+use Rattle.crib_search.specs.Finder.{ExceedsLimit, full_behind, options, letters}
 use Rattle.crib_search.specs.declared.finder.Found.TheVariants as found
 use Rattle.crib_search.specs.declared.finder.SearchFault.TheVariants.{TooLarge, NoMemory}
 use Rattle.crib_search.specs.Answer.{plan_found, search_fault_number}
@@ -27,6 +28,9 @@ use Rattle.crib_search.specs.Answer.{plan_found, search_fault_number}
 -- ---- answers
 pub a_plan_is_found : (A : Type 0) → plan_found {A = A} (found.Plan (Play 4 End ∷ [])) ≡ Some (Play 4 End ∷ [])
 a_plan_is_found A = refl
+
+pub no_plan_is_found : (A : Type 0) → plan_found {A = A} found.None ≡ None
+no_plan_is_found A = refl
 
 pub too_large : search_fault_number TooLarge ≡ 50
 too_large = refl
@@ -81,13 +85,13 @@ others_at_20 = refl
 pub two_at_29 : options level (Theirs Go ∷ Own (move.Card 32) ∷ Theirs (Seen 10) ∷ Own (move.Card 36) ∷ []) ≡ 4 ∷ []
 two_at_29 = refl
 
--- ---- one step, for given answers further on: none after 2C or after an ace of the opponent, and otherwise the end
+-- ---- one step, for given answers further on: none after 2C or after an ace of the opponent, 2C after a go of his, and otherwise the end
 abbrev answer : List Event → Option Tree
 answer [] = None
 answer (Own (move.Card card) ∷ history) = if card == 4 then None else Some Finish
 answer (Own move.Go ∷ history) = Some look
 answer (Theirs (Seen rank) ∷ history) = if rank == 1 then None else Some Finish
-answer (Theirs Go ∷ history) = None
+answer (Theirs Go ∷ history) = Some clubs
 
 abbrev given : Found
 given history it = it ≡ answer history
@@ -112,6 +116,19 @@ first_card = (Some Finish, refl, refl)
 pub a_card_that_leads_is_played : Tries given a_go (5 ∷ []) None → ⊥
 a_card_that_leads_is_played (None, is, rest) = cc
 a_card_that_leads_is_played (Some tree, is, rest) = cc
+
+-- after 2D the end is found, so the answer is to play it
+pub one_card_is_tried : (found : Option Tree) → Tries given a_go (5 ∷ []) found →
+    (after : Option Tree) × (after ≡ Some Finish) × MatchOption after (found ≡ None) (λ tree. found ≡ Some (Plays 5 tree))
+one_card_is_tried found tries = tries
+
+-- while a card fits, the owner tries it and says no go
+pub two_cards_are_tried : (found : Option Tree) → OwnerFinds given a_go (4 ∷ 5 ∷ []) found → Tries given a_go (4 ∷ 5 ∷ []) found
+two_cards_are_tried found finds = finds
+
+-- at the first lead it is the owner's turn, and each card of TC 9C 2C 8C fits
+pub owner_leads : (found : Option Tree) → FindsFor turns.Owner given level [] found → Tries given [] (36 ∷ 32 ∷ 4 ∷ 28 ∷ []) found
+owner_leads found finds = finds
 
 -- if no card fits, the owner says go
 pub own_go : OwnerFinds given a_go [] (Some look)
@@ -168,6 +185,10 @@ ace_lacks_a_tree = (Seen 1, ace_shown, refl)
 pub none_found_after_a_look : FindsFor turns.Opponent given at_29 three_events None
 none_found_after_a_look = inl (ace_lacks_a_tree, refl)
 
+-- a go can be shown, and the play of 2C is found after it
+pub branch_of_a_go : BranchFinds given at_29 three_events Go clubs
+branch_of_a_go = inl (go_shown, refl)
+
 -- the branch of a letter that can't be shown is the end, and nothing else
 pub hidden_branch_is_the_end : ¬ CanShow at_29 three_events (Seen 3) → BranchFinds given at_29 three_events (Seen 3) Finish
 hidden_branch_is_the_end none = inr (none, refl)
@@ -201,6 +222,43 @@ unfolding set_where outcome_of hand_points crib_points
 not_reached_at_the_start reached =
     (let short = reached (record { hold = 37 ∷ 49 ∷ 50 ∷ 47 ∷ []; throw = 18 ∷ 25 ∷ [] })
     (record { deal = record { held = refl; thrown = refl; distinct = refl; hidden_before = refl }; fixed = refl }, ([], tt, refl)) in cc)
+
+-- after TC TD 9C the scores are 0 to 2. The owner's hand counts 9, so he is two holes short of eleven
+pub scores_behind_three : (full_behind level three_events level_deal).scores ≡ record { owner = 0; opponent = 2 }
+scores_behind_three = refl
+
+pub short_of_eleven : IsReachedBehind (record level { goal = Holes 11 }) three_events → ⊥
+unfolding set_where outcome_of hand_points crib_points
+short_of_eleven reached =
+    (let short = reached level_deal (
+      record { deal = record { held = refl; thrown = refl; distinct = refl; hidden_before = refl }; fixed = refl },
+      (
+        move.Card 32 ∷ move.Card 37 ∷ move.Card 36 ∷ [],
+        (
+          ((tt, record { not_done = refl; may_take = (refl, refl) }), record { not_done = refl; may_take = (refl, refl) }),
+          record { not_done = refl; may_take = (refl, refl) },
+        ),
+        refl,
+      ),
+    ) in cc)
+
+-- ---- steps: none is left at 0, and after the opening of three turns it is the opponent's turn
+pub no_step_is_left : (found : Option Tree) → Finds 0 level [] found → ⊥
+no_step_is_left found finds = finds
+
+pub opponent_after_three : (found : Option Tree) → Finds 1 at_29 three_events found →
+    FindsFor turns.Opponent (λ further after. Finds 0 at_29 further after) at_29 three_events found
+opponent_after_three found finds = finds
+
+pub tree_after_three : (found : Option Tree) → FindsTree at_29 found →
+    FindsFor turns.Opponent (λ further after. Finds 29 at_29 further after) at_29 three_events found
+unfolding FindsTree
+tree_after_three found finds = finds
+
+-- without a tree there is no plan
+pub no_plan_without_a_tree : ((tree : Tree) → FindsTree at_29 (Some tree) → ⊥) → (plan : List Node) → IsFound at_29 (Some plan) → ⊥
+no_plan_without_a_tree none plan (None, finds, is) = cc
+no_plan_without_a_tree none plan (Some tree, finds, is) = none tree finds
 
 -- ---- the plan: AC after an ace, 2C after a go. Each is the first card of the hold that leads to the goal
 abbrev ace_or_two : Tree

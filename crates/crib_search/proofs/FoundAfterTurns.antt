@@ -17,6 +17,7 @@ use Rattle.crib_play.specs.History.{Event, Own, Theirs}
 use Rattle.crib_problem.specs.Setup.{Setup}
 use Rattle.crib_know.specs.Knowledge.{Knowledge, own_cards, asked_now}
 use Rattle.crib_know.specs.Hidden.{CanShow, IsKnown, KnowsAfter}
+use Rattle.crib_know.proofs.OwnCalls.{moved}
 use Rattle.crib_know.proofs.RecordTurns.{possible_led}
 use Rattle.crib_search.specs.declared.nodes.DraftPlace.{DraftPlace}
 use Rattle.crib_search.specs.declared.nodes.DraftPlace.TheVariants.{End, At}
@@ -33,6 +34,11 @@ use Rattle.crib_know.proofs.Equality.{same_knows}
 use Rattle.crib_search.proofs.JoinedTrees.{draft_place_earlier}
 use Rattle.crib_search.proofs.Trees.{some_same}
 use Rattle.crib_search.proofs.KeptNodes.{names_more}
+
+-- what a turn leads to from a copy of a knowledge, it leads to from the knowledge
+pub steps_from : (know copy next : Knowledge) (event : Event) → copy ≡ know → ((problem : Setup) → Steps problem copy event next) →
+    (problem : Setup) → Steps problem know event next
+steps_from know copy next event same steps = λ problem history knows. steps problem history (moved copy know problem history same knows)
 
 -- ---- a search that has come further
 pub later_trans : (one two three : Drafts) → IsLater one two → IsLater two three → IsLater one three

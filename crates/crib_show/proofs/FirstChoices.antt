@@ -3,7 +3,7 @@ use Rattle.std.proofs.Common.{◌≡◌, ◌⊎◌, ℕ, zero, suc, ◌+◌, ◌
 use Rattle.std.proofs.Common.{sym, ap, ◌∙◌, inl, inr, subst, append_assoc, append-nil, arith}
 use Rattle.std.specs.Prelude.{Option}
 use Rattle.std.specs.Option.{option_or}
-use Rattle.std.proofs.lemmas.Bool.{cases_eq, both_ways, cond-true, cond-false}
+use Rattle.std.proofs.lemmas.Bool.{cases_eq, both_ways, cond-true}
 use Rattle.std.proofs.lemmas.List.{take_all}
 use Rattle.crib_cards.specs.Order.{is_before}
 use Rattle.crib_cards.specs.Sets.{has}
@@ -31,13 +31,6 @@ module _ (gives : List ℕ → Option Dealt) (may : ℕ → Bool) (taken : List 
   choice_found cards rest card found is may_it gives_it =
       ap (first_choice gives may taken (suc n)) is ∙ first_choice-cons card rest
       ∙ ap (λ o. option_or o (first_choice gives may taken (suc n) rest)) (cond-true (may card) _ None may_it ∙ gives_it)
-
-  pub choice_barred : (cards rest : List ℕ) (card : ℕ) → cards ≡ card ∷ rest → may card ≡ false → first_choice gives may taken (suc n) cards
-      ≡ first_choice gives may taken (suc n) rest
-  choice_barred cards rest card is may_not =
-      ap (first_choice gives may taken (suc n)) is ∙ first_choice-cons card rest
-      ∙ ap (λ o. option_or o (first_choice gives may taken (suc n) rest))
-      (cond-false (may card) (first_choice gives may (taken ++ card ∷ []) n rest) None may_not)
 
   pub choice_passed : (cards rest : List ℕ) (card : ℕ) → cards ≡ card ∷ rest → first_choice gives may (taken ++ card ∷ []) n rest ≡ None →
       first_choice gives may taken (suc n) cards ≡ first_choice gives may taken (suc n) rest
@@ -80,17 +73,16 @@ module _ (gives : List ℕ → Option Dealt) (may : ℕ → Bool) (hold : List �
       ap (λ n. first_choice gives may (take len hold) n cards) (left less)
       ∙ choice_found gives may (take len hold) (4 - (len + 1)) cards rest card found is may_it (sym (with_card-is card rest less) ∙ gives_it)
 
-  pub card_barred : (cards rest : List ℕ) (card : ℕ) → len < 4 → cards ≡ card ∷ rest → may card ≡ false → chosen cards ≡ chosen rest
-  card_barred cards rest card less is may_not =
+  -- no choice with a card gives a deal
+  pub card_left : (cards rest : List ℕ) (card : ℕ) → len < 4 → cards ≡ card ∷ rest →
+      first_choice gives may (take len hold ++ card ∷ []) (4 - (len + 1)) rest ≡ None → chosen cards ≡ chosen rest
+  card_left cards rest card less is none =
       ap (λ n. first_choice gives may (take len hold) n cards) (left less)
-      ∙ choice_barred gives may (take len hold) (4 - (len + 1)) cards rest card is may_not
+      ∙ choice_passed gives may (take len hold) (4 - (len + 1)) cards rest card is none
       ∙ ap (λ n. first_choice gives may (take len hold) n rest) (sym (left less))
 
   pub card_passed : (cards rest : List ℕ) (card : ℕ) → len < 4 → cards ≡ card ∷ rest → with_card card rest ≡ None → chosen cards ≡ chosen rest
-  card_passed cards rest card less is none =
-      ap (λ n. first_choice gives may (take len hold) n cards) (left less)
-      ∙ choice_passed gives may (take len hold) (4 - (len + 1)) cards rest card is (sym (with_card-is card rest less) ∙ none)
-      ∙ ap (λ n. first_choice gives may (take len hold) n rest) (sym (left less))
+  card_passed cards rest card less is none = card_left cards rest card less is (sym (with_card-is card rest less) ∙ none)
 
 -- ---- if a deal is given, some choice gives it
 

@@ -159,6 +159,34 @@ impl ExtremesByRanks {
     {
         self.kept[place] = kept;
     }
+
+    // The points of the least crib of a show, computed unless they are kept. Some hidden deal must agree.
+    pub(crate) fn least_crib(&mut self, worst: &WorstShow) -> u8
+        requires deal { HasDeal worst.now }
+        requires shows { AreExtremesFor worst.now self.old }
+        ensures least { IsLeastCrib worst.now result }
+        ensures shows { AreExtremesFor worst.now self.new }
+    {
+        let place = worst.place();
+        let mut kept = self.kept(worst, place);
+        let points = kept.least_crib(worst, &mut self.own);
+        self.keep(worst, place, kept);
+        points
+    }
+
+    // The points of the greatest crib of a show, computed unless they are kept. Some hidden deal must agree.
+    pub(crate) fn greatest_crib(&mut self, worst: &WorstShow) -> u8
+        requires deal { HasDeal worst.now }
+        requires shows { AreExtremesFor worst.now self.old }
+        ensures greatest { IsGreatestCrib worst.now result }
+        ensures shows { AreExtremesFor worst.now self.new }
+    {
+        let place = worst.place();
+        let mut kept = self.kept(worst, place);
+        let points = kept.greatest_crib(worst, &mut self.own);
+        self.keep(worst, place, kept);
+        points
+    }
 }
 
 impl WorstShow {

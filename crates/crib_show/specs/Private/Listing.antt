@@ -1,6 +1,6 @@
 -- The hidden deals that agree, tried one by one in dictionary order. These definitions follow the code. Worst defines
 -- what the public calls return, without any listing.
-use Rattle.std.specs.Prelude.{ℕ, ◌+◌, zero, suc, nat_lt, nat_le, Bool, true, false, not, ◌&&◌, ◌||◌, List, []}
+use Rattle.std.specs.Prelude.{◌≡◌, ℕ, ◌+◌, zero, suc, nat_lt, nat_le, Bool, true, false, not, ◌&&◌, ◌||◌, List, []}
 use Rattle.std.specs.Prelude.{◌∷◌, ◌++◌, map, Option, Some, None, IsTrue, IsFalse, if◌then◌else◌}
 use Rattle.std.specs.List.{list_all}
 use Rattle.std.specs.Option.{option_or}
@@ -29,19 +29,30 @@ is_reached Short = false
 abbrev pub fails : WorstShow → Dealt → Bool
 fails worst dealt = not (is_reached (outcome_of (with_dealt worst dealt)))
 
--- whether the points of a hand and of a crib pass a test. `Any` accepts all points, `Hand` a hand with enough, and
--- `Total` a hand and a crib with enough together. `HandOrShort` accepts a hand with enough, or a crib that doesn't take
--- the owner from a score to the target
+-- whether the points of a hand and of a crib pass a test. `Any` accepts all points, and `Hand` a hand with enough.
+-- `Total` accepts a hand with enough that also has enough together with the crib. `HandOrShort` accepts a hand with
+-- enough, or a crib that doesn't take the owner from a score to the target
 abbrev pub points_pass : WorstShow → Test → ℕ → ℕ → Bool
 points_pass worst Any hand crib = true
 points_pass worst (Hand least) hand crib = nat_le least hand
-points_pass worst (Total least) hand crib = nat_le least (hand + crib)
+points_pass worst (Total low least) hand crib = nat_le low hand && nat_le least (hand + crib)
 points_pass worst (HandOrShort least counted) hand crib =
     nat_le least hand || nat_lt (score_with counted crib) worst.target
+
+-- whether a hand with these points may pass a test, with some crib
+abbrev pub may_accept : Test → ℕ → Bool
+may_accept Any hand = true
+may_accept (Hand least) hand = nat_le least hand
+may_accept (Total low least) hand = nat_le low hand
+may_accept (HandOrShort least counted) hand = true
 
 -- whether a hidden deal passes a test
 abbrev pub passes : WorstShow → Test → Dealt → Bool
 passes worst test dealt = points_pass worst test (hidden_hand worst dealt) (hidden_crib worst dealt)
+
+-- of the hidden deals that agree, exactly those pass a test in which the owner misses the goal
+abbrev pub IsTestOfFailures : WorstShow → Test → Type 0
+IsTestOfFailures worst test = (dealt : Dealt) → AgreesInShow worst dealt → passes worst test dealt ≡ fails worst dealt
 
 -- the first deal made of the chosen cards and n more cards of a list. The choices are tried in dictionary order, and
 -- only with cards that may be chosen

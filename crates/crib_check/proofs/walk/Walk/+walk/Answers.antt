@@ -1,12 +1,14 @@
 use Rattle.std.proofs.Common.{rules, ◌≡◌, ◌∷◌, List, ℕ, length, refl, sym, ap, subst, ◌∙◌, arith}
 use Rattle.std.proofs.lemmas.Bool.{both_ways}
 use Rattle.crib_play.specs.History.{Event, Own, Theirs}
+use Rattle.crib_know.specs.Hidden.{CanShowAt, IsKnown}
+use Rattle.crib_check.specs.declared.keys.Key.{Key}
 use Rattle.crib_check.specs.Private.Histories.{as_event}
-use Rattle.crib_check.specs.Private.Positions.{StandsAt}
+use Rattle.crib_check.specs.Private.Positions.{MayTakeAt, StandsAt}
 use Rattle.crib_check.specs.Private.Walks.{MayWalk, history_at}
 use Rattle.crib_check.proofs.LettersBelow.{IsSettledBelow}
 use Rattle.crib_check.proofs.WalkConclusions.{settled_theirs}
-use Rattle.crib_check.proofs.WalkSteps.{may_take, leads_to, has_taken, kept_same}
+use Rattle.crib_check.proofs.WalkSteps.{leads_from, may_take, leads_to, has_taken, kept_same}
 use Rattle.crib_check.proofs.TrailLengths.{trail_more, trail_back, trail_room}
 use Rattle.crib_check.proofs.FoundAtPosition.{found_none, own_found, theirs_found, below_held, below_unshown}
 use Rattle.crib_check.proofs.FoundAtPosition.{one_more_settled, settled_where, none_by}
@@ -50,12 +52,18 @@ pub go_on-returns-in-Opponent : goal.go_on-returns-in-Opponent
 go_on-returns-in-Opponent g t c = c.their_turn.ensures
 
 -- ---- the owner's turn
+pub own_turn-go_by_own-requires : goal.own_turn-go_by_own-requires
+own_turn-go_by_own-requires g t c =
+    let M : Key → Type 0 = λ at. MayTakeAt c.args.self.now.plan.now at c.in-Some.what in
+    subst M (sym c.copy-next.ensures) c.in-Some.ensures
+
 pub own_turn-take-requires : goal.own_turn-take-requires
 own_turn-take-requires g t c κs within =
     let walk = c.args.self.now in
-    let may : MayWalk g.T.Settled.holds walk c.after_own-next.result (Own c.in-Some.what ∷ history_at walk) = record {
+    let may : MayWalk g.T.Settled.holds walk c.go_by_own.new.key (Own c.in-Some.what ∷ history_at walk) = record {
       kept = c.requires.here.kept;
-      here = c.after_own-next.ensures walk.problem.now (history_at walk) c.requires.here.here;
+      here = leads_from walk.plan.now c.args.key.now c.copy-next.result c.go_by_own.new.key (Own c.in-Some.what) c.copy-next.ensures c.go_by_own.ensures
+          walk.problem.now (history_at walk) c.requires.here.here;
     } in
     search (rules, may)
 
@@ -65,8 +73,10 @@ own_turn-returns-in-Some g t c =
     record {
       kept = c.take.ensures.kept;
       back = c.take.ensures.back;
-      found = own_found walk.problem.now walk.plan.now c.args.key.now c.after_own-next.result c.take.new.self.trail.items (history_at walk) c.in-Some.what
-          c.take.result c.requires.here.here c.in-Some.ensures (c.after_own-next.ensures walk.problem.now) c.take.ensures.found;
+      found = own_found walk.problem.now walk.plan.now c.args.key.now c.go_by_own.new.key c.take.new.self.trail.items (history_at walk) c.in-Some.what
+          c.take.result c.requires.here.here c.in-Some.ensures
+          (leads_from walk.plan.now c.args.key.now c.copy-next.result c.go_by_own.new.key (Own c.in-Some.what) c.copy-next.ensures c.go_by_own.ensures
+          walk.problem.now) c.take.ensures.found;
     }
 
 pub own_turn-returns-in-None : goal.own_turn-returns-in-None
@@ -80,6 +90,11 @@ their_turn-loop-place-init g t c = record {
   below = λ history letter stands can is. absurd (omega (arith, is));
 }
 
+pub their_turn-go_by_theirs-requires : goal.their_turn-go_by_theirs-requires
+their_turn-go_by_theirs-requires g t c =
+    let C : Key → Type 0 = λ at. CanShowAt at.know c.at-letter.result in
+    subst C (sym c.copy-next.ensures) (c.can_show.ensures.shown c.if-can_show.true)
+
 pub their_turn-take-requires : goal.their_turn-take-requires
 their_turn-take-requires g t c κs within =
     let walk = c.args.self.now in
@@ -88,20 +103,21 @@ their_turn-take-requires g t c κs within =
     let back = c.loop-place.invariant.back in
     let long = ap length back in
     let event = Theirs c.at-letter.result in
-    let here = leads_to holds walk.problem.now walk.plan.now walk.trail.items c.loop-place.self kept back c.args.key.now c.after_theirs-next.result event
-    c.after_theirs-next.ensures (history_at walk) c.requires.here.here in
-    let may = may_take holds walk.problem.now walk.plan.now walk.trail.items c.loop-place.self kept back c.after_theirs-next.result event here in
+    let here = leads_to holds walk.problem.now walk.plan.now walk.trail.items c.loop-place.self kept back c.args.key.now c.go_by_theirs.new.key event
+    (leads_from c.loop-place.self.plan.now c.args.key.now c.copy-next.result c.go_by_theirs.new.key event c.copy-next.ensures c.go_by_theirs.ensures)
+    (history_at walk) c.requires.here.here in
+    let may = may_take holds walk.problem.now walk.plan.now walk.trail.items c.loop-place.self kept back c.go_by_theirs.new.key event here in
     search (rules, long, may)
 
 pub their_turn-returns-in-Some : goal.their_turn-returns-in-Some
 their_turn-returns-in-Some g t c =
     let walk = c.args.self.now in
     let walked = has_taken g.T.Settled.holds walk.problem.now walk.plan.now walk.trail.items c.loop-place.self c.loop-place.invariant.kept
-    c.loop-place.invariant.back c.after_theirs-next.result (Theirs c.at-letter.result) c.take.new.self c.take.result c.take.ensures in
+    c.loop-place.invariant.back c.go_by_theirs.new.key (Theirs c.at-letter.result) c.take.new.self c.take.result c.take.ensures in
     record {
       kept = walked.kept;
       back = λ none. absurd cc;
-      found = theirs_found walk.problem.now walk.plan.now c.args.key.now c.after_theirs-next.result c.take.new.self.trail.items (history_at walk)
+      found = theirs_found walk.problem.now walk.plan.now c.args.key.now c.go_by_theirs.new.key c.take.new.self.trail.items (history_at walk)
           c.at-letter.result c.loop-place.place c.take.result c.in-Some.failure c.in-Some.is c.requires.here.here c.requires.asked
           c.at-letter.ensures.valid c.at-letter.ensures.place c.loop-place.invariant.below walked.found;
     }
@@ -115,14 +131,16 @@ their_turn-loop-place-preserved g t c =
     let letter = c.at-letter.result in
     elim c.if-can_show.branch [
       | their_turn-then-can_show+in_default w ↦
-          (let walked = has_taken holds walk.problem.now walk.plan.now walk.trail.items c.loop-place.self kept back w.after_theirs-next.result (Theirs letter)
+          (let walked = has_taken holds walk.problem.now walk.plan.now walk.trail.items c.loop-place.self kept back w.go_by_theirs.new.key (Theirs letter)
           w.take.new.self w.take.result w.take.ensures in
-          let leads = leads_to holds walk.problem.now walk.plan.now walk.trail.items c.loop-place.self kept back c.args.key.now w.after_theirs-next.result
-          (Theirs letter) w.after_theirs-next.ensures in
+          let leads = leads_to holds walk.problem.now walk.plan.now walk.trail.items c.loop-place.self kept back c.args.key.now w.go_by_theirs.new.key
+          (Theirs letter)
+          (leads_from c.loop-place.self.plan.now c.args.key.now w.copy-next.result w.go_by_theirs.new.key (Theirs letter) w.copy-next.ensures
+          w.go_by_theirs.ensures) in
           record {
             kept = kept_same holds walk.problem.now walk.plan.now _ _ w.self-is walked.kept;
             back = ap (λ walk. walk.trail.items) w.self-is ∙ walked.back w.in_default.is;
-            below = below_held walk.problem.now walk.plan.now c.args.key.now w.after_theirs-next.result w.take.new.self.trail.items
+            below = below_held walk.problem.now walk.plan.now c.args.key.now w.go_by_theirs.new.key w.take.new.self.trail.items
                 (Theirs letter ∷ history_at walk) letter c.loop-place.place w.take.result w.in_default.is c.at-letter.ensures.valid
                 c.at-letter.ensures.place c.loop-place.invariant.below leads walked.found;
           })

@@ -8,7 +8,8 @@ use Rattle.crib_cards.specs.declared.moves.Move.TheVariants as move
 use Rattle.crib_play.specs.Record.{count_of}
 use Rattle.crib_play.specs.History.{Event, Own, Theirs}
 use Rattle.crib_problem.specs.Setup.{Setup}
-use Rattle.crib_know.specs.Hidden.{KnowsAfter}
+use Rattle.crib_know.specs.Hidden.{CanShowAt, KnowsAfter}
+use Rattle.crib_know.specs.Knowledge.{Knowledge}
 use Rattle.crib_search.specs.declared.nodes.DraftPlace.{DraftPlace}
 use Rattle.crib_search.specs.declared.nodes.DraftPlace.TheVariants.{At}
 use Rattle.crib_search.specs.Finder.{letters, options}
@@ -16,7 +17,7 @@ use Rattle.crib_search.specs.Private.Nodes.{Names}
 use Rattle.crib_search.specs.Private.Ahead.{turns_ahead}
 use Rattle.crib_search.specs.Private.Search.{Drafts, IsHere, IsAnswer, IsTried, IsBranch, Steps, answer_in}
 use Rattle.crib_search.proofs.FoundBySide.{take_letter}
-use Rattle.crib_search.proofs.FoundAfterTurns.{know_falls, over_found, own_go, own_tried, tried_some, tried_next, branch_end, branch_after}
+use Rattle.crib_search.proofs.FoundAfterTurns.{steps_from, know_falls, over_found, own_go, own_tried, tried_some, tried_next, branch_end, branch_after}
 use Rattle.crib_search.proofs.FoundAfterTurns.{AreBranches, branches_more, theirs_none, theirs_some, branches_named, ok_map}
 use Rattle.crib_search.proofs.FoundAfterTurns.{answer_earlier, answer_later, answers_kept, answers_more, at_later, later_trans, take_none}
 use Rattle.crib_search.proofs.FoundAfterTurns.{card_split, fewer, rest_of, still_has, first_has_it, card_is}
@@ -70,13 +71,31 @@ search_own-returns-clause-found g t c =
     (subst Q same c.after_own_go-next.ensures) answer)
     c.search.ensures.found
 
+pub try_cards-own_play-requires-clause-asked : goal.try_cards-own_play-requires-clause-asked
+try_cards-own_play-requires-clause-asked g t c = ap (λ (know : Knowledge). know.round.asked) c.copy-after.ensures ∙ c.requires.asked
+
+pub try_cards-own_play-requires-clause-held : goal.try_cards-own_play-requires-clause-held
+try_cards-own_play-requires-clause-held g t c =
+    let some : 1 ≤ length c.args.cards.now = omega arith in
+    let has_it : has c.args.cards.now c.card-item.result ≡ true = first_has_it c.args.cards.now c.card-item.result some c.card-item.is in
+    let H : Knowledge → Type 0 = λ know. IsTrue (has know.own_left c.card-item.result) in
+    subst H (sym c.copy-after.ensures) (c.requires.playable c.card-item.result has_it).0
+
+pub try_cards-own_play-requires-clause-fits : goal.try_cards-own_play-requires-clause-fits
+try_cards-own_play-requires-clause-fits g t c =
+    let some : 1 ≤ length c.args.cards.now = omega arith in
+    let has_it : has c.args.cards.now c.card-item.result ≡ true = first_has_it c.args.cards.now c.card-item.result some c.card-item.is in
+    let F : Knowledge → Type 0 = λ know. count_of know.round.pile + card_value c.card-item.result ≤ 31 in
+    subst F (sym c.copy-after.ensures) (c.requires.playable c.card-item.result has_it).1
+
 pub try_cards-search-requires : goal.try_cards-search-requires
 try_cards-search-requires g t c κs within =
-    let after = c.after_own_card-after.ensures c.args.self.now.problem c.requires.here.0 c.requires.here.1 in
-    let falls : turns_ahead c.after_own_card-after.result < turns_ahead c.args.know.now =
-    know_falls c.args.know.now c.after_own_card-after.result c.args.self.now.problem (Own (move.Card c.card-item.result)) c.requires.here.0 c.requires.here.1
+    let after = steps_from c.args.know.now c.copy-after.result c.own_play.new.self (Own (move.Card c.card-item.result)) c.copy-after.ensures
+    c.own_play.ensures c.args.self.now.problem c.requires.here.0 c.requires.here.1 in
+    let falls : turns_ahead c.own_play.new.self < turns_ahead c.args.know.now =
+    know_falls c.args.know.now c.own_play.new.self c.args.self.now.problem (Own (move.Card c.card-item.result)) c.requires.here.0 c.requires.here.1
     after in
-    let here : IsHere c.args.self.now.problem c.after_own_card-after.result = (Own (move.Card c.card-item.result) ∷ c.requires.here.0, after) in
+    let here : IsHere c.args.self.now.problem c.own_play.new.self = (Own (move.Card c.card-item.result) ∷ c.requires.here.0, after) in
     search (rules, falls, here)
 
 pub try_cards-place_of_play-requires-clause-card : goal.try_cards-place_of_play-requires-clause-card
@@ -87,10 +106,13 @@ try_cards-place_of_play-requires-clause-card g t c =
 
 pub try_cards-place_of_play-requires-clause-earlier : goal.try_cards-place_of_play-requires-clause-earlier
 try_cards-place_of_play-requires-clause-earlier g t c =
-    let A : Option DraftPlace → Type 0 = λ found. IsAnswer c.search.new.self c.after_own_card-after.result found in
+    let A : Option DraftPlace → Type 0 = λ found. IsAnswer c.search.new.self c.own_play.new.self found in
     let here = at_later c.args.self.now c.search.new.self c.search.ensures.later (λ problem. IsHere problem c.args.know.now) c.requires.here in
-    answer_earlier c.search.new.self c.after_own_card-after.result c.in-Some.next
-    (Own (move.Card c.card-item.result) ∷ here.0, c.after_own_card-after.ensures c.search.new.self.problem here.0 here.1)
+    answer_earlier c.search.new.self c.own_play.new.self c.in-Some.next (
+      Own (move.Card c.card-item.result) ∷ here.0,
+      (steps_from c.args.know.now c.copy-after.result c.own_play.new.self (Own (move.Card c.card-item.result))
+          c.copy-after.ensures c.own_play.ensures) c.search.new.self.problem here.0 here.1,
+    )
     (subst A c.in-Some.is c.in_ok-next.ensures.found)
 
 pub try_cards-returns-in_err-place-in-Some-clause-later : goal.try_cards-returns-in_err-place-in-Some-clause-later
@@ -104,12 +126,13 @@ try_cards-returns-in_ok-place-in-Some-clause-later g t c =
 pub try_cards-returns-in_ok-place-in-Some-clause-found : goal.try_cards-returns-in_ok-place-in-Some-clause-found
 try_cards-returns-in_ok-place-in-Some-clause-found g t c =
     let after : Drafts = c.place_of_play.new.self in
-    let A : Option DraftPlace → Type 0 = λ found. IsAnswer c.search.new.self c.after_own_card-after.result found in
+    let A : Option DraftPlace → Type 0 = λ found. IsAnswer c.search.new.self c.own_play.new.self found in
     let T : List ℕ → Type 0 = λ cards. IsTried after c.args.know.now cards (Some (At c.in_ok-place-in-Some.place)) in
     subst T (card_split c.args.cards.now c.card-item.result (omega arith) c.card-item.is)
-    (tried_some after c.args.know.now c.card-item.result (rest_of c.args.cards.now) c.after_own_card-after.result
-    (c.after_own_card-after.ensures after.problem) c.in-Some.next c.in_ok-place-in-Some.place
-    (answer_later c.search.new.self after c.place_of_play.ensures.later c.after_own_card-after.result (Some c.in-Some.next)
+    (tried_some after c.args.know.now c.card-item.result (rest_of c.args.cards.now) c.own_play.new.self
+    ((steps_from c.args.know.now c.copy-after.result c.own_play.new.self (Own (move.Card c.card-item.result))
+    c.copy-after.ensures c.own_play.ensures) after.problem) c.in-Some.next c.in_ok-place-in-Some.place
+    (answer_later c.search.new.self after c.place_of_play.ensures.later c.own_play.new.self (Some c.in-Some.next)
     (subst A c.in-Some.is c.in_ok-next.ensures.found))
     c.in_ok-place-in-Some.ensures.node)
 
@@ -130,8 +153,8 @@ try_cards-returns-in-None-clause-later g t c =
 pub try_cards-returns-in-None-clause-found : goal.try_cards-returns-in-None-clause-found
 try_cards-returns-in-None-clause-found g t c =
     let after : Drafts = c.try_cards.new.self in
-    let A : Option DraftPlace → Type 0 = λ found. IsAnswer c.search.new.self c.after_own_card-after.result found in
-    let none = answer_later c.search.new.self after c.try_cards.ensures.later c.after_own_card-after.result None
+    let A : Option DraftPlace → Type 0 = λ found. IsAnswer c.search.new.self c.own_play.new.self found in
+    let none = answer_later c.search.new.self after c.try_cards.ensures.later c.own_play.new.self None
     (subst A c.in-None.is c.in_ok-next.ensures.found) in
     let split = card_split c.args.cards.now c.card-item.result (omega arith) c.card-item.is in
     ok_map c.try_cards.result (λ found. IsTried after c.args.know.now (rest_of c.args.cards.now) found)
@@ -139,8 +162,9 @@ try_cards-returns-in-None-clause-found g t c =
     (λ found tried.
     let T : List ℕ → Type 0 = λ cards. IsTried after c.args.know.now cards found in
     subst T split
-    (tried_next after c.args.know.now c.card-item.result (rest_of c.args.cards.now) c.after_own_card-after.result
-    (c.after_own_card-after.ensures after.problem) found none tried))
+    (tried_next after c.args.know.now c.card-item.result (rest_of c.args.cards.now) c.own_play.new.self
+    ((steps_from c.args.know.now c.copy-after.result c.own_play.new.self (Own (move.Card c.card-item.result))
+    c.copy-after.ensures c.own_play.ensures) after.problem) found none tried))
     c.try_cards.ensures.found
 
 -- ---- the opponent
@@ -170,12 +194,18 @@ search_theirs-returns-clause-found g t c =
     let A : Drafts → Type 0 = λ drafts. IsAnswer drafts c.args.know.now c.in_ok-found.found in
     subst A (sym c.self-2.view_is) c.in_ok-found.ensures.found
 
+pub branch-saw-requires : goal.branch-saw-requires
+branch-saw-requires g t c =
+    let C : Knowledge → Type 0 = λ know. CanShowAt know c.args.letter.now in
+    subst C (sym c.copy-next.ensures) (c.can_show.ensures.shown c.if-not-can_show.false)
+
 pub branch-search-requires : goal.branch-search-requires
 branch-search-requires g t c κs within =
-    let after = c.after_letter-next.ensures c.args.self.now.problem c.requires.0 c.requires.1 in
-    let falls : turns_ahead c.after_letter-next.result < turns_ahead c.args.know.now =
-    know_falls c.args.know.now c.after_letter-next.result c.args.self.now.problem (Theirs c.args.letter.now) c.requires.0 c.requires.1 after in
-    let here : IsHere c.args.self.now.problem c.after_letter-next.result = (Theirs c.args.letter.now ∷ c.requires.0, after) in
+    let after = steps_from c.args.know.now c.copy-next.result c.saw.new.self (Theirs c.args.letter.now) c.copy-next.ensures c.saw.ensures
+    c.args.self.now.problem c.requires.0 c.requires.1 in
+    let falls : turns_ahead c.saw.new.self < turns_ahead c.args.know.now =
+    know_falls c.args.know.now c.saw.new.self c.args.self.now.problem (Theirs c.args.letter.now) c.requires.0 c.requires.1 after in
+    let here : IsHere c.args.self.now.problem c.saw.new.self = (Theirs c.args.letter.now ∷ c.requires.0, after) in
     search (rules, falls, here)
 
 pub branch-returns-then-not-can_show-clause-found : goal.branch-returns-then-not-can_show-clause-found
@@ -186,11 +216,11 @@ branch-returns-then-not-can_show-clause-found g t c =
 pub branch-returns-clause-found : goal.branch-returns-clause-found
 branch-returns-clause-found g t c =
     let after : Drafts = c.search.new.self in
-    ok_map c.search.result (λ found. IsAnswer after c.after_letter-next.result found)
+    ok_map c.search.result (λ found. IsAnswer after c.saw.new.self found)
     (λ found. IsBranch after c.args.know.now c.args.letter.now found)
-    (λ found answer. branch_after after c.args.know.now c.args.letter.now c.after_letter-next.result
+    (λ found answer. branch_after after c.args.know.now c.args.letter.now c.saw.new.self
     (λ history knows. (c.can_show.ensures.exact after.problem history knows).0 c.if-not-can_show.false)
-    (c.after_letter-next.ensures after.problem) found answer)
+    ((steps_from c.args.know.now c.copy-next.result c.saw.new.self (Theirs c.args.letter.now) c.copy-next.ensures c.saw.ensures) after.problem) found answer)
     c.search.ensures.found
 
 pub search_all-returns-in_default-clause-found : goal.search_all-returns-in_default-clause-found

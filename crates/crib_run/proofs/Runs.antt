@@ -77,4 +77,5 @@ read_means may means given known reads writes old new ended (Err cause) reply (i
 -- a run means what `RunMeans` states, whether or not the bytes of its device are known
 pub run_means : (may means : List ℕ → Reply → Type 0) → HaveMeaning may means → (known : Option (List ℕ)) (reads writes : Type 0) (old new : Option (List ℕ))
     (ended : Status) → Delivers may known reads old new writes ended → MeaningOf means known old new (reads ⊎ writes) ended
-run_means may means given known reads writes old new ended d = read_means may means given known reads writes old new ended d.read d.reply d.gave d.answers d.sent
+run_means may means given known reads writes old new ended d =
+    read_means may means given known reads writes old new ended d.read d.reply d.gave d.answers d.sent

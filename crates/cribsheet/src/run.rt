@@ -26,9 +26,9 @@ use std::alloc::Allocator;
 ///   the position and the verdict in words, the sheet of the plan and how to read it, with the status `Yes` if the plan
 ///   is sure and `No` if it is not. `game` writes the sheet of the game, with the status `Yes`. Both write the refusal
 ///   of the input if it has one, or `fault 11` if an allocation failed.
-/// - `means`: what the status means for the input. If the bytes of the reader are known, these are the input. The status
-///   `Yes` of `plan` means that the plan of the input is sure, and `No` that it is not. The status `Fault` means that an
-///   allocation or a device failed.
+/// - `means`: what the status means for the input. If the bytes of the reader are known, these are the input. The
+///   status `Yes` of `plan` means that the plan of the input is sure, and `No` that it is not. The status `Fault` means
+///   that an allocation or a device failed.
 /// - `words`: what is written to the third device is nothing, or the message of the reason behind the reply, with the
 ///   acts before a refused one, or a beginning of that.
 /// - `silent`: nothing is written there if the status is `Yes` or `No`.

@@ -11,7 +11,7 @@ use crate::report::report_answer;
 use crate::solve::solve_answer;
 use crate::verdict::verdict_answer;
 use crib_board::{BoardFault, write_board};
-use crib_check::verdict_on;
+use crib_check::{KeySet, check_with};
 use crib_game::{follow, replay};
 use crib_input::{Refusal, played_of, played_under_of, problem_of, question_of};
 use crib_run::{
@@ -88,7 +88,8 @@ fn check_answer<A: Allocator + Copy>(alloc: A, input: &[u8]) -> Answer<A>
 {
     match question_of(alloc, input) {
         Ok(question) => {
-            let verdict = verdict_on(alloc, &question.problem, &question.plan);
+            let mut table = KeySet::new(alloc);
+            let verdict = check_with(&question.problem, &question.plan, &mut table);
             verdict_answer(alloc, &verdict)
         }
         Err(not_read) => not_read_answer(not_read),

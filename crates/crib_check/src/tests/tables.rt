@@ -158,6 +158,11 @@ fn answers_the_same_with_a_set_of_keys(rt: HostRuntime) {
 }
 
 #[test]
+fn answers_the_same_with_the_opponents_turns_alone(rt: HostRuntime) {
+    all_come_out_with(&rt, &mut OpponentTurns::new(rt.alloc()));
+}
+
+#[test]
 fn answers_the_same_where_every_second_put_is_refused(rt: HostRuntime) {
     all_come_out_with(&rt, &mut Watched::new(rt.alloc(), Refuses::EverySecond));
 }
@@ -235,6 +240,27 @@ fn key_at(of: &Problem, node: u16) -> Key {
         know: Know::start(of),
         place: Next::To(node),
     }
+}
+
+#[test]
+fn keeps_the_opponents_turns_and_drops_the_others(rt: HostRuntime) {
+    let problem = problem(&rt, TWELVE);
+    let mut table = OpponentTurns::new(rt.alloc());
+    let own = after_three(&rt, &problem, [10, 9, 6]);
+    assert!(rt; table.put(own.copy()).is_ok());
+    assert!(rt; !table.has(&own));
+    let [_, _, _, last] = problem.hold();
+    let mut theirs = own;
+    assert!(rt; theirs.know.turn() == Turn::Owner);
+    assert!(rt; theirs.know.own_left().has(last));
+    assert!(rt; theirs.know.round().fits(last.rank()));
+    theirs.know.own_play(last);
+    assert!(rt; theirs.know.turn() == Turn::Opponent);
+    assert!(rt; !table.has(&theirs));
+    assert!(rt; table.put(theirs.copy()).is_ok());
+    assert!(rt; table.has(&theirs));
+    table.clear();
+    assert!(rt; !table.has(&theirs));
 }
 
 #[test]

@@ -1,4 +1,4 @@
-use Rattle.std.proofs.Common.{rules, ◌≡◌, ◌∷◌, List, ℕ, length, refl, sym, ap, subst, ◌∙◌, arith}
+use Rattle.std.proofs.Common.{rules, ◌≡◌, ◌⊎◌, ◌∷◌, List, ℕ, length, refl, sym, ap, subst, ◌∙◌, arith}
 use Rattle.std.proofs.lemmas.Bool.{both_ways}
 use Rattle.crib_play.specs.History.{Event, Own, Theirs}
 use Rattle.crib_know.specs.Hidden.{CanShowAt, IsKnown}
@@ -16,15 +16,15 @@ use Rattle.crib_check.proofs.walk.Walk.+walk.Goals as goal
 use Rattle.crib_check.proofs.walk.Walk.+walk.Goals.{their_turn-then-can_show+in_default, their_turn-else-can_show}
 
 -- ---- at a position
-pub walk-returns-then-is_settled : goal.walk-returns-then-is_settled
-walk-returns-then-is_settled g t c = record {
-  kept = c.requires.kept;
+pub settle-returns-then-has : goal.settle-returns-then-has
+settle-returns-then-has g t c = record {
+  kept = c.requires.here.kept;
   back = λ none. refl;
-  found = c.requires.kept.settled c.args.key (c.is_settled.ensures c.if-is_settled.true);
+  found = c.requires.here.kept.settled c.args.key.now (c.has.ensures c.if-has.true);
 }
 
-pub walk-returns-then-is_none : goal.walk-returns-then-is_none
-walk-returns-then-is_none g t c =
+pub settle-returns-then-is_none : goal.settle-returns-then-is_none
+settle-returns-then-is_none g t c =
     let walk = c.args.self.now in
     let walked = c.go_on-found.ensures in
     let none = none_by c.go_on-found.result c.is_none.result c.is_none.ensures c.if-is_none.true in
@@ -33,17 +33,25 @@ walk-returns-then-is_none g t c =
         same_problem = walked.kept.same_problem;
         same_plan = walked.kept.same_plan;
         settled = one_more_settled walk.problem.now walk.plan.now (g.T.Settled.holds c.put.new.self) (g.T.Settled.holds c.go_on-found.new.self.table.now)
-            c.args.key (history_at walk) c.requires.here c.put.ensures.held walked.kept.settled
-            (settled_where walk.problem.now walk.plan.now c.args.key (history_at walk) c.go_on-found.new.self.trail.items c.go_on-found.result none
+            c.args.key.now (history_at walk) c.requires.here.here (held c.copy.ensures c.put.ensures.held) walked.kept.settled
+            (settled_where walk.problem.now walk.plan.now c.args.key.now (history_at walk) c.go_on-found.new.self.trail.items c.go_on-found.result none
             walked.found);
         shows = walked.kept.shows;
       };
       back = walked.back;
       found = walked.found;
     }
-
-pub go_on-returns-in-Over : goal.go_on-returns-in-Over
-go_on-returns-in-Over g t c = c.over.ensures
+  where
+    -- what a put of a copy says of the key
+    held : {key copy : Key} → copy ≡ key →
+        (IsKnown copy.know → (other : Key) → IsKnown other.know → g.T.Settled.holds c.put.new.self other →
+        g.T.Settled.holds c.go_on-found.new.self.table.now other ⊎ (other ≡ copy)) →
+        IsKnown key.know → (other : Key) → IsKnown other.know → g.T.Settled.holds c.put.new.self other →
+        g.T.Settled.holds c.go_on-found.new.self.table.now other ⊎ (other ≡ key)
+    held same of_copy =
+        let H : Key → Type 0 = λ put. IsKnown put.know → (other : Key) → IsKnown other.know → g.T.Settled.holds c.put.new.self other →
+        g.T.Settled.holds c.go_on-found.new.self.table.now other ⊎ (other ≡ put) in
+        subst H same of_copy
 
 pub go_on-returns-in-Owner : goal.go_on-returns-in-Owner
 go_on-returns-in-Owner g t c = c.own_turn.ensures
@@ -172,16 +180,16 @@ their_turn-returns g t c =
 pub take-push-requires : goal.take-push-requires
 take-push-requires g t c =
     let walk = c.args.self.now in
-    let room = trail_room c.args.key.know walk.problem.now (as_event c.args.event) walk.trail.items c.requires.here.knows in
+    let room = trail_room c.args.key.now.know walk.problem.now (as_event c.args.event) walk.trail.items c.requires.here.knows in
     search rules
 
 pub take-walk-found-requires : goal.take-walk-found-requires
 take-walk-found-requires g t c κs within =
     let walk = c.args.self.now in
-    let room = trail_room c.args.key.know walk.problem.now (as_event c.args.event) walk.trail.items c.requires.here.knows in
+    let room = trail_room c.args.key.now.know walk.problem.now (as_event c.args.event) walk.trail.items c.requires.here.knows in
     let more = trail_more walk.problem.now walk.trail.items c.push.new.self.items c.args.event c.push.ensures.items in
-    let S : List Event → Type 0 = λ history. StandsAt walk.problem.now walk.plan.now c.args.key history in
-    let may : MayWalk g.T.Settled.holds (record c.args.self.now { trail = c.push.new.self }) c.args.key
+    let S : List Event → Type 0 = λ history. StandsAt walk.problem.now walk.plan.now c.args.key.now history in
+    let may : MayWalk g.T.Settled.holds (record c.args.self.now { trail = c.push.new.self }) c.args.key.now
     (history_at (record c.args.self.now { trail = c.push.new.self })) = record {
       kept = record { same_problem = refl; same_plan = refl; settled = c.requires.kept.settled; shows = c.requires.kept.shows };
       here = subst S (sym more) c.requires.here;
@@ -202,5 +210,5 @@ take-returns-then-is_none g t c =
       };
       back = λ none. trail_back walk.trail.items c.push.new.self.items c.walk-found.new.self.trail.items c.pop.new.self.items c.args.event c.push.ensures.items
           (walked.back none) c.pop.ensures.rest;
-      found = found_none walk.problem.now walk.plan.now c.args.key _ _ _ _ c.walk-found.result none walked.found;
+      found = found_none walk.problem.now walk.plan.now c.args.key.now _ _ _ _ c.walk-found.result none walked.found;
     }

@@ -4,19 +4,22 @@ use Rattle.crib_check.proofs.LettersBelow.{IsSettledBelow}
 use Rattle.crib_check.proofs.walk.Walk.+walk.Given as goal
 
 abbrev pub decreases-walk : goal.decreases-walk
-decreases-walk g l = 4 * (29 - length l.self.now.trail.items) + 3
+decreases-walk g l = 5 * (29 - length l.self.now.trail.items) + 4
+
+abbrev pub decreases-settle : goal.decreases-settle
+decreases-settle g l = 5 * (29 - length l.self.now.trail.items) + 3
 
 abbrev pub decreases-go_on : goal.decreases-go_on
-decreases-go_on g l = 4 * (29 - length l.self.now.trail.items) + 2
+decreases-go_on g l = 5 * (29 - length l.self.now.trail.items) + 2
 
 abbrev pub decreases-own_turn : goal.decreases-own_turn
-decreases-own_turn g l = 4 * (29 - length l.self.now.trail.items) + 1
+decreases-own_turn g l = 5 * (29 - length l.self.now.trail.items) + 1
 
 abbrev pub decreases-their_turn : goal.decreases-their_turn
-decreases-their_turn g l = 4 * (29 - length l.self.now.trail.items) + 1
+decreases-their_turn g l = 5 * (29 - length l.self.now.trail.items) + 1
 
 abbrev pub decreases-take : goal.decreases-take
-decreases-take g l = 4 * (29 - length l.self.now.trail.items)
+decreases-take g l = 5 * (29 - length l.self.now.trail.items)
 
 abbrev pub invariant-their_turn-loop-place : goal.invariant-their_turn-loop-place
 invariant-their_turn-loop-place g l = record {

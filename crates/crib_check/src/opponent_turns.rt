@@ -1,0 +1,53 @@
+//! A table that keeps the positions in which the opponent is to move.
+ghost use Rattle.std.specs.Prelude.{◌≡◌, ◌⊎◌, ◌↔◌, IsTrue, OnErr};
+ghost use Rattle.crib_know.specs.Hidden.{IsKnown};
+ghost use Rattle.crib_check.specs.declared.keys.Key.{Key};
+
+use crate::key_sets::KeySet;
+use crate::keys::Key;
+use crate::tables::{NoMemory, Settled};
+use crib_play::Turn;
+use std::alloc::{Allocator, Global};
+
+/// A table that keeps the keys in which the opponent is to move, unless an allocation fails. It drops the others.
+///
+/// Where the owner is to move, the plan has one way on. It leads to a position of the opponent that the table has, if
+/// the first one was settled before. So a walk is about as short as with a [`KeySet`], and asks for half the memory.
+#[derive(Drop)]
+pub struct OpponentTurns<A: Allocator = Global> {
+    kept: KeySet<A>,
+}
+
+impl<A: Allocator + Copy> OpponentTurns<A> {
+    /// Returns an empty table. It allocates no memory before the first key is put.
+    pub fn new(alloc: A) -> OpponentTurns<A>
+        ensures { (key : Key) → ⟦<OpponentTurns<A> as Settled>⟧.holds result key → ⊥ }
+    {
+        OpponentTurns {
+            kept: KeySet::new(alloc),
+        }
+    }
+}
+
+impl<A: Allocator + Copy> Settled for OpponentTurns<A> {
+    ghost holds = { λ table key. ⟦<KeySet<A> as Settled>⟧.holds table.kept key };
+
+    /// Whether the key is held. The table holds none in which the owner is to move.
+    fn has(&self, key: &Key) -> bool {
+        key.know.turn() == Turn::Opponent && self.kept.has(key)
+    }
+
+    /// Puts a key in which the opponent is to move, and drops another one. A put that fails changes nothing.
+    fn put(&mut self, key: Key) -> Result<(), NoMemory> {
+        if key.know.turn() == Turn::Opponent {
+            self.kept.put(key)
+        } else {
+            Ok(())
+        }
+    }
+
+    /// Drops every key.
+    fn clear(&mut self) {
+        self.kept.clear();
+    }
+}

@@ -10,7 +10,7 @@ use Rattle.crib_check.specs.declared.walk.Walk.{Walk}
 use Rattle.crib_check.specs.Private.Found.{IsFoundFrom}
 use Rattle.crib_check.specs.Private.Histories.{history_of_trail}
 use Rattle.crib_check.specs.Private.Positions.{IsSettled, StandsAt}
-use Rattle.crib_check.specs.Shows.{AreExtremesOf}
+use Rattle.crib_check.specs.Shows.{AreShowsOf}
 
 -- a walk of a problem and a plan: its position table holds only settled positions, and its table of shows is right. The
 -- first argument is the property that a table holds a position
@@ -19,7 +19,7 @@ pub record IsWalkOf {A T : Type 0} (holds : T → Key → Type 0) (problem : Set
   pub same_problem : walk.problem.now ≡ problem
   pub same_plan : walk.plan.now ≡ plan
   pub settled : (other : Key) → holds walk.table.now other → IsSettled problem plan other
-  pub shows : AreExtremesOf problem walk.shows
+  pub shows : AreShowsOf problem walk.shows
 
 -- the history where a walk is: that of the opening and of its trail
 abbrev pub history_at : {A T : Type 0} → Walk A T → List Event

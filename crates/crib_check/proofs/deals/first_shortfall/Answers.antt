@@ -1,7 +1,8 @@
-use Rattle.std.proofs.Common.{ap, ◌∙◌, arith}
+use Rattle.std.proofs.Common.{ap, sym, subst, ◌∙◌, arith}
 use Rattle.crib_cards.specs.declared.sides.Scores.{Scores}
 use Rattle.crib_play.specs.Standing.{Standing}
 use Rattle.crib_game.specs.Private.Judging.{full_at}
+use Rattle.crib_check.specs.Shows.{AreExtremesOf}
 use Rattle.crib_check.proofs.FirstShortfalls.{decided_reached, lost_short, four_played, has_deal, short_of, shows_for, shows_from}
 use Rattle.crib_check.proofs.deals.first_shortfall.Goals as goal
 
@@ -34,17 +35,20 @@ first_failure_with-requires-clause-deal c =
     let few = c.if-scores-ge-GAME_HOLE.false in
     has_deal c.args.problem.now c.args.know.now known.0 known.1
     (four_played c.args.problem.now c.args.know.now known.0 known.1 c.requires.over (omega (arith, owner, target, low)) (omega (arith, opponent, few)))
-    _ c.worst_show.ensures
+    _ (c.go_to.ensures.worst c.args.problem.now c.requires.shows)
 
 pub first_failure_with-requires-clause-shows : goal.first_failure_with-requires-clause-shows
 first_failure_with-requires-clause-shows c =
     let known = c.requires.known in
-    shows_for c.args.problem.now c.args.know.now known.0 known.1 _ c.worst_show.ensures c.args.shows.now c.requires.shows
+    shows_for c.args.problem.now c.args.know.now known.0 known.1 _ (c.go_to.ensures.worst c.args.problem.now c.requires.shows) c.go_to.new.self.extremes
+    (subst (AreExtremesOf c.args.problem.now) (sym c.go_to.ensures.extremes) c.requires.shows.0)
 
 pub returns-clause-shows : goal.returns-clause-shows
 returns-clause-shows c =
     let known = c.requires.known in
-    shows_from c.args.problem.now c.args.know.now known.0 known.1 _ c.worst_show.ensures c.first_failure_with.new.shows c.first_failure_with.ensures.shows
+    let worst = c.go_to.ensures.worst c.args.problem.now c.requires.shows in
+    let counted = shows_from c.args.problem.now c.args.know.now known.0 known.1 _ worst c.first_failure_with.new.shows c.first_failure_with.ensures.shows in
+    (counted, (c.args.know.now, worst))
 
 pub returns-clause-first : goal.returns-clause-first
 returns-clause-first c = λ history knows.
@@ -56,4 +60,4 @@ returns-clause-first c = λ history knows.
     let few = c.if-scores-ge-GAME_HOLE.false in
     short_of c.args.problem.now c.args.know.now history knows
     (four_played c.args.problem.now c.args.know.now history knows c.requires.over (omega (arith, owner, target, low)) (omega (arith, opponent, few)))
-    _ c.worst_show.ensures c.first_failure_with.result c.first_failure_with.ensures.first
+    _ (c.go_to.ensures.worst c.args.problem.now c.requires.shows) c.first_failure_with.result c.first_failure_with.ensures.first

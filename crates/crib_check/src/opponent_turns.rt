@@ -11,8 +11,8 @@ use std::alloc::{Allocator, Global};
 
 /// A table that keeps the keys in which the opponent is to move, unless an allocation fails. It drops the others.
 ///
-/// Where the owner is to move, the plan has one way on, so a walk from there soon meets a position that the table has, if
-/// it was there before. So it takes little longer than with a [`KeySet`], and the table has fewer keys.
+/// Where the owner is to move, the plan has one way on. So a walk from there soon meets a position that the table has,
+/// if it was there before. It takes little longer than with a [`KeySet`], and the table has fewer keys.
 #[derive(Drop)]
 pub struct OpponentTurns<A: Allocator = Global> {
     kept: KeySet<A>,

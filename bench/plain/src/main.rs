@@ -27,8 +27,13 @@ fn answer(command: &str, text: &str) -> Result<(String, bool), Refused> {
             Ok(failure.map_or(("holds\n".to_string(), true), |failure| (failure.text(), false)))
         }
         "solve" => {
-            let plan = Finder::new(&problem).plan();
-            Ok(plan.map_or(("none\n".to_string(), false), |plan| (plan_text(&plan), true)))
+            let Some(plan) = Finder::new(&problem).plan() else {
+                return Ok(("none\n".to_string(), false));
+            };
+            match Checker::new(&problem, &plan).first_failure() {
+                None => Ok((plan_text(&plan), true)),
+                Some(failure) => Err(format!("the plan that was found {}", failure.text())),
+            }
         }
         _ => Err("the commands are check and solve".to_string()),
     }

@@ -4,6 +4,7 @@ use Rattle.std.specs.Fmt.{digits}
 use Rattle.crib_cards.specs.Sets.{set_where}
 use Rattle.crib_problem.specs.Setup.{Setup, IsSetup}
 use Rattle.crib_problem.specs.Spelling.{problem_text, problem_lines}
+use Rattle.crib_problem.proofs.Setups.{setup_from}
 use Rattle.crib_plan.specs.declared.plan.Node.{Node}
 use Rattle.crib_plan.specs.Nodes.{ArePlan}
 use Rattle.crib_plan.specs.Spelling.{plan_text, plan_lines}
@@ -87,19 +88,8 @@ the_plan = codes "plan 1\nnodes 3\n0 see A:1 g:2\n1 play AC end\n2 play 2C end\n
 
 at_29_is_a_setup : IsSetup at_29
 unfolding set_where
-at_29_is_a_setup = record {
-  held = refl;
-  two_thrown = refl;
-  cards = (omega arith, (omega arith, (omega arith, (omega arith, (omega arith, (omega arith, (omega arith, tt)))))));
-  distinct = refl;
-  owner_score = omega arith;
-  opponent_score = omega arith;
-  goal_in_range = (omega arith, omega arith);
-  of_version = tt;
-  few = omega arith;
-  moves = (omega arith, (omega arith, (omega arith, tt)));
-  allowed = (((tt, refl), refl), refl);
-}
+at_29_is_a_setup =
+    setup_from at_29 refl (omega arith, omega arith) tt (omega arith) (omega arith, (omega arith, (omega arith, tt))) (((tt, refl), refl), refl)
 
 are_a_plan : ArePlan ace_or_two
 are_a_plan = (

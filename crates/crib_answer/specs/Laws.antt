@@ -1,5 +1,5 @@
 -- The laws of the replies. They say what the bytes of an input spell, by the bytes of the right reply to it.
-use Rattle.std.specs.Prelude.{◌≡◌, ◌⊎◌, ◌↔◌, ◌<◌, ℕ, List, ◌∷◌, ◌++◌, length, Result, Ok, codes}
+use Rattle.std.specs.Prelude.{◌≡◌, ◌⊎◌, ◌↔◌, ◌<◌, ℕ, List, ◌∷◌, ◌++◌, length, codes, IsOk}
 use Rattle.crib_text.specs.Refusals.{Refusal, cut_short, too_long}
 use Rattle.crib_text.specs.Words.{line_after}
 use Rattle.crib_problem.specs.Setup.{Setup}
@@ -39,17 +39,13 @@ TooLongLaw =
 
 -- ---- beginnings
 
--- what was read is a value and no refusal
-abbrev pub Accepts : {A : Type 0} → Result A Refusal → Type 0
-Accepts {A = A} said = (value : A) × (said ≡ Ok value)
-
 -- a job accepts an input: what it reads is a value and no refusal
 abbrev pub IsAccepted : Job → List ℕ → Type 0
-IsAccepted Replay input = Accepts (report_of_input input)
-IsAccepted Follow input = Accepts (ending_of_input input)
-IsAccepted Check input = Accepts (question_of_input input)
-IsAccepted Solve input = Accepts (problem_of_input input)
-IsAccepted Board input = Accepts (board_of_input input)
+IsAccepted Replay input = IsOk (report_of_input input)
+IsAccepted Follow input = IsOk (ending_of_input input)
+IsAccepted Check input = IsOk (question_of_input input)
+IsAccepted Solve input = IsOk (problem_of_input input)
+IsAccepted Board input = IsOk (board_of_input input)
 
 -- each proper beginning of an accepted input is refused as cut short. The line is that of the first missing byte
 abbrev pub CutShortLaw : Type 0

@@ -1,6 +1,6 @@
 -- Lemmas about the members of a list, and about lists with no number twice.
 use Rattle.std.proofs.Common.{◌≡◌, ◌⊎◌, ℕ, Bool, true, false, not, eqb, List, [], ◌∷◌, ◌++◌, refl, sym, ap, ◌∙◌, inl, inr, arith}
-use Rattle.std.specs.List.{All, list_all}
+use Rattle.std.specs.List.{All, list_all, list_any}
 use Rattle.std.proofs.lemmas.Bool.{and_parts, and_from, or_cases, or_parts, or_from, or_left, or_right, both_ways, not-true, eqb-true, eq-eqb}
 use Rattle.std.proofs.lemmas.List.Elements.{All-nil, All-cons}
 use Rattle.crib_cards.specs.Sets.{has, are_distinct}
@@ -38,6 +38,22 @@ all_has p (y ∷ xs) x all h =
 pub all_from : (p : ℕ → Bool) (xs : List ℕ) → ((x : ℕ) → has xs x ≡ true → p x ≡ true) → list_all p xs ≡ true
 all_from p [] each = refl
 all_from p (x ∷ xs) each = and_from (p x) (list_all p xs) (each x (has_here x xs)) (all_from p xs (λ y h. each y (has_there x y xs h)))
+
+pub any_found : (p : ℕ → Bool) (xs : List ℕ) → list_any p xs ≡ true → (x : ℕ) × (has xs x ≡ true) × (p x ≡ true)
+any_found p [] any = absurd (both_ways false refl any)
+any_found p (x ∷ xs) any =
+    elim (or_cases (p x) (list_any p xs) any) [
+      | inl here ↦ (x, has_here x xs, here)
+      | inr there ↦ let found = any_found p xs there in (found.0, has_there x found.0 xs found.1, found.2)
+    ]
+
+pub any_from : (p : ℕ → Bool) (xs : List ℕ) (x : ℕ) → has xs x ≡ true → p x ≡ true → list_any p xs ≡ true
+any_from p [] x h passes = absurd (both_ways false refl h)
+any_from p (y ∷ xs) x h passes =
+    elim (has_cases y x xs h) [
+      | inl here ↦ or_left (p y) (list_any p xs) (ap p here ∙ passes)
+      | inr there ↦ or_right (p y) (list_any p xs) (any_from p xs x there passes)
+    ]
 
 pub all_cards : (xs : List ℕ) → AreCards xs → All IsCard xs
 all_cards [] are = All-nil IsCard

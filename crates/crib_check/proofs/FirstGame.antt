@@ -15,23 +15,12 @@ use Rattle.crib_know.specs.Private.Choice.{chosen_cards}
 use Rattle.crib_know.proofs.OwnCalls.{first_is}
 use Rattle.crib_check.specs.Failing.{IsFailing, IsFirstFailing, comes_before, opponent_letters}
 use Rattle.crib_problem.proofs.ExampleProblems.{four_twos, aces}
+use Rattle.crib_problem.proofs.Setups.{setup_from}
 use Rattle.crib_check.proofs.Examples.{aces_are_a_deal, no_acts, stuck_at_once}
 use Rattle.crib_cards.proofs.SetLemmas.{and-false}
 
 four_twos_are_a_setup : IsSetup four_twos
-four_twos_are_a_setup = record {
-  held = refl;
-  two_thrown = refl;
-  cards = (omega arith, (omega arith, (omega arith, (omega arith, (omega arith, (omega arith, (omega arith, tt)))))));
-  distinct = refl;
-  owner_score = omega arith;
-  opponent_score = omega arith;
-  goal_in_range = (omega arith, omega arith);
-  of_version = (refl, refl);
-  few = omega arith;
-  moves = tt;
-  allowed = tt;
-}
+four_twos_are_a_setup = setup_from four_twos refl (omega arith, omega arith) (refl, refl) (omega arith) tt tt
 
 abbrev at_the_lead : Knowledge
 at_the_lead = knowledge_after four_twos []

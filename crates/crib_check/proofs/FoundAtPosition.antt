@@ -1,5 +1,5 @@
 -- What the walk finds at a position follows from what it finds after it.
-use Rattle.std.proofs.Common.{◌≡◌, ◌⊎◌, ℕ, ◌+◌, Bool, true, not, List, ◌∷◌, Option, Some, None, is_some, refl, sym, subst, inl, inr}
+use Rattle.std.proofs.Common.{◌≡◌, ◌⊎◌, ℕ, ◌+◌, Bool, true, false, not, List, ◌∷◌, Option, Some, None, is_some, refl, sym, subst, inl, inr}
 use Rattle.crib_cards.specs.Letters.{IsLetter, letter_place}
 use Rattle.crib_cards.specs.declared.letters.Letter.{Letter}
 use Rattle.crib_cards.specs.declared.moves.Move.{Move}
@@ -12,10 +12,9 @@ use Rattle.crib_game.specs.declared.section.game.Game.{Game}
 use Rattle.crib_check.specs.declared.keys.Key.{Key}
 use Rattle.crib_check.specs.declared.failure.Failure.{Failure}
 use Rattle.crib_check.specs.declared.trails.Event.{Event as TrailEvent}
-use Rattle.crib_check.specs.Private.Found.{IsFoundFrom, IsGameOf, IsStoppedBy}
+use Rattle.crib_check.specs.Private.Found.{IsFoundBelow, IsFoundFrom, IsGameOf, IsSettledBelow, IsStoppedBy}
 use Rattle.crib_check.specs.Private.Positions.{StandsAt, IsSettled, IsFirstFrom, MayTakeAt}
-use Rattle.crib_check.proofs.LettersBelow.{IsSettledBelow}
-use Rattle.crib_check.proofs.WalkConclusions.{own_first, theirs_first, settled_own, below_more}
+use Rattle.crib_check.proofs.WalkConclusions.{own_first, theirs_first, settled_own, settled_theirs, below_more}
 
 module _ (problem : Setup) (plan : List Node) (key : Key) where
   -- two ways to write the history are equal
@@ -49,30 +48,18 @@ module _ (problem : Setup) (plan : List Node) (key : Key) where
       first = λ game is. own_first problem plan key history stands what may game failure.ending (stopped.first game is);
     }
 
-    -- after a letter of the opponent from which the plan fails
-    pub theirs_found : (history : List Event) (letter : Letter) (place : ℕ) (found : Option Failure) (failure : Failure) → found ≡ Some failure →
-        StandsAt problem plan key history → key.know.round.asked ≡ turns.Opponent → IsLetter letter → letter_place letter ≡ place →
-        IsSettledBelow problem plan key place → IsFoundFrom problem plan next (Theirs letter ∷ history) trail found →
-        IsFoundFrom problem plan key history trail (Some failure)
-    theirs_found history letter place found failure fails stands asked is_letter at_place below is =
-        let O : Option Failure → Type 0 = λ o. IsFoundFrom problem plan next (Theirs letter ∷ history) trail o in
-        let B : ℕ → Type 0 = λ n. IsSettledBelow problem plan key n in
-        let stopped : IsFoundFrom problem plan next (Theirs letter ∷ history) trail (Some failure) = subst O fails is in
-        record {
-          room = stopped.room;
-          first = λ game is_of.
-              theirs_first problem plan key history stands asked letter is_letter (subst B (sym at_place) below) game failure.ending (stopped.first game is_of);
-        }
-
-    -- after a letter of the opponent from which it holds
-    pub below_held : (history : List Event) (letter : Letter) (place : ℕ) (found : Option Failure) → found ≡ None → IsLetter letter →
-        letter_place letter ≡ place → IsSettledBelow problem plan key place →
+    -- after a letter of the opponent
+    pub theirs_found : (history : List Event) (letter : Letter) (found : Option Failure) → StandsAt problem plan key history →
+        key.know.round.asked ≡ turns.Opponent → IsLetter letter →
         ((h : List Event) → StandsAt problem plan key h → StandsAt problem plan next (Theirs letter ∷ h)) →
-        IsFoundFrom problem plan next history trail found → IsSettledBelow problem plan key (place + 1)
-    below_held history letter place found e is_letter at_place below goes is =
-        let O : Option Failure → Type 0 = λ o. IsFoundFrom problem plan next history trail o in
-        below_more problem plan key place letter is_letter at_place below
-        (λ h stands can. (subst O e is) (Theirs letter ∷ h) (goes h stands))
+        IsFoundFrom problem plan next (Theirs letter ∷ history) trail found → IsSettledBelow problem plan key (letter_place letter) →
+        IsFoundBelow problem plan key (letter_place letter + 1) history trail found
+    theirs_found history letter None stands asked is_letter goes settled below =
+        below_more problem plan key (letter_place letter) letter is_letter refl below (λ h stands can. settled (Theirs letter ∷ h) (goes h stands))
+    theirs_found history letter (Some failure) stands asked is_letter goes stopped below = record {
+      room = stopped.room;
+      first = λ game is_of. theirs_first problem plan key history stands asked letter is_letter below game failure.ending (stopped.first game is_of);
+    }
 
   -- a letter that cannot be shown
   pub below_unshown : (letter : Letter) (place : ℕ) → IsLetter letter → letter_place letter ≡ place → IsSettledBelow problem plan key place →
@@ -80,6 +67,30 @@ module _ (problem : Setup) (plan : List Node) (key : Key) where
       IsSettledBelow problem plan key (place + 1)
   below_unshown letter place is at_place below cannot =
       below_more problem plan key place letter is at_place below (λ h stands can. absurd (cannot h stands can))
+
+-- after all letters before a place, if one of them fails
+pub found_below : (problem : Setup) (plan : List Node) (key : Key) (place : ℕ) (history : List Event) (trail : List TrailEvent) (found : Option Failure) →
+    is_some found ≡ true → IsFoundBelow problem plan key place history trail found → IsFoundFrom problem plan key history trail found
+found_below problem plan key place history trail None fails is = absurd cc
+found_below problem plan key place history trail (Some failure) fails is = is
+
+-- if none of them does
+pub settled_below : (problem : Setup) (plan : List Node) (key : Key) (place : ℕ) (history : List Event) (trail : List TrailEvent) (found : Option Failure) →
+    found ≡ None → IsFoundBelow problem plan key place history trail found → IsSettledBelow problem plan key place
+settled_below problem plan key place history trail None none is = is
+settled_below problem plan key place history trail (Some failure) none is = absurd cc
+
+-- the same for a walk without a failure
+pub found_below_where : (problem : Setup) (plan : List Node) (key : Key) (place : ℕ) (history : List Event) (trail : List TrailEvent)
+    (found : Option Failure) → found ≡ None → IsSettledBelow problem plan key place → IsFoundBelow problem plan key place history trail found
+found_below_where problem plan key place history trail None none is = is
+found_below_where problem plan key place history trail (Some failure) none is = absurd cc
+
+-- after all fourteen letters
+pub found_in_all : (problem : Setup) (plan : List Node) (key : Key) (history : List Event) (trail : List TrailEvent) (found : Option Failure) →
+    key.know.round.asked ≡ turns.Opponent → IsFoundBelow problem plan key 14 history trail found → IsFoundFrom problem plan key history trail found
+found_in_all problem plan key history trail None asked is = settled_theirs problem plan key asked is
+found_in_all problem plan key history trail (Some failure) asked is = is
 
 -- a table with one more settled position
 pub one_more_settled : (problem : Setup) (plan : List Node) (held before : Key → Type 0) (key : Key) (history : List Event) →
@@ -100,6 +111,20 @@ pub settled_where : (problem : Setup) (plan : List Node) (key : Key) (history : 
     IsFoundFrom problem plan key history trail found → IsSettled problem plan key
 settled_where problem plan key history trail found e is = let O : Option Failure → Type 0 = λ o. IsFoundFrom problem plan key history trail o in subst O e is
 
+-- a settled position of a walk without a failure
+pub found_where : (problem : Setup) (plan : List Node) (key : Key) (history : List Event) (trail : List TrailEvent) (found : Option Failure) → found ≡ None →
+    IsSettled problem plan key → IsFoundFrom problem plan key history trail found
+found_where problem plan key history trail found e is =
+    let O : Option Failure → Type 0 = λ o. IsFoundFrom problem plan key history trail o in subst O (sym e) is
+
 pub none_by : {X : Type 0} (found : Option X) (b : Bool) → is_some found ≡ not b → b ≡ true → found ≡ None
 none_by None b e is = refl
 none_by (Some x) b e is = absurd cc
+
+pub none_unless : {X : Type 0} (found : Option X) → is_some found ≡ false → found ≡ None
+none_unless None is = refl
+none_unless (Some x) is = absurd cc
+
+pub some_unless : {X : Type 0} (found : Option X) (b : Bool) → is_some found ≡ not b → b ≡ false → found ≡ None → ⊥
+some_unless None b e is none = absurd cc
+some_unless (Some x) b e is none = cc

@@ -1,10 +1,11 @@
 -- A worked plan that is sure, with two branches. The opening is TC TD 9C, which makes 29. The owner knows all twos, so the opponent shows an ace or says go.
 -- After an ace the owner's ace makes a pair and 31. After a go his two makes 31.
 use Rattle.std.proofs.Common.{arith, ◌≡◌, ◌⊎◌, ◌<◌, refl, sym, ap, ◌∙◌, subst, inl, inr, ℕ, Bool, true, false, eqb, not, ◌||◌, cond}
-use Rattle.std.proofs.Common.{List, [], ◌∷◌, ◌++◌, length, filter, replicate, Option, Some, None}
+use Rattle.std.proofs.Common.{List, [], ◌∷◌, ◌++◌, length, filter, replicate}
 use Rattle.std.specs.Prelude.{IsTrue, IsFalse, if◌then◌else◌}
 use Rattle.std.specs.List.{list_all, list_any}
 use Rattle.std.proofs.lemmas.Bool.{both_ways, cases_Bool, eqb-true, eq-eqb, and_parts, or_cases, or_left, or_right}
+use Rattle.std.proofs.lemmas.Option.{same_Some}
 use Rattle.crib_cards.specs.Sets.{has, set_where}
 use Rattle.crib_cards.specs.declared.sides.Dealt.{Dealt}
 use Rattle.crib_cards.specs.declared.sides.Side.TheVariants.{Owner, Opponent}
@@ -171,13 +172,6 @@ an_ace dealt card deal left fit =
     ap (λ b. is_ace_if b card) (sym fit) ∙ has_passed (λ card. is_ace_if (fits three_turns card) card) (unseen_of at_29) card only_aces_fit hidden
 
 -- ---- each record that follows the plan is a course
-stated : (number card : ℕ) → Some number ≡ Some card → number ≡ card
-stated number card e = ap number_in e
-  where
-    number_in : Option ℕ → ℕ
-    number_in (Some card) = card
-    number_in None = 99
-
 abbrev AsPlanned : Move → List Move → Type 0
 AsPlanned turn past =
     IsTrue (opening_is_over at_29.played Owner past) →
@@ -203,16 +197,16 @@ further dealt (Card card) past deal at_count_29 come follows on =
     ]
 further dealt Go past deal at_count_29 come follows on = a_go
 further dealt (Card card) past deal diamond come follows on =
-    subst (λ card. Course (Card card ∷ Card 1 ∷ three_turns)) (stated 0 card (follows.1 refl)) after_diamond
+    subst (λ card. Course (Card card ∷ Card 1 ∷ three_turns)) (same_Some 0 card (follows.1 refl)) after_diamond
 further dealt Go past deal diamond come follows on = absurd (both_ways true come.may_take refl)
 further dealt (Card card) past deal heart come follows on =
-    subst (λ card. Course (Card card ∷ Card 2 ∷ three_turns)) (stated 0 card (follows.1 refl)) after_heart
+    subst (λ card. Course (Card card ∷ Card 2 ∷ three_turns)) (same_Some 0 card (follows.1 refl)) after_heart
 further dealt Go past deal heart come follows on = absurd (both_ways true come.may_take refl)
 further dealt (Card card) past deal spade come follows on =
-    subst (λ card. Course (Card card ∷ Card 3 ∷ three_turns)) (stated 0 card (follows.1 refl)) after_spade
+    subst (λ card. Course (Card card ∷ Card 3 ∷ three_turns)) (same_Some 0 card (follows.1 refl)) after_spade
 further dealt Go past deal spade come follows on = absurd (both_ways true come.may_take refl)
 further dealt (Card card) past deal a_go come follows on =
-    subst (λ card. Course (Card card ∷ Go ∷ three_turns)) (stated 4 card (follows.1 refl)) after_go
+    subst (λ card. Course (Card card ∷ Go ∷ three_turns)) (same_Some 4 card (follows.1 refl)) after_go
 further dealt Go past deal a_go come follows on = absurd (both_ways true come.may_take refl)
 further dealt turn past deal after_diamond come follows on = absurd (both_ways true come.not_done refl)
 further dealt turn past deal after_heart come follows on = absurd (both_ways true come.not_done refl)

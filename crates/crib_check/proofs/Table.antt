@@ -1,62 +1,28 @@
 -- What a table of positions holds, over the lists that it keeps.
-use Rattle.std.proofs.Common.{◌≡◌, ◌⊎◌, ◌↔◌, ℕ, ◌+◌, ◌<◌, ◌≤◌, Bool, true, false, cond, not, ◌&&◌, ◌||◌, List, [], ◌∷◌}
-use Rattle.std.proofs.Common.{◌++◌, length, IsTrue, OnErr, Result, Ok, Err, inl, inr, refl, sym, ap, subst, ◌∙◌, true≢false, arith, if◌then◌else◌}
+use Rattle.std.proofs.Common.{◌≡◌, ◌⊎◌, ◌↔◌, ℕ, ◌+◌, ◌<◌, ◌≤◌, Bool, true, false, cond, not, ◌&&◌, ◌||◌, List, [], ◌∷◌, ◌++◌, length}
+use Rattle.std.proofs.Common.{IsTrue, OnErr, Result, Ok, Err, inl, inr, refl, sym, ap, subst, ◌∙◌, true≢false, arith, if◌then◌else◌}
 use Rattle.std.specs.Bool.{Decides}
 use Rattle.std.specs.Cmp.{IsEquivalence}
 use Rattle.std.specs.List.{list_any, position_or_len, AllByRecursion}
 use Rattle.std.proofs.lemmas.Bool.Decides.{Decides-eqb, Decides-and, Decides-like}
 use Rattle.std.proofs.lemmas.List.Folds.{prefix_len-append}
-use Rattle.std.proofs.lemmas.List.{append-nil, length-append}
+use Rattle.std.proofs.lemmas.List.{length-append}
 use Rattle.indexmap.specs.IndexSet.{insert_key}
 use lib.Dec.{eqb}
 use Rattle.crib_know.specs.Hidden.{IsKnown}
 use Rattle.crib_know.specs.Knowledge.{sight_of, shown_of}
+use Rattle.crib_know.specs.declared.knowledge.Sight.{Sight}
+use Rattle.crib_know.specs.declared.knowledge.Shown.{Shown}
 use Rattle.crib_know.specs.contracts.knowledge.SightPartialEq.TheImpl as sights_compared
 use Rattle.crib_know.specs.contracts.knowledge.ShownPartialEq.TheImpl as shown_compared
 use Rattle.crib_know.specs.contracts.knowledge.SightEq.TheImpl.Laws.{laws-law as sights_alike}
-use Rattle.crib_know.specs.contracts.knowledge.ShownEq.TheImpl.Laws.{laws-law as shown_alike}
 use Rattle.crib_know.proofs.Equality.{same_knows}
 use Rattle.crib_check.specs.Table.{Table, entry_of, IsInside, AreInside}
 use Rattle.crib_check.specs.Private.Numbers.{IsMore, IsNumber}
 use Rattle.crib_check.specs.declared.entries.Entry.{Entry}
 use Rattle.crib_check.specs.declared.keys.Key.{Key}
 use Rattle.crib_check.specs.contracts.entries.EntryPartialEq.TheImpl as entries_compared
-use Rattle.crib_check.proofs.Equality.{same_nexts}
-
--- ---- numbers in a list that has more at its end
-number_back_by : (b : Bool) (place there more n : ℕ) → eqb n there ≡ b → place ≡ cond b (there + more) n → place < there → place ≡ n
-number_back_by true place there more n e is l = absurd (omega (arith, is, l))
-number_back_by false place there more n e is l = is
-
-number_stays_by : (b : Bool) (place there more n : ℕ) → eqb n there ≡ b → place ≡ cond b (there + more) n → n < there → place ≡ n
-number_stays_by true place there more n e is l = (let same : n ≡ there = (Decides-eqb n there).0 e in absurd (omega (arith, same, l)))
-number_stays_by false place there more n e is l = is
-
-module _ {X : Type 0} (test : X → Bool) (before after : List X) (more : IsMore before after) where
-  number_after : position_or_len test after
-      ≡ cond (eqb (position_or_len test before) (length before)) (length before + position_or_len test more.more) (position_or_len test before)
-  number_after = ap (position_or_len test) more.parts ∙ prefix_len-append (λ x. not (test x)) before more.more
-
-  -- a number that was there before is the one from before
-  number_back : position_or_len test after < length before → position_or_len test after ≡ position_or_len test before
-  number_back l = number_back_by _ _ (length before) _ _ refl number_after l
-
-  -- and what had a number keeps it
-  number_stays : position_or_len test before < length before → position_or_len test after ≡ position_or_len test before
-  number_stays l = number_stays_by _ _ (length before) _ _ refl number_after l
-
-more_length : {X : Type 0} (before after : List X) → IsMore before after → length before ≤ length after
-more_length before after more =
-    let len = ap length more.parts in
-    let sum = length-append before more.more in
-    omega (arith, len, sum)
-
-pub no_more : {X : Type 0} (xs : List X) → IsMore xs xs
-no_more xs = record { more = []; parts = sym (append-nil xs) }
-
-pub number_as : {X : Type 0} (eq : X → X → Bool) (one other : X) (xs : List X) (number : ℕ) → one ≡ other → IsNumber (eq one) xs number →
-    IsNumber (eq other) xs number
-number_as {X} eq one other xs number same is = let N : X → Type 0 = λ x. IsNumber (eq x) xs number in subst N same is
+use Rattle.crib_check.proofs.Equality.{same_nexts, same_showns}
 
 -- ---- two values that have one number are equal
 module _ {X : Type 0} (eq : X → X → Bool) (laws : IsEquivalence eq) (one other : X) where
@@ -83,155 +49,134 @@ same_entries : (one other : Entry) → Decides (same_entry one other) (one ≡ o
 same_entries one other =
     Decides-like _ (λ h i. record { sight = h.0 i; shown = h.1.0 i; place = h.1.1 i })
     (λ e. (ap (λ (x : Entry). x.sight) e, (ap (λ (x : Entry). x.shown) e, ap (λ (x : Entry). x.place) e)))
-    (Decides-and _ _ (Decides-eqb one.sight other.sight) (Decides-and _ _ (Decides-eqb one.shown other.shown) (same_nexts one.place other.place)))
+    (Decides-and _ _ (Decides-eqb one.sight other.sight) (Decides-and _ _ (same_showns one.shown other.shown) (same_nexts one.place other.place)))
 
--- an entry that is kept has what all have
-kept_has : (P : Entry → Type 0) (entry : Entry) (entries : List Entry) → AllByRecursion P entries → list_any (same_entry entry) entries ≡ true →
-    P entry
-kept_has P entry [] all is = absurd (true≢false (sym is))
-kept_has P entry (x ∷ xs) all is = by (same_entry entry x) refl (kept_has P entry xs all.1)
+-- an entry whose index is out of range is not among entries whose indices are in range
+no_entry : (sights : ℕ) (entry : Entry) (entries : List Entry) → AllByRecursion (IsInside sights) entries → (IsInside sights entry → ⊥) →
+    list_any (same_entry entry) entries ≡ false
+no_entry sights entry [] all out = refl
+no_entry sights entry (x ∷ xs) all out = by (same_entry entry x) refl (no_entry sights entry xs all.1 out)
   where
-    by : (b : Bool) → same_entry entry x ≡ b → (list_any (same_entry entry) xs ≡ true → P entry) → P entry
-    by true same rest = subst P (sym ((same_entries entry x).0 same)) all.0
-    by false same rest = rest (sym (ap (λ (c : Bool). c || list_any (same_entry entry) xs) same) ∙ is)
+    by : (b : Bool) → same_entry entry x ≡ b → list_any (same_entry entry) xs ≡ false → b || list_any (same_entry entry) xs ≡ false
+    by true same rest = absurd (out (subst (IsInside sights) (sym ((same_entries entry x).0 same)) all.0))
+    by false same rest = rest
 
-all_more : (P Q : Entry → Type 0) (entries : List Entry) → ((entry : Entry) → P entry → Q entry) → AllByRecursion P entries → AllByRecursion Q entries
-all_more P Q [] each all = tt
-all_more P Q (x ∷ xs) each all = (each x all.0, all_more P Q xs each all.1)
-
-all_push : (P : Entry → Type 0) (entries : List Entry) (entry : Entry) → AllByRecursion P entries → P entry → AllByRecursion P (entries ++ entry ∷ [])
-all_push P [] entry all last = (last, tt)
-all_push P (x ∷ xs) entry all last = (all.0, all_push P xs entry all.1 last)
+all_inside : (low high : ℕ) (entries : List Entry) → low ≤ high → AllByRecursion (IsInside low) entries → AllByRecursion (IsInside high) entries
+all_inside low high [] more all = tt
+all_inside low high (x ∷ xs) more all = (let at = all.0.0 in (omega (arith, at, more), all.0.1), all_inside low high xs more all.1)
 
 all_put : (P : Entry → Type 0) (b : Bool) (entries : List Entry) (entry : Entry) → AllByRecursion P entries → P entry →
     AllByRecursion P (if b then entries else entries ++ entry ∷ [])
 all_put P true entries entry all last = all
-all_put P false entries entry all last = all_push P entries entry all last
+all_put P false [] entry all last = (last, tt)
+all_put P false (x ∷ xs) entry all last = (all.0, all_put P false xs entry all.1 last)
 
 -- ---- what a table holds
 abbrev entry_in : Table → Key → Entry
-entry_in = entry_of sights_compared.ghosts.eq shown_compared.ghosts.eq
+entry_in = entry_of sights_compared.ghosts.eq
+
+abbrev found : Table → Key → Bool
+found kept key = list_any (same_entry (entry_in kept key)) kept.entries
 
 abbrev pub Holds : Table → Key → Type 0
-Holds kept key = list_any (same_entry (entry_in kept key)) kept.entries ≡ true
+Holds kept key = found kept key ≡ true
 
--- a key without a number isn't held
-module _ (kept now : Table) (seen : kept ≡ now) (inside : AreInside kept) (key : Key) where
-  held_inside : Holds kept key → IsInside (length kept.sights) (length kept.shown) (entry_in kept key)
-  held_inside is = kept_has (IsInside (length kept.sights) (length kept.shown)) (entry_in kept key) kept.entries inside is
+-- a key whose sight has no number isn't held
+pub without_sight : (kept now : Table) → kept ≡ now → AreInside kept → (key : Key) (sight : Sight) → sight ≡ sight_of key.know →
+    (IsNumber (sights_compared.ghosts.eq sight) kept.sights (position_or_len (sights_compared.ghosts.eq sight) kept.sights) → ⊥) →
+    IsTrue false ↔ Holds now key
+without_sight kept now seen inside key sight is none =
+    let Numbered : Sight → Type 0 = λ s.
+    IsNumber (sights_compared.ghosts.eq s) kept.sights (position_or_len (sights_compared.ghosts.eq s) kept.sights) in
+    let absent : found kept key ≡ false = no_entry (length kept.sights) (entry_in kept key) kept.entries inside
+    (λ at. none (subst Numbered (sym is) (record { first = refl; within = at.0; small = at.1 }))) in
+    (λ e. absurd (true≢false (sym e)), λ held. absurd (true≢false (sym held ∙ ap (λ (k : Table). found k key) (sym seen) ∙ absent)))
 
-  here : Holds now key → Holds kept key
-  here is = subst (λ (k : Table). Holds k key) (sym seen) is
+-- after a put: the list of sights may have more
+module _ (before now after : Table) (seen : before ≡ now) (inside : AreInside before) (more : IsMore before.sights after.sights) where
+  -- the entries of before are found as before
+  found_alike : (key : Key) → list_any (same_entry (entry_in after key)) before.entries ≡ found now key
+  found_alike key =
+      by (eqb (position_or_len same before.sights) (length before.sights)) refl
+      (ap (position_or_len same) more.parts ∙ prefix_len-append (λ x. not (same x)) before.sights more.more)
+      ∙ ap (λ (k : Table). found k key) seen
+    where
+      same : Sight → Bool
+      same = sights_compared.ghosts.eq (sight_of key.know)
 
-  pub without_sight : (IsNumber (sights_compared.ghosts.eq (sight_of key.know)) kept.sights (entry_in kept key).sight → ⊥) →
-      IsTrue false ↔ Holds now key
-  without_sight none =
-      (λ e. absurd (true≢false (sym e)), λ is. (let at = held_inside (here is) in absurd (none (record { first = refl; within = at.0; small = at.1 }))))
+      by : (b : Bool) → eqb (position_or_len same before.sights) (length before.sights) ≡ b →
+          position_or_len same after.sights
+          ≡ cond b (length before.sights + position_or_len same more.more) (position_or_len same before.sights) →
+          list_any (same_entry (entry_in after key)) before.entries ≡ found before key
+      by true last is =
+          let end = (Decides-eqb (position_or_len same before.sights) (length before.sights)).0 last in
+          no_entry _ _ before.entries inside (λ at. (let low = at.0 in absurd (omega (arith, is, low))))
+          ∙ sym (no_entry _ _ before.entries inside (λ at. (let low = at.0 in absurd (omega (arith, end, low)))))
+      by false last is =
+          ap (λ (k : ℕ). list_any (same_entry (record { sight = k; shown = shown_of key.know; place = key.place })) before.entries) is
 
-  pub without_shown : (IsNumber (shown_compared.ghosts.eq (shown_of key.know)) kept.shown (entry_in kept key).shown → ⊥) →
-      IsTrue false ↔ Holds now key
-  without_shown none =
-      (λ e. absurd (true≢false (sym e)), λ is. (let at = held_inside (here is) in absurd (none (record { first = refl; within = at.2; small = at.3 }))))
-
--- after a put: both lists may have more
-module _ (before now after : Table) (seen : before ≡ now) (inside : AreInside before) (sights : IsMore before.sights after.sights)
-    (shown : IsMore before.shown after.shown) where
-  entry_back : (other : Key) → IsInside (length before.sights) (length before.shown) (entry_in after other) → entry_in after other ≡ entry_in before other
-  entry_back other at = λ i. record {
-    sight = number_back (sights_compared.ghosts.eq (sight_of other.know)) before.sights after.sights sights at.0 i;
-    shown = number_back (shown_compared.ghosts.eq (shown_of other.know)) before.shown after.shown shown at.2 i;
-    place = other.place;
-  }
-
-  entry_stays : (other : Key) → IsInside (length before.sights) (length before.shown) (entry_in before other) → entry_in after other ≡ entry_in before other
-  entry_stays other at = λ i. record {
-    sight = number_stays (sights_compared.ghosts.eq (sight_of other.know)) before.sights after.sights sights at.0 i;
-    shown = number_stays (shown_compared.ghosts.eq (shown_of other.know)) before.shown after.shown shown at.2 i;
-    place = other.place;
-  }
-
-  to_now : (other : Key) → Holds before other → Holds now other
-  to_now other is = subst (λ (k : Table). Holds k other) seen is
-
-  from_now : (other : Key) → Holds now other → Holds before other
-  from_now other is = subst (λ (k : Table). Holds k other) (sym seen) is
-
-  -- an entry of before that is found is held before
-  back : (other : Key) → list_any (same_entry (entry_in after other)) before.entries ≡ true → Holds now other
-  back other is =
-      let at = kept_has (IsInside (length before.sights) (length before.shown)) (entry_in after other) before.entries inside is in
-      to_now other (subst (λ (e : Entry). list_any (same_entry e) before.entries ≡ true) (entry_back other at) is)
-
-  forth : (other : Key) → Holds now other → list_any (same_entry (entry_in after other)) before.entries ≡ true
-  forth other is =
-      let there = from_now other is in
-      let at = kept_has (IsInside (length before.sights) (length before.shown)) (entry_in before other) before.entries inside there in
-      subst (λ (e : Entry). list_any (same_entry e) before.entries ≡ true) (sym (entry_stays other at)) there
+  inside_more : AllByRecursion (IsInside (length after.sights)) before.entries
+  inside_more =
+      let len = ap length more.parts in
+      let sum = length-append before.sights more.more in
+      all_inside _ _ before.entries (omega (arith, len, sum)) inside
 
   -- a refused put: the entries are as they were
   pub refused_same : after.entries ≡ before.entries → (other : Key) → Holds after other ↔ Holds now other
-  refused_same same other = (
-    λ is. back other (subst (λ (es : List Entry). list_any (same_entry (entry_in after other)) es ≡ true) same is),
-    λ is. subst (λ (es : List Entry). list_any (same_entry (entry_in after other)) es ≡ true) (sym same) (forth other is),
-  )
+  refused_same same other =
+      let alike : found after other ≡ found now other =
+      ap (λ (es : List Entry). list_any (same_entry (entry_in after other)) es) same ∙ found_alike other in
+      (λ is. sym alike ∙ is, λ is. alike ∙ is)
 
-  inside_each : (entry : Entry) → IsInside (length before.sights) (length before.shown) entry → IsInside (length after.sights) (length after.shown) entry
-  inside_each entry at =
-      let a = at.0 in
-      let b = at.2 in
-      let m = more_length before.sights after.sights sights in
-      let n = more_length before.shown after.shown shown in
-      (omega (arith, a, m), at.1, omega (arith, b, n), at.3)
+  -- a put: the entries are those of before and that of the key
+  module _ (key : Key) (sight : Sight) (shown : Shown) (seen_is : sight ≡ sight_of key.know) (shown_is : shown ≡ shown_of key.know) (number : ℕ)
+      (is_number : IsNumber (sights_compared.ghosts.eq sight) after.sights number) where
+    abbrev entry : Entry
+    entry = record { sight = number; shown = shown; place = key.place }
 
-  inside_more : AllByRecursion (IsInside (length after.sights) (length after.shown)) before.entries
-  inside_more = all_more _ _ before.entries inside_each inside
+    is_entry : entry ≡ entry_in after key
+    is_entry = λ i. record {
+      sight = (is_number.first ∙ ap (λ (s : Sight). position_or_len (sights_compared.ghosts.eq s) after.sights) seen_is) i;
+      shown = shown_is i;
+      place = key.place;
+    }
 
-  pub inside_same : after.entries ≡ before.entries → AreInside after
-  inside_same same = subst (AllByRecursion (IsInside (length after.sights) (length after.shown))) (sym same) inside_more
-
-  module _ (key : Key) (entry : Entry) (sight : IsNumber (sights_compared.ghosts.eq (sight_of key.know)) after.sights entry.sight)
-      (showing : IsNumber (shown_compared.ghosts.eq (shown_of key.know)) after.shown entry.shown) (place : entry.place ≡ key.place) where
     pub inside_put : after.entries ≡ insert_key same_entry before.entries entry → AreInside after
     inside_put is =
-        subst (AllByRecursion (IsInside (length after.sights) (length after.shown))) (sym is)
-        (all_put _ (list_any (same_entry entry) before.entries) before.entries entry inside_more
-        (sight.within, sight.small, showing.within, showing.small))
+        subst (AllByRecursion (IsInside (length after.sights))) (sym is)
+        (all_put _ (list_any (same_entry entry) before.entries) before.entries entry inside_more (is_number.within, is_number.small))
+
+    -- an entry that is the new one is that of the key
+    is_key : (other : Key) → IsKnown key.know → IsKnown other.know → entry ≡ entry_in after other → other ≡ key
+    is_key other known known_other e =
+        let same : entry_in after key ≡ entry_in after other = sym is_entry ∙ e in
+        let first = ap (λ (x : Entry). x.sight) is_entry in
+        let low = is_number.within in
+        let sights = same_number sights_compared.ghosts.eq sights_alike (sight_of key.know) (sight_of other.know) after.sights
+        (ap (λ (x : Entry). x.sight) same) (omega (arith, first, low)) in
+        let showns = (same_showns (shown_of key.know) (shown_of other.know)).1 (ap (λ (x : Entry). x.shown) same) in
+        let knows = (same_knows key.know other.know known known_other).0
+        (ap (λ (c : Bool). c && shown_compared.ghosts.eq (shown_of key.know) (shown_of other.know)) sights ∙ showns) in
+        sym (λ i. record { know = knows i; place = (same i).place })
 
     module _ (updates : (e : Entry) → list_any (same_entry e) after.entries ≡ cond (same_entry entry e) true (list_any (same_entry e) before.entries)) where
-      stays_by : (b : Bool) (e : Entry) → same_entry entry e ≡ b → list_any (same_entry e) before.entries ≡ true → list_any (same_entry e) after.entries ≡ true
-      stays_by true e same is = updates e ∙ ap (λ (c : Bool). cond c true (list_any (same_entry e) before.entries)) same
-      stays_by false e same is = updates e ∙ ap (λ (c : Bool). cond c true (list_any (same_entry e) before.entries)) same ∙ is
+      found_after : (other : Key) → found after other ≡ cond (same_entry entry (entry_in after other)) true (found now other)
+      found_after other =
+          updates (entry_in after other) ∙ ap (λ (c : Bool). cond (same_entry entry (entry_in after other)) true c) (found_alike other)
 
       pub put_stays : (other : Key) → Holds now other → Holds after other
-      put_stays other is = stays_by (same_entry entry (entry_in after other)) (entry_in after other) refl (forth other is)
-
-      -- an entry that is the new one is that of the key
-      is_key : (other : Key) → IsKnown key.know → IsKnown other.know → entry ≡ entry_in after other → other ≡ key
-      is_key other known known_other e =
-          let first = ap (λ (x : Entry). x.sight) e in
-          let second = ap (λ (x : Entry). x.shown) e in
-          let sight_first = sight.first in
-          let shown_first = showing.first in
-          let sight_within = sight.within in
-          let shown_within = showing.within in
-          let seen_alike = same_number sights_compared.ghosts.eq sights_alike (sight_of key.know) (sight_of other.know) after.sights
-          (sym sight_first ∙ first) (omega (arith, sight_first, sight_within)) in
-          let shown_is = same_number shown_compared.ghosts.eq shown_alike (shown_of key.know) (shown_of other.know) after.shown
-          (sym shown_first ∙ second) (omega (arith, shown_first, shown_within)) in
-          let knows = (same_knows key.know other.know known known_other).0
-          (ap (λ (c : Bool). c && shown_compared.ghosts.eq (shown_of key.know) (shown_of other.know)) seen_alike ∙ shown_is) in
-          let places : key.place ≡ other.place = sym place ∙ ap (λ (x : Entry). x.place) e in
-          sym (λ i. record { know = knows i; place = places i })
-
-      held_by : (b : Bool) (other : Key) → IsKnown key.know → IsKnown other.know → same_entry entry (entry_in after other) ≡ b → Holds after other →
-          Holds now other ⊎ (other ≡ key)
-      held_by true other known known_other same is = inr (is_key other known known_other ((same_entries entry (entry_in after other)).0 same))
-      held_by false other known known_other same is =
-          inl (back other (sym (updates (entry_in after other)
-          ∙ ap (λ (c : Bool). cond c true (list_any (same_entry (entry_in after other)) before.entries)) same) ∙ is))
+      put_stays other is = found_after other ∙ by (same_entry entry (entry_in after other)) (found now other) is
+        where
+          by : (b c : Bool) → c ≡ true → cond b true c ≡ true
+          by true c is = refl
+          by false c is = is
 
       pub put_held : IsKnown key.know → (other : Key) → IsKnown other.know → Holds after other → Holds now other ⊎ (other ≡ key)
-      put_held known other known_other is = held_by _ other known known_other refl is
+      put_held known other known_other is = by (same_entry entry (entry_in after other)) refl (sym (found_after other) ∙ is)
+        where
+          by : (b : Bool) → same_entry entry (entry_in after other) ≡ b → cond b true (found now other) ≡ true → Holds now other ⊎ (other ≡ key)
+          by true same is = inr (is_key other known known_other ((same_entries entry (entry_in after other)).0 same))
+          by false same is = inl is
 
 -- what a refusal means without a condition, it means with it
 pub refused_too : {T E : Type 0} {P Q : Type 0} (result : Result T E) → (P → Q) → OnErr result P → OnErr result Q

@@ -11,7 +11,6 @@ use Rattle.crib_cards.specs.Letters.{IsLetter, letter_place}
 use Rattle.crib_cards.specs.declared.sides.Dealt.{Dealt}
 use Rattle.crib_cards.specs.declared.sides.Side.TheVariants.{Owner}
 use Rattle.crib_cards.specs.declared.letters.Letter.{Letter}
-use Rattle.crib_cards.specs.declared.letters.Letter.TheVariants.{Go}
 use Rattle.crib_cards.specs.declared.moves.Move.{Move}
 use Rattle.crib_cards.specs.declared.moves.Move.TheVariants as move
 use Rattle.crib_play.specs.declared.turns.Turn.{Turn}
@@ -45,7 +44,7 @@ use Rattle.crib_check.specs.declared.keys.Key.{Key}
 use Rattle.crib_check.specs.Failing.{IsFailingEnding, IsFailing, is_suited}
 use Rattle.crib_check.specs.Private.Histories.{place_by, IsStatedEvent, Extends, history_of_game}
 use Rattle.crib_check.specs.Private.Positions.{StandsAt, HoldsFrom, IsSettled, IsFirstFrom, MayTakeAt, IsStuckAt, AllReach}
-use Rattle.crib_check.proofs.LettersBelow.{IsSettledBelow}
+use Rattle.crib_check.specs.Private.Found.{IsSettledBelow}
 use Rattle.crib_check.proofs.ExtendedGames.{extends_less, next_turn, failing_agrees}
 use Rattle.crib_check.proofs.FailureEndings.{open_is_none, reached_is_none, failing_at}
 use Rattle.crib_check.proofs.GameOrder.{later_letter, same_history}

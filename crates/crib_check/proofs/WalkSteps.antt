@@ -1,15 +1,15 @@
 -- What a walk may do for a turn, and what it has done after one.
-use Rattle.std.proofs.Common.{◌≡◌, List, ◌∷◌, Option, sym, subst}
+use Rattle.std.proofs.Common.{◌≡◌, List, ◌∷◌, None, sym, subst}
+use Rattle.crib_cards.specs.declared.letters.Letter.{Letter}
 use Rattle.crib_play.specs.History.{Event}
 use Rattle.crib_problem.specs.Setup.{Setup}
 use Rattle.crib_plan.specs.declared.plan.Node.{Node}
-use Rattle.crib_check.specs.declared.failure.Failure.{Failure}
 use Rattle.crib_check.specs.declared.keys.Key.{Key}
 use Rattle.crib_check.specs.declared.trails.Event.{Event as TrailEvent}
 use Rattle.crib_check.specs.declared.walk.Walk.{Walk}
 use Rattle.crib_check.specs.Private.Histories.{history_of_trail}
 use Rattle.crib_check.specs.Private.Positions.{StandsAt}
-use Rattle.crib_check.specs.Private.Walks.{IsWalkOf, MayWalk, HasWalkedOf, HasWalked, history_at}
+use Rattle.crib_check.specs.Private.Walks.{IsWalkOf, MayWalk, HasShownOf, HasShown, HasWalkedOf, HasWalked, history_at}
 
 -- where an event leads from a copy of a position, it leads from the position
 pub leads_from : (plan : List Node) (key copy next : Key) (event : Event) → copy ≡ key →
@@ -25,13 +25,20 @@ module _ {A T : Type 0} (holds : T → Key → Type 0) (problem : Setup) (plan :
   same : ◌≡◌ {A = Setup × List Node × List TrailEvent} (problem, plan, trail) (walk.problem.now, walk.plan.now, walk.trail.items)
   same = λ i. ((sym kept.same_problem) i, (sym kept.same_plan) i, (sym back) i)
 
-  -- it may go on with an event
-  pub may_take : (key : Key) (event : Event) → StandsAt problem plan key (event ∷ history_of_trail problem trail) →
+  -- it may go on with an event, if it has found no failure
+  pub may_take : (key : Key) (event : Event) → walk.failure ≡ None → StandsAt problem plan key (event ∷ history_of_trail problem trail) →
       MayWalk holds walk key (event ∷ history_at walk)
-  may_take key event here =
+  may_take key event none here =
       let F : (Setup × List Node × List TrailEvent) → Type 0 = λ x. IsWalkOf holds x.0 x.1 walk × StandsAt x.0 x.1 key (event ∷ history_of_trail x.0 x.2) in
       let both = subst F same (kept, here) in
-      record { kept = both.0; here = both.1 }
+      record { kept = both.0; none = none; here = both.1 }
+
+  -- it may go on where it is
+  pub may_stay : (key : Key) → walk.failure ≡ None → StandsAt problem plan key (history_of_trail problem trail) → MayWalk holds walk key (history_at walk)
+  may_stay key none here =
+      let F : (Setup × List Node × List TrailEvent) → Type 0 = λ x. IsWalkOf holds x.0 x.1 walk × StandsAt x.0 x.1 key (history_of_trail x.0 x.2) in
+      let both = subst F same (kept, here) in
+      record { kept = both.0; none = none; here = both.1 }
 
   -- a position to which an event leads under the plan of the walk
   pub leads_to : (key next : Key) (event : Event) →
@@ -42,15 +49,17 @@ module _ {A T : Type 0} (holds : T → Key → Type 0) (problem : Setup) (plan :
       subst F kept.same_plan (leads problem)
 
   -- what it has done after the event
-  pub has_taken : (key : Key) (event : Event) (after : Walk A T) (result : Option Failure) →
-      HasWalked holds walk key (event ∷ history_at walk) after result →
-      HasWalkedOf holds problem plan trail key (event ∷ history_of_trail problem trail) after result
-  has_taken key event after result walked =
+  pub has_taken : (key : Key) (event : Event) (after : Walk A T) → HasWalked holds walk key (event ∷ history_at walk) after →
+      HasWalkedOf holds problem plan trail key (event ∷ history_of_trail problem trail) after
+  has_taken key event after walked =
       let F : (Setup × List Node × List TrailEvent) → Type 0 = λ x.
-      HasWalkedOf holds x.0 x.1 x.2 key (event ∷ history_of_trail x.0 x.2) after result in
+      HasWalkedOf holds x.0 x.1 x.2 key (event ∷ history_of_trail x.0 x.2) after in
       subst F (sym same) walked
 
--- the same of an equal walk
-pub kept_same : {A T : Type 0} (holds : T → Key → Type 0) (problem : Setup) (plan : List Node) (walk new : Walk A T) → walk ≡ new →
-    IsWalkOf holds problem plan new → IsWalkOf holds problem plan walk
-kept_same {A} {T} holds problem plan walk new e kept = let F : Walk A T → Type 0 = λ w. IsWalkOf holds problem plan w in subst F (sym e) kept
+  -- what it has done after a letter
+  pub has_shown : (key : Key) (letter : Letter) (after : Walk A T) → HasShown holds walk key letter (history_at walk) after →
+      HasShownOf holds problem plan trail key letter (history_of_trail problem trail) after
+  has_shown key letter after shown =
+      let F : (Setup × List Node × List TrailEvent) → Type 0 = λ x.
+      HasShownOf holds x.0 x.1 x.2 key letter (history_of_trail x.0 x.2) after in
+      subst F (sym same) shown

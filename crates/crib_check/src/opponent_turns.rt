@@ -1,5 +1,6 @@
 //! A table that keeps the positions in which the opponent is to move.
-ghost use Rattle.std.specs.Prelude.{◌≡◌, ◌⊎◌, ◌↔◌, IsTrue, OnErr};
+ghost use Rattle.std.specs.Prelude.{◌≡◌, ◌⊎◌, ◌↔◌, IsTrue, OnOk, OnErr};
+ghost use Rattle.crib_play.specs.declared.turns.Turn.TheVariants as turns;
 ghost use Rattle.crib_know.specs.Hidden.{IsKnown};
 ghost use Rattle.crib_check.specs.declared.keys.Key.{Key};
 
@@ -30,15 +31,28 @@ impl<A: Allocator + Copy> OpponentTurns<A> {
 }
 
 impl<A: Allocator + Copy> Settled for OpponentTurns<A> {
-    ghost holds = { λ table key. ⟦<KeySet<A> as Settled>⟧.holds table.kept key };
+    ghost holds = { λ table key. (key.know.round.asked ≡ turns.Opponent)
+        × ⟦<KeySet<A> as Settled>⟧.holds table.kept key };
 
-    /// Whether the key is held. The table holds none in which the owner is to move.
-    fn has(&self, key: &Key) -> bool {
+    /// Whether the key is held. The table holds only keys in which the opponent is to move.
+    fn has(&self, key: &Key) -> bool
+        ensures { IsTrue result ↔ ⟦<OpponentTurns<A> as Settled>⟧.holds self.now key.now }
+    {
         key.know.turn() == Turn::Opponent && self.kept.has(key)
     }
 
     /// Puts a key in which the opponent is to move, and drops another one. A put that fails changes nothing.
-    fn put(&mut self, key: Key) -> Result<(), NoMemory> {
+    fn put(&mut self, key: Key) -> Result<(), NoMemory>
+        ensures held { IsKnown key.know → (other : Key) → IsKnown other.know
+            → ⟦<OpponentTurns<A> as Settled>⟧.holds self.new other
+            → ⟦<OpponentTurns<A> as Settled>⟧.holds self.old other ⊎ (other ≡ key) }
+        ensures refused { OnErr result ((other : Key) → ⟦<OpponentTurns<A> as Settled>⟧.holds self.new other
+            ↔ ⟦<OpponentTurns<A> as Settled>⟧.holds self.old other) }
+        ensures stays { (other : Key) → ⟦<OpponentTurns<A> as Settled>⟧.holds self.old other
+            → ⟦<OpponentTurns<A> as Settled>⟧.holds self.new other }
+        ensures kept { OnOk result (key.know.round.asked ≡ turns.Opponent
+            → ⟦<OpponentTurns<A> as Settled>⟧.holds self.new key) }
+    {
         if key.know.turn() == Turn::Opponent {
             self.kept.put(key)
         } else {

@@ -8,7 +8,7 @@ use Rattle.crib_play.proofs.RecordBounds.{at_most_29}
 use Rattle.crib_problem.specs.Setup.{Setup, IsSetup, start_of, hands_of}
 use Rattle.crib_problem.proofs.HonestTurns.{moves_are, moves_back}
 use Rattle.crib_problem.proofs.StartLemmas.{hands_dealt}
-use Rattle.crib_problem.proofs.TurnLemmas.{AllMoves}
+use Rattle.crib_problem.proofs.Setups.{AllMoves}
 use Rattle.crib_game.specs.declared.section.game.Game.{Game}
 use Rattle.crib_game.specs.Replay.{IsRecordOf, acts_back}
 use Rattle.crib_game.specs.Spelling.{AreSixCards, IsGame}

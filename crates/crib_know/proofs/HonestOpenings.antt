@@ -23,7 +23,7 @@ use Rattle.crib_problem.proofs.StartLemmas.{started, hands_dealt}
 use Rattle.crib_problem.proofs.AskedHolds.{none_of_one, none_of_either}
 use Rattle.crib_problem.proofs.HonestTurns.{moves_back, moves_are}
 use Rattle.crib_problem.proofs.OpeningLawProofs.{honest_proved}
-use Rattle.crib_problem.proofs.TurnLemmas.{AllMoves}
+use Rattle.crib_problem.proofs.Setups.{AllMoves, with_opening}
 use Rattle.crib_know.specs.Knowledge.{played_events}
 use Rattle.crib_know.specs.Laws.{AllowedLaw}
 use Rattle.crib_know.proofs.OpeningLawProofs.{played_dealt, played_agrees}
@@ -89,19 +89,8 @@ honest_is_allowed problem bare can dealt is =
     let long = at_most_29 (start_of problem) (hands_of problem dealt) is.played (hands_dealt unplayed bare dealt is.deal) is.legal in
     let fewer = acts_fewer pone is.played in
     let shown = ap length is.shows in
-    record {
-      held = bare.held;
-      two_thrown = bare.two_thrown;
-      cards = bare.cards;
-      distinct = bare.distinct;
-      owner_score = bare.owner_score;
-      opponent_score = bare.opponent_score;
-      goal_in_range = bare.goal_in_range;
-      of_version = can;
-      few = omega (arith, long, fewer, shown, length-reverse problem.played);
-      moves = subst AllMoves (reverse-reverse problem.played) (moves_back acts moves);
-      allowed = honest_proved unplayed dealt acts bare there;
-    }
+    with_opening unplayed problem.played bare can (omega (arith, long, fewer, shown, length-reverse problem.played))
+    (subst AllMoves (reverse-reverse problem.played) (moves_back acts moves)) (honest_proved unplayed dealt acts bare there)
 
 pub allowed_proved : AllowedLaw
 allowed_proved problem bare can = (allowed_is_honest problem, λ some. honest_is_allowed problem bare can some.0 some.1)

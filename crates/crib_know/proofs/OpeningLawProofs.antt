@@ -43,7 +43,7 @@ use Rattle.crib_know.proofs.FixedCards.{Allowed, allowed_parts, AreShown, are_sh
 use Rattle.crib_know.proofs.FirstDeals.{Needs, Fixes, first_dealt, first_is_deal, hold_passes}
 use Rattle.crib_know.proofs.KnowledgeFacts.{ranks_played, begun_fixes, needs_history, shows}
 use Rattle.crib_know.proofs.RecordTurns.{agreeing_led}
-use Rattle.crib_problem.proofs.SpelledIsRead.{says_goal}
+use Rattle.crib_problem.proofs.Setups.{without_opening}
 use Rattle.crib_problem.proofs.AskedHolds.{none_of_one}
 use Rattle.crib_cards.proofs.SetCounts.{count_cons}
 use Rattle.crib_cards.proofs.Members.{rank_is}
@@ -59,21 +59,6 @@ led_end problem [] history led = led
 led_end problem (event ∷ later) history led = led_end problem later history led.0
 
 -- ---- a problem without its opening
-pub setup_at_first_lead : (problem : Setup) → IsSetup problem → IsSetup (at_first_lead problem)
-setup_at_first_lead problem setup = record {
-  held = setup.held;
-  two_thrown = setup.two_thrown;
-  cards = setup.cards;
-  distinct = setup.distinct;
-  owner_score = setup.owner_score;
-  opponent_score = setup.opponent_score;
-  goal_in_range = setup.goal_in_range;
-  of_version = says_goal problem.version problem.goal problem.played setup.of_version;
-  few = omega arith;
-  moves = tt;
-  allowed = tt;
-}
-
 pub begun_at_first_lead : (problem : Setup) (history : List Event) → BeginsAfter (at_first_lead problem) history
 begun_at_first_lead problem history = record { later = history; parts = sym (append-nil history) }
 
@@ -110,7 +95,7 @@ module _ (problem : Setup) (setup : IsSetup problem) where
   bare = at_first_lead problem
 
   abbrev bare_is : IsSetup bare
-  bare_is = setup_at_first_lead problem setup
+  bare_is = without_opening problem setup
 
   abbrev AllMoves : List Act → Type 0
   AllMoves acts = AllByRecursion (λ (act : Act). IsMove act.what) acts

@@ -26,6 +26,7 @@ use Rattle.crib_play.proofs.RecordsReached.{asked_mover}
 use Rattle.crib_problem.specs.Setup.{Setup, IsSetup, IsMove, start_of, opening_basis_of, hands_of, played_back, fixed_cards, IsDealOf}
 use Rattle.crib_problem.specs.Played.{OpeningBasis, cards_played, cards_by, seen_by, asked_by, shows_seen, AreAllowed}
 use Rattle.crib_problem.proofs.StartLemmas.{started}
+use Rattle.crib_problem.proofs.Setups.{without_opening}
 use Rattle.crib_know.specs.Knowledge.{played_events, count_after}
 use Rattle.crib_know.specs.Private.Knowledge.{at_first_lead}
 use Rattle.crib_know.specs.Hidden.{AgreesWith, BeginsAfter}
@@ -38,7 +39,7 @@ use Rattle.crib_know.proofs.AgreeingIsPassing.{MightPlay, own_is, theirs_is}
 use Rattle.crib_know.proofs.PassingIsAgreeing.{MightCome, PassesAfter, may_might, next_play, passes_less, turn_of, fits_same, agrees_passes}
 use Rattle.crib_know.proofs.FixedCards.{allowed_parts, shown_card, back_moves}
 use Rattle.crib_know.proofs.RecordTurns.{agreeing_led}
-use Rattle.crib_know.proofs.OpeningLawProofs.{setup_at_first_lead, allowed_led, asked_side, asked_other}
+use Rattle.crib_know.proofs.OpeningLawProofs.{allowed_led, asked_side, asked_other}
 use Rattle.crib_cards.proofs.Members.{all_has}
 
 -- ---- lists of cards
@@ -86,7 +87,7 @@ module _ (problem : Setup) (setup : IsSetup problem) (dealt : Dealt) (deal : IsD
   bare = at_first_lead problem
 
   abbrev bare_is : IsSetup bare
-  bare_is = setup_at_first_lead problem setup
+  bare_is = without_opening problem setup
 
   bare_deal : IsDealOf bare dealt
   bare_deal = record { deal = deal.deal; fixed = refl }

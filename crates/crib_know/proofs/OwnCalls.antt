@@ -20,7 +20,7 @@ use Rattle.crib_know.specs.Hidden.{CanShow, CanShowAt, CanDoAt, CanComeAt, Knows
 use Rattle.crib_know.proofs.LedHistories.{MayCome, IsLed}
 use Rattle.crib_play.proofs.TurnFacts.{filter_all}
 use Rattle.crib_know.specs.Private.Choice.{chosen_cards}
-use Rattle.crib_know.proofs.OpeningLawProofs.{setup_at_first_lead, begun_at_first_lead, played_dealt, played_agrees, may_at}
+use Rattle.crib_know.proofs.OpeningLawProofs.{begun_at_first_lead, played_dealt, played_agrees, may_at}
 use Rattle.crib_know.proofs.RankCounting.{counts_none}
 use Rattle.crib_know.proofs.FirstDeals.{Needs, Fixes, first_hold, first_dealt, hold_four, hold_set, hold_within}
 use Rattle.crib_know.proofs.FirstDeals.{two_others}
@@ -31,6 +31,7 @@ use Rattle.crib_know.proofs.CallLemmas.{led_of, own_may}
 use Rattle.crib_know.proofs.CallLemmas.{unseen_same, play_shows}
 use Rattle.crib_know.proofs.CallLemmas.{play_facts, go_shows, go_facts}
 use Rattle.crib_problem.proofs.HonestTurns.{reverse_more}
+use Rattle.crib_problem.proofs.Setups.{without_opening}
 
 -- ---- two names of one knowledge
 pub moved : (know now : Knowledge) (problem : Setup) (history : List Event) → know ≡ now → KnowsAfter now problem history → KnowsAfter know problem history
@@ -61,9 +62,9 @@ start_knows problem setup dealer scores target next same_dealer same_scores same
     let start : Start = record { dealer = dealer; scores = scores; target = target } in
     let same : start ≡ start_of problem = (λ i. record { dealer = same_dealer i; scores = same_scores i; target = same_target i }) in
     record {
-      setup = setup_at_first_lead problem setup;
+      setup = without_opening problem setup;
       begun = begun_at_first_lead problem [];
-      possible = led_possible (at_first_lead problem) (setup_at_first_lead problem setup) [] tt (begun_at_first_lead problem []);
+      possible = led_possible (at_first_lead problem) (without_opening problem setup) [] tt (begun_at_first_lead problem []);
       knowledge = λ i. record {
         round = (stands.shows ∙ ap (λ (s : Start). standing_after s (filled_record s [])) same) i;
         own_left = (own ∙ ap set_of (sym (filter_all problem.hold))) i;

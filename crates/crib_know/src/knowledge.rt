@@ -6,14 +6,13 @@ use crib_play::Round;
 
 /// What the owner sees: the round, the owner's cards left, the unseen cards and the fixed cards.
 ///
-/// Only the round is hashed, because in one problem few of these values have the same round.
+/// Only the round and the owner's cards left are hashed, because the others are the same throughout a problem.
 #[derive(PartialEq, Eq, Drop, Debug)]
 #[derive_where(Hash)]
 pub struct Sight {
     /// What lies on the table, and the player to move.
     pub round: Round,
     /// The owner's cards that have not been played.
-    #[derive_where(skip(Hash))]
     pub own_left: CardSet,
     /// The cards that the owner does not see at the first lead.
     #[derive_where(skip(Hash))]

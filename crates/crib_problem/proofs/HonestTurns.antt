@@ -39,7 +39,7 @@ use Rattle.crib_problem.specs.Played.{move_refusal, turn_refusal, is_over_by, ac
 use Rattle.crib_problem.specs.declared.problem.Version.{Version}
 use Rattle.crib_problem.specs.declared.problem.Version.TheVariants.{Two}
 use Rattle.crib_problem.specs.Setup.{Setup, IsSetup, IsMove, CanSay, known_cards, unseen_of, start_of, opening_basis_of, hands_of}
-use Rattle.crib_problem.proofs.TurnLemmas.{AllMoves}
+use Rattle.crib_problem.proofs.Setups.{AllMoves, with_opening}
 use Rattle.crib_problem.proofs.StartLemmas.{started, hold_is_card, theirs_unseen, hands_dealt}
 
 -- ---- the acts of a record play the cards of the record
@@ -266,16 +266,5 @@ module _ (problem : Setup) (setup : IsSetup problem) (dealt : Dealt) (deal : IsD
       let A : List Act → Type 0 = λ listed. AreAllowed basis listed in
       let S : Version → Type 0 = λ version. CanSay version problem.goal (reverse acts) in
       let long = at_most_29 start hands played real legal in
-      record {
-        held = setup.held;
-        two_thrown = setup.two_thrown;
-        cards = setup.cards;
-        distinct = setup.distinct;
-        owner_score = setup.owner_score;
-        opponent_score = setup.opponent_score;
-        goal_in_range = setup.goal_in_range;
-        of_version = subst S (sym two) tt;
-        few = omega (arith, long, acts_fewer pone played, length-reverse acts);
-        moves = moves_back acts (moves_are played legal);
-        allowed = subst A (sym (reverse-reverse acts)) (honest played legal going);
-      }
+      with_opening problem (reverse acts) setup (subst S (sym two) tt) (omega (arith, long, acts_fewer pone played, length-reverse acts))
+      (moves_back acts (moves_are played legal)) (subst A (sym (reverse-reverse acts)) (honest played legal going))

@@ -21,11 +21,12 @@ use Rattle.crib_problem.specs.Reading.{seven_lines_at, allowed_in, allowed_at, t
 use Rattle.crib_problem.specs.Laws.{SpellingLaw, PrefixLaw, LinesLaw, ReadAgainLaw}
 use Rattle.crib_problem.specs.CutLaws.{LinesCutLaw, TextCutLaw}
 use Rattle.crib_problem.proofs.CardLemmas.{all_parts, all-append}
-use Rattle.crib_problem.proofs.TurnLemmas.{AllMoves, acts_words, turns_found, turns_spelled}
+use Rattle.crib_problem.proofs.Setups.{AllMoves, says_goal, with_opening, without_opening}
+use Rattle.crib_problem.proofs.TurnLemmas.{acts_words, turns_found, turns_spelled}
 use Rattle.crib_problem.proofs.ActForms.{act_form, count_form}
 use Rattle.crib_problem.proofs.LinesReadAreSpelled.{AreNew, other_way, seven_distinct}
 use Rattle.crib_problem.proofs.SpelledIsRead.{version_form, dealer_form, scores_form, starter_form, cards_form, goal_form}
-use Rattle.crib_problem.proofs.SpelledIsRead.{says_goal, unplayed, apart}
+use Rattle.crib_problem.proofs.SpelledIsRead.{unplayed, apart}
 use Rattle.crib_cards.proofs.Members.{distinct_parts, distinct_left, distinct_right, distinct_apart}
 
 -- the lines that each version has
@@ -205,40 +206,15 @@ agrees Two seven p none is = ap unplayed is.made ∙ ap (λ (acts : List Act). r
 
 setup_of : (version : Version) (p : Setup) → p.version ≡ version → IsSetup (unplayed p) → Continues version (unplayed p) p → IsSetup p
 setup_of One p e is same = subst IsSetup (sym same) is
-setup_of Two p e is turns = record {
-  held = is.held;
-  two_thrown = is.two_thrown;
-  cards = is.cards;
-  distinct = is.distinct;
-  owner_score = is.owner_score;
-  opponent_score = is.opponent_score;
-  goal_in_range = is.goal_in_range;
-  of_version = (let C : Version → Type 0 = λ version. CanSay version p.goal p.played in subst C (sym e) tt);
-  few = turns.few;
-  moves = turns.moves;
-  allowed = turns.allowed;
-}
+setup_of Two p e is turns =
+    let C : Version → Type 0 = λ version. CanSay version p.goal p.played in
+    with_opening (unplayed p) p.played is (subst C (sym e) tt) turns.few turns.moves turns.allowed
 
 continues : (version : Version) (p : Setup) → p.version ≡ version → IsSetup p → Continues version (unplayed p) p
 continues One p e is =
     let C : Version → Type 0 = λ version. CanSay version p.goal p.played in
     ap (λ (acts : List Act). record p { played = acts }) (subst C e is.of_version).1
 continues Two p e is = record { few = is.few; moves = is.moves; allowed = is.allowed; made = refl }
-
-without_opening : (p : Setup) → IsSetup p → IsSetup (unplayed p)
-without_opening p is = record {
-  held = is.held;
-  two_thrown = is.two_thrown;
-  cards = is.cards;
-  distinct = is.distinct;
-  owner_score = is.owner_score;
-  opponent_score = is.opponent_score;
-  goal_in_range = is.goal_in_range;
-  of_version = says_goal p.version p.goal p.played is.of_version;
-  few = omega arith;
-  moves = tt;
-  allowed = tt;
-}
 
 -- 95 bytes for seven lines, and 234 for the line `played N` and at most 32 lines of acts
 pub problem_form : IsForm problem_at problem_lines IsSetup (λ p. 329)

@@ -94,6 +94,9 @@ owner_at_121 is = let high = is.owner_score in absurd (omega (arith, high))
 pub opponent_at_121 : IsSetup (record midway { scores = record { owner = 0; opponent = 121 }; goal = Win }) → ⊥
 opponent_at_121 is = let high = is.opponent_score in absurd (omega (arith, high))
 
+pub goal_of_no_holes : IsSetup (record midway { goal = Holes 0 }) → ⊥
+goal_of_no_holes is = let some = is.goal_in_range.0 in absurd (omega (arith, some))
+
 pub three_held : IsSetup (record midway { hold = 4 ∷ 5 ∷ 6 ∷ [] }) → ⊥
 three_held is = let four = is.held in absurd (omega (arith, four))
 

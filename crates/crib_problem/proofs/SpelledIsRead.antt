@@ -20,7 +20,6 @@ use Rattle.crib_problem.specs.declared.problem.Goal.{Goal}
 use Rattle.crib_problem.specs.declared.problem.Goal.TheVariants.{Win, Holes, Stop}
 use Rattle.crib_problem.specs.declared.problem.Version.{Version}
 use Rattle.crib_problem.specs.declared.problem.Version.TheVariants.{One, Two}
-use Rattle.crib_cards.specs.declared.moves.Act.{Act}
 use Rattle.crib_problem.specs.Setup.{Setup, IsGoal, CanSay}
 use Rattle.crib_cards.specs.Words.{side_word}
 use Rattle.crib_problem.specs.Spelling.{goal_words, version_number, version_word}
@@ -116,10 +115,6 @@ unfolding goal_in win_in target_in plain_goal holes_goal
 goal_spelled version score Win says is = rw (after_spelled (codes "goal") 1 (codes "win" ∷ []) refl, only_spelled (codes "win")) refl
 goal_spelled version score Stop says is = rw (after_spelled (codes "goal") 1 (codes "stop" ∷ []) refl, only_spelled (codes "stop")) (stop_spelled version says)
 goal_spelled version score (Holes holes) says is = rw (after_spelled (codes "goal") 2 (codes "holes" ∷ decimal holes ∷ []) refl) (holes_spelled score holes is)
-
-pub says_goal : (version : Version) (goal : Goal) (played : List Act) → CanSay version goal played → CanSay version goal []
-says_goal One goal played says = (says.0, refl)
-says_goal Two goal played says = tt
 
 -- ---- the seven lines
 

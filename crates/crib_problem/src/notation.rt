@@ -1,17 +1,19 @@
 //! Cards and acts as text: the words and lines that the sections of problems and games share.
-ghost use Rattle.std.specs.Prelude.{◌≡◌, ◌+◌, ◌*◌, ◌≤◌, ◌++◌, ◌∷◌, length, vec_len, vec_capacity, map, IfOk};
+ghost use Rattle.std.specs.Prelude.{◌≡◌, ◌+◌, ◌*◌, ◌≤◌, ◌++◌, ◌∷◌, [], length, map, decimal, IfOk};
+ghost use Rattle.std.specs.Prelude.{vec_len, vec_capacity};
 ghost use Rattle.std.specs.List.{flat_map};
 ghost use Rattle.crib_cards.specs.CardText.{card_text};
 ghost use Rattle.crib_text.specs.Lines.{line_of};
 ghost use Rattle.crib_text.specs.Refusals.{cause_number};
 ghost use Rattle.crib_text.specs.Reading.{Gives};
 ghost use Rattle.crib_text.specs.Spelling.{line_text};
+ghost use Rattle.crib_text.specs.Private.Writing.{Appended};
 ghost use Rattle.crib_problem.specs.Reading.{act_in, actor_in, acts_count_in, card_in, most_acts, move_in};
-ghost use Rattle.crib_problem.specs.Spelling.{act_line, actor_word};
+ghost use Rattle.crib_problem.specs.Spelling.{act_line, actor_word, acts_lines};
 ghost use Rattle.crib_problem.specs.Private.Spelling.{move_end, spaced_card};
 
 use crib_cards::{Act, Card, Move, Side, card_text, read_card};
-use crib_text::{Line, TextCause, append, check_keyword, number_of, word_at};
+use crib_text::{Line, TextCause, append, append_number, check_keyword, number_of, word_at};
 use std::alloc::Allocator;
 
 // The greatest number of acts in a section.
@@ -79,11 +81,36 @@ pub fn act_of(line: &Line<'_>) -> Result<Act, TextCause>
     Ok(Act { side, what })
 }
 
-/// Appends the lines of acts. The text must have room for seven bytes for each act.
-pub fn append_acts<A: Allocator>(text: &mut Vec<u8, A>, acts: &[Act])
+/// Appends the line of a keyword and the number of acts, and then a line for each act. The text must have room for the
+/// keyword, for four bytes more, and for seven bytes for each act.
+pub fn append_acts<A: Allocator>(text: &mut Vec<u8, A>, keyword: &[u8], acts: &[Act])
+    requires few { length acts.now ≤ most_acts }
+    requires fits { vec_len text.old + length keyword.now + 4 + 7 * length acts.now ≤ vec_capacity text.old }
+    ensures items { text.new.items ≡ text.old.items ++ flat_map line_text (acts_lines keyword.now acts.now) }
+    ensures len { vec_len text.new ≤ vec_len text.old + length keyword.now + 4 + 7 * length acts.now }
+{
+    put_count(text, keyword, acts.len() as u32);
+    put_acts(text, acts);
+}
+
+#[tactic(auto, using(crib_text::proofs::RoomLemmas::short))]
+fn put_count<A: Allocator>(text: &mut Vec<u8, A>, keyword: &[u8], count: u32)
+    requires few { count ≤ most_acts }
+    requires fits { vec_len text.old + length keyword.now + 4 ≤ vec_capacity text.old }
+    ensures items { text.new.items ≡ text.old.items ++ line_text (keyword.now ∷ decimal count ∷ []) }
+    ensures room { vec_capacity text.old ≤ vec_capacity text.new }
+    ensures len { vec_len text.new ≤ vec_len text.old + length keyword.now + 4 }
+{
+    append(text, keyword);
+    append(text, b" ");
+    append_number(text, count);
+    append(text, b"\n");
+}
+
+// Appends a line for each act.
+fn put_acts<A: Allocator>(text: &mut Vec<u8, A>, acts: &[Act])
     requires { vec_len text.old + 7 * length acts.now ≤ vec_capacity text.old }
-    ensures items { text.new.items ≡ text.old.items ++ flat_map line_text (map act_line acts.now) }
-    ensures len { vec_len text.new ≤ vec_len text.old + 7 * length acts.now }
+    ensures { Appended text.old text.new (flat_map line_text (map act_line acts.now)) (7 * length acts.now) }
 {
     for act in acts {
         put_actor(text, act.side);
@@ -93,9 +120,7 @@ pub fn append_acts<A: Allocator>(text: &mut Vec<u8, A>, acts: &[Act])
 
 fn put_actor<A: Allocator>(text: &mut Vec<u8, A>, side: Side)
     requires { vec_len text.old + 3 ≤ vec_capacity text.old }
-    ensures items { text.new.items ≡ text.old.items ++ actor_word side }
-    ensures room { vec_capacity text.old ≤ vec_capacity text.new }
-    ensures len { vec_len text.new ≡ vec_len text.old + 3 }
+    ensures { Appended text.old text.new (actor_word side) 3 }
 {
     match side {
         Side::Owner => append(text, b"own"),
@@ -106,9 +131,7 @@ fn put_actor<A: Allocator>(text: &mut Vec<u8, A>, side: Side)
 // Appends a space, the word of the move, and LF.
 fn put_move<A: Allocator>(text: &mut Vec<u8, A>, what: Move)
     requires { vec_len text.old + 4 ≤ vec_capacity text.old }
-    ensures items { text.new.items ≡ text.old.items ++ move_end what }
-    ensures room { vec_capacity text.old ≤ vec_capacity text.new }
-    ensures len { vec_len text.new ≡ vec_len text.old + 4 }
+    ensures { Appended text.old text.new (move_end what) 4 }
 {
     match what {
         Move::Card(card) => {

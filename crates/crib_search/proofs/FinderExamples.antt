@@ -18,9 +18,10 @@ use Rattle.crib_know.specs.Hidden.{CanShow}
 use Rattle.crib_problem.specs.declared.problem.Goal.TheVariants.{Holes}
 use Rattle.crib_problem.proofs.ExampleProblems.{level, level_deal}
 use Rattle.crib_check.proofs.SureExamples.{at_29}
+use Rattle.crib_check.specs.Shows.{IsReachedBehind, full_behind}
 use Rattle.crib_search.specs.Trees.{Tree, Finish, Plays, Sees, branches_of, joined_tree, same_tree, plan_of_tree}
-use Rattle.crib_search.specs.Finder.{Found, Tries, OwnerFinds, LacksBranch, BranchFinds, FindsFor, FindsTree, Finds, IsFound, IsReachedBehind}
-use Rattle.crib_search.specs.Finder.{ExceedsLimit, full_behind, options, letters}
+use Rattle.crib_search.specs.Finder.{Found, Tries, OwnerFinds, LacksBranch, BranchFinds, FindsFor, FindsTree, Finds, IsFound}
+use Rattle.crib_search.specs.Finder.{ExceedsLimit, options, letters}
 use Rattle.crib_search.specs.declared.finder.Found.TheVariants as found
 use Rattle.crib_search.specs.declared.finder.SearchFault.TheVariants.{TooLarge, NoMemory}
 use Rattle.crib_search.specs.Answer.{plan_found, search_fault_number}

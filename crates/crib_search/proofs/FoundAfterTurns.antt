@@ -19,13 +19,14 @@ use Rattle.crib_know.specs.Knowledge.{Knowledge, own_cards, asked_now}
 use Rattle.crib_know.specs.Hidden.{CanShow, IsKnown, KnowsAfter}
 use Rattle.crib_know.proofs.OwnCalls.{moved}
 use Rattle.crib_know.proofs.RecordTurns.{possible_led}
+use Rattle.crib_check.specs.Shows.{IsReachedBehind}
 use Rattle.crib_search.specs.declared.nodes.DraftPlace.{DraftPlace}
 use Rattle.crib_search.specs.declared.nodes.DraftPlace.TheVariants.{End, At}
 use Rattle.crib_search.specs.declared.nodes.DraftNode.{DraftNode}
 use Rattle.crib_search.specs.declared.nodes.DraftNode.TheVariants.{Play}
 use Rattle.crib_search.specs.Trees.{Tree, Finish, Plays, joined_tree}
 use Rattle.crib_search.specs.Private.Nodes.{IsEarlier, IsMore, Names, NamesFound}
-use Rattle.crib_search.specs.Finder.{Found, IsReachedBehind, FindsFor, OwnerFinds, Tries, BranchFinds, Finds, letters, options}
+use Rattle.crib_search.specs.Finder.{Found, FindsFor, OwnerFinds, Tries, BranchFinds, Finds, letters, options}
 use Rattle.crib_search.specs.Private.Ahead.{turns_ahead}
 use Rattle.crib_search.specs.Private.Search.{AreAnswers, Drafts, IsHere, IsAnswer, IsBranch, IsLater, IsTried, Steps}
 use Rattle.crib_know.specs.contracts.know.KnowPartialEq.TheImpl as knows_compared

@@ -45,8 +45,7 @@ use Rattle.crib_search.proofs.PlacesOfTrees.{Stands, Does, joined_does}
 use Rattle.crib_search.proofs.Trees.{some_same}
 use Rattle.crib_know.proofs.PassingIsAgreeing.{theirs_asked}
 use Rattle.crib_search.proofs.FoundBySide.{finds_of_tree, for_asked, tries_some, branch_found, opponent_some}
-use Rattle.crib_cards.proofs.Members.{has_here}
-use Rattle.crib_show.proofs.Jacks.{any_found}
+use Rattle.crib_cards.proofs.Members.{has_here, any_found}
 
 module _ (problem : Setup) (setup : IsSetup problem) (plan : List Node) where
   -- after a history, the place of the plan will do for the tree that is found

@@ -1,8 +1,10 @@
 -- The kept nodes, and the trees that they stand for.
 use Rattle.std.proofs.Common.{◌≡◌, ◌⊎◌, ℕ, zero, suc, Bool, true, false, cond, List, [], ◌∷◌, ◌++◌, length, Some, slice_get, refl, sym, ap, subst, ◌∙◌, inl}
-use Rattle.std.proofs.Common.{inr, arith}
-use Rattle.std.specs.List.{AllByRecursion, IsDistinct}
+use Rattle.std.proofs.Common.{inr, get_or, arith}
+use Rattle.std.specs.List.{AllByRecursion, IsDistinct, position}
 use Rattle.std.proofs.lemmas.Bool.{both_ways}
+use Rattle.std.proofs.lemmas.List.Quantifiers.{position-Some}
+use Rattle.std.proofs.lemmas.Option.{slice_get-get_or}
 use Rattle.crib_search.specs.declared.nodes.DraftPlace.{DraftPlace}
 use Rattle.crib_search.specs.declared.nodes.DraftPlace.TheVariants.{At}
 use Rattle.crib_search.specs.declared.nodes.DraftNode.{DraftNode}
@@ -179,3 +181,10 @@ mutual
 pub stored_is : (draft_nodes : List DraftNode) (place : ℕ) (draft_node : DraftNode) → (there : DraftNode) × (slice_get draft_nodes place ≡ Some there) ×
     (compared.ghosts.eq draft_node there ≡ true) → slice_get draft_nodes place ≡ Some draft_node
 stored_is draft_nodes place draft_node stored = stored.1 ∙ ap (λ (s : DraftNode). Some s) (sym ((same_draft_nodes draft_node stored.0).0 stored.2))
+
+-- so is the one that is found by a search for it
+pub found_is : (draft_nodes : List DraftNode) (place : ℕ) (draft_node : DraftNode) →
+    position (compared.ghosts.eq draft_node) draft_nodes ≡ Some place → slice_get draft_nodes place ≡ Some draft_node
+found_is draft_nodes place draft_node at =
+    let found = position-Some (compared.ghosts.eq draft_node) draft_nodes place draft_node at in
+    stored_is draft_nodes place draft_node (get_or draft_nodes place draft_node, slice_get-get_or draft_nodes place draft_node found.0, found.1)

@@ -1,16 +1,17 @@
 -- The plans after each lead of a worked problem. The opening is 2C, own 6C, 4C, own JH, and a go of each side at 22, so the opponent has 2C, 4C and two
 -- ten-cards. The owner has KC and QH left, and plays one of them on the lead.
-use Rattle.std.proofs.Common.{arith, ◌≡◌, refl, sym, ap, ◌∙◌, subst, inl, inr, ℕ, Bool, true, false, eqb, not, ◌&&◌, ◌||◌, Option, Some, None}
+use Rattle.std.proofs.Common.{arith, ◌≡◌, refl, ap, ◌∙◌, subst, inl, inr, ℕ, Bool, true, false, eqb, not, ◌&&◌, ◌||◌, Option, Some, None}
 use Rattle.std.proofs.Common.{List, [], ◌∷◌, ◌++◌, length, filter}
 use Rattle.std.specs.Prelude.{if◌then◌else◌}
 use Rattle.std.specs.List.{list_all, list_any}
-use Rattle.std.proofs.lemmas.Bool.{both_ways, cases_Bool, eqb-true, and_parts, or_cases, or_left, or_right}
+use Rattle.std.proofs.lemmas.Bool.{both_ways, cases_Bool, eqb-true, and_parts, or_cases}
 use Rattle.crib_cards.specs.Sets.{has, set_where}
 use Rattle.crib_cards.specs.declared.sides.Dealt.{Dealt}
 use Rattle.crib_cards.specs.declared.sides.Side.TheVariants.{Owner, Opponent}
 use Rattle.crib_cards.specs.declared.moves.Move.{Move}
 use Rattle.crib_cards.specs.declared.moves.Move.TheVariants.{Card, Go}
 use Rattle.crib_cards.specs.declared.moves.Act.{Act}
+use Rattle.crib_cards.proofs.Members.{all_has}
 use Rattle.crib_play.specs.Legal.{cards_of, cards_left, fits}
 use Rattle.crib_show.specs.Outcome.{outcome_of}
 use Rattle.crib_show.specs.Show.{hand_points}
@@ -68,30 +69,6 @@ abbrev pub plan_after : ℕ → List Node
 plan_after lead = Play (first_after lead) (To 1) ∷ Play (second_after lead) End ∷ []
 
 -- ---- lists
-pub all_pass : (p : ℕ → Bool) (cards : List ℕ) (card : ℕ) → list_all p cards ≡ true → has cards card ≡ true → p card ≡ true
-all_pass p [] card all h = absurd (both_ways false refl h)
-all_pass p (first ∷ cards) card all h =
-    let parts = and_parts (p first) (list_all p cards) all in
-    elim (or_cases (eqb first card) (has cards card) h) [
-      | inl here ↦ ap p (sym (eqb-true first card here)) ∙ parts.0
-      | inr there ↦ all_pass p cards card parts.1 there
-    ]
-
-pub any_passes : (p : ℕ → Bool) (cards : List ℕ) (card : ℕ) → has cards card ≡ true → p card ≡ true → list_any p cards ≡ true
-any_passes p [] card h pass = absurd (both_ways false refl h)
-any_passes p (first ∷ cards) card h pass =
-    elim (or_cases (eqb first card) (has cards card) h) [
-      | inl here ↦ or_left (p first) (list_any p cards) (ap p (eqb-true first card here) ∙ pass)
-      | inr there ↦ or_right (p first) (list_any p cards) (any_passes p cards card there pass)
-    ]
-
-pub none_passes : (p : ℕ → Bool) (cards : List ℕ) (card : ℕ) → list_any p cards ≡ false → has cards card ≡ true → p card ≡ false
-none_passes p cards card none h =
-    elim (cases_Bool (p card)) [
-      | inl pass ↦ absurd (both_ways (list_any p cards) none (any_passes p cards card h pass))
-      | inr fails ↦ fails
-    ]
-
 pub all_before : (p : ℕ → Bool) (cards more : List ℕ) → list_all p (cards ++ more) ≡ true → list_all p cards ≡ true
 all_before p [] more all = refl
 all_before p (first ∷ cards) more all =
@@ -116,7 +93,7 @@ one_card (card ∷ []) e = (card, refl)
 one_card (card ∷ other ∷ cards) e = absurd (omega (arith, e))
 
 each_lead : (test : ℕ → Bool) → list_all test leads ≡ true → (lead : ℕ) → has leads lead ≡ true → test lead ≡ true
-each_lead test all lead is = all_pass test leads lead all is
+each_lead test all lead is = all_has test leads lead all is
 
 -- the ten-cards that the opponent may hold beside the lead
 abbrev pub tens : ℕ → List ℕ
@@ -124,7 +101,7 @@ tens lead = filter (λ card. not (eqb lead card)) leads
 
 each_last : (test : ℕ → ℕ → Bool) → list_all (λ lead. list_all (test lead) (tens lead)) leads ≡ true → (lead last : ℕ) → has leads lead ≡ true →
     has (tens lead) last ≡ true → test lead last ≡ true
-each_last test all lead last is ten = all_pass (test lead) (tens lead) last (each_lead (λ lead. list_all (test lead) (tens lead)) all lead is) ten
+each_last test all lead last is ten = all_has (test lead) (tens lead) last (each_lead (λ lead. list_all (test lead) (tens lead)) all lead is) ten
 
 -- ---- what is left of the opening after some acts, or none if they differ from it
 abbrev pub left_with : Act → Option (List Act) → Option (List Act)

@@ -4,6 +4,7 @@ use Rattle.std.proofs.Common.{List, [], ◌∷◌, ◌++◌}
 use Rattle.std.specs.Prelude.{IsTrue, IsFalse}
 use Rattle.std.specs.List.{list_any}
 use Rattle.std.proofs.lemmas.Bool.{both_ways, eqb-true, eq-eqb, and_parts, not-true, or_cases, or_left, or_right}
+use Rattle.std.proofs.lemmas.Option.{same_Some}
 use Rattle.crib_cards.specs.Sets.{has, are_distinct}
 use Rattle.crib_cards.specs.declared.sides.Dealt.{Dealt}
 use Rattle.crib_cards.specs.declared.sides.Side.TheVariants.{Owner, Opponent}
@@ -11,9 +12,11 @@ use Rattle.crib_cards.specs.declared.moves.Move.{Move}
 use Rattle.crib_cards.specs.declared.moves.Move.TheVariants.{Card, Go}
 use Rattle.crib_cards.specs.declared.moves.Act.{Act}
 use Rattle.crib_cards.specs.Letters.{letter_of}
+use Rattle.crib_cards.proofs.Members.{all_has, any_from}
 use Rattle.crib_play.specs.Legal.{MayCome, IsLegal, cards_of, cards_left, fits, letters_of}
 use Rattle.crib_play.specs.History.{act_by, acts_of}
 use Rattle.crib_play.specs.Filled.{is_visible}
+use Rattle.crib_play.proofs.CardLemmas.{none_passes}
 use Rattle.crib_show.specs.Outcome.{outcome_of}
 use Rattle.crib_show.specs.declared.outcomes.Outcome.{Outcome}
 use Rattle.crib_show.specs.declared.outcomes.Outcome.TheVariants.{Reached, Lost, Short}
@@ -27,8 +30,8 @@ use Rattle.crib_know.proofs.CardsLeft.{has-filter_parts, has-filter_from}
 use Rattle.crib_game.specs.Replay.{is_done_for, full_of}
 use Rattle.crib_game.specs.Following.{IsAsStated, Follows, is_stuck, place_of}
 use Rattle.crib_check.specs.Sure.{IsSure, IsFollowed}
-use Rattle.crib_search.proofs.LeadExamples.{opp, own, before_the_lead, after_lead, leads, first_after, second_after, plan_after, all_pass}
-use Rattle.crib_search.proofs.LeadExamples.{any_passes, none_passes, all_before, brought_front, one_card, tens, left_with, left_after, IsLeft}
+use Rattle.crib_search.proofs.LeadExamples.{opp, own, before_the_lead, after_lead, leads, first_after, second_after, plan_after}
+use Rattle.crib_search.proofs.LeadExamples.{all_before, brought_front, one_card, tens, left_with, left_after, IsLeft}
 use Rattle.crib_search.proofs.LeadExamples.{is_over, left_visible, the_card, six_turns, four_turns, to_lead, to_first, to_last, to_close}
 use Rattle.crib_search.proofs.LeadExamples.{Course, free, can_play, is_second, is_reached, with_last, begins, are_fixed, not_4, not_12, only_tens}
 use Rattle.crib_search.proofs.LeadExamples.{still_left, must_play, all_shown, free_at_lead, free_at_first, on_at_lead, on_at_first, is_left}
@@ -56,8 +59,8 @@ the_other false b e h = h
 held : (lead : ℕ) → has leads lead ≡ true → (dealt : Dealt) → IsDealOf (after_lead lead) dealt → Held lead dealt
 held lead is dealt deal =
     let hold = dealt.hold in
-    let fixed : (card : ℕ) → has (4 ∷ 12 ∷ lead ∷ []) card ≡ true → has hold card ≡ true = λ card h. all_pass (has hold) (fixed_cards (after_lead lead)) card
-    deal.fixed (all_pass (has (fixed_cards (after_lead lead))) (4 ∷ 12 ∷ lead ∷ []) card (are_fixed lead is) h) in
+    let fixed : (card : ℕ) → has (4 ∷ 12 ∷ lead ∷ []) card ≡ true → has hold card ≡ true = λ card h. all_has (has hold) (fixed_cards (after_lead lead)) card
+    deal.fixed (all_has (has (fixed_cards (after_lead lead))) (4 ∷ 12 ∷ lead ∷ []) card (are_fixed lead is) h) in
     let lead_here = or_right (eqb 4 lead) (has (12 ∷ lead ∷ []) lead)
     (or_right (eqb 12 lead) (has (lead ∷ []) lead) (or_left (eqb lead lead) false (eq-eqb lead lead refl))) in
     let one = brought_front hold 4 (fixed 4 refl) in
@@ -91,7 +94,7 @@ held lead is dealt deal =
           last = last;
           order = order;
           other = fewer (eqb 4 last) (eqb 12 last) (eqb lead last) (has dealt.throw last) apart.0;
-          unseen = all_pass (has (unseen_of before_the_lead)) dealt.hold last
+          unseen = all_has (has (unseen_of before_the_lead)) dealt.hold last
               (all_before (has (unseen_of before_the_lead)) dealt.hold dealt.throw deal.deal.hidden_before) here;
         }
 
@@ -104,13 +107,6 @@ reached_is : (outcome : Outcome) → is_reached outcome ≡ true → outcome ≡
 reached_is Reached h = refl
 reached_is Lost h = absurd (both_ways false refl h)
 reached_is Short h = absurd (both_ways false refl h)
-
-stated : (number card : ℕ) → Some number ≡ Some card → number ≡ card
-stated number card e = ap number_in e
-  where
-    number_in : Option ℕ → ℕ
-    number_in (Some card) = card
-    number_in None = 99
 
 not_both : (b : Bool) → not b ≡ true → b ≡ true → ⊥
 not_both true e h = both_ways false refl e
@@ -141,13 +137,13 @@ module _ (lead : ℕ) (is : has leads lead ≡ true) (dealt : Dealt) (deal : IsD
   has_ten : IsFalse (list_any (fits four_turns) (cards_left (hands_of problem dealt) Opponent four_turns)) → has (tens lead) last ≡ true
   has_ten none =
       let is_left = the_other (has (4 ∷ 12 ∷ lead ∷ []) last) (not (has (cards_of four_turns) last)) hidden.other
-      (all_pass (λ card. has (4 ∷ 12 ∷ lead ∷ []) card || not (has (cards_of four_turns) card)) (unseen_of before_the_lead) last
+      (all_has (λ card. has (4 ∷ 12 ∷ lead ∷ []) card || not (has (cards_of four_turns) card)) (unseen_of before_the_lead) last
       (still_left lead is) hidden.unseen) in
       let left = has-filter_from (λ card. not (has (cards_of four_turns) card)) dealt.hold last in_hold is_left in
       let stops = none_passes (fits four_turns) (cards_left (hands_of problem dealt) Opponent four_turns) last none left in
       the_other (has (4 ∷ 12 ∷ lead ∷ []) last) (has (tens lead) last) hidden.other
       (the_other (fits four_turns last) (has (4 ∷ 12 ∷ lead ∷ []) last || has (tens lead) last) stops
-      (all_pass (λ card. fits four_turns card || (has (4 ∷ 12 ∷ lead ∷ []) card || has (tens lead) card)) (unseen_of before_the_lead) last
+      (all_has (λ card. fits four_turns card || (has (4 ∷ 12 ∷ lead ∷ []) card || has (tens lead) card)) (unseen_of before_the_lead) last
       (only_tens lead is) hidden.unseen))
 
   -- the card that the opponent shows after the lead
@@ -157,14 +153,14 @@ module _ (lead : ℕ) (is : has leads lead ≡ true) (dealt : Dealt) (deal : IsD
       elim (or_cases (eqb last card) (has (4 ∷ 12 ∷ lead ∷ []) card) (one_of_four card parts.0)) [
         | inl same ↦ eqb-true last card same
         | inr shown ↦ absurd (not_both (has (cards_of (to_first lead)) card) parts.1
-            (all_pass (has (cards_of (to_first lead))) (4 ∷ 12 ∷ lead ∷ []) card (all_shown lead is) shown))
+            (all_has (has (cards_of (to_first lead))) (4 ∷ 12 ∷ lead ∷ []) card (all_shown lead is) shown))
       ]
 
   no_card_left : has (tens lead) last ≡ true → (card : ℕ) → has (cards_left (hands_of problem dealt) Opponent (Go ∷ to_last lead last)) card ≡ true → ⊥
   no_card_left ten card h =
       let parts = has-filter_parts (λ other. not (has (cards_of (Go ∷ to_last lead last)) other)) dealt.hold card h in
       not_both (has (cards_of (Go ∷ to_last lead last)) card) parts.1
-      (all_pass (has (cards_of (Go ∷ to_last lead last))) (last ∷ 4 ∷ 12 ∷ lead ∷ []) card (four_shown lead last is ten) (one_of_four card parts.0))
+      (all_has (has (cards_of (Go ∷ to_last lead last))) (last ∷ 4 ∷ 12 ∷ lead ∷ []) card (four_shown lead last is ten) (one_of_four card parts.0))
 
   may_not_go : has (tens lead) last ≡ true →
       IsFalse (list_any (fits (to_first lead)) (cards_left (hands_of problem dealt) Opponent (to_first lead))) → ⊥
@@ -172,7 +168,7 @@ module _ (lead : ℕ) (is : has leads lead ≡ true) (dealt : Dealt) (deal : IsD
       let past = to_first lead in
       let left = has-filter_from (λ card. not (has (cards_of past) card)) dealt.hold last in_hold (is_left lead last is ten) in
       both_ways (list_any (fits past) (cards_left (hands_of problem dealt) Opponent past)) none
-      (any_passes (fits past) (cards_left (hands_of problem dealt) Opponent past) last left (last_fits lead last is ten))
+      (any_from (fits past) (cards_left (hands_of problem dealt) Opponent past) last left (last_fits lead last is ten))
 
   abbrev Courses : List Move → Type 0
   Courses played = Course lead last played
@@ -200,21 +196,21 @@ module _ (lead : ℕ) (is : has leads lead ≡ true) (dealt : Dealt) (deal : IsD
       subst (λ (card : ℕ). Courses (Card card ∷ six_turns)) (the_card lead card [] on) (the_lead ten)
   further Go past (own_go ten) come follows on = absurd on
   further (Card card) past (the_lead ten) come follows on =
-      subst (λ (card : ℕ). Courses (Card card ∷ to_lead lead)) (stated (first_after lead) card (follows.1 refl)) (the_first ten)
+      subst (λ (card : ℕ). Courses (Card card ∷ to_lead lead)) (same_Some (first_after lead) card (follows.1 refl)) (the_first ten)
   further Go past (the_lead ten) come follows on = absurd (both_ways (can_play past) come.may_take (must_play lead is))
   further (Card card) past (the_first ten) come follows on =
       subst (λ (card : ℕ). Courses (Card card ∷ to_first lead)) (the_card_left card come.may_take.0) (the_last ten)
   further Go past (the_first ten) come follows on = absurd (may_not_go ten come.may_take)
   further (Card card) past (the_last ten) come follows on =
       absurd (both_ways (can_play past) (not-true (can_play past) (own_stops lead last is ten))
-      (any_passes (fits past) (cards_left (hands_of problem dealt) Owner past) card come.may_take.0 come.may_take.1))
+      (any_from (fits past) (cards_left (hands_of problem dealt) Owner past) card come.may_take.0 come.may_take.1))
   further Go past (the_last ten) come follows on = at_30 ten
   further (Card card) past (at_30 ten) come follows on = absurd (no_card_left ten card come.may_take.0)
   further Go past (at_30 ten) come follows on = the_close ten
   further (Card card) past (the_close ten) come follows on =
       let place = second_place (place_of plan problem.played Opponent past) (placed lead last is ten) in
       let states = subst (λ (at : Next). IsAsStated plan at Owner (Card card)) place (follows.1 (late lead last is ten)) in
-      subst (λ (card : ℕ). Courses (Card card ∷ to_close lead last)) (stated (second_after lead) card states) (the_end ten)
+      subst (λ (card : ℕ). Courses (Card card ∷ to_close lead last)) (same_Some (second_after lead) card states) (the_end ten)
   further Go past (the_close ten) come follows on = absurd (both_ways (can_play past) come.may_take (own_plays lead last is ten))
   further turn past (the_end ten) come follows on = absurd (both_ways (is_done_for problem past) come.not_done (done_at_end lead last is ten))
 

@@ -20,9 +20,10 @@ use Rattle.crib_play.proofs.SoundLemmas.{sound_heard}
 use Rattle.crib_play.proofs.RecordsReached.{stands_played, stands_passed, reached}
 use Rattle.crib_problem.specs.Setup.{Setup, IsSetup, start_of}
 use Rattle.crib_problem.proofs.StartLemmas.{started}
+use Rattle.crib_problem.proofs.Setups.{without_opening}
 use Rattle.crib_know.specs.Knowledge.{knowledge_after, asked_now}
 use Rattle.crib_know.specs.Private.Knowledge.{at_first_lead}
-use Rattle.crib_know.proofs.OpeningLawProofs.{setup_at_first_lead, begun_at_first_lead}
+use Rattle.crib_know.proofs.OpeningLawProofs.{begun_at_first_lead}
 use Rattle.crib_know.proofs.LedHistories.{IsLed}
 use Rattle.crib_know.proofs.PassingIsAgreeing.{can_might}
 use Rattle.crib_know.proofs.KnowledgeFacts.{are_taken, high_own_go}
@@ -130,7 +131,7 @@ led_bare problem (Theirs letter ∷ history) led = (led_bare problem history led
 
 taken_bare : (problem : Setup) → IsSetup problem → (history : List Event) → IsLed problem history → AreTaken (start_of problem) (history_letters history)
 taken_bare problem setup history led =
-    are_taken (at_first_lead problem) (setup_at_first_lead problem setup) history (led_bare problem history led) (begun_at_first_lead problem history)
+    are_taken (at_first_lead problem) (without_opening problem setup) history (led_bare problem history led) (begun_at_first_lead problem history)
 
 -- ---- after a history
 module _ (problem : Setup) (setup : IsSetup problem) (history : List Event) (led : IsLed problem history) where
@@ -159,7 +160,7 @@ pub turn_falls : (problem : Setup) → IsSetup problem → (event : Event) (hist
     turns_ahead (knowledge_after problem (event ∷ history)) < turns_ahead (knowledge_after problem history)
 turn_falls problem setup (Own (move.Card card)) history led = less_after problem setup history led.0 Owner (Seen (rank_of card)) led.1.0 led.1.2
 turn_falls problem setup (Own move.Go) history led =
-    less_after problem setup history led.0 Owner Go led.1.0 (high_own_go (at_first_lead problem) (setup_at_first_lead problem setup) history
+    less_after problem setup history led.0 Owner Go led.1.0 (high_own_go (at_first_lead problem) (without_opening problem setup) history
     (led_bare problem history led.0) (begun_at_first_lead problem history) led.1)
 turn_falls problem setup (Theirs (Seen rank)) history led =
     let might = can_might problem setup history (Seen rank) led.1 in less_after problem setup history led.0 Opponent (Seen rank) might.asked might.fits

@@ -12,6 +12,7 @@ use Rattle.crib_play.specs.History.{Event, Own, Theirs}
 use Rattle.crib_show.specs.Outcome.{outcome_of}
 use Rattle.crib_show.specs.Show.{hand_points, crib_points}
 use Rattle.crib_problem.specs.Setup.{IsSetup, IsDealOf, start_of, hands_of, unseen_of}
+use Rattle.crib_problem.proofs.Setups.{setup_from}
 use Rattle.crib_plan.specs.declared.plan.Next.TheVariants.{End, To}
 use Rattle.crib_plan.specs.declared.plan.Node.TheVariants.{Play}
 use Rattle.crib_know.specs.Knowledge.{played_events}
@@ -24,19 +25,9 @@ use Rattle.crib_search.proofs.LeadPlans.{plan_is_sure}
 -- ---- before the lead no plan is sure
 before_the_lead_is_a_setup : IsSetup before_the_lead
 unfolding set_where
-before_the_lead_is_a_setup = record {
-  held = refl;
-  two_thrown = refl;
-  cards = (omega arith, (omega arith, (omega arith, (omega arith, (omega arith, (omega arith, (omega arith, tt)))))));
-  distinct = refl;
-  owner_score = omega arith;
-  opponent_score = omega arith;
-  goal_in_range = tt;
-  of_version = tt;
-  few = omega arith;
-  moves = (omega arith, (omega arith, (omega arith, (omega arith, (tt, (tt, tt))))));
-  allowed = ((((((tt, refl), refl), refl), refl), refl), refl);
-}
+before_the_lead_is_a_setup =
+    setup_from before_the_lead refl tt tt (omega arith) (omega arith, (omega arith, (omega arith, (omega arith, (tt, (tt, tt))))))
+    ((((((tt, refl), refl), refl), refl), refl), refl)
 
 -- a flush in clubs, and the jack of the starter's suit with a queen
 abbrev flush : Dealt

@@ -1,4 +1,5 @@
 mod GameShowExamples
+mod HeadingExamples
 pub mod ChosenCombinations
 pub mod CombinationPoints
 pub mod DifferentCombinations

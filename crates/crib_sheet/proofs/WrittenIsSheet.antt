@@ -27,8 +27,9 @@ use Rattle.crib_sheet.specs.GameText.{accepted_text, beginning, lines_if_accepte
 use Rattle.crib_sheet.specs.GameText.{act_line, act_text, columns_line, combination_line, combination_lines, counted_cards, counted_combinations}
 use Rattle.crib_sheet.specs.GameText.{counted_name, counted_points, counted_text, counted_word, dealt_line}
 use Rattle.crib_sheet.specs.GameText.{ending_words, kind_word, kept_words, outcome_text, over_text}
-use Rattle.crib_sheet.specs.GameText.{points_text, points_words, reason_text, reason_word, rows_text, score_text, sheet_of}
-use Rattle.crib_sheet.specs.Heading.{role_word, spaced_cards, own_score, other_score, scores_line, own_line, goal_words, goal_line, opening_line, heading_text}
+use Rattle.crib_sheet.specs.GameText.{points_text, reason_text, reason_word, rows_text, score_text, sheet_of}
+use Rattle.crib_sheet.specs.Heading.{role_word, spaced_cards, how_many, own_score, other_score, scores_line, own_line, goal_words, goal_line, opening_line}
+use Rattle.crib_sheet.specs.Heading.{heading_text}
 
 -- ---- the heading
 
@@ -128,11 +129,11 @@ name_written old problem cards row =
     (card_text problem.starter)
 
 pub counted_points_written : (old : List ℕ) (row : ShowRow)
-    → ((((((old ++ codes ", ") ++ points_words row.points) ++ codes " (you ") ++ decimal row.scores.owner) ++ codes ", they ") ++ decimal row.scores.opponent)
-    ++ codes ")\n" ≡ old ++ counted_points row
+    → ((((((old ++ codes ", ") ++ how_many row.points (codes "point")) ++ codes " (you ") ++ decimal row.scores.owner) ++ codes ", they ")
+    ++ decimal row.scores.opponent) ++ codes ")\n" ≡ old ++ counted_points row
 unfolding counted_points
 counted_points_written old row =
-    regroup_seven old (codes ", ") (points_words row.points) (codes " (you ") (decimal row.scores.owner) (codes ", they ")
+    regroup_seven old (codes ", ") (how_many row.points (codes "point")) (codes " (you ") (decimal row.scores.owner) (codes ", they ")
     (decimal row.scores.opponent) (codes ")\n")
 
 pub combination_written : (old : List ℕ) (made : Combination)

@@ -30,7 +30,7 @@ use Rattle.crib_sheet.specs.declared.game.reason.PlayReason.{PlayReason}
 use Rattle.crib_sheet.specs.declared.game.reason.PlayReason.TheVariants.{Fifteen, ThirtyOne, Alike, Run, Go, LastCard}
 use Rattle.crib_sheet.specs.GamePlay.{reason_points, game_reasons}
 use Rattle.crib_sheet.specs.GameShow.{points_of, hand_combinations, crib_combinations}
-use Rattle.crib_sheet.specs.Heading.{role_word, spaced_cards, heading_text}
+use Rattle.crib_sheet.specs.Heading.{role_word, spaced_cards, how_many, heading_text}
 
 -- ---- reasons
 
@@ -135,10 +135,6 @@ combination_lines (made ∷ others) = flat_map combination_line (made ∷ others
 abbrev pub counted_word : Bool → List ℕ
 counted_word crib = if crib then codes "crib" else codes "hand"
 
--- some points in words
-abbrev pub points_words : ℕ → List ℕ
-points_words points = if points == 1 then codes "1 point" else decimal points ++ codes " points"
-
 -- the cards of a hand or of the crib
 abbrev pub counted_cards : Setup → Dealt → ShowRow → List ℕ
 counted_cards problem dealt row =
@@ -159,7 +155,7 @@ counted_name problem cards row =
 -- the points of a counted hand or of the crib, and both scores after it
 unfoldable pub counted_points : ShowRow → List ℕ
 counted_points row =
-    codes ", " ++ points_words row.points ++ codes " (you " ++ decimal row.scores.owner ++ codes ", they "
+    codes ", " ++ how_many row.points (codes "point") ++ codes " (you " ++ decimal row.scores.owner ++ codes ", they "
     ++ decimal row.scores.opponent ++ codes ")\n"
 
 -- the lines of a counted hand or of the crib, after an empty line

@@ -41,14 +41,14 @@ unfoldable pub own_line : Setup → List ℕ
 own_line problem =
     codes "You hold" ++ spaced_cards problem.hold ++ codes " and threw" ++ spaced_cards problem.thrown ++ codes ".\n"
 
--- some holes in words
-abbrev pub holes_words : ℕ → List ℕ
-holes_words holes = if holes == 1 then codes "1 hole" else decimal holes ++ codes " holes"
+-- how many of something there are, in words: `1 hole` or `2 holes`
+abbrev pub how_many : ℕ → List ℕ → List ℕ
+how_many number word = decimal number ++ codes " " ++ word ++ (if number == 1 then [] else codes "s")
 
 -- what the owner wants of a deal of this dealer
 abbrev pub goal_words : Side → Goal → List ℕ
 goal_words dealer Win = codes "to win"
-goal_words dealer (Holes holes) = holes_words holes ++ codes " or more in this deal"
+goal_words dealer (Holes holes) = how_many holes (codes "hole") ++ codes " or more in this deal"
 goal_words dealer Stop = codes "to keep the " ++ role_word dealer Opponent ++ codes " from winning in this deal"
 
 -- the line of the goal

@@ -1,11 +1,12 @@
 //! The heading of a sheet: the problem in words. Each call appends to a text that already has room for it.
-ghost use Rattle.std.specs.Prelude.{◌≡◌, ◌+◌, ◌*◌, ◌≤◌, ◌++◌, length, vec_len, vec_capacity};
+ghost use Rattle.std.specs.Prelude.{◌≡◌, ◌+◌, ◌*◌, ◌≤◌, length, vec_len, vec_capacity};
+ghost use Rattle.crib_text.specs.Private.Writing.{Appended};
 ghost use Rattle.crib_sheet.specs.Heading.{goal_line, goal_words, heading_text, opening_line, own_line, role_word};
-ghost use Rattle.crib_sheet.specs.Heading.{holes_words, other_score, own_score, scores_line, spaced_cards};
+ghost use Rattle.crib_sheet.specs.Heading.{how_many, other_score, own_score, scores_line, spaced_cards};
 
 use crib_cards::{Card, Side, card_text};
 use crib_problem::{Goal, Problem};
-use crib_text::{append, append_number};
+use crib_text::{append, append_number, append_small};
 use std::alloc::Allocator;
 
 /// Appends the heading: both scores at the first lead and the starter, the owner's cards, the goal, and the number of
@@ -13,9 +14,7 @@ use std::alloc::Allocator;
 #[tactic(auto, using(crate::proofs::WrittenIsSheet::headings), unfolding(crate::specs::Heading::heading_text))]
 pub(crate) fn put_heading<A: Allocator>(text: &mut Vec<u8, A>, problem: &Problem)
     requires { vec_len text.old + 239 ≤ vec_capacity text.old }
-    ensures items { text.new.items ≡ text.old.items ++ heading_text problem.now }
-    ensures room { vec_capacity text.old ≤ vec_capacity text.new }
-    ensures len { vec_len text.new ≤ vec_len text.old + 239 }
+    ensures { Appended text.old text.new (heading_text problem.now) 239 }
 {
     put_scores(text, problem);
     put_own(text, problem);
@@ -34,9 +33,7 @@ pub(crate) fn role_of(dealer: Side, side: Side) -> &'static [u8]
 /// Appends cards, each after a space.
 pub(crate) fn put_cards<A: Allocator>(text: &mut Vec<u8, A>, cards: &[Card])
     requires { vec_len text.old + 3 * length cards.now ≤ vec_capacity text.old }
-    ensures items { text.new.items ≡ text.old.items ++ spaced_cards cards.now }
-    ensures room { vec_capacity text.old ≤ vec_capacity text.new }
-    ensures len { vec_len text.new ≡ vec_len text.old + 3 * length cards.now }
+    ensures { Appended text.old text.new (spaced_cards cards.now) (3 * length cards.now) }
 {
     for card in cards {
         append(text, b" ");
@@ -48,9 +45,7 @@ pub(crate) fn put_cards<A: Allocator>(text: &mut Vec<u8, A>, cards: &[Card])
 #[tactic(auto, using(crate::proofs::WrittenIsSheet::headings))]
 fn put_scores<A: Allocator>(text: &mut Vec<u8, A>, problem: &Problem)
     requires { vec_len text.old + 72 ≤ vec_capacity text.old }
-    ensures items { text.new.items ≡ text.old.items ++ scores_line problem.now }
-    ensures room { vec_capacity text.old ≤ vec_capacity text.new }
-    ensures len { vec_len text.new ≤ vec_len text.old + 72 }
+    ensures { Appended text.old text.new (scores_line problem.now) 72 }
 {
     put_own_score(text, problem.dealer(), problem.scores().owner);
     put_other_score(text, problem.dealer(), problem.scores().opponent);
@@ -60,40 +55,34 @@ fn put_scores<A: Allocator>(text: &mut Vec<u8, A>, problem: &Problem)
 }
 
 // Appends the owner's part in a deal of this dealer, and score.
-#[tactic(auto, using(crate::proofs::WrittenIsSheet::headings, crib_text::proofs::RoomLemmas::short))]
+#[tactic(auto, using(crate::proofs::WrittenIsSheet::headings))]
 fn put_own_score<A: Allocator>(text: &mut Vec<u8, A>, dealer: Side, score: u8)
     requires { vec_len text.old + 25 ≤ vec_capacity text.old }
-    ensures items { text.new.items ≡ text.old.items ++ own_score dealer score }
-    ensures room { vec_capacity text.old ≤ vec_capacity text.new }
-    ensures len { vec_len text.new ≤ vec_len text.old + 25 }
+    ensures { Appended text.old text.new (own_score dealer score) 25 }
 {
     append(text, b"You are the ");
     append(text, role_of(dealer, Side::Owner));
     append(text, b" at ");
-    append_number(text, u32::from(score));
+    append_small(text, score);
 }
 
 // Appends the opponent's part in a deal of this dealer, and score.
-#[tactic(auto, using(crate::proofs::WrittenIsSheet::headings, crib_text::proofs::RoomLemmas::short))]
+#[tactic(auto, using(crate::proofs::WrittenIsSheet::headings))]
 fn put_other_score<A: Allocator>(text: &mut Vec<u8, A>, dealer: Side, score: u8)
     requires { vec_len text.old + 26 ≤ vec_capacity text.old }
-    ensures items { text.new.items ≡ text.old.items ++ other_score dealer score }
-    ensures room { vec_capacity text.old ≤ vec_capacity text.new }
-    ensures len { vec_len text.new ≤ vec_len text.old + 26 }
+    ensures { Appended text.old text.new (other_score dealer score) 26 }
 {
     append(text, b", and the ");
     append(text, role_of(dealer, Side::Opponent));
     append(text, b" is at ");
-    append_number(text, u32::from(score));
+    append_small(text, score);
 }
 
 // Appends the line of the owner's cards.
 #[tactic(auto, using(crate::proofs::WrittenIsSheet::headings))]
 fn put_own<A: Allocator>(text: &mut Vec<u8, A>, problem: &Problem)
     requires { vec_len text.old + 38 ≤ vec_capacity text.old }
-    ensures items { text.new.items ≡ text.old.items ++ own_line problem.now }
-    ensures room { vec_capacity text.old ≤ vec_capacity text.new }
-    ensures len { vec_len text.new ≤ vec_len text.old + 38 }
+    ensures { Appended text.old text.new (own_line problem.now) 38 }
 {
     append(text, b"You hold");
     put_cards(text, &problem.hold());
@@ -106,9 +95,7 @@ fn put_own<A: Allocator>(text: &mut Vec<u8, A>, problem: &Problem)
 #[tactic(auto, using(crate::proofs::WrittenIsSheet::headings))]
 fn put_goal<A: Allocator>(text: &mut Vec<u8, A>, problem: &Problem)
     requires { vec_len text.old + 55 ≤ vec_capacity text.old }
-    ensures items { text.new.items ≡ text.old.items ++ goal_line problem.now }
-    ensures room { vec_capacity text.old ≤ vec_capacity text.new }
-    ensures len { vec_len text.new ≤ vec_len text.old + 55 }
+    ensures { Appended text.old text.new (goal_line problem.now) 55 }
 {
     append(text, b"You want ");
     put_goal_words(text, problem.dealer(), problem.goal());
@@ -119,14 +106,12 @@ fn put_goal<A: Allocator>(text: &mut Vec<u8, A>, problem: &Problem)
 #[tactic(auto, using(crate::proofs::WrittenIsSheet::headings))]
 fn put_goal_words<A: Allocator>(text: &mut Vec<u8, A>, dealer: Side, goal: Goal)
     requires { vec_len text.old + 44 ≤ vec_capacity text.old }
-    ensures items { text.new.items ≡ text.old.items ++ goal_words dealer goal }
-    ensures room { vec_capacity text.old ≤ vec_capacity text.new }
-    ensures len { vec_len text.new ≤ vec_len text.old + 44 }
+    ensures { Appended text.old text.new (goal_words dealer goal) 44 }
 {
     match goal {
         Goal::Win => append(text, b"to win"),
         Goal::Holes(holes) => {
-            put_holes(text, holes);
+            put_how_many(text, holes, b"hole");
             append(text, b" or more in this deal");
         }
         Goal::Stop => {
@@ -137,20 +122,17 @@ fn put_goal_words<A: Allocator>(text: &mut Vec<u8, A>, dealer: Side, goal: Goal)
     }
 }
 
-// Appends some holes in words.
-#[tactic(auto, using(crate::proofs::WrittenIsSheet::headings, crib_text::proofs::RoomLemmas::short))]
-fn put_holes<A: Allocator>(text: &mut Vec<u8, A>, holes: u8)
-    requires { vec_len text.old + 9 ≤ vec_capacity text.old }
-    ensures items { text.new.items ≡ text.old.items ++ holes_words holes }
-    ensures room { vec_capacity text.old ≤ vec_capacity text.new }
-    ensures len { vec_len text.new ≤ vec_len text.old + 9 }
+/// Appends how many of something there are, in words: `1 hole` or `2 holes`.
+pub(crate) fn put_how_many<A: Allocator>(text: &mut Vec<u8, A>, number: u8, word: &[u8])
+    requires { vec_len text.old + 5 + length word.now ≤ vec_capacity text.old }
+    ensures { Appended text.old text.new (how_many number word.now) (5 + length word.now) }
 {
-    if holes == 1 {
-        append(text, b"1 hole");
-        return;
+    append_small(text, number);
+    append(text, b" ");
+    append(text, word);
+    if number != 1 {
+        append(text, b"s");
     }
-    append_number(text, u32::from(holes));
-    append(text, b" holes");
 }
 
 // Appends the line of an opening with this many turns, if there is a turn.
@@ -158,9 +140,7 @@ fn put_holes<A: Allocator>(text: &mut Vec<u8, A>, holes: u8)
 fn put_opening<A: Allocator>(text: &mut Vec<u8, A>, turns: usize)
     requires few { turns ≤ 32 }
     requires fits { vec_len text.old + 74 ≤ vec_capacity text.old }
-    ensures items { text.new.items ≡ text.old.items ++ opening_line turns }
-    ensures room { vec_capacity text.old ≤ vec_capacity text.new }
-    ensures len { vec_len text.new ≤ vec_len text.old + 74 }
+    ensures { Appended text.old text.new (opening_line turns) 74 }
 {
     match turns {
         0 => (),

@@ -1,19 +1,17 @@
 -- The ranks that are read off the counts of the ranks, and the cards of one suit.
 use Rattle.std.proofs.Common.{◌≡◌, ℕ, zero, suc, ◌+◌, ◌-◌, ◌*◌, ◌/◌, ◌%◌, ◌<◌, ◌≤◌, true, cond, eqb, List, [], ◌∷◌, length, map, replicate, get_or, refl, sym}
 use Rattle.std.proofs.Common.{ap, ◌∙◌, inl, inr, arith, ne_eqb}
-use Rattle.std.specs.List.{list_all}
+use Rattle.std.specs.List.{list_all, AllByRecursion}
 use Rattle.std.proofs.lemmas.Bool.{cases_lt, and_parts, eq-eqb, eqb-true}
 use Rattle.std.proofs.lemmas.List.{get_or_past}
 use Rattle.std.proofs.lemmas.List.Folds.{sum_by-replicate}
-use Rattle.crib_cards.specs.Cards.{IsCard, card_of, rank_of, suit_of}
+use Rattle.crib_cards.specs.Cards.{card_of, rank_of, suit_of, IsRank}
 use Rattle.crib_cards.specs.Sets.{rank_counts}
 use Rattle.crib_cards.proofs.CountLemmas.{count_at-rank_counts}
-use Rattle.crib_show.specs.Private.Counts.{AreRanks}
 use Rattle.crib_show.specs.Private.Extremes.{ranks_from, cards_in_suit}
 use Rattle.crib_show.proofs.PairTrials.{rank_back}
 use Rattle.crib_show.proofs.RankLaw.{times, times-no_rank, reordered_from_times}
 use Rattle.crib_show.proofs.ReorderedLists.{Reordered, nothing, behind, front, both}
-use Rattle.crib_cards.proofs.Members.{has_here, has_there, AreCards}
 use Rattle.crib_cards.proofs.SetCounts.{count_append}
 
 -- ---- the ranks of counts
@@ -49,7 +47,7 @@ times_at low number (suc k) (count ∷ counts) is =
     omega (arith, here, rest, both)
 
 -- the ranks that are read off the counts of some ranks are these ranks
-pub ranks_counted : (xs : List ℕ) → AreRanks xs → Reordered (ranks_from 1 (rank_counts xs)) xs
+pub ranks_counted : (xs : List ℕ) → AllByRecursion IsRank xs → Reordered (ranks_from 1 (rank_counts xs)) xs
 ranks_counted xs are =
     reordered_from_times (ranks_from 1 (rank_counts xs)) xs (λ number. elim (cases_lt number 1) [
       | inl low ↦ times_below 1 number (rank_counts xs) low ∙ sym (times-no_rank xs number are (λ is. omega (arith, is.0)))
@@ -66,20 +64,15 @@ ranks_counted xs are =
     past_all : (counts : List ℕ) (number : ℕ) → 14 ≤ number → length counts ≡ 13 → length counts ≤ number - 1
     past_all counts number past long = omega (arith, long)
 
-pub AreRanks-reordered : (xs ys : List ℕ) → Reordered xs ys → AreRanks xs → AreRanks ys
-AreRanks-reordered xs ys nothing are = tt
-AreRanks-reordered xs ys (behind x us vs r) are = (are.0, AreRanks-reordered us vs r are.1)
-AreRanks-reordered xs ys (front x y us) are = (are.1.0, (are.0, are.1.1))
-AreRanks-reordered xs ys (both us vs ws r s) are = AreRanks-reordered vs ws s (AreRanks-reordered us vs r are)
-
-pub AreRanks-are_cards : (xs : List ℕ) → AreCards xs → AreRanks (map rank_of xs)
-AreRanks-are_cards [] are = tt
-AreRanks-are_cards (x ∷ xs) are = let is : IsCard x = are x (has_here x xs) in
-    ((omega arith, omega arith), AreRanks-are_cards xs (λ y h. are y (has_there x y xs h)))
+pub ranks_reordered : (xs ys : List ℕ) → Reordered xs ys → AllByRecursion IsRank xs → AllByRecursion IsRank ys
+ranks_reordered xs ys nothing are = tt
+ranks_reordered xs ys (behind x us vs r) are = (are.0, ranks_reordered us vs r are.1)
+ranks_reordered xs ys (front x y us) are = (are.1.0, (are.0, are.1.1))
+ranks_reordered xs ys (both us vs ws r s) are = ranks_reordered vs ws s (ranks_reordered us vs r are)
 
 -- ---- cards of one suit
 
-pub ranks-cards_in_suit : (suit : ℕ) (ranks : List ℕ) → suit < 4 → AreRanks ranks → map rank_of (cards_in_suit suit ranks) ≡ ranks
+pub ranks-cards_in_suit : (suit : ℕ) (ranks : List ℕ) → suit < 4 → AllByRecursion IsRank ranks → map rank_of (cards_in_suit suit ranks) ≡ ranks
 ranks-cards_in_suit suit [] small are = refl
 ranks-cards_in_suit suit (rank ∷ ranks) small are =
     let same : rank_of (card_of rank suit) ≡ rank = rank_back rank suit small are.0.0 in

@@ -1,7 +1,9 @@
--- The points of the fifteens and pairs of some cards count also where other cards are added.
-use Rattle.std.proofs.Common.{ℕ, ◌+◌, ◌*◌, ◌≤◌, cond, List, [], ◌∷◌, ◌++◌, map, sum_by, sym, subst, ◌≡◌, arith}
+-- The points of the fifteens and pairs of some cards, and of the jack among them, count also where other cards are added.
+use Rattle.std.proofs.Common.{ℕ, ◌+◌, ◌*◌, ◌≤◌, Bool, true, false, cond, eqb, ◌&&◌, ◌||◌, List, [], ◌∷◌, ◌++◌, map, sum_by, sym, subst, ◌≡◌, arith}
+use Rattle.std.specs.List.{list_any}
 use Rattle.std.proofs.lemmas.List.{map-append}
-use Rattle.crib_cards.specs.Cards.{rank_of}
+use Rattle.std.proofs.lemmas.List.Folds.{list_any-append}
+use Rattle.crib_cards.specs.Cards.{jack, rank_of, suit_of}
 use Rattle.crib_show.specs.Show.{choices, crib_flush, crib_points, fifteen_points, is_fifteen, is_pair, jack_points, pair_points, run_points}
 use Rattle.crib_show.proofs.Choices.{sum_by-choices}
 
@@ -19,7 +21,8 @@ more_choices f (x ∷ xs) ys =
     omega (arith, with_it, without, few, all)
 
 -- each crib has the points of the starter and the owner's throw
-pub known_in_crib : (starter : ℕ) (throw theirs : List ℕ) → fifteen_points (map rank_of (starter ∷ throw)) + pair_points (map rank_of (starter ∷ throw)) ≤
+pub known_in_crib : (starter : ℕ) (throw theirs : List ℕ) →
+    fifteen_points (map rank_of (starter ∷ throw)) + pair_points (map rank_of (starter ∷ throw)) + jack_points throw starter ≤
     crib_points (throw ++ theirs) starter
 unfolding crib_points
 known_in_crib starter throw theirs =
@@ -28,13 +31,20 @@ known_in_crib starter throw theirs =
     let whole : all ≡ known ++ map rank_of theirs = map-append rank_of (starter ∷ throw) theirs in
     let fifteens = more_choices (λ chosen. cond (is_fifteen chosen) 1 0) known (map rank_of theirs) in
     let pairs = more_choices (λ chosen. cond (is_pair chosen) 1 0) known (map rank_of theirs) in
-    sums (fifteen_points known) (pair_points known) (fifteen_points all) (pair_points all) (run_points all)
+    let is_right : ℕ → Bool = λ card. eqb (rank_of card) jack && eqb (suit_of card) (suit_of starter) in
+    sums (fifteen_points known) (pair_points known) (jack_points throw starter) (fifteen_points all) (pair_points all) (run_points all)
     (crib_flush (throw ++ theirs) starter) (jack_points (throw ++ theirs) starter)
     (subst (λ ranks. fifteen_points known ≤ fifteen_points ranks) (sym whole) (twice _ _ fifteens))
     (subst (λ ranks. pair_points known ≤ pair_points ranks) (sym whole) (twice _ _ pairs))
+    (subst (λ b. jack_points throw starter ≤ cond b 1 0) (sym (list_any-append is_right throw theirs))
+    (either (list_any is_right throw) (list_any is_right theirs)))
   where
     twice : (a b : ℕ) → a ≤ b → 2 * a ≤ 2 * b
     twice a b less = omega arith
 
-    sums : (f p fs ps rs flush jack : ℕ) → f ≤ fs → p ≤ ps → f + p ≤ fs + ps + rs + flush + jack
-    sums f p fs ps rs flush jack less_f less_p = omega arith
+    either : (one other : Bool) → cond one 1 0 ≤ cond (one || other) 1 0
+    either true other = omega arith
+    either false other = omega arith
+
+    sums : (f p j fs ps rs flush js : ℕ) → f ≤ fs → p ≤ ps → j ≤ js → f + p + j ≤ fs + ps + rs + flush + js
+    sums f p j fs ps rs flush js less_f less_p less_j = omega arith

@@ -2,14 +2,14 @@
 use Rattle.std.proofs.Common.{◌≡◌, ◌≢◌, ℕ, ◌+◌, ◌≤◌, eqb, not, ◌&&◌, ◌||◌, Bool, true, false, List, [], ◌∷◌, length, map, refl, sym, ap, ◌∙◌, arith}
 use Rattle.std.proofs.Common.{ne_eqb}
 use Rattle.std.specs.Prelude.{nat_lt}
-use Rattle.std.specs.List.{list_any}
+use Rattle.std.specs.List.{list_any, AllByRecursion}
 use Rattle.std.proofs.lemmas.Bool.{and_parts}
 use Rattle.std.proofs.lemmas.Bool.Decides.{nat_tests}
 use Rattle.std.proofs.lemmas.List.{length-map}
 use Rattle.crib_cards.specs.Cards.{IsRank, jack, rank_of}
 use Rattle.crib_cards.specs.Sets.{rank_counts}
 use Rattle.crib_cards.proofs.EachRank.{each_rank}
-use Rattle.crib_show.specs.Private.Counts.{AreRanks, pairs_in, runs_in}
+use Rattle.crib_show.specs.Private.Counts.{pairs_in, runs_in}
 use Rattle.crib_show.specs.Laws.{is_possible}
 use Rattle.crib_show.specs.Show.{fifteen_points, pair_points, plain_points}
 use Rattle.crib_show.proofs.ReorderedLists.{Reordered, length-reordered, list_any-reordered, rank_counts-reordered}
@@ -64,7 +64,7 @@ is_allowed-reordered : (xs ys : List ℕ) → Reordered xs ys → is_allowed xs 
 is_allowed-reordered xs ys r = λ i. allows_counts (fifteen_points-reordered xs ys r i) (list_any-reordered (λ rank. eqb rank jack) xs ys r i)
     (rank_counts-reordered xs ys r i)
 
-pub is_allowed-ranks : (ranks : List ℕ) → AreRanks ranks → length ranks ≡ 5 → is_allowed ranks ≡ true
+pub is_allowed-ranks : (ranks : List ℕ) → AllByRecursion IsRank ranks → length ranks ≡ 5 → is_allowed ranks ≡ true
 is_allowed-ranks ranks are five =
     let sorted = sorted_of ranks are in
     is_allowed-reordered ranks sorted.0 sorted.1 ∙ allowed_rising sorted.0 sorted.2 (sym (length-reordered ranks sorted.0 sorted.1) ∙ five)
@@ -73,7 +73,7 @@ is_allowed-ranks ranks are five =
 pub record IsAllowed (cards : List ℕ) : Type 0 where
   pub allowed : allows (pair_points (map rank_of cards)) (has_jack (map rank_of cards)) (plain_points cards) ≡ true
 
-pub IsAllowed-cards : (cards : List ℕ) → AreRanks (map rank_of cards) → length cards ≡ 5 → IsAllowed cards
+pub IsAllowed-cards : (cards : List ℕ) → AllByRecursion IsRank (map rank_of cards) → length cards ≡ 5 → IsAllowed cards
 IsAllowed-cards cards are five =
     let ranks = map rank_of cards in
     let long = length-map cards rank_of ∙ five in

@@ -1,7 +1,7 @@
 -- Every list of five ranks, each in rising order only.
 use Rattle.std.proofs.Common.{◌≡◌, ℕ, zero, suc, ◌+◌, ◌-◌, ◌<◌, ◌≤◌, eqb, ◌&&◌, Bool, true, List, [], ◌∷◌, length, sum, refl, sym, ap, ◌∙◌, inl}
 use Rattle.std.proofs.Common.{inr, subst, arith, eqb-true}
-use Rattle.std.specs.List.{list_all, range_with_len}
+use Rattle.std.specs.List.{list_all, range_with_len, AllByRecursion}
 use Rattle.std.proofs.lemmas.Bool.{cases_lt, and_parts}
 use Rattle.std.proofs.lemmas.Bool.Decides.{nat_tests}
 use Rattle.crib_cards.specs.Cards.{IsRank}
@@ -9,7 +9,7 @@ use Rattle.crib_cards.specs.Sets.{rank_counts}
 use Rattle.crib_cards.proofs.EachRank.{each_rank}
 use Rattle.crib_show.proofs.ReorderedLists.{Reordered, nothing, behind, front, both, same_order, length-reordered, rank_counts-reordered}
 use Rattle.std.specs.Prelude.{nat_le}
-use Rattle.crib_show.specs.Private.Counts.{AreRanks, IsCounted, pairs_in, runs_in}
+use Rattle.crib_show.specs.Private.Counts.{IsCounted, pairs_in, runs_in}
 use Rattle.crib_show.specs.Show.{pair_points, run_points}
 use Rattle.crib_show.proofs.RankLaw.{pair_points-reordered, run_points-reordered}
 
@@ -32,7 +32,7 @@ inserted rank low (next ∷ ranks) least most rises =
           )
     ]
 
-pub sorted_of : (ranks : List ℕ) → AreRanks ranks → (sorted : List ℕ) × Reordered ranks sorted × Rises 1 sorted
+pub sorted_of : (ranks : List ℕ) → AllByRecursion IsRank ranks → (sorted : List ℕ) × Reordered ranks sorted × Rises 1 sorted
 sorted_of [] are = ([], nothing, tt)
 sorted_of (rank ∷ ranks) are =
     let rest = sorted_of ranks are.1 in
@@ -111,7 +111,7 @@ agree_rising : (ranks : List ℕ) → Rises 1 ranks → length ranks ≡ 5 → a
 agree_rising [] rises five = absurd (omega arith)
 agree_rising (rank ∷ ranks) rises five = each_rising-at 4 rank (λ more. agree (rank ∷ more)) ranks (from_each rank (rises.0, rises.1)) rises.2 (omega arith)
 
-pub IsCounted-ranks : (ranks : List ℕ) → AreRanks ranks → length ranks ≡ 5 → IsCounted ranks (rank_counts ranks)
+pub IsCounted-ranks : (ranks : List ℕ) → AllByRecursion IsRank ranks → length ranks ≡ 5 → IsCounted ranks (rank_counts ranks)
 IsCounted-ranks ranks are five =
     let sorted = sorted_of ranks are in
     let counted : IsCounted sorted.0 (rank_counts sorted.0) =

@@ -1,13 +1,14 @@
 -- The walk of the code: what it keeps, what it needs at a position, and what it has done from there.
-use Rattle.std.specs.Prelude.{◌≡◌, List, Option, None}
+use Rattle.std.specs.Prelude.{◌≡◌, ◌+◌, List, None}
+use Rattle.crib_cards.specs.Letters.{letter_place}
+use Rattle.crib_cards.specs.declared.letters.Letter.{Letter}
 use Rattle.crib_play.specs.History.{Event}
 use Rattle.crib_problem.specs.Setup.{Setup}
 use Rattle.crib_plan.specs.declared.plan.Node.{Node}
-use Rattle.crib_check.specs.declared.failure.Failure.{Failure}
 use Rattle.crib_check.specs.declared.keys.Key.{Key}
 use Rattle.crib_check.specs.declared.trails.Event.{Event as TrailEvent}
 use Rattle.crib_check.specs.declared.walk.Walk.{Walk}
-use Rattle.crib_check.specs.Private.Found.{IsFoundFrom}
+use Rattle.crib_check.specs.Private.Found.{IsFoundBelow, IsFoundFrom, IsSettledBelow}
 use Rattle.crib_check.specs.Private.Histories.{history_of_trail}
 use Rattle.crib_check.specs.Private.Positions.{IsSettled, StandsAt}
 use Rattle.crib_check.specs.Shows.{AreShowsOf}
@@ -25,22 +26,35 @@ pub record IsWalkOf {A T : Type 0} (holds : T → Key → Type 0) (problem : Set
 abbrev pub history_at : {A T : Type 0} → Walk A T → List Event
 history_at walk = history_of_trail walk.problem.now walk.trail.items
 
--- a walk may go on from a position, which represents a history
+-- a walk may go on from a position, which represents a history, if it has found no failure
 pub record MayWalk {A T : Type 0} (holds : T → Key → Type 0) (walk : Walk A T) (key : Key) (history : List Event)
     : Type 0 where
   pub kept : IsWalkOf holds walk.problem.now walk.plan.now walk
+  pub none : walk.failure ≡ None
   pub here : StandsAt walk.problem.now walk.plan.now key history
 
 -- a walk has gone over all games from a position, up to the first failing one: it is still a walk of the problem and
--- the plan, its trail is as before if there is no failure, and the result is right
+-- the plan, its trail is as before if there is no failure, and its failure is the right one
 pub record HasWalkedOf {A T : Type 0} (holds : T → Key → Type 0) (problem : Setup) (plan : List Node)
-    (trail : List TrailEvent) (key : Key) (history : List Event) (after : Walk A T) (result : Option Failure)
-    : Type 0 where
+    (trail : List TrailEvent) (key : Key) (history : List Event) (after : Walk A T) : Type 0 where
   pub kept : IsWalkOf holds problem plan after
-  pub back : result ≡ None → after.trail.items ≡ trail
-  pub found : IsFoundFrom problem plan key history after.trail.items result
+  pub back : after.failure ≡ None → after.trail.items ≡ trail
+  pub found : IsFoundFrom problem plan key history after.trail.items after.failure
 
 -- the same, by the walk as it was before
-abbrev pub HasWalked :
-    {A T : Type 0} → (T → Key → Type 0) → Walk A T → Key → List Event → Walk A T → Option Failure → Type 0
+abbrev pub HasWalked : {A T : Type 0} → (T → Key → Type 0) → Walk A T → Key → List Event → Walk A T → Type 0
 HasWalked holds before = HasWalkedOf holds before.problem.now before.plan.now before.trail.items
+
+-- a walk at a position where the opponent is to move, after one more letter: it is still a walk of the problem and the
+-- plan, its trail is as before if there is no failure, and its failure is the right one if the letters before are
+-- settled
+pub record HasShownOf {A T : Type 0} (holds : T → Key → Type 0) (problem : Setup) (plan : List Node)
+    (trail : List TrailEvent) (key : Key) (letter : Letter) (history : List Event) (after : Walk A T) : Type 0 where
+  pub kept : IsWalkOf holds problem plan after
+  pub back : after.failure ≡ None → after.trail.items ≡ trail
+  pub found : IsSettledBelow problem plan key (letter_place letter) →
+      IsFoundBelow problem plan key (letter_place letter + 1) history after.trail.items after.failure
+
+-- the same, by the walk as it was before
+abbrev pub HasShown : {A T : Type 0} → (T → Key → Type 0) → Walk A T → Key → Letter → List Event → Walk A T → Type 0
+HasShown holds before = HasShownOf holds before.problem.now before.plan.now before.trail.items

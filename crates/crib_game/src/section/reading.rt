@@ -1,19 +1,19 @@
 //! Reading a game section.
-ghost use Rattle.std.specs.Prelude.{◌≡◌, ◌≤◌, ◌++◌, ℕ, List, map, codes, Ok, IfOk, OnErr};
+ghost use Rattle.std.specs.Prelude.{◌≡◌, ◌≤◌, ◌++◌, ℕ, List, map, Ok, IfOk, OnErr};
 ghost use Rattle.crib_text.specs.Lines.{rest_of};
-ghost use Rattle.crib_text.specs.Reading.{Reads, value_at, header_in};
+ghost use Rattle.crib_text.specs.Reading.{Reads, value_at};
 ghost use Rattle.crib_text.specs.Forms.{values_at};
 ghost use Rattle.crib_text.specs.Private.Reading.{Takes};
 ghost use Rattle.crib_text.specs.Refusals.{text_refusal};
 ghost use Rattle.crib_text.specs.Spelling.{line_bytes};
 ghost use Rattle.crib_game.specs.Spelling.{IsGame, game_lines};
-ghost use Rattle.crib_problem.specs.Reading.{most_acts, acts_count_in, act_in};
-ghost use Rattle.crib_game.specs.Reading.{cards_in_line, game_at};
+ghost use Rattle.crib_problem.specs.Reading.{most_acts, act_in};
+ghost use Rattle.crib_game.specs.Reading.{game_at};
 
 use super::game::Game;
 use super::words_of_lines::{hold_of, throw_of};
 use arrayvec::ArrayVec;
-use crib_cards::{Act, Card, Dealt};
+use crib_cards::{Act, Dealt};
 use crib_problem::{act_of, acts_count_of};
 use crib_text::{Lines, TextFault, fault_in, in_line, read_header};
 
@@ -42,43 +42,6 @@ pub fn read_game(lines: &mut Lines<'_>) -> Result<Game, TextFault>
 }
 
 #[tactic(auto, using(crib_text::proofs::ReadingLemmas::values))]
-fn read_name(lines: &mut Lines<'_>) -> Result<(), TextFault>
-    ensures { Takes (λ _. tt) text_refusal
-        (value_at (header_in (codes "game")) (rest_of lines.old)) (rest_of lines.new) result }
-{
-    let line = lines.next_line()?;
-    in_line(&line, read_header(&line, b"game"))
-}
-
-#[tactic(auto, using(crib_text::proofs::ReadingLemmas::values))]
-fn read_hold(lines: &mut Lines<'_>) -> Result<[Card; 4], TextFault>
-    ensures { Takes (λ cards. cards) text_refusal
-        (value_at (cards_in_line (codes "hold") 4) (rest_of lines.old)) (rest_of lines.new) result }
-{
-    let line = lines.next_line()?;
-    in_line(&line, hold_of(&line))
-}
-
-#[tactic(auto, using(crib_text::proofs::ReadingLemmas::values))]
-fn read_throw(lines: &mut Lines<'_>) -> Result<[Card; 2], TextFault>
-    ensures { Takes (λ cards. cards) text_refusal
-        (value_at (cards_in_line (codes "throw") 2) (rest_of lines.old)) (rest_of lines.new) result }
-{
-    let line = lines.next_line()?;
-    in_line(&line, throw_of(&line))
-}
-
-#[tactic(auto, using(crib_text::proofs::ReadingLemmas::values))]
-fn read_count(lines: &mut Lines<'_>) -> Result<u32, TextFault>
-    ensures count { Takes (λ count. count) text_refusal
-        (value_at (acts_count_in (codes "acts")) (rest_of lines.old)) (rest_of lines.new) result }
-    ensures range { IfOk result (λ count. count ≤ most_acts) }
-{
-    let line = lines.next_line()?;
-    in_line(&line, acts_count_of(&line, b"acts"))
-}
-
-#[tactic(auto, using(crib_text::proofs::ReadingLemmas::values))]
 fn read_act(lines: &mut Lines<'_>) -> Result<Act, TextFault>
     ensures { Takes (λ act. act) text_refusal (value_at act_in (rest_of lines.old)) (rest_of lines.new) result }
 {
@@ -102,14 +65,19 @@ fn read_acts(lines: &mut Lines<'_>, count: u32) -> Result<ArrayVec<Act, 32>, Tex
     Ok(acts)
 }
 
-#[tactic(auto, unfolding(crate::specs::Reading::game_at))]
+// Reads the header, the cards of both lines, the number of acts, and the acts.
+#[tactic(auto, unfolding(crate::specs::Reading::game_at, crib_text::specs::Reading::value_at))]
 fn game_of(lines: &mut Lines<'_>) -> Result<Game, TextFault>
     ensures { Takes (λ game. game) text_refusal (game_at (rest_of lines.old)) (rest_of lines.new) result }
 {
-    read_name(lines)?;
-    let hold = read_hold(lines)?;
-    let throw = read_throw(lines)?;
-    let count = read_count(lines)?;
+    let line = lines.next_line()?;
+    in_line(&line, read_header(&line, b"game"))?;
+    let line = lines.next_line()?;
+    let hold = in_line(&line, hold_of(&line))?;
+    let line = lines.next_line()?;
+    let throw = in_line(&line, throw_of(&line))?;
+    let line = lines.next_line()?;
+    let count = in_line(&line, acts_count_of(&line, b"acts"))?;
     let acts = read_acts(lines, count)?;
     Ok(Game {
         opp: Dealt { hold, throw },

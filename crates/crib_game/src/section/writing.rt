@@ -1,13 +1,11 @@
 //! Writing a game section.
-ghost use Rattle.std.specs.Prelude.{◌≡◌, ◌+◌, ◌≤◌, ◌++◌, ◌∷◌, [], length, codes, decimal};
-ghost use Rattle.std.specs.Prelude.{vec_len, vec_capacity, IfOk, IfErr};
+ghost use Rattle.std.specs.Prelude.{◌≡◌, ◌≤◌, length, IfOk, IfErr};
 ghost use Rattle.crib_text.specs.Refusals.{no_memory, text_refusal};
-ghost use Rattle.crib_text.specs.Spelling.{line_text};
 ghost use Rattle.crib_game.specs.Spelling.{game_text};
 
 use super::game::Game;
 use crib_problem::{append_acts, append_cards};
-use crib_text::{TextCause, TextFault, append, append_number};
+use crib_text::{TextCause, TextFault, append};
 use std::alloc::Allocator;
 
 // The most bytes of a game's text: four lines of 7, 17, 12 and at most 8 bytes, and 32 acts of at most 7 bytes each.
@@ -28,20 +26,6 @@ pub fn write_game<A: Allocator + Copy>(alloc: A, game: &Game) -> Result<Vec<u8, 
     append(&mut text, b"game 1\n");
     append_cards(&mut text, b"hold", &game.opp.hold);
     append_cards(&mut text, b"throw", &game.opp.throw);
-    put_count(&mut text, game.acts.len() as u32);
-    append_acts(&mut text, game.acts.as_slice());
+    append_acts(&mut text, b"acts", game.acts.as_slice());
     Ok(text)
-}
-
-#[tactic(auto, using(crib_text::proofs::RoomLemmas::short))]
-fn put_count<A: Allocator>(text: &mut Vec<u8, A>, count: u32)
-    requires few { count ≤ 32 }
-    requires fits { vec_len text.old + 8 ≤ vec_capacity text.old }
-    ensures items { text.new.items ≡ text.old.items ++ line_text (codes "acts" ∷ decimal count ∷ []) }
-    ensures room { vec_capacity text.old ≤ vec_capacity text.new }
-    ensures len { vec_len text.new ≤ vec_len text.old + 8 }
-{
-    append(text, b"acts ");
-    append_number(text, count);
-    append(text, b"\n");
 }

@@ -7,7 +7,7 @@ use std::alloc::Global;
 use std::process::Abort;
 
 /// The text with another line in the place of line `number`. Lines are counted from 1.
-pub fn with_line(
+pub(crate) fn with_line(
     rt: &(impl Abort + AllocGlobal),
     text: &str,
     number: usize,
@@ -28,14 +28,14 @@ fn lines<'a>(rt: &impl Abort, text: &'a str) -> Lines<'a> {
     Lines::new(bytes).expect(rt, "lines")
 }
 
-pub fn problem(rt: &impl Abort, text: &str) -> Problem {
+pub(crate) fn problem(rt: &impl Abort, text: &str) -> Problem {
     read_problem(&mut lines(rt, text)).expect(rt, "a problem")
 }
 
-pub fn plan(rt: &(impl Abort + AllocGlobal), text: &str) -> Plan<Global> {
+pub(crate) fn plan(rt: &(impl Abort + AllocGlobal), text: &str) -> Plan<Global> {
     read_plan(rt.alloc(), &mut lines(rt, text)).expect(rt, "a plan")
 }
 
-pub fn game(rt: &impl Abort, text: &str) -> Game {
+pub(crate) fn game(rt: &impl Abort, text: &str) -> Game {
     read_game(&mut lines(rt, text)).expect(rt, "a game")
 }

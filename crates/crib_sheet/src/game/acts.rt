@@ -1,5 +1,6 @@
 //! The lines of acts, with the reasons of their points. Each call appends to a text that already has room for it.
-ghost use Rattle.std.specs.Prelude.{◌≡◌, ◌+◌, ◌*◌, ◌≤◌, ◌++◌, length, map, flat_map, vec_len, vec_capacity};
+ghost use Rattle.std.specs.Prelude.{◌≡◌, ◌+◌, ◌*◌, ◌≤◌, length, map, flat_map, vec_len, vec_capacity};
+ghost use Rattle.crib_text.specs.Private.Writing.{Appended};
 ghost use Rattle.crib_board.specs.Board.{left_in};
 ghost use Rattle.crib_sheet.specs.Heading.{role_word};
 ghost use Rattle.crib_sheet.specs.GameText.{act_line, act_lines, act_text, alike_word, last_after, next_reason};
@@ -11,7 +12,7 @@ use crate::heading::role_of;
 use crib_board::{put_move, put_right};
 use crib_cards::{Move, Scores, Side};
 use crib_game::Row;
-use crib_text::{append, append_number};
+use crib_text::{append, append_small};
 use std::alloc::Allocator;
 
 /// Appends a line for each act with its reasons. The numbers begin at `number`, and `last` is the side that played the
@@ -27,10 +28,8 @@ pub(crate) fn put_acts<A: Allocator>(
 )
     requires numbered { number + length rows.now ≤ 255 }
     requires fits { vec_len text.old + 161 * length rows.now ≤ vec_capacity text.old }
-    ensures items { text.new.items
-        ≡ text.old.items ++ act_lines dealer number last rows.now (map (λ why. why.items) reasons.now) }
-    ensures room { vec_capacity text.old ≤ vec_capacity text.new }
-    ensures len { vec_len text.new ≤ vec_len text.old + 161 * length rows.now }
+    ensures { Appended text.old text.new
+        (act_lines dealer number last rows.now (map (λ why. why.items) reasons.now)) (161 * length rows.now) }
 {
     let [row, rows @ ..] = rows else {
         return;
@@ -65,9 +64,8 @@ fn put_act_line<A: Allocator>(
 )
     requires few { length reasons.now ≤ 6 }
     requires fits { vec_len text.old + 161 ≤ vec_capacity text.old }
-    ensures items { text.new.items ≡ text.old.items ++ act_line dealer number last row.now reasons.now }
-    ensures room { vec_capacity text.old ≤ vec_capacity text.new }
-    ensures len { vec_len text.new ≤ vec_len text.old + 53 + 18 * length reasons.now }
+    ensures { Appended text.old text.new
+        (act_line dealer number last row.now reasons.now) (53 + 18 * length reasons.now) }
 {
     put_act(text, dealer, number, row);
     put_points(text, dealer, last, row, reasons);
@@ -78,9 +76,7 @@ fn put_act_line<A: Allocator>(
 #[tactic(auto, using(crate::proofs::WrittenIsSheet::acts))]
 fn put_act<A: Allocator>(text: &mut Vec<u8, A>, dealer: Side, number: u8, row: &Row)
     requires { vec_len text.old + 31 ≤ vec_capacity text.old }
-    ensures items { text.new.items ≡ text.old.items ++ act_text dealer number row.now }
-    ensures room { vec_capacity text.old ≤ vec_capacity text.new }
-    ensures len { vec_len text.new ≤ vec_len text.old + 31 }
+    ensures { Appended text.old text.new (act_text dealer number row.now) 31 }
 {
     put_right(text, 2, number);
     append(text, b" ");
@@ -104,9 +100,7 @@ fn role_column(dealer: Side, side: Side) -> &'static [u8]
 #[tactic(auto, using(crate::proofs::WrittenIsSheet::acts))]
 fn put_scores<A: Allocator>(text: &mut Vec<u8, A>, scores: Scores)
     requires { vec_len text.old + 9 ≤ vec_capacity text.old }
-    ensures items { text.new.items ≡ text.old.items ++ score_text scores }
-    ensures room { vec_capacity text.old ≤ vec_capacity text.new }
-    ensures len { vec_len text.new ≤ vec_len text.old + 9 }
+    ensures { Appended text.old text.new (score_text scores) 9 }
 {
     append(text, b" ");
     put_right(text, 3, scores.owner);
@@ -115,7 +109,7 @@ fn put_scores<A: Allocator>(text: &mut Vec<u8, A>, scores: Scores)
 }
 
 // Appends the points of an act and the reasons for them, if there are any.
-#[tactic(auto, using(crate::proofs::WrittenIsSheet::points, crib_text::proofs::RoomLemmas::short), unfolding(crate::specs::GameText::points_text))]
+#[tactic(auto, using(crate::proofs::WrittenIsSheet::points), unfolding(crate::specs::GameText::points_text))]
 fn put_points<A: Allocator>(
     text: &mut Vec<u8, A>,
     dealer: Side,
@@ -124,15 +118,13 @@ fn put_points<A: Allocator>(
     reasons: &[PlayReason],
 )
     requires { vec_len text.old + 21 + 18 * length reasons.now ≤ vec_capacity text.old }
-    ensures items { text.new.items ≡ text.old.items ++ points_text dealer last row.now reasons.now }
-    ensures room { vec_capacity text.old ≤ vec_capacity text.new }
-    ensures len { vec_len text.new ≤ vec_len text.old + 21 + 18 * length reasons.now }
+    ensures { Appended text.old text.new (points_text dealer last row.now reasons.now) (21 + 18 * length reasons.now) }
 {
     let [reason, others @ ..] = reasons else {
         return;
     };
     append(text, b"  ");
-    append_number(text, u32::from(row.points));
+    append_small(text, row.points);
     append(text, b": ");
     put_reason(text, *reason);
     put_others(text, others);
@@ -143,9 +135,7 @@ fn put_points<A: Allocator>(
 #[tactic(auto, using(crate::proofs::WrittenIsSheet::points))]
 fn put_others<A: Allocator>(text: &mut Vec<u8, A>, reasons: &[PlayReason])
     requires { vec_len text.old + 18 * length reasons.now ≤ vec_capacity text.old }
-    ensures items { text.new.items ≡ text.old.items ++ flat_map next_reason reasons.now }
-    ensures room { vec_capacity text.old ≤ vec_capacity text.new }
-    ensures len { vec_len text.new ≤ vec_len text.old + 18 * length reasons.now }
+    ensures { Appended text.old text.new (flat_map next_reason reasons.now) (18 * length reasons.now) }
 {
     for reason in reasons {
         append(text, b", ");
@@ -157,9 +147,7 @@ fn put_others<A: Allocator>(text: &mut Vec<u8, A>, reasons: &[PlayReason])
 #[tactic(auto, using(crate::proofs::WrittenIsSheet::points))]
 fn put_taker<A: Allocator>(text: &mut Vec<u8, A>, dealer: Side, last: Side, what: Move)
     requires { vec_len text.old + 16 ≤ vec_capacity text.old }
-    ensures items { text.new.items ≡ text.old.items ++ taker_text dealer last what }
-    ensures room { vec_capacity text.old ≤ vec_capacity text.new }
-    ensures len { vec_len text.new ≤ vec_len text.old + 16 }
+    ensures { Appended text.old text.new (taker_text dealer last what) 16 }
 {
     match what {
         Move::Card(_) => (),
@@ -172,16 +160,14 @@ fn put_taker<A: Allocator>(text: &mut Vec<u8, A>, dealer: Side, last: Side, what
 }
 
 // Appends a reason and its points.
-#[tactic(auto, using(crate::proofs::WrittenIsSheet::points, crib_text::proofs::RoomLemmas::short))]
+#[tactic(auto, using(crate::proofs::WrittenIsSheet::points))]
 fn put_reason<A: Allocator>(text: &mut Vec<u8, A>, reason: PlayReason)
     requires { vec_len text.old + 16 ≤ vec_capacity text.old }
-    ensures items { text.new.items ≡ text.old.items ++ reason_text reason }
-    ensures room { vec_capacity text.old ≤ vec_capacity text.new }
-    ensures len { vec_len text.new ≤ vec_len text.old + 16 }
+    ensures { Appended text.old text.new (reason_text reason) 16 }
 {
     append(text, reason_word(reason));
     append(text, b" ");
-    append_number(text, u32::from(reason.points()));
+    append_small(text, reason.points());
 }
 
 fn reason_word(reason: PlayReason) -> &'static [u8]

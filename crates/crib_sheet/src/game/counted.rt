@@ -1,17 +1,18 @@
 //! The lines of the show. Each call appends to a text that already has room for it.
-ghost use Rattle.std.specs.Prelude.{◌≡◌, ◌+◌, ◌*◌, ◌≤◌, ◌++◌, length, flat_map, vec_len, vec_capacity};
+ghost use Rattle.std.specs.Prelude.{◌≡◌, ◌+◌, ◌*◌, ◌≤◌, length, flat_map, vec_len, vec_capacity};
+ghost use Rattle.crib_text.specs.Private.Writing.{Appended};
 ghost use Rattle.crib_sheet.specs.GameText.{combination_line, combination_lines, counted_cards};
 ghost use Rattle.crib_sheet.specs.GameText.{counted_combinations, counted_name, counted_points, counted_text};
-ghost use Rattle.crib_sheet.specs.GameText.{counted_word, kind_word, points_words};
+ghost use Rattle.crib_sheet.specs.GameText.{counted_word, kind_word};
 
 use super::acts::run_word;
 use super::combination::{Combination, Kind};
 use super::shows::{Combinations, crib_combinations, hand_combinations};
-use crate::heading::{put_cards, role_of};
+use crate::heading::{put_cards, put_how_many, role_of};
 use crib_cards::{Card, Dealt, Side, card_text};
 use crib_problem::Problem;
 use crib_show::ShowRow;
-use crib_text::{append, append_number};
+use crib_text::{append, append_small};
 use std::alloc::Allocator;
 
 /// Appends the lines of each counted hand and of the crib.
@@ -22,9 +23,8 @@ pub(crate) fn put_show<A: Allocator>(
     rows: &[ShowRow],
 )
     requires { vec_len text.old + 3502 * length rows.now ≤ vec_capacity text.old }
-    ensures items { text.new.items ≡ text.old.items ++ flat_map (counted_text problem.now dealt.now) rows.now }
-    ensures room { vec_capacity text.old ≤ vec_capacity text.new }
-    ensures len { vec_len text.new ≤ vec_len text.old + 3502 * length rows.now }
+    ensures { Appended text.old text.new
+        (flat_map (counted_text problem.now dealt.now) rows.now) (3502 * length rows.now) }
 {
     for row in rows {
         put_counted(text, problem, dealt, row);
@@ -35,9 +35,7 @@ pub(crate) fn put_show<A: Allocator>(
 #[tactic(auto, using(crate::proofs::WrittenIsSheet::counting))]
 fn put_counted<A: Allocator>(text: &mut Vec<u8, A>, problem: &Problem, dealt: &Dealt, row: &ShowRow)
     requires { vec_len text.old + 3502 ≤ vec_capacity text.old }
-    ensures items { text.new.items ≡ text.old.items ++ counted_text problem.now dealt.now row.now }
-    ensures room { vec_capacity text.old ≤ vec_capacity text.new }
-    ensures len { vec_len text.new ≤ vec_len text.old + 3502 }
+    ensures { Appended text.old text.new (counted_text problem.now dealt.now row.now) 3502 }
 {
     let cards = counted_cards(problem, dealt, row);
     put_name(text, problem, &cards, row);
@@ -81,9 +79,7 @@ fn put_name<A: Allocator>(
     row: &ShowRow,
 )
     requires { vec_len text.old + 39 ≤ vec_capacity text.old }
-    ensures items { text.new.items ≡ text.old.items ++ counted_name problem.now cards.now row.now }
-    ensures room { vec_capacity text.old ≤ vec_capacity text.new }
-    ensures len { vec_len text.new ≤ vec_len text.old + 39 }
+    ensures { Appended text.old text.new (counted_name problem.now cards.now row.now) 39 }
 {
     append(text, b"\nThe ");
     append(text, role_of(problem.dealer(), row.side));
@@ -103,45 +99,25 @@ fn counted_word(crib: bool) -> &'static [u8]
 }
 
 // Appends the points of a hand or of the crib, and both scores after it.
-#[tactic(auto, using(crate::proofs::WrittenIsSheet::counting, crib_text::proofs::RoomLemmas::short))]
+#[tactic(auto, using(crate::proofs::WrittenIsSheet::counting))]
 fn put_points<A: Allocator>(text: &mut Vec<u8, A>, row: &ShowRow)
     requires { vec_len text.old + 33 ≤ vec_capacity text.old }
-    ensures items { text.new.items ≡ text.old.items ++ counted_points row.now }
-    ensures room { vec_capacity text.old ≤ vec_capacity text.new }
-    ensures len { vec_len text.new ≤ vec_len text.old + 33 }
+    ensures { Appended text.old text.new (counted_points row.now) 33 }
 {
     append(text, b", ");
-    put_points_words(text, row.points);
+    put_how_many(text, row.points, b"point");
     append(text, b" (you ");
-    append_number(text, u32::from(row.scores.owner));
+    append_small(text, row.scores.owner);
     append(text, b", they ");
-    append_number(text, u32::from(row.scores.opponent));
+    append_small(text, row.scores.opponent);
     append(text, b")\n");
-}
-
-// Appends some points in words.
-#[tactic(auto, using(crate::proofs::WrittenIsSheet::headings, crib_text::proofs::RoomLemmas::short))]
-fn put_points_words<A: Allocator>(text: &mut Vec<u8, A>, points: u8)
-    requires { vec_len text.old + 10 ≤ vec_capacity text.old }
-    ensures items { text.new.items ≡ text.old.items ++ points_words points }
-    ensures room { vec_capacity text.old ≤ vec_capacity text.new }
-    ensures len { vec_len text.new ≤ vec_len text.old + 10 }
-{
-    if points == 1 {
-        append(text, b"1 point");
-        return;
-    }
-    append_number(text, u32::from(points));
-    append(text, b" points");
 }
 
 // Appends a line for each combination, or one that says that there is none.
 fn put_combinations<A: Allocator>(text: &mut Vec<u8, A>, found: &[Combination])
     requires few { length found.now ≤ 98 }
     requires fits { vec_len text.old + 3430 ≤ vec_capacity text.old }
-    ensures items { text.new.items ≡ text.old.items ++ combination_lines found.now }
-    ensures room { vec_capacity text.old ≤ vec_capacity text.new }
-    ensures len { vec_len text.new ≤ vec_len text.old + 3430 }
+    ensures { Appended text.old text.new (combination_lines found.now) 3430 }
 {
     let [_, ..] = found else {
         append(text, b"  nothing counts\n");
@@ -152,9 +128,7 @@ fn put_combinations<A: Allocator>(text: &mut Vec<u8, A>, found: &[Combination])
 
 fn put_each<A: Allocator>(text: &mut Vec<u8, A>, found: &[Combination])
     requires { vec_len text.old + 35 * length found.now ≤ vec_capacity text.old }
-    ensures items { text.new.items ≡ text.old.items ++ flat_map combination_line found.now }
-    ensures room { vec_capacity text.old ≤ vec_capacity text.new }
-    ensures len { vec_len text.new ≤ vec_len text.old + 35 * length found.now }
+    ensures { Appended text.old text.new (flat_map combination_line found.now) (35 * length found.now) }
 {
     for made in found {
         put_combination(text, made);
@@ -162,17 +136,15 @@ fn put_each<A: Allocator>(text: &mut Vec<u8, A>, found: &[Combination])
 }
 
 // Appends the line of a combination.
-#[tactic(auto, using(crate::proofs::WrittenIsSheet::counting, crib_text::proofs::RoomLemmas::short))]
+#[tactic(auto, using(crate::proofs::WrittenIsSheet::counting))]
 fn put_combination<A: Allocator>(text: &mut Vec<u8, A>, made: &Combination)
     requires { vec_len text.old + 35 ≤ vec_capacity text.old }
-    ensures items { text.new.items ≡ text.old.items ++ combination_line made.now }
-    ensures room { vec_capacity text.old ≤ vec_capacity text.new }
-    ensures len { vec_len text.new ≤ vec_len text.old + 35 }
+    ensures { Appended text.old text.new (combination_line made.now) 35 }
 {
     append(text, b"  ");
     append(text, kind_word(made.kind, made.cards.len()));
     append(text, b" ");
-    append_number(text, u32::from(made.points()));
+    append_small(text, made.points());
     append(text, b":");
     put_cards(text, made.cards.as_slice());
     append(text, b"\n");

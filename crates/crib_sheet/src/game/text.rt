@@ -1,5 +1,6 @@
 //! The text of the sheet of a game.
-ghost use Rattle.std.specs.Prelude.{◌≡◌, ◌+◌, ◌≤◌, ◌++◌, Ok, IfOk, IfErr, length, map, take, vec_len, vec_capacity};
+ghost use Rattle.std.specs.Prelude.{◌≡◌, ◌+◌, ◌≤◌, ◌++◌, Ok, IfOk, IfErr, length, map, vec_len, vec_capacity};
+ghost use Rattle.crib_text.specs.Private.Writing.{Appended};
 ghost use Rattle.crib_board.specs.Board.{IsFaultOf};
 ghost use Rattle.crib_sheet.specs.GameText.{accepted_acts_text, accepted_text, beginning, dealt_line, ending_words};
 ghost use Rattle.crib_sheet.specs.GameText.{game_sheet_text, kept_words, outcome_text, over_text, reached_words};
@@ -110,9 +111,8 @@ fn put_sheet<A: Allocator>(
     reasons: &[PlayReasons],
 )
     requires { vec_len text.old + 16035 ≤ vec_capacity text.old }
-    ensures items { text.new.items ≡ text.old.items
-        ++ sheet_of problem.now dealt.now report.now (map (λ why. why.items) reasons.now) }
-    ensures len { vec_len text.new ≤ vec_len text.old + 16035 }
+    ensures { Appended text.old text.new
+        (sheet_of problem.now dealt.now report.now (map (λ why. why.items) reasons.now)) 16035 }
 {
     put_heading(text, problem);
     put_dealt(text, problem, dealt);
@@ -130,10 +130,7 @@ fn put_rows<A: Allocator>(
     reasons: &[PlayReasons],
 )
     requires { vec_len text.old + 5152 ≤ vec_capacity text.old }
-    ensures items { text.new.items
-        ≡ text.old.items ++ rows_text problem.now report.now (map (λ why. why.items) reasons.now) }
-    ensures room { vec_capacity text.old ≤ vec_capacity text.new }
-    ensures len { vec_len text.new ≤ vec_len text.old + 5152 }
+    ensures { Appended text.old text.new (rows_text problem.now report.now (map (λ why. why.items) reasons.now)) 5152 }
 {
     let dealer = problem.dealer();
     put_acts(
@@ -150,9 +147,7 @@ fn put_rows<A: Allocator>(
 #[tactic(auto, using(crate::proofs::WrittenIsSheet::sheets))]
 fn put_dealt<A: Allocator>(text: &mut Vec<u8, A>, problem: &Problem, dealt: &Dealt)
     requires { vec_len text.old + 46 ≤ vec_capacity text.old }
-    ensures items { text.new.items ≡ text.old.items ++ dealt_line problem.now dealt.now }
-    ensures room { vec_capacity text.old ≤ vec_capacity text.new }
-    ensures len { vec_len text.new ≤ vec_len text.old + 46 }
+    ensures { Appended text.old text.new (dealt_line problem.now dealt.now) 46 }
 {
     append(text, b"The ");
     append(text, role_of(problem.dealer(), Side::Opponent));
@@ -166,9 +161,7 @@ fn put_dealt<A: Allocator>(text: &mut Vec<u8, A>, problem: &Problem, dealt: &Dea
 // Appends the line of the outcome, after an empty line.
 fn put_outcome<A: Allocator>(text: &mut Vec<u8, A>, problem: &Problem, over: Option<Outcome>)
     requires { vec_len text.old + 53 ≤ vec_capacity text.old }
-    ensures items { text.new.items ≡ text.old.items ++ outcome_text problem.now over }
-    ensures room { vec_capacity text.old ≤ vec_capacity text.new }
-    ensures len { vec_len text.new ≤ vec_len text.old + 53 }
+    ensures { Appended text.old text.new (outcome_text problem.now over) 53 }
 {
     match over {
         None => append(text, b"\nThe deal isn't over yet.\n"),
@@ -179,9 +172,7 @@ fn put_outcome<A: Allocator>(text: &mut Vec<u8, A>, problem: &Problem, over: Opt
 // Appends the line of the outcome of a deal that is done, after an empty line.
 fn put_over<A: Allocator>(text: &mut Vec<u8, A>, problem: &Problem, outcome: Outcome)
     requires { vec_len text.old + 53 ≤ vec_capacity text.old }
-    ensures items { text.new.items ≡ text.old.items ++ over_text problem.now outcome }
-    ensures room { vec_capacity text.old ≤ vec_capacity text.new }
-    ensures len { vec_len text.new ≤ vec_len text.old + 53 }
+    ensures { Appended text.old text.new (over_text problem.now outcome) 53 }
 {
     append(text, b"\nThe deal is over: ");
     put_ending(text, problem.dealer(), problem.goal(), outcome);
@@ -192,9 +183,7 @@ fn put_over<A: Allocator>(text: &mut Vec<u8, A>, problem: &Problem, outcome: Out
 #[tactic(auto, using(crate::proofs::WrittenIsSheet::sheets))]
 fn put_ending<A: Allocator>(text: &mut Vec<u8, A>, dealer: Side, goal: Goal, outcome: Outcome)
     requires { vec_len text.old + 32 ≤ vec_capacity text.old }
-    ensures items { text.new.items ≡ text.old.items ++ ending_words dealer goal outcome }
-    ensures room { vec_capacity text.old ≤ vec_capacity text.new }
-    ensures len { vec_len text.new ≤ vec_len text.old + 32 }
+    ensures { Appended text.old text.new (ending_words dealer goal outcome) 32 }
 {
     match outcome {
         Outcome::Reached => put_reached(text, dealer, goal),
@@ -210,9 +199,7 @@ fn put_ending<A: Allocator>(text: &mut Vec<u8, A>, dealer: Side, goal: Goal, out
 // Appends what the owner did who reached a goal.
 fn put_reached<A: Allocator>(text: &mut Vec<u8, A>, dealer: Side, goal: Goal)
     requires { vec_len text.old + 32 ≤ vec_capacity text.old }
-    ensures items { text.new.items ≡ text.old.items ++ reached_words dealer goal }
-    ensures room { vec_capacity text.old ≤ vec_capacity text.new }
-    ensures len { vec_len text.new ≤ vec_len text.old + 32 }
+    ensures { Appended text.old text.new (reached_words dealer goal) 32 }
 {
     match goal {
         Goal::Win => append(text, b"you win"),
@@ -224,9 +211,7 @@ fn put_reached<A: Allocator>(text: &mut Vec<u8, A>, dealer: Side, goal: Goal)
 // Appends that the owner keeps the opponent from winning.
 fn put_kept<A: Allocator>(text: &mut Vec<u8, A>, dealer: Side)
     requires { vec_len text.old + 32 ≤ vec_capacity text.old }
-    ensures items { text.new.items ≡ text.old.items ++ kept_words dealer }
-    ensures room { vec_capacity text.old ≤ vec_capacity text.new }
-    ensures len { vec_len text.new ≤ vec_len text.old + 32 }
+    ensures { Appended text.old text.new (kept_words dealer) 32 }
 {
     append(text, b"you keep the ");
     append(text, role_of(dealer, Side::Opponent));

@@ -1,5 +1,6 @@
 //! The head of a plan's sheet: the position, and whether the plan is sure.
 ghost use Rattle.std.specs.Prelude.{◌≡◌, ◌+◌, ◌*◌, ◌≤◌, ◌++◌, IfOk, length, vec_len, vec_capacity};
+ghost use Rattle.crib_text.specs.Private.Writing.{Appended};
 ghost use Rattle.crib_sheet.specs.GameText.{game_sheet_text};
 ghost use Rattle.crib_sheet.specs.PlanHead.{failing_line, game_lines, head_text, turn_line, turn_lines};
 
@@ -100,9 +101,7 @@ fn put_game<A: Allocator + Copy>(
 // Appends the lines of the opening.
 fn put_turns<A: Allocator>(text: &mut Vec<u8, A>, dealer: Side, acts: &[Act])
     requires { vec_len text.old + 12 * length acts.now ≤ vec_capacity text.old }
-    ensures items { text.new.items ≡ text.old.items ++ turn_lines dealer acts.now }
-    ensures room { vec_capacity text.old ≤ vec_capacity text.new }
-    ensures len { vec_len text.new ≤ vec_len text.old + 12 * length acts.now }
+    ensures { Appended text.old text.new (turn_lines dealer acts.now) (12 * length acts.now) }
 {
     for act in acts {
         put_turn(text, dealer, act);
@@ -113,9 +112,7 @@ fn put_turns<A: Allocator>(text: &mut Vec<u8, A>, dealer: Side, acts: &[Act])
 #[tactic(auto, using(crate::proofs::WrittenIsHead::heads))]
 fn put_turn<A: Allocator>(text: &mut Vec<u8, A>, dealer: Side, act: &Act)
     requires { vec_len text.old + 12 ≤ vec_capacity text.old }
-    ensures items { text.new.items ≡ text.old.items ++ turn_line dealer act.now }
-    ensures room { vec_capacity text.old ≤ vec_capacity text.new }
-    ensures len { vec_len text.new ≤ vec_len text.old + 12 }
+    ensures { Appended text.old text.new (turn_line dealer act.now) 12 }
 {
     append(text, b"  ");
     append(text, role_of(dealer, act.side));

@@ -10,7 +10,7 @@ use std::process::Abort;
 use std::{io, str};
 
 /// The text of some sections.
-pub fn joined(rt: &(impl Abort + AllocGlobal), sections: &[&str]) -> String {
+pub(crate) fn joined(rt: &(impl Abort + AllocGlobal), sections: &[&str]) -> String {
     let mut text = String::new(rt.alloc());
     for section in sections {
         text.push_str(section).expect(rt, "memory");
@@ -19,7 +19,7 @@ pub fn joined(rt: &(impl Abort + AllocGlobal), sections: &[&str]) -> String {
 }
 
 /// The text of some sections, with `changed` in the place of line `number`. Lines are counted from 1.
-pub fn joined_with(
+pub(crate) fn joined_with(
     rt: &(impl Abort + AllocGlobal),
     sections: &[&str],
     number: usize,
@@ -41,7 +41,7 @@ fn word_and_number(alloc: Global, word: &str, number: u64) -> io::Result<String>
 }
 
 /// The message of a failed assertion in the pass with this number.
-pub fn numbered(rt: &(impl Abort + AllocGlobal), word: &str, number: u64) -> String {
+pub(crate) fn numbered(rt: &(impl Abort + AllocGlobal), word: &str, number: u64) -> String {
     word_and_number(rt.alloc(), word, number).expect(rt, "memory")
 }
 
@@ -55,7 +55,7 @@ pub struct Written {
 
 /// Runs a job with a reader and a writer that accepts all bytes. The memory of the run is that of `heap`. The function
 /// has no contract: a test judges the outcome when it runs.
-pub fn outcome<A: Allocator + Copy, R: Read + Drop>(
+pub(crate) fn outcome<A: Allocator + Copy, R: Read + Drop>(
     alloc: Global,
     heap: A,
     job: Job,
@@ -71,7 +71,7 @@ pub fn outcome<A: Allocator + Copy, R: Read + Drop>(
 }
 
 /// Runs a job over these bytes, with a third device for words.
-pub fn outcome_with_words<A: Allocator + Copy>(
+pub(crate) fn outcome_with_words<A: Allocator + Copy>(
     alloc: Global,
     heap: A,
     job: Job,
@@ -89,7 +89,12 @@ pub fn outcome_with_words<A: Allocator + Copy>(
 }
 
 /// Runs a job over these bytes.
-pub fn outcome_of<A: Allocator + Copy>(alloc: Global, heap: A, job: Job, input: &[u8]) -> Written {
+pub(crate) fn outcome_of<A: Allocator + Copy>(
+    alloc: Global,
+    heap: A,
+    job: Job,
+    input: &[u8],
+) -> Written {
     let source = Counted::new(Feed::new(input, 4096, Trouble::Never));
     outcome(alloc, heap, job, source)
 }
@@ -97,7 +102,7 @@ pub fn outcome_of<A: Allocator + Copy>(alloc: Global, heap: A, job: Job, input: 
 impl Written {
     /// Asserts that this text was written, with this status, and that there are no words beside an accepted input. A
     /// failed assertion names `what` the run was given.
-    pub fn is(&self, rt: &impl Abort, wanted: &str, status: Status, what: &str) {
+    pub(crate) fn is(&self, rt: &impl Abort, wanted: &str, status: Status, what: &str) {
         let text = str::from_utf8(self.text.as_slice()).expect(rt, "a text");
         assert_eq!(rt; text, wanted, "to {what}");
         assert_eq!(rt; self.status, status, "to {what}");
@@ -108,7 +113,7 @@ impl Written {
 }
 
 /// Asserts that a run over some sections writes this text, with this status.
-pub fn writes(
+pub(crate) fn writes(
     rt: &(impl Abort + AllocGlobal),
     job: Job,
     sections: &[&str],
@@ -128,7 +133,7 @@ pub fn writes(
 pub type Change = (usize, &'static str, &'static str);
 
 /// Asserts that a run refuses some sections, each time with one line changed.
-pub fn refuses(
+pub(crate) fn refuses(
     rt: &(impl Abort + AllocGlobal),
     job: Job,
     sections: &[&str],
@@ -171,7 +176,7 @@ fn refuses_after(
 }
 
 /// Asserts that each proper beginning of an input is refused as cut short, at the line after its last LF.
-pub fn refuses_each_beginning(rt: &(impl Abort + AllocGlobal), job: Job, sections: &[&str]) {
+pub(crate) fn refuses_each_beginning(rt: &(impl Abort + AllocGlobal), job: Job, sections: &[&str]) {
     let text = joined(rt, sections);
     let input = text.as_bytes();
     for len in 0..input.len() {
@@ -180,7 +185,11 @@ pub fn refuses_each_beginning(rt: &(impl Abort + AllocGlobal), job: Job, section
 }
 
 /// Asserts that an input with any one byte replaced by CR is refused, at the line of the CR.
-pub fn refuses_each_carriage_return(rt: &(impl Abort + AllocGlobal), job: Job, sections: &[&str]) {
+pub(crate) fn refuses_each_carriage_return(
+    rt: &(impl Abort + AllocGlobal),
+    job: Job,
+    sections: &[&str],
+) {
     let text = joined(rt, sections);
     let input = text.as_bytes();
     for place in 0..input.len() {

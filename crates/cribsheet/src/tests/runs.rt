@@ -9,7 +9,7 @@ use std::process::Abort;
 use std::str;
 
 /// The text of some sections.
-pub fn joined(rt: &(impl Abort + AllocGlobal), sections: &[&str]) -> String {
+pub(crate) fn joined(rt: &(impl Abort + AllocGlobal), sections: &[&str]) -> String {
     let mut text = String::new(rt.alloc());
     for section in sections {
         text.push_str(section).expect(rt, "memory");
@@ -18,7 +18,7 @@ pub fn joined(rt: &(impl Abort + AllocGlobal), sections: &[&str]) -> String {
 }
 
 /// The text of some sections, with `changed` in the place of line `number`. Lines are counted from 1.
-pub fn joined_with(
+pub(crate) fn joined_with(
     rt: &(impl Abort + AllocGlobal),
     sections: &[&str],
     number: usize,
@@ -44,7 +44,7 @@ pub struct Written {
 /// Runs a job over these bytes. The reader and the writers move at most `piece` bytes at each call. The reader fails as
 /// `given` says, and the writer as `taken` says. The memory of the run is that of `heap`. The function has no contract:
 /// a test judges the outcome when it runs.
-pub fn outcome<A: Allocator + Copy>(
+pub(crate) fn outcome<A: Allocator + Copy>(
     alloc: Global,
     heap: A,
     job: SheetJob,
@@ -65,7 +65,7 @@ pub fn outcome<A: Allocator + Copy>(
 }
 
 /// Runs a job over these bytes with devices that never fail.
-pub fn outcome_of<A: Allocator + Copy>(
+pub(crate) fn outcome_of<A: Allocator + Copy>(
     alloc: Global,
     heap: A,
     job: SheetJob,
@@ -83,30 +83,34 @@ pub fn outcome_of<A: Allocator + Copy>(
 }
 
 /// Runs a job over some sections.
-pub fn written_of(rt: &(impl Abort + AllocGlobal), job: SheetJob, sections: &[&str]) -> Written {
+pub(crate) fn written_of(
+    rt: &(impl Abort + AllocGlobal),
+    job: SheetJob,
+    sections: &[&str],
+) -> Written {
     let input = joined(rt, sections);
     outcome_of(rt.alloc(), rt.alloc(), job, input.as_bytes())
 }
 
 impl Written {
     /// The text of the sheet.
-    pub fn text<'a>(&'a self, rt: &impl Abort) -> &'a str {
+    pub(crate) fn text<'a>(&'a self, rt: &impl Abort) -> &'a str {
         str::from_utf8(self.text.as_slice()).expect(rt, "a text")
     }
 
     /// The words beside it.
-    pub fn words<'a>(&'a self, rt: &impl Abort) -> &'a str {
+    pub(crate) fn words<'a>(&'a self, rt: &impl Abort) -> &'a str {
         str::from_utf8(self.words.as_slice()).expect(rt, "a text")
     }
 
     /// Asserts that this text was written, with this status.
-    pub fn is(&self, rt: &impl Abort, wanted: &str, status: Status, what: &str) {
+    pub(crate) fn is(&self, rt: &impl Abort, wanted: &str, status: Status, what: &str) {
         assert_eq!(rt; self.text(rt), wanted, "to {what}");
         assert_eq!(rt; self.status, status, "to {what}");
     }
 
     /// Asserts that a sheet with these parts was written, in this order, with this status and no words.
-    pub fn has(&self, rt: &impl Abort, parts: &[&str], status: Status) {
+    pub(crate) fn has(&self, rt: &impl Abort, parts: &[&str], status: Status) {
         let mut rest = self.text(rt);
         for part in parts {
             match rest.split_once(*part) {

@@ -1,9 +1,10 @@
 use Rattle.std.proofs.Common.{rules}
 use Rattle.crib_text.specs.Lines.{rest_of}
+use Rattle.crib_text.specs.Reading.{value_at}
 use Rattle.crib_problem.specs.Reading.{seven_lines_at}
 use Rattle.crib_problem.proofs.ProblemForm.{seven_setup}
 use Rattle.crib_problem.proofs.reading.read_seven_lines.Goals as goal
 
 pub of-requires : goal.of-requires
-unfolding seven_lines_at
+unfolding seven_lines_at value_at
 of-requires c = seven_setup (rest_of c.args.lines.now) _ (search rules)

@@ -1,29 +1,33 @@
-use Rattle.std.proofs.Common.{◌≡◌, ◌+◌, ◌-◌, ◌*◌, length}
+use Rattle.std.proofs.Common.{◌≡◌, ◌+◌, ◌-◌, ◌*◌, None, length}
 use Rattle.crib_check.specs.Private.Walks.{IsWalkOf}
-use Rattle.crib_check.proofs.LettersBelow.{IsSettledBelow}
+use Rattle.crib_check.specs.Private.Found.{IsSettledBelow}
 use Rattle.crib_check.proofs.walk.Walk.+walk.Given as goal
 
 abbrev pub decreases-walk : goal.decreases-walk
-decreases-walk g l = 5 * (29 - length l.self.now.trail.items) + 4
+decreases-walk g l = 6 * (29 - length l.self.now.trail.items) + 5
 
 abbrev pub decreases-settle : goal.decreases-settle
-decreases-settle g l = 5 * (29 - length l.self.now.trail.items) + 3
+decreases-settle g l = 6 * (29 - length l.self.now.trail.items) + 4
 
 abbrev pub decreases-go_on : goal.decreases-go_on
-decreases-go_on g l = 5 * (29 - length l.self.now.trail.items) + 2
+decreases-go_on g l = 6 * (29 - length l.self.now.trail.items) + 3
 
 abbrev pub decreases-own_turn : goal.decreases-own_turn
-decreases-own_turn g l = 5 * (29 - length l.self.now.trail.items) + 1
+decreases-own_turn g l = 6 * (29 - length l.self.now.trail.items) + 2
 
 abbrev pub decreases-their_turn : goal.decreases-their_turn
-decreases-their_turn g l = 5 * (29 - length l.self.now.trail.items) + 1
+decreases-their_turn g l = 6 * (29 - length l.self.now.trail.items) + 2
+
+abbrev pub decreases-they_show : goal.decreases-they_show
+decreases-they_show g l = 6 * (29 - length l.self.now.trail.items) + 1
 
 abbrev pub decreases-take : goal.decreases-take
-decreases-take g l = 5 * (29 - length l.self.now.trail.items)
+decreases-take g l = 6 * (29 - length l.self.now.trail.items)
 
 abbrev pub invariant-their_turn-loop-place : goal.invariant-their_turn-loop-place
 invariant-their_turn-loop-place g l = record {
   kept : IsWalkOf g.T.Settled.holds l.fn.self.problem.now l.fn.self.plan.now l.self;
+  none : l.self.failure ≡ None;
   back : l.self.trail.items ≡ l.fn.self.trail.items;
   below : IsSettledBelow l.fn.self.problem.now l.fn.self.plan.now l.key l.place;
 }

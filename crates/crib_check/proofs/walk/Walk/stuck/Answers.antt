@@ -10,8 +10,8 @@ returns g c =
     let walk = c.args.self.now in
     let stands = c.requires.here.here in
     record {
-      kept = c.requires.here.kept;
-      back = λ none. refl;
+      kept = record { same_problem = refl; same_plan = refl; settled = c.requires.here.kept.settled; shows = c.requires.here.kept.shows };
+      back = λ none. absurd cc;
       found = record {
         room = game_room c.args.key.now.know walk.problem.now walk.trail.items stands.knows;
         first = λ game is. stuck_named walk.problem.now walk.plan.now c.args.key.now (later_of_trail walk.trail.items) stands game c.some_deal.result is.deal

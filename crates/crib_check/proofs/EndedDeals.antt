@@ -18,14 +18,17 @@ use Rattle.crib_know.specs.Hidden.{AgreesWith, KnowsAfter}
 use Rattle.crib_know.proofs.RecordTurns.{possible_led}
 use Rattle.crib_know.proofs.KnowledgeFacts.{first_deal_is}
 use Rattle.crib_game.specs.Replay.{full_with}
-use Rattle.crib_check.specs.Shows.{worst_of}
+use Rattle.crib_check.specs.Private.Positions.{AllReach}
+use Rattle.crib_check.specs.Shows.{IsReachedBehind, full_behind, worst_of}
 use Rattle.crib_check.proofs.FirstShortfalls as shorts
 use Rattle.crib_check.proofs.FirstShortfalls.{decided_reached, decided_lost, four_played, behind_to, behind_from}
-use Rattle.crib_search.specs.Finder.{IsReachedBehind, full_behind}
 
 module _ (know : Knowledge) (problem : Setup) (history : List Event) (knows : KnowsAfter know problem history) where
   scores_are : know.round.scores ≡ scores_after (start_of problem) (filled_record (start_of problem) (history_letters history))
   scores_are = ap (λ (k : Knowledge). k.round.scores) knows.knowledge
+
+  pub all_reach : IsReachedBehind problem history → AllReach problem history know.round
+  all_reach reached dealt agrees = ap (λ (s : Scores). outcome_of (full_with problem dealt s)) scores_are ∙ reached dealt agrees
 
   pub reached_now : target_of problem ≤ know.round.scores.owner → IsReachedBehind problem history
   reached_now high dealt agrees =

@@ -16,8 +16,7 @@ use Rattle.crib_answer.specs.declared.job.Job.TheVariants.{Replay, Follow, Check
 use Rattle.crib_input.specs.Input.{problem_of_input, question_of_input}
 use Rattle.crib_run.specs.Reply.{Reply}
 use Rattle.crib_run.specs.Reply.{fault_reply}
-use Rattle.crib_answer.specs.Answer.{AnswersCheck, AnswersProblem, AnswersSolve, verdict_reply, found_reply}
-use Rattle.crib_answer.specs.Memory.{Makes}
+use Rattle.crib_answer.specs.Answer.{AnswersCheck, AnswersProblem, AnswersSolve, Makes, verdict_reply, found_reply}
 use Rattle.crib_input.specs.Spelled.{SpellsProblem, SpellsPlan}
 use Rattle.crib_answer.specs.Meaning.{CheckMeans, SolveMeans, StatusMeans}
 use Rattle.crib_input.proofs.Inputs.{problem_accepted, problem_spelled, question_accepted, question_spelled}

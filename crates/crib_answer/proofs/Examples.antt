@@ -18,11 +18,10 @@ use Rattle.crib_check.proofs.SureExamples.{at_29, ace_or_two, ace_or_two_is_sure
 use Rattle.crib_search.specs.Winnable.{IsWinnable}
 use Rattle.crib_answer.specs.declared.job.Job.TheVariants.{Replay, Check, Solve, Board, Follow}
 use Rattle.crib_answer.specs.Job.{all_jobs, job_names, job_called, sections_of}
-use Rattle.crib_answer.specs.Memory.{AsksForMemory}
 use Rattle.crib_input.specs.declared.sections.Sections.TheVariants as sections
 use Rattle.crib_run.specs.declared.status.Status.TheVariants.{Yes, No, Refused, Fault}
 use Rattle.crib_run.specs.Reply.{fault_line}
-use Rattle.crib_answer.specs.Answer.{too_large}
+use Rattle.crib_answer.specs.Answer.{AsksForMemory, too_large}
 use Rattle.crib_input.specs.Input.{most_bytes}
 use Rattle.crib_input.specs.Spelled.{SpellsProblem, SpellsPlan}
 use Rattle.crib_check.specs.Failing.{IsFirstFailing}

@@ -13,13 +13,14 @@ use Rattle.crib_answer.specs.declared.job.Job.TheVariants.{Replay, Follow, Check
 use Rattle.crib_run.specs.declared.status.Status.TheVariants as statuses
 use Rattle.crib_run.specs.Reply.{Reply, fault_line, fault_reply, refusal_reply}
 use Rattle.crib_input.specs.declared.refusal.Refusal.{Refusal as Refused}
+use Rattle.crib_input.specs.declared.sections.Sections.TheVariants.{Played}
 use Rattle.crib_input.specs.Refusals.{refusal_of}
 use Rattle.crib_input.specs.Input.{problem_of_input, question_of_input}
 use Rattle.crib_answer.specs.Answer.{Answers, AnswersCheck, AnswersProblem, AnswersSolve, board_reply, ending_reply, ending_status}
 use Rattle.crib_answer.specs.Answer.{found_reply, reply_by, report_reply}
-use Rattle.crib_answer.specs.Answer.{too_large, verdict_reply}
+use Rattle.crib_answer.specs.Answer.{Makes, too_large, verdict_reply}
+use Rattle.crib_answer.specs.Job.{sections_of}
 use Rattle.crib_answer.specs.Input.{board_of_input, ending_of_input, report_of_input}
-use Rattle.crib_answer.specs.Memory.{Makes}
 use Rattle.crib_answer.proofs.Agreement.{same_refusal_law}
 use Rattle.crib_answer.proofs.Replies.{one_reply_law}
 
@@ -103,16 +104,20 @@ pub memory_by_line : (reply : Reply) → (reply ≡ fault_reply no_memory) ⊎ (
 memory_by_line reply (inl memory) other = memory
 memory_by_line reply (inr large) other = absurd (other (ap (λ (r : Reply). r.output) large ∙ sym typed_line))
 
--- ---- `replay` and `board`
+-- ---- the jobs whose input is a problem and a game
 
 -- what `replay` refuses, `board` refuses
-pub board_refused : (input : List ℕ) (said : Option Refused) → IfSome said (λ refusal. Answers Replay input (refusal_reply (refusal_of refusal)))
+board_refused : (input : List ℕ) (said : Option Refused) → IfSome said (λ refusal. Answers Replay input (refusal_reply (refusal_of refusal)))
     → IfSome said (λ refusal. Answers Board input (refusal_reply (refusal_of refusal)))
 board_refused input None replayed = replayed
 board_refused input (Some refusal) replayed = (same_refusal_law input (refusal_of refusal)).0 replayed
 
-pub of_game : (job : Job) (input : List ℕ) (said : Option Refused) → (job ≡ Replay) ⊎ (job ≡ Board)
+-- what `replay` refuses, each of them refuses
+pub of_game : (job : Job) (input : List ℕ) (said : Option Refused) → sections_of job ≡ Played
     → IfSome said (λ refusal. Answers Replay input (refusal_reply (refusal_of refusal)))
     → IfSome said (λ refusal. Answers job input (refusal_reply (refusal_of refusal)))
-of_game job input said (inl replay) replayed = rw replay replayed
-of_game job input said (inr board) replayed = rw board (board_refused input said replayed)
+of_game Replay input said e replayed = replayed
+of_game Board input said e replayed = board_refused input said replayed
+of_game Follow input said e replayed = absurd cc
+of_game Check input said e replayed = absurd cc
+of_game Solve input said e replayed = absurd cc

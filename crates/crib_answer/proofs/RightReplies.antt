@@ -11,7 +11,7 @@ use Rattle.crib_check.specs.declared.verdict.Verdict.{Verdict}
 use Rattle.crib_check.specs.declared.verdict.Verdict.TheVariants.{Holds}
 use Rattle.crib_run.specs.Reply.{Reply}
 use Rattle.crib_run.specs.Reply.{fault_reply}
-use Rattle.crib_answer.specs.Answer.{Answers, AnswersCheck, AnswersProblem, found_reply, verdict_reply}
+use Rattle.crib_answer.specs.Answer.{Answers, AnswersCheck, AnswersProblem, Makes, found_reply, verdict_reply}
 use Rattle.crib_run.specs.Reply.{refusal_reply}
 use Rattle.crib_search.specs.Finder.{IsFound, ExceedsLimit}
 use Rattle.crib_input.specs.Input.{most_bytes, problem_alone_at, problem_of_input, question_at, question_of_input}
@@ -19,7 +19,6 @@ use Rattle.crib_input.specs.Input.{played_at, played_of_input, played_under_at, 
 use Rattle.crib_input.proofs.Inputs.{counted, read_of_long}
 use Rattle.crib_answer.specs.Input.{board_of_input, ending_of_input, report_of_input}
 use Rattle.crib_answer.specs.Laws.{TooLongLaw}
-use Rattle.crib_answer.specs.Memory.{Makes}
 
 -- each job answers an input that is too long with the same refusal
 pub long_answers : (job : Job) (input : List ℕ) (reply : Reply) → most_bytes < length input → reply ≡ refusal_reply (record { line = 0; number = too_long })

@@ -1,9 +1,10 @@
--- The right reply of each job to an input: the text that is written, and the exit status.
+-- The right reply of each job to an input: the text that is written, and the exit status. And when a job may run out of
+-- memory instead, once its input is in memory.
 use Rattle.std.specs.Prelude.{◌≡◌, ◌⊎◌, ℕ, List, [], ◌∷◌, ◌++◌, flat_map, codes, decimal}
-use Rattle.std.specs.Prelude.{Option, Some, None, Result, Ok, Err}
+use Rattle.std.specs.Prelude.{Option, Some, None, Result, Ok, Err, IsOk}
 use Rattle.crib_cards.specs.declared.sides.Scores.{Scores}
 use Rattle.crib_cards.specs.Words.{side_word}
-use Rattle.crib_text.specs.Refusals.{Refusal}
+use Rattle.crib_text.specs.Refusals.{Refusal, no_memory}
 use Rattle.crib_text.specs.Spelling.{line_text}
 use Rattle.crib_show.specs.declared.outcomes.ShowRow.{ShowRow}
 use Rattle.crib_show.specs.Words.{outcome_word, show_word}
@@ -17,6 +18,7 @@ use Rattle.crib_run.specs.declared.status.Status.{Status}
 use Rattle.crib_run.specs.declared.status.Status.TheVariants.{Yes, No}
 use Rattle.crib_run.specs.Reply.{Reply, fault_reply, refusal_reply}
 use Rattle.crib_input.specs.Input.{problem_of_input, question_of_input}
+use Rattle.crib_input.specs.Memory.{count_of_input}
 use Rattle.crib_answer.specs.Input.{board_of_input, ending_of_input, report_of_input}
 use Rattle.crib_problem.specs.Setup.{Setup}
 use Rattle.crib_plan.specs.declared.plan.Node.{Node}
@@ -113,3 +115,18 @@ Answers Follow input reply = reply ≡ reply_by ending_reply (ending_of_input in
 Answers Check input reply = AnswersCheck (question_of_input input) reply
 Answers Solve input reply = AnswersSolve (problem_of_input input) reply
 Answers Board input reply = reply ≡ reply_by board_reply (board_of_input input)
+
+-- a job may allocate memory for an input: `replay` never, `follow` and `check` if the problem and the first two lines
+-- of the plan are not refused, `solve` and `board` if the input is not refused
+abbrev pub AsksForMemory : Job → List ℕ → Type 0
+AsksForMemory Replay input = ⊥
+AsksForMemory Follow input = IsOk (count_of_input input)
+AsksForMemory Check input = IsOk (count_of_input input)
+AsksForMemory Solve input = IsOk (problem_of_input input)
+AsksForMemory Board input = IsOk (board_of_input input)
+
+-- a reply is one that a job makes for an input in memory: it is the right one, or it is the fault of a failed
+-- allocation and the job may allocate memory
+abbrev pub Makes : Job → List ℕ → Reply → Type 0
+Makes job input reply =
+    Answers job input reply ⊎ (AsksForMemory job input × (reply ≡ fault_reply no_memory))

@@ -1,5 +1,5 @@
 -- The laws of the replies. They say what the bytes of an input spell, by the bytes of the right reply to it.
-use Rattle.std.specs.Prelude.{◌≡◌, ◌⊎◌, ◌↔◌, ◌<◌, ℕ, List, ◌∷◌, ◌++◌, length, codes, IsOk}
+use Rattle.std.specs.Prelude.{◌≡◌, ◌⊎◌, ◌↔◌, ◌<◌, ℕ, List, ◌∷◌, ◌++◌, length, codes}
 use Rattle.crib_text.specs.Refusals.{Refusal, cut_short, too_long}
 use Rattle.crib_text.specs.Words.{line_after}
 use Rattle.crib_problem.specs.Setup.{Setup}
@@ -13,9 +13,8 @@ use Rattle.crib_check.specs.Sure.{IsSure}
 use Rattle.crib_check.specs.Failing.{IsFirstFailing}
 use Rattle.crib_answer.specs.declared.job.Job.{Job}
 use Rattle.crib_answer.specs.declared.job.Job.TheVariants.{Replay, Follow, Check, Solve, Board}
-use Rattle.crib_input.specs.Input.{most_bytes, problem_of_input, question_of_input}
+use Rattle.crib_input.specs.Input.{most_bytes}
 use Rattle.crib_input.specs.Spelled.{SpellsPlan, SpellsPlannedGame}
-use Rattle.crib_answer.specs.Input.{board_of_input, ending_of_input, report_of_input}
 use Rattle.crib_run.specs.Reply.{Reply}
 use Rattle.crib_run.specs.Reply.{refusal_reply}
 use Rattle.crib_answer.specs.Answer.{Answers, verdict_reply, ending_reply}
@@ -39,13 +38,9 @@ TooLongLaw =
 
 -- ---- beginnings
 
--- a job accepts an input: what it reads is a value and no refusal
+-- a job accepts an input: its right reply is no refusal
 abbrev pub IsAccepted : Job → List ℕ → Type 0
-IsAccepted Replay input = IsOk (report_of_input input)
-IsAccepted Follow input = IsOk (ending_of_input input)
-IsAccepted Check input = IsOk (question_of_input input)
-IsAccepted Solve input = IsOk (problem_of_input input)
-IsAccepted Board input = IsOk (board_of_input input)
+IsAccepted job input = (refusal : Refusal) → ¬ Answers job input (refusal_reply refusal)
 
 -- each proper beginning of an accepted input is refused as cut short. The line is that of the first missing byte
 abbrev pub CutShortLaw : Type 0

@@ -1,7 +1,6 @@
 pub mod Job
 pub mod Input
 pub mod Answer
-pub mod Memory
 pub mod Meaning
 pub mod Reported
 pub mod Laws

@@ -1,7 +1,6 @@
 //! Makes the whole answer of a job to the bytes of an input.
 ghost use Rattle.std.specs.Prelude.{◌≡◌, ◌≤◌, length, vec_len};
-ghost use Rattle.crib_answer.specs.Answer.{board_reply};
-ghost use Rattle.crib_answer.specs.Memory.{Makes};
+ghost use Rattle.crib_answer.specs.Answer.{Makes, board_reply};
 ghost use Rattle.crib_run.specs.Reply.{reply_of};
 ghost use Rattle.crib_answer.specs.Meaning.{StatusMeans};
 

@@ -1,15 +1,14 @@
 //! Why a question has no answer.
 ghost use Rattle.std.specs.Prelude.{◌≡◌, ◌⊎◌, ◌≤◌, IfSome, length};
 ghost use Rattle.crib_text.specs.Refusals.{no_memory};
-ghost use Rattle.crib_answer.specs.Answer.{Answers, too_large};
-ghost use Rattle.crib_answer.specs.Memory.{Makes};
+ghost use Rattle.crib_answer.specs.Answer.{Answers, Makes, too_large};
 ghost use Rattle.crib_input.specs.Refusals.{refusal_of};
 ghost use Rattle.crib_run.specs.Reason.{fault_number, reason_reply};
 ghost use Rattle.crib_run.specs.Reply.{fault_reply, refusal_reply, reply_of};
 
 use crate::job::Job;
 use crib_game::{follow, replay};
-use crib_input::{NotRead, Refusal, played_of, played_under_of, problem_of, question_of};
+use crib_input::{NotRead, Refusal, Sections, played_of, played_under_of, problem_of, question_of};
 use crib_run::{Answer, FaultCause, Reason, Status};
 use crib_text::{MAX_INPUT, TextCause, TextFault};
 use std::alloc::Allocator;
@@ -56,14 +55,14 @@ fn refusal_in<A: Allocator + Copy>(alloc: A, job: Job, input: &[u8]) -> Option<R
     if input.len() > MAX_INPUT {
         return Some(Refusal::from(TextFault::of_input(TextCause::TooLong)));
     }
-    match job {
-        Job::Replay | Job::Board => game_refusal(input),
-        Job::Follow => planned_game_refusal(alloc, input),
-        Job::Check => match question_of(alloc, input) {
+    match job.sections() {
+        Sections::Problem => problem_of(input).err(),
+        Sections::Question => match question_of(alloc, input) {
             Ok(_) => None,
             Err(not_read) => refusal_among(not_read),
         },
-        Job::Solve => problem_of(input).err(),
+        Sections::Played => game_refusal(input),
+        Sections::PlayedUnder => planned_game_refusal(alloc, input),
     }
 }
 

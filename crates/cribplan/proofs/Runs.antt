@@ -2,7 +2,7 @@
 use Rattle.std.proofs.Common.{inl, refl}
 use Rattle.crib_run.proofs.Runs.{HaveMeaning}
 use Rattle.crib_answer.specs.declared.job.Job.{Job}
-use Rattle.crib_answer.specs.Memory.{Makes}
+use Rattle.crib_answer.specs.Answer.{Makes}
 use Rattle.crib_answer.specs.Meaning.{StatusMeans}
 use Rattle.crib_answer.proofs.RightReplies.{long_answers}
 use Rattle.crib_answer.proofs.AnswerMeanings.{makes_means, memory_means}

@@ -2,7 +2,7 @@ use Rattle.std.proofs.Common.{inl, sym, subst}
 use Rattle.crib_answer.specs.declared.job.Job.{Job}
 use Rattle.crib_answer.specs.declared.job.Job.TheVariants.{Check, Solve}
 use Rattle.crib_answer.specs.Meaning.{StatusMeans}
-use Rattle.crib_answer.specs.Memory.{Makes}
+use Rattle.crib_answer.specs.Answer.{Makes}
 use Rattle.crib_run.specs.Reply.{reply_of}
 use Rattle.crib_answer.proofs.RightReplies.{long_answers}
 use Rattle.crib_answer.proofs.AnswerMeanings.{makes_means}

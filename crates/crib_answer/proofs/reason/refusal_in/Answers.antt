@@ -1,4 +1,4 @@
-use Rattle.std.proofs.Common.{refl}
+use Rattle.std.proofs.Common.{refl, sym, ◌∙◌}
 use Rattle.crib_answer.proofs.RightReplies.{long_answers}
 use Rattle.crib_answer.proofs.Reasons.{of_game}
 use Rattle.crib_answer.proofs.reason.refusal_in.Goals as goal
@@ -7,5 +7,6 @@ pub returns-then-input-gt-MAX_INPUT : goal.returns-then-input-gt-MAX_INPUT
 returns-then-input-gt-MAX_INPUT g c =
     long_answers c.args.job c.args.input.now _ c.if-input-gt-MAX_INPUT.true (rw (c.from.ensures, c.of_input.ensures) refl)
 
-pub returns-in-Replay : goal.returns-in-Replay
-returns-in-Replay g c = of_game c.args.job c.args.input.now c.game_refusal.result c.in-Replay.is c.game_refusal.ensures
+pub returns-in-Played : goal.returns-in-Played
+returns-in-Played g c =
+    of_game c.args.job c.args.input.now c.game_refusal.result (sym c.sections.ensures ∙ c.in-Played.is) c.game_refusal.ensures

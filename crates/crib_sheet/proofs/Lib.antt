@@ -1,4 +1,5 @@
 mod GameShowExamples
+mod GameTextExamples
 mod HeadingExamples
 pub mod ChosenCombinations
 pub mod CombinationPoints

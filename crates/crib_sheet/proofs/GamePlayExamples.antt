@@ -5,7 +5,7 @@ use Rattle.crib_cards.specs.declared.letters.Letter.TheVariants as letter
 use Rattle.crib_cards.specs.declared.letters.Letter.TheVariants.{Seen}
 use Rattle.crib_cards.specs.declared.sides.Side.TheVariants.{Opponent}
 use Rattle.crib_sheet.specs.declared.game.reason.PlayReason.TheVariants.{Fifteen, ThirtyOne, Alike, Run, Go, LastCard}
-use Rattle.crib_sheet.specs.GamePlay.{reason_points, reasons_added, reasons_in, turn_reasons}
+use Rattle.crib_sheet.specs.GamePlay.{reason_points, reasons_added, reasons_in, reasons_points, turn_reasons}
 
 -- the opponent deals, and both scores are 0
 abbrev level_start : Start
@@ -53,6 +53,10 @@ eighth_card : turn_reasons (Seen 8)
     (reverse (Seen 10 ∷ Seen 12 ∷ Seen 13 ∷ letter.Go ∷ letter.Go ∷ Seen 9 ∷ Seen 4 ∷ Seen 7 ∷ Seen 2 ∷ [])) ≡ LastCard ∷ []
 eighth_card = refl
 
+eighth_card_that_pairs : turn_reasons (Seen 2)
+    (reverse (Seen 10 ∷ Seen 12 ∷ Seen 13 ∷ letter.Go ∷ letter.Go ∷ Seen 9 ∷ Seen 4 ∷ Seen 7 ∷ Seen 2 ∷ [])) ≡ Alike 2 ∷ LastCard ∷ []
+eighth_card_that_pairs = refl
+
 -- ---- gos
 
 first_go : turn_reasons letter.Go (reverse (Seen 10 ∷ Seen 12 ∷ Seen 13 ∷ [])) ≡ []
@@ -86,3 +90,6 @@ four_alike_count_12 = refl
 
 run_of_five_counts_5 : reason_points (Run 5) ≡ 5
 run_of_five_counts_5 = refl
+
+a_pair_that_makes_15 : reasons_points (Fifteen ∷ Alike 2 ∷ []) ≡ 4
+a_pair_that_makes_15 = refl

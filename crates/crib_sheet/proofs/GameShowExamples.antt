@@ -76,6 +76,12 @@ pub crib_flush_of_five : crib_combinations clubs 36 ≡ combination Flush (4 ∷
 unfolding crib_combinations combinations_of
 crib_flush_of_five = refl
 
+-- 2C 4C 6C JC with 5C: the flush comes after what the ranks count, and the jack last
+pub clubs_with_their_jack : crib_combinations (4 ∷ 12 ∷ 20 ∷ 40 ∷ []) 16 ≡ fifteen (12 ∷ 20 ∷ 16 ∷ []) ∷ fifteen (40 ∷ 16 ∷ [])
+    ∷ combination Run (12 ∷ 20 ∷ 16 ∷ []) ∷ combination Flush (4 ∷ 12 ∷ 20 ∷ 40 ∷ 16 ∷ []) ∷ combination Jack (40 ∷ []) ∷ []
+unfolding crib_combinations combinations_of
+clubs_with_their_jack = refl
+
 -- QC KD AH 2S with 8C
 pub nothing : hand_combinations (44 ∷ 49 ∷ 2 ∷ 7 ∷ []) 28 ≡ []
 unfolding hand_combinations combinations_of

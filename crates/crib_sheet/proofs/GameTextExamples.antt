@@ -48,7 +48,8 @@ no_sheet = refl
 -- ---- acts
 
 -- the second king is out of turn, so the lines are those of the two acts before it
-acts_before_a_fault : accepted_acts_text level (game_with level_deal (plays Owner 36 ∷ plays Opponent 37 ∷ plays Opponent 49 ∷ plays Opponent 50 ∷ []))
+acts_before_a_fault : accepted_acts_text level
+    (game_with level_deal (plays Owner 36 ∷ plays Opponent 37 ∷ plays Opponent 49 ∷ plays Opponent 50 ∷ plays Owner 32 ∷ []))
     ≡ codes " 1 pone   TC      10   0    0\n 2 dealer TD      20   0    2  2: pair 2\n"
 unfolding digits right_in accepted_text reason_text points_text score_text act_text act_line act_lines
 acts_before_a_fault = refl
@@ -57,13 +58,15 @@ no_act_before_a_fault : accepted_acts_text level (game_with level_deal (plays Op
 unfolding accepted_text act_lines
 no_act_before_a_fault = refl
 
--- the pone says go after the dealer's go, and the point is the pone's, who played the last card
-go_of_both : accepted_acts_text (record level { hold = 36 ∷ 48 ∷ 4 ∷ 28 ∷ [] })
-    (game_with level_deal (plays Owner 36 ∷ plays Opponent 47 ∷ plays Owner 48 ∷ says_go Opponent ∷ says_go Owner ∷ []))
+-- the point of a go is the pone's, who played the last card, also where only the dealer says it
+points_of_the_pone : accepted_acts_text (record level { hold = 36 ∷ 48 ∷ 4 ∷ 28 ∷ [] })
+    (game_with level_deal (plays Owner 36 ∷ plays Opponent 47 ∷ plays Owner 48 ∷ says_go Opponent ∷ says_go Owner ∷ plays Opponent 49 ∷ plays Owner 28
+    ∷ plays Opponent 50 ∷ plays Owner 4 ∷ says_go Opponent ∷ []))
     ≡ codes " 1 pone   TC      10   0    0\n 2 dealer QS      20   0    0\n 3 pone   KC      30   0    0\n 4 dealer go      30   0    0\n"
-    ++ codes " 5 pone   go      30   1    0  1: go 1 (to the pone)\n"
+    ++ codes " 5 pone   go      30   1    0  1: go 1 (to the pone)\n 6 dealer KD      10   1    0\n 7 pone   8C      18   1    0\n"
+    ++ codes " 8 dealer KH      28   1    0\n 9 pone   2C      30   1    0\n10 dealer go      30   2    0  1: go 1 (to the pone)\n"
 unfolding digits right_in accepted_text reason_text points_text score_text act_text act_line act_lines
-go_of_both = refl
+points_of_the_pone = refl
 
 -- A 7 7
 two_reasons : accepted_acts_text (record level { hold = 0 ∷ 24 ∷ 4 ∷ 28 ∷ [] })

@@ -1,6 +1,7 @@
 mod GameShowExamples
 mod GameTextExamples
 mod HeadingExamples
+mod PlanHeadExamples
 pub mod ChosenCombinations
 pub mod CombinationPoints
 pub mod DifferentCombinations

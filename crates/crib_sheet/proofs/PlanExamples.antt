@@ -1,14 +1,13 @@
 -- Worked examples of the sheets of plans.
-use Rattle.std.specs.Prelude.{◌≡◌, ℕ, ◌==◌, false, refl, List, [], ◌∷◌, ◌++◌, map, replicate, codes, None, Some}
-use Rattle.std.specs.Fmt.{digits}
+use Rattle.std.specs.Prelude.{◌≡◌, ℕ, ◌==◌, true, false, refl, List, [], ◌∷◌, ◌++◌, map, nat_le, replicate, codes, None, Some}
 use Rattle.crib_cards.specs.Sets.{has}
 use Rattle.crib_cards.specs.declared.letters.Letter.TheVariants.{Seen, Go}
 use Rattle.crib_plan.specs.declared.plan.Next.TheVariants.{End, To}
 use Rattle.crib_plan.specs.declared.plan.Node.{Node}
 use Rattle.crib_plan.specs.declared.plan.Node.TheVariants.{Play, See}
 use Rattle.crib_plan.specs.Spelling.{letter_bytes}
-use Rattle.crib_sheet.specs.PlanText.{label, paragraph_text, rank_words, sheet_text}
-use Rattle.crib_sheet.specs.PlanSheet.{Row, Lines, Sheet, Over, Plays, Looks, Named, NoLine, Line, OwnCard, Shown, sheet_with, sheet_card}
+use Rattle.crib_sheet.specs.PlanOutline.{apart_in}
+use Rattle.crib_sheet.specs.PlanSheet.{Row, Lines, Sheet, Over, Plays, Looks, Named, NoLine, Line, OwnCard, Shown, row_for, sheet_with, sheet_card}
 
 -- a look, with the letters of each line as a plan writes them
 abbrev pub lines_of : List (List ℕ × Row) → Lines
@@ -83,23 +82,37 @@ pub after_a_go : sheet_card eights_sheet (OwnCard ∷ Shown Go ∷ []) ≡ None
 unfolding sheet_with sheet_card
 after_a_go = refl
 
--- the texts of both sheets
-pub text_of_one_paragraph : sheet_text eights_sheet
-    ≡ codes "8D, then look:\n    A 4-K : 2S 8H, then see [10]\n    2     : 8H 2S, then see [10]\n    3     : 8H, then look:\n"
-    ++ codes "        A 3-K : 2S, then see [10]\n        2     : 8S 2S\n\n[10] 8S\n"
-unfolding sheet_text sheet_with label rank_words paragraph_text digits
-text_of_one_paragraph = refl
+-- ---- lines
 
-pub text_of_no_paragraph : sheet_text (sheet_with (λ node. false) three_eights) ≡ codes
-    "8D, then look:\n    A 4-K : 2S 8H 8S\n    2     : 8H 2S 8S\n    3     : 8H, then look:\n        A 3-K : 2S 8S\n        2     : 8S 2S\n"
-unfolding sheet_text sheet_with label rank_words
-text_of_no_paragraph = refl
+-- letters that lead to the end of the plan have no line, and those that lead to one node have one line
+abbrev by_twos : List Node
+by_twos =
+    See (To 1 ∷ To 1 ∷ To 2 ∷ To 2 ∷ End ∷ To 3 ∷ To 3 ∷ replicate 7 End) ∷ Play deuce End ∷ Play heart End ∷ Play spade End ∷ []
 
--- a label with two neighbours, and with a go
-pub label_of_neighbours : label (map (has (codes "A2468Tg")) letter_bytes) ≡ codes "A 2 4 6 8 T go"
-unfolding label rank_words
-label_of_neighbours = refl
+pub a_line_for_each_node : sheet_with (λ node. false) by_twos ≡ record {
+  first = look ((codes "A2", Plays deuce Over) ∷ (codes "34", Plays heart Over) ∷ (codes "67", Plays spade Over) ∷ []);
+  paragraphs = [];
+}
+unfolding sheet_with
+a_line_for_each_node = refl
 
-pub label_of_all : label (map (has (codes "A23456789TJQKg")) letter_bytes) ≡ codes "A-K go"
-unfolding label rank_words
-label_of_all = refl
+pub two_paragraphs : sheet_with (λ node. nat_le 2 node) by_twos ≡ record {
+  first = look ((codes "A2", Plays deuce Over) ∷ (codes "34", Named 2) ∷ (codes "67", Named 3) ∷ []);
+  paragraphs = record { number = 2; row = Plays heart Over } ∷ record { number = 3; row = Plays spade Over } ∷ [];
+}
+unfolding sheet_with
+two_paragraphs = refl
+
+pub for_no_letter : row_for (Line [] (Plays spade Over) NoLine) Go ≡ Over
+for_no_letter = refl
+
+-- ---- nodes with paragraphs of their own
+
+pub in_an_outline : apart_in (false ∷ true ∷ []) 1 ≡ true
+in_an_outline = refl
+
+pub not_apart : apart_in (false ∷ true ∷ []) 0 ≡ false
+not_apart = refl
+
+pub past_an_outline : apart_in (true ∷ []) 1 ≡ false
+past_an_outline = refl

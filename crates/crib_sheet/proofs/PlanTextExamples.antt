@@ -1,13 +1,16 @@
 -- Worked examples of the texts of sheets.
-use Rattle.std.specs.Prelude.{◌≡◌, ℕ, false, refl, Bool, List, [], ◌∷◌, ◌++◌, map, codes}
+use Rattle.std.specs.Prelude.{◌≡◌, ◌≤◌, ℕ, false, refl, Bool, List, [], ◌∷◌, ◌++◌, map, codes}
 use Rattle.std.specs.List.{count_by}
+use Rattle.std.proofs.Common.{arith}
 use Rattle.std.specs.Fmt.{digits}
 use Rattle.crib_cards.specs.Sets.{has}
 use Rattle.crib_plan.specs.Spelling.{letter_bytes}
 use Rattle.crib_sheet.specs.PlanSheet.{Row, Sheet, Over, Plays, Looks, Named, NoLine, sheet_with}
 use Rattle.crib_sheet.specs.PlanText.{rank_words, label, row_text, paragraph_text, sheet_text}
 use Rattle.crib_sheet.specs.PlanSheetSize.{most_cards, sheet_lines, all_cards, sheet_levels, sheet_cards, sheet_columns, longest_line}
-use Rattle.crib_sheet.specs.PlanBranches.{node_leads, plan_branches, plan_plays}
+use Rattle.crib_plan.specs.declared.plan.Next.TheVariants.{End, To}
+use Rattle.crib_plan.specs.declared.plan.Node.TheVariants.{Play, See}
+use Rattle.crib_sheet.specs.PlanBranches.{LedToOnce, looks_of, node_leads, plan_branches, plan_plays}
 use Rattle.crib_sheet.proofs.PlanExamples.{look, deuce, heart, spade, three_eights, eights_sheet}
 
 -- ---- labels
@@ -75,6 +78,11 @@ a_paragraph_named = refl
 a_paragraph : paragraph_text (record { number = 10; row = Plays spade Over }) ≡ codes "\n[10] 8S\n"
 unfolding paragraph_text digits
 a_paragraph = refl
+
+a_look_in_a_paragraph : paragraph_text (record { number = 3; row = look ((codes "3", Plays heart Over) ∷ (codes "g", Plays spade Over) ∷ []) })
+    ≡ codes "\n[3] look:\n    3  : 8H\n    go : 8S\n"
+unfolding paragraph_text label rank_words digits
+a_look_in_a_paragraph = refl
 
 -- ---- sheets
 
@@ -165,6 +173,12 @@ a_line_without_its_end = refl
 
 -- ---- branches
 
+levels_of_nodes : map looks_of (Play deuce End ∷ See [] ∷ []) ≡ 0 ∷ 1 ∷ []
+levels_of_nodes = refl
+
+branches_of_the_first_node : plan_branches (See (To 1 ∷ To 1 ∷ To 2 ∷ End ∷ []) ∷ Play deuce End ∷ []) ≡ 2
+branches_of_the_first_node = refl
+
 eights_branches : plan_branches three_eights ≡ 5
 eights_branches = refl
 
@@ -180,3 +194,7 @@ led_to_once = refl
 
 led_to_by_none : count_by (node_leads 0) three_eights ≡ 0
 led_to_by_none = refl
+
+-- without a paragraph for node 10 its spade would stand in two rows
+two_lead_to_the_spade : LedToOnce (λ node. false) three_eights → ⊥
+two_lead_to_the_spade once = let two : 2 ≤ 1 = once 10 refl in absurd (omega arith)

@@ -1,37 +1,9 @@
 //! The nodes that have paragraphs, of whole plans.
 use crate::plan::outline::{Outline, is_apart};
-use crib_plan::{Plan, read_plan};
-use crib_text::Lines;
+use crate::plan::tests::{DEEP, SHARED, THREE_EIGHTS, plan};
 use refusing_alloc::Refusing;
-use std::alloc::{AllocError, Global};
+use std::alloc::AllocError;
 use std::process::Abort;
-
-// The owner holds three eights and a two. They lead an eight, and look at the dealer's card. Only plays are shared.
-const THREE_EIGHTS: &str = "plan 1
-nodes 11
-0 play 8D 1
-1 see A456789TJQK:8 2:6 3:2
-2 play 8H 3
-3 see A3456789TJQK:7 2:4
-4 play 8S 5
-5 play 2S end
-6 play 8H 7
-7 play 2S 10
-8 play 2S 9
-9 play 8H 10
-10 play 8S end
-";
-
-// Both branches of the first look lead to node 3.
-const SHARED: &str = "plan 1
-nodes 6
-0 see A:1 2:2
-1 play AC 3
-2 play AD 3
-3 see 3:4 g:5
-4 play AH end
-5 play AS end
-";
 
 // Both branches of the first look lead to a card, node 3, before the next look.
 const SHARED_CARD: &str = "plan 1
@@ -80,18 +52,6 @@ nodes 30
 29 play 4H end
 ";
 
-// Six looks, each below the one before.
-const DEEP: &str = "plan 1
-nodes 7
-0 see A:1
-1 see 2:2
-2 see 3:3
-3 see 4:4
-4 see 5:5
-5 see 6:6
-6 play KC end
-";
-
 // Each node but the first two is led to twice.
 const TWICE: &str = "plan 1
 nodes 6
@@ -113,13 +73,6 @@ nodes 6
 4 see A:5
 5 play AS end
 ";
-
-fn plan(rt: &(impl Abort + AllocGlobal), text: &str) -> Plan<Global> {
-    let bytes = text.as_bytes();
-    assert!(rt; bytes.len() <= 1000);
-    let mut lines = Lines::new(bytes).expect(rt, "lines");
-    read_plan(rt.alloc(), &mut lines).expect(rt, "a plan")
-}
 
 // Asserts which nodes of a plan have paragraphs.
 fn has_paragraphs(rt: &(impl Abort + AllocGlobal), text: &str, count: u16, numbers: &[u16]) {

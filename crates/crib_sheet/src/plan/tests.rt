@@ -8,8 +8,8 @@ use std::alloc::Global;
 use std::io::ErrorKind;
 use std::process::Abort;
 
-// The owner holds three eights and a two. They lead an eight, and look at the dealer's card.
-const THREE_EIGHTS: &str = "plan 1
+/// The owner holds three eights and a two. They lead an eight, and look at the dealer's card. Only plays are shared.
+pub(crate) const THREE_EIGHTS: &str = "plan 1
 nodes 11
 0 play 8D 1
 1 see A456789TJQK:8 2:6 3:2
@@ -32,8 +32,8 @@ const THREE_EIGHTS_SHEET: &str = "8D, then look:
         2     : 8S 2S
 ";
 
-// Both branches of the first look lead to one look.
-const SHARED: &str = "plan 1
+/// Both branches of the first look lead to node 3, a look.
+pub(crate) const SHARED: &str = "plan 1
 nodes 6
 0 see A:1 2:2
 1 play AC 3
@@ -76,8 +76,8 @@ const LONG_SHEET: &str = "look:
 [6] 5C 6C 7C 8C 9C
 ";
 
-// Six looks, each below the one before.
-const DEEP: &str = "plan 1
+/// Six looks, each below the one before.
+pub(crate) const DEEP: &str = "plan 1
 nodes 7
 0 see A:1
 1 see 2:2
@@ -106,7 +106,8 @@ next: a rank, or a go, even after yours. At the end of a row, or if there is
 no line, nothing is left to decide. At \"see [n]\", go on in paragraph [n].
 ";
 
-fn plan(rt: &(impl Abort + AllocGlobal), text: &str) -> Plan<Global> {
+/// The plan that this text spells.
+pub(crate) fn plan(rt: &(impl Abort + AllocGlobal), text: &str) -> Plan<Global> {
     let bytes = text.as_bytes();
     assert!(rt; bytes.len() <= 1000);
     let mut lines = Lines::new(bytes).expect(rt, "lines");

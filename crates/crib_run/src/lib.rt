@@ -15,7 +15,7 @@ pub use answer::Answer;
 pub use faults::{fault_answer, line_answer, memory_answer, read_fault_answer};
 pub use reason::{FaultCause, Reason};
 pub use refusal::{not_read_answer, refusal_answer, too_long_answer};
-pub use sending::{memory_fault, send, unread_answer, unread_reason};
+pub use sending::{send, unread_answer, unread_reason};
 pub use status::Status;
 pub use text::{ShortText, Text, add, add_number};
 

@@ -1,10 +1,9 @@
 //! Sends an answer to a device.
 ghost use Rattle.std.specs.Prelude.{◌≡◌};
 ghost use Rattle.crib_text.specs.Device.{HasFailed};
-ghost use Rattle.crib_text.specs.Refusals.{no_memory};
 ghost use Rattle.crib_text.specs.Transfer.{IsReadingFault};
 ghost use Rattle.crib_run.specs.Reason.{reason_reply};
-ghost use Rattle.crib_run.specs.Reply.{fault_reply, reply_of};
+ghost use Rattle.crib_run.specs.Reply.{reply_of};
 ghost use Rattle.crib_run.specs.Run.{Sends, unread_reply};
 
 use crate::answer::Answer;
@@ -14,7 +13,7 @@ use crate::refusal::too_long_answer;
 use crate::status::Status;
 use crib_input::Refusal;
 use crib_text::{Sink, TextCause, TextFault, put};
-use std::alloc::{Allocator, Global};
+use std::alloc::Allocator;
 
 /// Returns the answer if no whole input was read: `fault 9` if the reader failed, `fault 11` if an allocation failed,
 /// and the refusal 2 if the input has more than 8,388,608 bytes.
@@ -50,12 +49,4 @@ pub fn send<A: Allocator, W: Sink>(sink: &mut W, answer: &Answer<A>) -> Status
         Ok(()) => answer.status(),
         Err(_) => Status::Fault,
     }
-}
-
-/// Writes `fault 11`, for an allocation that failed before the input was read. Returns `Fault`.
-pub fn memory_fault<W: Sink>(sink: &mut W) -> Status
-    ensures { Sends (fault_reply no_memory) (W.contents sink.old) (W.contents sink.new)
-        (HasFailed (W.faults sink.old) (W.faults sink.new)) result }
-{
-    send(sink, &memory_answer::<Global>())
 }

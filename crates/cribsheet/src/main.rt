@@ -14,11 +14,9 @@ use clap::Error;
 use clap::error::ErrorKind;
 use command::{job_of, job_without_words, program};
 use crib_input::Sections;
-use crib_message::say;
 pub use crib_run::Status;
-use crib_run::{FaultCause, Reason, memory_fault};
-use crib_text::Counted;
-use crib_words::{show, words_of_args};
+use crib_text::{Counted, TextCause, TextFault};
+use crib_words::{send_unread, show, words_of_args};
 pub use job::SheetJob;
 use run::run_with_words;
 use std::process::ExitCode;
@@ -33,10 +31,14 @@ fn main(rt: HostRuntime) -> ExitCode {
             run_with_words(rt.alloc(), job, &mut source, &mut sink, &mut words)
         }
         Err(error) if error.kind() == ErrorKind::OutOfMemory => {
-            let status = memory_fault(&mut sink);
-            let reason = Reason::Fault(FaultCause::NoMemory);
-            say(&mut words, b"cribsheet", Sections::Problem, b"", &reason);
-            status
+            let fault = TextFault::of_input(TextCause::NoMemory);
+            send_unread(
+                &mut sink,
+                &mut words,
+                b"cribsheet",
+                Sections::Problem,
+                fault,
+            )
         }
         Err(error) => show(&rt, &program(), &error),
     };

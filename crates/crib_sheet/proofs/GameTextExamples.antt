@@ -7,7 +7,7 @@ use Rattle.crib_show.specs.Show.{hand_points, crib_points}
 use Rattle.crib_show.specs.Outcome.{outcome_of, show_of}
 use Rattle.crib_problem.specs.declared.problem.Goal.TheVariants.{Win, Holes, Stop}
 use Rattle.crib_game.specs.declared.fault.GameFault.TheVariants.{NotTurn}
-use Rattle.crib_problem.proofs.ExampleProblems.{plays, says_go, level, level_deal, level_acts, close_to_lost, pairing}
+use Rattle.crib_problem.proofs.ExampleProblems.{plays, says_go, level, level_deal, level_acts, close_to_lost}
 use Rattle.crib_game.proofs.ExampleGames.{game_with}
 use Rattle.crib_board.specs.Board.{right_in}
 use Rattle.crib_sheet.specs.declared.game.combination.Kind.TheVariants.{Jack}

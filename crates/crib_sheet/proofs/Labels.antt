@@ -1,10 +1,9 @@
 -- The labels of lines, as they are put together.
-use Rattle.std.proofs.Common.{◌≡◌, ℕ, zero, suc, ◌+◌, ◌-◌, ◌*◌, max, ◌<◌, ◌≤◌, ◌∙◌, Bool, true, false, List, [], ◌∷◌, ◌++◌, Option, Some, None, length, map}
-use Rattle.std.proofs.Common.{take, drop, get_or, replicate, refl, ap, sym, subst, inl, inr, append_assoc, length-append, add-one, arith}
-use Rattle.std.specs.List.{list_any, join_with_byte, flat_map}
+use Rattle.std.proofs.Common.{◌≡◌, ℕ, zero, suc, ◌+◌, ◌-◌, max, ◌<◌, ◌≤◌, ◌∙◌, Bool, true, false, List, [], ◌∷◌, ◌++◌, Some, None, length, map}
+use Rattle.std.proofs.Common.{take, drop, get_or, replicate, refl, ap, sym, inl, inr, arith}
+use Rattle.std.specs.List.{list_any, join_with_byte}
 use Rattle.std.proofs.lemmas.Bool.{cases_Bool}
 use Rattle.std.proofs.lemmas.List.{append-nil, take-replicate, drop_more}
-use Rattle.std.proofs.lemmas.Grind.{flat_map-append}
 use Rattle.std.proofs.Math.Seq.{drop-nil}
 use Rattle.crib_text.specs.Spelling.{space}
 use Rattle.crib_plan.specs.declared.plan.Next.{Next}

@@ -1,24 +1,23 @@
 -- The rows of a plan's sheet, from place to place.
-use Rattle.std.proofs.Common.{◌≡◌, ℕ, zero, suc, ◌+◌, ◌-◌, ◌<◌, ◌≤◌, ◌∙◌, Bool, true, false, eqb, List, [], ◌∷◌, ◌++◌, Option, Some, None, length, map, filter}
+use Rattle.std.proofs.Common.{◌≡◌, ℕ, zero, suc, ◌+◌, ◌-◌, ◌<◌, ◌≤◌, ◌∙◌, Bool, true, false, eqb, List, [], ◌∷◌, ◌++◌, Some, None, length, map}
 use Rattle.std.proofs.Common.{drop, take, get_or, slice_get, refl, ap, sym, subst, inl, inr, append_assoc, arith, zero-add}
-use Rattle.std.specs.List.{AllByRecursion, list_any, flat_map}
+use Rattle.std.specs.List.{AllByRecursion, list_any}
 use Rattle.std.proofs.lemmas.Bool.{cases_Bool, ne_eqb, eq-eqb}
 use Rattle.std.proofs.lemmas.List.{drop_more}
 use Rattle.crib_plan.specs.declared.plan.Next.{Next}
 use Rattle.crib_plan.specs.declared.plan.Next.TheVariants.{End, To}
 use Rattle.crib_plan.specs.declared.plan.Node.{Node}
 use Rattle.crib_plan.specs.declared.plan.Node.TheVariants.{Play, See}
-use Rattle.crib_plan.specs.Nodes.{IsLater, IsNode, AreNodes, ArePlan}
-use Rattle.crib_plan.specs.Places.{plan_start}
+use Rattle.crib_plan.specs.Nodes.{IsLater, IsNode, ArePlan}
 use Rattle.crib_plan.specs.Spelling.{leads_to}
-use Rattle.crib_sheet.specs.PlanSheet.{Row, Lines, Paragraph, Over, Plays, Looks, Named, NoLine, Line, row_named, row_to, lines_to, row_of, rows_from, with_row}
+use Rattle.crib_sheet.specs.PlanSheet.{Row, Paragraph, Over, Plays, Looks, Named, NoLine, Line, row_named, row_to, lines_to, row_of, rows_from, with_row}
 use Rattle.crib_sheet.specs.PlanSheet.{sheet_with}
 use Rattle.crib_sheet.specs.PlanOutline.{apart_in}
-use Rattle.crib_sheet.specs.PlanText.{row_text, lines_text, paragraph_text, sheet_text, before_rest}
-use Rattle.crib_sheet.specs.PlanPage.{legend_text, none_needed, page_text}
-use Rattle.crib_sheet.specs.Private.Pages.{IsDeep, node_row, place_row, lines_at, line_front, first_text, numbered_text, paragraphs_text, new_node}
+use Rattle.crib_sheet.specs.PlanText.{sheet_text, before_rest}
+use Rattle.crib_sheet.specs.PlanPage.{legend_text, page_text}
+use Rattle.crib_sheet.specs.Private.Pages.{node_row, place_row, lines_at, first_text, numbered_text, paragraphs_text, new_node}
 use Rattle.crib_sheet.proofs.Labels.{line_none, line_new}
-use Rattle.crib_sheet.proofs.PlanSheets.{Stands, stands, node_fits}
+use Rattle.crib_sheet.proofs.PlanSheets.{stands, node_fits}
 
 -- ---- places
 

@@ -1,10 +1,9 @@
 -- The rows and lines of a sheet, put on a device.
-use Rattle.std.proofs.Common.{◌≡◌, ℕ, zero, suc, ◌+◌, ◌-◌, max, ◌<◌, ◌≤◌, ◌∙◌, Bool, true, false, List, [], ◌∷◌, ◌++◌, Option, Some, None, length, map, filter}
+use Rattle.std.proofs.Common.{◌≡◌, ℕ, zero, suc, ◌+◌, ◌-◌, max, ◌<◌, ◌≤◌, ◌∙◌, Bool, true, false, List, [], ◌∷◌, ◌++◌, Some, None, length, map, filter}
 use Rattle.std.proofs.Common.{drop, take, get_or, codes, decimal, inl, inr, refl, ap, sym, subst, append_assoc, arith}
 use Rattle.std.specs.List.{AllByRecursion, flat_map, list_any}
 use Rattle.std.proofs.lemmas.Bool.{cases_Bool}
 use Rattle.std.proofs.Math.Seq.{drop-nil}
-use Rattle.std.proofs.lemmas.List.{append-nil}
 use Rattle.crib_cards.specs.CardText.{card_text}
 use Rattle.crib_plan.specs.declared.plan.Next.{Next}
 use Rattle.crib_plan.specs.declared.plan.Next.TheVariants.{End, To}
@@ -12,7 +11,7 @@ use Rattle.crib_plan.specs.declared.plan.Node.{Node}
 use Rattle.crib_plan.specs.declared.plan.Node.TheVariants.{Play, See}
 use Rattle.crib_plan.specs.Nodes.{IsLater, IsNode, ArePlan}
 use Rattle.crib_plan.specs.Spelling.{leads_to}
-use Rattle.crib_sheet.specs.PlanSheet.{Row, Lines, Paragraph, Named, NoLine, Looks, lines_to, rows_from}
+use Rattle.crib_sheet.specs.PlanSheet.{Paragraph, Named, lines_to, rows_from}
 use Rattle.crib_sheet.specs.PlanOutline.{apart_in}
 use Rattle.crib_sheet.specs.PlanText.{row_text, lines_text, before_rest, indent, label, label_column, label_width, paragraph_text}
 use Rattle.crib_sheet.specs.PlanPage.{none_needed}

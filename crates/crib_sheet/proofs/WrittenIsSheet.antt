@@ -7,7 +7,6 @@ use Rattle.crib_cards.specs.declared.sides.Dealt.{Dealt}
 use Rattle.crib_cards.specs.declared.sides.Scores.{Scores}
 use Rattle.crib_cards.specs.declared.sides.Side.{Side}
 use Rattle.crib_cards.specs.declared.sides.Side.TheVariants.{Owner, Opponent}
-use Rattle.crib_problem.specs.declared.problem.Goal.{Goal}
 use Rattle.crib_problem.specs.Setup.{Setup}
 use Rattle.crib_problem.specs.Spelling.{move_word}
 use Rattle.crib_show.specs.declared.outcomes.Outcome.{Outcome}

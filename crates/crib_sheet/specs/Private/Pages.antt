@@ -1,5 +1,5 @@
 -- The rows and lines of a plan's sheet, by the places of the plan.
-use Rattle.std.specs.Prelude.{ℕ, ◌≤◌, ◌<◌, Bool, List, [], ◌∷◌, ◌++◌, map, filter, flat_map, take, drop, codes}
+use Rattle.std.specs.Prelude.{ℕ, ◌≤◌, ◌<◌, Bool, List, [], ◌∷◌, ◌++◌, filter, flat_map, take, drop, codes}
 use Rattle.std.specs.Prelude.{Option, Some, None, if◌then◌else◌}
 use Rattle.std.specs.List.{list_any}
 use Rattle.crib_text.specs.Spelling.{space}
@@ -9,7 +9,7 @@ use Rattle.crib_plan.specs.declared.plan.Node.{Node}
 use Rattle.crib_plan.specs.Places.{plan_start}
 use Rattle.crib_plan.specs.Spelling.{leads_to}
 use Rattle.crib_sheet.specs.PlanSheet.{Row, Lines, row_named, row_to, lines_to, rows_from}
-use Rattle.crib_sheet.specs.PlanText.{indent, label_column, row_text, lines_text, label_width, rank_words, go_words}
+use Rattle.crib_sheet.specs.PlanText.{indent, label_column, row_text, label_width, rank_words, go_words}
 use Rattle.crib_sheet.specs.PlanText.{paragraph_text}
 use Rattle.crib_sheet.specs.PlanOutline.{apart_in}
 use Rattle.crib_sheet.specs.PlanPage.{none_needed}

@@ -1,4 +1,4 @@
-use Rattle.std.proofs.Common.{rules, arith}
+use Rattle.std.proofs.Common.{rules}
 use Rattle.crib_sheet.proofs.PutLemmas.{put_ok, put_err}
 use Rattle.crib_sheet.proofs.plan.pieces.put_bytes.Goals as goal
 

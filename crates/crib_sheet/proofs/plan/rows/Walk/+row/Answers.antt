@@ -1,7 +1,7 @@
-use Rattle.std.proofs.Common.{rules, ◌≡◌, ◌+◌, ◌-◌, ◌*◌, ◌<◌, ◌≤◌, ◌++◌, Bool, List, ℕ, length, refl, sym, ap, subst, ◌∙◌, arith}
+use Rattle.std.proofs.Common.{rules, ◌≡◌, ◌-◌, ◌++◌, Bool, List, ℕ, length, refl, sym, ap, subst, ◌∙◌, arith}
 use Rattle.std.specs.List.{AllByRecursion}
 use Rattle.crib_cards.specs.CardText.{card_text}
-use Rattle.crib_plan.specs.declared.plan.Next.TheVariants.{End, To}
+use Rattle.crib_plan.specs.declared.plan.Next.TheVariants.{To}
 use Rattle.crib_plan.specs.Nodes.{IsLater}
 use Rattle.crib_sheet.specs.PlanText.{row_text}
 use Rattle.crib_sheet.specs.Private.Pages.{IsDeep, line_front, place_row}

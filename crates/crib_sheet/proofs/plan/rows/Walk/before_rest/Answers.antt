@@ -1,4 +1,4 @@
-use Rattle.std.proofs.Common.{◌≡◌, ◌∙◌, length, subst, ap, sym}
+use Rattle.std.proofs.Common.{◌∙◌, length, subst, ap, sym}
 use Rattle.crib_plan.specs.declared.plan.Next.TheVariants.{To}
 use Rattle.crib_sheet.specs.Private.Pages.{IsDeep, place_row}
 use Rattle.crib_sheet.proofs.PlanRows.{place_end, place_apart, place_node, node_play, node_see, before_of}

@@ -1,5 +1,6 @@
 -- Worked examples of what the text and the status of a reply mean.
-use Rattle.std.proofs.Common.{arith, ◌≡◌, refl, sym, subst, inl, inr, ℕ, List, [], ◌∷◌, ◌++◌, codes, map, Ok, Err}
+use Rattle.std.proofs.Common.{arith, ◌≡◌, refl, sym, ap, ◌∙◌, subst, inl, inr, ℕ, List, [], ◌∷◌, ◌++◌, codes, map, Option, Some, None, Result, Ok, Err}
+use Rattle.std.specs.Prelude.{IsOk}
 use Rattle.std.specs.Fmt.{digits}
 use Rattle.crib_cards.specs.Sets.{set_where}
 use Rattle.crib_problem.specs.Setup.{Setup, IsSetup}
@@ -12,7 +13,9 @@ use Rattle.crib_game.specs.declared.section.game.Game.{Game}
 use Rattle.crib_game.specs.declared.following.ending.Ending.{Ending}
 use Rattle.crib_game.specs.declared.following.ending.Ending.TheVariants as ending
 use Rattle.crib_game.specs.Spelling.{game_text, game_lines}
-use Rattle.crib_text.specs.Refusals.{no_memory}
+use Rattle.crib_text.specs.Refusals.{Refusal, no_memory}
+use Rattle.crib_check.specs.declared.verdict.Verdict.{Verdict}
+use Rattle.crib_check.specs.declared.verdict.Verdict.TheVariants.{Holds, Fails}
 use Rattle.crib_check.specs.Sure.{Ends}
 use Rattle.crib_check.proofs.SureExamples.{at_29, ace_or_two, ace_or_two_is_sure, ace_or_two_goes_on}
 use Rattle.crib_search.specs.Winnable.{IsWinnable}
@@ -20,9 +23,12 @@ use Rattle.crib_answer.specs.declared.job.Job.TheVariants.{Replay, Check, Solve,
 use Rattle.crib_answer.specs.Job.{all_jobs, job_names, job_called, sections_of}
 use Rattle.crib_input.specs.declared.sections.Sections.TheVariants as sections
 use Rattle.crib_run.specs.declared.status.Status.TheVariants.{Yes, No, Refused, Fault}
-use Rattle.crib_run.specs.Reply.{fault_line}
-use Rattle.crib_answer.specs.Answer.{AsksForMemory, too_large}
-use Rattle.crib_input.specs.Input.{most_bytes}
+use Rattle.crib_run.specs.Reply.{Reply, fault_line, fault_reply, refusal_reply}
+use Rattle.crib_answer.specs.Answer.{AnswersCheck, AnswersProblem, AnswersSolve, AsksForMemory, board_reply, ending_reply, found_reply, reply_by, report_reply}
+use Rattle.crib_answer.specs.Answer.{too_large, verdict_reply}
+use Rattle.crib_answer.specs.Input.{board_of_input, ending_of_input, report_of_input}
+use Rattle.crib_answer.specs.Laws.{IsAccepted}
+use Rattle.crib_input.specs.Input.{most_bytes, problem_of_input, question_of_input}
 use Rattle.crib_input.specs.Spelled.{SpellsProblem, SpellsPlan}
 use Rattle.crib_check.specs.Failing.{IsFirstFailing}
 use Rattle.crib_answer.specs.Meaning.{HasFailingPlan, HasSurePlan, HasSomePlan, IsSolvedBy, HasNoPlan}
@@ -249,3 +255,51 @@ follow_means_nothing text = tt
 
 pub board_means_nothing : (text : List ℕ) → StatusMeans Board [] (record { output = text; status = Yes })
 board_means_nothing text = tt
+
+-- ---- an input is accepted if what is read in it is a value
+no_refusal : {A : Type 0} (Right : Result A Refusal → Reply → Type 0) → ((value : A) (reply : Reply) → Right (Ok value) reply → reply.status ≡ Refused → ⊥)
+    → (read : Result A Refusal) → IsOk read → (refusal : Refusal) → Right read (refusal_reply refusal) → ⊥
+no_refusal Right never (Ok value) is refusal right = never value (refusal_reply refusal) right refl
+no_refusal Right never (Err other) is refusal right = absurd cc
+
+of_reply : (reply other : Reply) → reply ≡ other → (other.status ≡ Refused → ⊥) → reply.status ≡ Refused → ⊥
+of_reply reply other is never e = never (sym (ap (λ (r : Reply). r.status) is) ∙ e)
+
+pub replay_accepts : (input : List ℕ) → IsOk (report_of_input input) → IsAccepted Replay input
+replay_accepts input =
+    no_refusal (λ said reply. reply ≡ reply_by report_reply said) (λ report reply is. of_reply reply (report_reply report) is (λ e. cc)) (report_of_input input)
+
+pub board_accepts : (input : List ℕ) → IsOk (board_of_input input) → IsAccepted Board input
+board_accepts input =
+    no_refusal (λ said reply. reply ≡ reply_by board_reply said) (λ board reply is. of_reply reply (board_reply board) is (λ e. cc)) (board_of_input input)
+
+ending_no_refusal : (ending : Ending) → (ending_reply ending).status ≡ Refused → ⊥
+ending_no_refusal ending.Open e = cc
+ending_no_refusal ending.Stuck e = cc
+ending_no_refusal ending.Lost e = cc
+ending_no_refusal ending.Short e = cc
+ending_no_refusal ending.Reached e = cc
+
+pub follow_accepts : (input : List ℕ) → IsOk (ending_of_input input) → IsAccepted Follow input
+follow_accepts input =
+    no_refusal (λ said reply. reply ≡ reply_by ending_reply said) (λ ending reply is. of_reply reply (ending_reply ending) is (ending_no_refusal ending))
+    (ending_of_input input)
+
+verdict_no_refusal : (verdict : Verdict) → (verdict_reply verdict).status ≡ Refused → ⊥
+verdict_no_refusal Holds e = cc
+verdict_no_refusal (Fails ending game) e = cc
+
+pub check_accepts : (input : List ℕ) → IsOk (question_of_input input) → IsAccepted Check input
+check_accepts input =
+    no_refusal AnswersCheck (λ question reply right. of_reply reply (verdict_reply right.0) right.2 (verdict_no_refusal right.0)) (question_of_input input)
+
+found_no_refusal : (found : Option (List Node)) → (found_reply found).status ≡ Refused → ⊥
+found_no_refusal None e = cc
+found_no_refusal (Some plan) e = cc
+
+problem_no_refusal : (problem : Setup) (reply : Reply) → AnswersProblem problem reply → reply.status ≡ Refused → ⊥
+problem_no_refusal problem reply (inl found) = of_reply reply (found_reply found.0) found.3 (found_no_refusal found.0)
+problem_no_refusal problem reply (inr large) = of_reply reply (fault_reply too_large) large.1 (λ e. cc)
+
+pub solve_accepts : (input : List ℕ) → IsOk (problem_of_input input) → IsAccepted Solve input
+solve_accepts input = no_refusal AnswersSolve problem_no_refusal (problem_of_input input)

@@ -9,18 +9,43 @@ use crib_plan::PlanCause;
 // The branches that are looked at. A line with more has a letter twice among these.
 const MOST_BRANCHES: usize = 15;
 
+// A branch of a see line: the line, and the word there that is the branch, with its index.
+#[derive(Clone, Copy)]
+struct Branch<'a> {
+    line: &'a [u8],
+    index: usize,
+    word: Word<'a>,
+}
+
+impl<'a> Branch<'a> {
+    // Returns the first of the branches before this one that passes a test.
+    fn earlier<F: Fn(&Word<'a>) -> bool>(&self, passes: F) -> Option<Word<'a>>
+        requires { F.IsAlwaysCallable passes }
+    {
+        for i in 2..self.index {
+            let earlier = word_of(self.line, i)?;
+            if passes(&earlier) {
+                return Some(earlier);
+            }
+        }
+        None
+    }
+}
+
 // Explains the first wrong branch of a see line.
 pub(crate) fn bad_branch(node: &NodeLine<'_>, cause: PlanCause) -> Option<Explained> {
-    for i in 2..2 + MOST_BRANCHES {
-        let branch = word_of(node.bytes, i)?;
-        let mut sentence = said_of(branch.bytes, cause);
+    let line = node.bytes;
+    for index in 2..2 + MOST_BRANCHES {
+        let word = word_of(line, index)?;
+        let branch = Branch { line, index, word };
+        let mut sentence = said_of(word.bytes, cause);
         sentence.add(b": ");
-        if has_wrong_letters(&mut sentence, &branch)
-            || stood_before(&mut sentence, node, i, &branch)
-            || is_out_of_order(&mut sentence, node, i, &branch)
-            || has_old_target(&mut sentence, node, i, &branch)
+        if has_wrong_letters(&mut sentence, &word)
+            || stood_before(&mut sentence, &branch)
+            || is_out_of_order(&mut sentence, &branch)
+            || has_old_target(&mut sentence, &branch)
         {
-            return Some(marked(sentence, &branch));
+            return Some(marked(sentence, &word));
         }
     }
     None
@@ -92,48 +117,29 @@ fn add_letter_order(sentence: &mut Sentence, earlier: u8, letter: u8) {
 }
 
 // Appends the letter of a branch that an earlier branch has, and that branch. Returns whether there is one.
-fn stood_before(
-    sentence: &mut Sentence,
-    node: &NodeLine<'_>,
-    index: usize,
-    branch: &Word<'_>,
-) -> bool {
-    for letter in letters_of(branch) {
-        for i in 2..index {
-            let Some(earlier) = word_of(node.bytes, i) else {
-                return false;
-            };
-            if has(letters_of(&earlier), *letter) {
-                sentence.add(&[*letter]);
-                sentence.add(b" stood in the branch ");
-                sentence.typed(earlier.bytes);
-                sentence.add(b" already");
-                return true;
-            }
+fn stood_before(sentence: &mut Sentence, branch: &Branch<'_>) -> bool {
+    for letter in letters_of(&branch.word) {
+        if let Some(earlier) = branch.earlier(|word| has(letters_of(word), *letter)) {
+            sentence.add(&[*letter]);
+            sentence.add(b" stood in the branch ");
+            sentence.typed(earlier.bytes);
+            sentence.add(b" already");
+            return true;
         }
     }
     false
 }
 
 // Appends the branch that has to stand after this one. Returns whether there is one.
-fn is_out_of_order(
-    sentence: &mut Sentence,
-    node: &NodeLine<'_>,
-    index: usize,
-    branch: &Word<'_>,
-) -> bool {
-    for i in 2..index {
-        let Some(earlier) = word_of(node.bytes, i) else {
-            return false;
-        };
-        if first_place(&earlier) > first_place(branch) {
-            sentence.add(b"it stands before ");
-            sentence.typed(earlier.bytes);
-            sentence.add(b", since branches are sorted by their first letters");
-            return true;
-        }
-    }
-    false
+fn is_out_of_order(sentence: &mut Sentence, branch: &Branch<'_>) -> bool {
+    let place = first_place(&branch.word);
+    let Some(later) = branch.earlier(|word| first_place(word) > place) else {
+        return false;
+    };
+    sentence.add(b"it stands before ");
+    sentence.typed(later.bytes);
+    sentence.add(b", since branches are sorted by their first letters");
+    true
 }
 
 fn first_place(branch: &Word<'_>) -> Option<usize> {
@@ -141,26 +147,16 @@ fn first_place(branch: &Word<'_>) -> Option<usize> {
 }
 
 // Appends the earlier branch with the same target, and the branch that says both. Returns whether there is one.
-fn has_old_target(
-    sentence: &mut Sentence,
-    node: &NodeLine<'_>,
-    index: usize,
-    branch: &Word<'_>,
-) -> bool {
-    for i in 2..index {
-        let Some(earlier) = word_of(node.bytes, i) else {
-            return false;
-        };
-        if has_same_target(&earlier, branch) {
-            sentence.add(b"the branch ");
-            sentence.typed(earlier.bytes);
-            sentence.add(b" leads to the same node; write both as one branch, \"");
-            add_union(sentence, &earlier, branch);
-            sentence.add(b"\"");
-            return true;
-        }
-    }
-    false
+fn has_old_target(sentence: &mut Sentence, branch: &Branch<'_>) -> bool {
+    let Some(earlier) = branch.earlier(|word| has_same_target(word, &branch.word)) else {
+        return false;
+    };
+    sentence.add(b"the branch ");
+    sentence.typed(earlier.bytes);
+    sentence.add(b" leads to the same node; write both as one branch, \"");
+    add_union(sentence, &earlier, &branch.word);
+    sentence.add(b"\"");
+    true
 }
 
 fn has_same_target(earlier: &Word<'_>, branch: &Word<'_>) -> bool {

@@ -86,6 +86,7 @@ fn header_slip(scene: &Scene<'_>, first: &[u8]) -> Option<Slip> {
         b"problem" => Some(Slip::OneProblem),
         b"plan" | b"game" => Some(sections_slip(scene.sections)),
         b"fails" | b"holds" if scene.place.section == Section::Game => Some(Slip::Verdict),
+        b"none" if scene.place.section == Section::Plan => Some(Slip::NoPlan),
         b"nodes" if scene.place.section == Section::Plan => Some(Slip::PlanOrder),
         b"hold" | b"throw" | b"acts" if scene.place.section == Section::Game => {
             Some(Slip::GameOrder)

@@ -79,6 +79,8 @@ pub(crate) enum Slip {
     },
     #[error("Leave out this line of an answer: a game begins with game 1.")]
     Verdict,
+    #[error("Where no plan is sure, solve writes none, and there is no plan to read.")]
+    NoPlan,
     #[error("Turns that were played already need problem 2 on line 1.")]
     PlayedNeedsSecond,
     #[error("In a problem 2 the line played follows the goal; at the first lead it is played 0.")]

@@ -1,43 +1,4 @@
 //! Messages of refusals and faults, each whole.
-// A problem with tens and small clubs: its version, its scores, and the lines after these.
-macro_rules! problem {
-    ($version:literal, $scores:literal, $($after:literal),*) => {
-        concat!(
-            "problem ", $version, "\ndealer opponent\nscore ", $scores,
-            "\nstarter 3H\nhold TC 9C 2C 8C\nthrow 4S 6S\ngoal win\n", $($after),*
-        )
-    };
-}
-
-// A problem up to its scores, and what follows.
-macro_rules! after_scores {
-    ($after:literal) => { concat!("problem 1\ndealer owner\nscore 0 0\n", $after) };
-}
-
-// A problem up to its starter, and what follows.
-macro_rules! after_starter {
-    ($after:literal) => { concat!("problem 1\ndealer owner\nscore 0 0\nstarter KD\n", $after) };
-}
-
-// A problem up to its throw, and what follows.
-macro_rules! after_throw {
-    ($after:literal) => {
-        concat!(
-            "problem 1\ndealer owner\nscore 60 0\nstarter KD\nhold 2C 3C 4C 5C\nthrow 6C 6D\n", $after
-        )
-    };
-}
-
-// A problem of a version up to its goal, and what follows.
-macro_rules! after_goal {
-    ($version:literal, $after:literal) => {
-        concat!(
-            "problem ", $version,
-            "\ndealer owner\nscore 60 0\nstarter KD\nhold 2C 3C 4C 5C\nthrow 6C 6D\ngoal win\n", $after
-        )
-    };
-}
-
 mod first_lines;
 mod game_lines;
 mod games;
@@ -46,88 +7,47 @@ mod messages;
 mod openings;
 mod plan_lines;
 mod plans;
-mod strays;
+mod tables;
 
 use crate::excerpt::excerpt_of;
-use crate::explained::{Mark, explain};
+use crate::explained::Mark;
 use crate::lines::line_at;
-use crate::tests::messages::refusal_of;
+use crate::tests::messages::are_said;
 use crate::*;
-use crib_input::{Cause, Refusal, Sections, problem_of};
+use crib_input::{Cause, Refusal, Sections};
 use crib_run::{FaultCause, Reason};
-use crib_text::{MAX_INPUT, TextCause};
+use crib_text::TextCause;
 use std::process::Abort;
 
-// An input that is refused, and the sentence that explains why.
-type Row = (&'static str, &'static str);
-
-// Asserts that each input is refused with its sentence.
-fn are_explained(rt: &(impl Abort + AllocGlobal), sections: Sections, rows: &[Row]) {
-    for (input, wanted) in rows {
-        let bytes = input.as_bytes();
-        let Some(refusal) = refusal_of(rt, sections, bytes) else {
-            panic!(rt; "not refused: {input}");
-        };
-        let explained = explain(sections, bytes, &refusal);
-        let said = std::str::from_utf8(explained.sentence.as_slice());
-        assert_eq!(rt; said, Ok(*wanted), "of {input}");
-    }
-}
-
-// Asserts that the message for a problem that is refused is this text.
-fn is_said(rt: &impl Abort, input: &str, wanted: &str) {
-    let bytes = input.as_bytes();
-    assert!(rt; bytes.len() <= MAX_INPUT);
-    let Err(refusal) = problem_of(bytes) else {
-        panic!(rt; "not refused: {input}");
-    };
-    let message = message_of(
-        b"cribplan",
-        Sections::Problem,
-        bytes,
-        &Reason::Refused(refusal),
-    );
-    let said = std::str::from_utf8(message.as_slice());
-    assert_eq!(rt; said, Ok(wanted), "of {input}");
+// Asserts that the message of a reason, for an empty input, is this text.
+fn is_said(rt: &impl Abort, reason: Reason, wanted: &str) {
+    let message = message_of(b"cribplan", Sections::Problem, b"", &reason);
+    assert_eq!(rt; std::str::from_utf8(message.as_slice()), Ok(wanted));
 }
 
 #[test]
 fn names_the_line(rt: HostRuntime) {
-    is_said(
-        &rt,
-        "problem 3\n",
-        concat!(
-            "cribplan: line 1: \"3\" is not a version of this section; expected: problem 1 or problem 2\n",
-            "  1 | problem 3\n    |         ^\n",
-        ),
-    );
+    let table = r#"
+> problem 3|
+cribplan: line 1: "3" is not a version of this section; expected: problem 1 or problem 2
+  1 | problem 3
+    |         ^
+"#;
+    are_said(&rt, Sections::Problem, table);
 }
 
 #[test]
 fn names_a_fault(rt: HostRuntime) {
-    let message = message_of(
-        b"cribplan",
-        Sections::Problem,
-        b"",
-        &Reason::Fault(FaultCause::NoMemory),
-    );
-    assert_eq!(rt; message.as_slice(), b"cribplan: out of memory\n".as_slice());
+    let reason = Reason::Fault(FaultCause::NoMemory);
+    is_said(&rt, reason, "cribplan: out of memory\n");
 }
 
 #[test]
 fn names_an_input_that_is_too_long(rt: HostRuntime) {
-    let refusal = Refusal {
-        line: 0,
-        cause: Cause::Text(TextCause::TooLong),
-    };
-    let message = message_of(
-        b"cribplan",
-        Sections::Problem,
-        b"",
-        &Reason::Refused(refusal),
-    );
+    let cause = Cause::Text(TextCause::TooLong);
+    let reason = Reason::Refused(Refusal { line: 0, cause });
     let wanted = "cribplan: the input is longer than 8,388,608 bytes\n";
-    assert_eq!(rt; message.as_slice(), wanted.as_bytes());
+    is_said(&rt, reason, wanted);
 }
 
 #[test]

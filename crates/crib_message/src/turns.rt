@@ -85,10 +85,16 @@ fn add_missing_of(sentence: &mut Sentence, table: &Table<'_>, mover: Side, cards
     } else {
         sentence.add(b"; none of their cards fits (");
         add_set(sentence, cards);
-        sentence.add(b"), so \"");
-        add_go(sentence, mover);
-        sentence.add(b"\" is missing before this line");
+        sentence.add(b")");
+        add_missing_go(sentence, mover);
     }
+}
+
+// Appends that a go of a side is missing.
+fn add_missing_go(sentence: &mut Sentence, side: Side) {
+    sentence.add(b", so \"");
+    add_go(sentence, side);
+    sentence.add(b"\" is missing before this line");
 }
 
 // Appends cards, and which of them fit.
@@ -198,9 +204,8 @@ pub(crate) fn add_too_high(sentence: &mut Sentence, table: &Table<'_>, act: &Act
         sentence.add(b" holds ");
         add_fitting(sentence, cards, fitting);
     } else {
-        sentence.add(b" holds no card that fits, so \"");
-        add_go(sentence, side);
-        sentence.add(b"\" is missing before this line");
+        sentence.add(b" holds no card that fits");
+        add_missing_go(sentence, side);
     }
 }
 

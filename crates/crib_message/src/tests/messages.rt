@@ -1,4 +1,6 @@
-//! Messages of refused inputs, whole.
+//! What is said of refused inputs.
+use super::tables::rows_of;
+use crate::explained::explain;
 use crate::message_of;
 use crib_game::{follow, replay};
 use crib_input::{
@@ -9,9 +11,6 @@ use crib_run::Reason;
 use crib_text::MAX_INPUT;
 use std::alloc::Allocator;
 use std::process::Abort;
-
-/// An input, and its message without the line that it shows.
-pub(crate) type Row = (&'static str, &'static str);
 
 // Returns the refusal of a game that was read.
 fn judged(played: &Played) -> Option<Refusal> {
@@ -36,14 +35,11 @@ fn refusal_in(not_read: &NotRead) -> Option<Refusal> {
     }
 }
 
-/// Returns the refusal of an input with these sections, of which the game is judged too.
-pub(crate) fn refusal_of(
-    rt: &(impl Abort + AllocGlobal),
-    sections: Sections,
-    bytes: &[u8],
-) -> Option<Refusal> {
+// Returns the refusal of an input with these sections, of which the game is judged too.
+fn refusal_of(rt: &(impl Abort + AllocGlobal), sections: Sections, input: &str) -> Refusal {
+    let bytes = input.as_bytes();
     assert!(rt; bytes.len() <= MAX_INPUT);
-    match sections {
+    let refusal = match sections {
         Sections::Problem => problem_of(bytes).err(),
         Sections::Question => match question_of(rt.alloc(), bytes) {
             Ok(_) => None,
@@ -57,19 +53,32 @@ pub(crate) fn refusal_of(
             Ok(played) => followed(&played),
             Err(not_read) => refusal_in(&not_read),
         },
+    };
+    let Some(refusal) = refusal else {
+        panic!(rt; "not refused: {input}");
+    };
+    refusal
+}
+
+/// Asserts that each input of a table is explained by its words.
+pub(crate) fn are_explained(rt: &(impl Abort + AllocGlobal), sections: Sections, table: &str) {
+    for row in rows_of(rt, table).iter() {
+        let input = row.input.as_str();
+        let refusal = refusal_of(rt, sections, input);
+        let explained = explain(sections, input.as_bytes(), &refusal);
+        let said = std::str::from_utf8(explained.sentence.as_slice());
+        assert_eq!(rt; said, Ok(row.words.as_str()), "of {input}");
     }
 }
 
-/// Asserts that the message of each input is the one of its row.
-pub(crate) fn are_said(rt: &(impl Abort + AllocGlobal), sections: Sections, rows: &[Row]) {
-    for (input, wanted) in rows {
-        let bytes = input.as_bytes();
-        let Some(refusal) = refusal_of(rt, sections, bytes) else {
-            panic!(rt; "not refused: {input}");
-        };
-        let reason = Reason::Refused(refusal);
-        let message = message_of(b"cribplan", sections, bytes, &reason);
+/// Asserts that the message of each input of a table has its words, and a line end.
+pub(crate) fn are_said(rt: &(impl Abort + AllocGlobal), sections: Sections, table: &str) {
+    for row in rows_of(rt, table).iter() {
+        let input = row.input.as_str();
+        let reason = Reason::Refused(refusal_of(rt, sections, input));
+        let message = message_of(b"cribplan", sections, input.as_bytes(), &reason);
         let said = std::str::from_utf8(message.as_slice());
-        assert_eq!(rt; said, Ok(*wanted), "of {input}");
+        let wanted = format!(in rt.alloc(); "{}\n", row.words).expect(rt, "memory");
+        assert_eq!(rt; said, Ok(wanted.as_str()), "of {input}");
     }
 }

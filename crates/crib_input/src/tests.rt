@@ -1,4 +1,6 @@
 //! The line, the number and the sentence of each refusal of an input.
+ghost use Rattle.std.specs.Prelude.{◌≤◌, length};
+
 use crate::*;
 use crib_game::{follow, replay};
 use crib_text::{MAX_INPUT, TextCause, TextFault};
@@ -7,10 +9,33 @@ use std::test::Fail;
 
 // A problem with tens and small clubs: its version, its starter, its scores and its goal, and the lines after these.
 macro_rules! problem {
-    ($version:literal, $starter:literal, $scores:literal, $goal:literal, $after:literal) => {
+    ($version:literal, $starter:literal, $scores:literal, $goal:literal, $($after:literal),*) => {
         concat!(
             "problem ", $version, "\ndealer opponent\nscore ", $scores, "\nstarter ", $starter,
-            "\nhold TC 9C 2C 8C\nthrow 4S 6S\ngoal ", $goal, "\n", $after
+            "\nhold TC 9C 2C 8C\nthrow 4S 6S\ngoal ", $goal, "\n", $($after),*
+        )
+    };
+}
+
+// A problem in version 2: the lines of its opening, and those after them.
+macro_rules! begun {
+    ($lines:literal) => {
+        problem!("2", "3H", "0 0", "win", $lines)
+    };
+}
+
+// A problem in version 1, and the lines of a plan.
+macro_rules! planned {
+    ($lines:literal) => {
+        problem!("1", "3H", "0 0", "win", $lines)
+    };
+}
+
+// A problem whose opponent is two holes from 121, and a game: its acts.
+macro_rules! played {
+    ($acts:literal) => {
+        problem!(
+            "1", "3H", "0 119", "win", "game 1\nhold TD KD KH QS\nthrow 5H 7D\nacts ", $acts
         )
     };
 }
@@ -50,7 +75,7 @@ const PROBLEMS: &[Row] = &[
         "out of range",
     ),
     (
-        problem!("2", "3H", "0 0", "win", "played 2\nown TC\nopp go\n"),
+        begun!("played 2\nown TC\nopp go\n"),
         10,
         23,
         "a turn that no deal lets the opponent show",
@@ -61,69 +86,37 @@ const PROBLEMS: &[Row] = &[
         24,
         "a turn that ends the deal",
     ),
+    (begun!("played 1\nown KC\n"), 9, 41, "not held"),
     (
-        problem!("2", "3H", "0 0", "win", "played 1\nown KC\n"),
-        9,
-        41,
-        "not held",
-    ),
-    (
-        problem!(
-            "2",
-            "3H",
-            "0 0",
-            "win",
-            "played 4\nown TC\nopp TD\nown 9C\nopp KD\n"
-        ),
+        begun!("played 4\nown TC\nopp TD\nown 9C\nopp KD\n"),
         12,
         42,
         "a card that does not fit",
     ),
     (
-        problem!("2", "3H", "0 0", "win", "played 1\nown go\n"),
+        begun!("played 1\nown go\n"),
         9,
         43,
         "not allowed while a card fits",
     ),
-    (
-        problem!("2", "3H", "0 0", "win", "played 1\nopp TD\n"),
-        9,
-        44,
-        "not the side to move",
-    ),
+    (begun!("played 1\nopp TD\n"), 9, 44, "not the side to move"),
 ];
 
 const PLANS: &[Row] = &[
+    (planned!("plan 2\n"), 8, 7, "not a version of this section"),
     (
-        problem!("1", "3H", "0 0", "win", "plan 2\n"),
-        8,
-        7,
-        "not a version of this section",
-    ),
-    (
-        problem!("1", "3H", "0 0", "win", "plan 1\nnodes 1\n0 play TC 0\n"),
+        planned!("plan 1\nnodes 1\n0 play TC 0\n"),
         10,
         30,
         "not a later node of the plan",
     ),
     (
-        problem!(
-            "1",
-            "3H",
-            "0 0",
-            "win",
-            "plan 1\nnodes 2\n0 see :1\n1 play TC end\n"
-        ),
+        planned!("plan 1\nnodes 2\n0 see :1\n1 play TC end\n"),
         10,
         31,
         "not a branch that may stand here",
     ),
-    (
-        problem!("1", "3H", "0 0", "win", "plan 1\nnodes 65536\n"),
-        9,
-        32,
-        "above 65,535",
-    ),
+    (planned!("plan 1\nnodes 65536\n"), 9, 32, "above 65,535"),
 ];
 
 const GAMES: &[Row] = &[
@@ -140,73 +133,32 @@ const GAMES: &[Row] = &[
         "card 1 of the opponent is known or stood before",
     ),
     (
-        problem!(
-            "1",
-            "3H",
-            "0 119",
-            "win",
-            "game 1\nhold TD KD KH QS\nthrow 5H 7D\nacts 1\nown KC\n"
-        ),
+        played!("1\nown KC\n"),
         12,
         41,
         "act 1 plays a card that is not held",
     ),
     (
-        problem!(
-            "1",
-            "3H",
-            "0 119",
-            "win",
-            "game 1\nhold TD KD KH QS\nthrow 5H 7D\nacts 4\nown TC\nopp KD\nown 9C\nopp TD\n"
-        ),
+        played!("4\nown TC\nopp KD\nown 9C\nopp TD\n"),
         15,
         42,
         "act 4 plays a card that does not fit",
     ),
     (
-        problem!(
-            "1",
-            "3H",
-            "0 119",
-            "win",
-            "game 1\nhold TD KD KH QS\nthrow 5H 7D\nacts 1\nown go\n"
-        ),
+        played!("1\nown go\n"),
         12,
         43,
         "act 1 is a go while a card fits",
     ),
+    (played!("1\nopp TD\n"), 12, 44, "act 1 is out of turn"),
     (
-        problem!(
-            "1",
-            "3H",
-            "0 119",
-            "win",
-            "game 1\nhold TD KD KH QS\nthrow 5H 7D\nacts 1\nopp TD\n"
-        ),
-        12,
-        44,
-        "act 1 is out of turn",
-    ),
-    (
-        problem!(
-            "1",
-            "3H",
-            "0 119",
-            "win",
-            "game 1\nhold TD KD KH QS\nthrow 5H 7D\nacts 3\nown TC\nopp TD\nown 9C\n"
-        ),
+        played!("3\nown TC\nopp TD\nown 9C\n"),
         14,
         45,
         "act 3 comes after the end",
     ),
     (
-        problem!(
-            "2",
-            "3H",
-            "0 0",
-            "win",
-            "played 1\nown TC\ngame 1\nhold TD KD KH QS\nthrow 5H 7D\nacts 0\n"
-        ),
+        begun!("played 1\nown TC\ngame 1\nhold TD KD KH QS\nthrow 5H 7D\nacts 0\n"),
         13,
         47,
         "act 1 is not as it was played",
@@ -214,17 +166,22 @@ const GAMES: &[Row] = &[
 ];
 
 const STRAYS: Row = (
-    problem!(
-        "1",
-        "3H",
-        "0 0",
-        "win",
+    planned!(
         "plan 1\nnodes 1\n0 play TC end\ngame 1\nhold TD KD KH QS\nthrow 5H 7D\nacts 1\nown 9C\n"
     ),
     15,
     46,
     "act 1 strays from the plan",
 );
+
+// The bytes of an input, which is not too long.
+fn input<'a>(rt: &impl Abort, row: &'a Row) -> &'a [u8]
+    ensures { length result.now ≤ MAX_INPUT }
+{
+    let bytes = row.0.as_bytes();
+    assert!(rt; bytes.len() <= MAX_INPUT);
+    bytes
+}
 
 // Asserts that a refusal has this line, this number and this sentence.
 fn is_refusal(
@@ -261,9 +218,7 @@ fn is_refusal(
 #[test]
 fn problems_are_refused_with_a_sentence(rt: HostRuntime) -> Result<(), Fail> {
     for row in PROBLEMS {
-        let bytes = row.0.as_bytes();
-        assert!(rt; bytes.len() <= MAX_INPUT);
-        is_refusal(&rt, problem_of(bytes).err(), row)?;
+        is_refusal(&rt, problem_of(input(&rt, row)).err(), row)?;
     }
     Ok(())
 }
@@ -271,9 +226,7 @@ fn problems_are_refused_with_a_sentence(rt: HostRuntime) -> Result<(), Fail> {
 #[test]
 fn plans_are_refused_with_a_sentence(rt: HostRuntime) -> Result<(), Fail> {
     for row in PLANS {
-        let bytes = row.0.as_bytes();
-        assert!(rt; bytes.len() <= MAX_INPUT);
-        match question_of(rt.alloc(), bytes) {
+        match question_of(rt.alloc(), input(&rt, row)) {
             Err(NotRead::Refused(refusal)) => is_refusal(&rt, Some(refusal), row)?,
             _ => panic!(rt; "read, or out of memory"),
         }
@@ -292,9 +245,7 @@ fn judged(played: &Played) -> Option<Refusal> {
 #[test]
 fn games_are_refused_with_a_sentence(rt: HostRuntime) -> Result<(), Fail> {
     for row in GAMES {
-        let bytes = row.0.as_bytes();
-        assert!(rt; bytes.len() <= MAX_INPUT);
-        let Ok(played) = played_of(bytes) else {
+        let Ok(played) = played_of(input(&rt, row)) else {
             panic!(rt; "not read");
         };
         is_refusal(&rt, judged(&played), row)?;
@@ -304,9 +255,7 @@ fn games_are_refused_with_a_sentence(rt: HostRuntime) -> Result<(), Fail> {
 
 #[test]
 fn a_game_that_strays_is_refused_with_a_sentence(rt: HostRuntime) -> Result<(), Fail> {
-    let bytes = STRAYS.0.as_bytes();
-    assert!(rt; bytes.len() <= MAX_INPUT);
-    let Ok(played) = played_under_of(rt.alloc(), bytes) else {
+    let Ok(played) = played_under_of(rt.alloc(), input(&rt, &STRAYS)) else {
         panic!(rt; "not read");
     };
     let refusal = match follow(&played.problem, &played.plan, &played.game) {

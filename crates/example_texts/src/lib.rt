@@ -4,6 +4,10 @@
 #![tactic(auto)]
 
 pub mod boards;
+pub mod changes;
 pub mod games;
 pub mod plans;
 pub mod problems;
+mod sections;
+
+pub use sections::{joined, joined_with};

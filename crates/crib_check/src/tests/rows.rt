@@ -1,5 +1,5 @@
 //! Problems and plans with their verdicts.
-use crib_game::Ending;
+use crib_game::Ending::{self, Lost, Short, Stuck};
 use example_texts::games::*;
 use example_texts::plans::*;
 use example_texts::problems::*;
@@ -15,43 +15,39 @@ pub const SURE: [Row; 4] = [
 ];
 
 pub const SHORT: [Row; 2] = [
-    (THIRTEEN, TWOS, Some((Ending::Short, OWNER_LEADS))),
+    (THIRTEEN, TWOS, Some((Short, OWNER_LEADS))),
     (
         DEALERS_FOURTEEN,
         TWOS,
-        Some((Ending::Short, OPPONENT_LEADS_TO_NOTHING)),
+        Some((Short, OPPONENT_LEADS_TO_NOTHING)),
     ),
 ];
 
 pub const LOST: [Row; 2] = [
-    (CLOSE, ACE, Some((Ending::Lost, PAIRED))),
-    (RACE, TWOS, Some((Ending::Lost, OPPONENT_LEADS))),
+    (CLOSE, ACE, Some((Lost, PAIRED))),
+    (RACE, TWOS, Some((Lost, OPPONENT_LEADS))),
 ];
 
 pub const STUCK: [Row; 5] = [
-    (TWELVE, NO_PLAN, Some((Ending::Stuck, NO_ACTS))),
-    (NEAR, NO_PLAN, Some((Ending::Stuck, ONE_ACE))),
-    (TWELVE, TWICE, Some((Ending::Stuck, TWO_AND_ACE))),
-    (TWELVE, LATE_LOOK, Some((Ending::Stuck, GO_AT_22))),
-    (TWELVE, NO_KING, Some((Ending::Stuck, KING))),
+    (TWELVE, NO_PLAN, Some((Stuck, NO_ACTS))),
+    (NEAR, NO_PLAN, Some((Stuck, ONE_ACE))),
+    (TWELVE, TWICE, Some((Stuck, TWO_AND_ACE))),
+    (TWELVE, LATE_LOOK, Some((Stuck, GO_AT_22))),
+    (TWELVE, NO_KING, Some((Stuck, KING))),
 ];
 
 pub const BEGUN_ROWS: [Row; 6] = [
     (BEGUN, REST, None),
-    (BEGUN_SHORT, REST, Some((Ending::Short, DIAMOND_FIRST))),
-    (BEGUN_SHORT, NO_PLAN, Some((Ending::Stuck, TWO_AND_DIAMOND))),
+    (BEGUN_SHORT, REST, Some((Short, DIAMOND_FIRST))),
+    (BEGUN_SHORT, NO_PLAN, Some((Stuck, TWO_AND_DIAMOND))),
     (LAST_TWO, LOOKS, None),
-    (LAST_TWO, SEVEN_FIRST, Some((Ending::Lost, RUN_LOST))),
-    (LAST_TWO_STOP, SEVEN_FIRST, Some((Ending::Lost, RUN_LOST))),
+    (LAST_TWO, SEVEN_FIRST, Some((Lost, RUN_LOST))),
+    (LAST_TWO_STOP, SEVEN_FIRST, Some((Lost, RUN_LOST))),
 ];
 
 pub const STOPPING: [Row; 4] = [
     (STOP_FAR, TWOS, None),
-    (STOP_FAR, NO_PLAN, Some((Ending::Stuck, NO_ACTS))),
-    (STOP_NEAR, TWOS, Some((Ending::Lost, OWNER_LEADS))),
-    (
-        STOP_SHOW,
-        TWOS,
-        Some((Ending::Lost, OWNER_LEADS_TO_SIXTEEN)),
-    ),
+    (STOP_FAR, NO_PLAN, Some((Stuck, NO_ACTS))),
+    (STOP_NEAR, TWOS, Some((Lost, OWNER_LEADS))),
+    (STOP_SHOW, TWOS, Some((Lost, OWNER_LEADS_TO_SIXTEEN))),
 ];

@@ -6,22 +6,6 @@ use crib_text::Lines;
 use std::alloc::Global;
 use std::process::Abort;
 
-/// The text with another line in the place of line `number`. Lines are counted from 1.
-pub(crate) fn with_line(
-    rt: &(impl Abort + AllocGlobal),
-    text: &str,
-    number: usize,
-    other: &str,
-) -> String {
-    let mut changed = String::new(rt.alloc());
-    for (place, line) in (1..20usize).zip(text.lines()) {
-        let line = if place == number { other } else { line };
-        changed.push_str(line).expect(rt, "memory");
-        changed.push('\n').expect(rt, "memory");
-    }
-    changed
-}
-
 fn lines<'a>(rt: &impl Abort, text: &'a str) -> Lines<'a> {
     let bytes = text.as_bytes();
     assert!(rt; bytes.len() <= 1000);
@@ -37,5 +21,22 @@ pub(crate) fn plan(rt: &(impl Abort + AllocGlobal), text: &str) -> Plan<Global> 
 }
 
 pub(crate) fn game(rt: &impl Abort, text: &str) -> Game {
-    read_game(&mut lines(rt, text)).expect(rt, "a game")
+    let mut lines = lines(rt, text);
+    let game = read_game(&mut lines).expect(rt, "a game");
+    lines.finish().expect(rt, "no line after the game");
+    game
+}
+
+/// How the game stands under the plan, or its refusal.
+pub(crate) fn followed(
+    rt: &(impl Abort + AllocGlobal),
+    problem_text: &str,
+    plan_text: &str,
+    game_text: &str,
+) -> Result<Ending, GameFault> {
+    follow(
+        &problem(rt, problem_text),
+        &plan(rt, plan_text),
+        &game(rt, game_text),
+    )
 }

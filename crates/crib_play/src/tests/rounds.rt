@@ -1,15 +1,16 @@
 use crate::*;
 use crib_cards::{Rank, Scores, Side};
 use std::hash::{DefaultHasher, Hash, Hasher};
+use std::process::Abort;
 
 // Returns a round at the first lead with a target of 121.
-fn round_of(rt: &impl std::process::Abort, dealer: Side, owner: u8, opponent: u8) -> Round {
+fn round_of(rt: &impl Abort, dealer: Side, owner: u8, opponent: u8) -> Round {
     assert!(rt; owner < 121 && opponent < 121);
     Round::new(dealer, Scores { owner, opponent }, 121)
 }
 
 // Takes turns, and compares the points of each. A turn is a rank, or 0 for a go.
-fn take_all(rt: &impl std::process::Abort, round: &mut Round, turns: &[(u8, u8)]) {
+fn take_all(rt: &impl Abort, round: &mut Round, turns: &[(u8, u8)]) {
     for (number, points) in turns {
         assert!(rt; round.next() != Turn::Over);
         let brought = if *number == 0 {
@@ -22,6 +23,12 @@ fn take_all(rt: &impl std::process::Abort, round: &mut Round, turns: &[(u8, u8)]
         };
         assert_eq!(rt; brought, *points, "for {number}");
     }
+}
+
+// Asserts that the play is over, with these scores.
+fn is_over(rt: &impl Abort, round: &Round, owner: u8, opponent: u8) {
+    assert!(rt; round.next() == Turn::Over);
+    assert_eq!(rt; round.scores(), Scores { owner, opponent });
 }
 
 fn hash_of(round: &Round) -> u64 {
@@ -45,33 +52,24 @@ fn counts_the_last_card_of_a_close(rt: HostRuntime) {
     take_all(&rt, &mut round, &[(0, 1)]);
     assert_eq!(rt; round.count(), 0);
     take_all(&rt, &mut round, &[(12, 1)]);
-    assert!(rt; round.next() == Turn::Over);
-    assert_eq!(rt; round.scores().owner, 2);
-    assert_eq!(rt; round.scores().opponent, 4);
+    is_over(&rt, &round, 2, 4);
 }
 
 #[test]
 fn counts_two_where_the_last_card_makes_31(rt: HostRuntime) {
     let mut round = round_of(&rt, Side::Opponent, 0, 0);
-    take_all(
-        &rt,
-        &mut round,
-        &[(10, 0), (12, 0), (13, 0), (0, 0), (0, 1)],
-    );
+    let first_count = [(10, 0), (12, 0), (13, 0), (0, 0), (0, 1)];
+    take_all(&rt, &mut round, &first_count);
     assert!(rt; round.next() == Turn::Opponent);
     take_all(&rt, &mut round, &[(9, 0), (4, 0), (7, 0), (3, 0), (8, 2)]);
-    assert!(rt; round.next() == Turn::Over);
-    assert_eq!(rt; round.scores().owner, 1);
-    assert_eq!(rt; round.scores().opponent, 2);
+    is_over(&rt, &round, 1, 2);
 }
 
 #[test]
 fn ends_where_a_score_decides(rt: HostRuntime) {
     let mut round = round_of(&rt, Side::Opponent, 100, 119);
     take_all(&rt, &mut round, &[(1, 0), (1, 2)]);
-    assert!(rt; round.next() == Turn::Over);
-    assert_eq!(rt; round.scores().owner, 100);
-    assert_eq!(rt; round.scores().opponent, 121);
+    is_over(&rt, &round, 100, 121);
 }
 
 #[test]
@@ -89,8 +87,7 @@ fn gives_the_last_card_to_the_dealer(rt: HostRuntime) {
     ];
     assert!(rt; round.next() == Turn::Opponent);
     take_all(&rt, &mut round, &aces_and_twos);
-    assert_eq!(rt; round.scores().owner, 109);
-    assert_eq!(rt; round.scores().opponent, 109);
+    is_over(&rt, &round, 109, 109);
 }
 
 #[test]

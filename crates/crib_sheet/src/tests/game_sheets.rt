@@ -1,9 +1,9 @@
 //! Whole sheets of games.
+use crate::tests::played;
 use crate::*;
 use crib_board::BoardFault;
-use crib_game::{Game, GameFault, read_game};
-use crib_problem::{Problem, read_problem};
-use crib_text::Lines;
+use crib_game::GameFault;
+use crib_input::Played;
 use example_texts::games::*;
 use example_texts::problems::*;
 use refusing_alloc::Refusing;
@@ -97,28 +97,15 @@ const ACTS_BEFORE_A_KING: &str = " 1 pone   TC      10   0    0
  3 pone   9C      29   0    2
 ";
 
-fn lines<'a>(rt: &impl Abort, text: &'a str) -> Lines<'a> {
-    let bytes = text.as_bytes();
-    assert!(rt; bytes.len() <= 1000);
-    Lines::new(bytes).expect(rt, "lines")
-}
-
-fn problem(rt: &impl Abort, text: &str) -> Problem {
-    read_problem(&mut lines(rt, text)).expect(rt, "a problem")
-}
-
-fn game(rt: &impl Abort, text: &str) -> Game {
-    read_game(&mut lines(rt, text)).expect(rt, "a game")
-}
-
 // The sheet of the game has this text.
 fn has_sheet(
     rt: &(impl Abort + AllocGlobal),
-    problem_text: &str,
-    game_text: &str,
+    problem: &str,
+    game: &str,
     sheet: &str,
 ) -> Result<(), Fail> {
-    let text = write_game_sheet(rt.alloc(), &problem(rt, problem_text), &game(rt, game_text))?;
+    let Played { problem, game, .. } = played(rt, problem, game);
+    let text = write_game_sheet(rt.alloc(), &problem, &game)?;
     assert_eq!(rt; text.as_slice(), sheet.as_bytes());
     Ok(())
 }
@@ -130,7 +117,8 @@ fn writes_the_sheet_of_a_whole_game(rt: HostRuntime) -> Result<(), Fail> {
 
 #[test]
 fn writes_how_much_was_played_already(rt: HostRuntime) -> Result<(), Fail> {
-    let text = write_game_sheet(rt.alloc(), &problem(&rt, TENS_BEGUN), &game(&rt, LAST_CARD))?;
+    let Played { problem, game, .. } = played(&rt, TENS_BEGUN, LAST_CARD);
+    let text = write_game_sheet(rt.alloc(), &problem, &game)?;
     let heading = text.as_slice().get(..121).expect(&rt, "a heading");
     assert!(rt; LAST_CARD_SHEET.as_bytes().starts_with(heading));
     let line = text.as_slice().get(121..194).expect(&rt, "a line");
@@ -155,12 +143,13 @@ fn writes_the_sheet_of_a_goal_that_is_reached(rt: HostRuntime) -> Result<(), Fai
 
 #[test]
 fn writes_the_acts_before_a_refusal(rt: HostRuntime) -> Result<(), Fail> {
-    let problem = problem(&rt, TENS);
-    let refused = write_game_sheet(rt.alloc(), &problem, &game(&rt, PAST_31));
+    let Played { problem, game, .. } = played(&rt, TENS, PAST_31);
+    let refused = write_game_sheet(rt.alloc(), &problem, &game);
     assert!(rt; matches!(refused, Err(BoardFault::Game(GameFault::DoesNotFit(4)))));
-    let acts = write_acts(rt.alloc(), &problem, &game(&rt, PAST_31))?;
+    let acts = write_acts(rt.alloc(), &problem, &game)?;
     assert_eq!(rt; acts.as_slice(), ACTS_BEFORE_A_KING.as_bytes());
-    let none = write_acts(rt.alloc(), &problem, &game(&rt, TAKES_THE_LEAD))?;
+    let Played { problem, game, .. } = played(&rt, TENS, TAKES_THE_LEAD);
+    let none = write_acts(rt.alloc(), &problem, &game)?;
     assert!(rt; none.is_empty());
     Ok(())
 }
@@ -168,22 +157,13 @@ fn writes_the_acts_before_a_refusal(rt: HostRuntime) -> Result<(), Fail> {
 // The first allocation is the only one.
 #[test]
 fn allocates_once(rt: HostRuntime) {
-    let problem = problem(&rt, TENS);
-    let game = game(&rt, LAST_CARD);
+    let Played { problem, game, .. } = played(&rt, TENS, LAST_CARD);
     let first = Refusing::after(rt.alloc(), 0);
-    assert!(rt;
-        matches!(
-            write_game_sheet(&first, &problem, &game),
-            Err(BoardFault::NoMemory)
-        )
-    );
+    let refused = write_game_sheet(&first, &problem, &game);
+    assert!(rt; matches!(refused, Err(BoardFault::NoMemory)));
     let other = Refusing::after(rt.alloc(), 0);
-    assert!(rt;
-        matches!(
-            write_acts(&other, &problem, &game),
-            Err(BoardFault::NoMemory)
-        )
-    );
+    let refused = write_acts(&other, &problem, &game);
+    assert!(rt; matches!(refused, Err(BoardFault::NoMemory)));
     let second = Refusing::after(rt.alloc(), 1);
     assert!(rt; write_game_sheet(&second, &problem, &game).is_ok());
     assert!(rt; !second.has_refused());

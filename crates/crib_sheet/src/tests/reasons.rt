@@ -1,29 +1,21 @@
 //! The reasons of the points in the play of whole games.
+use crate::tests::played;
 use crate::*;
-use crib_game::{read_game, replay};
-use crib_problem::read_problem;
-use crib_text::Lines;
+use crib_game::replay;
 use example_texts::games::*;
 use example_texts::problems::*;
 use std::process::Abort;
 
-fn lines<'a>(rt: &impl Abort, text: &'a str) -> Lines<'a> {
-    let bytes = text.as_bytes();
-    assert!(rt; bytes.len() <= 1000);
-    Lines::new(bytes).expect(rt, "lines")
-}
-
 // The reasons of a game, each with the number of its row, from 1.
 fn has_reasons(
-    rt: &impl Abort,
-    problem_text: &str,
-    game_text: &str,
+    rt: &(impl Abort + AllocGlobal),
+    problem: &str,
+    game: &str,
     rows: usize,
     wanted: &[(u8, PlayReason)],
 ) {
-    let problem = read_problem(&mut lines(rt, problem_text)).expect(rt, "a problem");
-    let game = read_game(&mut lines(rt, game_text)).expect(rt, "a game");
-    let report = replay(&problem, &game).expect(rt, "a report");
+    let played = played(rt, problem, game);
+    let report = replay(&played.problem, &played.game).expect(rt, "a report");
     let found = reasons_of(&report);
     assert_eq!(rt; found.len(), rows);
     let mut place = 0;

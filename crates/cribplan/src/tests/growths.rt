@@ -1,14 +1,15 @@
 //! Runs in which one allocation after another fails.
-use crate::tests::follows::ONE_GAME;
-use crate::tests::runs::{joined, joined_with, numbered, outcome_of};
+use crate::tests::runs::{ONE_GAME, numbered, outcome_of};
 use crib_answer::Job;
 use crib_run::Status;
 use example_texts::boards::LAST_CARD_BOARD;
 use example_texts::games::{LAST_CARD, LAST_CARD_ANSWER, NO_ACTS, OWNER_LEADS};
 use example_texts::plans::{NO_PLAN, TWOS};
 use example_texts::problems::{TENS, THIRTEEN, TWELVE};
+use example_texts::{joined, joined_with};
 use refusing_alloc::Refusing;
 use std::process::Abort;
+use std::test::Fail;
 
 // How many failed allocations led to `fault 11`, and how many changed nothing in the output.
 #[derive(Clone, Copy, Debug, PartialEq, Eq)]
@@ -33,7 +34,7 @@ fn refuse_each(
     wanted: &str,
     status: Status,
 ) -> Refusals {
-    let input = joined(rt, sections);
+    let input = joined(rt.alloc(), sections).expect(rt, "memory");
     let mut refusals = reported_alone(0);
     for served in 0..1000 {
         let heap = Refusing::after(rt.alloc(), served);
@@ -72,7 +73,7 @@ fn of_board(rt: HostRuntime) {
 
 // `follow` allocates the plan, unless it has no nodes.
 #[test]
-fn of_follow(rt: HostRuntime) {
+fn of_follow(rt: HostRuntime) -> Result<(), Fail> {
     for (sections, wanted, reported) in [
         (ONE_GAME, "short\n", 2),
         ([THIRTEEN, TWOS, NO_ACTS], "open\n", 2),
@@ -81,7 +82,7 @@ fn of_follow(rt: HostRuntime) {
         let followed = refuse_each(&rt, Job::Follow, &sections, wanted, Status::No);
         assert_eq!(rt; followed, reported_alone(reported), "with {wanted}");
     }
-    let strays = joined_with(&rt, &ONE_GAME, 20, "own 2H");
+    let strays = joined_with(rt.alloc(), &ONE_GAME, 20, "own 2H")?;
     let refused = "refused line 20: 46\n";
     let strayed = refuse_each(
         &rt,
@@ -91,6 +92,7 @@ fn of_follow(rt: HostRuntime) {
         Status::Refused,
     );
     assert_eq!(rt; strayed, reported_alone(2));
+    Ok(())
 }
 
 // `check` allocates the plan, and reports it if that fails. The position table allocates too, and a failure there
@@ -105,11 +107,12 @@ fn of_check(rt: HostRuntime) {
 // `check` allocates the plan, and the text of the failing game. The first game fails, so the position table keeps
 // nothing.
 #[test]
-fn of_check_that_fails(rt: HostRuntime) {
-    let short = joined(&rt, &["fails short\n", OWNER_LEADS]);
+fn of_check_that_fails(rt: HostRuntime) -> Result<(), Fail> {
+    let short = joined(rt.alloc(), &["fails short\n", OWNER_LEADS])?;
     let sections = [THIRTEEN, TWOS];
     let checked = refuse_each(&rt, Job::Check, &sections, short.as_str(), Status::No);
     assert_eq!(rt; checked, reported_alone(3));
+    Ok(())
 }
 
 // `solve` allocates the nodes and the text of the plan, and reports it if one of these allocations fails. Its tables

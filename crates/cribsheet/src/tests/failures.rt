@@ -1,8 +1,9 @@
 //! Devices that fail or are interrupted.
 use crate::job::SheetJob;
-use crate::tests::runs::{joined, outcome, written_of};
+use crate::tests::runs::{outcome, written_of};
 use crib_run::Status;
 use example_texts::games::LAST_CARD;
+use example_texts::joined;
 use example_texts::plans::LOOK;
 use example_texts::problems::{TENS, TWELVE};
 use failing_devices::Trouble;
@@ -19,7 +20,7 @@ fn sections(job: SheetJob) -> [&'static str; 2] {
 
 // The reader returns one byte at each call. It fails or is interrupted at a call.
 fn fails_to_read(rt: &(impl Abort + AllocGlobal), job: SheetJob, call: u64) {
-    let input = joined(rt, &sections(job));
+    let input = joined(rt.alloc(), &sections(job)).expect(rt, "memory");
     let whole = written_of(rt, job, &sections(job));
     for (kind, wanted, status) in [
         (ErrorKind::Other, "fault 9\n", Status::Fault),
@@ -51,7 +52,7 @@ fn a_failed_read_is_fault_9(rt: HostRuntime) {
 
 // The writer accepts one byte at each call. One of its calls fails or is interrupted: each 67th is tried.
 fn fails_to_write(rt: &(impl Abort + AllocGlobal), job: SheetJob) {
-    let input = joined(rt, &sections(job));
+    let input = joined(rt.alloc(), &sections(job)).expect(rt, "memory");
     let whole = written_of(rt, job, &sections(job));
     for sent in 0..whole.text.len() {
         if sent % 67 != 0 {

@@ -1,8 +1,9 @@
 //! Runs in which one allocation after another fails.
 use crate::job::SheetJob;
-use crate::tests::runs::{joined, outcome_of, written_of};
+use crate::tests::runs::{outcome_of, written_of};
 use crib_run::Status;
 use example_texts::games::LAST_CARD;
+use example_texts::joined;
 use example_texts::plans::TWOS;
 use example_texts::problems::{TENS, THIRTEEN, TWELVE};
 use refusing_alloc::Refusing;
@@ -11,7 +12,7 @@ use std::process::Abort;
 // Fails the first allocation of a run, then the second, and so on, until none fails. Asserts that each time `fault 11`
 // alone was written, or the whole sheet. Returns how many of them led to `fault 11`, and how many changed nothing.
 fn refuse_each(rt: &(impl Abort + AllocGlobal), job: SheetJob, sections: &[&str]) -> (u32, u32) {
-    let input = joined(rt, sections);
+    let input = joined(rt.alloc(), sections).expect(rt, "memory");
     let whole = written_of(rt, job, sections);
     let mut reported = 0u32;
     let mut passed_over = 0u32;

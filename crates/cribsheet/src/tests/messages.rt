@@ -1,13 +1,16 @@
 //! The words beside a sheet.
 use crate::job::SheetJob;
-use crate::tests::runs::{joined, joined_with, outcome, outcome_of};
+use crate::tests::runs::{outcome, outcome_of};
 use crib_run::Status;
 use example_texts::games::{LAST_CARD, OWNER_LEADS};
 use example_texts::plans::TWOS;
 use example_texts::problems::{TENS, THIRTEEN};
+use example_texts::{joined, joined_with};
 use failing_devices::Trouble;
 use refusing_alloc::Refusing;
 use std::io::ErrorKind;
+use std::process::Abort;
+use std::test::Fail;
 
 // What is said of a mistyped card.
 const NOT_A_CARD: &str = "\
@@ -17,22 +20,23 @@ cribsheet: line 5: \"10S\" is not a card. Write ten as T: TS.
 ";
 
 #[test]
-fn each_command_says_why(rt: HostRuntime) {
+fn each_command_says_why(rt: HostRuntime) -> Result<(), Fail> {
     for (job, sections) in [
         (SheetJob::Plan, [THIRTEEN, TWOS]),
         (SheetJob::Game, [THIRTEEN, OWNER_LEADS]),
     ] {
-        let input = joined_with(&rt, &sections, 5, "hold 10S 2D 2H 2S");
+        let input = joined_with(rt.alloc(), &sections, 5, "hold 10S 2D 2H 2S")?;
         let written = outcome_of(rt.alloc(), rt.alloc(), job, input.as_bytes());
         written.is(&rt, "refused line 5: 5\n", Status::Refused, input.as_str());
         assert_eq!(rt; written.words(&rt), NOT_A_CARD);
     }
+    Ok(())
 }
 
 // The seventh act is refused: the six before it are shown after the message, each with its number.
 #[test]
-fn a_refused_act_has_the_acts_before_it(rt: HostRuntime) {
-    let input = joined_with(&rt, &[TENS, LAST_CARD], 18, "own 9C");
+fn a_refused_act_has_the_acts_before_it(rt: HostRuntime) -> Result<(), Fail> {
+    let input = joined_with(rt.alloc(), &[TENS, LAST_CARD], 18, "own 9C")?;
     let written = outcome_of(rt.alloc(), rt.alloc(), SheetJob::Game, input.as_bytes());
     written.is(
         &rt,
@@ -56,12 +60,13 @@ fn a_refused_act_has_the_acts_before_it(rt: HostRuntime) {
     }
     assert!(rt; acts >= 6, "{words}");
     assert!(rt; excerpt >= 1, "{words}");
+    Ok(())
 }
 
 // Without memory for the acts the message stands alone.
 #[test]
-fn acts_without_memory_are_left_out(rt: HostRuntime) {
-    let input = joined_with(&rt, &[TENS, LAST_CARD], 18, "own 9C");
+fn acts_without_memory_are_left_out(rt: HostRuntime) -> Result<(), Fail> {
+    let input = joined_with(rt.alloc(), &[TENS, LAST_CARD], 18, "own 9C")?;
     let plenty = outcome_of(rt.alloc(), rt.alloc(), SheetJob::Game, input.as_bytes());
     for served in 1..100 {
         let heap = Refusing::after(rt.alloc(), served);
@@ -69,7 +74,7 @@ fn acts_without_memory_are_left_out(rt: HostRuntime) {
         assert_eq!(rt; written.text(&rt), plenty.text(&rt));
         if !heap.has_refused() {
             assert_eq!(rt; written.words(&rt), plenty.words(&rt));
-            return;
+            return Ok(());
         }
         assert!(rt; plenty.words(&rt).starts_with(written.words(&rt)));
         assert!(rt; written.words.len() < plenty.words.len());
@@ -77,35 +82,33 @@ fn acts_without_memory_are_left_out(rt: HostRuntime) {
     panic!(rt; "a run that never ends to grow")
 }
 
+const UNREAD: &str = "cribsheet: the input can't be read\n";
+
+const UNWRITTEN: &str = "cribsheet: the answer can't be written\n";
+
+// Asserts that the runs of both commands with these devices end with a fault, and write these words.
+fn faults(rt: &(impl Abort + AllocGlobal), given: Trouble, taken: Trouble, wanted: &str) {
+    for (job, sections) in [
+        (SheetJob::Plan, [THIRTEEN, TWOS]),
+        (SheetJob::Game, [TENS, LAST_CARD]),
+    ] {
+        let input = joined(rt.alloc(), &sections).expect(rt, "memory");
+        let alloc = rt.alloc();
+        let written = outcome(alloc, alloc, job, input.as_bytes(), 4096, given, taken);
+        assert_eq!(rt; written.status, Status::Fault, "not {wanted}");
+        assert_eq!(rt; written.words(rt), wanted);
+    }
+}
+
 #[test]
-fn a_fault_has_words(rt: HostRuntime) {
-    let input = joined(&rt, &[THIRTEEN, TWOS]);
+fn a_fault_has_words(rt: HostRuntime) -> Result<(), Fail> {
+    let input = joined(rt.alloc(), &[THIRTEEN, TWOS])?;
     let heap = Refusing::after(rt.alloc(), 0);
     let written = outcome_of(rt.alloc(), &heap, SheetJob::Plan, input.as_bytes());
     written.is(&rt, "fault 11\n", Status::Fault, "no memory");
     assert_eq!(rt; written.words(&rt), "cribsheet: out of memory\n");
-    for (given, taken, wanted) in [
-        (
-            Trouble::At(1, ErrorKind::Other),
-            Trouble::Never,
-            "cribsheet: the input can't be read\n",
-        ),
-        (
-            Trouble::Never,
-            Trouble::At(1, ErrorKind::Other),
-            "cribsheet: the answer can't be written\n",
-        ),
-    ] {
-        for job in [SheetJob::Plan, SheetJob::Game] {
-            let sections = match job {
-                SheetJob::Plan => [THIRTEEN, TWOS],
-                SheetJob::Game => [TENS, LAST_CARD],
-            };
-            let input = joined(&rt, &sections);
-            let alloc = rt.alloc();
-            let written = outcome(alloc, alloc, job, input.as_bytes(), 4096, given, taken);
-            assert_eq!(rt; written.status, Status::Fault);
-            assert_eq!(rt; written.words(&rt), wanted);
-        }
-    }
+    let broken = Trouble::At(1, ErrorKind::Other);
+    faults(&rt, broken, Trouble::Never, UNREAD);
+    faults(&rt, Trouble::Never, broken, UNWRITTEN);
+    Ok(())
 }

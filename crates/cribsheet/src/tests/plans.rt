@@ -1,7 +1,8 @@
 //! The sheets of plans.
 use crate::job::SheetJob;
-use crate::tests::runs::{joined_with, outcome_of, written_of};
+use crate::tests::runs::{refuses, written_of};
 use crib_run::Status;
+use example_texts::changes::CHANGED_PLANS;
 use example_texts::plans::{LOOK, NO_PLAN, TWOS};
 use example_texts::problems::{BEGUN, THIRTEEN, TWELVE};
 
@@ -28,26 +29,10 @@ fn prints_plans_that_are_not_sure(rt: HostRuntime) {
     }
 }
 
-// One input for each kind of refusal. The numbers and the lines are those of `cribplan check`.
+// The numbers and the lines are those of `cribplan check`.
 #[test]
 fn refuses_what_check_refuses(rt: HostRuntime) {
-    for (number, changed, wanted) in [
-        (1, "problem 3", "refused line 1: 7\n"),
-        (1, "problem 2", "refused line 8: 4\n"),
-        (2, "dealer  opponent", "refused line 2: 4\n"),
-        (5, "hold 2C 2D 2H 1S", "refused line 5: 5\n"),
-        (3, "score 120 121", "refused line 3: 21\n"),
-        (13, "3 play 2S 3", "refused line 13: 30\n"),
-        (9, "nodes 65536", "refused line 9: 32\n"),
-        (13, "3 play 2S end\nx", "refused line 14: 8\n"),
-    ] {
-        let input = joined_with(&rt, &[TWELVE, TWOS], number, changed);
-        outcome_of(rt.alloc(), rt.alloc(), SheetJob::Plan, input.as_bytes()).is(
-            &rt,
-            wanted,
-            Status::Refused,
-            changed,
-        );
-    }
-    written_of(&rt, SheetJob::Plan, &[]).is(&rt, "refused line 1: 3\n", Status::Refused, "nothing");
+    refuses(&rt, SheetJob::Plan, &[TWELVE, TWOS], &CHANGED_PLANS);
+    let written = written_of(&rt, SheetJob::Plan, &[]);
+    written.is(&rt, "refused line 1: 3\n", Status::Refused, "nothing");
 }

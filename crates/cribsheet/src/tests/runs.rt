@@ -3,35 +3,11 @@ use crate::job::SheetJob;
 use crate::run::run_with_words;
 use crib_run::Status;
 use crib_text::Counted;
+use example_texts::{joined, joined_with};
 use failing_devices::{Feed, Tray, Trouble};
 use std::alloc::{Allocator, Global};
 use std::process::Abort;
 use std::str;
-
-/// The text of some sections.
-pub(crate) fn joined(rt: &(impl Abort + AllocGlobal), sections: &[&str]) -> String {
-    let mut text = String::new(rt.alloc());
-    for section in sections {
-        text.push_str(section).expect(rt, "memory");
-    }
-    text
-}
-
-/// The text of some sections, with `changed` in the place of line `number`. Lines are counted from 1.
-pub(crate) fn joined_with(
-    rt: &(impl Abort + AllocGlobal),
-    sections: &[&str],
-    number: usize,
-    changed: &str,
-) -> String {
-    let mut text = String::new(rt.alloc());
-    for (place, line) in (1..100usize).zip(joined(rt, sections).lines()) {
-        let line = if place == number { changed } else { line };
-        text.push_str(line).expect(rt, "memory");
-        text.push('\n').expect(rt, "memory");
-    }
-    text
-}
 
 /// What a run wrote, the words beside it, and its status.
 #[derive(Drop)]
@@ -88,7 +64,7 @@ pub(crate) fn written_of(
     job: SheetJob,
     sections: &[&str],
 ) -> Written {
-    let input = joined(rt, sections);
+    let input = joined(rt.alloc(), sections).expect(rt, "memory");
     outcome_of(rt.alloc(), rt.alloc(), job, input.as_bytes())
 }
 
@@ -120,5 +96,19 @@ impl Written {
         }
         assert_eq!(rt; self.status, status);
         assert_eq!(rt; self.words.len(), 0);
+    }
+}
+
+/// Asserts that a run refuses some sections, each time with one line changed.
+pub(crate) fn refuses(
+    rt: &(impl Abort + AllocGlobal),
+    job: SheetJob,
+    sections: &[&str],
+    changes: &[(usize, &str, &str)],
+) {
+    for (number, changed, wanted) in changes {
+        let input = joined_with(rt.alloc(), sections, *number, changed).expect(rt, "memory");
+        let written = written_of(rt, job, &[input.as_str()]);
+        written.is(rt, wanted, Status::Refused, changed);
     }
 }

@@ -4,6 +4,8 @@ use crate::job::SheetJob;
 use clap::error::ErrorKind;
 use std::alloc::Global;
 use std::io;
+use std::io::ErrorKind as Cause;
+use std::test::Fail;
 
 // The job that the words name, or the kind of the refusal.
 fn job_of_words(alloc: Global, words: &[&str]) -> Result<SheetJob, ErrorKind> {
@@ -12,59 +14,50 @@ fn job_of_words(alloc: Global, words: &[&str]) -> Result<SheetJob, ErrorKind> {
 
 #[test]
 fn reads_the_words(rt: HostRuntime) {
-    let alloc = rt.alloc();
-    for (words, wanted) in [
-        (["cribsheet", "plan"], Ok(SheetJob::Plan)),
-        (["cribsheet", "game"], Ok(SheetJob::Game)),
-        (["cribsheet", "check"], Err(ErrorKind::InvalidValue)),
-        (["cribsheet", "--help"], Err(ErrorKind::DisplayHelp)),
-        (["cribsheet", "--version"], Err(ErrorKind::UnknownArgument)),
-    ] {
-        assert_eq!(rt; job_of_words(alloc, &words), wanted);
+    let rows: [(&[&str], Result<SheetJob, ErrorKind>); 7] = [
+        (&["cribsheet", "plan"], Ok(SheetJob::Plan)),
+        (&["cribsheet", "game"], Ok(SheetJob::Game)),
+        (&["cribsheet", "check"], Err(ErrorKind::InvalidValue)),
+        (&["cribsheet", "--help"], Err(ErrorKind::DisplayHelp)),
+        (&["cribsheet", "--version"], Err(ErrorKind::UnknownArgument)),
+        (&["cribsheet"], Err(ErrorKind::MissingRequiredArgument)),
+        (
+            &["cribsheet", "plan", "file.txt"],
+            Err(ErrorKind::UnknownArgument),
+        ),
+    ];
+    for (words, wanted) in rows {
+        assert_eq!(rt; job_of_words(rt.alloc(), words), wanted, "to {words:?}");
     }
-    assert_eq!(rt;
-        job_of_words(alloc, &["cribsheet"]),
-        Err(ErrorKind::MissingRequiredArgument)
-    );
-    assert_eq!(rt;
-        job_of_words(alloc, &["cribsheet", "plan", "file.txt"]),
-        Err(ErrorKind::UnknownArgument)
-    );
 }
 
 // The help text shows where the input comes from, and has a line for each command.
 #[test]
-fn tells_what_each_command_does(rt: HostRuntime) {
-    match job_of(rt.alloc(), &["cribsheet", "--help"]) {
-        Ok(job) => panic!(rt; "{job:?}"),
-        Err(help) => {
-            let text = format!(in rt.alloc(); "{help}").expect(&rt, "memory");
-            for line in [
-                "Usage: cribsheet <command> < INPUT\n",
-                "[possible values: plan, game]",
-                "\n  plan  reads a problem and a plan, ",
-                "\n  game  reads a problem and a game, ",
-                "\nManual: man cribsheet. ",
-            ] {
-                assert!(rt; text.contains(line));
-            }
-        }
+fn tells_what_each_command_does(rt: HostRuntime) -> Result<(), Fail> {
+    let refusal = job_of(rt.alloc(), &["cribsheet", "--help"]).expect_err(&rt, "the help text");
+    let help = format!(in rt.alloc(); "{refusal}")?;
+    for part in [
+        "Usage: cribsheet <command> < INPUT\n",
+        "[possible values: plan, game]",
+        "\n  plan  reads a problem and a plan, ",
+        "\n  game  reads a problem and a game, ",
+        "\nManual: man cribsheet. ",
+    ] {
+        assert!(rt; help.contains(part), "no {part}");
     }
+    Ok(())
+}
+
+// The kind of the refusal where the system passes no words.
+fn kind_without_words(alloc: Global, cause: Cause) -> Option<ErrorKind> {
+    let read = job_without_words(alloc, &io::Error::from(cause));
+    read.err().map(|error| error.kind())
 }
 
 #[test]
 fn reads_no_words_that_are_no_text(rt: HostRuntime) {
-    for (cause, wanted) in [
-        (
-            io::ErrorKind::InvalidData,
-            ErrorKind::MissingRequiredArgument,
-        ),
-        (io::ErrorKind::OutOfMemory, ErrorKind::OutOfMemory),
-    ] {
-        let error = io::Error::from(cause);
-        match job_without_words(rt.alloc(), &error) {
-            Ok(job) => panic!(rt; "{job:?}"),
-            Err(refusal) => assert_eq!(rt; refusal.kind(), wanted),
-        }
-    }
+    let no_text = kind_without_words(rt.alloc(), Cause::InvalidData);
+    assert_eq!(rt; no_text, Some(ErrorKind::MissingRequiredArgument));
+    let no_memory = kind_without_words(rt.alloc(), Cause::OutOfMemory);
+    assert_eq!(rt; no_memory, Some(ErrorKind::OutOfMemory));
 }

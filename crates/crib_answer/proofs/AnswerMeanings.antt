@@ -30,14 +30,7 @@ Checks input reply = CheckMeans input reply.output reply.status
 verdict_means : (input : List ℕ) (problem : Setup) (plan : List Node) (verdict : Verdict) → SpellsPlan input problem plan → IsRight problem plan verdict
     → Checks input (verdict_reply verdict)
 verdict_means input problem plan Holds spelled right = (
-  record {
-    problem = problem;
-    plan = plan;
-    spelled = spelled;
-    sure = right;
-    goes_on = sure_goes_on problem plan right;
-    ends = ends problem spelled.problem_is;
-  },
+  record { problem = problem; plan = plan; spelled = spelled; sure = right; goes_on = sure_goes_on problem plan right; ends = ends problem spelled.problem_is },
   refl,
 )
 verdict_means input problem plan (Fails result game) spelled right =

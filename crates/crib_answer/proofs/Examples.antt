@@ -175,15 +175,8 @@ want_of_memory_is_written input means = (let text = means in cc)
 -- ---- solve
 pub a_sure_plan_is_written : Ends at_29 → SolveMeans the_problem the_plan Yes
 unfolding plan_text plan_lines digits
-a_sure_plan_is_written ends = record {
-  problem = at_29;
-  plan = ace_or_two;
-  spelled = problem_alone;
-  plan_is = refl;
-  sure = ace_or_two_is_sure;
-  goes_on = ace_or_two_goes_on;
-  ends = ends;
-}
+a_sure_plan_is_written ends =
+    record { problem = at_29; plan = ace_or_two; spelled = problem_alone; plan_is = refl; sure = ace_or_two_is_sure; goes_on = ace_or_two_goes_on; ends = ends }
 
 pub no_text_is_no_plan : (input : List ℕ) → IsSolvedBy input [] → ⊥
 unfolding plan_text plan_lines

@@ -5,5 +5,6 @@ pub mod Replies
 pub mod AnswerMeanings
 pub mod CutShortInputs
 pub mod Examples
+mod ReplyExamples
 pub mod JudgedInputs
 pub mod Agreement

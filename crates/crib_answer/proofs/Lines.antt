@@ -3,8 +3,8 @@ use Rattle.std.proofs.Common.{◌≡◌, ℕ, List, [], ◌∷◌, ◌++◌, cod
 use Rattle.std.specs.List.{flat_map}
 use Rattle.crib_text.specs.Spelling.{space, line_feed, line_text}
 use Rattle.crib_cards.specs.declared.sides.Scores.{Scores}
-use Rattle.crib_show.specs.declared.outcomes.ShowRow.{ShowRow}
-use Rattle.crib_show.specs.declared.outcomes.Outcome.{Outcome}
+use Rattle.crib_show.specs.declared.show.outcomes.ShowRow.{ShowRow}
+use Rattle.crib_show.specs.declared.show.outcomes.Outcome.{Outcome}
 use Rattle.crib_show.specs.Words.{outcome_word, show_word}
 use Rattle.crib_cards.specs.Words.{side_word}
 use Rattle.crib_game.specs.declared.following.ending.Ending.{Ending}

@@ -6,7 +6,7 @@ use Rattle.crib_cards.specs.declared.sides.Scores.{Scores}
 use Rattle.crib_cards.specs.Words.{side_word}
 use Rattle.crib_text.specs.Refusals.{Refusal, no_memory}
 use Rattle.crib_text.specs.Spelling.{line_text}
-use Rattle.crib_show.specs.declared.outcomes.ShowRow.{ShowRow}
+use Rattle.crib_show.specs.declared.show.outcomes.ShowRow.{ShowRow}
 use Rattle.crib_show.specs.Words.{outcome_word, show_word}
 use Rattle.crib_game.specs.declared.following.ending.Ending.{Ending}
 use Rattle.crib_game.specs.declared.following.ending.Ending.TheVariants as ending

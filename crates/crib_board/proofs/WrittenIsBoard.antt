@@ -8,8 +8,8 @@ use Rattle.crib_text.specs.Spelling.{space}
 use Rattle.crib_cards.specs.declared.sides.Side.{Side}
 use Rattle.crib_cards.specs.Words.{side_word}
 use Rattle.crib_cards.specs.declared.sides.Scores.{Scores}
-use Rattle.crib_show.specs.declared.outcomes.ShowRow.{ShowRow}
-use Rattle.crib_show.specs.declared.outcomes.Outcome.{Outcome}
+use Rattle.crib_show.specs.declared.show.outcomes.ShowRow.{ShowRow}
+use Rattle.crib_show.specs.declared.show.outcomes.Outcome.{Outcome}
 use Rattle.crib_show.specs.Words.{outcome_word, show_word}
 use Rattle.crib_game.specs.declared.replaying.report.Row.{Row}
 use Rattle.crib_problem.specs.Spelling.{move_word}

@@ -18,6 +18,13 @@ take_card cards i card inside is = take_more cards i card inside ∙ ap (λ (k :
 has_last : (cards : List ℕ) (card other : ℕ) → has (cards ++ card ∷ []) other ≡ (has cards other || eqb other card)
 has_last cards card other = has_push cards card other ∙ ap (λ (b : Bool). has cards other || b) (eqb_turned card other)
 
+-- a set changed by one card of a list after another is changed by all of them
+pub each_more : (one : List ℕ → ℕ → List ℕ) (all : List ℕ → List ℕ → List ℕ) → ((cards more : List ℕ) (card : ℕ) →
+    one (all cards more) card ≡ all cards (more ++ card ∷ [])) → (cards more set next : List ℕ) (i card : ℕ) → i < length more → card ≡ get_or more i card →
+    next ≡ one set card → set ≡ all cards (take i more) → next ≡ all cards (take (i + 1) more)
+each_more one all ends cards more set next i card inside is step so_far =
+    step ∙ ap (λ (xs : List ℕ). one xs card) so_far ∙ ends cards (take i more) card ∙ ap (all cards) (sym (take_card more i card inside is))
+
 -- ---- a set and all the cards of a list
 
 pub set_with_all-none : (cards : List ℕ) → IsCardSet cards → set_with_all cards [] ≡ cards
@@ -29,12 +36,6 @@ set_with-set_with_all cards more card =
     ap (λ (b : Bool). b || eqb other card) (has-set_where (λ k. has cards k || has more k) other is)
     ∙ or_assoc (has cards other) (has more other) (eqb other card)
     ∙ ap (λ (b : Bool). has cards other || b) (sym (has_last more card other)))
-
-pub set_with_all-more : (cards more set next : List ℕ) (i card : ℕ) → i < length more → card ≡ get_or more i card → next ≡ set_with set card →
-    set ≡ set_with_all cards (take i more) → next ≡ set_with_all cards (take (i + 1) more)
-set_with_all-more cards more set next i card inside is one so_far =
-    one ∙ ap (λ (xs : List ℕ). set_with xs card) so_far ∙ set_with-set_with_all cards (take i more) card
-    ∙ ap (set_with_all cards) (sym (take_card more i card inside is))
 
 -- the set of a list with all the cards of another list is the set of both lists
 pub set_with_all-set_of : (cards more : List ℕ) → set_with_all (set_of cards) more ≡ set_of (cards ++ more)
@@ -53,12 +54,6 @@ set_without-set_without_all cards others card =
     ap (λ (b : Bool). b && not (eqb other card)) (has-set_where (λ k. has cards k && not (has others k)) other is)
     ∙ and_not_or (has cards other) (has others other) (eqb other card)
     ∙ ap (λ (b : Bool). has cards other && not b) (sym (has_last others card other)))
-
-pub set_without_all-more : (cards others set next : List ℕ) (i card : ℕ) → i < length others → card ≡ get_or others i card → next ≡ set_without set card →
-    set ≡ set_without_all cards (take i others) → next ≡ set_without_all cards (take (i + 1) others)
-set_without_all-more cards others set next i card inside is one so_far =
-    one ∙ ap (λ (xs : List ℕ). set_without xs card) so_far ∙ set_without-set_without_all cards (take i others) card
-    ∙ ap (set_without_all cards) (sym (take_card others i card inside is))
 
 -- the unseen cards without the cards of a list are those that are in neither list
 pub set_without_all-unseen_from : (known more : List ℕ) → set_without_all (unseen_from known) more ≡ unseen_from (known ++ more)

@@ -54,7 +54,7 @@ module _ (problem : Setup) (setup : IsSetup problem) (dealt : Dealt) (deal : IsD
   abbrev hands : Hands
   hands = hands_of problem dealt
 
-  dealt_ok : IsDealt hands
+  pub dealt_ok : IsDealt hands
   dealt_ok = dealt_is problem setup dealt deal
 
   -- how many of the opponent's cards are in the opening

@@ -11,7 +11,7 @@ use Rattle.crib_play.specs.History.{Event, history_letters}
 use Rattle.crib_show.specs.Outcome.{outcome_of}
 use Rattle.crib_show.specs.Worst as worst
 use Rattle.crib_show.specs.Worst.{HasDeal, CanFail, NeverFails}
-use Rattle.crib_show.specs.declared.outcomes.Outcome.TheVariants.{Reached, Lost}
+use Rattle.crib_show.specs.declared.show.outcomes.Outcome.TheVariants.{Reached, Lost}
 use Rattle.crib_problem.specs.Setup.{Setup, start_of, target_of}
 use Rattle.crib_know.specs.Knowledge.{Knowledge, their_ranks}
 use Rattle.crib_know.specs.Hidden.{AgreesWith, KnowsAfter}

@@ -15,7 +15,7 @@ use Rattle.crib_play.specs.Standing.{AreTaken, StandsFor, standing_after}
 use Rattle.crib_play.specs.Legal.{IsDealt, letters_of, cards_of}
 use Rattle.crib_play.specs.History.{Event, event_of, history_letters, history_of, moves_of, visible_moves, AreLegal}
 use Rattle.crib_play.proofs.LegalRecords.{visible_legal}
-use Rattle.crib_show.specs.declared.outcomes.Outcome.{Outcome}
+use Rattle.crib_show.specs.declared.show.outcomes.Outcome.{Outcome}
 use Rattle.crib_show.specs.Outcome.{outcome_of}
 use Rattle.crib_problem.specs.Setup.{Setup, IsSetup, known_cards, start_of, hands_of, IsDealOf}
 use Rattle.crib_problem.proofs.StartLemmas.{started}

@@ -8,6 +8,7 @@ use Rattle.crib_cards.specs.Sets.{has, set_of, rank_counts, count_at, count_rank
 use Rattle.crib_cards.specs.Sides.{game_hole, are_decided}
 use Rattle.crib_cards.specs.Start.{Start, pone_of}
 use Rattle.crib_cards.specs.declared.sides.Dealt.{Dealt}
+use Rattle.crib_cards.specs.declared.sides.Scores.{Scores}
 use Rattle.crib_cards.specs.declared.sides.Side.{Side}
 use Rattle.crib_cards.specs.declared.sides.Side.TheVariants.{Owner, Opponent}
 use Rattle.crib_cards.proofs.CountLemmas.{count_at-rank_counts}
@@ -24,10 +25,10 @@ use Rattle.crib_play.proofs.LegalRecords.{legal_filled}
 use Rattle.crib_play.proofs.TurnFacts.{play_of}
 use Rattle.crib_show.specs.declared.deals.Full.{Full}
 use Rattle.crib_show.specs.declared.deals.WorstShow.{WorstShow}
-use Rattle.crib_show.specs.declared.outcomes.Outcome.TheVariants as outcome
+use Rattle.crib_show.specs.declared.show.outcomes.Outcome.TheVariants as outcome
 use Rattle.crib_show.specs.Outcome.{outcome_of, outcome_at}
 use Rattle.crib_show.specs.Worst as worst
-use Rattle.crib_show.specs.declared.extremes.ExtremesByRanks.{ExtremesByRanks}
+use Rattle.crib_show.specs.declared.worst.extremes.ExtremesByRanks.{ExtremesByRanks}
 use Rattle.crib_show.specs.Extremes.{AreExtremes, AreExtremesFor}
 use Rattle.crib_problem.specs.Setup.{Setup, start_of, hands_of, target_of, unseen_of, fixed_cards, IsDealOf}
 use Rattle.crib_problem.proofs.StartLemmas.{started}
@@ -74,6 +75,14 @@ lost_short problem history table dealt low high first = record {
   in_order = first.in_order;
   first = λ other agrees fails. first.first other agrees;
 }
+
+-- ---- the scores that are read are those of the knowledge
+module _ {read : Scores} {table known : Standing} (round : table ≡ known) (value : read ≡ table.scores) where
+  pub owner_read : read.owner ≡ known.scores.owner
+  owner_read = ap (λ (s : Scores). s.owner) value ∙ ap (λ (t : Standing). t.scores.owner) round
+
+  pub opponent_read : read.opponent ≡ known.scores.opponent
+  opponent_read = ap (λ (s : Scores). s.opponent) value ∙ ap (λ (t : Standing). t.scores.opponent) round
 
 -- ---- the scores do not decide, so all cards are played
 over_done : (d : Bool) (side : Side) → cond d turns.Over (side_asked side) ≡ turns.Over → d ≡ true
@@ -241,3 +250,12 @@ module _ (problem : Setup) (know : Knowledge) (history : List Event) (knows : Kn
     pub short_of : (show : WorstShow) → show ≡ behind → (result : Option Dealt) → worst.IsFirstFailureOrNone show result →
         MatchOption result (AllReach problem history know.round) (IsFirstShortfall problem history know.round)
     short_of show e result is = let F : WorstShow → Type 0 = λ s. worst.IsFirstFailureOrNone s result in short_by result (subst F e is)
+
+-- ---- the shows of a problem, once they have gone to a knowledge
+module _ {problem : Setup} {know : Knowledge} {show : WorstShow} {shows : ExtremesByRanks} (known : (history : List Event) × KnowsAfter know problem history)
+    (gone : show ≡ worst_of problem know) where
+  pub gone_for : {before : ExtremesByRanks} → shows ≡ before → AreExtremesOf problem before → AreExtremesFor show shows
+  gone_for same are = shows_for problem know known.0 known.1 show gone shows (subst (AreExtremesOf problem) (sym same) are)
+
+  pub gone_from : AreExtremesFor show shows → AreExtremesOf problem shows × ((other : Knowledge) × (show ≡ worst_of problem other))
+  gone_from are = (shows_from problem know known.0 known.1 show gone shows are, (know, gone))

@@ -21,8 +21,8 @@ use Rattle.crib_cards.proofs.SetFacts.{set_of-rising}
 use Rattle.crib_play.specs.declared.turns.Turn.{Turn}
 use Rattle.crib_play.specs.declared.turns.Turn.TheVariants as turns
 use Rattle.crib_play.specs.History.{Event, Own, Theirs, event_of, AreLegal, moves_of}
-use Rattle.crib_show.specs.declared.outcomes.Outcome.{Outcome}
-use Rattle.crib_show.specs.declared.outcomes.Outcome.TheVariants as outcome
+use Rattle.crib_show.specs.declared.show.outcomes.Outcome.{Outcome}
+use Rattle.crib_show.specs.declared.show.outcomes.Outcome.TheVariants as outcome
 use Rattle.crib_show.specs.Outcome.{outcome_of}
 use Rattle.crib_problem.specs.Setup.{Setup, IsSetup, start_of, hands_of, played_back, fixed_cards, BeginsAsPlayed}
 use Rattle.crib_plan.specs.declared.plan.Node.{Node}

@@ -5,7 +5,7 @@ use Rattle.crib_cards.specs.Start.{Start, pone_of, Hands}
 use Rattle.crib_cards.specs.declared.sides.Dealt.{Dealt}
 use Rattle.crib_cards.specs.declared.moves.Move.{Move}
 use Rattle.crib_cards.specs.declared.moves.Act.{Act}
-use Rattle.crib_play.specs.Legal.{IsDealt, IsLegal}
+use Rattle.crib_play.specs.Legal.{IsLegal}
 use Rattle.crib_play.specs.History.{Event, event_of, event_by, acts_of, history_of, filled_moves, moves_of, visible_moves}
 use Rattle.crib_play.proofs.LegalRecords.{legal_filled, visible_filled}
 use Rattle.crib_problem.specs.Setup.{Setup, IsSetup, start_of, hands_of, played_back, IsDealOf, BeginsAsPlayed}
@@ -13,10 +13,9 @@ use Rattle.crib_problem.proofs.StartLemmas.{started}
 use Rattle.crib_know.specs.Knowledge.{played_events}
 use Rattle.crib_know.specs.Hidden.{BeginsAfter}
 use Rattle.crib_know.proofs.Events.{events, history_events, Plays}
-use Rattle.crib_know.proofs.Deals.{dealt_is}
 use Rattle.crib_check.specs.Private.Suits.{act_of_event, left_after_acts, acts_in_suits}
 use Rattle.crib_check.proofs.GameOrder.{same_side_of}
-use Rattle.crib_check.proofs.AgreeingInSuitOrder.{Suited, suited}
+use Rattle.crib_check.proofs.AgreeingInSuitOrder.{Suited, dealt_ok, suited}
 
 -- two acts are the same if their moves are and the owner sees the same of them
 same_acts : (acts others : List Act) → moves_of acts ≡ moves_of others → map event_of acts ≡ map event_of others → acts ≡ others
@@ -47,9 +46,6 @@ module _ (problem : Setup) (setup : IsSetup problem) (dealt : Dealt) (deal : IsD
   abbrev hands : Hands
   hands = hands_of problem dealt
 
-  dealt_ok : IsDealt hands
-  dealt_ok = dealt_is problem setup dealt deal
-
   module _ (later : List Event) (plays : Plays start hands (later ++ played_events problem)) where
     abbrev history : List Event
     history = later ++ played_events problem
@@ -66,13 +62,15 @@ module _ (problem : Setup) (setup : IsSetup problem) (dealt : Dealt) (deal : IsD
     played = filled_moves start (moves_of listed)
 
     pub suited_legal : IsLegal start hands played
-    suited_legal = legal_filled start hands (moves_of listed) dealt_ok suited_turns.legal
+    suited_legal = legal_filled start hands (moves_of listed) (dealt_ok problem setup dealt deal) suited_turns.legal
 
     visible_is : visible_moves (pone_of start) played ≡ moves_of listed
-    visible_is = visible_filled start hands (moves_of listed) (started problem setup) dealt_ok suited_turns.legal
+    visible_is = visible_filled start hands (moves_of listed) (started problem setup) (dealt_ok problem setup dealt deal) suited_turns.legal
 
     pub suited_shows : history_of (pone_of start) played ≡ history
-    suited_shows = history_events start hands played (started problem setup) dealt_ok suited_legal ∙ ap (events start) visible_is ∙ suited_turns.shows
+    suited_shows =
+        history_events start hands played (started problem setup) (dealt_ok problem setup dealt deal) suited_legal
+        ∙ ap (events start) visible_is ∙ suited_turns.shows
 
     pub suited_acts : acts_of (pone_of start) played ≡ listed
     suited_acts = same_acts (acts_of (pone_of start) played) listed visible_is (suited_shows ∙ sym suited_turns.seen)

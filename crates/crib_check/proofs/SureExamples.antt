@@ -18,7 +18,7 @@ use Rattle.crib_play.specs.Filled.{is_visible}
 use Rattle.crib_play.specs.Record.{mover}
 use Rattle.crib_cards.specs.Letters.{letter_of}
 use Rattle.crib_show.specs.Outcome.{outcome_of}
-use Rattle.crib_show.specs.declared.outcomes.Outcome.TheVariants.{Reached}
+use Rattle.crib_show.specs.declared.show.outcomes.Outcome.TheVariants.{Reached}
 use Rattle.crib_problem.specs.declared.problem.Goal.TheVariants.{Holes}
 use Rattle.crib_problem.specs.declared.problem.Version.TheVariants.{Two}
 use Rattle.crib_problem.specs.Setup.{Setup, IsDealOf, start_of, hands_of, played_back, unseen_of}
@@ -32,24 +32,6 @@ use Rattle.crib_check.specs.Verdicts.{KeepsOn}
 use Rattle.crib_check.specs.declared.verdict.Verdict.TheVariants.{Fails}
 use Rattle.crib_game.specs.declared.section.game.Game.{Game}
 use Rattle.crib_game.specs.declared.following.ending.Ending.TheVariants as ending
-
--- ---- steps that stand here too, so that the examples rest on definitions alone
-has_passed : (p : ℕ → Bool) (cards : List ℕ) (card : ℕ) → list_all p cards ≡ true → has cards card ≡ true → p card ≡ true
-has_passed p [] card all h = absurd (both_ways false refl h)
-has_passed p (first ∷ cards) card all h =
-    let parts = and_parts (p first) (list_all p cards) all in
-    elim (or_cases (eqb first card) (has cards card) h) [
-      | inl here ↦ ap p (sym (eqb-true first card here)) ∙ parts.0
-      | inr there ↦ has_passed p cards card parts.1 there
-    ]
-
-any_of : (p : ℕ → Bool) (cards : List ℕ) → list_any p cards ≡ true → (card : ℕ) × (has cards card ≡ true) × (p card ≡ true)
-any_of p [] any = absurd (both_ways false refl any)
-any_of p (first ∷ cards) any =
-    elim (or_cases (p first) (list_any p cards) any) [
-      | inl here ↦ (first, or_left (eqb first first) (has cards first) (eq-eqb first first refl), here)
-      | inr there ↦ let found = any_of p cards there in (found.0, or_right (eqb first found.0) (has cards found.0) found.1, found.2)
-    ]
 
 -- the owner holds TC 9C 2C AC and threw 2D 2H; the starter is 2S and the goal is two holes
 abbrev pub at_29 : Setup
@@ -165,11 +147,29 @@ only_aces_fit : list_all (λ card. is_ace_if (fits three_turns card) card) (unse
 unfolding set_where
 only_aces_fit = refl
 
+an_ace_if_it_fits : (cards : List ℕ) (card : ℕ) → list_all (λ card. is_ace_if (fits three_turns card) card) cards ≡ true → has cards card ≡ true →
+    is_ace_if (fits three_turns card) card ≡ true
+an_ace_if_it_fits [] card all h = absurd (both_ways false refl h)
+an_ace_if_it_fits (first ∷ cards) card all h =
+    let parts = and_parts (is_ace_if (fits three_turns first) first) (list_all (λ card. is_ace_if (fits three_turns card) card) cards) all in
+    elim (or_cases (eqb first card) (has cards card) h) [
+      | inl here ↦ subst (λ card. is_ace_if (fits three_turns card) card ≡ true) (eqb-true first card here) parts.0
+      | inr there ↦ an_ace_if_it_fits cards card parts.1 there
+    ]
+
+one_that_fits : (cards : List ℕ) → list_any (fits three_turns) cards ≡ true → (card : ℕ) × (has cards card ≡ true) × (fits three_turns card ≡ true)
+one_that_fits [] any = absurd (both_ways false refl any)
+one_that_fits (first ∷ cards) any =
+    elim (or_cases (fits three_turns first) (list_any (fits three_turns) cards) any) [
+      | inl here ↦ (first, or_left (eqb first first) (has cards first) (eq-eqb first first refl), here)
+      | inr there ↦ let found = one_that_fits cards there in (found.0, or_right (eqb first found.0) (has cards found.0) found.1, found.2)
+    ]
+
 an_ace : (dealt : Dealt) (card : ℕ) → IsDealOf at_29 dealt → has (cards_left (hands_of at_29 dealt) Opponent three_turns) card ≡ true →
     fits three_turns card ≡ true → (eqb 1 card || (eqb 2 card || eqb 3 card)) ≡ true
 an_ace dealt card deal left fit =
     let hidden = passes (has (unseen_of at_29)) (λ card. not (has (cards_of three_turns) card)) dealt.hold dealt.throw card deal.deal.hidden_before left in
-    ap (λ b. is_ace_if b card) (sym fit) ∙ has_passed (λ card. is_ace_if (fits three_turns card) card) (unseen_of at_29) card only_aces_fit hidden
+    ap (λ b. is_ace_if b card) (sym fit) ∙ an_ace_if_it_fits (unseen_of at_29) card only_aces_fit hidden
 
 -- ---- each record that follows the plan is a course
 abbrev AsPlanned : Move → List Move → Type 0
@@ -291,7 +291,7 @@ next_turn dealt played two_tens all is on = absurd (both_ways false refl (ap is_
 next_turn dealt played at_count_29 all is on =
     elim (cases_Bool (list_any (fits three_turns) (cards_left (hands_of at_29 dealt) Opponent three_turns))) [
       | inl any ↦
-          let found = any_of (fits three_turns) (cards_left (hands_of at_29 dealt) Opponent three_turns) any in
+          let found = one_that_fits (cards_left (hands_of at_29 dealt) Opponent three_turns) any in
           (Card found.0, with_turn dealt (Card found.0) three_turns is refl (record { not_done = refl; may_take = (found.1, found.2) }) (λ late. tt))
       | inr none ↦ (Go, with_turn dealt Go three_turns is refl (record { not_done = refl; may_take = none }) (λ late. tt))
     ]

@@ -19,8 +19,8 @@ use Rattle.crib_play.specs.Legal.{letters_of, cards_left, fits, MayTake}
 use Rattle.crib_play.specs.History.{Event, acts_of, act_by}
 use Rattle.crib_play.proofs.FilledRecords.{acts_visible, acts_silent}
 use Rattle.crib_play.proofs.LawProofs.{length_law, progress_law}
-use Rattle.crib_show.specs.declared.outcomes.Outcome.{Outcome}
-use Rattle.crib_show.specs.declared.outcomes.Outcome.TheVariants as outcome
+use Rattle.crib_show.specs.declared.show.outcomes.Outcome.{Outcome}
+use Rattle.crib_show.specs.declared.show.outcomes.Outcome.TheVariants as outcome
 use Rattle.crib_show.specs.Outcome.{outcome_of}
 use Rattle.crib_problem.specs.Setup.{Setup, IsSetup, start_of, hands_of, BeginsAsPlayed}
 use Rattle.crib_plan.specs.declared.plan.Node.{Node}
@@ -32,12 +32,12 @@ use Rattle.crib_game.specs.declared.following.ending.Ending.{Ending}
 use Rattle.crib_game.specs.declared.following.ending.Ending.TheVariants as ending
 use Rattle.crib_game.specs.Replay.{full_of, is_done_for}
 use Rattle.crib_game.specs.Following.{place_of, IsAsStated, is_playable, is_stuck}
-use Rattle.crib_game.specs.Followed.{IsRecordUnder, ending_with, ending_without}
+use Rattle.crib_game.specs.Followed.{IsRecordUnder, ending_of, ending_with, ending_without}
 use Rattle.crib_check.specs.declared.keys.Key.{Key}
 use Rattle.crib_check.specs.declared.verdict.Verdict.{Verdict}
 use Rattle.crib_check.specs.declared.verdict.Verdict.TheVariants.{Holds, Fails}
 use Rattle.crib_check.specs.Sure.{IsFollowed, IsSure, GoesOn, Ends}
-use Rattle.crib_check.specs.Failing.{IsFailing, IsFirstFailing}
+use Rattle.crib_check.specs.Failing.{IsFailing, IsFailingEnding, IsFirstFailing}
 use Rattle.crib_check.specs.Private.Positions.{StandsAt, HoldsFrom, IsSettled, IsFirstFrom}
 use Rattle.crib_check.specs.Verdicts.{IsRight, IsSoFollowed, KeepsOn}
 use Rattle.crib_check.proofs.ExtendedGames.{failing_begins}
@@ -101,6 +101,12 @@ module _ (problem : Setup) (plan : List Node) (dealt : Dealt) (played : List Mov
     follows = followed.follows;
   }
 
+  -- no game of the record fails
+  none_fails : HoldsFrom problem plan (played_events problem) → (result : Ending) → ending_of problem plan dealt played ≡ result → IsFailingEnding result → ⊥
+  none_fails holds result is failure =
+      let failing : IsFailing problem plan game result = record { played = played; of_game = of_game; ending_is = is; failure = failure } in
+      holds game result failing (failing_begins problem plan game result failing)
+
   stuck_fails : HoldsFrom problem plan (played_events problem) → stuck ≡ true → ⊥
   stuck_fails holds is =
       let any = list_any (fits played) (cards_left hands Owner played) in
@@ -108,13 +114,7 @@ module _ (problem : Setup) (plan : List Node) (dealt : Dealt) (played : List Mov
       let playable = not (is_playable hands played (stated_card plan (place_of plan problem.played (pone_of start) played))) in
       let going = (and_parts (not done) who (and_parts (not done && who) any (and_parts (not done && who && any) playable is).0).0).0 in
       let not_done : done ≡ false = not-true done going in
-      let failing : IsFailing problem plan game ending.Stuck = record {
-        played = played;
-        of_game = of_game;
-        ending_is = (λ i. ending_without (cond (not_done i) (Some (outcome_of (full_of problem dealt played))) None) (is i));
-        failure = inl refl;
-      } in
-      holds game ending.Stuck failing (failing_begins problem plan game ending.Stuck failing)
+      none_fails holds ending.Stuck (λ i. ending_without (cond (not_done i) (Some (outcome_of (full_of problem dealt played))) None) (is i)) (inl refl)
 
   pub never_stuck : HoldsFrom problem plan (played_events problem) → stuck ≡ false
   never_stuck holds = elim (cases_Bool stuck) [ inl is ↦ absurd (stuck_fails holds is) | inr is ↦ is ]
@@ -126,24 +126,8 @@ module _ (problem : Setup) (plan : List Node) (dealt : Dealt) (played : List Mov
   reached_by : HoldsFrom problem plan (played_events problem) → done ≡ true → (o : Outcome) → outcome_of (full_of problem dealt played) ≡ o →
       o ≡ outcome.Reached
   reached_by holds is outcome.Reached e = refl
-  reached_by holds is outcome.Lost e =
-      let failing : IsFailing problem plan game ending.Lost = record {
-        played = played;
-        of_game = of_game;
-        ending_is = done_ends is outcome.Lost e;
-        failure =
-            inr (inl refl);
-      } in
-      absurd (holds game ending.Lost failing (failing_begins problem plan game ending.Lost failing))
-  reached_by holds is outcome.Short e =
-      let failing : IsFailing problem plan game ending.Short = record {
-        played = played;
-        of_game = of_game;
-        ending_is = done_ends is outcome.Short e;
-        failure =
-            inr (inr refl);
-      } in
-      absurd (holds game ending.Short failing (failing_begins problem plan game ending.Short failing))
+  reached_by holds is outcome.Lost e = absurd (none_fails holds ending.Lost (done_ends is outcome.Lost e) (inr (inl refl)))
+  reached_by holds is outcome.Short e = absurd (none_fails holds ending.Short (done_ends is outcome.Short e) (inr (inr refl)))
 
   pub reached : HoldsFrom problem plan (played_events problem) → done ≡ true → outcome_of (full_of problem dealt played) ≡ outcome.Reached
   reached holds is = reached_by holds is (outcome_of (full_of problem dealt played)) refl
@@ -212,14 +196,8 @@ IsRightFrom problem plan key history Holds = IsSettled problem plan key
 IsRightFrom problem plan key history (Fails result game) = IsFirstFrom problem plan history game result
 
 module _ (problem : Setup) (plan : List Node) (key : Key) (stands : StandsAt problem plan key (played_events problem)) where
-  pub right_at_start : (verdict : Verdict) → IsRightFrom problem plan key (played_events problem) verdict → IsRight problem plan verdict
-  right_at_start Holds settled = sure_from problem plan (settled (played_events problem) stands)
-  right_at_start (Fails result game) first = first_of_all problem plan game result first
-
-  pub followed_at_start : (verdict : Verdict) → IsRightFrom problem plan key (played_events problem) verdict → IsSoFollowed problem plan verdict
-  followed_at_start Holds settled = tt
-  followed_at_start (Fails result game) first = failing_followed problem plan stands.knows.setup game result first.failing
-
-  pub keeps_on_at_start : (verdict : Verdict) → IsRightFrom problem plan key (played_events problem) verdict → KeepsOn problem plan verdict
-  keeps_on_at_start Holds settled = sure_goes_on problem plan (sure_from problem plan (settled (played_events problem) stands))
-  keeps_on_at_start (Fails result game) first = tt
+  pub verdict_at_start : (verdict : Verdict) → IsRightFrom problem plan key (played_events problem) verdict →
+      IsRight problem plan verdict × IsSoFollowed problem plan verdict × KeepsOn problem plan verdict
+  verdict_at_start Holds settled = let sure = sure_from problem plan (settled (played_events problem) stands) in (sure, tt, sure_goes_on problem plan sure)
+  verdict_at_start (Fails result game) first =
+      (first_of_all problem plan game result first, failing_followed problem plan stands.knows.setup game result first.failing, tt)

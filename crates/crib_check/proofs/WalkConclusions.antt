@@ -20,7 +20,7 @@ use Rattle.crib_play.specs.Score.{asks}
 use Rattle.crib_play.specs.Standing.{Standing}
 use Rattle.crib_play.specs.History.{Event, Own, Theirs}
 use Rattle.crib_play.proofs.CardLemmas.{none_passes}
-use Rattle.crib_show.specs.declared.outcomes.Outcome.TheVariants as outcome
+use Rattle.crib_show.specs.declared.show.outcomes.Outcome.TheVariants as outcome
 use Rattle.crib_show.specs.Outcome.{outcome_of}
 use Rattle.crib_problem.specs.Setup.{Setup}
 use Rattle.crib_plan.specs.declared.plan.Node.{Node}

@@ -1,5 +1,6 @@
 -- What a walk may do for a turn, and what it has done after one.
-use Rattle.std.proofs.Common.{◌≡◌, List, ◌∷◌, None, sym, subst}
+use Rattle.std.proofs.Common.{◌≡◌, ◌+◌, ℕ, List, ◌∷◌, None, sym, subst}
+use Rattle.crib_cards.specs.Letters.{letter_place}
 use Rattle.crib_cards.specs.declared.letters.Letter.{Letter}
 use Rattle.crib_play.specs.History.{Event}
 use Rattle.crib_problem.specs.Setup.{Setup}
@@ -7,6 +8,7 @@ use Rattle.crib_plan.specs.declared.plan.Node.{Node}
 use Rattle.crib_check.specs.declared.keys.Key.{Key}
 use Rattle.crib_check.specs.declared.trails.Event.{Event as TrailEvent}
 use Rattle.crib_check.specs.declared.walk.Walk.{Walk}
+use Rattle.crib_check.specs.Private.Found.{IsFoundBelow, IsSettledBelow}
 use Rattle.crib_check.specs.Private.Histories.{history_of_trail}
 use Rattle.crib_check.specs.Private.Positions.{StandsAt}
 use Rattle.crib_check.specs.Private.Walks.{IsWalkOf, MayWalk, HasShownOf, HasShown, HasWalkedOf, HasWalked, history_at}
@@ -33,21 +35,6 @@ module _ {A T : Type 0} (holds : T → Key → Type 0) (problem : Setup) (plan :
       let both = subst F same (kept, here) in
       record { kept = both.0; none = none; here = both.1 }
 
-  -- it may go on where it is
-  pub may_stay : (key : Key) → walk.failure ≡ None → StandsAt problem plan key (history_of_trail problem trail) → MayWalk holds walk key (history_at walk)
-  may_stay key none here =
-      let F : (Setup × List Node × List TrailEvent) → Type 0 = λ x. IsWalkOf holds x.0 x.1 walk × StandsAt x.0 x.1 key (history_of_trail x.0 x.2) in
-      let both = subst F same (kept, here) in
-      record { kept = both.0; none = none; here = both.1 }
-
-  -- a position to which an event leads under the plan of the walk
-  pub leads_to : (key next : Key) (event : Event) →
-      ((p : Setup) (history : List Event) → StandsAt p walk.plan.now key history → StandsAt p walk.plan.now next (event ∷ history)) →
-      (history : List Event) → StandsAt problem plan key history → StandsAt problem plan next (event ∷ history)
-  leads_to key next event leads =
-      let F : List Node → Type 0 = λ q. (history : List Event) → StandsAt problem q key history → StandsAt problem q next (event ∷ history) in
-      subst F kept.same_plan (leads problem)
-
   -- what it has done after the event
   pub has_taken : (key : Key) (event : Event) (after : Walk A T) → HasWalked holds walk key (event ∷ history_at walk) after →
       HasWalkedOf holds problem plan trail key (event ∷ history_of_trail problem trail) after
@@ -56,10 +43,32 @@ module _ {A T : Type 0} (holds : T → Key → Type 0) (problem : Setup) (plan :
       HasWalkedOf holds x.0 x.1 x.2 key (event ∷ history_of_trail x.0 x.2) after in
       subst F (sym same) walked
 
-  -- what it has done after a letter
-  pub has_shown : (key : Key) (letter : Letter) (after : Walk A T) → HasShown holds walk key letter (history_at walk) after →
-      HasShownOf holds problem plan trail key letter (history_of_trail problem trail) after
-  has_shown key letter after shown =
-      let F : (Setup × List Node × List TrailEvent) → Type 0 = λ x.
-      HasShownOf holds x.0 x.1 x.2 key letter (history_of_trail x.0 x.2) after in
-      subst F (sym same) shown
+-- a walk after the letters below a place, none of which led to a failure
+pub record HasShownBelow {A T : Type 0} (holds : T → Key → Type 0) (start : Walk A T) (key : Key) (place : ℕ) (walk : Walk A T) : Type 0 where
+  pub kept : IsWalkOf holds start.problem.now start.plan.now walk
+  pub none : walk.failure ≡ None
+  pub back : walk.trail.items ≡ start.trail.items
+  pub below : IsSettledBelow start.problem.now start.plan.now key place
+
+module _ {A T : Type 0} {holds : T → Key → Type 0} {start walk : Walk A T} {key : Key} {place : ℕ} (shown : HasShownBelow holds start key place walk) where
+  abbrev same_start : ◌≡◌ {A = Setup × List Node × List TrailEvent} (start.problem.now, start.plan.now, start.trail.items)
+      (walk.problem.now, walk.plan.now, walk.trail.items)
+  same_start = same holds start.problem.now start.plan.now start.trail.items walk shown.kept shown.back
+
+  -- it may go on where it is
+  pub may_show : StandsAt start.problem.now start.plan.now key (history_at start) → MayWalk holds walk key (history_at walk)
+  may_show here =
+      let F : (Setup × List Node × List TrailEvent) → Type 0 = λ x. IsWalkOf holds x.0 x.1 walk × StandsAt x.0 x.1 key (history_of_trail x.0 x.2) in
+      let both = subst F same_start (shown.kept, here) in
+      record { kept = both.0; none = shown.none; here = both.1 }
+
+  -- what it has done after one letter more
+  pub shown_next : {after : Walk A T} (letter : Letter) → letter_place letter ≡ place → HasShown holds walk key letter (history_at walk) after →
+      IsWalkOf holds start.problem.now start.plan.now after × (after.failure ≡ None → after.trail.items ≡ start.trail.items)
+      × IsFoundBelow start.problem.now start.plan.now key (place + 1) (history_at start) after.trail.items after.failure
+  shown_next {after} letter at next =
+      let S : (Setup × List Node × List TrailEvent) → Type 0 = λ x. HasShownOf holds x.0 x.1 x.2 key letter (history_of_trail x.0 x.2) after in
+      let done = subst S (sym same_start) next in
+      let B : ℕ → Type 0 = λ n. IsSettledBelow start.problem.now start.plan.now key n in
+      let F : ℕ → Type 0 = λ n. IsFoundBelow start.problem.now start.plan.now key (n + 1) (history_at start) after.trail.items after.failure in
+      (done.kept, done.back, subst F at (done.found (subst B (sym at) shown.below)))

@@ -25,7 +25,7 @@ use Rattle.crib_play.proofs.LegalRecords.{silent_unheard, acts_more, filled_befo
 use Rattle.crib_game.specs.declared.fault.GameFault.{GameFault}
 use Rattle.crib_game.specs.declared.fault.GameFault.TheVariants.{NotHeld, DoesNotFit, MustPlay}
 use Rattle.crib_game.specs.declared.replaying.remark.Remark.{Remark}
-use Rattle.crib_game.specs.declared.replaying.remark.Remark.TheVariants.{Fine, NotPlayed, Astray}
+use Rattle.crib_game.specs.declared.replaying.remark.Remark.TheVariants.{Fine, Astray}
 use Rattle.crib_game.specs.Laws.{NoneStrays}
 use Rattle.crib_game.specs.Replay.{Judge, first_fault, move_fault, act_fault, acts_fault}
 
@@ -61,12 +61,10 @@ pub record IsRight (judge : Judge) (start : Start) (hands : Hands) (act : Act) (
 first_none : (remark : Remark) (done asked : Bool) (wrong : Option GameFault) (place : ℕ) → first_fault remark done asked wrong place ≡ None →
     (remark ≡ Fine) × (done ≡ false) × (asked ≡ true) × (wrong ≡ None)
 first_none Fine false true wrong place e = (refl, refl, refl, e)
-first_none Fine true asked wrong place e = cc
-first_none Fine false false wrong place e = cc
-first_none NotPlayed done asked wrong place e = cc
 first_none Astray true asked wrong place e = cc
 first_none Astray false true wrong place e = cc
 first_none Astray false false wrong place e = cc
+first_none remark done asked wrong place e = cc
 
 pub act_right : (judge : Judge) (start : Start) (hands : Hands) (act : Act) (past : List Move) (place : ℕ) → act_fault judge start hands act past place
     ≡ None → IsRight judge start hands act past

@@ -109,8 +109,7 @@ pub played_spelled : (input : List ℕ) (problem : Setup) (game : Game) → Spel
     → (first : ℕ) × (played_of_input input ≡ Ok (problem, game, first))
 unfolding played_of_input played_at
 played_spelled input problem game spelled =
-    let are = read_by input problem game spelled in
-    (are.after.number, rw (are.lines, are.first, are.last.read, are.last.none) refl)
+    let are = read_by input problem game spelled in (are.after.number, rw (are.lines, are.first, are.last.read, are.last.none) refl)
 
 -- if a problem and a game are read, the input spells them
 pub played_accepted : (input : List ℕ) (played : Setup × Game × ℕ) → played_of_input input ≡ Ok played → SpellsGame input played.0 played.1
@@ -200,8 +199,7 @@ pub played_under_spelled : (input : List ℕ) (problem : Setup) (plan : List Nod
     → (first : ℕ) × (played_under_of_input input ≡ Ok (problem, plan, game, first))
 unfolding played_under_of_input played_under_at
 played_under_spelled input problem plan game spelled =
-    let are = all_read_by input problem plan game spelled in
-    (are.after.number, rw (are.lines, are.first, are.second, are.last.read, are.last.none) refl)
+    let are = all_read_by input problem plan game spelled in (are.after.number, rw (are.lines, are.first, are.second, are.last.read, are.last.none) refl)
 
 -- if a problem, a plan and a game are read, the input spells them
 pub played_under_accepted : (input : List ℕ) (played : Setup × List Node × Game × ℕ) → played_under_of_input input ≡ Ok played

@@ -1,5 +1,5 @@
 -- Two knowledges compare as equal exactly where they are the same.
-use Rattle.std.proofs.Common.{ℕ, List, sym, ap, subst, ◌≡◌}
+use Rattle.std.proofs.Common.{ℕ, List, sym, subst, ◌≡◌}
 use Rattle.std.specs.Bool.{Decides}
 use Rattle.std.proofs.lemmas.Bool.Decides.{Decides-eqb, Decides-and, Decides-like}
 use Rattle.crib_cards.specs.Sets.{IsCardSet}
@@ -27,11 +27,8 @@ same_knows one other known known_other =
       fixed = h.0.1.1.1 i;
     })
     (λ e. (
-      (
-        ap (λ (k : Knowledge). k.round) e,
-        (ap (λ (k : Knowledge). k.own_left) e, (ap (λ (k : Knowledge). k.unseen) e, ap (λ (k : Knowledge). k.fixed) e)),
-      ),
-      (ap (λ (k : Knowledge). k.ranks_seen) e, (ap (λ (k : Knowledge). k.opponent_left) e, ap (λ (k : Knowledge). k.least) e)),
+      (λ i. (e i).round, (λ i. (e i).own_left, (λ i. (e i).unseen, λ i. (e i).fixed))),
+      (λ i. (e i).ranks_seen, (λ i. (e i).opponent_left, λ i. (e i).least)),
     ))
     (Decides-and _ _
     (Decides-and _ _ (same_rounds one.round other.round)

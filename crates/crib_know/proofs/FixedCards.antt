@@ -1,7 +1,6 @@
 -- The fixed cards: those that the opponent played in the opening.
 use Rattle.std.proofs.Common.{◌≡◌, ℕ, true, false, not, ◌||◌, eqb, cond, List, [], ◌∷◌, Some, None, refl, ap, inl}
 use Rattle.std.proofs.Common.{inr}
-use Rattle.std.specs.List.{AllByRecursion}
 use Rattle.std.proofs.lemmas.Bool.{cases_Bool, and_from, or_parts, or_right, both_ways}
 use Rattle.crib_cards.specs.Cards.{IsCard}
 use Rattle.crib_cards.specs.Sets.{has, are_distinct}
@@ -15,6 +14,7 @@ use Rattle.crib_problem.specs.Played.{OpeningBasis, cards_with, cards_played, ca
 use Rattle.crib_problem.specs.Played.{count_by_acts, own_left_by, least_by, is_over_by, act_refusal, AreAllowed}
 use Rattle.crib_problem.specs.Refusals.{same_card, not_turn, already_over}
 use Rattle.crib_problem.specs.Setup.{Setup, IsSetup, IsMove, known_cards, unseen_of, opening_basis_of, played_back, fixed_cards}
+use Rattle.crib_problem.proofs.Setups.{AllMoves}
 use Rattle.crib_problem.proofs.AskedHolds.{none_of_two, none_of_either}
 use Rattle.crib_know.proofs.CardLists.{has_set_from, each_member}
 use Rattle.crib_problem.proofs.HonestTurns.{moves_back}
@@ -35,9 +35,6 @@ allowed_parts basis before act e =
     record { unseen = parts.0; asked = parts.1; may = parts.2 }
 
 -- ---- the opponent's cards among acts
-abbrev AllMoves : List Act → Type 0
-AllMoves acts = AllByRecursion (λ (act : Act). IsMove act.what) acts
-
 -- the opponent's cards among the acts are cards of the pack, all different, and none of the known ones
 pub record AreShown (basis : OpeningBasis) (acts : List Act) : Type 0 where
   pub cards : AreCards (cards_by Opponent acts)
@@ -67,7 +64,7 @@ next_shown basis before Owner what shown is e = record {
   unknown = shown.unknown;
   played = λ card h. played_on what (cards_played before) card (shown.played card h);
 }
-next_shown basis before Opponent move.Go shown is e = record { cards = shown.cards; distinct = shown.distinct; unknown = shown.unknown; played = shown.played }
+next_shown basis before Opponent move.Go shown is e = assumption
 next_shown basis before Opponent (move.Card first) shown is e =
     let parts = shown_card basis before first is e in
     let theirs = cards_by Opponent before in

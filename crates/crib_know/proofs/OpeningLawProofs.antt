@@ -1,7 +1,7 @@
 -- The turns of the opening can come one by one, and some hidden deal agrees with them.
 use Rattle.std.proofs.Common.{◌≡◌, ◌⊎◌, ℕ, ◌+◌, ◌<◌, ◌≤◌, Bool, true, false, not, ◌&&◌, ◌||◌, eqb, leb, ltb, cond, List, [], ◌∷◌, ◌++◌, map, length}
 use Rattle.std.proofs.Common.{take, drop, reverse, get_or, Some, None, refl, sym, ap, subst, ◌∙◌, inl, inr, arith}
-use Rattle.std.specs.List.{AllByRecursion, list_any}
+use Rattle.std.specs.List.{list_any}
 use Rattle.std.proofs.lemmas.Bool.{cases_Bool, cases_lt, or_left, both_ways, not-false, leb-true, lt-ltb, eqb-true}
 use Rattle.std.proofs.lemmas.List.{append-nil}
 use Rattle.crib_cards.specs.Cards.{IsCard, rank_of, card_value}
@@ -43,7 +43,7 @@ use Rattle.crib_know.proofs.FixedCards.{Allowed, allowed_parts, AreShown, are_sh
 use Rattle.crib_know.proofs.FirstDeals.{Needs, Fixes, first_dealt, first_is_deal, hold_passes}
 use Rattle.crib_know.proofs.KnowledgeFacts.{ranks_played, begun_fixes, needs_history, shows}
 use Rattle.crib_know.proofs.RecordTurns.{agreeing_led}
-use Rattle.crib_problem.proofs.Setups.{without_opening}
+use Rattle.crib_problem.proofs.Setups.{AllMoves, without_opening}
 use Rattle.crib_problem.proofs.AskedHolds.{none_of_one}
 use Rattle.crib_cards.proofs.SetCounts.{count_cons}
 use Rattle.crib_cards.proofs.Members.{rank_is}
@@ -96,9 +96,6 @@ module _ (problem : Setup) (setup : IsSetup problem) where
 
   abbrev bare_is : IsSetup bare
   bare_is = without_opening problem setup
-
-  abbrev AllMoves : List Act → Type 0
-  AllMoves acts = AllByRecursion (λ (act : Act). IsMove act.what) acts
 
   -- a card of the owner is played in the events exactly where it is played in the acts
   own_played : (acts : List Act) → AllMoves acts → AreAllowed basis acts → (card : ℕ) → has problem.hold card ≡ true →

@@ -1,6 +1,5 @@
 -- Each hidden deal that agrees has a legal record that begins with the very cards of the opening, suits included.
 use Rattle.std.proofs.Common.{◌≡◌, ℕ, ◌+◌, Bool, true, false, not, ◌||◌, eqb, List, [], ◌∷◌, ◌++◌, map, refl, sym, ap, subst, ◌∙◌}
-use Rattle.std.specs.List.{AllByRecursion}
 use Rattle.std.proofs.lemmas.Bool.{le-leb, or_left, or_right}
 use Rattle.crib_cards.specs.Cards.{rank_of, card_value}
 use Rattle.crib_cards.specs.Sets.{has}
@@ -26,7 +25,7 @@ use Rattle.crib_play.proofs.RecordsReached.{asked_mover}
 use Rattle.crib_problem.specs.Setup.{Setup, IsSetup, IsMove, start_of, opening_basis_of, hands_of, played_back, fixed_cards, IsDealOf}
 use Rattle.crib_problem.specs.Played.{OpeningBasis, cards_played, cards_by, seen_by, asked_by, shows_seen, AreAllowed}
 use Rattle.crib_problem.proofs.StartLemmas.{started}
-use Rattle.crib_problem.proofs.Setups.{without_opening}
+use Rattle.crib_problem.proofs.Setups.{AllMoves, without_opening}
 use Rattle.crib_know.specs.Knowledge.{played_events, count_after}
 use Rattle.crib_know.specs.Private.Knowledge.{at_first_lead}
 use Rattle.crib_know.specs.Hidden.{AgreesWith, BeginsAfter}
@@ -74,15 +73,6 @@ acts_end start hands (turn ∷ front) seen is dealt legal =
     record { later = act ∷ rest.later; parts = acts_more start hands turn (front ++ seen) is dealt legal ∙ ap (λ (acts : List Act). act ∷ acts) rest.parts }
 
 module _ (problem : Setup) (setup : IsSetup problem) (dealt : Dealt) (deal : IsDealOf problem dealt) where
-  abbrev start : Start
-  start = start_of problem
-
-  abbrev hands : Hands
-  hands = hands_of problem dealt
-
-  abbrev basis : OpeningBasis
-  basis = opening_basis_of problem
-
   abbrev bare : Setup
   bare = at_first_lead problem
 
@@ -92,8 +82,14 @@ module _ (problem : Setup) (setup : IsSetup problem) (dealt : Dealt) (deal : IsD
   bare_deal : IsDealOf bare dealt
   bare_deal = record { deal = deal.deal; fixed = refl }
 
-  abbrev AllMoves : List Act → Type 0
-  AllMoves acts = AllByRecursion (λ (act : Act). IsMove act.what) acts
+  abbrev start : Start
+  start = start_of problem
+
+  abbrev hands : Hands
+  hands = hands_of problem dealt
+
+  abbrev basis : OpeningBasis
+  basis = opening_basis_of problem
 
   -- these hands play the very acts
   record Exact (acts : List Act) : Type 0 where

@@ -258,11 +258,20 @@ one_more place count before words word holding first node h long at low free lat
           ∙ ap (map (branch_word (led_by node holding nexts))) (sym nodes);
     }
 
--- a word is its parts with the byte between them
-cut_there : (bytes : List ℕ) (n : ℕ) → n < length bytes → bytes ≡ take n bytes ++ get_or bytes n 0 ∷ drop (n + 1) bytes
-cut_there bytes n inside = sym (take-append-drop n bytes) ∙ ap (λ (bs : List ℕ). take n bytes ++ bs) (drop_more bytes n 0 inside)
+take_none : (bytes : List ℕ) (n : ℕ) → ((k : ℕ) → k < n → is_colon (get_or bytes k 0) ≡ false) → list_any is_colon (take n bytes) ≡ false
+take_none bytes zero none = refl
+take_none [] (suc n) none = refl
+take_none (byte ∷ bytes) (suc n) none =
+    let here : is_colon byte ≡ false = none 0 (omega arith) in
+    rw here (take_none bytes n (λ i below. none (suc i) (omega arith)))
 
-parts_found : (word : List ℕ) (parts : Parts) → parts_in word ≡ Ok parts → word ≡ parts.front ++ colon ∷ parts.back
+-- a word is its parts with the byte between them, which neither part has
+pub record AreParts (word : List ℕ) (parts : Parts) : Type 0 where
+  pub whole : word ≡ parts.front ++ colon ∷ parts.back
+  pub none_in_front : list_any is_colon parts.front ≡ false
+  pub none_behind : list_any is_colon parts.back ≡ false
+
+pub parts_found : (word : List ℕ) (parts : Parts) → parts_in word ≡ Ok parts → AreParts word parts
 unfolding parts_in
 parts_found word parts e =
     let a = bind_ok (or_refused bad_line (position is_colon word)) _ parts e in
@@ -270,8 +279,12 @@ parts_found word parts e =
     let p = position-Some is_colon word a.0 0 (or_ok bad_line (position is_colon word) a.0 a.1) in
     let is : get_or word a.0 0 ≡ colon = eqb-true _ _ p.1 in
     let made : Parts = record { front = take a.0 word; back = drop (a.0 + 1) word } in
-    subst (λ (v : Parts). word ≡ v.front ++ colon ∷ v.back) (ok_is made parts b.2)
-    (cut_there word a.0 p.0 ∙ ap (λ (byte : ℕ). take a.0 word ++ byte ∷ drop (a.0 + 1) word) is)
+    subst (AreParts word) (ok_is made parts b.2) (record {
+      whole = sym (take-append-drop a.0 word) ∙ ap (λ (bs : List ℕ). take a.0 word ++ bs) (drop_more word a.0 0 p.0)
+          ∙ ap (λ (byte : ℕ). take a.0 word ++ byte ∷ drop (a.0 + 1) word) is;
+      none_in_front = take_none word a.0 p.2;
+      none_behind = not-true _ (unless_ok _ bad_line b.0 b.1);
+    })
 
 -- the bytes that are read as a set are its letters
 begins_found : (bytes : List ℕ) (letter : ℕ) → begins_with bytes letter ≡ true → bytes ≡ letter ∷ drop 1 bytes
@@ -330,7 +343,7 @@ branch_found place count before words word after h e =
     let b = bind_ok (letters_in before a.0.front) _ after a.2 in
     let d = bind_ok (branch_node_in place count a.0.back) _ after b.2 in
     let f = bind_ok (unless_refused bad_set (not (list_any (leads_to d.0) before.nexts))) _ after d.2 in
-    let parts = parts_found word a.0 a.1 in
+    let parts = (parts_found word a.0 a.1).whole in
     let letters = letters_found before a.0.front b.0 b.1 in
     let node = branch_node_found place count a.0.back d.0 d.1 in
     let fresh : leads before.nexts d.0 ≡ false = not-true _ (unless_ok _ bad_set f.0 f.1) in

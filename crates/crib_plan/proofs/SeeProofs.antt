@@ -1,18 +1,17 @@
 -- The proofs of the laws of see lines.
-use Rattle.std.proofs.Common.{◌≡◌, ◌≢◌, ℕ, zero, suc, ◌+◌, ◌<◌, ◌≤◌, Bool, true, false, not, cond, ◌&&◌, ◌⊎◌, List, [], ◌∷◌, ◌++◌, length, map, get_or, drop}
-use Rattle.std.proofs.Common.{take, Option, Some, None, Result, Ok, Err, codes, decimal, refl, sym, ap, subst, ◌∙◌, append_assoc, arith, inl, inr}
+use Rattle.std.proofs.Common.{◌≡◌, ◌≢◌, ℕ, ◌+◌, ◌<◌, ◌≤◌, Bool, true, false, not, cond, ◌&&◌, ◌⊎◌, List, [], ◌∷◌, ◌++◌, length, map, drop}
+use Rattle.std.proofs.Common.{Option, Some, None, Result, Ok, Err, codes, decimal, refl, sym, ap, subst, ◌∙◌, append_assoc, arith, inl, inr}
 use Rattle.std.specs.Prelude.{position, nat_lt, nat_le, bytes_eq, IsOk}
 use Rattle.std.specs.List.{list_any, position_or_len, count_by, AllByRecursion}
-use Rattle.std.proofs.lemmas.Bool.{cases_Bool, cases_lt, eqb-true, le-leb, ltb-true, not-true, and_parts}
-use Rattle.std.proofs.lemmas.List.{append-nil, take-append-drop, drop_more}
+use Rattle.std.proofs.lemmas.Bool.{cases_Bool, cases_lt, le-leb, ltb-true, and_parts}
+use Rattle.std.proofs.lemmas.List.{append-nil}
 use Rattle.std.proofs.lemmas.List.Sums.{sum_by-append, sum_by-cons}
-use Rattle.std.proofs.lemmas.List.Quantifiers.{position-Some}
 use Rattle.std.proofs.lemmas.Slice.Eq.{bytes_eq-Decides}
 use Rattle.crib_cards.specs.Sets.{has}
 use Rattle.crib_text.specs.Refusals.{bad_line, bad_number}
 use Rattle.crib_text.specs.Words.{number_read}
 use Rattle.crib_text.specs.Reading.{◌>>=◌, or_refused, unless_refused, number_in}
-use Rattle.crib_text.proofs.ReadingLemmas.{bind_ok, unless_ok, or_ok, ok_is, number_found, number_spelled}
+use Rattle.crib_text.proofs.ReadingLemmas.{bind_ok, unless_ok, ok_is, number_found, number_spelled}
 use Rattle.crib_plan.specs.Spelling.{letter_bytes, colon}
 use Rattle.crib_plan.specs.Refusals.{bad_next, bad_set}
 use Rattle.crib_plan.specs.Reading.{later_node, node_in, branch_node_in, letters_read, are_free, led_by, is_colon, Branches, no_branches, Letters, Parts}
@@ -20,7 +19,7 @@ use Rattle.crib_plan.specs.Reading.{parts_in, letters_in, branch_in, branches_in
 use Rattle.crib_plan.specs.SeeLaws.{Branch, branch_spelling, first_number, IsNextSet, Pass, IsRefused, HasNoColon, IsLaterNode, ColonLaw, SetLaw, EndLaw}
 use Rattle.crib_plan.specs.SeeLaws.{NumberLaw, RangeLaw, NodeLaw, PassLaw}
 use Rattle.crib_plan.proofs.WordLemmas.{decimal_digits, decimal_not_end, digits_colon}
-use Rattle.crib_plan.proofs.BranchReadIsSpelled.{letters_found, read_found}
+use Rattle.crib_plan.proofs.BranchReadIsSpelled.{letters_found, parts_found, read_found}
 use Rattle.crib_plan.proofs.LeadsTo.{leads}
 use Rattle.crib_plan.proofs.BranchSpelledIsRead.{later_spelled, position_there, parts_spelled}
 use Rattle.crib_plan.proofs.BranchLemmas.{branches_more, branches_stop, branches_none}
@@ -54,28 +53,17 @@ count_around front back =
     let f : ℕ → ℕ = λ b. cond (is_colon b) 1 0 in
     sum_by-append f front (colon ∷ back) ∙ ap (λ (k : ℕ). count_by is_colon front + k) (sum_by-cons f colon back)
 
-take_none : (bytes : List ℕ) (n : ℕ) → ((k : ℕ) → k < n → is_colon (get_or bytes k 0) ≡ false) → list_any is_colon (take n bytes) ≡ false
-take_none bytes zero none = refl
-take_none [] (suc n) none = refl
-take_none (byte ∷ bytes) (suc n) none =
-    let here : is_colon byte ≡ false = none 0 (omega arith) in
-    rw here (take_none bytes n (λ i below. none (suc i) (omega arith)))
-
 -- a word that is read as two parts has one colon
 cut_count : (word : List ℕ) (parts : Parts) → parts_in word ≡ Ok parts → count_by is_colon word ≡ 1
-unfolding parts_in
 cut_count word parts e =
-    let a = bind_ok (or_refused bad_line (position is_colon word)) _ parts e in
-    let b = bind_ok (unless_refused bad_line (not (list_any is_colon (drop (a.0 + 1) word)))) _ parts a.2 in
-    let p = position-Some is_colon word a.0 0 (or_ok bad_line (position is_colon word) a.0 a.1) in
-    let is : get_or word a.0 0 ≡ colon = eqb-true _ _ p.1 in
-    let back : list_any is_colon (drop (a.0 + 1) word) ≡ false = not-true _ (unless_ok _ bad_line b.0 b.1) in
-    let whole : word ≡ take a.0 word ++ colon ∷ drop (a.0 + 1) word =
-    sym (take-append-drop a.0 word) ∙ ap (λ (bs : List ℕ). take a.0 word ++ bs) (drop_more word a.0 0 p.0)
-    ∙ ap (λ (byte : ℕ). take a.0 word ++ byte ∷ drop (a.0 + 1) word) is in
-    let front = count_none (take a.0 word) (take_none word a.0 p.2) in
-    let behind = count_none (drop (a.0 + 1) word) back in
-    omega (arith, ap (count_by is_colon) whole, count_around (take a.0 word) (drop (a.0 + 1) word), front, behind)
+    let are = parts_found word parts e in
+    omega (
+      arith,
+      ap (count_by is_colon) are.whole,
+      count_around parts.front parts.back,
+      count_none parts.front are.none_in_front,
+      count_none parts.back are.none_behind,
+    )
 
 -- ---- readings with only one refusal
 

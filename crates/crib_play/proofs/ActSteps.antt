@@ -10,7 +10,7 @@ use Rattle.crib_cards.specs.Sides.{other_side, are_decided, scores_with}
 use Rattle.crib_play.specs.declared.turns.Turn.{Turn}
 use Rattle.crib_play.specs.Record.{is_begun, count_of}
 use Rattle.crib_play.specs.Points.{card_points}
-use Rattle.crib_play.specs.Standing.{seat_of}
+use Rattle.crib_play.specs.Standing.{Standing, seat_of}
 use Rattle.crib_play.specs.Private.TableChanges.{with_seat, with_go_said, table_after_close, with_card_on_pile, table_after_laying, points_of_laying}
 use Rattle.crib_play.specs.Private.TableChanges.{with_next_asked, points_of_asking, table_after_play, points_of_play}
 use Rattle.crib_play.proofs.RecordStates.{State, closes_at, closes_by_go, step_card, go_open, go_closing, step_go, done, heard_of, is_silent, gos}
@@ -40,21 +40,17 @@ cond_false : (c b : Bool) → b ≡ false → cond c false b ≡ false
 cond_false true b e = refl
 cond_false false b e = e
 
+card_turned : (s : State) (rank : ℕ) (m : Side) → IsSum (step_card (record s { mover = m }) rank) →
+    said_of (step_card (record s { mover = m }) rank) (other_side (other_side m)) ≡ false → IsTurned (step_card (record s { mover = m }) rank)
+card_turned s rank m total silent = record { total = total; after_go = λ e. absurd (false≢true e); after_card = λ _. silent }
+
 pub turned_card : (s : State) (rank : ℕ) (m : Side) → IsSum s → heard_of s m ≡ true → IsTurned (step_card (record s { mover = m }) rank)
 turned_card s rank Owner total h =
     let p = heard_parts s Owner h in
-    record {
-      total = omega (arith, p.0);
-      after_go = λ e. absurd (false≢true e);
-      after_card = λ _. cond_false (closes_at s rank) s.owner_said p.1;
-    }
+    card_turned s rank Owner (omega (arith, p.0)) (cond_false (closes_at s rank) s.owner_said p.1)
 turned_card s rank Opponent total h =
     let p = heard_parts s Opponent h in
-    record {
-      total = omega (arith, p.0);
-      after_go = λ e. absurd (false≢true e);
-      after_card = λ _. cond_false (closes_at s rank) s.opponent_said p.1;
-    }
+    card_turned s rank Opponent (omega (arith, p.0)) (cond_false (closes_at s rank) s.opponent_said p.1)
 
 said_closed : (s : State) (side : Side) → said_of (go_closing s) side ≡ false
 said_closed s Owner = refl
@@ -93,86 +89,42 @@ and-true : (b c : Bool) → c ≡ false → b ≡ (b && not c)
 and-true true c e = ap not (sym e)
 and-true false c e = refl
 
+-- a table after a card, closed or not, whose sides have said go or not in the count before
+laid_table : (c : Bool) (table : Standing) (owner_said opponent_said : Bool) → table.owner.may_be_asked ≡ (ltb 0 table.owner.left && not owner_said) →
+    table.opponent.may_be_asked ≡ (ltb 0 table.opponent.left && not opponent_said) → cond c (table_after_close table) table
+    ≡ record table {
+      pile = cond c [] table.pile;
+      owner = record { left = table.owner.left; may_be_asked = ltb 0 table.owner.left && not (cond c false owner_said) };
+      opponent = record { left = table.opponent.left; may_be_asked = ltb 0 table.opponent.left && not (cond c false opponent_said) };
+    }
+laid_table true table owner_said opponent_said owner opponent = λ i. record table {
+  pile = [];
+  owner = record { left = table.owner.left; may_be_asked = and-true (ltb 0 table.owner.left) false refl i };
+  opponent = record { left = table.opponent.left; may_be_asked = and-true (ltb 0 table.opponent.left) false refl i };
+}
+laid_table false table owner_said opponent_said owner opponent = λ i. record table {
+  owner = record { left = table.owner.left; may_be_asked = owner i };
+  opponent = record { left = table.opponent.left; may_be_asked = opponent i };
+}
+
+points_laid : (target : ℕ) (s : State) (turn : Turn) (rank : ℕ) → IsSum s → points_of_laying (face target s turn) rank ≡ card_points s.played
+    (s.pile ++ rank ∷ [])
+points_laid target s turn rank total =
+    let e : 8 - (s.owner_left + s.opponent_left) ≡ s.played = omega arith in ap (λ n. card_points n (s.pile ++ rank ∷ [])) e
+
 -- a card that is played on the table is the next turn of the record
 laid_face : (target : ℕ) (s : State) (turn : Turn) (rank : ℕ) (m : Side) → IsSum s → said_of s m ≡ false →
     table_after_laying (face target s turn) m rank ≡ face target (step_card (record s { mover = m }) rank) turn
-laid_face target s turn rank Owner total said = closing (closes_at s rank)
-  where
-    points : card_points (8 - (s.owner_left + s.opponent_left)) (s.pile ++ rank ∷ []) ≡ card_points s.played (s.pile ++ rank ∷ [])
-    points = let e : 8 - (s.owner_left + s.opponent_left) ≡ s.played = omega arith in ap (λ n. card_points n (s.pile ++ rank ∷ [])) e
-
-    closing : (c : Bool) → cond c (table_after_close (with_card_on_pile (face target s turn) Owner rank)) (with_card_on_pile (face target s turn) Owner rank)
-        ≡ record {
-          asked = turn;
-          pile = cond c [] (s.pile ++ rank ∷ []);
-          last = Owner;
-          scores = scores_with s.scores Owner (card_points s.played (s.pile ++ rank ∷ []));
-          target = target;
-          owner = record { left = s.owner_left - 1; may_be_asked = ltb 0 (s.owner_left - 1) && not (cond c false s.owner_said) };
-          opponent = record { left = s.opponent_left; may_be_asked = ltb 0 s.opponent_left && not (cond c false s.opponent_said) };
-        }
-    closing true =
-        let mine = and-true (ltb 0 (s.owner_left - 1)) false refl in
-        let theirs = and-true (ltb 0 s.opponent_left) false refl in
-        λ i. record {
-          asked = turn;
-          pile = [];
-          last = Owner;
-          scores = scores_with s.scores Owner (points i);
-          target = target;
-          owner = record { left = s.owner_left - 1; may_be_asked = mine i };
-          opponent = record { left = s.opponent_left; may_be_asked = theirs i };
-        }
-    closing false =
-        let mine = and-true (ltb 0 (s.owner_left - 1)) s.owner_said said in
-        λ i. record {
-          asked = turn;
-          pile = s.pile ++ rank ∷ [];
-          last = Owner;
-          scores = scores_with s.scores Owner (points i);
-          target = target;
-          owner = record { left = s.owner_left - 1; may_be_asked = mine i };
-          opponent = record { left = s.opponent_left; may_be_asked = heard_of s Opponent };
-        }
-laid_face target s turn rank Opponent total said = closing (closes_at s rank)
-  where
-    points : card_points (8 - (s.owner_left + s.opponent_left)) (s.pile ++ rank ∷ []) ≡ card_points s.played (s.pile ++ rank ∷ [])
-    points = let e : 8 - (s.owner_left + s.opponent_left) ≡ s.played = omega arith in ap (λ n. card_points n (s.pile ++ rank ∷ [])) e
-
-    closing : (c : Bool) → cond c (table_after_close (with_card_on_pile (face target s turn) Opponent rank))
-        (with_card_on_pile (face target s turn) Opponent rank)
-        ≡ record {
-          asked = turn;
-          pile = cond c [] (s.pile ++ rank ∷ []);
-          last = Opponent;
-          scores = scores_with s.scores Opponent (card_points s.played (s.pile ++ rank ∷ []));
-          target = target;
-          owner = record { left = s.owner_left; may_be_asked = ltb 0 s.owner_left && not (cond c false s.owner_said) };
-          opponent = record { left = s.opponent_left - 1; may_be_asked = ltb 0 (s.opponent_left - 1) && not (cond c false s.opponent_said) };
-        }
-    closing true =
-        let mine = and-true (ltb 0 (s.opponent_left - 1)) false refl in
-        let theirs = and-true (ltb 0 s.owner_left) false refl in
-        λ i. record {
-          asked = turn;
-          pile = [];
-          last = Opponent;
-          scores = scores_with s.scores Opponent (points i);
-          target = target;
-          owner = record { left = s.owner_left; may_be_asked = theirs i };
-          opponent = record { left = s.opponent_left - 1; may_be_asked = mine i };
-        }
-    closing false =
-        let mine = and-true (ltb 0 (s.opponent_left - 1)) s.opponent_said said in
-        λ i. record {
-          asked = turn;
-          pile = s.pile ++ rank ∷ [];
-          last = Opponent;
-          scores = scores_with s.scores Opponent (points i);
-          target = target;
-          owner = record { left = s.owner_left; may_be_asked = heard_of s Owner };
-          opponent = record { left = s.opponent_left - 1; may_be_asked = mine i };
-        }
+laid_face target s turn rank Owner total said =
+    laid_table (closes_at s rank) (with_card_on_pile (face target s turn) Owner rank) s.owner_said s.opponent_said
+    (and-true (ltb 0 (s.owner_left - 1)) s.owner_said said) refl
+    ∙ ap (λ n. record (face target (step_card (record s { mover = Owner }) rank) turn) { scores = scores_with s.scores Owner n })
+    (points_laid target s turn rank total)
+laid_face target s turn rank Opponent total said =
+    laid_table (closes_at s rank) (with_card_on_pile (face target s turn) Opponent rank) s.owner_said s.opponent_said refl
+    (and-true (ltb 0 (s.opponent_left - 1)) s.opponent_said said)
+    ∙ ap (λ n. record (face target (step_card (record s { mover = Opponent }) rank) turn) { scores = scores_with s.scores Opponent n })
+    (points_laid target s turn rank total)
 
 -- a go that is said at the table is the next turn of the record
 pub passed_face : (target : ℕ) (s : State) (turn : Turn) (m : Side) →
@@ -236,9 +188,7 @@ played_points_is target s turn rank m is total h =
     (card_settles target s turn rank m is total h).points
     ∙ ap (λ table. points_of_asking table m)
     (ap (λ x. face target (step_card (record s { mover = x }) rank) turn) is ∙ sym (laid_face target s turn rank m total (heard_parts s m h).1)) in
-    let card : card_points s.played (s.pile ++ rank ∷ []) ≡ points_of_laying (face target s turn) rank =
-    let e : s.played ≡ 8 - (s.owner_left + s.opponent_left) = omega arith in ap (λ n. card_points n (s.pile ++ rank ∷ [])) e in
-    omega (arith, gos, card)
+    omega (arith, gos, points_laid target s turn rank total)
 
 -- ---- a go
 held_after : (s : State) (m : Side) → heard_of s m ≡ true → heard_of (go_closing s) m ≡ true

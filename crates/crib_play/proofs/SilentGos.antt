@@ -64,23 +64,16 @@ heard_open_mover s Opponent is =
     ap (λ x. ltb 0 s.opponent_left && not (same_side x Opponent || s.opponent_said)) is ∙ and_right (ltb 0 s.opponent_left) false refl
 
 -- a go of a side that is not heard changes nothing on the table
+same_face : (target : ℕ) (s : State) (turn : Turn) → heard_of (go_open s) Owner ≡ heard_of s Owner → heard_of (go_open s) Opponent ≡ heard_of s Opponent →
+    face target (go_open s) turn ≡ face target s turn
+same_face target s turn owner opponent = λ i. record (face target s turn) {
+  owner = record { left = s.owner_left; may_be_asked = owner i };
+  opponent = record { left = s.opponent_left; may_be_asked = opponent i };
+}
+
 face_open : (target : ℕ) (s : State) (turn : Turn) (o : Side) → s.mover ≡ o → heard_of s o ≡ false → face target (go_open s) turn ≡ face target s turn
-face_open target s turn Owner is e =
-    let mine : heard_of (go_open s) Owner ≡ heard_of s Owner = heard_open_mover s Owner is ∙ sym e in
-    let theirs : heard_of (go_open s) Opponent ≡ heard_of s Opponent = heard_open_other s Owner is in
-    λ i. record (face target s turn) {
-      owner =
-          record { left = s.owner_left; may_be_asked = mine i };
-      opponent = record { left = s.opponent_left; may_be_asked = theirs i };
-    }
-face_open target s turn Opponent is e =
-    let mine : heard_of (go_open s) Opponent ≡ heard_of s Opponent = heard_open_mover s Opponent is ∙ sym e in
-    let theirs : heard_of (go_open s) Owner ≡ heard_of s Owner = heard_open_other s Opponent is in
-    λ i. record (face target s turn) {
-      owner =
-          record { left = s.owner_left; may_be_asked = theirs i };
-      opponent = record { left = s.opponent_left; may_be_asked = mine i };
-    }
+face_open target s turn Owner is e = same_face target s turn (heard_open_mover s Owner is ∙ sym e) (heard_open_other s Owner is)
+face_open target s turn Opponent is e = same_face target s turn (heard_open_other s Opponent is) (heard_open_mover s Opponent is ∙ sym e)
 
 step_open : (s : State) → closes_by_go s ≡ false → step_go s ≡ go_open s
 step_open s e = cond-false (closes_by_go s) (go_closing s) (go_open s) e

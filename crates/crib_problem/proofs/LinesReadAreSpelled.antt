@@ -49,8 +49,6 @@ HasScores words scores = (words ≡ decimal scores.owner ∷ decimal scores.oppo
 
 both_found : (words : List (List ℕ)) (scores : Scores) → both_scores words ≡ Ok scores → HasScores words scores
 unfolding both_scores
-both_found [] scores e = absurd cc
-both_found (first ∷ []) scores e = absurd cc
 both_found (first ∷ second ∷ []) scores e =
     let a = bind_ok (score_in first) _ scores e in
     let b = bind_ok (score_in second) _ scores a.2 in
@@ -63,7 +61,7 @@ both_found (first ∷ second ∷ []) scores e =
       f.1,
       s.1,
     )
-both_found (first ∷ second ∷ third ∷ words) scores e = absurd cc
+both_found words scores e = absurd cc
 
 pub scores_found : (words : List (List ℕ)) (scores : Scores) → scores_in words ≡ Ok scores
     → (words ≡ codes "score" ∷ decimal scores.owner ∷ decimal scores.opponent ∷ []) × (scores.owner ≤ 120) × (scores.opponent ≤ 120)

@@ -21,7 +21,7 @@ use Rattle.crib_play.specs.History.{visible_moves, filled_moves, Event, Own, The
 use Rattle.crib_play.proofs.FilledRecords.{not_silent_heard, not_silent_done}
 use Rattle.crib_play.proofs.TurnFacts.{play_of, heard_card, same_is}
 use Rattle.crib_show.specs.Outcome.{outcome_of}
-use Rattle.crib_show.specs.declared.outcomes.Outcome.TheVariants.{Reached}
+use Rattle.crib_show.specs.declared.show.outcomes.Outcome.TheVariants.{Reached}
 use Rattle.crib_problem.specs.Setup.{Setup, IsSetup, start_of, hands_of, played_back}
 use Rattle.crib_plan.specs.declared.plan.Next.{Next}
 use Rattle.crib_plan.specs.declared.plan.Node.{Node}

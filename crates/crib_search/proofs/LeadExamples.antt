@@ -15,8 +15,8 @@ use Rattle.crib_cards.proofs.Members.{all_has}
 use Rattle.crib_play.specs.Legal.{cards_of, cards_left, fits}
 use Rattle.crib_show.specs.Outcome.{outcome_of}
 use Rattle.crib_show.specs.Show.{hand_points}
-use Rattle.crib_show.specs.declared.outcomes.Outcome.{Outcome}
-use Rattle.crib_show.specs.declared.outcomes.Outcome.TheVariants.{Reached, Lost, Short}
+use Rattle.crib_show.specs.declared.show.outcomes.Outcome.{Outcome}
+use Rattle.crib_show.specs.declared.show.outcomes.Outcome.TheVariants.{Reached, Lost, Short}
 use Rattle.crib_show.proofs.ReorderedLists.{Reordered, behind, front, both, same_order}
 use Rattle.crib_problem.specs.declared.problem.Goal.TheVariants.{Win}
 use Rattle.crib_problem.specs.declared.problem.Version.TheVariants.{Two}

@@ -18,14 +18,15 @@ use Rattle.crib_play.specs.History.{act_by, acts_of}
 use Rattle.crib_play.specs.Filled.{is_visible}
 use Rattle.crib_play.proofs.CardLemmas.{none_passes}
 use Rattle.crib_show.specs.Outcome.{outcome_of}
-use Rattle.crib_show.specs.declared.outcomes.Outcome.{Outcome}
-use Rattle.crib_show.specs.declared.outcomes.Outcome.TheVariants.{Reached, Lost, Short}
+use Rattle.crib_show.specs.declared.show.outcomes.Outcome.{Outcome}
+use Rattle.crib_show.specs.declared.show.outcomes.Outcome.TheVariants.{Reached, Lost, Short}
 use Rattle.crib_show.proofs.ReorderedLists.{Reordered, behind, front, both, same_order, length-reordered, list_any-reordered, are_distinct-reordered}
 use Rattle.crib_show.proofs.OrderLaw.{reordered-append, outcome_of-reordered}
 use Rattle.crib_problem.specs.Setup.{Setup, IsDealOf, start_of, hands_of, played_back, unseen_of, fixed_cards}
 use Rattle.crib_plan.specs.declared.plan.Next.{Next}
 use Rattle.crib_plan.specs.declared.plan.Next.TheVariants.{End, To}
 use Rattle.crib_plan.specs.declared.plan.Node.{Node}
+use Rattle.crib_plan.proofs.LeadsTo.{or_rest}
 use Rattle.crib_know.proofs.CardsLeft.{has-filter_parts, has-filter_from}
 use Rattle.crib_game.specs.Replay.{is_done_for, full_of}
 use Rattle.crib_game.specs.Following.{IsAsStated, Follows, is_stuck, place_of}
@@ -52,10 +53,6 @@ fewer false true c d e = absurd (both_ways false refl e)
 fewer false false true d e = absurd (both_ways false refl e)
 fewer false false false d e = refl
 
-the_other : (a b : Bool) → a ≡ false → (a || b) ≡ true → b ≡ true
-the_other true b e h = absurd (both_ways true e refl)
-the_other false b e h = h
-
 held : (lead : ℕ) → has leads lead ≡ true → (dealt : Dealt) → IsDealOf (after_lead lead) dealt → Held lead dealt
 held lead is dealt deal =
     let hold = dealt.hold in
@@ -68,8 +65,8 @@ held lead is dealt deal =
     let two = brought_front one.0 12 in_one in
     let by_two = both hold (4 ∷ one.0) (4 ∷ 12 ∷ two.0) one.1 (behind 4 one.0 (12 ∷ two.0) two.1) in
     let in_two = sym (list_any-reordered (λ card. eqb card lead) hold (4 ∷ 12 ∷ two.0) by_two) ∙ fixed lead lead_here in
-    let not_first = the_other (eqb 4 lead) (eqb 12 lead || has two.0 lead) (not-true (eqb 4 lead) (not_4 lead is)) in_two in
-    let in_rest = the_other (eqb 12 lead) (has two.0 lead) (not-true (eqb 12 lead) (not_12 lead is)) not_first in
+    let not_first = or_rest (eqb 4 lead) (eqb 12 lead || has two.0 lead) in_two (not-true (eqb 4 lead) (not_4 lead is)) in
+    let in_rest = or_rest (eqb 12 lead) (has two.0 lead) not_first (not-true (eqb 12 lead) (not_12 lead is)) in
     let three = brought_front two.0 lead in_rest in
     let by_three = both hold (4 ∷ 12 ∷ two.0) (4 ∷ 12 ∷ lead ∷ three.0) by_two
     (behind 4 (12 ∷ two.0) (12 ∷ lead ∷ three.0) (behind 12 two.0 (lead ∷ three.0) three.1)) in
@@ -136,15 +133,15 @@ module _ (lead : ℕ) (is : has leads lead ≡ true) (dealt : Dealt) (deal : IsD
   -- after a go at 22 the opponent has ten-cards alone
   has_ten : IsFalse (list_any (fits four_turns) (cards_left (hands_of problem dealt) Opponent four_turns)) → has (tens lead) last ≡ true
   has_ten none =
-      let is_left = the_other (has (4 ∷ 12 ∷ lead ∷ []) last) (not (has (cards_of four_turns) last)) hidden.other
+      let is_left = or_rest (has (4 ∷ 12 ∷ lead ∷ []) last) (not (has (cards_of four_turns) last))
       (all_has (λ card. has (4 ∷ 12 ∷ lead ∷ []) card || not (has (cards_of four_turns) card)) (unseen_of before_the_lead) last
-      (still_left lead is) hidden.unseen) in
+      (still_left lead is) hidden.unseen) hidden.other in
       let left = has-filter_from (λ card. not (has (cards_of four_turns) card)) dealt.hold last in_hold is_left in
       let stops = none_passes (fits four_turns) (cards_left (hands_of problem dealt) Opponent four_turns) last none left in
-      the_other (has (4 ∷ 12 ∷ lead ∷ []) last) (has (tens lead) last) hidden.other
-      (the_other (fits four_turns last) (has (4 ∷ 12 ∷ lead ∷ []) last || has (tens lead) last) stops
+      or_rest (has (4 ∷ 12 ∷ lead ∷ []) last) (has (tens lead) last)
+      (or_rest (fits four_turns last) (has (4 ∷ 12 ∷ lead ∷ []) last || has (tens lead) last)
       (all_has (λ card. fits four_turns card || (has (4 ∷ 12 ∷ lead ∷ []) card || has (tens lead) card)) (unseen_of before_the_lead) last
-      (only_tens lead is) hidden.unseen))
+      (only_tens lead is) hidden.unseen) stops) hidden.other
 
   -- the card that the opponent shows after the lead
   the_card_left : (card : ℕ) → has (cards_left (hands_of problem dealt) Opponent (to_first lead)) card ≡ true → last ≡ card

@@ -23,7 +23,7 @@ use Rattle.crib_play.specs.History.{filled_moves, Event, Own, Theirs, event_by, 
 use Rattle.crib_play.proofs.LegalRecords.{legal_filled, visible_filled}
 use Rattle.crib_play.proofs.RecordsReached.{asked_mover}
 use Rattle.crib_show.specs.Outcome.{outcome_of}
-use Rattle.crib_show.specs.declared.outcomes.Outcome.TheVariants.{Reached}
+use Rattle.crib_show.specs.declared.show.outcomes.Outcome.TheVariants.{Reached}
 use Rattle.crib_problem.specs.Setup.{Setup, IsSetup, start_of, hands_of, IsDealOf, BeginsAsPlayed}
 use Rattle.crib_problem.proofs.StartLemmas.{started}
 use Rattle.crib_plan.specs.declared.plan.Node.{Node}

@@ -175,20 +175,19 @@ jack_alone (card ∷ cards) starter = either (eqb (rank_of card) jack && eqb (su
 all_distinct : (cards : List ℕ) (starter : ℕ) → are_distinct (starter ∷ cards) ≡ true → are_distinct (cards ++ starter ∷ []) ≡ true
 all_distinct cards starter are = are_distinct-reordered (cards ++ starter ∷ []) (starter ∷ cards) (starter_first cards starter) ∙ are
 
-pub hand_list_law : HandListLaw
-unfolding hand_combinations
-hand_list_law cards starter are =
-    let flush = hand_flush_alone cards starter in
+-- whatever the flush, what is counted with it differs
+list_differs : (cards : List ℕ) (starter : ℕ) (flush : List Combination) → are_distinct (starter ∷ cards) ≡ true → AreAlone 3 flush →
+    AllDiffer (plain_combinations (cards ++ starter ∷ []) ++ flush ++ jack_among cards starter)
+list_differs cards starter flush are alone =
     let last = jack_alone cards starter in
     let plain = plain_stands (cards ++ starter ∷ []) (all_distinct cards starter are) in
-    (joined 4 (plain_combinations (cards ++ starter ∷ []) ++ flush_in_hand cards starter) (jack_among cards starter)
-    (joined 3 (plain_combinations (cards ++ starter ∷ [])) (flush_in_hand cards starter) plain flush.0 flush.1) last.0 last.1).differ
+    (joined 4 (plain_combinations (cards ++ starter ∷ []) ++ flush) (jack_among cards starter)
+    (joined 3 (plain_combinations (cards ++ starter ∷ [])) flush plain alone.0 alone.1) last.0 last.1).differ
+
+pub hand_list_law : HandListLaw
+unfolding hand_combinations
+hand_list_law cards starter are = list_differs cards starter (flush_in_hand cards starter) are (hand_flush_alone cards starter)
 
 pub crib_list_law : CribListLaw
 unfolding crib_combinations
-crib_list_law cards starter are =
-    let flush = crib_flush_alone cards starter in
-    let last = jack_alone cards starter in
-    let plain = plain_stands (cards ++ starter ∷ []) (all_distinct cards starter are) in
-    (joined 4 (plain_combinations (cards ++ starter ∷ []) ++ flush_in_crib cards starter) (jack_among cards starter)
-    (joined 3 (plain_combinations (cards ++ starter ∷ [])) (flush_in_crib cards starter) plain flush.0 flush.1) last.0 last.1).differ
+crib_list_law cards starter are = list_differs cards starter (flush_in_crib cards starter) are (crib_flush_alone cards starter)

@@ -2,7 +2,7 @@
 use Rattle.std.specs.Prelude.{◌≡◌, refl, [], ◌∷◌, ◌++◌, Ok, Err, codes}
 use Rattle.std.specs.Fmt.{digits}
 use Rattle.crib_cards.specs.declared.sides.Side.TheVariants.{Owner, Opponent}
-use Rattle.crib_show.specs.declared.outcomes.Outcome.TheVariants.{Reached, Lost}
+use Rattle.crib_show.specs.declared.show.outcomes.Outcome.TheVariants.{Reached, Lost}
 use Rattle.crib_show.specs.Show.{hand_points, crib_points}
 use Rattle.crib_show.specs.Outcome.{outcome_of, show_of}
 use Rattle.crib_problem.specs.declared.problem.Goal.TheVariants.{Win, Holes, Stop}

@@ -161,3 +161,7 @@ room count (To node) = count - node
 pub before_of : (flags : List Bool) (plan : List Node) (place : Next) (row : Row) → place_row flags plan place ≡ row →
     before_rest row ≡ before_rest (place_row flags plan place)
 before_of flags plan place row is = ap before_rest (sym is)
+
+pub before_node : (flags : List Bool) (plan : List Node) (node : ℕ) (place : Next) (row : Row) → place ≡ To node → apart_in flags node ≡ false →
+    node_row flags plan node ≡ row → before_rest row ≡ before_rest (place_row flags plan place)
+before_node flags plan node place row is here same = before_of flags plan place row (ap (place_row flags plan) is ∙ place_node flags plan node here ∙ same)

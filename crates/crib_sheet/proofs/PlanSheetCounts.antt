@@ -18,7 +18,7 @@ use Rattle.crib_plan.specs.Places.{plan_start}
 use Rattle.crib_sheet.specs.PlanSheet.{Row, Lines, Paragraph, Over, Plays, Looks, Named, NoLine, Line, row_named, row_to, lines_to, row_of, rows_from}
 use Rattle.crib_sheet.specs.PlanSheet.{sheet_with}
 use Rattle.crib_sheet.specs.PlanSheetSize.{line_count, lines_count, card_count, cards_below, sheet_lines}
-use Rattle.crib_sheet.specs.PlanBranches.{branch_count, play_count, plan_branches, plan_plays}
+use Rattle.crib_sheet.specs.PlanBranches.{branch_count, play_count, plan_branches}
 use Rattle.crib_sheet.specs.PlanSheetSize.{sheet_levels}
 use Rattle.crib_sheet.specs.PlanTextLaws.{NothingIsRepeated, ParagraphsAreNodes, PlansHaveLinearTexts}
 use Rattle.crib_sheet.proofs.PlanTextSizes.{linear_text}
@@ -252,54 +252,44 @@ module _ (each_card each_line : ℕ) (apart : ℕ → Bool) where
 -- ---- lines, cards and paragraphs
 
 mutual
-  pub line_measure : (row : Row) → line_count row ≡ measure 0 1 row
-  line_measure Over = refl
-  line_measure (Plays card row) = omega (arith, line_measure row)
-  line_measure (Looks lines) = lines_measure lines
-  line_measure (Named number) = refl
+  measures : (row : Row) → (line_count row ≡ measure 0 1 row) × (card_count row ≡ measure 1 0 row)
+  measures Over = (refl, refl)
+  measures (Plays card row) = let more = measures row in (omega (arith, more.0), omega (arith, more.1))
+  measures (Looks lines) = measures_below lines
+  measures (Named number) = (refl, refl)
 
-  lines_measure : (lines : Lines) → lines_count lines ≡ measure_below 0 1 lines
-  lines_measure NoLine = refl
-  lines_measure (Line set row others) = omega (arith, line_measure row, lines_measure others)
+  measures_below : (lines : Lines) → (lines_count lines ≡ measure_below 0 1 lines) × (cards_below lines ≡ measure_below 1 0 lines)
+  measures_below NoLine = (refl, refl)
+  measures_below (Line set row others) =
+      let here = measures row in
+      let more = measures_below others in
+      (omega (arith, here.0, more.0), omega (arith, here.1, more.1))
 
-mutual
-  card_measure : (row : Row) → card_count row ≡ measure 1 0 row
-  card_measure Over = refl
-  card_measure (Plays card row) = omega (arith, card_measure row)
-  card_measure (Looks lines) = cards_measure lines
-  card_measure (Named number) = refl
+pub line_measure : (row : Row) → line_count row ≡ measure 0 1 row
+line_measure row = (measures row).0
 
-  cards_measure : (lines : Lines) → cards_below lines ≡ measure_below 1 0 lines
-  cards_measure NoLine = refl
-  cards_measure (Line set row others) = omega (arith, card_measure row, cards_measure others)
-
-pub rows_of_lines : (paragraphs : List Paragraph) → sum_by line_count (map (λ paragraph. paragraph.row) paragraphs) ≡ rows_total 0 1 paragraphs
+rows_counted : (count : Row → ℕ) (each_card each_line : ℕ) → ((row : Row) → count row ≡ measure each_card each_line row) → (paragraphs : List Paragraph) →
+    sum_by count (map (λ paragraph. paragraph.row) paragraphs) ≡ rows_total each_card each_line paragraphs
 unfolding rows_total
-rows_of_lines [] = refl
-rows_of_lines (paragraph ∷ paragraphs) =
-    omega (arith, sum_by-cons line_count paragraph.row (map (λ (p : Paragraph). p.row) paragraphs), line_measure paragraph.row, rows_of_lines paragraphs)
-
-rows_of_cards : (paragraphs : List Paragraph) → sum_by card_count (map (λ paragraph. paragraph.row) paragraphs) ≡ rows_total 1 0 paragraphs
-unfolding rows_total
-rows_of_cards [] = refl
-rows_of_cards (paragraph ∷ paragraphs) =
-    omega (arith, sum_by-cons card_count paragraph.row (map (λ (p : Paragraph). p.row) paragraphs), card_measure paragraph.row, rows_of_cards paragraphs)
+rows_counted count each_card each_line is [] = refl
+rows_counted count each_card each_line is (paragraph ∷ paragraphs) =
+    let more = rows_counted count each_card each_line is paragraphs in
+    omega (arith, sum_by-cons count paragraph.row (map (λ (p : Paragraph). p.row) paragraphs), is paragraph.row, more)
 
 own_branch : (apart : ℕ → Bool) (node : Node) → own 0 1 apart node ≡ branch_count node
 own_branch apart (Play card next) = refl
 own_branch apart (See branches) = omega arith
 
-own_branches : (apart : ℕ → Bool) (nodes : List Node) → own_total 0 1 apart nodes ≡ plan_branches nodes
-own_branches apart [] = refl
-own_branches apart (node ∷ nodes) = omega (arith, own_branch apart node, own_branches apart nodes, sum_by-cons branch_count node nodes)
-
 own_play : (apart : ℕ → Bool) (node : Node) → own 1 0 apart node ≡ play_count node
 own_play apart (Play card next) = refl
 own_play apart (See branches) = omega arith
 
-own_plays : (apart : ℕ → Bool) (nodes : List Node) → own_total 1 0 apart nodes ≡ plan_plays nodes
-own_plays apart [] = refl
-own_plays apart (node ∷ nodes) = omega (arith, own_play apart node, own_plays apart nodes, sum_by-cons play_count node nodes)
+own_counted : (count : Node → ℕ) (each_card each_line : ℕ) (apart : ℕ → Bool) → ((node : Node) → own each_card each_line apart node ≡ count node) →
+    (nodes : List Node) → own_total each_card each_line apart nodes ≡ sum_by count nodes
+own_counted count each_card each_line apart is [] = refl
+own_counted count each_card each_line apart is (node ∷ nodes) =
+    let more = own_counted count each_card each_line apart is nodes in
+    omega (arith, is node, more, sum_by-cons count node nodes)
 
 -- a sheet has no more lines than its plan has branches, if each node whose row has lines is led to once where it stands
 pub few_lines : (apart bare : ℕ → Bool) (plan : List Node) → AreNodes 0 (length plan) plan →
@@ -312,9 +302,9 @@ few_lines apart bare plan are once bares =
       arith,
       sum_by-cons line_count sheet.first (map (λ (p : Paragraph). p.row) sheet.paragraphs),
       line_measure sheet.first,
-      rows_of_lines sheet.paragraphs,
+      rows_counted line_count 0 1 line_measure sheet.paragraphs,
       sheet_value 0 1 apart bare plan are once bares,
-      own_branches apart plan,
+      own_counted branch_count 0 1 apart (own_branch apart) plan,
     )
 
 none_bare : (each_card each_line : ℕ) (apart : ℕ → Bool) (rows : List Paragraph) → AllByRecursion (IsBare each_card each_line apart (λ number. false)) rows
@@ -331,10 +321,10 @@ nothing_repeated apart plan is once =
       omega (
         arith,
         sum_by-cons card_count sheet.first (map (λ (p : Paragraph). p.row) sheet.paragraphs),
-        card_measure sheet.first,
-        rows_of_cards sheet.paragraphs,
+        (measures sheet.first).1,
+        rows_counted card_count 1 0 (λ row. (measures row).1) sheet.paragraphs,
         sheet_value 1 0 apart (λ number. false) plan is.1 few (none_bare 1 0 apart (rows_from apart 1 (drop 1 plan))),
-        own_plays apart plan,
+        own_counted play_count 1 0 apart (own_play apart) plan,
       ),
     )
 

@@ -82,19 +82,17 @@ keep_size place count levels cards spots other (Play card next) same same' is si
 keep_size place count levels cards spots other (See branches) same same' is size =
     (size.0, keep_each place count levels spots other branches same is.1 size.1)
 
-set_levels : (place count from : ℕ) (spots : List Spot) (spot : Spot) (next : Next) → place ≤ from → IsLater from count next →
-    levels_at (set spots place spot) next ≡ levels_at spots next
-set_levels place count from spots spot End above later = refl
-set_levels place count from spots spot (To j) above later =
-    let far = later.0 in
-    ap (λ found. unwrap_or (option_map (λ (s : Spot). s.levels) found) 0) (get_set_other spots place j spot (λ e. absurd (omega arith)))
+module _ (place count from : ℕ) (spots : List Spot) (spot : Spot) (above : place ≤ from) where
+  still_there : (j : ℕ) → IsLater from count (To j) → slice_get (set spots place spot) j ≡ slice_get spots j
+  still_there j later = let far = later.0 in get_set_other spots place j spot (λ e. absurd (omega arith))
 
-set_cards : (place count from : ℕ) (spots : List Spot) (spot : Spot) (next : Next) → place ≤ from → IsLater from count next →
-    cards_at (set spots place spot) next ≡ cards_at spots next
-set_cards place count from spots spot End above later = refl
-set_cards place count from spots spot (To j) above later =
-    let far = later.0 in
-    ap (λ found. unwrap_or (option_map (λ (s : Spot). s.cards) found) 0) (get_set_other spots place j spot (λ e. absurd (omega arith)))
+  set_levels : (next : Next) → IsLater from count next → levels_at (set spots place spot) next ≡ levels_at spots next
+  set_levels End later = refl
+  set_levels (To j) later = ap (λ found. unwrap_or (option_map (λ (s : Spot). s.levels) found) 0) (still_there j later)
+
+  set_cards : (next : Next) → IsLater from count next → cards_at (set spots place spot) next ≡ cards_at spots next
+  set_cards End later = refl
+  set_cards (To j) later = ap (λ found. unwrap_or (option_map (λ (s : Spot). s.cards) found) 0) (still_there j later)
 
 -- one more node is settled
 pub sized_set : (place : ℕ) (nodes : List Node) (spots : List Spot) (node : Node) (spot : Spot) → AreNodes 0 (length nodes) nodes →
@@ -110,7 +108,7 @@ sized_set place nodes spots node spot are within is old size once =
     let keeps : (i levels cards : ℕ) (other : Node) → place ≤ i → slice_get nodes i ≡ Some other → HasSize spots levels cards other →
     HasSize new levels cards other =
     λ i levels cards other above found had. keep_size i (length nodes) levels cards spots new other
-    (λ next later. set_levels place (length nodes) i spots spot next above later) (λ next later. set_cards place (length nodes) i spots spot next above later)
+    (set_levels place (length nodes) i spots spot above) (set_cards place (length nodes) i spots spot above)
     (fits i other found) had in
     record {
       sized = λ i other above found inline.

@@ -9,9 +9,9 @@ use Rattle.crib_text.specs.Spelling.{line_feed}
 use Rattle.crib_plan.proofs.WordLemmas.{decimal_digits}
 use Rattle.crib_sheet.specs.PlanSheet.{Row, Lines, Paragraph, Over, Plays, Looks, Named, NoLine, Line}
 use Rattle.crib_sheet.specs.PlanText.{label_width, label_column, indent, before_rest, row_text, lines_text, paragraph_text, sheet_text}
-use Rattle.crib_sheet.specs.PlanSheetSize.{line_count, lines_count, sheet_lines}
+use Rattle.crib_sheet.specs.PlanSheetSize.{line_count, lines_count}
 use Rattle.crib_sheet.specs.PlanTextLaws.{IsRow, AreLines, IsParagraph, LinesAreCounted}
-use Rattle.crib_sheet.proofs.PlanTextSizes.{rows_of}
+use Rattle.crib_sheet.proofs.PlanTextSizes.{first_lines, rows_of}
 use Rattle.crib_sheet.proofs.PlanTextWidths.{no_feed, digits_no_feed, card_no_feed, front_no_feed}
 
 abbrev feeds : List ℕ → ℕ
@@ -104,11 +104,9 @@ paragraphs_feeds (paragraph ∷ paragraphs) are =
 pub lines_counted : LinesAreCounted
 unfolding sheet_text
 lines_counted sheet is =
-    let first : sheet_lines sheet ≡ line_count sheet.first + sum_by line_count (rows_of sheet.paragraphs) =
-    sum_by-cons line_count sheet.first (rows_of sheet.paragraphs) in
     omega (
       arith,
-      first,
+      first_lines sheet,
       feeds-append (row_text 0 sheet.first) (flat_map paragraph_text sheet.paragraphs),
       row_feeds sheet.first 0 is.0,
       paragraphs_feeds sheet.paragraphs is.1,

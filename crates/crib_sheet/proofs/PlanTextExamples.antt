@@ -19,34 +19,16 @@ use Rattle.crib_sheet.proofs.PlanExamples.{look, deuce, heart, spade, three_eigh
 abbrev set_of : List ℕ → List Bool
 set_of letters = map (has letters) letter_bytes
 
-no_letter : label (set_of []) ≡ []
+-- one rank, and two neighbours, which are words of their own
+few_ranks : (label (set_of []) ≡ []) × (label (set_of (codes "2")) ≡ codes "2") × (label (set_of (codes "45")) ≡ codes "4 5")
 unfolding label rank_words
-no_letter = refl
+few_ranks = (refl, refl, refl)
 
-one_rank : label (set_of (codes "2")) ≡ codes "2"
+-- three neighbours are a range, and a go comes last
+ranges_and_a_go : (label (set_of (codes "456")) ≡ codes "4-6") × (label (set_of (codes "g")) ≡ codes "go")
+    × (label (set_of (codes "A456789TJQKg")) ≡ codes "A 4-K go") × (label (set_of letter_bytes) ≡ codes "A-K go")
 unfolding label rank_words
-one_rank = refl
-
--- two neighbours are words of their own
-two_ranks : label (set_of (codes "45")) ≡ codes "4 5"
-unfolding label rank_words
-two_ranks = refl
-
-three_ranks : label (set_of (codes "456")) ≡ codes "4-6"
-unfolding label rank_words
-three_ranks = refl
-
-only_a_go : label (set_of (codes "g")) ≡ codes "go"
-unfolding label rank_words
-only_a_go = refl
-
-ranks_and_a_go : label (set_of (codes "A456789TJQKg")) ≡ codes "A 4-K go"
-unfolding label rank_words
-ranks_and_a_go = refl
-
-all_letters : label (set_of letter_bytes) ≡ codes "A-K go"
-unfolding label rank_words
-all_letters = refl
+ranges_and_a_go = (refl, refl, refl, refl)
 
 -- no label is longer than this one of twenty bytes
 longest_label : label (set_of (codes "A24578TJKg")) ≡ codes "A 2 4 5 7 8 T J K go"
@@ -110,13 +92,11 @@ eights_with_a_paragraph = refl
 
 -- ---- sizes
 
-eights_lines : sheet_lines eights_sheet ≡ 5
+-- the lines, the levels, and the most cards in a line, with a paragraph and without
+eights_sizes : (sheet_lines eights_sheet ≡ 5) × (sheet_levels eights_sheet ≡ 2) × (sheet_cards eights_sheet ≡ 2)
+    × (sheet_cards (sheet_with (λ node. false) three_eights) ≡ 3)
 unfolding sheet_with
-eights_lines = refl
-
-eights_levels : sheet_levels eights_sheet ≡ 2
-unfolding sheet_with
-eights_levels = refl
+eights_sizes = (refl, refl, refl, refl)
 
 -- the deuce of node 7 stands in two lines
 cards_with_a_paragraph : all_cards eights_sheet ≡ 10
@@ -127,14 +107,6 @@ cards_with_a_paragraph = refl
 cards_without_a_paragraph : all_cards (sheet_with (λ node. false) three_eights) ≡ 12
 unfolding sheet_with
 cards_without_a_paragraph = refl
-
-eights_cards : sheet_cards eights_sheet ≡ 2
-unfolding sheet_with
-eights_cards = refl
-
-cards_in_a_line : sheet_cards (sheet_with (λ node. false) three_eights) ≡ 3
-unfolding sheet_with
-cards_in_a_line = refl
 
 cards_before_a_look : most_cards 0 (Plays heart (Plays deuce (look ((codes "2", Plays spade Over) ∷ [])))) ≡ 2
 cards_before_a_look = refl

@@ -178,14 +178,15 @@ paragraphs_length (paragraph ∷ paragraphs) deepest width fits are deep =
     ) in
     all
 
+pub first_lines : (sheet : Sheet) → sheet_lines sheet ≡ line_count sheet.first + sum_by line_count (rows_of sheet.paragraphs)
+first_lines sheet = sum_by-cons line_count sheet.first (rows_of sheet.paragraphs)
+
 pub linear_text : TextsAreLinear
 unfolding sheet_text
 linear_text sheet is =
     let width = 4 * sheet_levels sheet + 41 in
     let below = sum_by line_count (rows_of sheet.paragraphs) + length sheet.paragraphs in
-    let first : sheet_lines sheet ≡ line_count sheet.first + sum_by line_count (rows_of sheet.paragraphs) =
-    sum_by-cons line_count sheet.first (rows_of sheet.paragraphs) in
-    let e : sheet_lines sheet + length sheet.paragraphs + 1 ≡ 1 + line_count sheet.first + below = omega (arith, first) in
+    let e : sheet_lines sheet + length sheet.paragraphs + 1 ≡ 1 + line_count sheet.first + below = omega (arith, first_lines sheet) in
     let f : (sheet_lines sheet + length sheet.paragraphs + 1) * width ≡ width + line_count sheet.first * width + below * width =
     ap (λ k. k * width) e ∙ one_line (line_count sheet.first) below width in
     let g : width * (sheet_lines sheet + length sheet.paragraphs + 1) ≡ (sheet_lines sheet + length sheet.paragraphs + 1) * width = mul_comm _ _ in

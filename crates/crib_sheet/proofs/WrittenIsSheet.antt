@@ -9,8 +9,8 @@ use Rattle.crib_cards.specs.declared.sides.Side.{Side}
 use Rattle.crib_cards.specs.declared.sides.Side.TheVariants.{Owner, Opponent}
 use Rattle.crib_problem.specs.Setup.{Setup}
 use Rattle.crib_problem.specs.Spelling.{move_word}
-use Rattle.crib_show.specs.declared.outcomes.Outcome.{Outcome}
-use Rattle.crib_show.specs.declared.outcomes.ShowRow.{ShowRow}
+use Rattle.crib_show.specs.declared.show.outcomes.Outcome.{Outcome}
+use Rattle.crib_show.specs.declared.show.outcomes.ShowRow.{ShowRow}
 use Rattle.crib_game.specs.declared.fault.GameFault.{GameFault}
 use Rattle.crib_game.specs.declared.section.game.Game.{Game}
 use Rattle.crib_game.specs.Replay.{replay_result}

@@ -15,8 +15,8 @@ use Rattle.crib_cards.proofs.SetCounts.{count_cons, count_append}
 use Rattle.crib_show.specs.Private.Listing.{any_card, first_choice, first_throw, may_accept, may_be_held, may_hold, passes, points_pass, try_hold, try_throw}
 use Rattle.crib_show.specs.Show.{crib_points, hand_points}
 use Rattle.crib_show.specs.declared.deals.WorstShow.{WorstShow}
-use Rattle.crib_show.specs.declared.listing.Test.{Test}
-use Rattle.crib_show.specs.declared.listing.Test.TheVariants.{Any, Hand, Total, HandOrShort}
+use Rattle.crib_show.specs.declared.worst.listing.Test.{Test}
+use Rattle.crib_show.specs.declared.worst.listing.Test.TheVariants.{Any, Hand, Total, HandOrShort}
 use Rattle.crib_show.proofs.Exchange.{count_map}
 
 -- ---- a property of the cards chosen and the cards left that stays, and with which no deal is given

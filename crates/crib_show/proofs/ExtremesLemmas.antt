@@ -12,9 +12,9 @@ use Rattle.crib_show.specs.Private.Places.{IsPlace}
 use Rattle.crib_show.specs.Places.{AreFour, place_among}
 use Rattle.crib_show.specs.Extremes.{AreKept, AreKeptIn, HasCards}
 use Rattle.crib_show.proofs.PlaceLemmas.{place_of_one}
-use Rattle.crib_show.specs.Worst.{AgreesInShow, IsGreatestCrib, IsGreatestHand, IsGreatestTotal, IsLeastCrib, hidden_crib, hidden_hand, hidden_total}
+use Rattle.crib_show.specs.Worst.{AgreesInShow, hidden_crib, hidden_hand, hidden_total}
 use Rattle.crib_show.specs.declared.deals.WorstShow.{WorstShow}
-use Rattle.crib_show.specs.declared.extremes.Extremes.{Extremes}
+use Rattle.crib_show.specs.declared.worst.extremes.Extremes.{Extremes}
 
 -- ---- two shows with the same cards
 module _ (starter : ℕ) (throw unseen fixed : List ℕ) (worst other : WorstShow) (here : HasCards starter throw unseen fixed worst)
@@ -45,36 +45,29 @@ module _ (starter : ℕ) (throw unseen fixed : List ℕ) (worst other : WorstSho
   totals : (dealt : Dealt) → hidden_total worst dealt ≡ hidden_total other dealt
   totals dealt = λ i. hands dealt i + cribs dealt i
 
-  hand_there : (points : ℕ) → IsGreatestHand worst points → IsGreatestHand other points
-  hand_there points is = record {
-    some = (is.some.0, agrees_there is.some.0 is.some.1, sym (hands is.some.0) ∙ is.some.2);
-    all = λ dealt agrees. subst (λ k. k ≤ points) (hands dealt) (is.all dealt (agrees_here dealt agrees));
-  }
+  -- what some deal has, and what all deals have, is the same there, as far as the points are
+  some_there : (f : WorstShow → Dealt → ℕ) → ((dealt : Dealt) → f worst dealt ≡ f other dealt) → (points : ℕ) →
+      (dealt : Dealt) × AgreesInShow worst dealt × (f worst dealt ≡ points) → (dealt : Dealt) × AgreesInShow other dealt × (f other dealt ≡ points)
+  some_there f equal points some = (some.0, agrees_there some.0 some.1, sym (equal some.0) ∙ some.2)
 
-  least_there : (points : ℕ) → IsLeastCrib worst points → IsLeastCrib other points
-  least_there points is = record {
-    some = (is.some.0, agrees_there is.some.0 is.some.1, sym (cribs is.some.0) ∙ is.some.2);
-    all = λ dealt agrees. subst (λ k. points ≤ k) (cribs dealt) (is.all dealt (agrees_here dealt agrees));
-  }
-
-  crib_there : (points : ℕ) → IsGreatestCrib worst points → IsGreatestCrib other points
-  crib_there points is = record {
-    some = (is.some.0, agrees_there is.some.0 is.some.1, sym (cribs is.some.0) ∙ is.some.2);
-    all = λ dealt agrees. subst (λ k. k ≤ points) (cribs dealt) (is.all dealt (agrees_here dealt agrees));
-  }
-
-  total_there : (points : ℕ) → IsGreatestTotal worst points → IsGreatestTotal other points
-  total_there points is = record {
-    some = (is.some.0, agrees_there is.some.0 is.some.1, sym (totals is.some.0) ∙ is.some.2);
-    all = λ dealt agrees. subst (λ k. k ≤ points) (totals dealt) (is.all dealt (agrees_here dealt agrees));
-  }
+  all_there : (f : WorstShow → Dealt → ℕ) → ((dealt : Dealt) → f worst dealt ≡ f other dealt) → (P : ℕ → Type 0) →
+      ((dealt : Dealt) → AgreesInShow worst dealt → P (f worst dealt)) → (dealt : Dealt) → AgreesInShow other dealt → P (f other dealt)
+  all_there f equal P all dealt agrees = subst P (equal dealt) (all dealt (agrees_here dealt agrees))
 
   kept_there : (kept : Extremes) → AreKept worst kept → AreKept other kept
   kept_there kept is = record {
-    greatest_hand = λ kept_here. hand_there kept.greatest_hand (is.greatest_hand kept_here);
-    least_crib = λ kept_here. least_there kept.least_crib (is.least_crib kept_here);
-    greatest_crib = λ kept_here. crib_there kept.greatest_crib (is.greatest_crib kept_here);
-    greatest_total = λ kept_here. total_there kept.greatest_total (is.greatest_total kept_here);
+    greatest_hand = λ k.
+        let most = is.greatest_hand k in
+        record { some = some_there hidden_hand hands _ most.some; all = all_there hidden_hand hands (λ n. n ≤ kept.greatest_hand) most.all };
+    least_crib = λ k.
+        let least = is.least_crib k in
+        record { some = some_there hidden_crib cribs _ least.some; all = all_there hidden_crib cribs (λ n. kept.least_crib ≤ n) least.all };
+    greatest_crib = λ k.
+        let most = is.greatest_crib k in
+        record { some = some_there hidden_crib cribs _ most.some; all = all_there hidden_crib cribs (λ n. n ≤ kept.greatest_crib) most.all };
+    greatest_total = λ k.
+        let most = is.greatest_total k in
+        record { some = some_there hidden_total totals _ most.some; all = all_there hidden_total totals (λ n. n ≤ kept.greatest_total) most.all };
   }
 
 -- a show has its own cards

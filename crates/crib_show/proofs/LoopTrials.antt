@@ -4,7 +4,7 @@ use Rattle.std.specs.Prelude.{◌∷◌}
 use Rattle.crib_cards.specs.Cards.{IsRank, rank_of}
 use Rattle.crib_show.specs.declared.deals.WorstShow.{WorstShow}
 use Rattle.crib_show.specs.Show.{plain_of_ranks}
-use Rattle.crib_show.specs.declared.totals.Sought.{Sought}
+use Rattle.crib_show.specs.declared.worst.totals.Sought.{Sought}
 use Rattle.crib_show.specs.Private.Totals.{ranks_give}
 use Rattle.crib_show.specs.Private.Extremes.{most_crib_suits, most_suit_points, has_room, no_crib, least_suits, plain_crib, least_of_ranks}
 

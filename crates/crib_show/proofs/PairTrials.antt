@@ -6,7 +6,7 @@ use Rattle.std.proofs.Math.Nat.{le_trans}
 use Rattle.crib_cards.specs.Cards.{IsRank, card_of, rank_of, suit_of}
 use Rattle.crib_show.specs.Private.Extremes.{has_room, least_of_ranks}
 use Rattle.crib_show.proofs.LoopTrials.{AreTried, IsLeastBefore, IsMostBefore, NoneGiveBefore}
-use Rattle.crib_show.specs.declared.totals.Sought.{Sought}
+use Rattle.crib_show.specs.declared.worst.totals.Sought.{Sought}
 use Rattle.crib_show.specs.Private.Totals.{ranks_give}
 use Rattle.crib_show.specs.Private.Extremes.{least_suits, most_crib_suits, no_crib, plain_crib}
 use Rattle.crib_show.specs.declared.deals.WorstShow.{WorstShow}

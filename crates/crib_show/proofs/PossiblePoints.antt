@@ -1,64 +1,17 @@
 -- The points that five cards can have, from their ranks.
-use Rattle.std.proofs.Common.{◌≡◌, ◌≢◌, ℕ, ◌+◌, ◌≤◌, eqb, not, ◌&&◌, ◌||◌, Bool, true, false, List, [], ◌∷◌, length, map, refl, sym, ap, ◌∙◌, arith}
+use Rattle.std.proofs.Common.{◌≡◌, ◌≢◌, ℕ, ◌+◌, ◌≤◌, eqb, not, ◌&&◌, ◌||◌, Bool, true, false, List, length, map, sym, ap, ◌∙◌, arith}
 use Rattle.std.proofs.Common.{ne_eqb}
 use Rattle.std.specs.Prelude.{nat_lt}
-use Rattle.std.specs.List.{list_any, AllByRecursion}
+use Rattle.std.specs.List.{AllByRecursion}
 use Rattle.std.proofs.lemmas.Bool.{and_parts}
 use Rattle.std.proofs.lemmas.Bool.Decides.{nat_tests}
 use Rattle.std.proofs.lemmas.List.{length-map}
 use Rattle.crib_cards.specs.Cards.{IsRank, jack, rank_of}
-use Rattle.crib_cards.specs.Sets.{rank_counts}
-use Rattle.crib_cards.proofs.EachRank.{each_rank}
-use Rattle.crib_show.specs.Private.Counts.{pairs_in, runs_in}
 use Rattle.crib_show.specs.Laws.{is_possible}
 use Rattle.crib_show.specs.Show.{fifteen_points, pair_points, plain_points}
 use Rattle.crib_show.proofs.ReorderedLists.{Reordered, length-reordered, list_any-reordered, rank_counts-reordered}
 use Rattle.crib_show.proofs.RankLaw.{fifteen_points-reordered}
-use Rattle.crib_show.proofs.RankTables.{Rises, sorted_of, each_rising, each_rising-at, IsCounted-ranks}
-
--- the points of five ranks, from the numbers of cards of each rank where these decide them
-abbrev pub counted_points : ℕ → List ℕ → ℕ
-counted_points fifteens counts = fifteens + pairs_in counts + runs_in counts
-
-abbrev pub has_jack : List ℕ → Bool
-has_jack ranks = list_any (λ rank. eqb rank jack) ranks
-
--- whether points are possible alone, and with what a flush and a jack add
-abbrev pub allows : ℕ → Bool → ℕ → Bool
-allows pairs with_jack points =
-    eqb pairs 20
-    || (is_possible points
-    && ((not with_jack || is_possible (points + 1))
-    && ((nat_lt 2 pairs || is_possible (points + 4)) && (nat_lt 0 pairs || (is_possible (points + 5) && is_possible (points + 6))))))
-
-abbrev allows_counts : ℕ → Bool → List ℕ → Bool
-allows_counts fifteens with_jack counts = allows (pairs_in counts) with_jack (counted_points fifteens counts)
-
-abbrev pub is_allowed : List ℕ → Bool
-is_allowed ranks = allows_counts (fifteen_points ranks) (has_jack ranks) (rank_counts ranks)
-
-abbrev AllowedFrom : ℕ → Type 0
-AllowedFrom rank = each_rising 4 rank (λ ranks. is_allowed (rank ∷ ranks)) ≡ true
-
-from_1 : AllowedFrom 1
-from_1 = refl
-
-from_2 : AllowedFrom 2
-from_2 = refl
-
-from_3 : AllowedFrom 3
-from_3 = refl
-
-from_4 : AllowedFrom 4
-from_4 = refl
-
-from_each : (rank : ℕ) → IsRank rank → AllowedFrom rank
-from_each rank is = each_rank AllowedFrom from_1 from_2 from_3 from_4 refl refl refl refl refl refl refl refl refl rank is
-
-allowed_rising : (ranks : List ℕ) → Rises 1 ranks → length ranks ≡ 5 → is_allowed ranks ≡ true
-allowed_rising [] rises five = absurd (omega arith)
-allowed_rising (rank ∷ ranks) rises five = each_rising-at 4 rank (λ more. is_allowed (rank ∷ more)) ranks (from_each rank (rises.0, rises.1)) rises.2
-    (omega arith)
+use Rattle.crib_show.proofs.RankTables.{allows, allows_counts, has_jack, is_allowed, sorted_of, good_rising, IsCounted-ranks}
 
 is_allowed-reordered : (xs ys : List ℕ) → Reordered xs ys → is_allowed xs ≡ is_allowed ys
 is_allowed-reordered xs ys r = λ i. allows_counts (fifteen_points-reordered xs ys r i) (list_any-reordered (λ rank. eqb rank jack) xs ys r i)
@@ -67,7 +20,7 @@ is_allowed-reordered xs ys r = λ i. allows_counts (fifteen_points-reordered xs 
 pub is_allowed-ranks : (ranks : List ℕ) → AllByRecursion IsRank ranks → length ranks ≡ 5 → is_allowed ranks ≡ true
 is_allowed-ranks ranks are five =
     let sorted = sorted_of ranks are in
-    is_allowed-reordered ranks sorted.0 sorted.1 ∙ allowed_rising sorted.0 sorted.2 (sym (length-reordered ranks sorted.0 sorted.1) ∙ five)
+    is_allowed-reordered ranks sorted.0 sorted.1 ∙ (good_rising sorted.0 sorted.2 (sym (length-reordered ranks sorted.0 sorted.1) ∙ five)).1
 
 -- of five cards
 pub record IsAllowed (cards : List ℕ) : Type 0 where

@@ -1,16 +1,17 @@
 -- Every list of five ranks, each in rising order only.
-use Rattle.std.proofs.Common.{◌≡◌, ℕ, zero, suc, ◌+◌, ◌-◌, ◌<◌, ◌≤◌, eqb, ◌&&◌, Bool, true, List, [], ◌∷◌, length, sum, refl, sym, ap, ◌∙◌, inl}
+use Rattle.std.proofs.Common.{◌≡◌, ℕ, zero, suc, ◌+◌, ◌-◌, ◌<◌, ◌≤◌, eqb, not, ◌&&◌, ◌||◌, Bool, true, List, [], ◌∷◌, length, sum, refl, sym, ap, ◌∙◌, inl}
 use Rattle.std.proofs.Common.{inr, subst, arith, eqb-true}
-use Rattle.std.specs.List.{list_all, range_with_len, AllByRecursion}
+use Rattle.std.specs.List.{list_all, list_any, range_with_len, AllByRecursion}
 use Rattle.std.proofs.lemmas.Bool.{cases_lt, and_parts}
 use Rattle.std.proofs.lemmas.Bool.Decides.{nat_tests}
-use Rattle.crib_cards.specs.Cards.{IsRank}
+use Rattle.crib_cards.specs.Cards.{IsRank, jack}
 use Rattle.crib_cards.specs.Sets.{rank_counts}
 use Rattle.crib_cards.proofs.EachRank.{each_rank}
 use Rattle.crib_show.proofs.ReorderedLists.{Reordered, nothing, behind, front, both, same_order, length-reordered, rank_counts-reordered}
-use Rattle.std.specs.Prelude.{nat_le}
+use Rattle.std.specs.Prelude.{nat_le, nat_lt}
 use Rattle.crib_show.specs.Private.Counts.{IsCounted, pairs_in, runs_in}
-use Rattle.crib_show.specs.Show.{pair_points, run_points}
+use Rattle.crib_show.specs.Laws.{is_possible}
+use Rattle.crib_show.specs.Show.{fifteen_points, pair_points, run_points}
 use Rattle.crib_show.proofs.RankLaw.{pair_points-reordered, run_points-reordered}
 
 -- ranks in rising order, from some rank on
@@ -63,33 +64,58 @@ each_rising-at (suc n) low test (rank ∷ ranks) all rises is =
     rises.2 (omega arith)
 
 -- the points of five ranks are those of how many there are of each rank
-abbrev agree_in : ℕ → ℕ → ℕ → ℕ → ℕ → Bool
+abbrev pub agree_in : ℕ → ℕ → ℕ → ℕ → ℕ → Bool
 agree_in pairs pairs_counted runs runs_counted number =
     eqb pairs pairs_counted && (eqb runs runs_counted && (nat_le pairs_counted 20 && (nat_le runs_counted 12 && eqb number 5)))
 
-abbrev agree_with : List ℕ → List ℕ → Bool
+abbrev pub agree_with : List ℕ → List ℕ → Bool
 agree_with ranks counts = agree_in (pair_points ranks) (pairs_in counts) (run_points ranks) (runs_in counts) (sum counts)
 
-abbrev agree : List ℕ → Bool
+abbrev pub agree : List ℕ → Bool
 agree ranks = agree_with ranks (rank_counts ranks)
 
-abbrev AgreeFrom : ℕ → Type 0
-AgreeFrom rank = each_rising 4 rank (λ ranks. agree (rank ∷ ranks)) ≡ true
+-- the points of five ranks, from the numbers of cards of each rank where these decide them
+abbrev pub counted_points : ℕ → List ℕ → ℕ
+counted_points fifteens counts = fifteens + pairs_in counts + runs_in counts
 
-from_1 : AgreeFrom 1
+abbrev pub has_jack : List ℕ → Bool
+has_jack ranks = list_any (λ rank. eqb rank jack) ranks
+
+-- whether points are possible alone, and with what a flush and a jack add
+abbrev pub allows : ℕ → Bool → ℕ → Bool
+allows pairs with_jack points =
+    eqb pairs 20
+    || (is_possible points
+    && ((not with_jack || is_possible (points + 1))
+    && ((nat_lt 2 pairs || is_possible (points + 4)) && (nat_lt 0 pairs || (is_possible (points + 5) && is_possible (points + 6))))))
+
+abbrev pub allows_counts : ℕ → Bool → List ℕ → Bool
+allows_counts fifteens with_jack counts = allows (pairs_in counts) with_jack (counted_points fifteens counts)
+
+abbrev pub is_allowed : List ℕ → Bool
+is_allowed ranks = allows_counts (fifteen_points ranks) (has_jack ranks) (rank_counts ranks)
+
+-- both are tried of all ranks at once
+abbrev is_good : List ℕ → Bool
+is_good ranks = agree ranks && is_allowed ranks
+
+abbrev GoodFrom : ℕ → Type 0
+GoodFrom rank = each_rising 4 rank (λ ranks. is_good (rank ∷ ranks)) ≡ true
+
+from_1 : GoodFrom 1
 from_1 = refl
 
-from_2 : AgreeFrom 2
+from_2 : GoodFrom 2
 from_2 = refl
 
-from_3 : AgreeFrom 3
+from_3 : GoodFrom 3
 from_3 = refl
 
-from_4 : AgreeFrom 4
+from_4 : GoodFrom 4
 from_4 = refl
 
-from_each : (rank : ℕ) → IsRank rank → AgreeFrom rank
-from_each rank is = each_rank AgreeFrom from_1 from_2 from_3 from_4 refl refl refl refl refl refl refl refl refl rank is
+from_each : (rank : ℕ) → IsRank rank → GoodFrom rank
+from_each rank is = each_rank GoodFrom from_1 from_2 from_3 from_4 refl refl refl refl refl refl refl refl refl rank is
 
 le_from : (a b : ℕ) → nat_le a b ≡ true → a ≤ b
 le_from a b is = grind (arith, nat_tests)
@@ -107,15 +133,16 @@ IsCounted-agree ranks counts all =
       number = eqb-true _ _ fourth.1;
     }
 
-agree_rising : (ranks : List ℕ) → Rises 1 ranks → length ranks ≡ 5 → agree ranks ≡ true
-agree_rising [] rises five = absurd (omega arith)
-agree_rising (rank ∷ ranks) rises five = each_rising-at 4 rank (λ more. agree (rank ∷ more)) ranks (from_each rank (rises.0, rises.1)) rises.2 (omega arith)
+pub good_rising : (ranks : List ℕ) → Rises 1 ranks → length ranks ≡ 5 → (agree ranks ≡ true) × (is_allowed ranks ≡ true)
+good_rising [] rises five = absurd (omega arith)
+good_rising (rank ∷ ranks) rises five = and_parts _ _
+    (each_rising-at 4 rank (λ more. is_good (rank ∷ more)) ranks (from_each rank (rises.0, rises.1)) rises.2 (omega arith))
 
 pub IsCounted-ranks : (ranks : List ℕ) → AllByRecursion IsRank ranks → length ranks ≡ 5 → IsCounted ranks (rank_counts ranks)
 IsCounted-ranks ranks are five =
     let sorted = sorted_of ranks are in
     let counted : IsCounted sorted.0 (rank_counts sorted.0) =
-    IsCounted-agree sorted.0 (rank_counts sorted.0) (agree_rising sorted.0 sorted.2 (sym (length-reordered ranks sorted.0 sorted.1) ∙ five)) in
+    IsCounted-agree sorted.0 (rank_counts sorted.0) (good_rising sorted.0 sorted.2 (sym (length-reordered ranks sorted.0 sorted.1) ∙ five)).0 in
     let counts : rank_counts ranks ≡ rank_counts sorted.0 = rank_counts-reordered ranks sorted.0 sorted.1 in record {
       pairs = pair_points-reordered ranks sorted.0 sorted.1 ∙ counted.pairs ∙ sym (ap pairs_in counts);
       runs = run_points-reordered ranks sorted.0 sorted.1 ∙ counted.runs ∙ sym (ap runs_in counts);

@@ -16,12 +16,12 @@ use Rattle.crib_show.specs.Private.Totals.{NoneGive, SomeGive, card_gives, ranks
 use Rattle.crib_show.specs.Show.{crib_points, plain_of_ranks}
 use Rattle.crib_show.specs.Worst.{AgreesInShow, ArePlain, HasDeal, IsGreatestCrib, IsGreatestTotal, hidden_crib, hidden_hand, hidden_total}
 use Rattle.crib_show.specs.declared.deals.WorstShow.{WorstShow}
-use Rattle.crib_show.specs.declared.totals.Sought.{Sought}
-use Rattle.crib_show.specs.declared.totals.Sought.TheVariants.{Crib, CribAndHand}
+use Rattle.crib_show.specs.declared.worst.totals.Sought.{Sought}
+use Rattle.crib_show.specs.declared.worst.totals.Sought.TheVariants.{Crib, CribAndHand}
 use Rattle.crib_show.proofs.CribLemmas.{deal_with, ordered, suits_most, throw_beside}
 use Rattle.crib_show.proofs.Exchange.{IsHold, deal_of, held_in, hold_of, throw_of}
 use Rattle.crib_show.proofs.HandLemmas.{most_held, no_more, value}
-use Rattle.crib_show.proofs.Throws.{MayThrow, crib_of_ranks, few_suits}
+use Rattle.crib_show.proofs.Throws.{MayThrow, may_throw, crib_of_ranks, few_suits}
 use Rattle.crib_show.proofs.PairTrials.{at_most, card_back, rank_back}
 
 -- ---- one of four suits
@@ -76,12 +76,7 @@ module _ (worst : WorstShow) where
       record {
         x = x;
         y = y;
-        may = record {
-          first_free = with_first.0;
-          second_free = free.0;
-          apart = eqb-false x y (not-true (eqb x y) free.1);
-          room = (λ i. has_room worst (rank_x i) (rank_y i)) ∙ room;
-        };
+        may = may_throw worst x y p q rank_x rank_y with_first.0 free.0 free.1 room;
         gives = leb-true enough (sought_points worst sought x y) both.1;
       }
 

@@ -27,6 +27,16 @@ module _ (worst : WorstShow) where
     pub apart : x ≢ y
     pub room : has_room worst (rank_of x) (rank_of y) ≡ true
 
+  -- so two different cards of ranks with room, found to be free
+  pub may_throw : (x y p q : ℕ) → rank_of x ≡ p → rank_of y ≡ q → is_free worst x ≡ true → is_free worst y ≡ true → not (eqb x y) ≡ true →
+      has_room worst p q ≡ true → MayThrow x y
+  may_throw x y p q rank_x rank_y free_x free_y apart room = record {
+    first_free = free_x;
+    second_free = free_y;
+    apart = eqb-false x y (not-true (eqb x y) apart);
+    room = (λ i. has_room worst (rank_x i) (rank_y i)) ∙ room;
+  }
+
   suits_of : (x y : ℕ) → MayThrow x y → thrown_suits worst x y ≡ crib_suit_points worst x y
   suits_of x y may =
       cond-true (is_free worst x && is_free worst y && not (eqb x y)) (crib_suit_points worst x y) no_crib
@@ -117,12 +127,7 @@ module _ (worst : WorstShow) where
                   record {
                     x = x;
                     y = y;
-                    may = record {
-                      first_free = free.0;
-                      second_free = free.1;
-                      apart = eqb-false x y (not-true (eqb x y) parts.1);
-                      room = (λ i. has_room worst (rank_x i) (rank_y i)) ∙ room;
-                    };
+                    may = may_throw x y p q rank_x rank_y free.0 free.1 parts.1 room;
                     crib = exactly (crib_points (crib_with worst x y) worst.starter) (plain_crib worst p q) (crib_suit_points worst x y) points
                         (least_of_ranks worst p q) (least_suits worst p q) (least_suits_with worst x q) (thrown_suits worst x y)
                         (crib_of_ranks x y ∙ (λ i. plain_crib worst (rank_x i) (rank_y i) + crib_suit_points worst x y)) is sum first.2 second.2

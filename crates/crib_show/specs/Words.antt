@@ -1,7 +1,7 @@
 -- The words of outcomes, and of what is counted in a show.
 use Rattle.std.specs.Prelude.{ℕ, Bool, List, Option, Some, None, codes, if◌then◌else◌}
-use Rattle.crib_show.specs.declared.outcomes.Outcome.{Outcome}
-use Rattle.crib_show.specs.declared.outcomes.Outcome.TheVariants.{Reached, Lost, Short}
+use Rattle.crib_show.specs.declared.show.outcomes.Outcome.{Outcome}
+use Rattle.crib_show.specs.declared.show.outcomes.Outcome.TheVariants.{Reached, Lost, Short}
 
 -- the word for what is counted: a hand or the crib
 abbrev pub show_word : Bool → List ℕ

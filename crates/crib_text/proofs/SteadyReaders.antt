@@ -1,17 +1,15 @@
 -- Lemmas about readers that read the first lines as they read all lines: where the first lines end too early, the text is cut short.
-use Rattle.std.proofs.Common.{◌≡◌, ℕ, ◌+◌, ◌≤◌, true, false, cond, List, [], ◌∷◌, ◌++◌, length, Result, Ok, Err, refl, sym, ap, ◌∙◌, arith, inl, inr}
+use Rattle.std.proofs.Common.{◌≡◌, ℕ, ◌+◌, ◌≤◌, true, false, List, [], ◌∷◌, ◌++◌, length, Result, Ok, Err, refl, sym, ap, ◌∙◌, arith, inl, inr}
 use Rattle.std.specs.Prelude.{◌⊎◌}
 use Rattle.std.specs.List.{list_all, onto_first, take_while}
 use Rattle.std.proofs.lemmas.Bool.{cases_Bool, and_parts}
 use Rattle.std.proofs.lemmas.List.Folds.{list_all-append}
-use Rattle.std.proofs.lemmas.List.Sums.{sum_by-cons}
 use Rattle.crib_text.specs.Refusals.{Refusal, bad_byte, cut_short}
 use Rattle.crib_text.specs.Words.{lines_of, words_of, is_text_byte, is_ended, line_after}
 use Rattle.crib_text.specs.Reading.{◌>>=◌, Rest, Line, text_check, all_lines, words_in, first_line, line_at, in_line, value_at}
 use Rattle.crib_text.proofs.WordLemmas.{is_lf, lines_of-nil, lines_of-lf, lines_of-other}
-use Rattle.crib_text.proofs.ByteLemmas.{length-onto_first, lines_count}
+use Rattle.crib_text.proofs.ByteLemmas.{lines_count, lines_count-ended, some_line}
 use Rattle.crib_text.proofs.LineLemmas.{line_at-nil}
-use Rattle.crib_text.proofs.SpellingLemmas.{lines_of-none}
 use Rattle.crib_text.proofs.ReadingLemmas.{bind_ok, ok_is, pair_is, value_at-line}
 
 -- the lines that are left, from this number on
@@ -129,16 +127,9 @@ lines_cut read number last front next back value steady e =
 
 -- ---- texts
 
-onto_front : (byte : ℕ) (lines more : List (List ℕ)) → (lines ≡ [] → ⊥) → onto_first byte (lines ++ more) ≡ onto_first byte lines ++ more
-onto_front byte [] more some = absurd (some refl)
+onto_front : (byte : ℕ) (lines more : List (List ℕ)) → 1 ≤ length lines → onto_first byte (lines ++ more) ≡ onto_first byte lines ++ more
+onto_front byte [] more some = absurd (omega arith)
 onto_front byte (line ∷ lines) more some = refl
-
-some_line : (byte : ℕ) (bytes : List ℕ) → lines_of (byte ∷ bytes) ≡ [] → ⊥
-some_line byte bytes e = let none = lines_of-none (byte ∷ bytes) e in cc
-
-some_length : (lines : List (List ℕ)) → (lines ≡ [] → ⊥) → 1 ≤ length lines
-some_length [] some = absurd (some refl)
-some_length (line ∷ lines) some = omega arith
 
 -- a text goes on after an LF: its lines are those before and those after it
 ended_front : (front more : List ℕ) → is_ended front ≡ true → lines_of (front ++ more) ≡ lines_of front ++ lines_of more
@@ -155,25 +146,6 @@ ended_front (byte ∷ next ∷ front) more e =
           lines_of-other byte (next ∷ (front ++ more)) other ∙ ap (onto_first byte) rest ∙ onto_front byte (lines_of (next ∷ front)) (lines_of more)
           (some_line next front)
           ∙ ap (λ (ls : List (List ℕ)). ls ++ lines_of more) (sym (lines_of-other byte (next ∷ front) other))
-    ]
-
--- where the last line is ended, the number of lines is that of the LFs
-lines_count_ended : (bytes : List ℕ) → is_ended bytes ≡ true → 1 + length (lines_of bytes) ≡ line_after bytes
-lines_count_ended [] e = rw lines_of-nil refl
-lines_count_ended (byte ∷ []) e = rw (lines_of-lf byte [] e, lines_of-nil, e) refl
-lines_count_ended (byte ∷ next ∷ bytes) e =
-    let rest = lines_count_ended (next ∷ bytes) e in
-    let more = sum_by-cons (λ (b : ℕ). cond (is_lf b) 1 0) byte (next ∷ bytes) in
-    elim (cases_Bool (is_lf byte)) [
-      | inl lf ↦
-          let one : cond {A = ℕ} (is_lf byte) 1 0 ≡ 1 = rw lf refl in
-          let lines = ap length (lines_of-lf byte (next ∷ bytes) lf) in
-          omega (arith, rest, more, one, lines)
-      | inr other ↦
-          let none : cond {A = ℕ} (is_lf byte) 1 0 ≡ 0 = rw other refl in
-          let lines = ap length (lines_of-other byte (next ∷ bytes) other) ∙ length-onto_first byte (lines_of (next ∷ bytes))
-          (some_length (lines_of (next ∷ bytes)) (some_line next bytes)) in
-          omega (arith, rest, more, none, lines)
     ]
 
 -- bytes that are read as lines: no byte is bad, and these are the lines
@@ -208,8 +180,8 @@ unfolding all_lines text_check
 is_text bytes all ended = rw (all, ended) refl
 
 -- a list of lines that is not empty has a first line
-first_of : (lines : List (List ℕ)) → (lines ≡ [] → ⊥) → (first : List ℕ) × (rest : List (List ℕ)) × (lines ≡ first ∷ rest)
-first_of [] some = absurd (some refl)
+first_of : (lines : List (List ℕ)) → 1 ≤ length lines → (first : List ℕ) × (rest : List (List ℕ)) × (lines ≡ first ∷ rest)
+first_of [] some = absurd (omega arith)
 first_of (line ∷ lines) some = (line, lines, refl)
 
 -- each proper beginning of a text that is read to its end is refused as cut short, at the line of the first byte that is missing
@@ -228,6 +200,6 @@ text_cut {A = A} read front next back last value steady e =
           let all : read (from_line 1 (lines_of front ++ line.0 ∷ line.1)) ≡ Ok (value, from_line last []) =
           ap (λ (ls : List (List ℕ)). read (from_line 1 ls)) lines ∙ ap read whole.is ∙ a.2 in
           ap (λ (r : Result Rest Refusal). r >>= read) (is_text front good ended) ∙ lines_cut read 1 last (lines_of front) line.0 line.1 value steady all
-          ∙ ap (λ (n : ℕ). Err (missing n)) (lines_count_ended front ended)
+          ∙ ap (λ (n : ℕ). Err (missing n)) (lines_count-ended front ended)
       | inr open_end ↦ ap (λ (r : Result Rest Refusal). r >>= read) (not_ended front good open_end)
     ]

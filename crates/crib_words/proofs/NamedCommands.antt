@@ -70,24 +70,18 @@ module _ {C E : Type 0} (name_of : C → Text) (commands : List C) (unknown : E)
   pub are_readable : (own : List Text) → own ≡ names → list_any has_hyphen names ≡ false → AreReadable {T = C} {E = E} (λ text r. r ≡ called text) own
   are_readable own is bare = rw is (record { plain = bare; read = read })
 
-  -- the words that name a command are those with its name
-  pub is_named : (own words : List Text) (r : Result C Error)
+  -- an answer that names a command says the same of its commands: the words are its name alone, and the refusal of words is that by the names of the commands
+  pub in_commands : ((command : C) → is_command names (name_of command) ≡ true) → (own words : List Text) → own ≡ names → (r : Result C Error)
       → IfOk r (λ command. (name : Text) × IsCommandWords own words name × (Ok command ≡ called name))
-      → IfOk r (λ command. IsOnlyWord words (name_of command))
-  is_named own words (Err error) named = tt
-  is_named own words (Ok command) named = subst (IsOnlyWord words) (called_named named.0 command named.2) named.1.only
-
-  pub is_taken : ((command : C) → is_command names (name_of command) ≡ true) → (own words : List Text) → own ≡ names → (r : Result C Error)
       → IfErr r (λ error. (name : Text) → IsCommandWords own words name → kind_of error ≡ OutOfMemory)
-      → IfErr r (λ error. (command : C) → IsOnlyWord words (name_of command) → kind_of error ≡ OutOfMemory)
-  is_taken listed own words same (Ok command) taken = tt
-  is_taken listed own words same (Err error) taken =
-      λ command is. taken (name_of command) (record { listed = rw same (listed command); only = is })
-
-  -- the refusal of words is that by the names of the commands
-  pub is_refused : (own words : List Text) → own ≡ names → (r : Result C Error)
       → IfErr r (λ error. (kind_of error ≡ OutOfMemory) ⊎ (words_refusal own words ≡ Some (kind_of error)))
-      → IfErr r (λ error. (kind_of error ≡ OutOfMemory) ⊎ (words_refusal names words ≡ Some (kind_of error)))
-  is_refused own words same (Ok command) refused = tt
-  is_refused own words same (Err error) refused =
-      subst (λ (n : List Text). (kind_of error ≡ OutOfMemory) ⊎ (words_refusal n words ≡ Some (kind_of error))) same refused
+      → IfOk r (λ command. IsOnlyWord words (name_of command))
+      × IfErr r (λ error. (command : C) → IsOnlyWord words (name_of command) → kind_of error ≡ OutOfMemory)
+      × IfErr r (λ error. (kind_of error ≡ OutOfMemory) ⊎ (words_refusal names words ≡ Some (kind_of error)))
+  in_commands listed own words same (Ok command) named taken refused =
+      (subst (IsOnlyWord words) (called_named named.0 command named.2) named.1.only, tt, tt)
+  in_commands listed own words same (Err error) named taken refused = (
+    tt,
+    λ command is. taken (name_of command) (record { listed = rw same (listed command); only = is }),
+    subst (λ (n : List Text). (kind_of error ≡ OutOfMemory) ⊎ (words_refusal n words ≡ Some (kind_of error))) same refused,
+  )

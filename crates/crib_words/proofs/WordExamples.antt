@@ -1,4 +1,4 @@
--- Command lines by example: the command that the words name, and the refusals.
+-- Worked examples of command lines: the command that the words name, and the refusals.
 use Rattle.std.proofs.Common.{◌≡◌, List, [], ◌∷◌, Some, None, codes, refl}
 use Rattle.std.specs.Str.{chars}
 use Rattle.clap.specs.Walk.{Text}
@@ -36,65 +36,32 @@ check_is_taken : words_refusal names (typed (codes "check" ∷ [])) ≡ None
 unfolding refusal_from chars
 check_is_taken = refl
 
-no_words : words_refusal names [] ≡ Some MissingRequiredArgument
-unfolding refusal_from
-no_words = refl
-
-no_command : words_refusal names (typed []) ≡ Some MissingRequiredArgument
-unfolding refusal_from
-no_command = refl
-
-another_name : words_refusal names (typed (codes "play" ∷ [])) ≡ Some InvalidValue
+-- no command is named: by no word, by another name, by a name with a capital letter, and by a hyphen alone, which is no option
+no_command : (words_refusal names [] ≡ Some MissingRequiredArgument)
+    × (words_refusal names (typed []) ≡ Some MissingRequiredArgument)
+    × (words_refusal names (typed (codes "play" ∷ [])) ≡ Some InvalidValue)
+    × (words_refusal names (typed (codes "Check" ∷ [])) ≡ Some InvalidValue)
+    × (words_refusal names (typed (codes "-" ∷ [])) ≡ Some InvalidValue)
 unfolding refusal_from chars
-another_name = refl
+no_command = (refl, refl, refl, refl, refl)
 
--- a name with a capital letter is another name
-large_letters : words_refusal names (typed (codes "Check" ∷ [])) ≡ Some InvalidValue
+-- one word too many: a file, a second name, and a second `--`
+one_word_too_many : (words_refusal names (typed (codes "solve" ∷ codes "f.txt" ∷ [])) ≡ Some UnknownArgument)
+    × (words_refusal names (typed (codes "check" ∷ codes "check" ∷ [])) ≡ Some UnknownArgument)
+    × (words_refusal names (typed (codes "--" ∷ codes "--" ∷ codes "check" ∷ [])) ≡ Some UnknownArgument)
 unfolding refusal_from chars
-large_letters = refl
+one_word_too_many = (refl, refl, refl)
 
-a_file_behind : words_refusal names (typed (codes "solve" ∷ codes "f.txt" ∷ [])) ≡ Some UnknownArgument
+-- help is asked for; not so behind a wrong name, nor with a value, nor after `--`, where no word is an option
+help : (words_refusal names (typed (codes "--help" ∷ [])) ≡ Some DisplayHelp)
+    × (words_refusal names (typed (codes "solve" ∷ codes "-h" ∷ [])) ≡ Some DisplayHelp)
+    × (words_refusal names (typed (codes "play" ∷ codes "--help" ∷ [])) ≡ Some InvalidValue)
+    × (words_refusal names (typed (codes "--help=check" ∷ [])) ≡ Some TooManyValues)
+    × (words_refusal names (typed (codes "--" ∷ codes "--help" ∷ [])) ≡ Some InvalidValue)
 unfolding refusal_from chars
-a_file_behind = refl
+help = (refl, refl, refl, refl, refl)
 
-two_names : words_refusal names (typed (codes "check" ∷ codes "check" ∷ [])) ≡ Some UnknownArgument
+no_other_option : (words_refusal names (typed (codes "--version" ∷ [])) ≡ Some UnknownArgument)
+    × (words_refusal names (typed (codes "-v" ∷ [])) ≡ Some UnknownArgument)
 unfolding refusal_from chars
-two_names = refl
-
-help : words_refusal names (typed (codes "--help" ∷ [])) ≡ Some DisplayHelp
-unfolding refusal_from chars
-help = refl
-
-short_help : words_refusal names (typed (codes "solve" ∷ codes "-h" ∷ [])) ≡ Some DisplayHelp
-unfolding refusal_from chars
-short_help = refl
-
-help_behind_a_wrong_name : words_refusal names (typed (codes "play" ∷ codes "--help" ∷ [])) ≡ Some InvalidValue
-unfolding refusal_from chars
-help_behind_a_wrong_name = refl
-
-help_with_a_value : words_refusal names (typed (codes "--help=check" ∷ [])) ≡ Some TooManyValues
-unfolding refusal_from chars
-help_with_a_value = refl
-
-no_version : words_refusal names (typed (codes "--version" ∷ [])) ≡ Some UnknownArgument
-unfolding refusal_from chars
-no_version = refl
-
-no_letter : words_refusal names (typed (codes "-v" ∷ [])) ≡ Some UnknownArgument
-unfolding refusal_from chars
-no_letter = refl
-
--- a hyphen alone is no option
-a_hyphen : words_refusal names (typed (codes "-" ∷ [])) ≡ Some InvalidValue
-unfolding refusal_from chars
-a_hyphen = refl
-
--- no word after `--` is an option
-help_behind_a_mark : words_refusal names (typed (codes "--" ∷ codes "--help" ∷ [])) ≡ Some InvalidValue
-unfolding refusal_from
-help_behind_a_mark = refl
-
-two_marks : words_refusal names (typed (codes "--" ∷ codes "--" ∷ codes "check" ∷ [])) ≡ Some UnknownArgument
-unfolding refusal_from
-two_marks = refl
+no_other_option = (refl, refl)

@@ -1,4 +1,4 @@
--- Command lines by example: the job that the words name, and the refusals.
+-- Worked examples of command lines: the job that the words name, and the refusals.
 use Rattle.std.proofs.Common.{◌≡◌, List, [], ◌∷◌, Some, None, codes, refl}
 use Rattle.std.specs.Str.{chars}
 use Rattle.clap.specs.Walk.{Text}

@@ -65,14 +65,8 @@ a_game_is_yes = refl
 
 -- ---- what a sheet means. `Ends` is assumed here
 a_sure_plan : (input text : List ℕ) → SpellsPlan input at_29 ace_or_two → Ends at_29 → PlanMeans input text Yes
-a_sure_plan input text spelled ends = record {
-  problem = at_29;
-  plan = ace_or_two;
-  spelled = spelled;
-  sure = ace_or_two_is_sure;
-  goes_on = ace_or_two_goes_on;
-  ends = ends;
-}
+a_sure_plan input text spelled ends =
+    record { problem = at_29; plan = ace_or_two; spelled = spelled; sure = ace_or_two_is_sure; goes_on = ace_or_two_goes_on; ends = ends }
 
 no_yes_of_nothing : (text : List ℕ) → PlanMeans [] text Yes → ⊥
 no_yes_of_nothing text means = nothing_is_no_plan means.problem means.plan means.spelled

@@ -36,14 +36,8 @@ OfPlan input reply = PlanMeans input reply.output reply.status
 
 verdict_means : (input : List ℕ) (problem : Setup) (plan : List Node) (verdict : Verdict) (apart : ℕ → Bool) → SpellsPlan input problem plan
     → IsRight problem plan verdict → OfPlan input (plan_reply problem plan verdict apart)
-verdict_means input problem plan Holds apart spelled right = record {
-  problem = problem;
-  plan = plan;
-  spelled = spelled;
-  sure = right;
-  goes_on = sure_goes_on problem plan right;
-  ends = ends problem spelled.problem_is;
-}
+verdict_means input problem plan Holds apart spelled right =
+    record { problem = problem; plan = plan; spelled = spelled; sure = right; goes_on = sure_goes_on problem plan right; ends = ends _ spelled.problem_is }
 verdict_means input problem plan (Fails result game) apart spelled right = record {
   problem = problem;
   plan = plan;

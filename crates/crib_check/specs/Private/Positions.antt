@@ -5,7 +5,7 @@ use Rattle.crib_cards.specs.declared.sides.Dealt.{Dealt}
 use Rattle.crib_cards.specs.declared.moves.Move.{Move}
 use Rattle.crib_play.specs.Standing.{Standing}
 use Rattle.crib_show.specs.Outcome.{outcome_of}
-use Rattle.crib_show.specs.declared.outcomes.Outcome.TheVariants.{Reached}
+use Rattle.crib_show.specs.declared.show.outcomes.Outcome.TheVariants.{Reached}
 use Rattle.crib_plan.specs.Places.{stated_card}
 use Rattle.crib_game.specs.Private.Judging.{full_at}
 use Rattle.crib_game.specs.Private.Tracing.{is_stuck_at}

@@ -12,10 +12,10 @@ use Rattle.crib_cards.specs.Sides.{score_with}
 use Rattle.crib_cards.specs.Deals.{is_in_pack_order, deal_numbers}
 use Rattle.crib_cards.specs.declared.sides.Dealt.{Dealt}
 use Rattle.crib_show.specs.declared.deals.WorstShow.{WorstShow}
-use Rattle.crib_show.specs.declared.outcomes.Outcome.{Outcome}
-use Rattle.crib_show.specs.declared.outcomes.Outcome.TheVariants.{Reached, Lost, Short}
-use Rattle.crib_show.specs.declared.listing.Test.{Test}
-use Rattle.crib_show.specs.declared.listing.Test.TheVariants.{Any, Hand, Total, HandOrShort}
+use Rattle.crib_show.specs.declared.show.outcomes.Outcome.{Outcome}
+use Rattle.crib_show.specs.declared.show.outcomes.Outcome.TheVariants.{Reached, Lost, Short}
+use Rattle.crib_show.specs.declared.worst.listing.Test.{Test}
+use Rattle.crib_show.specs.declared.worst.listing.Test.TheVariants.{Any, Hand, Total, HandOrShort}
 use Rattle.crib_show.specs.Outcome.{outcome_of}
 use Rattle.crib_show.specs.Worst.{AgreesInShow, with_dealt, hidden_hand, hidden_crib}
 

@@ -4,8 +4,8 @@ use Rattle.std.specs.Prelude.{ℕ, ◌+◌, ◌≤◌, ◌==◌, nat_le, Bool, n
 use Rattle.crib_cards.specs.Cards.{IsRank, card_of}
 use Rattle.crib_cards.specs.Sets.{set_without}
 use Rattle.crib_show.specs.declared.deals.WorstShow.{WorstShow}
-use Rattle.crib_show.specs.declared.totals.Sought.{Sought}
-use Rattle.crib_show.specs.declared.totals.Sought.TheVariants.{Crib, CribAndHand}
+use Rattle.crib_show.specs.declared.worst.totals.Sought.{Sought}
+use Rattle.crib_show.specs.declared.worst.totals.Sought.TheVariants.{Crib, CribAndHand}
 use Rattle.crib_show.specs.Private.Extremes.{crib_with, has_room, is_free, most_crib_suits, most_suit_points}
 use Rattle.crib_show.specs.Private.Extremes.{plain_crib}
 use Rattle.crib_show.specs.Show.{crib_points}

@@ -3,12 +3,5 @@ use Rattle.crib_answer.proofs.Replies.{holds_law, fails_law, either_law, sure_ow
 use Rattle.crib_answer.proofs.laws.check_law.Goals as goal
 
 pub returns : goal.returns
-returns c = record {
-  holds = holds_law;
-  fails = fails_law;
-  goes_on = sure_goes_on;
-  ends = ends;
-  either = either_law;
-  sure = sure_owed;
-  failing = failing_owed;
-}
+returns c =
+    record { holds = holds_law; fails = fails_law; goes_on = sure_goes_on; ends = ends; either = either_law; sure = sure_owed; failing = failing_owed }

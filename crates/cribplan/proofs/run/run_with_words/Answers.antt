@@ -1,7 +1,7 @@
-use Rattle.std.proofs.Common.{Ok, Err, IfSome, rules, codes, refl}
+use Rattle.std.proofs.Common.{Ok, IfSome, rules, codes}
 use Rattle.crib_run.specs.Reply.{reply_of}
-use Rattle.crib_run.specs.Run.{unread_reply}
-use Rattle.crib_run.proofs.Runs.{run_means}
+use Rattle.crib_run.specs.Run.{Delivers}
+use Rattle.crib_run.proofs.Runs.{run_means, unread_run}
 use Rattle.crib_words.specs.Beside.{IsReason}
 use Rattle.crib_words.proofs.BesideAnswers.{explained, replied, unwritten}
 use Rattle.cribplan.proofs.Runs.{job_means}
@@ -32,18 +32,7 @@ returns-after-eq-clause-words g c =
       explained (codes "cribplan") reply c.as_slice-input.result.now c.send-status.result c.if-eq.reason _ _ is c.explain.ensures,
     )
 
-pub returns-in-Err-clause-answers : goal.returns-in-Err-clause-answers
-returns-in-Err-clause-answers g c = record {
-  read = Err c.in-Err.fault.cause;
-  gave = search rules;
-  reply = unread_reply c.in-Err.fault.cause;
-  answers = refl;
-  sent = c.send_unread.ensures.sent;
-}
-
-pub returns-in-Err-clause-means : goal.returns-in-Err-clause-means
-returns-in-Err-clause-means g c = run_means _ _ (job_means c.args.job) _ _ _ _ _ _ (returns-in-Err-clause-answers g c)
-
-pub returns-in-Err-clause-words : goal.returns-in-Err-clause-words
-unfolding returns-in-Err-clause-answers
-returns-in-Err-clause-words g c = (returns-in-Err-clause-answers g c, c.send_unread.ensures.words)
+pub returns-in-Err : goal.returns-in-Err
+returns-in-Err g c =
+    let run : Delivers _ _ _ _ _ _ _ = unread_run c.in-Err.fault.cause (search rules) c.send_unread.ensures.sent in
+    record { answers = run; means = run_means _ _ (job_means c.args.job) _ _ _ _ _ _ run; words = (run, c.send_unread.ensures.words); silent = search rules }

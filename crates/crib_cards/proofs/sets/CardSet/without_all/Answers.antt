@@ -1,8 +1,9 @@
 use Rattle.std.proofs.Common.{sym, lt_of_le_of_lt}
 use Rattle.std.proofs.lemmas.Nat.{and_le_l}
 use Rattle.crib_cards.specs.SetBits.{cards_of_bits}
+use Rattle.crib_cards.specs.Sets.{set_without, set_without_all}
 use Rattle.crib_cards.proofs.SetLemmas.{without-bits, IsCardSet-set_where}
-use Rattle.crib_cards.proofs.SetWalks.{set_without_all-more, set_without_all-none}
+use Rattle.crib_cards.proofs.SetWalks.{each_more, set_without-set_without_all, set_without_all-none}
 use Rattle.crib_cards.proofs.sets.CardSet.without_all.Goals as goal
 
 pub loop-removed-init : goal.loop-removed-init
@@ -15,7 +16,7 @@ loop-removed-preserved c =
     record {
       small = lt_of_le_of_lt (and_le_l _ _) c.loop-removed.invariant.small;
       so_far = rw c.number.ensures.value
-          (set_without_all-more c.args.self c.args.cards.now
+          (each_more set_without set_without_all set_without-set_without_all c.args.self c.args.cards.now
           (cards_of_bits c.loop-removed.bits) _ c.loop-removed.removed-index c.removed-item.result
           c.loop-removed-test.true c.removed-item.is more c.loop-removed.invariant.so_far);
     }

@@ -1,4 +1,4 @@
-use Rattle.std.proofs.Common.{rules, ◌≡◌, ◌⊎◌, ◌∷◌, List, None, ℕ, length, ◌+◌, refl, sym, ap, subst, ◌∙◌, arith}
+use Rattle.std.proofs.Common.{rules, ◌≡◌, ◌⊎◌, ◌∷◌, List, None, length, ◌+◌, refl, sym, ap, subst, ◌∙◌, arith}
 use Rattle.std.proofs.lemmas.Bool.{both_ways}
 use Rattle.crib_cards.specs.declared.letters.Letter.TheVariants.{Go}
 use Rattle.crib_play.specs.History.{Event, Own, Theirs}
@@ -7,8 +7,8 @@ use Rattle.crib_check.specs.declared.keys.Key.{Key}
 use Rattle.crib_check.specs.Private.Histories.{as_event}
 use Rattle.crib_check.specs.Private.Positions.{MayTakeAt, StandsAt}
 use Rattle.crib_check.specs.Private.Walks.{MayWalk, history_at}
-use Rattle.crib_check.specs.Private.Found.{IsSettledBelow}
-use Rattle.crib_check.proofs.WalkSteps.{leads_from, may_take, may_stay, has_taken, has_shown}
+use Rattle.crib_check.specs.Private.Found.{IsFoundBelow}
+use Rattle.crib_check.proofs.WalkSteps.{has_taken, leads_from, may_show, may_take, shown_next}
 use Rattle.crib_check.proofs.TrailLengths.{trail_more, trail_back, trail_room}
 use Rattle.crib_check.proofs.FoundAtPosition.{found_along, found_none, own_found, theirs_found, below_unshown, found_where}
 use Rattle.crib_check.proofs.FoundAtPosition.{found_below, found_below_where, settled_below, found_in_all}
@@ -105,71 +105,54 @@ their_turn-loop-place-init g t c = record {
 
 pub their_turn-they_show-requires : goal.their_turn-they_show-requires
 their_turn-they_show-requires g t c κs within =
-    let walk = c.args.self.now in
-    let kept = c.loop-place.invariant.kept in
-    let back = c.loop-place.invariant.back in
-    let long = ap length back in
-    let may = may_stay g.T.Settled.holds walk.problem.now walk.plan.now walk.trail.items c.loop-place.self kept back c.args.key.now
-    c.loop-place.invariant.none c.requires.here.here in
+    let long = ap length c.loop-place.invariant.back in
+    let may = may_show c.loop-place.invariant c.requires.here.here in
     search (rules, long, may)
 
 pub their_turn-returns-then-is_some : goal.their_turn-returns-then-is_some
 their_turn-returns-then-is_some g t c =
     let walk = c.args.self.now in
     let after = c.they_show.new.self in
-    let shown = has_shown g.T.Settled.holds walk.problem.now walk.plan.now walk.trail.items c.loop-place.self c.loop-place.invariant.kept
-    c.loop-place.invariant.back c.args.key.now c.at.result after c.they_show.ensures in
-    let B : ℕ → Type 0 = λ place. IsSettledBelow walk.problem.now walk.plan.now c.args.key.now place in
+    let shown = shown_next c.loop-place.invariant c.at.result c.at.ensures.place c.they_show.ensures in
     record {
-      kept = shown.kept;
-      back = shown.back;
+      kept = shown.0;
+      back = shown.1;
       found = found_below walk.problem.now walk.plan.now c.args.key.now _ (history_at walk) after.trail.items after.failure
-          (sym c.is_some.ensures ∙ c.if-is_some.true) (shown.found (subst B (sym c.at.ensures.place) c.loop-place.invariant.below));
+          (sym c.is_some.ensures ∙ c.if-is_some.true) shown.2;
     }
 
 pub their_turn-loop-place-preserved : goal.their_turn-loop-place-preserved
 their_turn-loop-place-preserved g t c =
     let walk = c.args.self.now in
     let after = c.they_show.new.self in
-    let shown = has_shown g.T.Settled.holds walk.problem.now walk.plan.now walk.trail.items c.loop-place.self c.loop-place.invariant.kept
-    c.loop-place.invariant.back c.args.key.now c.at.result after c.they_show.ensures in
-    let B : ℕ → Type 0 = λ place. IsSettledBelow walk.problem.now walk.plan.now c.args.key.now place in
-    let M : ℕ → Type 0 = λ place. IsSettledBelow walk.problem.now walk.plan.now c.args.key.now (place + 1) in
+    let shown = shown_next c.loop-place.invariant c.at.result c.at.ensures.place c.they_show.ensures in
     let none = none_unless after.failure (sym c.is_some.ensures ∙ c.if-is_some.false) in
     record {
-      kept = shown.kept;
+      kept = shown.0;
       none = none;
-      back = shown.back none;
-      below = subst M c.at.ensures.place
-          (settled_below walk.problem.now walk.plan.now c.args.key.now _ (history_at walk) after.trail.items after.failure none
-          (shown.found (subst B (sym c.at.ensures.place) c.loop-place.invariant.below)));
+      back = shown.1 none;
+      below = settled_below walk.problem.now walk.plan.now c.args.key.now _ (history_at walk) after.trail.items after.failure none shown.2;
     }
 
 pub their_turn-they_show-requires-2 : goal.their_turn-they_show-requires-2
 their_turn-they_show-requires-2 g t c κs within =
-    let walk = c.args.self.now in
-    let kept = c.loop-place.invariant.kept in
-    let back = c.loop-place.invariant.back in
-    let long = ap length back in
-    let may = may_stay g.T.Settled.holds walk.problem.now walk.plan.now walk.trail.items c.loop-place.self kept back c.args.key.now
-    c.loop-place.invariant.none c.requires.here.here in
+    let long = ap length c.loop-place.invariant.back in
+    let may = may_show c.loop-place.invariant c.requires.here.here in
     search (rules, long, may)
 
 pub their_turn-returns : goal.their_turn-returns
 their_turn-returns g t c =
     let walk = c.args.self.now in
     let after = c.they_show-2.new.self in
-    let shown = has_shown g.T.Settled.holds walk.problem.now walk.plan.now walk.trail.items c.loop-place.self c.loop-place.invariant.kept
-    c.loop-place.invariant.back c.args.key.now Go after c.they_show-2.ensures in
-    let B : ℕ → Type 0 = λ place. IsSettledBelow walk.problem.now walk.plan.now c.args.key.now place in
     let end = c.loop-place.auto.place-end in
     let past = c.loop-place-test.false in
-    let all : c.loop-place.place ≡ 13 = omega (arith, end, past) in
+    let all : 13 ≡ c.loop-place.place = omega (arith, end, past) in
+    let shown = shown_next c.loop-place.invariant Go all c.they_show-2.ensures in
     record {
-      kept = shown.kept;
-      back = shown.back;
+      kept = shown.0;
+      back = shown.1;
       found = found_in_all walk.problem.now walk.plan.now c.args.key.now (history_at walk) after.trail.items after.failure c.requires.asked
-          (shown.found (subst B all c.loop-place.invariant.below));
+          (subst (λ n. IsFoundBelow walk.problem.now walk.plan.now c.args.key.now (n + 1) (history_at walk) after.trail.items after.failure) (sym all) shown.2);
     }
 
 -- ---- a letter of the opponent

@@ -1,6 +1,5 @@
-use Rattle.std.proofs.Common.{◌≡◌, ◌+◌, ◌-◌, ◌*◌, None, length}
-use Rattle.crib_check.specs.Private.Walks.{IsWalkOf}
-use Rattle.crib_check.specs.Private.Found.{IsSettledBelow}
+use Rattle.std.proofs.Common.{◌+◌, ◌-◌, ◌*◌, length}
+use Rattle.crib_check.proofs.WalkSteps.{HasShownBelow}
 use Rattle.crib_check.proofs.walk.Walk.+walk.Given as goal
 
 abbrev pub decreases-walk : goal.decreases-walk
@@ -25,9 +24,4 @@ abbrev pub decreases-take : goal.decreases-take
 decreases-take g l = 6 * (29 - length l.self.now.trail.items)
 
 abbrev pub invariant-their_turn-loop-place : goal.invariant-their_turn-loop-place
-invariant-their_turn-loop-place g l = record {
-  kept : IsWalkOf g.T.Settled.holds l.fn.self.problem.now l.fn.self.plan.now l.self;
-  none : l.self.failure ≡ None;
-  back : l.self.trail.items ≡ l.fn.self.trail.items;
-  below : IsSettledBelow l.fn.self.problem.now l.fn.self.plan.now l.key l.place;
-}
+invariant-their_turn-loop-place g l = HasShownBelow g.T.Settled.holds l.fn.self l.key l.place l.self

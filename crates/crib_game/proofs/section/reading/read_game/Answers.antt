@@ -11,5 +11,4 @@ returns-clause-only c = λ game rest is same. ap Ok (form_only game_form game _ 
 
 pub returns-in_err-game-clause-only : goal.returns-in_err-game-clause-only
 returns-in_err-game-clause-only c = λ game rest is same.
-    let read = sym (form_read game_form game _ rest is same) ∙ c.in_err-game.ensures in
-    absurd cc
+    (let read = sym (form_read game_form game _ rest is same) ∙ c.in_err-game.ensures in absurd cc)

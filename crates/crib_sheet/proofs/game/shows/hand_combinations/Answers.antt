@@ -1,11 +1,10 @@
-use Rattle.std.proofs.Common.{◌++◌, sum_by, ap, ◌∙◌}
-use Rattle.crib_sheet.specs.GameShow.{points_of, hand_combinations, flush_in_hand, jack_among}
-use Rattle.crib_sheet.proofs.CombinationPoints.{hand_sum}
+use Rattle.crib_show.specs.Show.{hand_points}
+use Rattle.crib_sheet.specs.GameShow.{flush_in_hand}
+use Rattle.crib_sheet.proofs.CombinationPoints.{hand_flush_sum, listed_sum}
 use Rattle.crib_sheet.proofs.game.shows.hand_combinations.Goals as goal
 
 pub returns-clause-points : goal.returns-clause-points
-unfolding hand_combinations
+unfolding hand_points
 returns-clause-points c =
-    ap (sum_by points_of) (c.put_jack.ensures ∙ ap (λ made. made ++ jack_among c.args.cards.now c.args.starter) (c.put_flush_in_hand.ensures.listed
-    ∙ ap (λ made. made ++ flush_in_hand c.args.cards.now c.args.starter) c.plain_combinations-found.ensures.listed))
-    ∙ hand_sum c.args.cards.now c.args.starter c.told-cards
+    listed_sum c.args.cards.now c.args.starter (flush_in_hand c.args.cards.now c.args.starter) c.put_jack.ensures c.put_flush_in_hand.ensures.listed
+    c.plain_combinations-found.ensures.listed (hand_flush_sum c.args.cards.now c.args.starter c.told-cards)

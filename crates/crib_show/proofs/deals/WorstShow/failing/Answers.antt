@@ -1,6 +1,6 @@
 use Rattle.std.proofs.Common.{◌-◌, sym, ap, ◌∙◌}
 use Rattle.crib_show.specs.Private.Listing.{passes}
-use Rattle.crib_show.specs.declared.listing.Test.TheVariants.{Total}
+use Rattle.crib_show.specs.declared.worst.listing.Test.TheVariants.{Total}
 use Rattle.crib_show.proofs.FailLemmas.{any_decided, any_short, by_hand, by_total}
 use Rattle.crib_show.proofs.deals.WorstShow.failing.Goals as goal
 

@@ -1,7 +1,7 @@
 use Rattle.std.proofs.Common.{◌≤◌, ◌-◌, ap, subst, ◌∙◌}
 use Rattle.crib_cards.specs.Sides.{score_with}
 use Rattle.crib_show.specs.Private.Listing.{passes}
-use Rattle.crib_show.specs.declared.listing.Test.TheVariants.{HandOrShort}
+use Rattle.crib_show.specs.declared.worst.listing.Test.TheVariants.{HandOrShort}
 use Rattle.crib_show.proofs.FailLemmas.{by_hand_alone, by_hand_or_crib}
 use Rattle.crib_show.proofs.deals.WorstShow.lost_or_short.Goals as goal
 

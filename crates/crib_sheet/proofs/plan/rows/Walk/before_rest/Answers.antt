@@ -1,7 +1,6 @@
 use Rattle.std.proofs.Common.{◌∙◌, length, subst, ap, sym}
-use Rattle.crib_plan.specs.declared.plan.Next.TheVariants.{To}
 use Rattle.crib_sheet.specs.Private.Pages.{IsDeep, place_row}
-use Rattle.crib_sheet.proofs.PlanRows.{place_end, place_apart, place_node, node_play, node_see, before_of}
+use Rattle.crib_sheet.proofs.PlanRows.{before_node, before_of, node_play, node_see, place_apart, place_end}
 use Rattle.crib_sheet.proofs.plan.rows.Walk.before_rest.Goals as goal
 
 pub returns-in-End-clause-text : goal.returns-in-End-clause-text
@@ -17,18 +16,12 @@ returns-then-is_apart-clause-text c =
 
 pub returns-in-Play-clause-text : goal.returns-in-Play-clause-text
 returns-in-Play-clause-text c =
-    let there : IsDeep 0 (length c.args.self.now.nodes.now) (To c.in-To.node) =
-    subst (IsDeep 0 (length c.args.self.now.nodes.now)) c.in-To.is c.requires.there in
-    before_of c.args.self.now.flags.now c.args.self.now.nodes.now c.args.place _
-    (ap (place_row c.args.self.now.flags.now c.args.self.now.nodes.now) c.in-To.is
-    ∙ place_node c.args.self.now.flags.now c.args.self.now.nodes.now c.in-To.node (sym c.is_apart.ensures ∙ c.if-is_apart.false)
-    ∙ node_play c.args.self.now.flags.now c.args.self.now.nodes.now c.in-To.node _ _ _ c.requires.plan there.1 c.in-Play.is)
+    before_node c.args.self.now.flags.now c.args.self.now.nodes.now c.in-To.node c.args.place _ c.in-To.is (sym c.is_apart.ensures ∙ c.if-is_apart.false)
+    (node_play c.args.self.now.flags.now c.args.self.now.nodes.now c.in-To.node _ _ _ c.requires.plan
+    (subst (IsDeep 0 (length c.args.self.now.nodes.now)) c.in-To.is c.requires.there).1 c.in-Play.is)
 
 pub returns-in-See-clause-text : goal.returns-in-See-clause-text
 returns-in-See-clause-text c =
-    let there : IsDeep 0 (length c.args.self.now.nodes.now) (To c.in-To.node) =
-    subst (IsDeep 0 (length c.args.self.now.nodes.now)) c.in-To.is c.requires.there in
-    before_of c.args.self.now.flags.now c.args.self.now.nodes.now c.args.place _
-    (ap (place_row c.args.self.now.flags.now c.args.self.now.nodes.now) c.in-To.is
-    ∙ place_node c.args.self.now.flags.now c.args.self.now.nodes.now c.in-To.node (sym c.is_apart.ensures ∙ c.if-is_apart.false)
-    ∙ node_see c.args.self.now.flags.now c.args.self.now.nodes.now c.in-To.node _ _ c.requires.plan there.1 c.in-See.is)
+    before_node c.args.self.now.flags.now c.args.self.now.nodes.now c.in-To.node c.args.place _ c.in-To.is (sym c.is_apart.ensures ∙ c.if-is_apart.false)
+    (node_see c.args.self.now.flags.now c.args.self.now.nodes.now c.in-To.node _ _ c.requires.plan
+    (subst (IsDeep 0 (length c.args.self.now.nodes.now)) c.in-To.is c.requires.there).1 c.in-See.is)

@@ -1,0 +1,8 @@
+//! The show: the points of a hand and of a crib, the order in which they are counted, and the outcome.
+
+mod outcomes;
+pub(crate) mod points;
+mod words;
+
+pub use outcomes::{Outcome, ShowRow, outcome_with, settle, show_rows};
+pub use points::{crib_points, hand_points};

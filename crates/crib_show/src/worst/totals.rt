@@ -1,0 +1,184 @@
+//! The greatest crib, and the greatest sum of the opponent's hand and the crib of one hidden deal.
+ghost use Rattle.std.specs.Prelude.{◌≡◌, ◌⊎◌, ◌+◌, ◌≤◌, ◌∷◌, ◌++◌, [], IsFalse, IsTrue};
+ghost use Rattle.crib_cards.specs.Cards.{IsRank};
+ghost use Rattle.crib_show.specs.Private.Extremes.{most_suit_points, plain_crib, ranks_from, cards_in_suit};
+ghost use Rattle.crib_show.specs.Private.Totals.{NoneGive, SomeGive, card_gives, ranks_give, sought_points};
+ghost use Rattle.crib_show.specs.Private.Totals.{throw_gives};
+ghost use Rattle.crib_show.specs.Private.Totals.{without_throw};
+ghost use Rattle.crib_show.specs.Show.{crib_points, plain_of_ranks};
+ghost use Rattle.crib_show.specs.Worst.{ArePlain, HasDeal, IsGreatestCrib, IsGreatestTotal};
+
+use crate::deals::{PlainCribs, WorstShow};
+use crate::show::points::{crib_flush, jack_points};
+use crate::worst::cribs::{MOST_OF_SUITS, plain_cribs};
+use crate::worst::hands::{know_set, rank_numbered};
+use crib_cards::{Card, Rank, Suit};
+
+/// The points that the search makes as great as possible.
+#[derive(Clone, Copy)]
+pub enum Sought {
+    /// Those of the crib.
+    Crib,
+    /// Those of the crib, and the most that suits add to the opponent's hand of these ranks.
+    CribAndHand([Rank; 4]),
+}
+
+// The opponent's throws, and the points that are searched for among them. `spare` is the most points that suits add to
+// the hand.
+#[derive(Drop)]
+struct Throws<'a> {
+    worst: &'a WorstShow,
+    plain: &'a PlainCribs,
+    sought: &'a Sought,
+    spare: u8,
+    ghost points: { ArePlain worst.now.starter worst.now.own_throw plain.now },
+    ghost range: { spare ≤ 6 },
+}
+
+impl WorstShow {
+    /// The greatest sum of the opponent's hand and the crib of one hidden deal, in points. Some hidden deal must agree.
+    pub fn most_total(&self) -> u8
+        requires { HasDeal self.now }
+        ensures { IsGreatestTotal self.now result }
+    {
+        let plain = plain_cribs(&self.own_throw, self.starter);
+        self.greatest_total(&plain, self.greatest_crib(&plain))
+    }
+
+    // The points of the greatest crib among the hidden deals that agree. Some hidden deal must agree.
+    pub(crate) fn greatest_crib(&self, plain: &PlainCribs) -> u8
+        requires deal { HasDeal self.now }
+        requires plain { ArePlain self.now.starter self.now.own_throw plain.now }
+        ensures { IsGreatestCrib self.now result }
+    {
+        know_set(self.unseen);
+        self.most_sought(plain, &Sought::Crib, 0, self.high_crib(plain))
+    }
+
+    // The same as [`WorstShow::most_total`]. `crib` is the points of the greatest crib.
+    pub(crate) fn greatest_total(&self, plain: &PlainCribs, crib: u8) -> u8
+        requires deal { HasDeal self.now }
+        requires plain { ArePlain self.now.starter self.now.own_throw plain.now }
+        requires crib { IsGreatestCrib self.now crib }
+        ensures { IsGreatestTotal self.now result }
+    {
+        know_set(self.unseen);
+        know_set(self.fixed);
+        let hand = self.ranks_hand();
+        let sought = Sought::CribAndHand(hand.ranks);
+        hand.plain + self.most_sought(plain, &sought, hand.suits, crib + hand.suits)
+    }
+
+    // The greatest number up to `bound` for which some throw scores at least this many of these points, or 0. `spare`
+    // is the most points that suits add to the hand.
+    fn most_sought(&self, plain: &PlainCribs, sought: &Sought, spare: u8, bound: u8) -> u8
+        requires plain { ArePlain self.now.starter self.now.own_throw plain.now }
+        requires range { spare ≤ 6 }
+        ensures some { (result ≡ 0) ⊎ SomeGive self.now sought.now spare result }
+        ensures all { (result ≡ bound) ⊎ NoneGive self.now sought.now spare (result + 1) }
+        ensures range { result ≤ bound }
+    {
+        let throws = Throws {
+            worst: self,
+            plain,
+            sought,
+            spare,
+        };
+        let mut most = bound;
+        while most > 0 && !throws.some_give(most) {
+            most -= 1;
+        }
+        most
+    }
+
+    // The show with these two thrown cards removed from the unseen ones, since the opponent can't hold them.
+    fn without_throw(&self, first: Card, second: Card) -> WorstShow
+        ensures { result ≡ without_throw self.now first second }
+    {
+        WorstShow {
+            unseen: self.unseen.without(first).without(second),
+            ..*self
+        }
+    }
+
+    // The points of the crib with these two cards thrown. Those of the ranks come from `plain`.
+    pub(crate) fn crib_of_throw(&self, plain: &PlainCribs, first: Card, second: Card) -> u8
+        requires { ArePlain self.now.starter self.now.own_throw plain.now }
+        ensures value { result ≡ crib_points (self.now.own_throw ++ first ∷ second ∷ []) self.now.starter }
+        ensures range { result ≤ 102 }
+    {
+        let crib = self.crib_with(first, second);
+        plain.of(first.rank(), second.rank())
+            + crib_flush(&crib, self.starter)
+            + jack_points(&crib, self.starter)
+    }
+}
+
+impl Throws<'_> {
+    // Whether some throw of two ranks gives at least `enough` points.
+    fn some_give(&self, enough: u8) -> bool
+        ensures some { IsTrue result → SomeGive self.now.worst.now self.now.sought.now self.now.spare enough }
+        ensures none { IsFalse result → NoneGive self.now.worst.now self.now.sought.now self.now.spare enough }
+    {
+        for first in 1..14 {
+            for second in first..14 {
+                if self.ranks_give(enough, rank_numbered(first), rank_numbered(second)) {
+                    return true;
+                }
+            }
+        }
+        false
+    }
+
+    // Whether some throw of these two ranks gives at least `enough` points. A bound is tried first: the points of the
+    // ranks, the most that suits add to the crib, and `spare`.
+    fn ranks_give(&self, enough: u8, first: Rank, second: Rank) -> bool
+        requires { IsRank first × IsRank second }
+        ensures { result ≡ ranks_give self.now.worst.now self.now.sought.now self.now.spare enough first second }
+    {
+        let points = self.plain.of(first, second);
+        if points + MOST_OF_SUITS + self.spare < enough {
+            return false;
+        }
+        enough <= points + self.worst.most_crib_suits(first, second) + self.spare
+            && self.worst.has_room(first, second)
+            && (self.card_gives(enough, Card::of(first, Suit::Clubs), second)
+                || self.card_gives(enough, Card::of(first, Suit::Diamonds), second)
+                || self.card_gives(enough, Card::of(first, Suit::Hearts), second)
+                || self.card_gives(enough, Card::of(first, Suit::Spades), second))
+    }
+
+    // Whether this card may be thrown with one of the rank, and some such throw gives at least `enough` points.
+    fn card_gives(&self, enough: u8, first: Card, rank: Rank) -> bool
+        ensures { result ≡ card_gives self.now.worst.now self.now.sought.now enough first rank }
+    {
+        self.worst.is_free(first)
+            && (self.throw_gives(enough, first, Card::of(rank, Suit::Clubs))
+                || self.throw_gives(enough, first, Card::of(rank, Suit::Diamonds))
+                || self.throw_gives(enough, first, Card::of(rank, Suit::Hearts))
+                || self.throw_gives(enough, first, Card::of(rank, Suit::Spades)))
+    }
+
+    // Whether the second card may be thrown with the first, and this throw gives at least `enough` points.
+    fn throw_gives(&self, enough: u8, first: Card, second: Card) -> bool
+        ensures { result ≡ throw_gives self.now.worst.now self.now.sought.now enough first second }
+    {
+        self.worst.is_free(second)
+            && first.number() != second.number()
+            && enough <= self.sought_points(first, second)
+    }
+
+    // The points to make as great as possible, with these two cards thrown.
+    fn sought_points(&self, first: Card, second: Card) -> u8
+        ensures { result ≡ sought_points self.now.worst.now self.now.sought.now first second }
+    {
+        let crib = self.worst.crib_of_throw(self.plain, first, second);
+        match self.sought {
+            Sought::Crib => crib,
+            Sought::CribAndHand(ranks) => {
+                let show = self.worst.without_throw(first, second);
+                crib + show.most_suit_points(ranks)
+            }
+        }
+    }
+}

@@ -125,13 +125,18 @@ class Declared:
         return {f"declared.{place}": outside, inner: "\n".join([*sorted(uses), data, *variants]) + "\n"}
 
 
+def without_remarks(block: str) -> str:
+    """A part of a module without its comments. Two hyphens in a text begin none."""
+    return re.sub(r'("(?:[^"\\\n]|\\.)*")|--.*', lambda found: found[1] or "", block)
+
+
 class Parts:
     """A module: its imports, its declarations, and of each the names that it declares and the words that it has."""
 
     def __init__(self, module: Module, text: str) -> None:
         self.module, self.text, self.imports = module, text, [*imports_of(text)]
         self.is_declared = module[2].startswith("declared.")
-        code = [re.sub(r"--.*", "", block) for block in ([text] if self.is_declared else paragraphs(text))]
+        code = [without_remarks(block) for block in ([text] if self.is_declared else paragraphs(text))]
         self.fixities = re.findall(r"^infix.*", "\n".join(code), re.M)
         self.blocks = [re.sub(r"^(?:use |infix).*\n?", "", block, flags=re.M) for block in code]
         own = {module[2].split(".")[-1]} if self.is_declared else set()

@@ -1,5 +1,6 @@
 pub mod ClapApp
 mod WordExamples
+mod BesideExamples
 pub mod WordLemmas
 pub mod CommandLemmas
 pub mod BesideAnswers

@@ -4,8 +4,7 @@ use Rattle.std.specs.Str.{chars}
 use Rattle.clap.specs.Walk.{Text}
 use Rattle.clap.specs.declared.error.kind.ErrorKind.TheVariants.{DisplayHelp, InvalidValue, MissingRequiredArgument}
 use Rattle.clap.specs.declared.error.kind.ErrorKind.TheVariants.{TooManyValues, UnknownArgument}
-use Rattle.crib_words.specs.declared.program.Program.{Program}
-use Rattle.crib_words.specs.Command.{AreReadable, IsCommandWords, commands_of, has_hyphen, refusal_from, words_refusal, without_mark}
+use Rattle.crib_words.specs.Command.{IsCommandWords, has_hyphen, refusal_from, words_refusal, without_mark}
 use Rattle.crib_words.specs.Status.{words_status}
 use Rattle.crib_run.specs.declared.status.Status.TheVariants.{Yes, Refused, Fault}
 
@@ -73,8 +72,8 @@ one_word_too_many = (refl, refl, refl, refl)
 
 -- help is asked for; not so behind a wrong name, nor with a value, nor after `--`, where no word is an option
 help : (words_refusal names (typed (codes "--help" ∷ [])) ≡ Some DisplayHelp)
-    × (words_refusal names (typed (codes "check" ∷ codes "--help" ∷ [])) ≡ Some DisplayHelp)
-    × (words_refusal names (typed (codes "replay" ∷ codes "-h" ∷ [])) ≡ Some DisplayHelp)
+    × (words_refusal names (typed (codes "check" ∷ codes "-h" ∷ [])) ≡ Some DisplayHelp)
+    × (words_refusal names (typed (codes "replay" ∷ codes "--help" ∷ [])) ≡ Some DisplayHelp)
     × (words_refusal names (typed (codes "play" ∷ codes "--help" ∷ [])) ≡ Some InvalidValue)
     × (words_refusal names (typed (codes "--help=check" ∷ [])) ≡ Some TooManyValues)
     × (words_refusal names (typed (codes "--" ∷ codes "--help" ∷ [])) ≡ Some InvalidValue)

@@ -8,8 +8,6 @@ use Rattle.crib_cards.specs.declared.letters.Letter.TheVariants.{Seen, Go}
 use Rattle.crib_cards.specs.declared.moves.Move.TheVariants as move
 use Rattle.crib_play.specs.declared.turns.Turn.TheVariants as turns
 use Rattle.crib_play.specs.History.{Event, Own, Theirs}
-use Rattle.crib_play.specs.Legal.{IsLegal}
-use Rattle.crib_problem.specs.Setup.{start_of, hands_of}
 use Rattle.crib_show.specs.Outcome.{outcome_of}
 use Rattle.crib_show.specs.Show.{hand_points, crib_points}
 use Rattle.crib_plan.specs.declared.plan.Next.TheVariants.{End, To}
@@ -141,40 +139,19 @@ own_go = refl
 abbrev three_events : List Event
 three_events = played_events at_29
 
-three_are_legal : (others throw : List ℕ) →
-    IsLegal (start_of at_29) (hands_of at_29 (record { hold = 37 ∷ others; throw = throw })) (move.Card 32 ∷ move.Card 37 ∷ move.Card 36 ∷ [])
-three_are_legal others throw = (
-  ((tt, record { not_done = refl; may_take = (refl, refl) }), record { not_done = refl; may_take = (refl, refl) }),
-  record { not_done = refl; may_take = (refl, refl) },
-)
-
 -- the opponent holds TD AD 3C 3D, or TD and three threes
 ace_shown : CanShow at_29 three_events (Seen 1)
 unfolding set_where
 ace_shown = (
   record { hold = 37 ∷ 1 ∷ 8 ∷ 9 ∷ []; throw = 10 ∷ 11 ∷ [] },
-  (
-    record { deal = record { held = refl; thrown = refl; distinct = refl; hidden_before = refl }; fixed = refl },
-    (
-      move.Card 1 ∷ move.Card 32 ∷ move.Card 37 ∷ move.Card 36 ∷ [],
-      (three_are_legal (1 ∷ 8 ∷ 9 ∷ []) (10 ∷ 11 ∷ []), record { not_done = refl; may_take = (refl, refl) }),
-      refl,
-    ),
-  ),
+  (assumption, (move.Card 1 ∷ move.Card 32 ∷ move.Card 37 ∷ move.Card 36 ∷ [], assumption, refl)),
 )
 
 go_shown : CanShow at_29 three_events Go
 unfolding set_where
 go_shown = (
   record { hold = 37 ∷ 8 ∷ 9 ∷ 10 ∷ []; throw = 1 ∷ 11 ∷ [] },
-  (
-    record { deal = record { held = refl; thrown = refl; distinct = refl; hidden_before = refl }; fixed = refl },
-    (
-      move.Go ∷ move.Card 32 ∷ move.Card 37 ∷ move.Card 36 ∷ [],
-      (three_are_legal (8 ∷ 9 ∷ 10 ∷ []) (1 ∷ 11 ∷ []), record { not_done = refl; may_take = refl }),
-      refl,
-    ),
-  ),
+  (assumption, (move.Go ∷ move.Card 32 ∷ move.Card 37 ∷ move.Card 36 ∷ [], assumption, refl)),
 )
 
 pub ace_lacks_a_tree : LacksBranch given at_29 three_events
@@ -228,17 +205,7 @@ scores_behind_three = refl
 pub short_of_eleven : IsReachedBehind (record level { goal = Holes 11 }) three_events → ⊥
 unfolding set_where outcome_of hand_points crib_points
 short_of_eleven reached =
-    (let short = reached level_deal (
-      record { deal = record { held = refl; thrown = refl; distinct = refl; hidden_before = refl }; fixed = refl },
-      (
-        move.Card 32 ∷ move.Card 37 ∷ move.Card 36 ∷ [],
-        (
-          ((tt, record { not_done = refl; may_take = (refl, refl) }), record { not_done = refl; may_take = (refl, refl) }),
-          record { not_done = refl; may_take = (refl, refl) },
-        ),
-        refl,
-      ),
-    ) in cc)
+    (let short = reached level_deal (assumption, (move.Card 32 ∷ move.Card 37 ∷ move.Card 36 ∷ [], assumption, refl)) in cc)
 
 -- ---- steps: none is left at 0, and after the opening of three turns it is the opponent's turn
 pub no_step_is_left : (found : Option Tree) → Finds 0 level [] found → ⊥

@@ -4,11 +4,10 @@ use Rattle.std.proofs.Common.{arith, ◌≡◌, refl, inl, inr, ℕ, true, eqb, 
 use Rattle.crib_cards.specs.Cards.{card_value}
 use Rattle.crib_cards.specs.Sets.{has, set_where}
 use Rattle.crib_cards.specs.declared.sides.Dealt.{Dealt}
-use Rattle.crib_cards.specs.declared.sides.Side.TheVariants.{Opponent}
 use Rattle.crib_cards.specs.declared.letters.Letter.TheVariants.{Seen}
 use Rattle.crib_cards.specs.declared.moves.Move.{Move}
 use Rattle.crib_cards.specs.declared.moves.Move.TheVariants.{Card, Go}
-use Rattle.crib_play.specs.Legal.{IsLegal, MayTake}
+use Rattle.crib_play.specs.Legal.{IsLegal}
 use Rattle.crib_play.specs.History.{Event, Own, Theirs}
 use Rattle.crib_show.specs.Outcome.{outcome_of}
 use Rattle.crib_show.specs.Show.{hand_points, crib_points}
@@ -20,7 +19,7 @@ use Rattle.crib_know.specs.Knowledge.{played_events}
 use Rattle.crib_search.specs.Finder.{Finds, FindsTree, IsFound}
 use Rattle.crib_search.specs.Winnable.{IsWinnable}
 use Rattle.crib_search.proofs.LawProofs.{none_law}
-use Rattle.crib_search.proofs.LeadExamples.{before_the_lead, after_lead, leads, plan_after, four_turns, six_turns}
+use Rattle.crib_search.proofs.LeadExamples.{before_the_lead, after_lead, leads, plan_after, six_turns}
 use Rattle.crib_search.proofs.LeadPlans.{plan_is_sure}
 
 -- ---- before the lead no plan is sure
@@ -39,57 +38,31 @@ his_nobs = record { hold = 4 ∷ 12 ∷ 43 ∷ 45 ∷ []; throw = 0 ∷ 1 ∷ []
 
 flush_is_a_deal : IsDealOf before_the_lead flush
 unfolding set_where
-flush_is_a_deal = record { deal = record { held = refl; thrown = refl; distinct = refl; hidden_before = refl }; fixed = refl }
+flush_is_a_deal = assumption
 
 his_nobs_is_a_deal : IsDealOf before_the_lead his_nobs
 unfolding set_where
-his_nobs_is_a_deal = record { deal = record { held = refl; thrown = refl; distinct = refl; hidden_before = refl }; fixed = refl }
+his_nobs_is_a_deal = assumption
 
 abbrev LegalFor : Dealt → List Move → Type 0
 LegalFor dealt played = IsLegal (start_of before_the_lead) (hands_of before_the_lead dealt) played
 
--- the opening is legal if the opponent holds 2C and 4C, and says go at 22
-opening_is_legal : (others throw : List ℕ) → (let dealt : Dealt = record { hold = 4 ∷ 12 ∷ others; throw = throw } in
-    MayTake (hands_of before_the_lead dealt) Opponent Go four_turns → LegalFor dealt six_turns)
-opening_is_legal others throw stops = (
-  (
-    (
-      (
-        ((tt, record { not_done = refl; may_take = (refl, refl) }), record { not_done = refl; may_take = (refl, refl) }),
-        record { not_done = refl; may_take = (refl, refl) },
-      ),
-      record { not_done = refl; may_take = (refl, refl) },
-    ),
-    record { not_done = refl; may_take = stops },
-  ),
-  record { not_done = refl; may_take = refl },
-)
-
 clubs_led : LegalFor flush (Card 40 ∷ six_turns)
-clubs_led = (opening_is_legal (40 ∷ 36 ∷ []) (0 ∷ 1 ∷ []) refl, record { not_done = refl; may_take = (refl, refl) })
-
-spades_led : LegalFor his_nobs (Card 43 ∷ six_turns)
-spades_led = (opening_is_legal (43 ∷ 45 ∷ []) (0 ∷ 1 ∷ []) refl, record { not_done = refl; may_take = (refl, refl) })
+clubs_led = assumption
 
 -- JC QH TC: a run of three, a go, and a flush make eight
 clubs_run : LegalFor flush (Card 36 ∷ Card 46 ∷ Card 40 ∷ six_turns)
-clubs_run = ((clubs_led, record { not_done = refl; may_take = (refl, refl) }), record { not_done = refl; may_take = (refl, refl) })
+clubs_run = assumption
 
 -- JS KC QD: a run of three, a go, a run of three in the hand with the starter, and his nobs make eight
 spades_run : LegalFor his_nobs (Card 45 ∷ Card 48 ∷ Card 43 ∷ six_turns)
-spades_run = ((spades_led, record { not_done = refl; may_take = (refl, refl) }), record { not_done = refl; may_take = (refl, refl) })
+spades_run = assumption
 
 clubs_end : LegalFor flush (Card 48 ∷ Go ∷ Go ∷ Card 36 ∷ Card 46 ∷ Card 40 ∷ six_turns)
-clubs_end = (
-  ((clubs_run, record { not_done = refl; may_take = refl }), record { not_done = refl; may_take = refl }),
-  record { not_done = refl; may_take = (refl, refl) },
-)
+clubs_end = assumption
 
 spades_end : LegalFor his_nobs (Card 46 ∷ Go ∷ Go ∷ Card 45 ∷ Card 48 ∷ Card 43 ∷ six_turns)
-spades_end = (
-  ((spades_run, record { not_done = refl; may_take = refl }), record { not_done = refl; may_take = refl }),
-  record { not_done = refl; may_take = (refl, refl) },
-)
+spades_end = assumption
 
 -- the history up to the lead of a jack
 abbrev jack_led : List Event

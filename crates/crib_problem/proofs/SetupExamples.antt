@@ -1,5 +1,5 @@
 -- Worked examples of problems: goals, conditions, hidden deals, and games that begin with the opening.
-use Rattle.std.proofs.Common.{arith, ◌≤◌, ◌≡◌, refl, ap, true, false, [], ◌∷◌, ◌++◌, List, ℕ, length, codes}
+use Rattle.std.proofs.Common.{arith, ◌≡◌, refl, ap, true, false, [], ◌∷◌, ◌++◌, List, ℕ, length, codes}
 use Rattle.std.specs.Prelude.{replicate}
 use Rattle.std.specs.Fmt.{digits}
 use Rattle.std.specs.List.{AllByRecursion}
@@ -7,13 +7,11 @@ use Rattle.std.proofs.lemmas.Bool.{both_ways}
 use Rattle.crib_cards.specs.Cards.{IsCard}
 use Rattle.crib_cards.specs.Sets.{set_where}
 use Rattle.crib_cards.specs.declared.sides.Side.TheVariants.{Owner, Opponent}
-use Rattle.crib_cards.specs.declared.sides.Scores.{Scores}
 use Rattle.crib_cards.specs.declared.letters.Letter.TheVariants.{Seen}
 use Rattle.crib_cards.specs.declared.moves.Act.{Act}
 use Rattle.crib_cards.specs.declared.moves.Move.{Move}
 use Rattle.crib_cards.specs.declared.moves.Move.TheVariants.{Card, Go}
 use Rattle.crib_play.specs.Score.{is_done}
-use Rattle.crib_problem.specs.declared.problem.Goal.{Goal}
 use Rattle.crib_problem.specs.declared.problem.Goal.TheVariants.{Win, Holes, Stop}
 use Rattle.crib_problem.specs.declared.problem.Version.TheVariants.{One, Two}
 use Rattle.crib_problem.specs.Setup.{Setup, IsSetup, IsGoal, CanSay, IsMove, IsDealOf, BeginsAsPlayed, target_of, known_cards, start_of}
@@ -60,16 +58,35 @@ known_in_order = refl
 seven_cards : AllByRecursion IsCard (known_cards midway)
 seven_cards = (omega arith, (omega arith, (omega arith, (omega arith, (omega arith, (omega arith, (omega arith, tt)))))))
 
--- so each goal from scores that are on the board
-with_scores : (scores : Scores) (goal : Goal) → scores.owner ≤ 120 → scores.opponent ≤ 120 → IsGoal scores.owner goal →
-    IsSetup (record midway { scores = scores; goal = goal })
-with_scores scores goal owner opponent in_range = (let few : 0 ≤ 32 = omega arith in assumption (seven_cards))
-
 pub owner_at_120 : IsSetup (record midway { scores = record { owner = 120; opponent = 119 }; goal = Holes 1 })
-owner_at_120 = with_scores (record { owner = 120; opponent = 119 }) (Holes 1) (omega arith) (omega arith) last_hole
+owner_at_120 = record {
+  held = refl;
+  two_thrown = refl;
+  cards = seven_cards;
+  distinct = refl;
+  owner_score = omega arith;
+  opponent_score = omega arith;
+  goal_in_range = (omega arith, omega arith);
+  of_version = tt;
+  few = omega arith;
+  moves = tt;
+  allowed = tt;
+}
 
 pub opponent_at_120 : IsSetup (record midway { scores = record { owner = 119; opponent = 120 }; goal = Holes 2 })
-opponent_at_120 = with_scores (record { owner = 119; opponent = 120 }) (Holes 2) (omega arith) (omega arith) (omega arith, omega arith)
+opponent_at_120 = record {
+  held = refl;
+  two_thrown = refl;
+  cards = seven_cards;
+  distinct = refl;
+  owner_score = omega arith;
+  opponent_score = omega arith;
+  goal_in_range = (omega arith, omega arith);
+  of_version = tt;
+  few = omega arith;
+  moves = tt;
+  allowed = tt;
+}
 
 pub owner_at_121 : IsSetup (record midway { scores = record { owner = 121; opponent = 0 }; goal = Win }) → ⊥
 owner_at_121 is = let high = is.owner_score in absurd (omega (arith, high))

@@ -1,12 +1,17 @@
 -- Worked examples of messages: the line that is shown, its number and its mark, and the words before it.
-use Rattle.std.proofs.Common.{◌≡◌, refl, true, false, ℕ, List, [], ◌∷◌, ◌++◌, codes, map, Option, Some, None}
+use Rattle.std.proofs.Common.{◌≡◌, refl, true, false, ℕ, List, [], ◌∷◌, ◌++◌, codes, map, Some, None}
+use Rattle.std.specs.Prelude.{flat_map}
 use Rattle.std.specs.List.{All, list_all}
 use Rattle.std.specs.Fmt.{digits}
 use Rattle.std.proofs.lemmas.Bool.{and_parts}
 use Rattle.std.proofs.lemmas.List.Elements.{All-nil, All-cons}
 use Rattle.crib_text.specs.Words.{lines_of}
+use Rattle.crib_text.specs.declared.fault.TextCause.TheVariants.{BadCard}
+use Rattle.crib_input.specs.declared.refusal.Cause.TheVariants.{Text}
+use Rattle.crib_run.specs.declared.reason.FaultCause.TheVariants.{NoMemory}
+use Rattle.crib_run.specs.declared.reason.Reason.TheVariants.{Refused, Fault}
 use Rattle.crib_message.specs.declared.place.Section.TheVariants.{Problem, Plan, Game, After}
-use Rattle.crib_message.specs.Message.{IsExcerpt, IsFaultMessage, IsRefusalMessage, heading, is_plain, numbered_line, shown_byte, shown_line}
+use Rattle.crib_message.specs.Message.{IsExcerpt, IsFaultMessage, IsMessage, IsRefusalMessage, Says, heading, is_plain, numbered_line, shown_byte, shown_line}
 
 -- ---- the lines of an input
 abbrev two_lines : List ℕ
@@ -40,8 +45,8 @@ a_tab = refl
 pub the_last_byte : shown_byte 255 ≡ codes "\\xff"
 the_last_byte = refl
 
-pub a_byte_of_two_digits : shown_byte 171 ≡ codes "\\xab"
-a_byte_of_two_digits = refl
+pub bytes_of_two_digits : flat_map shown_byte (171 ∷ 240 ∷ []) ≡ codes "\\xab\\xf0"
+bytes_of_two_digits = refl
 
 -- ---- a line with its number
 pub a_whole_line : shown_line 12 [] (codes "own 2C") [] ≡ codes "  12 | own 2C\n"
@@ -56,6 +61,14 @@ a_line_with_a_byte = refl
 pub a_stretch_of_a_line : shown_line 8 (codes "0 see ") (codes "A:1") (codes " 2:1") ≡ codes "  8 | ...A:1...\n"
 unfolding digits
 a_stretch_of_a_line = refl
+
+pub the_end_of_a_line : shown_line 8 (codes "0 see ") (codes "A:1") [] ≡ codes "  8 | ...A:1\n"
+unfolding digits
+the_end_of_a_line = refl
+
+pub an_excerpt : IsExcerpt 8 (codes "0 see A:1 2:1") (codes "  8 | ...A:1...\n    |    ^\n")
+unfolding digits
+an_excerpt = record { before = codes "0 see "; shown = codes "A:1"; after = codes " 2:1"; mark = codes "    |    ^\n"; cut = refl; is = refl }
 
 -- ---- headings
 pub of_a_problem : heading (codes "cribplan") 5 (record { section = Problem; number = 5 }) ≡ codes "cribplan: line 5: "
@@ -100,3 +113,12 @@ a_card_with_10 = record {
 -- a fault shows no line
 pub no_memory : IsFaultMessage (codes "cribplan") (codes "cribplan: out of memory\n")
 no_memory = record { sentence = codes "out of memory"; is = refl; plain = all_plain (codes "out of memory") refl }
+
+-- ---- a message by its reason, and a beginning of it on a device
+pub of_a_refusal :
+    IsMessage (codes "cribplan") (codes "problem 1\nhold 10S\n") (Refused (record { line = 2; cause = Text BadCard }))
+    (codes "cribplan: line 2: \"10S\" is not a card.\n  2 | hold 10S\n    |      ^^^\n")
+of_a_refusal = a_card_with_10
+
+pub of_a_fault : Says (codes "cribplan") (codes "problem 1\n") (Fault NoMemory) (Some (codes "a")) (Some (codes "acribplan: out"))
+of_a_fault = (codes "cribplan: out of memory\n", 13, no_memory, refl)

@@ -1,14 +1,15 @@
 -- Lemmas about readers that read the first lines as they read all lines: where the first lines end too early, the text is cut short.
 use Rattle.std.proofs.Common.{◌≡◌, ℕ, ◌+◌, ◌≤◌, true, false, List, [], ◌∷◌, ◌++◌, length, Result, Ok, Err, refl, sym, ap, ◌∙◌, arith, inl, inr}
 use Rattle.std.specs.Prelude.{◌⊎◌}
-use Rattle.std.specs.List.{list_all, onto_first, take_while}
+use Rattle.std.specs.List.{list_all, take_while}
 use Rattle.std.proofs.lemmas.Bool.{cases_Bool, and_parts}
 use Rattle.std.proofs.lemmas.List.Folds.{list_all-append}
 use Rattle.crib_text.specs.Refusals.{Refusal, bad_byte, cut_short}
 use Rattle.crib_text.specs.Words.{lines_of, words_of, is_text_byte, is_ended, line_after}
 use Rattle.crib_text.specs.Reading.{◌>>=◌, Rest, Line, text_check, all_lines, words_in, first_line, line_at, in_line, value_at}
-use Rattle.crib_text.proofs.WordLemmas.{is_lf, lines_of-nil, lines_of-lf, lines_of-other}
-use Rattle.crib_text.proofs.ByteLemmas.{lines_count, lines_count-ended, some_line}
+use Rattle.crib_text.proofs.WordLemmas.{some_line}
+use Rattle.crib_text.proofs.LineLaws.{cut_lines, lines_law, no_feed_law}
+use Rattle.crib_text.proofs.ByteLemmas.{lines_count, lines_count-ended}
 use Rattle.crib_text.proofs.LineLemmas.{line_at-nil}
 use Rattle.crib_text.proofs.ReadingLemmas.{bind_ok, ok_is, pair_is, value_at-line}
 
@@ -127,26 +128,9 @@ lines_cut read number last front next back value steady e =
 
 -- ---- texts
 
-onto_front : (byte : ℕ) (lines more : List (List ℕ)) → 1 ≤ length lines → onto_first byte (lines ++ more) ≡ onto_first byte lines ++ more
-onto_front byte [] more some = absurd (omega arith)
-onto_front byte (line ∷ lines) more some = refl
-
 -- a text goes on after an LF: its lines are those before and those after it
 ended_front : (front more : List ℕ) → is_ended front ≡ true → lines_of (front ++ more) ≡ lines_of front ++ lines_of more
-ended_front [] more e = ap (λ (ls : List (List ℕ)). ls ++ lines_of more) (sym lines_of-nil)
-ended_front (byte ∷ []) more e =
-    lines_of-lf byte more e ∙ ap (λ (ls : List (List ℕ)). [] ∷ (ls ++ lines_of more)) (sym lines_of-nil) ∙ ap (λ (ls : List (List ℕ)). ls ++ lines_of more)
-    (sym (lines_of-lf byte [] e))
-ended_front (byte ∷ next ∷ front) more e =
-    let rest = ended_front (next ∷ front) more e in
-    elim (cases_Bool (is_lf byte)) [
-      | inl lf ↦ lines_of-lf byte (next ∷ (front ++ more)) lf ∙ ap (λ (ls : List (List ℕ)). [] ∷ ls) rest ∙ ap (λ (ls : List (List ℕ)). ls ++ lines_of more)
-          (sym (lines_of-lf byte (next ∷ front) lf))
-      | inr other ↦
-          lines_of-other byte (next ∷ (front ++ more)) other ∙ ap (onto_first byte) rest ∙ onto_front byte (lines_of (next ∷ front)) (lines_of more)
-          (some_line next front)
-          ∙ ap (λ (ls : List (List ℕ)). ls ++ lines_of more) (sym (lines_of-other byte (next ∷ front) other))
-    ]
+ended_front front more e = ap (λ text. lines_of (text ++ more)) (sym (lines_law front e)) ∙ cut_lines (lines_of front) more (no_feed_law front)
 
 -- bytes that are read as lines: no byte is bad, and these are the lines
 pub record IsLines (bytes : List ℕ) (rest : Rest) : Type 0 where

@@ -38,8 +38,7 @@ impl<T> Counted<T> {
     fn failed_calls(&self) -> u64
         ensures { result ≡ counted_faults self.now }
     {
-        let Counted { inner: _, faults } = self;
-        *faults
+        self.faults
     }
 }
 
@@ -55,14 +54,7 @@ impl From<Error> for Glitch {
     }
 }
 
-// Returns the count after one more failure, capped at `u64::MAX`.
-fn next_after(faults: u64) -> u64
-    ensures { result ≡ next_count faults }
-{
-    faults.saturating_add(1)
-}
-
-// Returns the result of a call, given that of the call inside, and counts an error.
+// Returns the result of a call, given that of the call inside, and counts an error, up to `u64::MAX`.
 fn noted(outcome: io::Result<usize>, faults: &mut u64) -> Result<usize, Glitch>
     ensures answer { result ≡ noted_as outcome }
     ensures counted { CountsFailure faults.old faults.new outcome }
@@ -70,7 +62,7 @@ fn noted(outcome: io::Result<usize>, faults: &mut u64) -> Result<usize, Glitch>
     match outcome {
         Ok(n) => Ok(n),
         Err(error) => {
-            *faults = next_after(*faults);
+            *faults = faults.saturating_add(1);
             Err(Glitch::from(error))
         }
     }

@@ -1,4 +1,6 @@
 //! Reading an input to its end, and writing an answer whole.
+#![tactic(auto, using(crate::proofs::LoopFacts::known_bytes))]
+
 ghost use Rattle.std.specs.Prelude.{◌≡◌, ◌≤◌, ◌<◌, length, take, vec_len, IfOk, OnOk, IfErr, OnErr, IfSome};
 ghost use Rattle.std.specs.Io.KnownBytes.{Appends, Consumes, IsAtEnd};
 ghost use Rattle.crib_text.specs.Device.{HasFailed, HasNotFallen};
@@ -29,7 +31,6 @@ pub struct Stopped {
 /// Reads all bytes up to the end of the input, at most 8,388,608. It makes at most 8,400,000 calls, and retries an
 /// interrupted one. Errors are refusals at line 0: 2 as soon as there are more bytes, 9 if a call fails or the calls
 /// run out, and 11 if memory runs out.
-#[tactic(auto, using(crate::proofs::LoopFacts::known_bytes))]
 pub fn read_all<A: Allocator + Copy, S: Source>(
     alloc: A,
     source: &mut S,
@@ -67,7 +68,6 @@ pub fn read_all<A: Allocator + Copy, S: Source>(
 
 /// Writes all bytes, at most 8,388,608. It makes at most 8,400,000 calls, and retries an interrupted one with the bytes
 /// that are left. It stops if a call fails or the calls run out. Then exactly the first `sent` bytes were written.
-#[tactic(auto, using(crate::proofs::LoopFacts::known_bytes))]
 pub fn put<W: Sink>(sink: &mut W, bytes: &[u8]) -> Result<(), Stopped>
     requires { length bytes.now ≤ MAX_INPUT }
     ensures all { OnOk result (Appends (W.contents sink.old) (W.contents sink.new) bytes.now) }

@@ -1,15 +1,16 @@
 //! Which bytes make a text.
+#![tactic(auto, using(crate::proofs::ByteLemmas::checking))]
+
 ghost use Rattle.std.specs.Prelude.{◌≡◌, ◌≤◌, length};
 ghost use Rattle.crib_text.specs.Refusals.{text_refusal};
 ghost use Rattle.crib_text.specs.Reading.{Gives, text_check};
 ghost use Rattle.crib_text.specs.Words as words;
 
 use crate::devices::MAX_INPUT;
-use crate::fault::{TextCause, TextFault};
+use crate::fault::{Fault, TextCause, TextFault};
 
 // Checks that the bytes are lines of a text. They are refused with 1 if a byte is neither LF nor 32 to 126, at the line
 // of the first such byte. Otherwise they are refused with 3 if the last byte isn't LF, at the last line.
-#[tactic(auto, using(crate::proofs::ByteLemmas::checking))]
 pub(crate) fn check_bytes(bytes: &[u8]) -> Result<(), TextFault>
     requires { length bytes.now ≤ MAX_INPUT }
     ensures { Gives (λ _. tt) text_refusal result (text_check bytes.now) }
@@ -17,20 +18,14 @@ pub(crate) fn check_bytes(bytes: &[u8]) -> Result<(), TextFault>
     let mut line = 1;
     for byte in bytes {
         if !is_text_byte(*byte) {
-            return Err(TextFault {
-                line,
-                cause: TextCause::BadByte,
-            });
+            return Err(Fault::at(line, TextCause::BadByte));
         }
         if *byte == b'\n' {
             line += 1;
         }
     }
     if !is_ended(bytes) {
-        return Err(TextFault {
-            line,
-            cause: TextCause::CutShort,
-        });
+        return Err(Fault::at(line, TextCause::CutShort));
     }
     Ok(())
 }
@@ -42,7 +37,6 @@ fn is_text_byte(byte: u8) -> bool
 }
 
 // Whether the last byte is LF. True if there are no bytes.
-#[tactic(auto, using(crate::proofs::ByteLemmas::ending))]
 fn is_ended(bytes: &[u8]) -> bool
     ensures { result ≡ words.is_ended bytes.now }
 {

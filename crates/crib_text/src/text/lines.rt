@@ -5,7 +5,7 @@ ghost use Rattle.crib_text.specs.Words.{is_ended};
 use super::bytes::check_bytes;
 use super::line::{Line, len_before};
 use crate::devices::MAX_INPUT;
-use crate::fault::{TextCause, TextFault};
+use crate::fault::{Fault, TextCause, TextFault};
 
 /// The lines of a text that are left, and the number of the first of them. A refused call leaves them unchanged.
 #[derive(Clone, Copy, Debug)]
@@ -57,10 +57,7 @@ impl<'a> Lines<'a> {
     {
         let rest = &self.source[self.at..];
         if rest.is_empty() {
-            return Err(TextFault {
-                line: self.number,
-                cause: TextCause::CutShort,
-            });
+            return Err(Fault::at(self.number, TextCause::CutShort));
         }
         let len = len_before(rest, b'\n');
         let line = Line {
@@ -69,10 +66,7 @@ impl<'a> Lines<'a> {
             number: self.number,
         };
         if line.has_empty_word() {
-            return Err(TextFault {
-                line: self.number,
-                cause: TextCause::BadLine,
-            });
+            return Err(Fault::at(self.number, TextCause::BadLine));
         }
         self.at += len + 1;
         self.number += 1;
@@ -94,10 +88,7 @@ impl<'a> Lines<'a> {
         ensures { Gives (λ _. tt) text_refusal result (end_at (rest_of self.now)) }
     {
         if self.at < self.source.len() {
-            return Err(TextFault {
-                line: self.number,
-                cause: TextCause::Trailing,
-            });
+            return Err(Fault::at(self.number, TextCause::Trailing));
         }
         Ok(())
     }

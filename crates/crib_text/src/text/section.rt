@@ -1,5 +1,7 @@
 //! What the lines of all sections have in common. Reading the words of a line refuses with a cause alone, and `in_line`
 //! adds the line.
+#![tactic(auto, using(crate::proofs::SectionLemmas::first_words))]
+
 ghost use Rattle.std.specs.Prelude.{◌≡◌, ◌<◌, ◌+◌, Some, Ok, Err, length, drop, slice_get, MatchResult, OnOk};
 ghost use Rattle.crib_text.specs.Refusals.{cause_number};
 ghost use Rattle.crib_text.specs.Reading.{Gives, after_keyword, number_in, header_in};
@@ -10,20 +12,15 @@ use super::number::read_number;
 use crate::fault::{Fault, TextCause};
 
 /// Returns the bytes of the word with this index, from 0. The line must have that word.
-#[tactic(auto, using(crate::proofs::SectionLemmas::a_word))]
 pub fn word_at<'a>(line: &Line<'a>, index: usize) -> &'a [u8]
     requires { index < length (line_of line.now).words }
     ensures { slice_get (line_of line.now).words index ≡ Some result.now }
 {
-    match line.word(index) {
-        Some(token) => token.bytes(),
-        None => unreachable!(),
-    }
+    line.word(index).unwrap().bytes()
 }
 
 /// Checks that the first word of a line is this keyword, and that `count` words follow it. Otherwise the line is
 /// refused with 4.
-#[tactic(auto, using(crate::proofs::SectionLemmas::a_keyword))]
 pub fn check_keyword(line: &Line<'_>, keyword: &[u8], count: u32) -> Result<(), TextCause>
     ensures exact { Gives (λ _. drop 1 (line_of line.now).words) cause_number result
         (after_keyword keyword.now count (line_of line.now).words) }
@@ -40,15 +37,12 @@ pub fn check_keyword(line: &Line<'_>, keyword: &[u8], count: u32) -> Result<(), 
 pub fn number_of(word: &[u8]) -> Result<u32, TextCause>
     ensures { Gives (λ number. number) cause_number result (number_in word.now) }
 {
-    match read_number(word) {
-        Some(number) => Ok(number),
-        None => Err(TextCause::BadNumber),
-    }
+    read_number(word).ok_or(TextCause::BadNumber)
 }
 
 /// Checks that a line is the first line of a section, as `plan 1` is: the name, and the version 1. It is refused with 4
 /// for another name or another number of words, with 6 if the second word is no number, and with 7 for another version.
-#[tactic(auto, using(crate::proofs::SectionLemmas::a_header), unfolding(crate::specs::Reading::header_in))]
+#[tactic(auto, using(crate::proofs::SectionLemmas::first_words), unfolding(crate::specs::Reading::header_in))]
 pub fn read_header(line: &Line<'_>, name: &[u8]) -> Result<(), TextCause>
     ensures { Gives (λ _. tt) cause_number result (header_in name.now (line_of line.now).words) }
 {
@@ -64,10 +58,7 @@ pub fn read_header(line: &Line<'_>, name: &[u8]) -> Result<(), TextCause>
 pub fn fault_in<C>(line: &Line<'_>, cause: C) -> Fault<C>
     ensures { result ≡ record { line = (line_of line.now).number; cause = cause } }
 {
-    Fault {
-        line: line.number(),
-        cause,
-    }
+    Fault::at(line.number(), cause)
 }
 
 /// Returns what was read in a line, or the refusal of the line for this cause.

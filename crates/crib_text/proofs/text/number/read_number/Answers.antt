@@ -1,5 +1,6 @@
-use Rattle.std.proofs.Common.{◌≡◌, decimal, sym, ap, subst, ◌∙◌, arith}
+use Rattle.std.proofs.Common.{◌≡◌, decimal, sym, ap, subst, ◌∙◌, arith, inl, inr}
 use Rattle.std.specs.Str.{IsUtf8}
+use Rattle.std.proofs.lemmas.Bool.{cases_Bool}
 use Rattle.std.proofs.lemmas.Fmt.{IsAscii-decimal, parse-decimal}
 use Rattle.std.proofs.lemmas.Str.{IsUtf8-from_ascii}
 use Rattle.std.proofs.lemmas.Slice.Eq.{bytes_eq-Decides}
@@ -14,16 +15,18 @@ pub returns-in_default-parse : goal.returns-in_default-parse
 returns-in_default-parse c = sym (number_read-none c.args.word.now (λ n small e.
     c.in_default-parse.not-Ok n (parse-decimal 32 n c.in-Ok.text.now c.parse.result small (omega arith) (c.in-Ok.ensures.cases.0 ∙ e) c.parse.ensures.value.0)))
 
-pub returns-then-eq : goal.returns-then-eq
-returns-then-eq c =
-    let same = (bytes_eq-Decides c.as_bytes.result.now c.args.word.now).0 (sym c.eq.ensures ∙ c.if-eq.true) in
-    let e : c.args.word.now ≡ decimal c.in-Ok-parse.number = sym same ∙ c.as_bytes.ensures.value ∙ c.format.ensures.text in
-    rw e (sym (number_read-decimal c.in-Ok-parse.number (omega arith)))
-
-pub returns-else-eq : goal.returns-else-eq
-returns-else-eq c = sym (number_read-none c.args.word.now (λ n small e.
-    let parsed = parse-decimal 32 n c.in-Ok.text.now c.parse.result small (omega arith) (c.in-Ok.ensures.cases.0 ∙ e) c.parse.ensures.value.0 in
-    let is : c.in-Ok-parse.number ≡ n = cc (parsed, c.in-Ok-parse.is) in
-    let same = c.as_bytes.ensures.value ∙ c.format.ensures.text ∙ ap decimal is ∙ sym e in
-    let equal = c.eq.ensures ∙ (bytes_eq-Decides c.as_bytes.result.now c.args.word.now).1 same in
-    absurd (cc (equal, c.if-eq.false))))
+pub returns : goal.returns
+returns c =
+    let word = c.args.word.now in
+    let number = c.in-Ok-parse.number in
+    let shown = c.as_bytes.ensures.value ∙ c.format.ensures.text in
+    elim (cases_Bool c.eq.result) [
+      | inl same ↦
+          let e : word ≡ decimal number = sym ((bytes_eq-Decides c.as_bytes.result.now word).0 (sym c.eq.ensures ∙ same)) ∙ shown in
+          rw (c.then_some.ensures, same, e) (sym (number_read-decimal number (omega arith)))
+      | inr other ↦ rw (c.then_some.ensures, other) (sym (number_read-none word (λ n small e.
+          let parsed = parse-decimal 32 n c.in-Ok.text.now c.parse.result small (omega arith) (c.in-Ok.ensures.cases.0 ∙ e) c.parse.ensures.value.0 in
+          let is : number ≡ n = cc (parsed, c.in-Ok-parse.is) in
+          let equal = c.eq.ensures ∙ (bytes_eq-Decides c.as_bytes.result.now word).1 (shown ∙ ap decimal is ∙ sym e) in
+          absurd (cc (equal, other)))))
+    ]

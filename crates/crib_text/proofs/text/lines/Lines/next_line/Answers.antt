@@ -1,45 +1,33 @@
-use Rattle.std.proofs.Common.{◌≡◌, ◌≢◌, ◌-◌, ◌<◌, length, take, drop, ap, sym, ◌∙◌, refl, arith}
+use Rattle.std.proofs.Common.{◌≡◌, ◌-◌, length, take, drop, ap, sym, ◌∙◌, refl, arith}
 use Rattle.std.proofs.lemmas.List.{take_rest, length-drop, length-take}
-use Rattle.std.proofs.lemmas.Bool.{eqb-true, eqb-false}
 use Rattle.crib_text.specs.Reading.{line_at}
 use Rattle.crib_text.specs.Lines.{rest_of, source_of, place_of, line_of, line_place, IsLineOf}
-use Rattle.crib_text.proofs.LineLemmas.{no_lines, feed_within, lines_at, length-line_text, line_at-nil, line_at-empty, line_at-cons}
+use Rattle.crib_text.proofs.LineLemmas.{no_lines, first_left, length-line_text, line_at-nil, line_at-empty, line_at-cons}
 use Rattle.crib_text.proofs.text.lines.Lines.next_line.Goals as goal
 
 pub returns-then-is_empty-clause-exact : goal.returns-then-is_empty-clause-exact
 unfolding rest_of
 returns-then-is_empty-clause-exact c =
     let l = c.args.self.now in
-    let none : length (take (length l.source.now - l.at) (drop l.at l.source.now)) ≡ 0 = eqb-true _ _ (sym c.is_empty.ensures ∙ c.if-is_empty.true) in (
-      ap (λ ls. line_at (record { number = l.number; lines = ls }))
-          (no_lines l.source.now l.at (omega (arith, ap length (take_rest l.source.now l.at), length-drop l.at l.source.now))) ∙ line_at-nil l.number,
-      refl,
-    )
+    let none = no_lines l.source.now _ l.at (take_rest l.source.now l.at) (sym c.is_empty.ensures ∙ c.if-is_empty.true) in
+    (rw c.at.ensures (ap (λ ls. line_at (record { number = l.number; lines = ls })) none ∙ line_at-nil l.number), refl)
 
 pub returns-then-has_empty_word-clause-exact : goal.returns-then-has_empty_word-clause-exact
 unfolding rest_of
 returns-then-has_empty_word-clause-exact c =
     let l = c.args.self.now in
-    let rest = take (length l.source.now - l.at) (drop l.at l.source.now) in
-    let some : length rest ≢ 0 = eqb-false _ _ (sym c.is_empty.ensures ∙ c.if-is_empty.false) in
-    let inside : l.at < length l.source.now = omega (arith, some, ap length (take_rest l.source.now l.at), length-drop l.at l.source.now) in
-    let within = feed_within l.source.now rest l.at c.len_before-len.result (take_rest l.source.now l.at) l.ended inside c.len_before-len.ensures.value in
-    let lines = lines_at l.source.now rest l.at c.len_before-len.result (take_rest l.source.now l.at) within c.len_before-len.ensures.value in (
-      ap (λ ls. line_at (record { number = l.number; lines = ls })) lines
-          ∙ line_at-empty l.number _ _ (sym c.has_empty_word.ensures ∙ c.if-has_empty_word.true),
-      refl,
-    )
+    let some = sym c.is_empty.ensures ∙ c.if-is_empty.false in
+    let first = first_left l.source.now _ l.at _ (take_rest l.source.now l.at) l.ended some c.len_before-len.ensures.value in
+    let refused = line_at-empty l.number _ _ (sym c.has_empty_word.ensures ∙ c.if-has_empty_word.true) in
+    (rw c.at-then-has_empty_word.ensures (ap (λ ls. line_at (record { number = l.number; lines = ls })) first.1 ∙ refused), refl)
 
 pub returns-clause-exact : goal.returns-clause-exact
 unfolding rest_of line_of
 returns-clause-exact c =
     let l = c.args.self.now in
-    let rest = take (length l.source.now - l.at) (drop l.at l.source.now) in
-    let some : length rest ≢ 0 = eqb-false _ _ (sym c.is_empty.ensures ∙ c.if-is_empty.false) in
-    let inside : l.at < length l.source.now = omega (arith, some, ap length (take_rest l.source.now l.at), length-drop l.at l.source.now) in
-    let within = feed_within l.source.now rest l.at c.len_before-len.result (take_rest l.source.now l.at) l.ended inside c.len_before-len.ensures.value in
-    let lines = lines_at l.source.now rest l.at c.len_before-len.result (take_rest l.source.now l.at) within c.len_before-len.ensures.value in
-    ap (λ ls. line_at (record { number = l.number; lines = ls })) lines
+    let some = sym c.is_empty.ensures ∙ c.if-is_empty.false in
+    let first = first_left l.source.now _ l.at _ (take_rest l.source.now l.at) l.ended some c.len_before-len.ensures.value in
+    ap (λ ls. line_at (record { number = l.number; lines = ls })) first.1
     ∙ line_at-cons l.number _ _ (sym c.has_empty_word.ensures ∙ c.if-has_empty_word.false)
 
 pub returns-clause-slice : goal.returns-clause-slice
@@ -72,10 +60,8 @@ returns-clause-source c = refl
 pub invariant_of-self-clause-within : goal.invariant_of-self-clause-within
 invariant_of-self-clause-within c =
     let l = c.args.self.now in
-    let rest = take (length l.source.now - l.at) (drop l.at l.source.now) in
-    let some : length rest ≢ 0 = eqb-false _ _ (sym c.is_empty.ensures ∙ c.if-is_empty.false) in
-    let inside : l.at < length l.source.now = omega (arith, some, ap length (take_rest l.source.now l.at), length-drop l.at l.source.now) in
-    omega (arith, feed_within l.source.now rest l.at c.len_before-len.result (take_rest l.source.now l.at) l.ended inside c.len_before-len.ensures.value)
+    let some = sym c.is_empty.ensures ∙ c.if-is_empty.false in
+    omega (arith, first_left l.source.now _ l.at _ (take_rest l.source.now l.at) l.ended some c.len_before-len.ensures.value)
 
 pub returns-clause-next : goal.returns-clause-next
 unfolding place_of line_of

@@ -1,6 +1,7 @@
 -- Lemmas about sets that are built card by card, and sets that are walked from the lowest card on.
-use Rattle.std.proofs.Common.{◌≡◌, ℕ, ◌+◌, ◌<◌, Bool, true, false, not, eqb, ◌&&◌, ◌||◌, List, [], ◌∷◌, ◌++◌, length, take, get_or, Some, refl, sym, ap, set}
+use Rattle.std.proofs.Common.{◌≡◌, ℕ, ◌+◌, ◌<◌, Bool, not, eqb, ◌&&◌, ◌||◌, List, [], ◌∷◌, ◌++◌, length, take, get_or, Some, refl, sym, ap, set}
 use Rattle.std.proofs.Common.{◌∙◌, arith, zero, suc}
+use Rattle.std.proofs.lemmas.Bool.Decides.{nat_tests}
 use Rattle.std.proofs.lemmas.List.{take_more}
 use Rattle.std.proofs.Math.Bool.{or-false, or_assoc, and-true}
 use Rattle.crib_cards.specs.Deals.{unseen_from}
@@ -64,8 +65,7 @@ set_without_all-unseen_from known more =
     ∙ ap not (sym (has-append known more card)))
   where
     neither : (a b : Bool) → (not a && not b) ≡ not (a || b)
-    neither true b = refl
-    neither false b = refl
+    neither a b = grind (arith, nat_tests)
 
 -- ---- the lowest card
 

@@ -8,7 +8,7 @@ use Rattle.crib_cards.proofs.sets.CardSet.with_all.Goals as goal
 
 pub loop-added-init : goal.loop-added-init
 loop-added-init c =
-    record { small = c.self.invariant; so_far = rw (← c.self.view_is) (sym (set_with_all-none (cards_of_bits c.self.inside.bits) (IsCardSet-set_where _))) }
+    record { small = c.self.invariant; so_far = rw (← c.self.view_is) (sym (set_with_all-none (cards_of_bits c.self.inside.0) (IsCardSet-set_where _))) }
 
 pub loop-added-preserved : goal.loop-added-preserved
 loop-added-preserved c =

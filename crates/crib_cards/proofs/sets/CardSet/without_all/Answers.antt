@@ -8,7 +8,7 @@ use Rattle.crib_cards.proofs.sets.CardSet.without_all.Goals as goal
 
 pub loop-removed-init : goal.loop-removed-init
 loop-removed-init c =
-    record { small = c.self.invariant; so_far = rw (← c.self.view_is) (sym (set_without_all-none (cards_of_bits c.self.inside.bits) (IsCardSet-set_where _))) }
+    record { small = c.self.invariant; so_far = rw (← c.self.view_is) (sym (set_without_all-none (cards_of_bits c.self.inside.0) (IsCardSet-set_where _))) }
 
 pub loop-removed-preserved : goal.loop-removed-preserved
 loop-removed-preserved c =

@@ -1,6 +1,6 @@
 -- Proves that the visible turns of a filled record are those that it was filled from.
-use Rattle.std.proofs.Common.{◌≡◌, ℕ, zero, suc, Bool, true, false, cond, not, List, [], ◌∷◌, refl, ap, ◌∙◌, inl, inr}
-use Rattle.std.proofs.lemmas.Bool.{cases_Bool, cond-true, cond-false, and_parts, not-true}
+use Rattle.std.proofs.Common.{◌≡◌, ℕ, zero, suc, true, false, not, List, [], ◌∷◌, refl, ap, ◌∙◌, inl, inr}
+use Rattle.std.proofs.lemmas.Bool.{cases_Bool, and_parts, not-true}
 use Rattle.crib_cards.specs.declared.letters.Letter.{Letter}
 use Rattle.crib_cards.specs.declared.letters.Letter.TheVariants.{Seen, Go}
 use Rattle.crib_cards.specs.Start.{Start, pone_of}
@@ -16,21 +16,15 @@ visible_turns-gos zero start past = refl
 visible_turns-gos (suc n) start past =
     elim (cases_Bool (is_silent_next start past)) [
       | inl is ↦
-          let quiet : is_heard (pone_of start) (mover (pone_of start) past) past ≡ false =
-          not-true _ (and_parts (not (is_heard (pone_of start) (mover (pone_of start) past) past)) (not (is_done start past)) is).0 in
-          ap (λ (b : Bool). visible_turns (pone_of start) (cond b (with_silent_gos n start (Go ∷ past)) past)) is
-          ∙ visible_turns-gos n start (Go ∷ past)
-          ∙ cond-false (is_heard (pone_of start) (mover (pone_of start) past) past) (Go ∷ visible_turns (pone_of start) past)
-          (visible_turns (pone_of start) past) quiet
-      | inr is ↦ ap (λ (b : Bool). visible_turns (pone_of start) (cond b (with_silent_gos n start (Go ∷ past)) past)) is
+          let quiet = not-true _ (and_parts (not (is_heard (pone_of start) (mover (pone_of start) past) past)) (not (is_done start past)) is).0 in
+          rw is (visible_turns-gos n start (Go ∷ past) ∙ rw quiet refl)
+      | inr is ↦ rw is refl
     ]
 
 visible_turns-turn : (start : Start) (turn : Letter) (past : Record) → Open start past →
     visible_turns (pone_of start) (turn ∷ past) ≡ turn ∷ visible_turns (pone_of start) past
 visible_turns-turn start (Seen rank) past o = refl
-visible_turns-turn start Go past o =
-    cond-true (is_heard (pone_of start) (mover (pone_of start) past) past) (Go ∷ visible_turns (pone_of start) past) (visible_turns (pone_of start) past)
-    (heard_after start (mover (pone_of start) past) past ∙ o.held)
+visible_turns-turn start Go past o = rw (heard_after start (mover (pone_of start) past) past ∙ o.held) refl
 
 pub visible_turns-filled_record : (start : Start) (seen : List Letter) → IsStart start → AreTaken start seen →
     visible_turns (pone_of start) (filled_record start seen) ≡ seen

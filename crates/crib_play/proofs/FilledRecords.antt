@@ -1,13 +1,13 @@
 -- Proves that a legal record is the filled record of its visible turns, where no silent go follows it.
-use Rattle.std.proofs.Common.{◌≡◌, ℕ, zero, suc, ◌≤◌, Bool, true, false, cond, not, List, [], ◌∷◌, ◌++◌, length, refl, sym, ap, subst, ◌∙◌, inl, inr, arith}
-use Rattle.std.proofs.lemmas.Bool.{cases_Bool, cond-true, cond-false, and_from, and_left, and_right, leb-true}
+use Rattle.std.proofs.Common.{◌≡◌, ℕ, zero, suc, ◌≤◌, true, false, not, List, [], ◌∷◌, ◌++◌, length, refl, sym, ap, ◌∙◌, inl, inr, arith}
+use Rattle.std.proofs.lemmas.Bool.{cases_Bool, cond_both, cond-true, cond-false, and_from, and_left, and_right, leb-true}
 use Rattle.crib_cards.specs.Start.{Start, pone_of, Hands}
 use Rattle.crib_cards.specs.declared.sides.Side.{Side}
 use Rattle.crib_cards.specs.declared.letters.Letter.TheVariants.{Go}
 use Rattle.crib_play.specs.Record.{Record, mover, is_heard}
 use Rattle.crib_play.specs.Score.{is_done}
 use Rattle.crib_play.specs.Filled.{is_visible, visible_turns, is_silent_next, with_silent_gos, filled_record}
-use Rattle.crib_play.specs.Standing.{MayShow, MayFollow, AreTaken, IsStart}
+use Rattle.crib_play.specs.Standing.{MayShow, AreTaken, IsStart}
 use Rattle.crib_play.proofs.FilledAndVisible.{heard-filled_record}
 use Rattle.crib_cards.specs.declared.moves.Move.{Move}
 use Rattle.crib_cards.specs.declared.moves.Move.TheVariants as move
@@ -43,15 +43,10 @@ acts_fewer pone (turn ∷ past) =
 -- ---- the letters of moves
 pub letters_silent : (n : ℕ) (start : Start) (past : List Move) → letters_of (with_silent_moves n start past) ≡ with_silent_gos n start (letters_of past)
 letters_silent zero start past = refl
-letters_silent (suc n) start past =
-    step (is_silent_next start (letters_of past))
-    ∙ ap (λ (gos : Record). cond (is_silent_next start (letters_of past)) gos (letters_of past)) (letters_silent n start (move.Go ∷ past))
-  where
-    step : (b : Bool) →
-        letters_of (cond b (with_silent_moves n start (move.Go ∷ past)) past)
-        ≡ cond b (letters_of (with_silent_moves n start (move.Go ∷ past))) (letters_of past)
-    step true = refl
-    step false = refl
+letters_silent (suc n) start past = elim (cases_Bool (is_silent_next start (letters_of past))) [
+  | inl s ↦ rw s (letters_silent n start (move.Go ∷ past))
+  | inr s ↦ rw s refl
+]
 
 pub letters_filled : (start : Start) (seen : List Move) → letters_of (filled_moves start seen) ≡ filled_record start (letters_of seen)
 letters_filled start [] = refl
@@ -61,25 +56,23 @@ letters_filled start (turn ∷ seen) =
 
 pub letters_visible : (pone : Side) (past : List Move) → letters_of (visible_moves pone past) ≡ visible_turns pone (letters_of past)
 letters_visible pone [] = refl
-letters_visible pone (turn ∷ past) =
-    step (is_visible pone (letter_of turn) (letters_of past))
-    ∙ ap (λ (rest : Record). cond (is_visible pone (letter_of turn) (letters_of past)) (letter_of turn ∷ rest) rest) (letters_visible pone past)
-  where
-    step : (b : Bool) →
-        letters_of (moves_of (cond b (act_by pone turn past ∷ acts_of pone past) (acts_of pone past)))
-        ≡ cond b (letter_of turn ∷ letters_of (visible_moves pone past)) (letters_of (visible_moves pone past))
-    step true = refl
-    step false = refl
+letters_visible pone (turn ∷ past) = elim (cases_Bool (is_visible pone (letter_of turn) (letters_of past))) [
+  | inl v ↦ rw v (ap (λ (rest : Record). letter_of turn ∷ rest) (letters_visible pone past))
+  | inr v ↦ rw v (letters_visible pone past)
+]
+
+-- ---- what silent gos leave as it is
+pub silent_keeps : (P : List Move → Type 0) (start : Start) →
+    ((past : List Move) → is_silent_next start (letters_of past) ≡ true → P past → P (move.Go ∷ past)) → (n : ℕ) (past : List Move) → P past →
+    P (with_silent_moves n start past)
+silent_keeps P start step zero past holds = holds
+silent_keeps P start step (suc n) past holds =
+    cond_both (is_silent_next start (letters_of past)) (with_silent_moves n start (move.Go ∷ past)) past P
+    (λ s. silent_keeps P start step n (move.Go ∷ past) (step past s holds)) (λ _. holds)
 
 -- ---- the cards of a filled record
-pub cards_silent : (n : ℕ) (start : Start) (past : List Move) → cards_of (with_silent_moves n start past) ≡ cards_of past
-cards_silent zero start past = refl
-cards_silent (suc n) start past =
-    same (is_silent_next start (letters_of past)) (with_silent_moves n start (move.Go ∷ past)) (cards_silent n start (move.Go ∷ past))
-  where
-    same : (b : Bool) (more : List Move) → cards_of more ≡ cards_of past → cards_of (cond b more past) ≡ cards_of past
-    same true more e = e
-    same false more e = refl
+cards_silent : (n : ℕ) (start : Start) (past : List Move) → cards_of (with_silent_moves n start past) ≡ cards_of past
+cards_silent n start past = silent_keeps (λ more. cards_of more ≡ cards_of past) start (λ _ _ same. same) n past refl
 
 pub cards_filled : (start : Start) (seen : List Move) → cards_of (filled_moves start seen) ≡ cards_of seen
 cards_filled start [] = refl
@@ -110,14 +103,10 @@ silent_go n start past e = cond-true (is_silent_next start (letters_of past)) (w
 pub silent_more : (n : ℕ) (start : Start) (past : List Move) → is_silent_next start (letters_of (with_silent_moves n start past)) ≡ false →
     with_silent_moves (suc n) start past ≡ with_silent_moves n start past
 silent_more zero start past e = silent_stop 1 start past e
-silent_more (suc n) start past e =
-    elim (cases_Bool (is_silent_next start (letters_of past))) [
-      | inl s ↦
-          silent_go (suc n) start past s
-          ∙ silent_more n start (move.Go ∷ past) (ap (λ (moves : List Move). is_silent_next start (letters_of moves)) (sym (silent_go n start past s)) ∙ e)
-          ∙ sym (silent_go n start past s)
-      | inr s ↦ silent_stop (suc (suc n)) start past s ∙ sym (silent_stop (suc n) start past s)
-    ]
+silent_more (suc n) start past e = elim (cases_Bool (is_silent_next start (letters_of past))) [
+  | inl s ↦ rw s (silent_more n start (move.Go ∷ past) (rw s at e))
+  | inr s ↦ rw s refl
+]
 
 -- no silent go follows a filled record
 pub filled_stops : (start : Start) (seen : List Move) → IsStart start → AreTaken start (letters_of seen) →
@@ -159,10 +148,8 @@ fills_visible start hands turn past p may f v =
     let before : filled_moves start seen ≡ past =
     f.filled ∙ silent_stop 3 start past (not_silent_heard start (letters_of past) (heard_visible start hands turn past p may v)) in
     let letters : filled_record start (letters_of seen) ≡ letters_of past = sym (letters_filled start seen) ∙ ap letters_of before in
-    let T : List Move → Type 0 = λ moves. AreTaken start (letters_of moves) in
-    let F : Record → Type 0 = λ letters. MayFollow start (letter_of turn) letters in
     record {
-      taken = subst T (sym shows) (f.taken, subst F (sym letters) (record { not_done = may.not_done; may_show = may_show start hands turn past p may v }));
+      taken = rw shows (f.taken, rw letters (record { not_done = may.not_done; may_show = may_show start hands turn past p may v }));
       filled = ap (filled_moves start) shows ∙ ap (λ (moves : List Move). with_silent_moves 3 start (turn ∷ moves)) before;
     }
 
@@ -175,11 +162,7 @@ fills_silent start past is d f v =
     let silent : is_silent_next start (letters_of past) ≡ true = silent_is start (letters_of past) v d in
     let stops : is_silent_next start (letters_of (with_silent_moves 3 start past)) ≡ false =
     ap (λ (moves : List Move). is_silent_next start (letters_of moves)) (sym f.filled) ∙ filled_stops start seen is f.taken in
-    let T : List Move → Type 0 = λ moves. AreTaken start (letters_of moves) in
-    record {
-      taken = subst T (sym shows) f.taken;
-      filled = ap (filled_moves start) shows ∙ f.filled ∙ sym (silent_more 3 start past stops) ∙ silent_go 3 start past silent;
-    }
+    record { taken = rw shows f.taken; filled = rw shows (f.filled ∙ sym (silent_more 3 start past stops) ∙ silent_go 3 start past silent) }
 
 fills_turn : (start : Start) (hands : Hands) (turn : Move) (past : List Move) → IsStart start → Play start hands past → MayCome start hands turn past →
     Fills start past → Fills start (turn ∷ past)

@@ -2,7 +2,7 @@
 use Rattle.std.proofs.Common.{◌≡◌, ℕ, zero, suc, ◌+◌, ◌-◌, ◌≤◌, max, Bool, true, false, cond, not, ◌&&◌, eqb, leb, List, [], ◌∷◌, ◌++◌, refl, sym, ap, ◌∙◌}
 use Rattle.std.proofs.Common.{inl, inr, arith}
 use Rattle.std.specs.List.{list_any}
-use Rattle.std.proofs.lemmas.Bool.{cases_Bool, cond-true, cond-false, and_parts, and_from, and_left, and_right, not-true, both_ways, leb-false}
+use Rattle.std.proofs.lemmas.Bool.{cases_Bool, and_parts, and_left, and_right, not-true, both_ways, leb-false}
 use Rattle.crib_cards.specs.Cards.{rank_of, rank_value, card_value}
 use Rattle.crib_cards.specs.Sets.{has}
 use Rattle.crib_cards.specs.Sides.{same_side}
@@ -10,7 +10,6 @@ use Rattle.crib_cards.specs.Start.{Start, pone_of, Hands, hand_of}
 use Rattle.crib_cards.specs.declared.sides.Side.{Side}
 use Rattle.crib_cards.specs.declared.letters.Letter.{Letter}
 use Rattle.crib_cards.specs.declared.letters.Letter.TheVariants.{Seen, Go}
-use Rattle.crib_play.specs.declared.turns.Turn.TheVariants as turns
 use Rattle.crib_play.specs.Record.{Record, mover, is_heard, count_of, pile_of}
 use Rattle.crib_play.specs.Score.{is_done, side_asked}
 use Rattle.crib_play.specs.Filled.{is_silent_next, with_silent_gos, filled_record}
@@ -82,11 +81,8 @@ least_silent (suc n) start side past =
     elim (cases_Bool (is_silent_next start past)) [
       | inl is ↦
           let unheard : heard (mover pone past) ≡ false = not-true _ (and_parts (not (heard (mover pone past))) (not (is_done start past)) is).0 in
-          ap (least_of pone side) (cond-true (is_silent_next start past) (with_silent_gos n start (Go ∷ past)) past is)
-          ∙ least_silent n start side (Go ∷ past)
-          ∙ cond-false (same_side (mover pone past) side && heard side) (max (32 - count_of (pile_of past)) least) least
-          (unheard_tells_none (mover pone past) side heard unheard)
-      | inr is ↦ ap (least_of pone side) (cond-false (is_silent_next start past) (with_silent_gos n start (Go ∷ past)) past is)
+          rw is (least_silent n start side (Go ∷ past) ∙ rw (unheard_tells_none (mover pone past) side heard unheard) refl)
+      | inr is ↦ rw is refl
     ]
 
 -- the least value that each card left to a side can have, after visible turns
@@ -113,9 +109,7 @@ module _ (start : Start) (side : Side) (seen : List Letter) where
   pub least_other : (turn : Letter) → same_side (mover (pone_of start) (filled_record start seen)) side ≡ false →
       least_seen start side (turn ∷ seen) ≡ least_seen start side seen
   least_other (Seen rank) other = least_card rank
-  least_other Go other =
-      least_told ∙ cond-false told (least_with_go (count_seen start seen) (least_seen start side seen)) (least_seen start side seen)
-      (and_left (same_side (mover (pone_of start) (filled_record start seen)) side) (is_heard (pone_of start) side (filled_record start seen)) other)
+  least_other Go other = least_told ∙ rw other refl
 
   -- a go of the side that is asked shows that none of its cards fits
   pub least_go : IsStart start → AreTaken start seen → asked_seen start seen ≡ side_asked side →
@@ -126,8 +120,7 @@ module _ (start : Start) (side : Side) (seen : List Letter) where
       let heard : is_heard (pone_of start) side past ≡ true =
       ap (λ (s : Side). is_heard (pone_of start) s past) (sym open_now.1) ∙ heard-filled_record start seen is taken open_now.0 in
       let same : same_side (mover (pone_of start) past) side ≡ true = ap (λ (s : Side). same_side s side) open_now.1 ∙ same_self side in
-      least_told ∙ cond-true told (least_with_go (count_seen start seen) (least_seen start side seen)) (least_seen start side seen)
-      (and_from (same_side (mover (pone_of start) past) side) (is_heard (pone_of start) side past) same heard)
+      least_told ∙ rw (same, heard) refl
 
   -- one more turn never lowers the least value, and a go makes it at most the greater of it and 32 less the count
   pub least_grows : (turn : Letter) → least_seen start side seen ≤ least_seen start side (turn ∷ seen)
@@ -152,12 +145,8 @@ least_turned start side (Go ∷ seen) is taken =
     let past = filled_record start seen in
     let m = mover (pone_of start) past in
     let rest = least_turned start side seen is taken.0 in
-    let told = least_with_go (count_seen start seen) (least_by_turns start side seen) in
     elim (cases_Bool (same_side m side)) [
-      | inl same ↦
-          least_go start side seen is taken.0
-          (cond-false (is_done start past) turns.Over (side_asked m) taken.1.not_done ∙ ap side_asked (same_is m side same))
-          ∙ ap (least_with_go (count_seen start seen)) rest
-          ∙ sym (cond-true (same_side m side) told (least_by_turns start side seen) same)
-      | inr other ↦ least_other start side seen Go other ∙ rest ∙ sym (cond-false (same_side m side) told (least_by_turns start side seen) other)
+      | inl same ↦ rw same
+          (least_go start side seen is taken.0 (rw taken.1.not_done (ap side_asked (same_is m side same))) ∙ ap (least_with_go (count_seen start seen)) rest)
+      | inr other ↦ rw other (least_other start side seen Go other ∙ rest)
     ]

@@ -1,6 +1,7 @@
 -- Proves that visible turns which may come one by one fill to a legal record, and that the visible turns of a legal record may come so.
-use Rattle.std.proofs.Common.{◌≡◌, ℕ, zero, suc, Bool, true, false, not, List, [], ◌∷◌, refl, sym, ap, subst, ◌∙◌, inl, inr}
-use Rattle.std.proofs.lemmas.Bool.{cases_Bool, and_parts, and_cases, not-true, not-false, both_ways}
+use Rattle.std.proofs.Common.{◌≡◌, ℕ, Bool, true, false, not, List, [], ◌∷◌, refl, sym, ap, ◌∙◌, inl, inr}
+use Rattle.std.proofs.lemmas.Bool.{cases_Bool, and_parts, not-true, not-false}
+use Rattle.std.proofs.Math.Bool.{and-true}
 use Rattle.crib_cards.specs.Start.{Start, pone_of, Hands}
 use Rattle.crib_play.specs.Record.{Record, mover, is_heard}
 use Rattle.crib_play.specs.Score.{is_done}
@@ -13,7 +14,7 @@ use Rattle.crib_play.specs.Legal.{IsDealt, letters_of, MayCome, IsLegal}
 use Rattle.crib_play.specs.History.{acts_of, moves_of, visible_moves, with_silent_moves, filled_moves, AreLegal, act_by}
 use Rattle.crib_play.proofs.TurnFacts.{play_of, none_unheard}
 use Rattle.crib_play.proofs.FilledRecords.{fills, filled_law, filled_stops, heard_visible, letters_filled, letters_silent, letters_visible, not_silent_heard}
-use Rattle.crib_play.proofs.FilledRecords.{silent_stop, silent_go, acts_visible, acts_silent, moves_visible, moves_silent}
+use Rattle.crib_play.proofs.FilledRecords.{silent_keeps, silent_stop, acts_visible, acts_silent, moves_visible, moves_silent}
 
 -- ---- a record with its silent gos is legal
 module _ (start : Start) (past : List Move) (s : is_silent_next start (letters_of past) ≡ true) where
@@ -28,19 +29,15 @@ module _ (start : Start) (past : List Move) (s : is_silent_next start (letters_o
 
 pub legal_gos : (n : ℕ) (start : Start) (hands : Hands) (past : List Move) → IsDealt hands → IsLegal start hands past →
     IsLegal start hands (with_silent_moves n start past)
-legal_gos zero start hands past dealt legal = legal
-legal_gos (suc n) start hands past dealt legal =
-    let L : List Move → Type 0 = λ moves. IsLegal start hands moves in
-    elim (cases_Bool (is_silent_next start (letters_of past))) [
-      | inl s ↦
-          let may : MayCome start hands move.Go past = record {
-            not_done = silent_not_done start past s;
-            may_take = none_unheard start hands past (play_of start hands dealt past legal) (mover (pone_of start) (letters_of past))
-                (silent_unheard start past s);
-          } in
-          subst L (sym (silent_go n start past s)) (legal_gos n start hands (move.Go ∷ past) dealt (legal, may))
-      | inr s ↦ subst L (sym (silent_stop (suc n) start past s)) legal
-    ]
+legal_gos n start hands past dealt legal =
+    silent_keeps (λ moves. IsLegal start hands moves) start
+    (λ more s holds. (
+      holds,
+      record {
+        not_done = silent_not_done start more s;
+        may_take = none_unheard start hands more (play_of start hands dealt more holds) (mover (pone_of start) (letters_of more)) (silent_unheard start more s);
+      },
+    )) n past legal
 
 pub legal_filled : (start : Start) (hands : Hands) (seen : List Move) → IsDealt hands → AreLegal start hands seen →
     IsLegal start hands (filled_moves start seen)
@@ -50,24 +47,15 @@ legal_filled start hands (turn ∷ seen) dealt are =
 
 -- ---- the visible turns of a filled record are those that it was filled from
 acts_gos : (n : ℕ) (start : Start) (past : List Move) → acts_of (pone_of start) (with_silent_moves n start past) ≡ acts_of (pone_of start) past
-acts_gos zero start past = refl
-acts_gos (suc n) start past =
-    elim (cases_Bool (is_silent_next start (letters_of past))) [
-      | inl s ↦
-          ap (acts_of (pone_of start)) (silent_go n start past s)
-          ∙ acts_gos n start (move.Go ∷ past)
-          ∙ acts_silent (pone_of start) move.Go past (silent_unheard start past s)
-      | inr s ↦ ap (acts_of (pone_of start)) (silent_stop (suc n) start past s)
-    ]
+acts_gos n start past = silent_keeps (λ more. acts_of (pone_of start) more ≡ acts_of (pone_of start) past) start
+    (λ more s same. acts_silent (pone_of start) move.Go more (silent_unheard start more s) ∙ same) n past refl
 
 -- where no silent go follows and the deal is not done, the player to move is heard
 pub heard_next : (start : Start) (past : Record) → is_silent_next start past ≡ false → is_done start past ≡ false →
     is_heard (pone_of start) (mover (pone_of start) past) past ≡ true
 heard_next start past s d =
-    elim (and_cases (not (is_heard (pone_of start) (mover (pone_of start) past) past)) (not (is_done start past)) s) [
-      | inl h ↦ not-false (is_heard (pone_of start) (mover (pone_of start) past) past) h
-      | inr e ↦ absurd (both_ways (is_done start past) d (not-false (is_done start past) e))
-    ]
+    let heard = is_heard (pone_of start) (mover (pone_of start) past) past in
+    not-false heard (sym (and-true (not heard)) ∙ (rw d at s))
 
 pub visible_heard : (start : Start) (turn : Move) (past : Record) → is_heard (pone_of start) (mover (pone_of start) past) past ≡ true →
     is_visible (pone_of start) (letter_of turn) past ≡ true
@@ -77,8 +65,7 @@ visible_heard start move.Go past h = h
 taken_before : (start : Start) (hands : Hands) (seen : List Move) → IsStart start → IsDealt hands → AreLegal start hands seen →
     visible_moves (pone_of start) (filled_moves start seen) ≡ seen → AreTaken start (letters_of seen)
 taken_before start hands seen is dealt are same =
-    let T : List Move → Type 0 = λ moves. AreTaken start (letters_of moves) in
-    subst T same (fills start hands (filled_moves start seen) is dealt (legal_filled start hands seen dealt are)).taken
+    rw same at ((fills start hands (filled_moves start seen) is dealt (legal_filled start hands seen dealt are)).taken)
 
 -- a turn that may come after a filled record is visible
 visible_come : (start : Start) (hands : Hands) (turn : Move) (seen : List Move) → IsStart start → AreTaken start (letters_of seen) →
@@ -130,13 +117,10 @@ pub visible_legal : (start : Start) (hands : Hands) (played : List Move) → IsS
 visible_legal start hands [] is dealt legal = tt
 visible_legal start hands (turn ∷ past) is dealt legal =
     let pone = pone_of start in
-    let A : List Move → Type 0 = λ moves. AreLegal start hands moves in
-    let C : List Move → Type 0 = λ moves. MayCome start hands turn moves in
     elim (cases_Bool (is_visible pone (letter_of turn) (letters_of past))) [
-      | inl v ↦
-          subst A (sym (moves_visible pone turn past v))
-          (visible_legal start hands past is dealt legal.0, subst C (sym (filled_before start hands turn past is dealt legal.0 legal.1 v)) legal.1)
-      | inr v ↦ subst A (sym (moves_silent pone turn past v)) (visible_legal start hands past is dealt legal.0)
+      | inl v ↦ rw (moves_visible pone turn past v)
+          (visible_legal start hands past is dealt legal.0, rw (filled_before start hands turn past is dealt legal.0 legal.1 v) legal.1)
+      | inr v ↦ rw (moves_silent pone turn past v) (visible_legal start hands past is dealt legal.0)
     ]
 
 -- ---- records with the same visible turns

@@ -1,8 +1,10 @@
 -- Bounds on legal records: at most three gos follow a card, and there are at most 29 turns.
-use Rattle.std.proofs.Common.{◌≡◌, ℕ, ◌+◌, ◌-◌, ◌*◌, ◌≤◌, Bool, true, false, cond, eqb, leb, List, [], ◌∷◌, length, length-append, refl, sym, ap, subst, ◌∙◌}
-use Rattle.std.proofs.Common.{inl, inr, arith}
+use Rattle.std.proofs.Common.{◌≡◌, ℕ, ◌+◌, ◌-◌, ◌*◌, ◌≤◌, Bool, true, false, cond, not, ◌&&◌, eqb, List, [], ◌∷◌, length, length-append, refl}
+use Rattle.std.proofs.Common.{sym, ap, subst, ◌∙◌, inl, inr, arith}
 use Rattle.std.specs.List.{list_any}
-use Rattle.std.proofs.lemmas.Bool.{cases_Bool, and_left, and_from, or_parts, both_ways, cases_lt, false≢true, true≢false, le-leb, eqb-false}
+use Rattle.std.proofs.lemmas.Bool.Decides.{nat_tests}
+use Rattle.std.proofs.Math.Bool.{and-true, and-false}
+use Rattle.std.proofs.lemmas.Bool.{cases_Bool, or_parts, both_ways, cases_lt, false≢true, true≢false, le-leb, eqb-false}
 use Rattle.crib_cards.specs.Cards.{rank_of, card_value}
 use Rattle.crib_cards.specs.Sides.{other_side, same_side, are_decided}
 use Rattle.crib_cards.specs.Start.{Start, pone_of, Hands}
@@ -12,7 +14,7 @@ use Rattle.crib_cards.specs.declared.letters.Letter.{Letter}
 use Rattle.crib_cards.specs.declared.letters.Letter.TheVariants.{Seen, Go}
 use Rattle.crib_play.specs.Record.{Record, cards_in, count_of, is_begun, sequence_of, pile_of, closes, mover, cards_played, is_heard}
 use Rattle.crib_play.specs.Score.{scores_after, is_done}
-use Rattle.crib_play.proofs.RecordStates.{is_go_first, closes-go}
+use Rattle.crib_play.proofs.RecordStates.{is_go_first, first_card, closes-go}
 use Rattle.crib_play.proofs.SilentGos.{other_twice}
 use Rattle.crib_cards.specs.declared.moves.Move.{Move}
 use Rattle.crib_cards.specs.declared.moves.Move.TheVariants as move
@@ -24,32 +26,23 @@ use Rattle.crib_play.proofs.TurnFacts.{Play, play_of, played_card, played_go, hi
 pub played_both : (pone : Side) (past : Record) → length (cards_in past) ≡ cards_played pone Owner past + cards_played pone Opponent past
 played_both pone [] = omega arith
 played_both pone (Seen rank ∷ past) =
-    length-append (cards_in past) (rank ∷ [])
-    ∙ one_more (mover pone past) (length (cards_in past)) (cards_played pone Owner past) (cards_played pone Opponent past) (played_both pone past)
-    ∙ ap (λ n. n + cond (same_side (mover pone past) Opponent) (cards_played pone Opponent past + 1) (cards_played pone Opponent past))
-    (sym (played_card pone Owner past rank))
-    ∙ ap (λ n. cards_played pone Owner (Seen rank ∷ past) + n) (sym (played_card pone Opponent past rank))
+    rw (played_card pone Owner past rank, played_card pone Opponent past rank, length-append (cards_in past) (rank ∷ []))
+    (one_more (mover pone past) (length (cards_in past)) (cards_played pone Owner past) (cards_played pone Opponent past) (played_both pone past))
   where
     one_more : (m : Side) (k a b : ℕ) → k ≡ a + b → k + 1 ≡ cond (same_side m Owner) (a + 1) a + cond (same_side m Opponent) (b + 1) b
     one_more Owner k a b e = omega arith
     one_more Opponent k a b e = omega arith
-played_both pone (Go ∷ past) =
-    played_both pone past
-    ∙ ap (λ n. n + cards_played pone Opponent past) (sym (played_go pone Owner past))
-    ∙ ap (λ n. cards_played pone Owner (Go ∷ past) + n) (sym (played_go pone Opponent past))
+played_both pone (Go ∷ past) = rw (played_go pone Owner past, played_go pone Opponent past) (played_both pone past)
 
 module _ (start : Start) (hands : Hands) (past : List Move) (p : Play start hands past) where
   -- at most eight cards are played in a legal record
   pub eight_at_most : length (cards_in (letters_of past)) ≤ 8
   eight_at_most = omega (arith, played_both (pone_of start) (letters_of past), p.left Owner, p.left Opponent)
 
-  eight_from : length (cards_left hands Owner past) ≡ 0 → length (cards_left hands Opponent past) ≡ 0 → length (cards_in (letters_of past)) ≡ 8
-  eight_from a b = omega (arith, played_both (pone_of start) (letters_of past), p.left Owner, p.left Opponent)
-
   -- where neither side holds a card, eight are played
   eight_by : (m : Side) → length (cards_left hands m past) ≡ 0 → length (cards_left hands (other_side m) past) ≡ 0 → length (cards_in (letters_of past)) ≡ 8
-  eight_by Owner a b = eight_from a b
-  eight_by Opponent a b = eight_from b a
+  eight_by Owner a b = omega (arith, played_both (pone_of start) (letters_of past), p.left Owner, p.left Opponent)
+  eight_by Opponent a b = omega (arith, played_both (pone_of start) (letters_of past), p.left Owner, p.left Opponent)
 
 pub not_eight : (start : Start) (past : Record) → is_done start past ≡ false → length (cards_in past) ≡ 8 → ⊥
 not_eight start past d e =
@@ -61,9 +54,7 @@ none_begun [] e = refl
 none_begun (rank ∷ pile) e = absurd (true≢false e)
 
 all_fit : (past : List Move) → is_begun (pile_of (letters_of past)) ≡ false → (card : ℕ) → fits past card ≡ true
-all_fit past e card =
-    ap (λ (pile : List ℕ). leb (count_of pile + card_value card) 31) (none_begun (pile_of (letters_of past)) e)
-    ∙ le-leb (0 + card_value card) 31 (omega arith)
+all_fit past e card = rw (none_begun (pile_of (letters_of past)) e) (le-leb (0 + card_value card) 31 (omega arith))
 
 none_where_all : (f : ℕ → Bool) → ((x : ℕ) → f x ≡ true) → (xs : List ℕ) → list_any f xs ≡ false → length xs ≡ 0
 none_where_all f all [] e = refl
@@ -82,24 +73,40 @@ no_first_go start hands dealt may =
     absurd (omega (arith, total, none))
 
 -- ---- the gos after a card
+-- how many gos at most follow the last card, by whether the last turn is a go in this count and whether the pile has a card. A pile that has a card has at most
+-- one go over it, as the last turn. Two gos close a pile, and a third one follows only where its player has no card left
+abbrev most_gos : Bool → Bool → ℕ
+most_gos went begun = cond begun (cond went 1 0) (cond went 3 2)
+
+most_three : (went begun : Bool) → most_gos went begun ≤ 3
+most_three went begun = grind (arith, nat_tests)
+
+-- one go more closes the pile if it is the second one over it
+most_more : (went begun : Bool) (n : ℕ) → (went ≡ true → begun ≡ true) → n ≤ most_gos went begun →
+    n + 1 ≤ most_gos (not (went && begun)) (begun && not (went && begun))
+most_more true true n on few = omega arith
+most_more true false n on few = absurd (false≢true (on refl))
+most_more false true n on few = omega arith
+most_more false false n on few = omega arith
+
+go_first : (c : Bool) (recent : List Letter) → is_go_first (cond c [] (Go ∷ recent)) ≡ not c
+go_first c recent = grind (arith, nat_tests)
+
+go_begun : (c : Bool) (recent : List Letter) → is_begun (cards_in (cond c [] (Go ∷ recent))) ≡ (is_begun (cards_in recent) && not c)
+go_begun true recent = sym (and-false (is_begun (cards_in recent)))
+go_begun false recent = sym (and-true (is_begun (cards_in recent)))
+
 pub record Bounds (start : Start) (hands : Hands) (past : List Move) : Type 0 where
-  -- a pile that has a card has at most one go over it, as the last turn
-  pub none_yet : is_begun (pile_of (letters_of past)) ≡ true → is_go_first (sequence_of (letters_of past)) ≡ false → gos_since (letters_of past) ≡ 0
-  pub one : is_begun (pile_of (letters_of past)) ≡ true → gos_since (letters_of past) ≤ 1
-  -- two gos close a pile, and a third one follows only where its player has no card left
-  pub two : is_go_first (sequence_of (letters_of past)) ≡ false → gos_since (letters_of past) ≤ 2
-  pub three : gos_since (letters_of past) ≤ 3
+  pub gos : gos_since (letters_of past) ≤ most_gos (is_go_first (sequence_of (letters_of past))) (is_begun (pile_of (letters_of past)))
   pub out : is_begun (pile_of (letters_of past)) ≡ false → is_go_first (sequence_of (letters_of past)) ≡ true →
       length (cards_left hands (other_side (mover (pone_of start) (letters_of past))) past) ≡ 0
   pub first : length (cards_in (letters_of past)) ≡ 0 → past ≡ []
   pub long : length past + 3 ≤ 4 * length (cards_in (letters_of past)) + gos_since (letters_of past) + 3 * (1 - length (cards_in (letters_of past)))
 
-card_first : (past : Record) (rank : ℕ) → is_go_first (sequence_of (Seen rank ∷ past)) ≡ false
-card_first past rank = step (closes (Seen rank) past)
-  where
-    step : (b : Bool) → is_go_first (cond b [] (Seen rank ∷ sequence_of past)) ≡ false
-    step true = refl
-    step false = refl
+at_most_three : (start : Start) (hands : Hands) (past : List Move) → Bounds start hands past → gos_since (letters_of past) ≤ 3
+at_most_three start hands past b =
+    let few = b.gos in
+    omega (arith, few, most_three (is_go_first (sequence_of (letters_of past))) (is_begun (pile_of (letters_of past))))
 
 long_card : (n k more g : ℕ) → more ≡ k + 1 → g ≤ 3 → n + 3 ≤ 4 * k + g + 3 * (1 - k) → (k ≡ 0 → n ≡ 0) → n + 1 + 3 ≤ 4 * more + 0 + 3 * (1 - more)
 long_card n k more g e three long none =
@@ -114,13 +121,12 @@ bounds_card start hands past card b =
     length-append (cards_in (letters_of past)) (rank_of card ∷ []) in
     let empty : length (cards_in (letters_of past)) ≡ 0 → length past ≡ 0 = λ e. ap (λ (moves : List Move). length moves) (b.first e) in
     let long = long_card (length past) (length (cards_in (letters_of past))) (length (cards_in (letters_of (move.Card card ∷ past))))
-    (gos_since (letters_of past)) number b.three b.long empty in
+    (gos_since (letters_of past)) number (at_most_three start hands past b) b.long empty in
     record {
-      none_yet = λ _ _. refl;
-      one = λ _. omega arith;
-      two = λ _. omega arith;
-      three = omega arith;
-      out = λ _ e. absurd (both_ways (is_go_first (sequence_of (letters_of (move.Card card ∷ past)))) (card_first (letters_of past) (rank_of card)) e);
+      gos = omega arith;
+      out = λ _ e. absurd
+          (both_ways (is_go_first (sequence_of (letters_of (move.Card card ∷ past))))
+          (first_card (closes (Seen (rank_of card)) (letters_of past)) (rank_of card) (sequence_of (letters_of past))) e);
       first = λ e. absurd (omega (arith, number, e));
       long = omega (arith, long);
     }
@@ -136,81 +142,30 @@ module _ (start : Start) (hands : Hands) (dealt : IsDealt hands) (past : List Mo
   never_first : length (cards_in (letters_of past)) ≡ 0 → ⊥
   never_first e = let C : List Move → Type 0 = λ moves. MayCome start hands move.Go moves in no_first_go start hands dealt (subst C (b.first e) may)
 
-  go_long : length (move.Go ∷ past) + 3 ≤ 4 * length (cards_in (letters_of past)) + (gos_since (letters_of past) + 1) + 3 *
-      (1 - length (cards_in (letters_of past)))
-  go_long = let long = b.long in omega (arith, long)
-
-  -- the second go over a pile
-  bounds_closing : is_go_first recent ≡ true → begun ≡ true → Bounds start hands (move.Go ∷ past)
-  bounds_closing went on =
-      let c : closes Go (letters_of past) ≡ true = closes-go start (letters_of past) ∙ and_from (is_go_first recent) begun went on in
-      let empty : is_begun (pile_of (Go ∷ letters_of past)) ≡ false = ap (λ (x : Bool). is_begun (cards_in (cond x [] (Go ∷ recent)))) c in
-      let one = b.one on in
-      record {
-        none_yet = λ e _. absurd (both_ways (is_begun (pile_of (Go ∷ letters_of past))) empty e);
-        one = λ e. absurd (both_ways (is_begun (pile_of (Go ∷ letters_of past))) empty e);
-        two = λ _. omega (arith, one);
-        three = omega (arith, one);
-        out = λ _ e. absurd (both_ways (is_go_first (sequence_of (Go ∷ letters_of past))) (ap (λ (x : Bool). is_go_first (cond x [] (Go ∷ recent))) c) e);
-        first = λ e. absurd (never_first e);
-        long = go_long;
-      }
-
-  module _ (c : closes Go (letters_of past) ≡ false) where
-    went : is_go_first (sequence_of (Go ∷ letters_of past)) ≡ true
-    went = ap (λ (x : Bool). is_go_first (cond x [] (Go ∷ recent))) c
-
-    same_pile : is_begun (pile_of (Go ∷ letters_of past)) ≡ begun
-    same_pile = ap (λ (x : Bool). is_begun (cards_in (cond x [] (Go ∷ recent)))) c
-
-    not_first : is_go_first (sequence_of (Go ∷ letters_of past)) ≡ false → ⊥
-    not_first e = both_ways (is_go_first (sequence_of (Go ∷ letters_of past))) e went
-
-    -- the first go over a pile
-    bounds_open : is_go_first recent ≡ false → begun ≡ true → Bounds start hands (move.Go ∷ past)
-    bounds_open stayed on =
-        let none = b.none_yet on stayed in
-        record {
-          none_yet = λ _ e. absurd (not_first e);
-          one = λ _. omega (arith, none);
-          two = λ e. absurd (not_first e);
-          three = omega (arith, none);
-          out = λ e _. absurd (both_ways (is_begun (pile_of (Go ∷ letters_of past))) e (same_pile ∙ on));
-          first = λ e. absurd (never_first e);
-          long = go_long;
-        }
-
-    -- a go over an empty pile
-    bounds_empty : is_go_first recent ≡ false → begun ≡ false → Bounds start hands (move.Go ∷ past)
-    bounds_empty stayed off =
-        let two = b.two stayed in
-        record {
-          none_yet = λ _ e. absurd (not_first e);
-          one = λ e. absurd (both_ways (is_begun (pile_of (Go ∷ letters_of past))) (same_pile ∙ off) e);
-          two = λ e. absurd (not_first e);
-          three = omega (arith, two);
-          out = λ _ _.
-              ap (λ (side : Side). length (cards_left hands side past)) (other_twice (mover (pone_of start) (letters_of past)))
-              ∙ out_of_cards hands (mover (pone_of start) (letters_of past)) past off may.may_take;
-          first = λ e. absurd (never_first e);
-          long = go_long;
-        }
-
   -- there is no second go over an empty pile
-  never_twice : is_go_first recent ≡ true → begun ≡ false → ⊥
-  never_twice went off =
-      not_eight start (letters_of past) may.not_done
-      (eight_by start hands past p (mover (pone_of start) (letters_of past))
-      (out_of_cards hands (mover (pone_of start) (letters_of past)) past off may.may_take) (b.out off went))
+  never_twice : is_go_first recent ≡ true → begun ≡ true
+  never_twice went =
+      elim (cases_Bool begun) [
+        | inl on ↦ on
+        | inr off ↦ absurd
+            (not_eight start (letters_of past) may.not_done
+            (eight_by start hands past p (mover (pone_of start) (letters_of past))
+            (out_of_cards hands (mover (pone_of start) (letters_of past)) past off may.may_take) (b.out off went)))
+      ]
 
   bounds_go : Bounds start hands (move.Go ∷ past)
-  bounds_go =
-      elim (cases_Bool (is_go_first recent)) [
-        | inl went ↦ elim (cases_Bool begun) [ inl on ↦ bounds_closing went on | inr off ↦ absurd (never_twice went off) ]
-        | inr stayed ↦
-            let c : closes Go (letters_of past) ≡ false = closes-go start (letters_of past) ∙ and_left (is_go_first recent) begun stayed in
-            elim (cases_Bool begun) [ inl on ↦ bounds_open c stayed on | inr off ↦ bounds_empty c stayed off ]
-      ]
+  bounds_go = record {
+    gos = rw (go_first (closes Go (letters_of past)) recent, go_begun (closes Go (letters_of past)) recent, closes-go start (letters_of past))
+        (most_more (is_go_first recent) begun (gos_since (letters_of past)) never_twice b.gos);
+    out = λ off went. elim (cases_Bool (closes Go (letters_of past))) [
+      | inl shut ↦ absurd (false≢true (rw shut at went))
+      | inr open_now ↦
+          ap (λ (side : Side). length (cards_left hands side past)) (other_twice (mover (pone_of start) (letters_of past)))
+          ∙ out_of_cards hands (mover (pone_of start) (letters_of past)) past (rw open_now at off) may.may_take
+    ];
+    first = λ e. absurd (never_first e);
+    long = (let long = b.long in omega (arith, long));
+  }
 
 bounds_turn : (start : Start) (hands : Hands) → IsDealt hands → (turn : Move) (past : List Move) → Play start hands past → MayCome start hands turn past →
     Bounds start hands past → Bounds start hands (turn ∷ past)
@@ -218,15 +173,7 @@ bounds_turn start hands dealt (move.Card card) past p may b = bounds_card start 
 bounds_turn start hands dealt move.Go past p may b = bounds_go start hands dealt past p may b
 
 bounds_start : (start : Start) (hands : Hands) → Bounds start hands []
-bounds_start start hands = record {
-  none_yet = λ _ _. refl;
-  one = λ _. omega arith;
-  two = λ _. omega arith;
-  three = omega arith;
-  out = λ _ e. absurd (false≢true e);
-  first = λ _. refl;
-  long = omega arith;
-}
+bounds_start start hands = record { gos = omega arith; out = λ _ e. absurd (false≢true e); first = λ _. refl; long = omega arith }
 
 pub bounds_of : (start : Start) (hands : Hands) → IsDealt hands → (past : List Move) → IsLegal start hands past → Bounds start hands past
 bounds_of start hands dealt [] legal = bounds_start start hands
@@ -235,7 +182,7 @@ bounds_of start hands dealt (turn ∷ past) legal =
 
 -- ---- the laws
 pub three_gos : (start : Start) (hands : Hands) (played : List Move) → IsDealt hands → IsLegal start hands played → gos_since (letters_of played) ≤ 3
-three_gos start hands played dealt legal = (bounds_of start hands dealt played legal).three
+three_gos start hands played dealt legal = at_most_three start hands played (bounds_of start hands dealt played legal)
 
 pub no_first_turn : (start : Start) (hands : Hands) (played : List Move) → IsDealt hands → IsLegal start hands played →
     length (cards_in (letters_of played)) ≡ 0 → played ≡ []
@@ -251,7 +198,7 @@ long_turn start hands (move.Card card) past p may b =
     omega (arith, long, eight, number)
 long_turn start hands move.Go past p may b =
     let long = b.long in
-    let three = b.three in
+    let three = at_most_three start hands (move.Go ∷ past) b in
     let eight = eight_at_most start hands (move.Go ∷ past) p in
     let less : length (cards_in (letters_of past)) ≡ 8 → ⊥ = not_eight start (letters_of past) may.not_done in
     omega (arith, long, three, eight, less)

@@ -1,18 +1,16 @@
 -- Choices of cards that give no deal: a hold with too few points, and one with too many or too few cards of a rank.
-use Rattle.std.proofs.Common.{◌≡◌, ℕ, zero, suc, ◌+◌, ◌<◌, ◌≤◌, Bool, true, false, cond, eqb, List, [], ◌∷◌, ◌++◌, map, Some, None, refl, sym, ap, ◌∙◌}
+use Rattle.std.proofs.Common.{◌≡◌, ℕ, zero, suc, ◌+◌, ◌<◌, ◌≤◌, Bool, true, false, cond, eqb, List, [], ◌∷◌, ◌++◌, map, None, refl, sym, ap, ◌∙◌}
 use Rattle.std.proofs.Common.{inl, inr, arith}
 use Rattle.std.specs.Prelude.{Option}
-use Rattle.std.specs.List.{list_all}
 use Rattle.std.specs.Option.{option_or}
-use Rattle.std.specs.Str.{bytes_eq}
 use Rattle.std.proofs.lemmas.Bool.{cases_Bool, and_left, and_parts, cond-true, cond-false, eq-eqb}
 use Rattle.std.proofs.lemmas.Slice.Eq.{bytes_eq-Decides}
 use Rattle.crib_cards.specs.Cards.{IsRank, rank_of}
-use Rattle.crib_cards.specs.Sets.{has, rank_counts, count_at, count_rank, set_without_all}
+use Rattle.crib_cards.specs.Sets.{rank_counts, count_at, count_rank, set_without_all}
 use Rattle.crib_cards.specs.declared.sides.Dealt.{Dealt}
 use Rattle.crib_cards.proofs.CountLemmas.{count_at-rank_counts}
 use Rattle.crib_cards.proofs.SetCounts.{count_cons, count_append}
-use Rattle.crib_show.specs.Private.Listing.{any_card, first_choice, first_throw, may_accept, may_be_held, may_hold, passes, points_pass, try_hold, try_throw}
+use Rattle.crib_show.specs.Private.Listing.{any_card, first_choice, first_throw, may_accept, may_be_held, may_hold, points_pass, try_hold, try_throw}
 use Rattle.crib_show.specs.Show.{crib_points, hand_points}
 use Rattle.crib_show.specs.declared.deals.WorstShow.{WorstShow}
 use Rattle.crib_show.specs.declared.worst.listing.Test.{Test}
@@ -48,26 +46,25 @@ module _ (worst : WorstShow) (test : Test) where
 
   no_throw : (hold cards : List ℕ) → may_accept test (hand_points hold worst.starter) ≡ false → first_throw worst test hold cards ≡ None
   no_throw hold cards low = none_given (try_throw worst test hold) any_card (λ taken others. Unit {0})
-      (λ taken others dead. cond-false (passes worst test (record { hold = hold; throw = taken })) (Some (record { hold = hold; throw = taken })) None
-      (refused test (hand_points hold worst.starter) (crib_points (worst.own_throw ++ taken) worst.starter) low))
+      (λ taken others dead. cond-false _ _ _ (refused test (hand_points hold worst.starter) (crib_points (worst.own_throw ++ taken) worst.starter) low))
       (λ taken others card dead. tt) (λ taken others card dead. tt) [] 2 cards tt
 
   pub low_hand : (hold : List ℕ) → may_hold worst hold ≡ true → may_accept test (hand_points hold worst.starter) ≡ false → try_hold worst test hold ≡ None
-  low_hand hold may low = cond-true (may_hold worst hold) (first_throw worst test hold (set_without_all worst.unseen hold)) None may
+  low_hand hold may low = cond-true _ _ _ may
       ∙ no_throw hold (set_without_all worst.unseen hold) low
 
   -- ---- a hold with too many or too few cards of a rank
   module _ (rank : ℕ) (is : IsRank rank) where
     as_many : (hold : List ℕ) → may_hold worst hold ≡ true → count_rank rank hold ≡ count_at worst.ranks rank
     as_many hold may =
-        let parts = and_parts (bytes_eq (rank_counts (map rank_of hold)) worst.ranks) (list_all (has hold) worst.fixed) may in
+        let parts = and_parts _ _ may in
         sym (count_at-rank_counts (map rank_of hold) rank is ∙ count_map rank hold)
         ∙ ap (λ counts. count_at counts rank) ((bytes_eq-Decides (rank_counts (map rank_of hold)) worst.ranks).0 parts.0)
 
     not_as_many : (hold : List ℕ) → (count_rank rank hold ≡ count_at worst.ranks rank → ⊥) → try_hold worst test hold ≡ None
     not_as_many hold apart = elim (cases_Bool (may_hold worst hold)) [
       | inl may ↦ absurd (apart (as_many hold may))
-      | inr out ↦ cond-false (may_hold worst hold) (first_throw worst test hold (set_without_all worst.unseen hold)) None out
+      | inr out ↦ cond-false _ _ _ out
     ]
 
     abbrev of_rank : ℕ → Bool

@@ -17,24 +17,18 @@ use Rattle.crib_show.specs.declared.deals.WorstShow.{WorstShow}
 use Rattle.crib_show.specs.declared.worst.extremes.Extremes.{Extremes}
 
 -- ---- two shows with the same cards
+agrees_there : (starter : ℕ) (throw unseen fixed : List ℕ) (one other : WorstShow) → HasCards starter throw unseen fixed one →
+    HasCards starter throw unseen fixed other → one.ranks ≡ other.ranks → (dealt : Dealt) → AgreesInShow one dealt → AgreesInShow other dealt
+agrees_there starter throw unseen fixed one other here there same dealt agrees = record {
+  deal = subst (λ cards. IsDeal cards dealt) (here.unseen_is ∙ sym there.unseen_is) agrees.deal;
+  ranks_held = agrees.ranks_held ∙ same;
+  fixed_held = subst (λ cards. IsTrue (list_all (has dealt.hold) cards)) (here.fixed_is ∙ sym there.fixed_is) agrees.fixed_held;
+}
+
 module _ (starter : ℕ) (throw unseen fixed : List ℕ) (worst other : WorstShow) (here : HasCards starter throw unseen fixed worst)
     (there : HasCards starter throw unseen fixed other) (same : worst.ranks ≡ other.ranks) where
   starters : worst.starter ≡ other.starter
   starters = here.starter_is ∙ sym there.starter_is
-
-  agrees_there : (dealt : Dealt) → AgreesInShow worst dealt → AgreesInShow other dealt
-  agrees_there dealt agrees = record {
-    deal = subst (λ cards. IsDeal cards dealt) (here.unseen_is ∙ sym there.unseen_is) agrees.deal;
-    ranks_held = agrees.ranks_held ∙ same;
-    fixed_held = subst (λ cards. IsTrue (list_all (has dealt.hold) cards)) (here.fixed_is ∙ sym there.fixed_is) agrees.fixed_held;
-  }
-
-  agrees_here : (dealt : Dealt) → AgreesInShow other dealt → AgreesInShow worst dealt
-  agrees_here dealt agrees = record {
-    deal = subst (λ cards. IsDeal cards dealt) (there.unseen_is ∙ sym here.unseen_is) agrees.deal;
-    ranks_held = agrees.ranks_held ∙ sym same;
-    fixed_held = subst (λ cards. IsTrue (list_all (has dealt.hold) cards)) (there.fixed_is ∙ sym here.fixed_is) agrees.fixed_held;
-  }
 
   hands : (dealt : Dealt) → hidden_hand worst dealt ≡ hidden_hand other dealt
   hands dealt = ap (hand_points dealt.hold) starters
@@ -48,11 +42,12 @@ module _ (starter : ℕ) (throw unseen fixed : List ℕ) (worst other : WorstSho
   -- what some deal has, and what all deals have, is the same there, as far as the points are
   some_there : (f : WorstShow → Dealt → ℕ) → ((dealt : Dealt) → f worst dealt ≡ f other dealt) → (points : ℕ) →
       (dealt : Dealt) × AgreesInShow worst dealt × (f worst dealt ≡ points) → (dealt : Dealt) × AgreesInShow other dealt × (f other dealt ≡ points)
-  some_there f equal points some = (some.0, agrees_there some.0 some.1, sym (equal some.0) ∙ some.2)
+  some_there f equal points some = (some.0, agrees_there starter throw unseen fixed worst other here there same some.0 some.1, sym (equal some.0) ∙ some.2)
 
   all_there : (f : WorstShow → Dealt → ℕ) → ((dealt : Dealt) → f worst dealt ≡ f other dealt) → (P : ℕ → Type 0) →
       ((dealt : Dealt) → AgreesInShow worst dealt → P (f worst dealt)) → (dealt : Dealt) → AgreesInShow other dealt → P (f other dealt)
-  all_there f equal P all dealt agrees = subst P (equal dealt) (all dealt (agrees_here dealt agrees))
+  all_there f equal P all dealt agrees = subst P (equal dealt)
+      (all dealt (agrees_there starter throw unseen fixed other worst there here (sym same) dealt agrees))
 
   kept_there : (kept : Extremes) → AreKept worst kept → AreKept other kept
   kept_there kept is = record {

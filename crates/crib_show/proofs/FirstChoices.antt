@@ -30,7 +30,7 @@ module _ (gives : List ℕ → Option Dealt) (may : ℕ → Bool) (taken : List 
       first_choice gives may (taken ++ card ∷ []) n rest ≡ Some found → first_choice gives may taken (suc n) cards ≡ Some found
   choice_found cards rest card found is may_it gives_it =
       ap (first_choice gives may taken (suc n)) is ∙ first_choice-cons card rest
-      ∙ ap (λ o. option_or o (first_choice gives may taken (suc n) rest)) (cond-true (may card) _ None may_it ∙ gives_it)
+      ∙ ap (λ o. option_or o (first_choice gives may taken (suc n) rest)) (cond-true _ _ _ may_it ∙ gives_it)
 
   pub choice_passed : (cards rest : List ℕ) (card : ℕ) → cards ≡ card ∷ rest → first_choice gives may (taken ++ card ∷ []) n rest ≡ None →
       first_choice gives may taken (suc n) cards ≡ first_choice gives may taken (suc n) rest
@@ -106,9 +106,9 @@ module _ (may : ℕ → Bool) where
   choice_only low cards = record {
     number = refl;
     rises = tt;
-    among = λ x h. absurd (both_ways false refl h);
+    among = λ x h. absurd (both_ways _ refl h);
     each_may =
-        λ x h. absurd (both_ways false refl h);
+        λ x h. absurd (both_ways _ refl h);
   }
 
   pub choice_first : (low n card : ℕ) (cards more : List ℕ) → low ≤ card → may card ≡ true → IsChoice may (card + 1) n cards more →
@@ -216,7 +216,7 @@ module _ (gives : List ℕ → Option Dealt) (may : ℕ → Bool) where
     first_gives taken low zero cards [] rises choice is earlier = subst (λ xs. Q (gives xs)) (append-nil taken) is
     first_gives taken low zero cards (first ∷ more) rises choice is earlier = let number = choice.number in absurd (omega (arith, number))
     first_gives taken low (suc n) cards [] rises choice is earlier = let number = choice.number in absurd (omega (arith, number))
-    first_gives taken low (suc n) [] (first ∷ more) rises choice is earlier = absurd (both_ways false refl (choice.among first (has_here first more)))
+    first_gives taken low (suc n) [] (first ∷ more) rises choice is earlier = absurd (both_ways _ refl (choice.among first (has_here first more)))
     first_gives taken low (suc n) (card ∷ cards) (first ∷ more) rises choice is earlier =
         elim (cases_eq card first) [
           | inl same ↦
@@ -228,7 +228,7 @@ module _ (gives : List ℕ → Option Dealt) (may : ℕ → Bool) where
               (before_rest card other more before)) (ap gives (sym (append_assoc taken (card ∷ []) other)) ∙ gave)) in
               let is_may : may card ≡ true = ap may same ∙ choice.each_may first (has_here first more) in
               option_or_first (cond (may card) (first_choice gives may (taken ++ card ∷ []) n cards) None) (first_choice gives may taken (suc n) cards)
-              (subst Q (sym (cond-true (may card) (first_choice gives may (taken ++ card ∷ []) n cards) None is_may)) with_it)
+              (subst Q (sym (cond-true _ _ _ is_may)) with_it)
           | inr apart ↦
               let beyond = choice_beyond may low n card first cards more rises apart choice in
               option_or_later (cond (may card) (first_choice gives may (taken ++ card ∷ []) n cards) None) (first_choice gives may taken (suc n) cards)

@@ -1,8 +1,9 @@
 -- The points of the fifteens and pairs of some cards, and of the jack among them, count also where other cards are added.
-use Rattle.std.proofs.Common.{ℕ, ◌+◌, ◌*◌, ◌≤◌, Bool, true, false, cond, eqb, ◌&&◌, ◌||◌, List, [], ◌∷◌, ◌++◌, map, sum_by, sym, subst, ◌≡◌, arith}
+use Rattle.std.proofs.Common.{ℕ, ◌+◌, ◌*◌, ◌≤◌, Bool, cond, eqb, ◌&&◌, ◌||◌, List, [], ◌∷◌, ◌++◌, map, sum_by, sym, subst, ◌≡◌, arith}
 use Rattle.std.specs.List.{list_any}
 use Rattle.std.proofs.lemmas.List.{map-append}
 use Rattle.std.proofs.lemmas.List.Folds.{list_any-append}
+use Rattle.std.proofs.lemmas.Bool.Decides.{nat_tests}
 use Rattle.crib_cards.specs.Cards.{jack, rank_of, suit_of}
 use Rattle.crib_show.specs.Show.{choices, crib_flush, crib_points, fifteen_points, is_fifteen, is_pair, jack_points, pair_points, run_points}
 use Rattle.crib_show.proofs.Choices.{sum_by-choices}
@@ -43,8 +44,7 @@ known_in_crib starter throw theirs =
     twice a b less = omega arith
 
     either : (one other : Bool) → cond one 1 0 ≤ cond (one || other) 1 0
-    either true other = omega arith
-    either false other = omega arith
+    either one other = grind (arith, nat_tests)
 
     sums : (f p j fs ps rs flush js : ℕ) → f ≤ fs → p ≤ ps → j ≤ js → f + p + j ≤ fs + ps + rs + flush + js
     sums f p j fs ps rs flush js less_f less_p less_j = omega arith

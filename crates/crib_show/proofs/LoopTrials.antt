@@ -6,7 +6,7 @@ use Rattle.crib_show.specs.declared.deals.WorstShow.{WorstShow}
 use Rattle.crib_show.specs.Show.{plain_of_ranks}
 use Rattle.crib_show.specs.declared.worst.totals.Sought.{Sought}
 use Rattle.crib_show.specs.Private.Totals.{ranks_give}
-use Rattle.crib_show.specs.Private.Extremes.{most_crib_suits, most_suit_points, has_room, no_crib, least_suits, plain_crib, least_of_ranks}
+use Rattle.crib_show.specs.Private.Extremes.{most_crib_suits, most_suit_points, has_room, no_crib, plain_crib, least_of_ranks}
 
 -- the points of the greatest hand of some ranks
 abbrev pub greatest_hand : WorstShow → List ℕ → ℕ
@@ -16,19 +16,20 @@ greatest_hand worst ranks = plain_of_ranks (rank_of worst.starter ∷ ranks) + m
 abbrev pub AreTried : ℕ → ℕ → ℕ → ℕ → Type 0
 AreTried first second p q = (p < first) ⊎ ((p ≡ first) × (q < second))
 
--- the points of the least crib of the pairs of ranks that were tried, the lower rank first
+-- a fact of two ranks holds for all pairs of ranks that were tried, the lower rank first
+pub record HoldsBefore (Fact : ℕ → ℕ → Type 0) (first second : ℕ) : Type 0 where
+  pub each : (p q : ℕ) → IsRank p → IsRank q → p ≤ q → AreTried first second p q → Fact p q
+
+-- the points of the least crib of the pairs of ranks that were tried
 pub record IsLeastBefore (worst : WorstShow) (first second least : ℕ) : Type 0 where
-  pub all : (p q : ℕ) → IsRank p → IsRank q → p ≤ q → AreTried first second p q → least ≤ least_of_ranks worst p q
+  pub all : HoldsBefore (λ p q. least ≤ least_of_ranks worst p q) first second
   pub some : (least ≡ no_crib) ⊎ ((p : ℕ) × (q : ℕ) × IsRank p × IsRank q × (least ≡ least_of_ranks worst p q))
-  pub low : (p q : ℕ) → IsRank p → IsRank q → p ≤ q → AreTried first second p q → IsTrue (has_room worst p q)
-      → least_suits worst p q ≤ 6 → least ≤ 102
 
 -- no pair of ranks that was tried and may be thrown gives more points, with the most of its suits
-pub record IsMostBefore (worst : WorstShow) (first second most : ℕ) : Type 0 where
-  pub all : (p q : ℕ) → IsRank p → IsRank q → p ≤ q → AreTried first second p q → IsTrue (has_room worst p q)
-      → plain_crib worst p q + most_crib_suits worst p q ≤ most
-  pub low : most ≤ 102
+abbrev pub IsMostBefore : WorstShow → ℕ → ℕ → ℕ → Type 0
+IsMostBefore worst first second most =
+    HoldsBefore (λ p q. IsTrue (has_room worst p q) → plain_crib worst p q + most_crib_suits worst p q ≤ most) first second
 
 -- no pair of ranks that was tried gives enough points
-pub record NoneGiveBefore (worst : WorstShow) (sought : Sought) (spare enough first second : ℕ) : Type 0 where
-  pub none : (p q : ℕ) → IsRank p → IsRank q → p ≤ q → AreTried first second p q → IsFalse (ranks_give worst sought spare enough p q)
+abbrev pub NoneGiveBefore : WorstShow → Sought → ℕ → ℕ → ℕ → ℕ → Type 0
+NoneGiveBefore worst sought spare enough first second = HoldsBefore (λ p q. IsFalse (ranks_give worst sought spare enough p q)) first second

@@ -37,8 +37,7 @@ IsAllowed-cards cards are five =
 
 -- which points are possible, case by case
 or-left : (a b : Bool) → a ≡ false → (a || b) ≡ true → b ≡ true
-or-left true b not_a is = absurd cc
-or-left false b not_a is = is
+or-left a b not_a is = grind (arith, nat_tests)
 
 pub allows-alone : (pairs points : ℕ) (with_jack : Bool) → allows pairs with_jack points ≡ true → pairs ≢ 20 → is_possible points ≡ true
 allows-alone pairs points with_jack allowed some = (and_parts _ _ (or-left (eqb pairs 20) _ (ne_eqb pairs 20 some) allowed)).0

@@ -1,8 +1,9 @@
 -- Lists of the same numbers in another order.
-use Rattle.std.proofs.Common.{◌≡◌, ℕ, ◌+◌, suc, min, max, not, ◌&&◌, ◌||◌, eqb, Bool, true, false, cond, List, [], ◌∷◌, length, map, fold, sum_by, count_by}
+use Rattle.std.proofs.Common.{◌≡◌, ℕ, ◌+◌, suc, min, max, not, ◌&&◌, ◌||◌, eqb, Bool, cond, List, [], ◌∷◌, length, map, fold, sum_by, count_by}
 use Rattle.std.proofs.Common.{refl, sym, ap, ◌∙◌, arith}
 use Rattle.std.specs.List.{list_any}
 use Rattle.std.proofs.lemmas.List.Sums.{sum_by-cons}
+use Rattle.std.proofs.lemmas.Bool.Decides.{nat_tests}
 use Rattle.crib_cards.specs.Cards.{ranks}
 use Rattle.crib_cards.specs.Sets.{are_distinct, has, rank_counts}
 use Rattle.crib_cards.specs.Runs.{greatest_rank, least_rank}
@@ -44,9 +45,7 @@ pub rank_counts-reordered : (xs ys : List ℕ) → Reordered xs ys → rank_coun
 rank_counts-reordered xs ys r = λ i. map (λ rank. count_by-reordered (λ other. eqb other rank) xs ys r i) ranks
 
 or-swap : (a b c : Bool) → (a || (b || c)) ≡ (b || (a || c))
-or-swap true true c = refl
-or-swap true false c = refl
-or-swap false b c = refl
+or-swap a b c = grind (arith, nat_tests)
 
 pub list_any-reordered : (p : ℕ → Bool) (xs ys : List ℕ) → Reordered xs ys → list_any p xs ≡ list_any p ys
 list_any-reordered p xs ys nothing = refl
@@ -73,11 +72,7 @@ pub least_rank-reordered : (xs ys : List ℕ) → Reordered xs ys → least_rank
 least_rank-reordered xs ys r = fold-min-reordered 13 xs ys r
 
 distinct_front : (a b c d : Bool) → (not (a || b) && (not c && d)) ≡ (not (a || c) && (not b && d))
-distinct_front true b c d = refl
-distinct_front false true true d = refl
-distinct_front false true false d = refl
-distinct_front false false true d = refl
-distinct_front false false false d = refl
+distinct_front a b c d = grind (arith, nat_tests)
 
 pub are_distinct-reordered : (xs ys : List ℕ) → Reordered xs ys → are_distinct xs ≡ are_distinct ys
 are_distinct-reordered xs ys nothing = refl

@@ -1,8 +1,9 @@
 -- The points that the search finds among the throws are the greatest of the hidden deals that agree.
-use Rattle.std.proofs.Common.{◌≡◌, ◌≢◌, ◌⊎◌, ℕ, ◌+◌, ◌<◌, ◌≤◌, suc, zero, Bool, true, false, not, eqb, leb, ◌&&◌, ◌||◌, List, [], ◌∷◌, refl, sym, ap, ◌∙◌}
+use Rattle.std.proofs.Common.{◌≡◌, ◌≢◌, ◌⊎◌, ℕ, ◌+◌, ◌<◌, ◌≤◌, Bool, true, false, not, eqb, ◌||◌, List, [], ◌∷◌, refl, sym, ap, ◌∙◌}
 use Rattle.std.proofs.Common.{inl, inr, subst, arith}
-use Rattle.std.proofs.lemmas.Bool.{cases_Bool, cases_lt, and_parts, and_from, or_cases, or_left, or_right, both_ways, not-true, eqb-false, ne_eqb}
+use Rattle.std.proofs.lemmas.Bool.{cases_lt, false_from_ne_true, and_parts, and_from, both_ways, not-true, eqb-false, ne_eqb}
 use Rattle.std.proofs.lemmas.Bool.{le-leb, leb-true}
+use Rattle.std.proofs.lemmas.Bool.Decides.{nat_tests}
 use Rattle.std.proofs.Math.Nat.{le_trans}
 use Rattle.crib_cards.specs.Cards.{IsRank, card_of, rank_of, suit_of}
 use Rattle.crib_cards.specs.Sets.{has, set_without, IsCardSet}
@@ -10,39 +11,27 @@ use Rattle.crib_cards.specs.declared.sides.Dealt.{Dealt}
 use Rattle.crib_cards.proofs.LowestCard.{in_set}
 use Rattle.crib_cards.proofs.Members.{has_here, has_there}
 use Rattle.crib_cards.proofs.SetFacts.{IsCardSet-set_without, has-set_without}
-use Rattle.crib_show.specs.Private.Extremes.{crib_suit_points, crib_with, has_room, is_free, most_crib_suits, most_suit_points, plain_crib, ranks_from}
+use Rattle.crib_show.specs.Private.Extremes.{crib_suit_points, crib_with, most_crib_suits, most_suit_points, plain_crib, ranks_from}
 use Rattle.crib_show.specs.Private.Extremes.{suit_points}
-use Rattle.crib_show.specs.Private.Totals.{NoneGive, SomeGive, card_gives, ranks_give, sought_points, throw_gives, without_throw}
+use Rattle.crib_show.specs.Private.Totals.{NoneGive, SomeGive, card_gives, sought_points, throw_gives, without_throw}
 use Rattle.crib_show.specs.Show.{crib_points, plain_of_ranks}
-use Rattle.crib_show.specs.Worst.{AgreesInShow, ArePlain, HasDeal, IsGreatestCrib, IsGreatestTotal, hidden_crib, hidden_hand, hidden_total}
+use Rattle.crib_show.specs.Worst.{AgreesInShow, HasDeal, IsGreatestCrib, IsGreatestTotal, hidden_crib, hidden_hand, hidden_total}
 use Rattle.crib_show.specs.declared.deals.WorstShow.{WorstShow}
 use Rattle.crib_show.specs.declared.worst.totals.Sought.{Sought}
 use Rattle.crib_show.specs.declared.worst.totals.Sought.TheVariants.{Crib, CribAndHand}
 use Rattle.crib_show.proofs.CribLemmas.{deal_with, ordered, suits_most, throw_beside}
 use Rattle.crib_show.proofs.Exchange.{IsHold, deal_of, held_in, hold_of, throw_of}
 use Rattle.crib_show.proofs.HandLemmas.{most_held, no_more, value}
-use Rattle.crib_show.proofs.Throws.{MayThrow, may_throw, crib_of_ranks, few_suits}
+use Rattle.crib_show.proofs.Throws.{MayThrow, may_throw, crib_of_ranks}
 use Rattle.crib_show.proofs.PairTrials.{at_most, card_back, rank_back}
 
 -- ---- one of four suits
 
 four_any : (f : ℕ → Bool) → (f 0 || f 1 || f 2 || f 3) ≡ true → (suit : ℕ) × (suit < 4) × (f suit ≡ true)
-four_any f any =
-    elim (or_cases (f 0 || f 1 || f 2) (f 3) any) [
-      | inr last ↦ (3, omega arith, last)
-      | inl three ↦
-          elim (or_cases (f 0 || f 1) (f 2) three) [
-            | inr third ↦ (2, omega arith, third)
-            | inl two ↦ elim (or_cases (f 0) (f 1) two) [ inl first ↦ (0, omega arith, first) | inr second ↦ (1, omega arith, second) ]
-          ]
-    ]
+four_any f any = search (arith, nat_tests)
 
 four_from : (f : ℕ → Bool) (suit : ℕ) → suit < 4 → f suit ≡ true → (f 0 || f 1 || f 2 || f 3) ≡ true
-four_from f zero small is = or_left (f 0 || f 1 || f 2) (f 3) (or_left (f 0 || f 1) (f 2) (or_left (f 0) (f 1) is))
-four_from f (suc zero) small is = or_left (f 0 || f 1 || f 2) (f 3) (or_left (f 0 || f 1) (f 2) (or_right (f 0) (f 1) is))
-four_from f (suc (suc zero)) small is = or_left (f 0 || f 1 || f 2) (f 3) (or_right (f 0 || f 1) (f 2) is)
-four_from f (suc (suc (suc zero))) small is = or_right (f 0 || f 1 || f 2) (f 3) is
-four_from f (suc (suc (suc (suc n)))) small is = absurd (omega arith)
+four_from f suit small is = grind (arith, nat_tests)
 
 module _ (worst : WorstShow) where
   -- ---- two cards that give enough
@@ -58,21 +47,17 @@ module _ (worst : WorstShow) where
       let q = give.1 in
       let range_p = give.2 in
       let range_q = give.3 in
-      let outer = and_parts (leb enough (plain_crib worst p q + most_crib_suits worst p q + spare) && has_room worst p q)
-      (card_gives worst sought enough (card_of p 0) q
-      || card_gives worst sought enough (card_of p 1) q || card_gives worst sought enough (card_of p 2) q || card_gives worst sought enough (card_of p 3) q)
-      give.4 in
-      let room = (and_parts (leb enough (plain_crib worst p q + most_crib_suits worst p q + spare)) (has_room worst p q) outer.0).1 in
+      let outer = and_parts _ _ give.4 in
+      let room = (and_parts _ _ outer.0).1 in
       let first = four_any (λ s. card_gives worst sought enough (card_of p s) q) outer.1 in
       let x = card_of p first.0 in
-      let with_first = and_parts (is_free worst x) (throw_gives worst sought enough x (card_of q 0) || throw_gives worst sought enough x (card_of q 1)
-      || throw_gives worst sought enough x (card_of q 2) || throw_gives worst sought enough x (card_of q 3)) first.2 in
+      let with_first = and_parts _ _ first.2 in
       let second = four_any (λ t. throw_gives worst sought enough x (card_of q t)) with_first.1 in
       let y = card_of q second.0 in
       let rank_x : rank_of x ≡ p = rank_back p first.0 first.1 range_p.0 in
       let rank_y : rank_of y ≡ q = rank_back q second.0 second.1 range_q.0 in
-      let both = and_parts (is_free worst y && not (eqb x y)) (leb enough (sought_points worst sought x y)) second.2 in
-      let free = and_parts (is_free worst y) (not (eqb x y)) both.0 in
+      let both = and_parts _ _ second.2 in
+      let free = and_parts _ _ both.0 in
       record {
         x = x;
         y = y;
@@ -91,23 +76,14 @@ module _ (worst : WorstShow) where
       elim (cases_lt (sought_points worst sought x y) enough) [
         | inl less ↦ less
         | inr reached ↦
-            let here : throw_gives worst sought enough x y ≡ true = and_from (is_free worst y && not (eqb x y)) (leb enough (sought_points worst sought x y))
-            (and_from (is_free worst y) (not (eqb x y)) may.second_free (ap not (ne_eqb x y may.apart)))
+            let here : throw_gives worst sought enough x y ≡ true = and_from _ _ (and_from _ _ may.second_free (ap not (ne_eqb x y may.apart)))
             (le-leb enough (sought_points worst sought x y) reached) in
-            let with_x : card_gives worst sought enough x q ≡ true = and_from (is_free worst x) (throw_gives worst sought enough x (card_of q 0)
-            || throw_gives worst sought enough x (card_of q 1) || throw_gives worst sought enough x (card_of q 2)
-            || throw_gives worst sought enough x (card_of q 3)) may.first_free
+            let with_x : card_gives worst sought enough x q ≡ true = and_from _ _ may.first_free
             (four_from (λ t. throw_gives worst sought enough x (card_of q t)) (suit_of y) (omega arith)
             (ap (throw_gives worst sought enough x) (card_back y) ∙ here)) in
-            absurd (both_ways (ranks_give worst sought spare enough p q) (none p q range_x range_y order)
-            (and_from (leb enough (plain_crib worst p q + most_crib_suits worst p q + spare) && has_room worst p q)
-            (card_gives worst sought enough (card_of p 0) q
-            || card_gives worst sought enough (card_of p 1) q || card_gives worst sought enough (card_of p 2) q
-            || card_gives worst sought enough (card_of p 3) q)
-            (and_from (leb enough (plain_crib worst p q + most_crib_suits worst p q + spare)) (has_room worst p q)
+            absurd (both_ways _ (none p q range_x range_y order) (and_from _ _ (and_from _ _
             (le-leb enough (plain_crib worst p q + most_crib_suits worst p q + spare) (le_trans reached few))
-            may.room)
-            (four_from (λ s. card_gives worst sought enough (card_of p s) q) (suit_of x) (omega arith)
+            may.room) (four_from (λ s. card_gives worst sought enough (card_of p s) q) (suit_of x) (omega arith)
             (ap (λ k. card_gives worst sought enough k q) (card_back x) ∙ with_x))))
       ]
 
@@ -120,28 +96,13 @@ module _ (worst : WorstShow) where
         (most_crib_suits worst (rank_of x) (rank_of y))
         (crib_of_ranks worst x y) (suits_most worst unseen_set x y may)
 
-    pub few_crib : (points : List ℕ) → ArePlain worst.starter worst.own_throw points → (dealt : Dealt) → AgreesInShow worst dealt →
-        hidden_crib worst dealt ≤ 102
-    few_crib points plain dealt agrees =
-        let thrown = ordered worst unseen_set dealt.hold dealt.throw agrees in
-        let p = rank_of thrown.x in
-        let q = rank_of thrown.y in
-        joined (hidden_crib worst dealt) (crib_points (crib_with worst thrown.x thrown.y) worst.starter) (plain_crib worst p q)
-        (crib_suit_points worst thrown.x thrown.y)
-        thrown.crib (crib_of_ranks worst thrown.x thrown.y)
-        (subst (λ k. k ≤ 96) (plain.each p q thrown.range_x thrown.range_y) (plain.few p q thrown.range_x thrown.range_y))
-        (few_suits worst thrown.x thrown.y)
-      where
-        joined : (a b c d : ℕ) → a ≡ b → b ≡ c + d → c ≤ 96 → d ≤ 6 → a ≤ 102
-        joined a b c d e f g h = omega arith
-
     -- ---- the greatest crib
     pub crib_greatest : HasDeal worst → (bound most : ℕ) →
         ((dealt : Dealt) → AgreesInShow worst dealt → hidden_crib worst dealt ≤ bound) →
         (most ≡ 0) ⊎ SomeGive worst Crib 0 most → (most ≡ bound) ⊎ NoneGive worst Crib 0 (most + 1) → IsGreatestCrib worst most
     crib_greatest some bound most cribs give none = record {
       some = elim give [
-        | inl zero_is ↦ (some.0, some.1, nothing (hidden_crib worst some.0) most (all some.0 some.1) zero_is)
+        | inl zero_is ↦ let few = all some.0 some.1 in (some.0, some.1, omega (arith, few, zero_is))
         | inr two ↦
             let pair = found Crib 0 most two in
             let deal = deal_with worst unseen_set some pair.x pair.y pair.may in (
@@ -154,9 +115,6 @@ module _ (worst : WorstShow) where
       all = all;
     }
       where
-        nothing : (a b : ℕ) → a ≤ b → b ≡ 0 → a ≡ b
-        nothing a b c d = omega arith
-
         both : (a b : ℕ) → a ≤ b → b ≤ a → a ≡ b
         both a b c d = omega arith
 
@@ -193,22 +151,20 @@ module _ (worst : WorstShow) where
           unseen = λ k h.
               let card = in_set worst.unseen k unseen_set (is.unseen k h) in
               has-set_without (set_without worst.unseen x) y k card
-              ∙ and_from (has (set_without worst.unseen x) k) (not (eqb k y))
-              (has-set_without worst.unseen x k card ∙ and_from (has worst.unseen k) (not (eqb k x)) (is.unseen k h)
-              (ap not (ne_eqb k x (other k x hold h out_x))))
+              ∙ and_from _ _ (has-set_without worst.unseen x k card ∙ and_from _ _ (is.unseen k h) (ap not (ne_eqb k x (other k x hold h out_x))))
               (ap not (ne_eqb k y (other k y hold h out_y)));
           ranks_held = is.ranks_held;
           fixed_held = is.fixed_held;
         }
           where
             other : (k z : ℕ) (hold : List ℕ) → has hold k ≡ true → has hold z ≡ false → k ≢ z
-            other k z hold held out = λ same. both_ways (has hold z) out (subst (λ j. has hold j ≡ true) same held)
+            other k z hold held out = λ same. both_ways _ out (subst (λ j. has hold j ≡ true) same held)
 
         in_beside : (k : ℕ) → has beside.unseen k ≡ true → (has worst.unseen k ≡ true) × (k ≢ x) × (k ≢ y)
         in_beside k h =
             let card = in_set beside.unseen k (IsCardSet-set_without (set_without worst.unseen x) y) h in
-            let outer = and_parts (has (set_without worst.unseen x) k) (not (eqb k y)) (sym (has-set_without (set_without worst.unseen x) y k card) ∙ h) in
-            let inner = and_parts (has worst.unseen k) (not (eqb k x)) (sym (has-set_without worst.unseen x k card) ∙ outer.0) in
+            let outer = and_parts _ _ (sym (has-set_without (set_without worst.unseen x) y k card) ∙ h) in
+            let inner = and_parts _ _ (sym (has-set_without worst.unseen x k card) ∙ outer.0) in
             (inner.0, eqb-false k x (not-true (eqb k x) inner.1), eqb-false k y (not-true (eqb k y) outer.1))
 
         -- a hold that gets the most points that suits can add, and thrown cards that are not in it
@@ -234,13 +190,10 @@ module _ (worst : WorstShow) where
                 ranks_held = most.is_hold.ranks_held;
                 fixed_held = most.is_hold.fixed_held;
               };
-              out_x = out x most.hold (λ h. (in_beside x (most.is_hold.unseen x h)).1 refl);
-              out_y = out y most.hold (λ h. (in_beside y (most.is_hold.unseen y h)).2 refl);
+              out_x = false_from_ne_true _ (λ h. (in_beside x (most.is_hold.unseen x h)).1 refl);
+              out_y = false_from_ne_true _ (λ h. (in_beside y (most.is_hold.unseen y h)).2 refl);
               suits = most.suits;
             }
-          where
-            out : (z : ℕ) (hold : List ℕ) → (has hold z ≡ true → ⊥) → has hold z ≡ false
-            out z hold never = elim (cases_Bool (has hold z)) [ inl held ↦ absurd (never held) | inr gone ↦ gone ]
 
         suits_below : (hold : List ℕ) → IsHold worst hold → has hold x ≡ false → has hold y ≡ false → suit_points hold worst.starter
             ≤ most_suit_points beside four
@@ -256,7 +209,7 @@ module _ (worst : WorstShow) where
             best deal.0 (hold_of worst dealt deal.1) (gone deal.0 apart x (has_here x (y ∷ []))) (gone deal.0 apart y (has_there x y (y ∷ []) (has_here y [])))
           where
             gone : (hold : List ℕ) → ((k : ℕ) → has hold k ≡ true → has (x ∷ y ∷ []) k ≡ false) → (k : ℕ) → has (x ∷ y ∷ []) k ≡ true → has hold k ≡ false
-            gone hold apart k h = elim (cases_Bool (has hold k)) [ inl held ↦ absurd (both_ways (has (x ∷ y ∷ []) k) (apart k held) h) | inr out ↦ out ]
+            gone hold apart k h = false_from_ne_true _ (λ held. both_ways _ (apart k held) h)
 
         -- the deal of this hold and throw
         best_deal : MayThrow worst x y → (of : Best) → AgreesInShow worst (record { hold = of.hold; throw = x ∷ y ∷ [] })

@@ -1,9 +1,10 @@
 -- The points of a crib with two cards that may be thrown.
-use Rattle.std.proofs.Common.{◌≡◌, ◌≢◌, ℕ, ◌+◌, ◌<◌, ◌≤◌, Bool, true, false, not, cond, eqb, ◌&&◌, []}
+use Rattle.std.proofs.Common.{◌≡◌, ◌≢◌, ℕ, ◌+◌, ◌<◌, ◌≤◌, Bool, true, not, cond, eqb, ◌&&◌, []}
 use Rattle.std.proofs.Common.{◌∷◌, ap, ◌∙◌, inl, inr, arith}
 use Rattle.std.specs.List.{list_all, list_any}
 use Rattle.std.proofs.lemmas.Bool.{cases_Bool, and_parts, and_from, not-true, cond-true}
 use Rattle.std.proofs.lemmas.Bool.{cond-false, eqb-false, ne_eqb}
+use Rattle.std.proofs.lemmas.Bool.Decides.{nat_tests}
 use Rattle.std.proofs.lemmas.List.{map-append}
 use Rattle.crib_cards.specs.Cards.{IsRank, card_of, jack, rank_of, suit_of}
 use Rattle.crib_show.specs.Private.Extremes.{crib_suit_points, crib_with, has_room, is_free, least_of_ranks}
@@ -14,10 +15,7 @@ use Rattle.crib_show.proofs.PairTrials.{four_below, four_is, card_back, rank_bac
 
 -- a flush and a jack are six points at most
 six : (flush jack_held : Bool) → cond flush 5 0 + cond jack_held 1 0 ≤ 6
-six true true = omega arith
-six true false = omega arith
-six false true = omega arith
-six false false = omega arith
+six flush jack_held = grind (arith, nat_tests)
 
 module _ (worst : WorstShow) where
   -- ---- two cards that may be thrown
@@ -39,9 +37,7 @@ module _ (worst : WorstShow) where
 
   suits_of : (x y : ℕ) → MayThrow x y → thrown_suits worst x y ≡ crib_suit_points worst x y
   suits_of x y may =
-      cond-true (is_free worst x && is_free worst y && not (eqb x y)) (crib_suit_points worst x y) no_crib
-      (and_from (is_free worst x && is_free worst y) (not (eqb x y)) (and_from (is_free worst x) (is_free worst y) may.first_free may.second_free)
-      (ap not (ne_eqb x y may.apart)))
+      cond-true _ _ _ (and_from _ _ (and_from _ _ may.first_free may.second_free) (ap not (ne_eqb x y may.apart)))
 
   pub few_suits : (x y : ℕ) → crib_suit_points worst x y ≤ 6
   few_suits x y = six (list_all (λ card. eqb (suit_of card) (suit_of worst.starter)) (crib_with worst x y))
@@ -77,21 +73,11 @@ module _ (worst : WorstShow) where
       (crib_with worst x y) worst.starter
   above_least x y may =
       joined (least_of_ranks worst (rank_of x) (rank_of y)) (plain_crib worst (rank_of x) (rank_of y)) (least_suits worst (rank_of x) (rank_of y))
-      (thrown_suits worst x y) (crib_suit_points worst x y)
-      (crib_points (crib_with worst x y) worst.starter)
-      (cond-true (has_room worst (rank_of x) (rank_of y)) (plain_crib worst (rank_of x) (rank_of y) + least_suits worst (rank_of x) (rank_of y)) no_crib
-      may.room)
-      (least_suits_below x y) (suits_of x y may) (crib_of_ranks x y)
+      (thrown_suits worst x y) (crib_suit_points worst x y) (crib_points (crib_with worst x y) worst.starter) (cond-true _ _ _
+      may.room) (least_suits_below x y) (suits_of x y may) (crib_of_ranks x y)
     where
       joined : (a b c d e f : ℕ) → a ≡ b + c → c ≤ d → d ≡ e → f ≡ b + e → a ≤ f
       joined a b c d e f h i j k = omega arith
-
-  pub suits_low : (x y : ℕ) → MayThrow x y → least_suits worst (rank_of x) (rank_of y) ≤ 6
-  suits_low x y may = joined (least_suits worst (rank_of x) (rank_of y)) (thrown_suits worst x y) (crib_suit_points worst x y) (least_suits_below x y)
-      (suits_of x y may) (few_suits x y)
-    where
-      joined : (a b c : ℕ) → a ≤ b → b ≡ c → c ≤ 6 → a ≤ 6
-      joined a b c h i j = omega arith
 
   -- if such a throw is left, some two cards give the least crib of the ranks
   pub record Reaches (points : ℕ) : Type 0 where
@@ -104,11 +90,11 @@ module _ (worst : WorstShow) where
   reached p q points range_p range_q is low =
       elim (cases_Bool (has_room worst p q)) [
         | inr no_room ↦
-            let none : least_of_ranks worst p q ≡ no_crib = cond-false (has_room worst p q) (plain_crib worst p q + least_suits worst p q) no_crib no_room in
+            let none : least_of_ranks worst p q ≡ no_crib = cond-false _ _ _ no_room in
             absurd (too_high points (least_of_ranks worst p q) is none low)
         | inl room ↦
             let sum : least_of_ranks worst p q ≡ plain_crib worst p q + least_suits worst p q =
-            cond-true (has_room worst p q) (plain_crib worst p q + least_suits worst p q) no_crib room in
+            cond-true _ _ _ room in
             let first = four_is (λ s. least_suits_with worst (card_of p s) q) in
             let second = four_is (λ t. thrown_suits worst (card_of p first.0) (card_of q t)) in
             let x = card_of p first.0 in
@@ -119,11 +105,10 @@ module _ (worst : WorstShow) where
             elim (cases_Bool test) [
               | inr fails ↦
                   absurd (too_high_sum points (least_of_ranks worst p q) (plain_crib worst p q) (least_suits worst p q) (least_suits_with worst x q)
-                  (thrown_suits worst x y) is sum first.2 second.2
-                  (cond-false test (crib_suit_points worst x y) no_crib fails) low)
+                  (thrown_suits worst x y) is sum first.2 second.2 (cond-false _ _ _ fails) low)
               | inl passes ↦
-                  let parts = and_parts (is_free worst x && is_free worst y) (not (eqb x y)) passes in
-                  let free = and_parts (is_free worst x) (is_free worst y) parts.0 in
+                  let parts = and_parts _ _ passes in
+                  let free = and_parts _ _ parts.0 in
                   record {
                     x = x;
                     y = y;
@@ -131,7 +116,7 @@ module _ (worst : WorstShow) where
                     crib = exactly (crib_points (crib_with worst x y) worst.starter) (plain_crib worst p q) (crib_suit_points worst x y) points
                         (least_of_ranks worst p q) (least_suits worst p q) (least_suits_with worst x q) (thrown_suits worst x y)
                         (crib_of_ranks x y ∙ (λ i. plain_crib worst (rank_x i) (rank_y i) + crib_suit_points worst x y)) is sum first.2 second.2
-                        (cond-true test (crib_suit_points worst x y) no_crib passes);
+                        (cond-true _ _ _ passes);
                   }
             ]
       ]

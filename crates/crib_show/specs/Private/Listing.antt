@@ -1,6 +1,6 @@
 -- The hidden deals that agree, tried one by one in dictionary order. These definitions follow the code. Worst defines
 -- what the public calls return, without any listing.
-use Rattle.std.specs.Prelude.{◌≡◌, ℕ, ◌+◌, zero, suc, nat_lt, nat_le, Bool, true, false, not, ◌&&◌, ◌||◌, List, []}
+use Rattle.std.specs.Prelude.{◌≡◌, ℕ, ◌+◌, ◌<◌, zero, suc, nat_lt, nat_le, Bool, true, false, not, ◌&&◌, ◌||◌, List, []}
 use Rattle.std.specs.Prelude.{◌∷◌, ◌++◌, map, Option, Some, None, IsTrue, IsFalse, if◌then◌else◌}
 use Rattle.std.specs.List.{list_all}
 use Rattle.std.specs.Option.{option_or}
@@ -17,6 +17,7 @@ use Rattle.crib_show.specs.declared.show.outcomes.Outcome.TheVariants.{Reached, 
 use Rattle.crib_show.specs.declared.worst.listing.Test.{Test}
 use Rattle.crib_show.specs.declared.worst.listing.Test.TheVariants.{Any, Hand, Total, HandOrShort}
 use Rattle.crib_show.specs.Outcome.{outcome_of}
+use Rattle.crib_show.specs.Show.{hand_points}
 use Rattle.crib_show.specs.Worst.{AgreesInShow, with_dealt, hidden_hand, hidden_crib}
 
 -- whether the owner reaches the goal with this outcome
@@ -53,6 +54,19 @@ passes worst test dealt = points_pass worst test (hidden_hand worst dealt) (hidd
 -- of the hidden deals that agree, exactly those pass a test in which the owner misses the goal
 abbrev pub IsTestOfFailures : WorstShow → Test → Type 0
 IsTestOfFailures worst test = (dealt : Dealt) → AgreesInShow worst dealt → passes worst test dealt ≡ fails worst dealt
+
+-- the owner's score after the owner's hand is counted
+abbrev pub score_after_hand : WorstShow → ℕ
+score_after_hand worst = score_with worst.scores.owner (hand_points worst.own_hold worst.starter)
+
+-- the owner's score after the owner's hand and then the crib are counted
+abbrev pub score_after_crib : WorstShow → Dealt → ℕ
+score_after_crib worst dealt = score_with (score_after_hand worst) (hidden_crib worst dealt)
+
+-- the goal is `stop`, and the owner's own hand does not reach the target
+pub record IsStillToStop (worst : WorstShow) : Type 0 where
+  pub stop : worst.stop ≡ true
+  pub short : score_after_hand worst < worst.target
 
 -- the first deal made of the chosen cards and n more cards of a list. The choices are tried in dictionary order, and
 -- only with cards that may be chosen

@@ -77,7 +77,7 @@ pub fn outcome_with(full: &Full, rows: &[ShowRow]) -> Outcome
         Some(row) => row.scores,
         None => full.scores,
     };
-    outcome_at(full.stop, full.target, scores)
+    outcome_at(full, scores)
 }
 
 /// The hands that the show counts, in order: the pone's, the dealer's, and the crib of both throws. The one that
@@ -142,14 +142,14 @@ fn crib_of(full: &Full) -> CountedHand
 }
 
 // The outcome at these scores, when nothing more is counted.
-fn outcome_at(stop: bool, target: u8, scores: Scores) -> Outcome
-    ensures { result ≡ outcome_at stop target scores }
+fn outcome_at(full: &Full, scores: Scores) -> Outcome
+    ensures { result ≡ outcome_at full.now scores }
 {
-    if scores.owner >= target {
+    if scores.owner >= full.target {
         Outcome::Reached
     } else if scores.opponent >= GAME_HOLE {
         Outcome::Lost
-    } else if stop {
+    } else if full.stop {
         Outcome::Reached
     } else {
         Outcome::Short

@@ -85,12 +85,8 @@ impl WorstShow {
         let mut least = NO_CRIB;
         for first in 1..14 {
             for second in first..14 {
-                least = self.least_with_pair(
-                    plain,
-                    rank_numbered(first),
-                    rank_numbered(second),
-                    least,
-                );
+                let (first, second) = (rank_numbered(first), rank_numbered(second));
+                least = self.least_with_pair(plain, first, second, least);
             }
         }
         least
@@ -100,19 +96,14 @@ impl WorstShow {
     // suits may give.
     pub(crate) fn high_crib(&self, plain: &PlainCribs) -> u8
         requires { ArePlain self.now.starter self.now.own_throw plain.now }
-        ensures all { (dealt : Dealt) → AgreesInShow self.now dealt → hidden_crib self.now dealt ≤ result }
-        ensures range { result ≤ 102 }
+        ensures { (dealt : Dealt) → AgreesInShow self.now dealt → hidden_crib self.now dealt ≤ result }
     {
         know_set(self.unseen);
         let mut most = 0;
         for first in 1..14 {
             for second in first..14 {
-                most = self.most_with_pair(
-                    plain,
-                    rank_numbered(first),
-                    rank_numbered(second),
-                    most,
-                );
+                let (first, second) = (rank_numbered(first), rank_numbered(second));
+                most = self.most_with_pair(plain, first, second, most);
             }
         }
         most
@@ -126,7 +117,6 @@ impl WorstShow {
         ensures kept { most ≤ result }
         ensures raised { IsTrue (has_room self.now first second)
             → plain_crib self.now first second + most_crib_suits self.now first second ≤ result }
-        ensures range { most ≤ 102 → result ≤ 102 }
     {
         let points = plain.of(first, second);
         if points + MOST_OF_SUITS <= most || !self.has_room(first, second) {
@@ -141,16 +131,7 @@ impl WorstShow {
         ensures value { result ≡ most_crib_suits self.now first second }
         ensures range { result ≤ 6 }
     {
-        let flush = if self.may_throw_flush(first, second) {
-            5
-        } else {
-            0
-        };
-        if self.may_throw_jack(first, second) {
-            flush + 1
-        } else {
-            flush
-        }
+        5 * self.may_throw_flush(first, second) as u8 + self.may_throw_jack(first, second) as u8
     }
 
     // Whether the crib may be of the starter's suit with these two ranks thrown.
@@ -177,8 +158,7 @@ impl WorstShow {
     fn least_with_pair(&self, plain: &PlainCribs, first: Rank, second: Rank, least: u8) -> u8
         requires plain { ArePlain self.now.starter self.now.own_throw plain.now }
         requires ranks { IsRank first × IsRank second }
-        ensures value { result ≡ min least (least_of_ranks self.now first second) }
-        ensures range { IsTrue (has_room self.now first second) → least_suits self.now first second ≤ 6 → result ≤ 102 }
+        ensures { result ≡ min least (least_of_ranks self.now first second) }
     {
         let points = plain.of(first, second);
         if points >= least || !self.has_room(first, second) {

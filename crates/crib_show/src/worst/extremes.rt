@@ -1,6 +1,6 @@
 //! The counted shows of one problem, kept between the ends of the play.
 ghost use Rattle.std.specs.Prelude.{◌≡◌, ℕ, ◌+◌, ◌*◌, ◌<◌, ◌≤◌, List, length};
-ghost use Rattle.crib_show.specs.Private.Places.{IsPlace};
+ghost use Rattle.crib_show.specs.Private.Places.{HasRightPoints, IsPlace};
 ghost use Rattle.crib_show.specs.Places.{below, many, place_among};
 ghost use Rattle.crib_show.specs.Extremes.{AreKept, AreExtremes, AreExtremesFor};
 ghost use Rattle.crib_show.specs.Worst.{AreOwnPoints, HasDeal, IsGreatestCrib, IsGreatestHand, IsGreatestTotal};
@@ -64,64 +64,51 @@ impl Extremes {
         if self.greatest_hand != NOT_KEPT {
             return self.greatest_hand;
         }
-        let points = worst.worst_hand();
-        self.greatest_hand = points;
-        points
+        self.greatest_hand = worst.worst_hand();
+        self.greatest_hand
     }
 
     // The points of the least crib, computed unless they are kept. Some hidden deal must agree.
     pub(crate) fn least_crib(&mut self, worst: &WorstShow, own: &mut OwnPoints) -> u8
-        requires deal { HasDeal worst.now }
-        requires own { AreOwnPoints worst.now.starter worst.now.own_hold worst.now.own_throw own.old }
-        requires kept { AreKept worst.now self.old }
+        requires { HasRightPoints worst.now own.old self.old }
         ensures least { IsLeastCrib worst.now result }
-        ensures kept { AreKept worst.now self.new }
-        ensures own { AreOwnPoints worst.now.starter worst.now.own_hold worst.now.own_throw own.new }
+        ensures right { HasRightPoints worst.now own.new self.new }
     {
         if self.least_crib != NOT_KEPT {
             return self.least_crib;
         }
         own.work_out_plain(worst);
-        let points = worst.low_crib(own.plain());
-        self.least_crib = points;
-        points
+        self.least_crib = worst.low_crib(own.plain());
+        self.least_crib
     }
 
     // The points of the greatest crib, computed unless they are kept. Some hidden deal must agree.
     pub(crate) fn greatest_crib(&mut self, worst: &WorstShow, own: &mut OwnPoints) -> u8
-        requires deal { HasDeal worst.now }
-        requires own { AreOwnPoints worst.now.starter worst.now.own_hold worst.now.own_throw own.old }
-        requires kept { AreKept worst.now self.old }
+        requires { HasRightPoints worst.now own.old self.old }
         ensures greatest { IsGreatestCrib worst.now result }
-        ensures kept { AreKept worst.now self.new }
-        ensures own { AreOwnPoints worst.now.starter worst.now.own_hold worst.now.own_throw own.new }
+        ensures right { HasRightPoints worst.now own.new self.new }
     {
         if self.greatest_crib != NOT_KEPT {
             return self.greatest_crib;
         }
         own.work_out_plain(worst);
-        let points = worst.greatest_crib(own.plain());
-        self.greatest_crib = points;
-        points
+        self.greatest_crib = worst.greatest_crib(own.plain());
+        self.greatest_crib
     }
 
     // The points of the greatest sum of hand and crib, computed unless they are kept. Some hidden deal must agree.
     pub(crate) fn greatest_total(&mut self, worst: &WorstShow, own: &mut OwnPoints) -> u8
-        requires deal { HasDeal worst.now }
-        requires own { AreOwnPoints worst.now.starter worst.now.own_hold worst.now.own_throw own.old }
-        requires kept { AreKept worst.now self.old }
+        requires { HasRightPoints worst.now own.old self.old }
         ensures greatest { IsGreatestTotal worst.now result }
-        ensures kept { AreKept worst.now self.new }
-        ensures own { AreOwnPoints worst.now.starter worst.now.own_hold worst.now.own_throw own.new }
+        ensures right { HasRightPoints worst.now own.new self.new }
     {
         if self.greatest_total != NOT_KEPT {
             return self.greatest_total;
         }
         let crib = self.greatest_crib(worst, own);
         own.work_out_plain(worst);
-        let points = worst.greatest_total(own.plain(), crib);
-        self.greatest_total = points;
-        points
+        self.greatest_total = worst.greatest_total(own.plain(), crib);
+        self.greatest_total
     }
 }
 
@@ -158,34 +145,6 @@ impl ExtremesByRanks {
         ensures own { self.new.own ≡ self.old.own }
     {
         self.kept[place] = kept;
-    }
-
-    // The points of the least crib of a show, computed unless they are kept. Some hidden deal must agree.
-    pub(crate) fn least_crib(&mut self, worst: &WorstShow) -> u8
-        requires deal { HasDeal worst.now }
-        requires shows { AreExtremesFor worst.now self.old }
-        ensures least { IsLeastCrib worst.now result }
-        ensures shows { AreExtremesFor worst.now self.new }
-    {
-        let place = worst.place();
-        let mut kept = self.kept(worst, place);
-        let points = kept.least_crib(worst, &mut self.own);
-        self.keep(worst, place, kept);
-        points
-    }
-
-    // The points of the greatest crib of a show, computed unless they are kept. Some hidden deal must agree.
-    pub(crate) fn greatest_crib(&mut self, worst: &WorstShow) -> u8
-        requires deal { HasDeal worst.now }
-        requires shows { AreExtremesFor worst.now self.old }
-        ensures greatest { IsGreatestCrib worst.now result }
-        ensures shows { AreExtremesFor worst.now self.new }
-    {
-        let place = worst.place();
-        let mut kept = self.kept(worst, place);
-        let points = kept.greatest_crib(worst, &mut self.own);
-        self.keep(worst, place, kept);
-        points
     }
 }
 

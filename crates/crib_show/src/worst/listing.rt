@@ -1,14 +1,15 @@
 //! The hidden deals that agree, tried one by one in dictionary order.
-ghost use Rattle.std.specs.Prelude.{◌≡◌, ◌-◌, ◌<◌, ◌≤◌, ◌∷◌, ◌++◌, [], length, take};
+ghost use Rattle.std.specs.Prelude.{◌≡◌, ◌-◌, ◌<◌, ◌≤◌, ◌++◌, IfSome, length, take};
 ghost use Rattle.std.specs.List.{list_all};
+ghost use Rattle.std.proofs.Props.{props};
 ghost use Rattle.crib_cards.specs.Sets.{IsCardSet, count_rank, has};
-ghost use Rattle.crib_show.specs.Private.Listing.{IsFirstPassingOrNone, any_card, first_choice, first_hold};
+ghost use Rattle.crib_show.specs.Private.Listing.{IsFirstPassingOrNone, first_hold};
 ghost use Rattle.crib_show.specs.Private.Listing.{first_throw};
 ghost use Rattle.crib_show.specs.Private.Listing.{may_accept, may_hold, passes, try_hold, try_throw};
 ghost use Rattle.crib_show.specs.Show.{crib_points, hand_points};
-ghost use Rattle.crib_show.specs.Worst.{AreOwnPoints, hidden_hand};
+ghost use Rattle.crib_show.specs.Worst.{ArePlain, hidden_hand};
 
-use crate::deals::{OwnPoints, WorstShow};
+use crate::deals::{PlainCribs, WorstShow};
 use crate::show::points::{counts_of_four, crib_points, hand_points};
 use crib_cards::{Card, CardSet, Dealt, GAME_HOLE, Rank};
 
@@ -44,67 +45,28 @@ impl Test {
     }
 }
 
+// The hidden deals that agree, and the test that one of them has to pass. `plain` has the points of the crib's ranks,
+// if they have been computed.
+#[derive(Drop)]
+struct Listing<'a> {
+    worst: &'a WorstShow,
+    test: Test,
+    plain: Option<&'a PlainCribs>,
+    ghost points: { IfSome plain (λ p. ArePlain worst.now.starter worst.now.own_throw p.now) } by { Prim.hlevel props },
+}
+
 impl WorstShow {
     // The first hidden deal that agrees and passes, in dictionary order of its six card numbers.
-    pub(crate) fn first_passing(&self, test: Test, own: &OwnPoints) -> Option<Dealt>
-        requires { AreOwnPoints self.now.starter self.now.own_hold self.now.own_throw own.now }
+    pub(crate) fn first_passing(&self, test: Test, plain: Option<&PlainCribs>) -> Option<Dealt>
+        requires { IfSome plain (λ points. ArePlain self.now.starter self.now.own_throw points.now) }
         ensures { IsFirstPassingOrNone self.now test result }
     {
-        self.first_from(test, own, &[self.starter; 4], 0, self.unseen)
-    }
-
-    // The first deal that passes. Its hold begins with the first `len` cards of `hold`, and its other cards are of
-    // `cards`. A card is tried only if the hold lacks one of its rank. If the hold is found to lack more of a rank than
-    // are left, nothing else is tried.
-    fn first_from(
-        &self,
-        test: Test,
-        own: &OwnPoints,
-        hold: &[Card; 4],
-        len: usize,
-        cards: CardSet,
-    ) -> Option<Dealt>
-        requires len { len ≤ 4 }
-        requires own { AreOwnPoints self.now.starter self.now.own_hold self.now.own_throw own.now }
-        ensures value { result ≡ first_hold self.now test (take len hold.now) (4 - len) cards }
-        ensures set { len < 4 → IsCardSet cards }
-    {
-        if len == 4 {
-            return self.first_of_hold(test, own, *hold);
-        }
-        let Some(card) = cards.lowest() else {
-            return None;
+        let listing = Listing {
+            worst: self,
+            test,
+            plain,
         };
-        let cards = cards.without(card);
-        let rank = card.rank();
-        let held = count_rank(&hold[..len], rank);
-        if held < self.ranks.of(rank) {
-            let mut longer = *hold;
-            longer[len] = card;
-            if let Some(dealt) = self.first_from(test, own, &longer, len + 1, cards) {
-                return Some(dealt);
-            }
-            if held + cards.count_rank(rank) < self.ranks.of(rank) {
-                return None;
-            }
-        }
-        self.first_from(test, own, hold, len, cards)
-    }
-
-    // The first deal with this hold that passes, or `None` if the opponent cannot have this hold or no such deal
-    // passes. The throws are tried only if a deal with these points of the hold may pass.
-    fn first_of_hold(&self, test: Test, own: &OwnPoints, hold: [Card; 4]) -> Option<Dealt>
-        requires { AreOwnPoints self.now.starter self.now.own_hold self.now.own_throw own.now }
-        ensures { result ≡ try_hold self.now test hold }
-    {
-        if !self.may_hold(&hold) {
-            return None;
-        }
-        let hand = hand_points(&hold, self.starter);
-        if !test.may_accept(hand) {
-            return None;
-        }
-        self.first_throw(test, own, hold, hand, self.unseen.without_all(&hold))
+        listing.first_from(&[self.starter; 4], 0, self.unseen)
     }
 
     // Whether four cards have the opponent's ranks and the fixed cards are among them.
@@ -113,94 +75,109 @@ impl WorstShow {
     {
         counts_of_four(hold) == self.ranks && has_all(hold, self.fixed)
     }
+}
 
-    // The first deal with this hold that passes and whose throw is two of `cards`. `hand` is the points of the hold.
-    fn first_throw(
-        &self,
-        test: Test,
-        own: &OwnPoints,
-        hold: [Card; 4],
-        hand: u8,
-        cards: CardSet,
-    ) -> Option<Dealt>
-        requires own { AreOwnPoints self.now.starter self.now.own_hold self.now.own_throw own.now }
-        requires points { hand ≡ hand_points hold self.now.starter }
-        requires range { hand ≤ 102 }
-        ensures { result ≡ first_throw self.now test hold cards }
+impl Listing<'_> {
+    // The first deal that passes. Its hold begins with the first `len` cards of `hold`, and its other cards are of
+    // `cards`. A card is tried only if the hold lacks one of its rank. If the hold is found to lack more of a rank than
+    // are left, nothing else is tried.
+    fn first_from(&self, hold: &[Card; 4], len: usize, cards: CardSet) -> Option<Dealt>
+        requires { len ≤ 4 }
+        ensures value { result ≡ first_hold self.now.worst.now self.now.test (take len hold.now) (4 - len) cards }
+        ensures set { len < 4 → IsCardSet cards }
     {
-        let mut rest = cards;
-        while let Some(first) = rest.lowest() {
-            rest = rest.without(first);
-            if let Some(dealt) = self.first_throw_with(test, own, hold, hand, first, rest) {
+        if len == 4 {
+            return self.first_of_hold(*hold);
+        }
+        let Some(card) = cards.lowest() else {
+            return None;
+        };
+        let cards = cards.without(card);
+        let rank = card.rank();
+        let held = count_rank(&hold[..len], rank);
+        if held < self.worst.ranks.of(rank) {
+            let mut longer = *hold;
+            longer[len] = card;
+            if let Some(dealt) = self.first_from(&longer, len + 1, cards) {
                 return Some(dealt);
             }
+            if held + cards.count_rank(rank) < self.worst.ranks.of(rank) {
+                return None;
+            }
         }
-        None
+        self.first_from(hold, len, cards)
     }
 
-    // The first deal with this hold that passes and whose throw is `first` and one of `cards`. `hand` is the points of
-    // the hold.
-    fn first_throw_with(
-        &self,
-        test: Test,
-        own: &OwnPoints,
-        hold: [Card; 4],
-        hand: u8,
-        first: Card,
-        cards: CardSet,
-    ) -> Option<Dealt>
-        requires own { AreOwnPoints self.now.starter self.now.own_hold self.now.own_throw own.now }
-        requires points { hand ≡ hand_points hold self.now.starter }
-        requires range { hand ≤ 102 }
-        ensures { result ≡ first_choice (try_throw self.now test hold) any_card (first ∷ []) 1 cards }
+    // The first deal with this hold that passes, or `None` if the opponent cannot have this hold or no such deal
+    // passes. The throws are tried only if a deal with these points of the hold may pass.
+    fn first_of_hold(&self, hold: [Card; 4]) -> Option<Dealt>
+        ensures { result ≡ try_hold self.now.worst.now self.now.test hold }
     {
-        let mut rest = cards;
-        while let Some(second) = rest.lowest() {
-            rest = rest.without(second);
-            let dealt = Dealt {
-                hold,
-                throw: [first, second],
-            };
-            if self.passes(test, own, hand, &dealt) {
-                return Some(dealt);
+        if !self.worst.may_hold(&hold) {
+            return None;
+        }
+        let hand = hand_points(&hold, self.worst.starter);
+        if !self.test.may_accept(hand) {
+            return None;
+        }
+        self.first_throw(hold, hand, self.worst.unseen.without_all(&hold))
+    }
+
+    // The first deal with this hold that passes and whose throw is two of `cards`. `hand` is the points of the hold.
+    fn first_throw(&self, hold: [Card; 4], hand: u8, cards: CardSet) -> Option<Dealt>
+        requires points { hand ≡ hand_points hold self.now.worst.now.starter }
+        requires range { hand ≤ 102 }
+        ensures { result ≡ first_throw self.now.worst.now self.now.test hold cards }
+    {
+        let mut firsts = cards;
+        while let Some(first) = firsts.lowest() {
+            firsts = firsts.without(first);
+            let mut seconds = firsts;
+            while let Some(second) = seconds.lowest() {
+                seconds = seconds.without(second);
+                let dealt = Dealt {
+                    hold,
+                    throw: [first, second],
+                };
+                if self.passes(hand, &dealt) {
+                    return Some(dealt);
+                }
             }
         }
         None
     }
 
     // Whether a deal passes, given the points of the hand. The crib is counted only if the hand does not decide.
-    fn passes(&self, test: Test, own: &OwnPoints, hand: u8, dealt: &Dealt) -> bool
-        requires own { AreOwnPoints self.now.starter self.now.own_hold self.now.own_throw own.now }
-        requires points { hand ≡ hidden_hand self.now dealt.now }
+    fn passes(&self, hand: u8, dealt: &Dealt) -> bool
+        requires points { hand ≡ hidden_hand self.now.worst.now dealt.now }
         requires range { hand ≤ 102 }
-        ensures { result ≡ passes self.now test dealt.now }
+        ensures { result ≡ passes self.now.worst.now self.now.test dealt.now }
     {
-        match test {
+        match self.test {
             Test::Any => true,
             Test::Hand(least) => least <= hand,
             Test::Total(low, least) => {
-                low <= hand && least <= hand + self.hidden_crib(own, dealt.throw)
+                low <= hand && least <= hand + self.hidden_crib(dealt.throw)
             }
             Test::HandOrShort(least, counted) => {
                 least <= hand
                     || counted
-                        .saturating_add(self.hidden_crib(own, dealt.throw))
+                        .saturating_add(self.hidden_crib(dealt.throw))
                         .min(GAME_HOLE)
-                        < self.target
+                        < self.worst.target
             }
         }
     }
 
     // The points of the crib with these two cards thrown. Those of its ranks are looked up if they have been computed.
-    fn hidden_crib(&self, own: &OwnPoints, throw: [Card; 2]) -> u8
-        requires { AreOwnPoints self.now.starter self.now.own_hold self.now.own_throw own.now }
-        ensures value { result ≡ crib_points (self.now.own_throw ++ throw) self.now.starter }
+    fn hidden_crib(&self, throw: [Card; 2]) -> u8
+        ensures value { result ≡ crib_points (self.now.worst.now.own_throw ++ throw) self.now.worst.now.starter }
         ensures range { result ≤ 102 }
     {
         let [third, fourth] = throw;
-        match &own.plain {
-            Some(plain) => self.crib_of_throw(plain, third, fourth),
-            None => crib_points(&self.crib_with(third, fourth), self.starter),
+        match self.plain {
+            Some(plain) => self.worst.crib_of_throw(plain, third, fourth),
+            None => crib_points(&self.worst.crib_with(third, fourth), self.worst.starter),
         }
     }
 }

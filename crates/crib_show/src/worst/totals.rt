@@ -4,7 +4,6 @@ ghost use Rattle.crib_cards.specs.Cards.{IsRank};
 ghost use Rattle.crib_show.specs.Private.Extremes.{most_suit_points, plain_crib, ranks_from, cards_in_suit};
 ghost use Rattle.crib_show.specs.Private.Totals.{NoneGive, SomeGive, card_gives, ranks_give, sought_points};
 ghost use Rattle.crib_show.specs.Private.Totals.{throw_gives};
-ghost use Rattle.crib_show.specs.Private.Totals.{without_throw};
 ghost use Rattle.crib_show.specs.Show.{crib_points, plain_of_ranks};
 ghost use Rattle.crib_show.specs.Worst.{ArePlain, HasDeal, IsGreatestCrib, IsGreatestTotal};
 
@@ -91,16 +90,6 @@ impl WorstShow {
         most
     }
 
-    // The show with these two thrown cards removed from the unseen ones, since the opponent can't hold them.
-    fn without_throw(&self, first: Card, second: Card) -> WorstShow
-        ensures { result ≡ without_throw self.now first second }
-    {
-        WorstShow {
-            unseen: self.unseen.without(first).without(second),
-            ..*self
-        }
-    }
-
     // The points of the crib with these two cards thrown. Those of the ranks come from `plain`.
     pub(crate) fn crib_of_throw(&self, plain: &PlainCribs, first: Card, second: Card) -> u8
         requires { ArePlain self.now.starter self.now.own_throw plain.now }
@@ -176,7 +165,11 @@ impl Throws<'_> {
         match self.sought {
             Sought::Crib => crib,
             Sought::CribAndHand(ranks) => {
-                let show = self.worst.without_throw(first, second);
+                // The opponent can't hold the two thrown cards.
+                let show = WorstShow {
+                    unseen: self.worst.unseen.without(first).without(second),
+                    ..*self.worst
+                };
                 crib + show.most_suit_points(ranks)
             }
         }

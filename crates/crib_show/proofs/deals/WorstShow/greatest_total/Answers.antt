@@ -1,7 +1,8 @@
 use Rattle.std.proofs.Common.{◌≡◌, ◌⊎◌, ℕ, ◌+◌, ◌≤◌, List, subst, arith}
 use Rattle.crib_show.specs.Private.Totals.{NoneGive, SomeGive}
 use Rattle.crib_show.specs.declared.worst.totals.Sought.TheVariants.{CribAndHand}
-use Rattle.crib_show.proofs.SoughtLemmas.{few_crib, total_greatest}
+use Rattle.crib_show.proofs.CribLemmas.{few_crib}
+use Rattle.crib_show.proofs.SoughtLemmas.{total_greatest}
 use Rattle.crib_show.proofs.deals.WorstShow.greatest_total.Goals as goal
 
 pub overflow_add-crib : goal.overflow_add-crib

@@ -1,4 +1,5 @@
-use Rattle.std.proofs.Common.{◌≡◌, ℕ, ◌+◌, ◌*◌, List, [], ◌∷◌, length, get_or, refl, ap, sym, ◌∙◌, arith}
+use Rattle.std.proofs.Common.{◌≡◌, ℕ, ◌+◌, ◌*◌, List, [], ◌∷◌, length, get_or, ap, sym, ◌∙◌, arith}
+use Rattle.std.proofs.lemmas.Grind.{elements}
 use Rattle.crib_cards.specs.Cards.{rank_value}
 use Rattle.crib_show.specs.Private.Counts.{fifteens_of_three}
 use Rattle.crib_show.specs.Show.{fifteen_points}
@@ -19,13 +20,7 @@ grouped first second third fourth fifth a b c d e n m k l is_a is_b is_c is_d is
     regroup n m k l = omega arith
 
 whole : (xs : List ℕ) (v w x y z : ℕ) → length xs ≡ 5 → get_or xs 0 v ∷ get_or xs 1 w ∷ get_or xs 2 x ∷ get_or xs 3 y ∷ get_or xs 4 z ∷ [] ≡ xs
-whole [] v w x y z five = absurd (omega (arith, five))
-whole (a ∷ []) v w x y z five = absurd (omega (arith, five))
-whole (a ∷ b ∷ []) v w x y z five = absurd (omega (arith, five))
-whole (a ∷ b ∷ c ∷ []) v w x y z five = absurd (omega (arith, five))
-whole (a ∷ b ∷ c ∷ d ∷ []) v w x y z five = absurd (omega (arith, five))
-whole (a ∷ b ∷ c ∷ d ∷ e ∷ []) v w x y z five = refl
-whole (a ∷ b ∷ c ∷ d ∷ e ∷ f ∷ more) v w x y z five = absurd (omega (arith, five))
+whole xs v w x y z five = grind (arith, elements)
 
 pub returns-clause-value : goal.returns-clause-value
 returns-clause-value c =

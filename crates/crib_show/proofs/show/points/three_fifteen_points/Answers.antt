@@ -1,4 +1,5 @@
-use Rattle.std.proofs.Common.{◌≡◌, ℕ, ◌*◌, List, [], ◌∷◌, length, get_or, refl, ap, sym, ◌∙◌, arith}
+use Rattle.std.proofs.Common.{◌≡◌, ℕ, ◌*◌, List, [], ◌∷◌, length, get_or, ap, sym, ◌∙◌, arith}
+use Rattle.std.proofs.lemmas.Grind.{elements}
 use Rattle.crib_cards.specs.Cards.{rank_value}
 use Rattle.crib_show.specs.Private.Counts.{fifteens_of_three}
 use Rattle.crib_show.specs.Show.{fifteen_points}
@@ -6,11 +7,7 @@ use Rattle.crib_show.proofs.FifteenLemmas.{fifteens_from-three, fifteens_from-ze
 use Rattle.crib_show.proofs.show.points.three_fifteen_points.Goals as goal
 
 whole : (xs : List ℕ) (v w x : ℕ) → length xs ≡ 3 → get_or xs 0 v ∷ get_or xs 1 w ∷ get_or xs 2 x ∷ [] ≡ xs
-whole [] v w x three = absurd (omega (arith, three))
-whole (a ∷ []) v w x three = absurd (omega (arith, three))
-whole (a ∷ b ∷ []) v w x three = absurd (omega (arith, three))
-whole (a ∷ b ∷ c ∷ []) v w x three = refl
-whole (a ∷ b ∷ c ∷ d ∷ more) v w x three = absurd (omega (arith, three))
+whole xs v w x three = grind (arith, elements)
 
 counted : (first second third a b c n : ℕ) → a ≡ rank_value first → b ≡ rank_value second → c ≡ rank_value third → n ≡ fifteens_of_three a b c 0 →
     2 * n ≡ fifteen_points (first ∷ second ∷ third ∷ [])

@@ -3,7 +3,8 @@ use Rattle.std.proofs.Common.{◌≡◌, ℕ, zero, suc, ◌+◌, ◌≤◌, Boo
 use Rattle.std.proofs.Common.{refl, sym, ap, ◌∙◌, inl, inr, arith}
 use Rattle.std.specs.List.{list_any}
 use Rattle.std.specs.Option.{option_or}
-use Rattle.std.proofs.lemmas.Bool.{cases_Bool, cases_lt, and_parts, both_ways, not-false, leb-true, lt-ltb, ltb-true, eqb-true}
+use Rattle.std.proofs.Math.Bool.{and-true}
+use Rattle.std.proofs.lemmas.Bool.{cases_Bool, and_parts, both_ways, not-false, leb-true, ltb-true, ltb-false, eqb-true}
 use Rattle.crib_cards.specs.Cards.{rank_of, card_value}
 use Rattle.crib_cards.specs.Sets.{has, set_where, set_without}
 use Rattle.crib_cards.specs.Letters.{letter_of}
@@ -201,9 +202,6 @@ abbrev pub Shows : ℕ → Move → Type 0
 Shows count (move.Card card) = count + card_value card ≤ 31
 Shows count move.Go = 22 ≤ count
 
-at_least : (count : ℕ) → ltb count 22 ≡ false → 22 ≤ count
-at_least count e = elim (cases_lt count 22) [ inl low ↦ absurd (both_ways (ltb count 22) e (lt-ltb count 22 low)) | inr high ↦ high ]
-
 pub shows_move : (count : ℕ) (own : List ℕ) (least : ℕ) (side : Side) (what : Move) → (side ≡ Owner → 1 ≤ length own) →
     move_refusal count own least side what ≡ None → Shows count what
 shows_move count own least Owner (move.Card card) some e =
@@ -213,7 +211,7 @@ shows_move count own least Owner move.Go some e = low_fits count own (some refl)
 shows_move count own least Opponent (move.Card card) some e =
     leb-true (count + card_value card) 31
     (not-false (fits_at count card) (none_of_two (not (fits_at count card)) (ltb (card_value card) least) does_not_fit no_deal None e).0)
-shows_move count own least Opponent move.Go some e = at_least count (none_of_one (ltb count 22) no_deal e)
+shows_move count own least Opponent move.Go some e = ltb-false count 22 (none_of_one (ltb count 22) no_deal e)
 
 shows_letter : (past : Record) (what : Move) → Shows (count_of (pile_of past)) what → MayShow (letter_of what) past
 shows_letter past (move.Card card) e = e
@@ -252,13 +250,9 @@ were_taken basis is keeps (act ∷ before) allowed =
 module _ (problem : Setup) (setup : IsSetup problem) where
   pub keeps_first : Keeps (opening_basis_of problem) []
   keeps_first =
-      let four : length (set_where (λ c. has problem.hold c && not false)) ≡ 4 = ap length (set_where_agree _ _ (λ card is. all (has problem.hold card)))
+      let four : length (set_where (λ c. has problem.hold c && not false)) ≡ 4 = ap length (set_where_agree _ _ (λ card is. and-true (has problem.hold card)))
       ∙ hold_four problem setup in
       record { known = λ card mine. (hold_is_card problem setup card mine, hold_known problem setup card mine); four = omega (arith, four) }
-    where
-      all : (b : Bool) → (b && true) ≡ b
-      all true = refl
-      all false = refl
 
   pub holds_asked : (acts : List Act) → AreAllowed (opening_basis_of problem) acts → asked_by (opening_basis_of problem) acts ≡ turns.Owner →
       1 ≤ length (own_left_by (opening_basis_of problem) acts)

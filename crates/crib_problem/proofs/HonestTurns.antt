@@ -1,9 +1,10 @@
 -- Proves that the visible turns of a legal record are allowed, where the deal is not done after it.
 use Rattle.std.proofs.Common.{◌≡◌, ℕ, ◌+◌, ◌≤◌, Bool, true, false, cond, not, ◌&&◌, ◌||◌, eqb, leb, ltb, List, [], ◌∷◌, ◌++◌, reverse, Option, ◌<◌, length, ap}
 use Rattle.std.proofs.Common.{Some, None, refl, sym, ap, subst, ◌∙◌, inl, inr, arith, take, drop, get_or}
-use Rattle.std.specs.List.{list_any}
+use Rattle.std.specs.List.{list_any, filter}
 use Rattle.std.specs.Option.{option_or}
-use Rattle.std.proofs.lemmas.Bool.{cases_Bool, cond-false, and_parts, or_left, or_right, not-true, ltb-true, eq-eqb}
+use Rattle.std.proofs.Math.Bool.{or_comm, or-false}
+use Rattle.std.proofs.lemmas.Bool.{cases_Bool, cond-false, and_parts, or_left, or_right, not-true, eq-eqb, le-ltb}
 use Rattle.std.proofs.lemmas.List.{length-reverse, reverse-append, reverse-reverse, take_more, take-append-drop}
 use Rattle.crib_cards.specs.Cards.{IsCard, card_value}
 use Rattle.crib_cards.specs.Sets.{has}
@@ -46,14 +47,8 @@ use Rattle.crib_problem.proofs.StartLemmas.{started, hold_is_card, theirs_unseen
 has_acts : (pone : Side) (past : List Move) (card : ℕ) → has (cards_played (acts_of pone past)) card ≡ has (cards_of past) card
 has_acts pone [] card = refl
 has_acts pone (move.Card first ∷ past) card =
-    ap (λ (b : Bool). eqb first card || b) (has_acts pone past card) ∙ turned (eqb first card) (has (cards_of past) card)
-    ∙ sym (has-append (cards_of past) (first ∷ []) card)
-  where
-    turned : (a b : Bool) → (a || b) ≡ (b || (a || false))
-    turned true true = refl
-    turned true false = refl
-    turned false true = refl
-    turned false false = refl
+    ap (λ (b : Bool). eqb first card || b) (has_acts pone past card) ∙ or_comm (eqb first card) (has (cards_of past) card)
+    ∙ ap (λ (b : Bool). has (cards_of past) card || b) (sym (or-false (eqb first card))) ∙ sym (has-append (cards_of past) (first ∷ []) card)
 has_acts pone (move.Go ∷ past) card = step (is_visible pone Go (letters_of past)) ∙ has_acts pone past card
   where
     step : (b : Bool) → has (cards_played (cond b (record { side = mover pone (letters_of past); what = move.Go } ∷ acts_of pone past) (acts_of pone past)))
@@ -100,8 +95,12 @@ none_any f (x ∷ xs) each =
     ap (λ (b : Bool). b || list_any f xs) (each x (or_left (eqb x x) (has xs x) (eq-eqb x x refl)))
     ∙ none_any f xs (λ card h. each card (or_right (eqb x card) (has xs card) h))
 
-not_below : (a b : ℕ) → b ≤ a → ltb a b ≡ false
-not_below a b e = elim (cases_Bool (ltb a b)) [ inl low ↦ (let lt = ltb-true a b low in absurd (omega (arith, lt, e))) | inr high ↦ high ]
+-- a card that is left of some cards is one of them, and was not played
+left_held : (cards : List ℕ) (past : List Move) (card : ℕ) → has (filter (λ c. not (has (cards_of past) c)) cards) card ≡ true →
+    (has cards card ≡ true) × (has (cards_of past) card ≡ false)
+left_held cards past card h =
+    let parts = and_parts (has cards card) (not (has (cards_of past) card)) (sym (has-filter (λ c. not (has (cards_of past) c)) cards card) ∙ h) in
+    (parts.0, not-true (has (cards_of past) card) parts.1)
 
 module _ (problem : Setup) (setup : IsSetup problem) (dealt : Dealt) (deal : IsDeal (unseen_of problem) dealt) where
   abbrev start : Start
@@ -132,10 +131,7 @@ module _ (problem : Setup) (setup : IsSetup problem) (dealt : Dealt) (deal : IsD
         ∙ sym (has-filter (λ c. not (has (cards_of past) c)) problem.hold card)
 
     own_held : (card : ℕ) → has (cards_left hands Owner past) card ≡ true → has (own_left_by basis acts) card ≡ true
-    own_held card h =
-        let mine = (and_parts (has problem.hold card) (not (has (cards_of past) card)) (sym (has-filter (λ c. not (has (cards_of past) c)) problem.hold card)
-        ∙ h)).0 in
-        own_has card (hold_is_card problem setup card mine) ∙ h
+    own_held card h = own_has card (hold_is_card problem setup card (left_held problem.hold past card h).0) ∙ h
 
     own_kept : (card : ℕ) → has (own_left_by basis acts) card ≡ true → has (cards_left hands Owner past) card ≡ true
     own_kept card h =
@@ -145,13 +141,11 @@ module _ (problem : Setup) (setup : IsSetup problem) (dealt : Dealt) (deal : IsD
     -- a card left to the opponent was not seen
     theirs_hidden : (card : ℕ) → has (cards_left hands Opponent past) card ≡ true → has (seen_by basis acts) card ≡ false
     theirs_hidden card h =
-        let parts = and_parts (has dealt.hold card) (not (has (cards_of past) card)) (sym (has-filter (λ c. not (has (cards_of past) c)) dealt.hold card)
-        ∙ h) in
-        let hidden = theirs_unseen problem setup dealt deal card parts.0 in
+        let left = left_held dealt.hold past card h in
+        let hidden = theirs_unseen problem setup dealt deal card left.0 in
         has-set_where (λ c. has (known_cards problem) c || has (cards_played acts) c) card hidden.0
         ∙ ap (λ (b : Bool). b || has (cards_played acts) card) hidden.1
-        ∙ has_acts pone past card
-        ∙ not-true (has (cards_of past) card) parts.1
+        ∙ has_acts pone past card ∙ left.1
 
     -- the record is the filled record of its acts
     module _ (same : filled_moves start (visible_moves pone past) ≡ past) where
@@ -194,13 +188,13 @@ module _ (problem : Setup) (setup : IsSetup problem) (dealt : Dealt) (deal : IsD
           cond-false (not (fits_at (count_by_acts basis before) card)) (Some does_not_fit)
               (cond (ltb (card_value card) (least_by basis before)) (Some no_deal) None) (ap not (fits_same past legal same card ∙ take.1))
               ∙ cond-false (ltb (card_value card) (least_by basis before)) (Some no_deal) None
-              (not_below (card_value card) (least_by basis before) (omega (arith, least, told))),
+              (le-ltb (card_value card) (least_by basis before) (omega (arith, least, told))),
         )
     may_move Opponent move.Go take high =
         let count = count_same past legal same in
         let told = high refl in (
           refl,
-          cond-false (ltb (count_by_acts basis before) 22) (Some no_deal) None (not_below (count_by_acts basis before) 22 (omega (arith, count, told))),
+          cond-false (ltb (count_by_acts basis before) 22) (Some no_deal) None (le-ltb (count_by_acts basis before) 22 (omega (arith, count, told))),
         )
 
     asked_mover : is_done start (letters_of past) ≡ false → asked_by basis before ≡ side_asked (mover pone (letters_of past))
@@ -240,12 +234,8 @@ module _ (problem : Setup) (setup : IsSetup problem) (dealt : Dealt) (deal : IsD
   -- ---- a problem with these acts as its opening
   -- a card that is played is a card of the two holds
   move_is : (side : Side) (turn : Move) (past : List Move) → MayTake hands side turn past → IsMove turn
-  move_is Owner (move.Card card) past take =
-      hold_is_card problem setup card (and_parts (has problem.hold card) (not (has (cards_of past) card))
-      (sym (has-filter (λ c. not (has (cards_of past) c)) problem.hold card) ∙ take.0)).0
-  move_is Opponent (move.Card card) past take =
-      (theirs_unseen problem setup dealt deal card (and_parts (has dealt.hold card) (not (has (cards_of past) card))
-      (sym (has-filter (λ c. not (has (cards_of past) c)) dealt.hold card) ∙ take.0)).0).0
+  move_is Owner (move.Card card) past take = hold_is_card problem setup card (left_held problem.hold past card take.0).0
+  move_is Opponent (move.Card card) past take = (theirs_unseen problem setup dealt deal card (left_held dealt.hold past card take.0).0).0
   move_is side move.Go past take = tt
 
   pub moves_are : (played : List Move) → IsLegal start hands played → AllMoves (acts_of pone played)

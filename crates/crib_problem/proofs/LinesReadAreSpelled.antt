@@ -45,31 +45,19 @@ unfolding score_in
 score_form = most_form bad_score 120 3 (omega arith) (omega arith) (omega arith)
 
 abbrev HasScores : List (List ℕ) → Scores → Type 0
-HasScores words scores = (words ≡ decimal scores.owner ∷ decimal scores.opponent ∷ []) × (scores.owner ≤ 120) × (scores.opponent ≤ 120)
+HasScores words scores = (words ≡ decimal scores.owner ∷ decimal scores.opponent ∷ []) × ((scores.owner ≤ 120) × (scores.opponent ≤ 120))
 
-both_found : (words : List (List ℕ)) (scores : Scores) → both_scores words ≡ Ok scores → HasScores words scores
+pub scores_found : (words : List (List ℕ)) (scores : Scores) → both_scores words ≡ Ok scores → HasScores words scores
 unfolding both_scores
-both_found (first ∷ second ∷ []) scores e =
+scores_found (first ∷ second ∷ []) scores e =
     let a = bind_ok (score_in first) _ scores e in
     let b = bind_ok (score_in second) _ scores a.2 in
     let made : Scores = record { owner = a.0; opponent = b.0 } in
     let f = score_form.found first a.0 a.1 in
     let s = score_form.found second b.0 b.1 in
-    subst (λ (v : Scores). HasScores (first ∷ second ∷ []) v) (ok_is made scores b.2) (
-      ap (λ (w : List ℕ). w ∷ second ∷ []) f.0
-          ∙ ap (λ (w : List ℕ). decimal a.0 ∷ w ∷ []) s.0,
-      f.1,
-      s.1,
-    )
-both_found words scores e = absurd cc
-
-pub scores_found : (words : List (List ℕ)) (scores : Scores) → scores_in words ≡ Ok scores
-    → (words ≡ codes "score" ∷ decimal scores.owner ∷ decimal scores.opponent ∷ []) × (scores.owner ≤ 120) × (scores.opponent ≤ 120)
-unfolding scores_in
-scores_found words scores e =
-    let a = bind_ok (after_keyword (codes "score") 2 words) _ scores e in
-    let b = both_found a.0 scores a.2 in
-    ((after_found (codes "score") 2 words a.0 a.1).0 ∙ ap (λ (w : List (List ℕ)). codes "score" ∷ w) b.0, b.1, b.2)
+    subst (λ (v : Scores). HasScores (first ∷ second ∷ []) v) (ok_is made scores b.2)
+    (ap (λ (w : List ℕ). w ∷ second ∷ []) f.0 ∙ ap (λ (w : List ℕ). decimal a.0 ∷ w ∷ []) s.0, (f.1, s.1))
+scores_found words scores e = absurd cc
 
 pub card_found : (known word : List ℕ) (card : ℕ) → new_card known word ≡ Ok card → (word ≡ card_text card) × IsCard card × (has known card ≡ false)
 unfolding new_card
@@ -92,7 +80,7 @@ other_way one false apart holds = refl
 other_way one true apart holds = absurd (both_ways one (apart refl) holds)
 
 -- a card is not among others that are all apart from it
-not_among : (known others : List ℕ) (card : ℕ) → ((other : ℕ) → has others other ≡ true → has (card ∷ known) other ≡ false) → has others card ≡ false
+pub not_among : (known others : List ℕ) (card : ℕ) → ((other : ℕ) → has others other ≡ true → has (card ∷ known) other ≡ false) → has others card ≡ false
 not_among known others card apart = other_way (has (card ∷ known) card) (has others card) (apart card) (has_here card known)
 
 pub cards_found : (known : List ℕ) (words : List (List ℕ)) (cards : List ℕ) → new_cards known words ≡ Ok cards
@@ -124,98 +112,6 @@ cards_found known (word ∷ words) cards e =
         fresh = fresh;
       },
     )
-
-abbrev HasGoal : Version → ℕ → List (List ℕ) → Goal → Type 0
-HasGoal version score words goal = (words ≡ goal_words goal) × IsGoal score goal × CanSay version goal []
-
-holes_said : (version : Version) (holes : ℕ) → CanSay version (Holes holes) []
-holes_said One holes = (refl, refl)
-holes_said Two holes = tt
-
-win_said : (version : Version) → CanSay version Win []
-win_said One = (refl, refl)
-win_said Two = tt
-
-holes_found : (version : Version) (score : ℕ) (word : List ℕ) (goal : Goal) → holes_in score word ≡ Ok goal →
-    HasGoal version score (codes "holes" ∷ word ∷ []) goal
-unfolding holes_in
-holes_found version score word goal e =
-    let a = bind_ok (number_in word) _ goal e in
-    let b = bind_ok (unless_refused bad_goal (nat_le 1 a.0 && nat_le a.0 (game_hole - score))) _ goal a.2 in
-    let both = and_parts _ _ (unless_ok _ bad_goal b.0 b.1) in
-    subst (HasGoal version score (codes "holes" ∷ word ∷ [])) (ok_is (Holes a.0) goal b.2)
-    (ap (λ (w : List ℕ). codes "holes" ∷ w ∷ []) (number_found word a.0 a.1).0, (leb-true _ _ both.0, leb-true _ _ both.1), holes_said version a.0)
-
-two_found : (version : Version) (score : ℕ) (words : List (List ℕ)) (goal : Goal) → holes_goal score words ≡ Ok goal → HasGoal version score words goal
-unfolding holes_goal
-two_found version score [] goal e = absurd cc
-two_found version score (kind ∷ []) goal e = absurd cc
-two_found version score (kind ∷ word ∷ []) goal e =
-    elim (cases_Bool (bytes_eq kind (codes "holes"))) [
-      | inl holds ↦
-          let same : kind ≡ codes "holes" = (bytes_eq-Decides kind (codes "holes")).0 holds in
-          let read : holes_in score word ≡ Ok goal = (let h : cond (bytes_eq kind (codes "holes")) (holes_in score word) (Err bad_line) ≡ holes_in score word =
-          rw holds refl in sym h ∙ e) in
-          let f = holes_found version score word goal read in
-          (ap (λ (k : List ℕ). k ∷ word ∷ []) same ∙ f.0, f.1, f.2)
-      | inr fails ↦ let h : cond (bytes_eq kind (codes "holes")) (holes_in score word) (Err bad_line) ≡ Err bad_line = rw fails refl in absurd cc
-    ]
-two_found version score (kind ∷ word ∷ other ∷ words) goal e = absurd cc
-
-stop_found : (version : Version) (score : ℕ) (kind : List ℕ) (goal : Goal) → kind ≡ codes "stop" → stop_goal version ≡ Ok goal →
-    HasGoal version score (kind ∷ []) goal
-unfolding stop_goal
-stop_found One score kind goal is e = absurd cc
-stop_found Two score kind goal is e = subst (HasGoal Two score (kind ∷ [])) (ok_is Stop goal e) (ap (λ (k : List ℕ). k ∷ []) is, tt, tt)
-
-plain_found : (version : Version) (score : ℕ) (kind : List ℕ) (goal : Goal) → plain_goal version kind ≡ Ok goal → HasGoal version score (kind ∷ []) goal
-unfolding plain_goal
-plain_found version score kind goal e =
-    elim (cases_Bool (bytes_eq kind (codes "win"))) [
-      | inl holds ↦
-          let h : plain_goal version kind ≡ Ok Win = rw holds refl in
-          subst (HasGoal version score (kind ∷ [])) (ok_is Win goal (sym h ∙ e)) (
-            ap (λ (k : List ℕ). k ∷ []) ((bytes_eq-Decides kind (codes "win")).0 holds),
-            tt,
-            win_said version,
-          )
-      | inr fails ↦
-          let h : plain_goal version kind ≡ cond (bytes_eq kind (codes "stop")) (stop_goal version) (Err bad_line) = rw fails refl in
-          stop_or_not version score kind goal (sym h ∙ e)
-    ]
-  where
-    stop_or_not : (version : Version) (score : ℕ) (kind : List ℕ) (goal : Goal) → cond (bytes_eq kind (codes "stop")) (stop_goal version) (Err bad_line)
-        ≡ Ok goal → HasGoal version score (kind ∷ []) goal
-    stop_or_not version score kind goal e =
-        elim (cases_Bool (bytes_eq kind (codes "stop"))) [
-          | inl holds ↦
-              let h : cond (bytes_eq kind (codes "stop")) (stop_goal version) (Err bad_line) ≡ stop_goal version = rw holds refl in
-              stop_found version score kind goal ((bytes_eq-Decides kind (codes "stop")).0 holds) (sym h ∙ e)
-          | inr fails ↦ let h : cond (bytes_eq kind (codes "stop")) (stop_goal version) (Err bad_line) ≡ Err bad_line = rw fails refl in absurd cc
-        ]
-
-abbrev HasGoalLine : Version → ℕ → List (List ℕ) → Goal → Type 0
-HasGoalLine version score words goal = (words ≡ codes "goal" ∷ goal_words goal) × IsGoal score goal × CanSay version goal []
-
-pub goal_found : (version : Version) (score : ℕ) (words : List (List ℕ)) (goal : Goal) → goal_in version score words ≡ Ok goal →
-    HasGoalLine version score words goal
-unfolding goal_in win_in target_in
-goal_found version score words goal e =
-    elim (cases_Bool (eqb (length words) 2)) [
-      | inl holds ↦
-          let read : win_in version words ≡ Ok goal =
-          (let h : cond (eqb (length words) 2) (win_in version words) (target_in score words) ≡ win_in version words = rw holds refl in sym h ∙ e) in
-          let a = bind_ok (after_keyword (codes "goal") 1 words) _ goal read in
-          let b = bind_ok (only_word a.0) _ goal a.2 in
-          let p = plain_found version score b.0 goal b.2 in
-          ((after_found (codes "goal") 1 words a.0 a.1).0 ∙ ap (λ (w : List (List ℕ)). codes "goal" ∷ w) (only_found a.0 b.0 b.1 ∙ p.0), p.1, p.2)
-      | inr fails ↦
-          let read : target_in score words ≡ Ok goal =
-          (let h : cond (eqb (length words) 2) (win_in version words) (target_in score words) ≡ target_in score words = rw fails refl in sym h ∙ e) in
-          let a = bind_ok (after_keyword (codes "goal") 2 words) _ goal read in
-          let t = two_found version score a.0 goal a.2 in
-          ((after_found (codes "goal") 2 words a.0 a.1).0 ∙ ap (λ (w : List (List ℕ)). codes "goal" ∷ w) t.0, t.1, t.2)
-    ]
 
 pub seven_distinct : (starter : ℕ) (hold thrown : List ℕ) → AreNew (starter ∷ []) hold → AreNew (starter ∷ hold) thrown →
     are_distinct (starter ∷ hold ++ thrown) ≡ true

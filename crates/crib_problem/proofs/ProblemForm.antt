@@ -25,7 +25,8 @@ use Rattle.crib_problem.proofs.Setups.{AllMoves, says_goal, with_opening, withou
 use Rattle.crib_problem.proofs.TurnLemmas.{acts_words, turns_found, turns_spelled}
 use Rattle.crib_problem.proofs.ActForms.{act_form, count_form}
 use Rattle.crib_problem.proofs.LinesReadAreSpelled.{AreNew, other_way, seven_distinct}
-use Rattle.crib_problem.proofs.SpelledIsRead.{version_form, dealer_form, scores_form, starter_form, cards_form, goal_form}
+use Rattle.crib_problem.proofs.SpelledIsRead.{version_form, dealer_form, scores_form, starter_form, cards_form}
+use Rattle.crib_problem.proofs.GoalForms.{goal_form}
 use Rattle.crib_problem.proofs.SpelledIsRead.{unplayed, apart}
 use Rattle.crib_cards.proofs.Members.{distinct_parts, distinct_left, distinct_right, distinct_apart}
 

@@ -30,8 +30,8 @@ use Rattle.crib_text.proofs.RoomLemmas.{three_digits}
 use Rattle.crib_text.proofs.TextLengths.{words_length}
 use Rattle.crib_text.proofs.Forms.{IsWordForm, AreWordsForm, words_as, keyword_form, named_form, each_form}
 use Rattle.crib_problem.proofs.ActForms.{card_form}
-use Rattle.crib_problem.proofs.LinesReadAreSpelled.{AreNew, version_found, score_form, scores_found, card_found, cards_found, goal_found}
-use Rattle.crib_problem.proofs.TurnLemmas.{side_called_is}
+use Rattle.crib_problem.proofs.LinesReadAreSpelled.{AreNew, version_found, score_form, scores_found, card_found, cards_found}
+use Rattle.crib_problem.proofs.NamedWords.{side_called_is}
 
 -- ---- the words of each line
 
@@ -41,11 +41,6 @@ side_word-word Opponent = refl
 
 number_word : (n : ℕ) → n ≤ 121 → is_word (decimal n) ≡ true
 number_word n small = is_word-decimal n (omega arith)
-
-pub goal_words-words : (score : ℕ) (goal : Goal) → IsGoal score goal → are_words (codes "goal" ∷ goal_words goal) ≡ true
-goal_words-words score Win is = refl
-goal_words-words score Stop is = refl
-goal_words-words score (Holes holes) is = and_from (is_word (decimal holes)) true (number_word holes (omega arith)) refl
 
 version_small : (version : Version) → version_number version ≤ 2
 version_small One = omega arith
@@ -62,16 +57,6 @@ side_spelled : (side : Side) → side_in (side_word side) ≡ Ok side
 unfolding side_in
 side_spelled Owner = refl
 side_spelled Opponent = refl
-
-scores_spelled : (scores : Scores) → scores.owner ≤ 120 → scores.opponent ≤ 120 →
-    scores_in (codes "score" ∷ decimal scores.owner ∷ decimal scores.opponent ∷ []) ≡ Ok scores
-unfolding scores_in both_scores
-scores_spelled scores a b =
-    rw (
-      after_spelled (codes "score") 2 (decimal scores.owner ∷ decimal scores.opponent ∷ []) refl,
-      score_form.spelled scores.owner a,
-      score_form.spelled scores.opponent b,
-    ) refl
 
 new_card_spelled : (known : List ℕ) (card : ℕ) → IsCard card → has known card ≡ false → new_card known (card_text card) ≡ Ok card
 unfolding new_card
@@ -96,25 +81,6 @@ new_cards_spelled known (card ∷ cards) new =
       fresh = λ other h. rw (apart cards card other once h, new.fresh other (has_there card other cards h)) refl;
     } in
     rw (new_card_spelled known card new.all_cards.0 (new.fresh card (has_here card cards)), new_cards_spelled (card ∷ known) cards rest) refl
-
--- ---- the goal
-
-holes_spelled : (score holes : ℕ) → IsGoal score (Holes holes) → holes_in score (decimal holes) ≡ Ok (Holes holes)
-unfolding holes_in
-holes_spelled score holes is =
-    rw (number_spelled holes (omega arith), le-leb 1 holes is.0, le-leb holes (game_hole - score) is.1) refl
-
-stop_spelled : (version : Version) → CanSay version Stop [] → stop_goal version ≡ Ok Stop
-unfolding stop_goal
-stop_spelled One says = let e = says.0 in absurd cc
-stop_spelled Two says = refl
-
-goal_spelled : (version : Version) (score : ℕ) (goal : Goal) → CanSay version goal [] → IsGoal score goal →
-    goal_in version score (codes "goal" ∷ goal_words goal) ≡ Ok goal
-unfolding goal_in win_in target_in plain_goal holes_goal
-goal_spelled version score Win says is = rw (after_spelled (codes "goal") 1 (codes "win" ∷ []) refl, only_spelled (codes "win")) refl
-goal_spelled version score Stop says is = rw (after_spelled (codes "goal") 1 (codes "stop" ∷ []) refl, only_spelled (codes "stop")) (stop_spelled version says)
-goal_spelled version score (Holes holes) says is = rw (after_spelled (codes "goal") 2 (codes "holes" ∷ decimal holes ∷ []) refl) (holes_spelled score holes is)
 
 -- ---- the seven lines
 
@@ -157,14 +123,20 @@ pub dealer_form : AreWordsForm dealer_in (λ side. codes "dealer" ∷ side_word 
 unfolding dealer_in
 dealer_form = named_form (codes "dealer") refl side_form
 
-pub scores_form : AreWordsForm scores_in (λ scores. codes "score" ∷ decimal scores.owner ∷ decimal scores.opponent ∷ [])
-    (λ scores. (scores.owner ≤ 120) × (scores.opponent ≤ 120)) (λ scores. 14)
-scores_form = record {
-  found = λ given scores e. let is = scores_found given scores e in (is.0, (is.1, is.2));
-  spelled = λ scores is. scores_spelled scores is.0 is.1;
+both_form : AreWordsForm both_scores (λ scores. decimal scores.owner ∷ decimal scores.opponent ∷ [])
+    (λ scores. (scores.owner ≤ 120) × (scores.opponent ≤ 120)) (λ scores. 8)
+unfolding both_scores
+both_form = record {
+  found = scores_found;
+  spelled = λ scores is. rw (score_form.spelled scores.owner is.0, score_form.spelled scores.opponent is.1) refl;
   full = λ scores is. rw (number_word scores.owner (omega (arith, is.0)), number_word scores.opponent (omega (arith, is.1))) refl;
   short = λ scores is. omega (arith, score_form.short scores.owner is.0, score_form.short scores.opponent is.1);
 }
+
+pub scores_form : AreWordsForm scores_in (λ scores. codes "score" ∷ decimal scores.owner ∷ decimal scores.opponent ∷ [])
+    (λ scores. (scores.owner ≤ 120) × (scores.opponent ≤ 120)) (λ scores. 14)
+unfolding scores_in
+scores_form = words_as (keyword_form (codes "score") 2 refl both_form) (λ scores is. is.1) (λ scores is. (refl, is)) (λ scores is. omega arith)
 
 first_card_form : IsWordForm (new_card []) card_text IsCard 2
 first_card_form = record {
@@ -194,17 +166,3 @@ cards_form keyword count known is_keyword =
     words_as (keyword_form keyword count is_keyword (new_cards_form known))
     (λ cards is. (sym (length-map cards card_text) ∙ is.0, is.1)) (λ cards is. (length-map cards card_text ∙ is.0, is.1))
     (λ cards is. omega (arith, is.0))
-
-goal_short : (score : ℕ) (goal : Goal) → IsGoal score goal → words_length (codes "goal" ∷ goal_words goal) ≤ 15
-goal_short score Win is = omega arith
-goal_short score Stop is = omega arith
-goal_short score (Holes holes) is = omega (arith, three_digits holes (omega (arith, is.1)))
-
-pub goal_form : (version : Version) (score : ℕ) → AreWordsForm (goal_in version score) (λ goal. codes "goal" ∷ goal_words goal)
-    (λ goal. IsGoal score goal × CanSay version goal []) (λ goal. 15)
-goal_form version score = record {
-  found = λ given goal e. let is = goal_found version score given goal e in (is.0, (is.1, is.2));
-  spelled = λ goal is. goal_spelled version score goal is.1 is.0;
-  full = λ goal is. goal_words-words score goal is.0;
-  short = λ goal is. goal_short score goal is.0;
-}

@@ -13,11 +13,12 @@ use Rattle.crib_play.specs.Legal.{IsDealt}
 use Rattle.crib_problem.specs.Setup.{Setup, IsSetup, IsGoal, goal_hole, known_cards, unseen_of, start_of, hands_of}
 use Rattle.crib_problem.specs.declared.problem.Goal.{Goal}
 use Rattle.crib_problem.specs.declared.problem.Goal.TheVariants.{Win, Holes, Stop}
+use Rattle.crib_problem.proofs.CardLemmas.{all_parts}
+use Rattle.crib_problem.proofs.GoalForms.{goal_bounds}
 use Rattle.crib_cards.proofs.Members.{all_has, distinct_append, distinct_left}
 
 pub first_all : (xs ys : List ℕ) → AllByRecursion IsCard (xs ++ ys) → AllByRecursion IsCard xs
-first_all [] ys all = tt
-first_all (x ∷ xs) ys all = (all.0, first_all xs ys all.1)
+first_all xs ys all = (all_parts xs ys all).0
 
 -- ---- lists of cards
 pub each_has : (P : ℕ → Type 0) (xs : List ℕ) (card : ℕ) → AllByRecursion P xs → has xs card ≡ true → P card
@@ -39,11 +40,6 @@ length-set_of (card ∷ cards) all distinct =
     more ∙ (let rest = length-set_of cards all.1 parts.1 in omega (arith, rest))
 
 -- ---- the start
-goal_bounds : (score : ℕ) (goal : Goal) → score ≤ 120 → IsGoal score goal → (score < goal_hole score goal) × (goal_hole score goal ≤ 121)
-goal_bounds score Win low is = (omega arith, omega arith)
-goal_bounds score Stop low is = (omega arith, omega arith)
-goal_bounds score (Holes holes) low is = (omega (arith, is.0), omega (arith, is.1))
-
 module _ (problem : Setup) (setup : IsSetup problem) where
   pub started : IsStart (start_of problem)
   started =

@@ -1,5 +1,7 @@
 //! Cards and acts as text: the words and lines that the sections of problems and games share.
-ghost use Rattle.std.specs.Prelude.{◌≡◌, ◌+◌, ◌*◌, ◌≤◌, ◌++◌, ◌∷◌, [], length, map, decimal, IfOk};
+ghost use Rattle.std.specs.Prelude.{◌≡◌, ◌+◌, ◌*◌, ◌≤◌, ◌++◌, ◌∷◌, [], length, map, decimal, IfOk, if◌then◌else◌};
+ghost use Rattle.crib_cards.specs.Sides.{same_side};
+ghost use Rattle.crib_cards.specs.declared.sides.Side.TheVariants.{Owner};
 ghost use Rattle.std.specs.Prelude.{vec_len, vec_capacity};
 ghost use Rattle.std.specs.List.{flat_map};
 ghost use Rattle.crib_cards.specs.CardText.{card_text};
@@ -8,9 +10,9 @@ ghost use Rattle.crib_text.specs.Refusals.{cause_number};
 ghost use Rattle.crib_text.specs.Reading.{Gives};
 ghost use Rattle.crib_text.specs.Spelling.{line_text};
 ghost use Rattle.crib_text.specs.Private.Writing.{Appended};
-ghost use Rattle.crib_problem.specs.Reading.{act_in, actor_in, acts_count_in, card_in, most_acts, move_in};
+ghost use Rattle.crib_problem.specs.Reading.{act_in, actor_in, acts_count_in, card_in, most_acts, move_in, side_called};
 ghost use Rattle.crib_problem.specs.Spelling.{act_line, actor_word, acts_lines};
-ghost use Rattle.crib_problem.specs.Private.Spelling.{move_end, spaced_card};
+ghost use Rattle.crib_problem.specs.Private.Spelling.{spaced_card};
 
 use crib_cards::{Act, Card, Move, Side, card_text, read_card};
 use crib_text::{Line, TextCause, append, append_number, check_keyword, number_of, word_at};
@@ -20,13 +22,11 @@ use std::alloc::Allocator;
 const MOST_ACTS: u32 = 32;
 
 /// Returns the card that a word spells. A word that is no card is refused with 5.
+#[tactic(auto, unfolding(crate::specs::Reading::card_in))]
 pub fn card_of(word: &[u8]) -> Result<Card, TextCause>
     ensures { Gives (λ card. card) cause_number result (card_in word.now) }
 {
-    match read_card(word) {
-        Some(card) => Ok(card),
-        None => Err(TextCause::BadCard),
-    }
+    read_card(word).ok_or(TextCause::BadCard)
 }
 
 /// Returns the number of acts that a line states: the keyword, and then a number up to 32. The line is refused with 4
@@ -44,13 +44,14 @@ pub fn acts_count_of(line: &Line<'_>, keyword: &[u8]) -> Result<u32, TextCause>
     Ok(count)
 }
 
-#[tactic(auto, unfolding(crate::specs::Reading::actor_in))]
-fn actor_of(word: &[u8]) -> Result<Side, TextCause>
-    ensures { Gives (λ side. side) cause_number result (actor_in word.now) }
+// Returns the side that a word names, given the name of each side.
+pub(crate) fn side_of(word: &[u8], owner: &[u8], opponent: &[u8]) -> Result<Side, TextCause>
+    ensures { Gives (λ side. side) cause_number result
+        (side_called (λ side. if same_side side Owner then owner.now else opponent.now) word.now) }
 {
-    if word == b"own".as_slice() {
+    if word == owner {
         Ok(Side::Owner)
-    } else if word == b"opp".as_slice() {
+    } else if word == opponent {
         Ok(Side::Opponent)
     } else {
         Err(TextCause::BadLine)
@@ -69,14 +70,14 @@ fn move_of(word: &[u8]) -> Result<Move, TextCause>
 
 /// Returns the act of a line such as `own 2C` or `opp go`. The line is refused with 4 if it has not two words or the
 /// first is neither `own` nor `opp`. It is refused with 5 if the second word is neither `go` nor a card.
-#[tactic(auto, using(crate::proofs::ActLemmas::two_in_act))]
+#[tactic(auto, using(crate::proofs::ActLemmas::two_in_act), unfolding(crate::specs::Reading::actor_in))]
 pub fn act_of(line: &Line<'_>) -> Result<Act, TextCause>
     ensures { Gives (λ act. act) cause_number result (act_in (line_of line.now).words) }
 {
     if line.word_count() != 2 {
         return Err(TextCause::BadLine);
     }
-    let side = actor_of(word_at(line, 0))?;
+    let side = side_of(word_at(line, 0), b"own", b"opp")?;
     let what = move_of(word_at(line, 1))?;
     Ok(Act { side, what })
 }
@@ -113,32 +114,24 @@ fn put_acts<A: Allocator>(text: &mut Vec<u8, A>, acts: &[Act])
     ensures { Appended text.old text.new (flat_map line_text (map act_line acts.now)) (7 * length acts.now) }
 {
     for act in acts {
-        put_actor(text, act.side);
-        put_move(text, act.what);
+        put_act(text, act);
     }
 }
 
-fn put_actor<A: Allocator>(text: &mut Vec<u8, A>, side: Side)
-    requires { vec_len text.old + 3 ≤ vec_capacity text.old }
-    ensures { Appended text.old text.new (actor_word side) 3 }
+fn put_act<A: Allocator>(text: &mut Vec<u8, A>, act: &Act)
+    requires { vec_len text.old + 7 ≤ vec_capacity text.old }
+    ensures { Appended text.old text.new (line_text (act_line act.now)) 7 }
 {
-    match side {
-        Side::Owner => append(text, b"own"),
-        Side::Opponent => append(text, b"opp"),
-    }
-}
-
-// Appends a space, the word of the move, and LF.
-fn put_move<A: Allocator>(text: &mut Vec<u8, A>, what: Move)
-    requires { vec_len text.old + 4 ≤ vec_capacity text.old }
-    ensures { Appended text.old text.new (move_end what) 4 }
-{
-    match what {
-        Move::Card(card) => {
-            put_cards(text, &[card]);
-            append(text, b"\n");
+    let actor = match act.side {
+        Side::Owner => b"own",
+        Side::Opponent => b"opp",
+    };
+    match act.what {
+        Move::Card(card) => append_cards(text, actor, &[card]),
+        Move::Go => {
+            append(text, actor);
+            append(text, b" go\n");
         }
-        Move::Go => append(text, b" go\n"),
     }
 }
 

@@ -1,19 +1,16 @@
 -- What a table represents after some acts of an opening.
-use Rattle.std.specs.Prelude.{◌≡◌, ℕ, ◌+◌, List, Option, Some, None, length, IsTrue}
+use Rattle.std.specs.Prelude.{◌≡◌, ℕ, ◌+◌, List, Option, length, IsTrue}
 use Rattle.crib_cards.specs.Cards.{IsCard}
 use Rattle.crib_cards.specs.Sets.{has}
 use Rattle.crib_cards.specs.Start.{pone_of}
 use Rattle.crib_cards.specs.declared.sides.Side.TheVariants.{Owner}
 use Rattle.crib_cards.specs.declared.moves.Act.{Act}
-use Rattle.crib_play.specs.declared.turns.Turn.{Turn}
-use Rattle.crib_play.specs.declared.turns.Turn.TheVariants as turns
 use Rattle.crib_play.specs.Record as plays
 use Rattle.crib_play.specs.Record.{count_of}
 use Rattle.crib_play.specs.Legal.{letters_of}
 use Rattle.crib_play.specs.History.{moves_of}
 use Rattle.crib_play.specs.Standing.{StandsFor}
 use Rattle.crib_problem.specs.declared.turns.OpeningTable.{OpeningTable}
-use Rattle.crib_problem.specs.Refusals.{already_over}
 use Rattle.crib_problem.specs.Played.{OpeningBasis, record_by, own_left_by, seen_by, least_by, turn_refusal}
 
 -- each card of the owner's hold is a known card of the pack, and the cards that the owner has left and has played are
@@ -41,9 +38,3 @@ pub record IsReal (table : OpeningTable) : Type 0 where
 abbrev pub refusal_at : OpeningTable → Act → Option ℕ
 refusal_at table act =
     turn_refusal table.seen table.round.asked (count_of table.round.pile) table.own table.least act
-
--- the refusal of a turn, given the player to move after it: the deal is done if there is none
-abbrev pub end_refusal : Turn → Option ℕ
-end_refusal turns.Owner = None
-end_refusal turns.Opponent = None
-end_refusal turns.Over = Some already_over

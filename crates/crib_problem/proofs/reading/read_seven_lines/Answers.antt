@@ -5,6 +5,6 @@ use Rattle.crib_problem.specs.Reading.{seven_lines_at}
 use Rattle.crib_problem.proofs.ProblemForm.{seven_setup}
 use Rattle.crib_problem.proofs.reading.read_seven_lines.Goals as goal
 
-pub of-requires : goal.of-requires
+pub invariant_of-result : goal.invariant_of-result
 unfolding seven_lines_at value_at
-of-requires c = seven_setup (rest_of c.args.lines.now) _ (search rules)
+invariant_of-result c = seven_setup (rest_of c.args.lines.now) _ (search rules)

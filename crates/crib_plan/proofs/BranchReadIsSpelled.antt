@@ -4,8 +4,9 @@ use Rattle.std.proofs.Common.{take, drop, Option, Some, None, Ok, decimal, refl,
 use Rattle.std.specs.Prelude.{option_map, position, replicate, nat_le}
 use Rattle.std.specs.List.{list_any, AllByRecursion}
 use Rattle.std.proofs.lemmas.Bool.{cases_Bool, eqb-true, eq-eqb, leb-true, and_parts, not-true, or_left, or_right, or_parts}
-use Rattle.std.proofs.lemmas.List.{append-nil, length-take, take-append-drop, drop-drop, drop_more, map-append}
+use Rattle.std.proofs.lemmas.List.{append-nil, length-take, take-append-drop, take-take, drop_more, map-append}
 use Rattle.std.proofs.lemmas.List.Folds.{list_any-append}
+use Rattle.std.proofs.Math.Seq.{take-append-add}
 use Rattle.std.proofs.lemmas.List.Quantifiers.{position-Some}
 use Rattle.crib_cards.specs.Sets.{has}
 use Rattle.crib_text.specs.Refusals.{bad_line}
@@ -139,42 +140,16 @@ led_split node (holds ∷ holding) (next ∷ nexts) (suc first) none here inside
     let rest = led_split node holding nexts first (λ i below. none (suc i) (omega arith)) here (omega arith) (omega arith) in
     rw (h, k) (ap (λ (ns : List Next). next ∷ ns) rest)
 
-leads_drop : (k : ℕ) (xs : List Next) (node : ℕ) → leads (drop k xs) node ≡ true → leads xs node ≡ true
-leads_drop zero xs node e = e
-leads_drop (suc k) [] node e = e
-leads_drop (suc k) (x ∷ xs) node e = or_right (leads_to node x) (leads xs node) (leads_drop k xs node e)
-
-leads_take : (i j : ℕ) (xs : List Next) (node : ℕ) → i ≤ j → leads (take i xs) node ≡ true → leads (take j xs) node ≡ true
-leads_take zero j xs node below e = absurd cc
-leads_take (suc i) zero xs node below e = absurd (omega arith)
-leads_take (suc i) (suc j) [] node below e = e
-leads_take (suc i) (suc j) (x ∷ xs) node below e =
-    elim (cases_Bool (leads_to node x)) [
-      | inl is ↦ or_left (leads_to node x) (leads (take j xs) node) is
-      | inr differs ↦ or_right (leads_to node x) (leads (take j xs) node)
-          (leads_take i j xs node (omega arith) (or_rest (leads_to node x) (leads (take i xs) node) e differs))
-    ]
-
--- each branch from a place on leads where an earlier one leads
+-- each branch leads where one before a place leads
 abbrev pub IsLow : ℕ → List Next → Type 0
-IsLow least nexts = (node : ℕ) → leads (drop least nexts) node ≡ true → leads (take least nexts) node ≡ true
+IsLow least nexts = (node : ℕ) → leads nexts node ≡ true → leads (take least nexts) node ≡ true
 
 low_more : (i j : ℕ) (nexts : List Next) → i ≤ j → IsLow i nexts → IsLow j nexts
 low_more i j nexts below low node e =
-    let back : drop j nexts ≡ drop (j - i) (drop i nexts) = ap (λ (k : ℕ). drop k nexts) {x = j} {y = i + (j - i)} (omega arith)
-    ∙ sym (drop-drop (j - i) i nexts) in
-    let f : leads (drop (j - i) (drop i nexts)) node ≡ true = ap (λ (ns : List Next). leads ns node) (sym back) ∙ e in
-    leads_take i j nexts node below (low node (leads_drop (j - i) (drop i nexts) node f))
-
-drop_past : (xs : List Next) (x : Next) (ys : List Next) (n : ℕ) → n ≡ length xs → drop (n + 1) (xs ++ x ∷ ys) ≡ ys
-drop_past [] x ys n is = rw is refl
-drop_past (y ∷ xs) x ys zero is = absurd (omega arith)
-drop_past (y ∷ xs) x ys (suc n) is = let k : suc n + 1 ≡ suc (n + 1) = omega arith in rw k (drop_past xs x ys n (omega arith))
-
-take_past : (xs : List Next) (x : Next) (ys : List Next) (n : ℕ) → n ≡ length xs → take (n + 1) (xs ++ x ∷ ys) ≡ xs ++ x ∷ []
-take_past [] x ys n is = rw is refl
-take_past (y ∷ xs) x ys zero is = absurd (omega arith)
-take_past (y ∷ xs) x ys (suc n) is = let k : suc n + 1 ≡ suc (n + 1) = omega arith in rw k (ap (λ (ns : List Next). y ∷ ns) (take_past xs x ys n (omega arith)))
+    let whole : take j nexts ≡ take i nexts ++ drop i (take j nexts) =
+    sym (ap (λ (ns : List Next). ns ++ drop i (take j nexts)) (sym (take-take i j nexts below)) ∙ take-append-drop i (take j nexts)) in
+    ap (λ (ns : List Next). leads ns node) whole ∙ leads-append (take i nexts) (drop i (take j nexts)) node
+    ∙ or_left (leads (take i nexts) node) (leads (drop i (take j nexts)) node) (low node e)
 
 map_agree : (f g : ℕ → List ℕ) (xs : List ℕ) → ((x : ℕ) → has xs x ≡ true → f x ≡ g x) → map f xs ≡ map g xs
 map_agree f g [] same = refl
@@ -221,8 +196,10 @@ one_more place count before words word holding first node h long at low free lat
     let xs : List Next = take first nexts in
     let ys : List Next = drop (first + 1) nexts in
     let whole : nexts ≡ xs ++ x ∷ ys = sym (take-append-drop first nexts) ∙ ap (λ (ns : List Next). take first nexts ++ ns) here in
+    let low_first = low_more before.least first nexts low h.low in
     let low_here : (other : ℕ) → leads (x ∷ ys) other ≡ true → leads xs other ≡ true =
-    λ other e. low_more before.least first nexts low h.low other (ap (λ (ns : List Next). leads ns other) here ∙ e) in
+    λ other e. low_first other (ap (λ (ns : List Next). leads ns other) whole ∙ leads-append xs (x ∷ ys) other
+    ∙ or_right (leads xs other) (leads (x ∷ ys) other) e) in
     let fresh_here : leads xs node ≡ false =
     (or_parts (leads xs node) (leads (x ∷ ys) node) (sym (leads-append xs (x ∷ ys) node) ∙ ap (λ (ns : List Next). leads ns node) (sym whole) ∙ fresh)).0 in
     let tail : List Bool = drop (first + 1) holding in
@@ -237,20 +214,18 @@ one_more place count before words word holding first node h long at low free lat
     ]) in
     let new : branch_word (led_by node holding nexts) node ≡ word =
     ap (λ (ls : List ℕ). ls ++ colon ∷ decimal node) (letters_new node letter_bytes holding nexts fresh (long ∙ sym h.long)) ∙ sym is in
-    let at_first : first ≡ length xs = omega (arith, length-take first nexts) in
     record {
       long = length-led node holding nexts ∙ h.long;
       later = all_led place count node later holding nexts h.later;
       low = λ other e.
-          let f : leads (led_by node tail ys) other ≡ true =
-          ap (λ (ns : List Next). leads ns other) (sym (ap (drop (first + 1)) split ∙ drop_past xs (To node) (led_by node tail ys) first at_first)) ∙ e in
           let goal : leads (xs ++ To node ∷ []) other ≡ true = leads-append xs (To node ∷ []) other ∙ elim (cases_Bool (eqb node other)) [
             | inl same ↦ or_right (leads xs other) (eqb node other || false) (or_left (eqb node other) false same)
             | inr differs ↦ or_left (leads xs other) (eqb node other || false)
-                (low_here other (or_right (leads_to other x) (leads ys other)
-                (or_rest (eqb node other) (leads ys other) (led_leads node tail ys other f) differs)))
+                (low_first other (or_rest (eqb node other) (leads nexts other) (led_leads node holding nexts other e) differs))
           ] in
-          ap (λ (ns : List Next). leads ns other) (ap (take (first + 1)) split ∙ take_past xs (To node) (led_by node tail ys) first at_first) ∙ goal;
+          let at_first : first ≡ length xs = omega (arith, length-take first nexts) in
+          ap (λ (ns : List Next). leads ns other) (ap (take (first + 1)) split ∙ ap (λ (k : ℕ). take (k + 1) (xs ++ To node ∷ led_by node tail ys)) at_first
+          ∙ take-append-add xs (To node ∷ led_by node tail ys) 1) ∙ goal;
       spelled =
           ap (λ (ws : List (List ℕ)). ws ++ word ∷ []) (h.spelled ∙ sym kept)
           ∙ ap (λ (w : List ℕ). map (branch_word (led_by node holding nexts)) (nodes_of [] nexts) ++ w ∷ []) (sym new)

@@ -5,7 +5,7 @@ use Rattle.std.specs.Prelude.{position, replicate}
 use Rattle.std.specs.List.{list_any, position_or_len, AllByRecursion}
 use Rattle.std.proofs.lemmas.Bool.{cases_Bool, cases_eq, le-leb, lt-ltb, eqb-true, eq-eqb, ne_eqb, and_parts, not-true, or_left, or_right}
 use Rattle.std.proofs.lemmas.List.{append-nil, length-append, length-map}
-use Rattle.std.proofs.Math.Seq.{take-append_seam}
+use Rattle.std.proofs.Math.Seq.{take-append_seam, drop-append-add}
 use Rattle.crib_cards.specs.Sets.{has, are_distinct}
 use Rattle.crib_text.proofs.ReadingLemmas.{number_spelled}
 use Rattle.crib_text.proofs.WordLemmas.{place_here, place_later}
@@ -54,10 +54,6 @@ colon_there (byte ∷ front) back none =
           ∙ ap suc (colon_there front back f))
     ]
 
-pub drop_behind : (front : List ℕ) (byte : ℕ) (back : List ℕ) → drop (length front + 1) (front ++ byte ∷ back) ≡ back
-drop_behind [] byte back = refl
-drop_behind (first ∷ front) byte back = let k : suc (length front) + 1 ≡ suc (length front + 1) = omega arith in rw k (drop_behind front byte back)
-
 pub parts_spelled : (front back : List ℕ) → list_any is_colon front ≡ false → list_any is_colon back ≡ false →
     parts_in (front ++ colon ∷ back) ≡ Ok (record { front = front; back = back })
 unfolding parts_in
@@ -65,7 +61,7 @@ parts_spelled front back none none2 =
     let inside : length front < length (front ++ colon ∷ back) = omega (arith, length-append front (colon ∷ back)) in
     let there : position is_colon (front ++ colon ∷ back) ≡ Some (length front) = position_there is_colon (front ++ colon ∷ back) (length front)
     (colon_there front back none) inside in
-    rw (there, drop_behind front colon back, none2, take-append_seam front (colon ∷ back)) refl
+    rw (there, drop-append-add front (colon ∷ back) 1, none2, take-append_seam front (colon ∷ back)) refl
 
 -- ---- a set of letters
 

@@ -18,7 +18,7 @@ use Rattle.crib_plan.specs.Spelling.{next_word, branch_word, nodes_of, node_line
 use Rattle.crib_plan.specs.Private.Spelling.{spaced_branch}
 use Rattle.crib_plan.specs.Reading.{count_in, count_at, node_from, nodes_at, plan_at}
 use Rattle.crib_plan.specs.Laws.{AreApart, LinesCutLaw, TextCutLaw}
-use Rattle.crib_plan.proofs.WordLemmas.{later_small, node_words}
+use Rattle.crib_plan.proofs.WordLemmas.{node_words}
 use Rattle.crib_plan.proofs.WrittenIsSpelled.{branches_len}
 use Rattle.crib_plan.proofs.ReadIsSpelled.{node_found}
 use Rattle.crib_plan.proofs.SpelledIsRead.{node_spelled}
@@ -47,7 +47,7 @@ node_short place count (See nexts) few is = omega (
   arith,
   ten_digits place is.0,
   branches_length nexts (nodes_of [] nexts),
-  branches_len nexts is.1.0 (later_small place count few nexts is.1.1),
+  branches_len place count nexts is.1.1 is.1.0 few,
 )
 
 node_form : (count : ℕ) → count ≤ most_nodes → (place : ℕ) → AreWordsForm (node_from place count) (node_line place) (IsRow count place) (λ node. 127)

@@ -2,7 +2,7 @@
 use Rattle.std.proofs.Common.{◌≡◌, ℕ, zero, suc, ◌+◌, ◌<◌, ◌≤◌, Bool, true, false, not, cond, eqb, ◌||◌, List, [], ◌∷◌, ◌++◌, length, get_or, Some, None, Ok}
 use Rattle.std.proofs.Common.{refl, sym, ap, subst, ◌∙◌, arith, inl, inr}
 use Rattle.std.specs.Prelude.{position, nat_lt, replicate}
-use Rattle.std.specs.List.{position_or_len}
+use Rattle.std.specs.List.{list_any, position_or_len}
 use Rattle.std.proofs.lemmas.Bool.{cases_Bool, eqb-true, eq-eqb, and_parts, not-true, or_left, or_right}
 use Rattle.std.proofs.lemmas.List.Folds.{list_any-append}
 use Rattle.std.proofs.lemmas.List.Quantifiers.{position-Some}
@@ -16,57 +16,37 @@ use Rattle.crib_plan.proofs.BranchReadIsSpelled.{chosen, led_leads, length-led, 
 use Rattle.crib_plan.proofs.LeadsTo.{leads, or_rest}
 use Rattle.crib_plan.proofs.SeeSets.{chosen_in_order, number_of_first, where_leads, leads_led, free_all}
 
-bool_same : (a b : Bool) → (a ≡ true → b ≡ true) → (b ≡ true → a ≡ true) → a ≡ b
-bool_same true b there back = sym (there refl)
-bool_same false true there back = back refl
-bool_same false false there back = refl
-
 -- ---- nodes
 
-leads_kept : (node other : ℕ) (holding : List Bool) (nexts : List Next) → are_free holding nexts ≡ true → leads nexts other ≡ true
-    → leads (led_by node holding nexts) other ≡ true
-leads_kept node other [] nexts free e = e
-leads_kept node other (holds ∷ holding) [] free e = e
-leads_kept node other (true ∷ holding) (next ∷ nexts) free e =
-    let parts = and_parts (is_end next) (are_free holding nexts) free in
-    or_right (eqb node other) (leads (led_by node holding nexts) other)
-    (leads_kept node other holding nexts parts.1 (or_rest (leads_to other next) (leads nexts other) e (end_leads_not next other parts.0)))
-leads_kept node other (false ∷ holding) (next ∷ nexts) free e =
-    elim (cases_Bool (leads_to other next)) [
-      | inl is ↦ or_left (leads_to other next) (leads (led_by node holding nexts) other) is
-      | inr differs ↦ or_right (leads_to other next) (leads (led_by node holding nexts) other)
-          (leads_kept node other holding nexts free (or_rest (leads_to other next) (leads nexts other) e differs))
-    ]
+some_held : (holding : List Bool) → position_or_len (λ holds. holds) holding < length holding → list_any (λ holds. holds) holding ≡ true
+some_held [] some = absurd (omega arith)
+some_held (true ∷ holding) some = refl
+some_held (false ∷ holding) some = some_held holding (omega arith)
 
-leads_new : (node : ℕ) (holding : List Bool) (nexts : List Next) → length holding ≡ length nexts
-    → position_or_len (λ holds. holds) holding < length holding → leads (led_by node holding nexts) node ≡ true
-leads_new node [] nexts long some = absurd (omega arith)
-leads_new node (holds ∷ holding) [] long some = absurd (omega arith)
-leads_new node (true ∷ holding) (next ∷ nexts) long some = or_left (eqb node node) (leads (led_by node holding nexts) node) (eq-eqb node node refl)
-leads_new node (false ∷ holding) (next ∷ nexts) long some = or_right (leads_to node next) (leads (led_by node holding nexts) node)
-    (leads_new node holding nexts (omega arith) (omega arith))
-
+-- a set with a letter adds its node
 leads_after : (node other : ℕ) (holding : List Bool) (nexts : List Next) → are_free holding nexts ≡ true → length holding ≡ length nexts
-    → position_or_len (λ holds. holds) holding < length holding
-    → leads (led_by node holding nexts) other ≡ (leads nexts other || (eqb node other || false))
-leads_after node other holding nexts free long some =
-    bool_same (leads (led_by node holding nexts) other) (leads nexts other || (eqb node other || false))
-    (λ e.
-    elim (cases_Bool (eqb node other)) [
-      | inl same ↦ or_right (leads nexts other) (eqb node other || false) (or_left (eqb node other) false same)
-      | inr differs ↦ or_left (leads nexts other) (eqb node other || false)
-          (or_rest (eqb node other) (leads nexts other) (led_leads node holding nexts other e) differs)
-    ])
-    (λ e.
-    elim (cases_Bool (leads nexts other)) [
-      | inl there ↦ leads_kept node other holding nexts free there
-      | inr gone ↦ (let new = or_rest (leads nexts other) (eqb node other || false) e gone in
-          elim (cases_Bool (eqb node other)) [
-            | inl same ↦ (let P : ℕ → Type 0 = λ n. leads (led_by node holding nexts) n ≡ true in
-                subst P (eqb-true node other same) (leads_new node holding nexts long some))
-            | inr differs ↦ (let h : (eqb node other || false) ≡ false = rw differs refl in absurd cc)
-          ])
-    ])
+    → leads (led_by node holding nexts) other
+    ≡ (leads nexts other || (cond (list_any (λ holds. holds) holding) (eqb node other) false || false))
+leads_after node other [] [] free long = refl
+leads_after node other [] (next ∷ nexts) free long = absurd (omega arith)
+leads_after node other (holds ∷ holding) [] free long = absurd (omega arith)
+leads_after node other (true ∷ holding) (next ∷ nexts) free long =
+    let parts = and_parts (is_end next) (are_free holding nexts) free in
+    rw (end_leads_not next other parts.0, leads_after node other holding nexts parts.1 (omega arith))
+    (here (eqb node other) (leads nexts other) (list_any (λ (h : Bool). h) holding))
+  where
+    here : (same led more : Bool) → (same || (led || (cond more same false || false))) ≡ (led || (same || false))
+    here true true more = refl
+    here true false more = refl
+    here false true more = refl
+    here false false true = refl
+    here false false false = refl
+leads_after node other (false ∷ holding) (next ∷ nexts) free long =
+    let rest = leads_after node other holding nexts free (omega arith) in
+    elim (cases_Bool (leads_to other next)) [
+      | inl e ↦ rw e refl
+      | inr e ↦ rw e rest
+    ]
 
 -- ---- the branches so far
 
@@ -151,7 +131,7 @@ one_more earlier before branch letters stand are =
                 ap is_end stays ∙ stand.letters letter ∙ ap not (sym same)
           ];
       nodes = λ node.
-          leads_after branch.node node letters.set before.nexts are.free (are.long ∙ sym stand.long) at.1
+          leads_after branch.node node letters.set before.nexts are.free (are.long ∙ sym stand.long) ∙ rw (some_held letters.set at.1) refl
           ∙ ap (λ (b : Bool). b || (eqb branch.node node || false)) (stand.nodes node)
           ∙ sym (list_any-append (λ (b : Branch). eqb b.node node) earlier (branch ∷ []));
       low = λ number h. behind_last earlier branch number (omega (arith, at.0, h));

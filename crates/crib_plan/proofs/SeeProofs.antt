@@ -21,8 +21,8 @@ use Rattle.crib_plan.specs.SeeLaws.{NumberLaw, RangeLaw, NodeLaw, PassLaw}
 use Rattle.crib_plan.proofs.WordLemmas.{decimal_digits, decimal_not_end, digits_colon}
 use Rattle.crib_plan.proofs.BranchReadIsSpelled.{letters_found, parts_found, read_found}
 use Rattle.crib_plan.proofs.LeadsTo.{leads}
+use Rattle.crib_plan.proofs.MemoryLemmas.{Refuses, bind, fine, unless, parts_refuse, letters_refuse}
 use Rattle.crib_plan.proofs.BranchSpelledIsRead.{later_spelled, position_there, parts_spelled}
-use Rattle.crib_plan.proofs.BranchLemmas.{branches_more, branches_stop, branches_none}
 use Rattle.crib_plan.proofs.SeeSets.{read_in_order, chosen_none, number_of_first, free_from}
 use Rattle.crib_plan.proofs.SeeLines.{Stand, none_stand, one_more, next_set_found}
 
@@ -67,51 +67,15 @@ cut_count word parts e =
 
 -- ---- readings with only one refusal
 
--- a reading that can be refused only with this number
-abbrev Only : {A : Type 0} → ℕ → Result A ℕ → Type 0
-Only number read = (refused : ℕ) → read ≡ Err refused → refused ≡ number
-
-only_bind : {A B : Type 0} (number : ℕ) (read : Result A ℕ) (go : A → Result B ℕ) → Only number read → ((value : A) → Only number (go value))
-    → Only number (read >>= go)
-only_bind number (Ok value) go one more = more value
-only_bind number (Err refused) go one more = λ other e. one other (let h : refused ≡ other = cc in ap Err h)
-
-only_ok : {A : Type 0} (number : ℕ) (value : A) → Only number (Ok value)
-only_ok number value = λ refused e. absurd cc
-
-only_or : {A : Type 0} (number : ℕ) (o : Option A) → Only number (or_refused number o)
-only_or number None = λ refused e. cc
-only_or number (Some value) = λ refused e. absurd cc
-
-only_unless : (number : ℕ) (holds : Bool) → Only number (unless_refused number holds)
-only_unless number true = λ refused e. absurd cc
-only_unless number false = λ refused e. cc
-
-else_refused : {A : Type 0} (number : ℕ) (read : Result A ℕ) → Only number read → ((value : A) → read ≡ Ok value → ⊥) → read ≡ Err number
+else_refused : {A : Type 0} (number : ℕ) (read : Result A ℕ) → Refuses (λ refused. refused ≡ number) read → ((value : A) → read ≡ Ok value → ⊥)
+    → read ≡ Err number
 else_refused number (Ok value) only never = absurd (never value refl)
-else_refused number (Err refused) only never = ap Err (only refused refl)
-
-only_parts : (word : List ℕ) → Only bad_line (parts_in word)
-unfolding parts_in
-only_parts word =
-    only_bind bad_line (or_refused bad_line (position is_colon word)) _ (only_or bad_line (position is_colon word)) (λ at.
-    only_bind bad_line (unless_refused bad_line (not (list_any is_colon (drop (at + 1) word)))) _
-    (only_unless bad_line (not (list_any is_colon (drop (at + 1) word)))) (λ u.
-    only_ok bad_line _))
-
-only_letters : (before : Branches) (bytes : List ℕ) → Only bad_set (letters_in before bytes)
-unfolding letters_in
-only_letters before bytes =
-    only_bind bad_set (or_refused bad_set (letters_read letter_bytes bytes)) _ (only_or bad_set (letters_read letter_bytes bytes)) (λ set.
-    only_bind bad_set (or_refused bad_set (position (λ holds. holds) set)) _ (only_or bad_set (position (λ holds. holds) set)) (λ first.
-    only_bind bad_set (unless_refused bad_set (nat_le before.least first && are_free set before.nexts)) _
-    (only_unless bad_set (nat_le before.least first && are_free set before.nexts)) (λ u.
-    only_ok bad_set _)))
+else_refused number (Err refused) only never = ap Err (only.each refused refl)
 
 -- ---- the parts of a branch
 
 no_cut : (word : List ℕ) → count_by is_colon word ≢ 1 → parts_in word ≡ Err bad_line
-no_cut word other = else_refused bad_line (parts_in word) (only_parts word) (λ parts e. other (cut_count word parts e))
+no_cut word other = else_refused bad_line (parts_in word) (parts_refuse refl word) (λ parts e. other (cut_count word parts e))
 
 next_set_read : (earlier : List Branch) (before : Branches) (set : List ℕ) → Stand earlier before → IsNextSet earlier set
     → (letters : Letters) × (letters_in before set ≡ Ok letters)
@@ -151,25 +115,6 @@ branch_set : (place count : ℕ) (before : Branches) (word : List ℕ) (parts : 
 unfolding branch_in
 branch_set place count before word parts refused e f = rw (e, f) refl
 
-branch_next : (place count : ℕ) (before : Branches) (word : List ℕ) (parts : Parts) (letters : Letters) (refused : ℕ) → parts_in word ≡ Ok parts
-    → letters_in before parts.front ≡ Ok letters
-    → branch_node_in place count parts.back ≡ Err refused → branch_in place count before word ≡ Err refused
-unfolding branch_in
-branch_next place count before word parts letters refused e f g = rw (e, f, g) refl
-
-branch_again : (place count : ℕ) (before : Branches) (word : List ℕ) (parts : Parts) (letters : Letters) (node : ℕ) → parts_in word ≡ Ok parts
-    → letters_in before parts.front ≡ Ok letters
-    → branch_node_in place count parts.back ≡ Ok node → leads before.nexts node ≡ true → branch_in place count before word ≡ Err bad_set
-unfolding branch_in
-branch_again place count before word parts letters node e f g h = rw (e, f, g, h) refl
-
-branch_new : (place count : ℕ) (before : Branches) (word : List ℕ) (parts : Parts) (letters : Letters) (node : ℕ) → parts_in word ≡ Ok parts
-    → letters_in before parts.front ≡ Ok letters
-    → branch_node_in place count parts.back ≡ Ok node → leads before.nexts node ≡ false
-    → branch_in place count before word ≡ Ok (record { nexts = led_by node letters.set before.nexts; least = letters.first + 1 })
-unfolding branch_in
-branch_new place count before word parts letters node e f g h = rw (e, f, g, h) refl
-
 -- ---- the branches of a line so far
 
 result_cases : {A : Type 0} (read : Result A ℕ) → ((value : A) × (read ≡ Ok value)) ⊎ ((refused : ℕ) × (read ≡ Err refused))
@@ -178,40 +123,22 @@ result_cases (Err refused) = inr (refused, refl)
 
 one_stands : (place count : ℕ) (front : List Branch) (branch : Branch) (before after : Branches) → Stand front before → branch.node ≤ 4294967295
     → branch_in place count before (branch_spelling branch) ≡ Ok after → Stand (front ++ branch ∷ []) after
+unfolding branch_in
 one_stands place count front branch before after stand small e =
     let digits = digits_colon (decimal branch.node) (decimal_digits branch.node (omega arith)) in
-    elim (cases_Bool (list_any is_colon branch.set)) [
-      | inl some ↦
-          let around = count_around branch.set (decimal branch.node) in
-          let many = count_some branch.set some in
-          let refused = branch_cut place count before (branch_spelling branch) bad_line
-          (no_cut (branch_spelling branch) (λ one. omega (arith, around, many, one))) in
-          absurd cc
-      | inr none ↦
-          let parts = parts_spelled branch.set (decimal branch.node) none digits in
-          let made : Parts = record { front = branch.set; back = decimal branch.node } in
-          elim (result_cases (letters_in before branch.set)) [
-            | inr bad ↦ (let refused = branch_set place count before (branch_spelling branch) made bad.0 parts bad.1 in absurd cc)
-            | inl letters ↦
-                elim (result_cases (later_node place count branch.node)) [
-                  | inr bad ↦ (let refused = branch_next place count before (branch_spelling branch) made letters.0 bad.0 parts letters.1
-                      (number_node place count branch.node small ∙ bad.1) in absurd cc)
-                  | inl node ↦
-                      let same = later_is place count branch.node node.0 node.1 in
-                      let there : branch_node_in place count (decimal branch.node) ≡ Ok branch.node = number_node place count branch.node small ∙ node.1
-                      ∙ ap Ok same in
-                      elim (cases_Bool (leads before.nexts branch.node)) [
-                        | inl again ↦ (let refused = branch_again place count before (branch_spelling branch) made letters.0 branch.node parts letters.1 there
-                            again in absurd cc)
-                        | inr new ↦
-                            let now : Branches = record { nexts = led_by branch.node letters.0.set before.nexts; least = letters.0.first + 1 } in
-                            let read = branch_new place count before (branch_spelling branch) made letters.0 branch.node parts letters.1 there new in
-                            subst (λ (b : Branches). Stand (front ++ branch ∷ []) b) (ok_is now after (sym read ∙ e))
-                            (one_more front before branch letters.0 stand (letters_found before branch.set letters.0 letters.1))
-                      ]
-                ]
-          ]
-    ]
+    let cut = bind_ok (parts_in (branch_spelling branch)) _ after e in
+    let one = cut_count (branch_spelling branch) cut.0 cut.1 in
+    let none : list_any is_colon branch.set ≡ false = elim (cases_Bool (list_any is_colon branch.set)) [
+      | inl some ↦ absurd (omega (arith, count_around branch.set (decimal branch.node), count_some branch.set some, one))
+      | inr none ↦ none
+    ] in
+    let read = rw (parts_spelled branch.set (decimal branch.node) none digits, number_node place count branch.node small) at e in
+    let letters = bind_ok (letters_in before branch.set) _ after read in
+    let node = bind_ok (later_node place count branch.node) _ after letters.2 in
+    let new = bind_ok (unless_refused bad_set (not (leads before.nexts node.0))) _ after node.2 in
+    let now : ℕ → Branches = λ n. record { nexts = led_by n letters.0.set before.nexts; least = letters.0.first + 1 } in
+    subst (λ (b : Branches). Stand (front ++ branch ∷ []) b) (sym (ap now (later_is place count branch.node node.0 node.1)) ∙ ok_is (now node.0) after new.2)
+    (one_more front before branch letters.0 stand (letters_found before branch.set letters.0 letters.1))
 
 stands : (place count : ℕ) (front back : List Branch) (before after : Branches) → Stand front before
     → AllByRecursion (λ (branch : Branch). branch.node ≤ 4294967295) back
@@ -259,8 +186,8 @@ after_passing place count earlier pass words =
 
 refused_there : (place count : ℕ) (earlier : List Branch) (pass : Passing place count earlier) (word : List ℕ) (number : ℕ)
     → branch_in place count pass.before word ≡ Err number → IsRefused place count earlier word number
-refused_there place count earlier pass word number e =
-    λ more. after_passing place count earlier pass (word ∷ more) ∙ branches_stop place count pass.before (word ∷ more) more word number refl e
+unfolding branches_in
+refused_there place count earlier pass word number e = λ more. after_passing place count earlier pass (word ∷ more) ∙ rw e refl
 
 -- ---- the laws
 
@@ -272,20 +199,29 @@ colon_law place count earlier word pass other =
 pub set_law : SetLaw
 set_law place count earlier set next pass none none2 never =
     let p = passing place count earlier pass in
-    let bad = else_refused bad_set (letters_in p.before set) (only_letters p.before set)
+    let bad = else_refused bad_set (letters_in p.before set) (letters_refuse refl p.before set)
     (λ letters e. never (next_set_found earlier p.before set letters p.stand e)) in
     refused_there place count earlier p (set ++ colon ∷ next) bad_set
     (branch_set place count p.before (set ++ colon ∷ next) (record { front = set; back = next }) bad_set (parts_spelled set next none none2) bad)
+
+-- a branch whose letters are allowed is refused or passes by its node
+next_read : (place count : ℕ) (earlier : List Branch) (set next : List ℕ) (p : Passing place count earlier) → HasNoColon set → HasNoColon next
+    → IsNextSet earlier set → (letters : Letters) × ((read : Result ℕ ℕ) → branch_node_in place count next ≡ read
+    → branch_in place count p.before (set ++ colon ∷ next) ≡ (read >>= λ node. unless_refused bad_set (not (leads p.before.nexts node)) >>= λ _. Ok (record {
+      nexts = led_by node letters.set p.before.nexts;
+      least = letters.first + 1;
+    })))
+unfolding branch_in
+next_read place count earlier set next p none none2 is =
+    let letters = next_set_read earlier p.before set p.stand is in
+    (letters.0, λ read e. rw (parts_spelled set next none none2, letters.1, e) refl)
 
 next_refused : (place count : ℕ) (earlier : List Branch) (set next : List ℕ) (number : ℕ) → Pass place count earlier → HasNoColon set
     → HasNoColon next → IsNextSet earlier set
     → branch_node_in place count next ≡ Err number → IsRefused place count earlier (set ++ colon ∷ next) number
 next_refused place count earlier set next number pass none none2 is bad =
     let p = passing place count earlier pass in
-    let letters = next_set_read earlier p.before set p.stand is in
-    refused_there place count earlier p (set ++ colon ∷ next) number
-    (branch_next place count p.before (set ++ colon ∷ next) (record { front = set; back = next }) letters.0 number (parts_spelled set next none none2)
-    letters.1 bad)
+    refused_there place count earlier p (set ++ colon ∷ next) number ((next_read place count earlier set next p none none2 is).1 (Err number) bad)
 
 end_refused : (place count : ℕ) → branch_node_in place count (codes "end") ≡ Err bad_next
 unfolding branch_node_in
@@ -319,8 +255,7 @@ not_later : (place count node : ℕ) → ¬ IsLaterNode place count node → lat
 unfolding later_node
 not_later place count node never =
     else_refused bad_next (later_node place count node)
-    (only_bind bad_next (unless_refused bad_next (nat_lt place node && nat_lt node count)) _ (only_unless bad_next (nat_lt place node && nat_lt node count))
-    (λ u. only_ok bad_next node))
+    (bind (unless bad_next (nat_lt place node && nat_lt node count) refl) (λ u. fine))
     (λ found e.
     let a = bind_ok (unless_refused bad_next (nat_lt place node && nat_lt node count)) _ found e in
     let both = and_parts (nat_lt place node) (nat_lt node count) (unless_ok _ bad_next a.0 a.1) in
@@ -330,24 +265,20 @@ pub range_law : RangeLaw
 range_law place count earlier set next node pass none none2 is e never = next_refused place count earlier set next bad_next pass none none2 is
     (read_node place count next node e ∙ not_later place count node never)
 
+later_read : (place count : ℕ) (next : List ℕ) (node : ℕ) → number_read next ≡ Some node → IsLaterNode place count node
+    → branch_node_in place count next ≡ Ok node
+later_read place count next node e later = read_node place count next node e ∙ later_spelled place count node later.0 later.1
+
 pub node_law : NodeLaw
 node_law place count earlier set next node pass none none2 is e later again =
     let p = passing place count earlier pass in
-    let letters = next_set_read earlier p.before set p.stand is in
-    refused_there place count earlier p (set ++ colon ∷ next) bad_set
-    (branch_again place count p.before (set ++ colon ∷ next) (record { front = set; back = next }) letters.0 node (parts_spelled set next none none2) letters.1
-    (read_node place count next node e ∙ later_spelled place count node later.0 later.1) (p.stand.nodes node ∙ again))
+    let read = (next_read place count earlier set next p none none2 is).1 (Ok node) (later_read place count next node e later) in
+    refused_there place count earlier p (set ++ colon ∷ next) bad_set (read ∙ rw (p.stand.nodes node ∙ again) refl)
 
 pub pass_law : PassLaw
+unfolding branches_in
 pass_law place count earlier set next node pass none none2 is e later new =
     let p = passing place count earlier pass in
-    let letters = next_set_read earlier p.before set p.stand is in
-    let now : Branches = record { nexts = led_by node letters.0.set p.before.nexts; least = letters.0.first + 1 } in
-    let word : List ℕ = set ++ colon ∷ next in
-    let read =
-    branch_new place count p.before word (record { front = set; back = next }) letters.0 node (parts_spelled set next none none2) letters.1
-    (read_node place count next node e ∙ later_spelled place count node later.0 later.1) (p.stand.nodes node ∙ new) in
-    let whole : branches_in place count no_branches (map branch_spelling earlier ++ word ∷ []) ≡ Ok now =
-    after_passing place count earlier p (word ∷ []) ∙ branches_more place count p.before now (word ∷ []) [] word refl read
-    ∙ branches_none place count now [] refl in
-    subst (λ (r : Result Branches ℕ). IsOk r) (sym whole) refl
+    let read = (next_read place count earlier set next p none none2 is).1 (Ok node) (later_read place count next node e later) in
+    subst (λ (r : Result Branches ℕ). IsOk r) (sym (after_passing place count earlier p ((set ++ colon ∷ next) ∷ [])))
+    (rw (read, p.stand.nodes node ∙ new) refl)

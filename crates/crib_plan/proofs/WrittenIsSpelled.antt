@@ -14,49 +14,27 @@ use Rattle.crib_plan.specs.declared.plan.Node.{Node}
 use Rattle.crib_plan.specs.declared.plan.Node.TheVariants.{Play, See}
 use Rattle.crib_plan.specs.Nodes.{most_nodes, IsLater, IsNode, AreNodes, ArePlan}
 use Rattle.crib_plan.specs.Spelling.{letter_bytes, colon, leads_to, letters_to, branch_word, nodes_of, node_line}
-use Rattle.crib_plan.specs.Private.Spelling.{seen_after, spaced_branch}
+use Rattle.crib_plan.specs.Private.Spelling.{seen_after, spaced_branch, branches_text}
 use Rattle.crib_plan.specs.Spelling.{node_lines}
 use Rattle.crib_plan.proofs.BranchReadIsSpelled.{nodes_in}
 use Rattle.crib_plan.proofs.LeadsTo.{leads, nodes_of-append, has-seen_after}
+use Rattle.crib_plan.proofs.WordLemmas.{later_small}
 
--- the letters that are still to be written
-pub letters_next : (node : ℕ) (letters : List ℕ) (nexts : List Next) (i : ℕ) (d : Next) → i < length letters → i < length nexts
-    → letters_to node (drop i letters) (drop i nexts) ≡ cond (leads_to node (get_or nexts i d))
-    (get_or letters i 0 ∷ letters_to node (drop (i + 1) letters) (drop (i + 1) nexts)) (letters_to node (drop (i + 1) letters) (drop (i + 1) nexts))
-letters_next node [] nexts i d inside inside2 = absurd (omega arith)
-letters_next node (letter ∷ letters) [] i d inside inside2 = absurd (omega arith)
-letters_next node (letter ∷ letters) (next ∷ nexts) zero d inside inside2 = refl
-letters_next node (letter ∷ letters) (next ∷ nexts) (suc i) d inside inside2 =
+-- the letters that are still to be written: the next one if it leads to the node, and those behind it
+pub letters_next : (node : ℕ) (letters : List ℕ) (nexts : List Next) (i : ℕ) (b : Bool) → leads_to node (get_or nexts i End) ≡ b →
+    i < length letters → i < length nexts → letters_to node (drop i letters) (drop i nexts)
+    ≡ cond b (get_or letters i 0 ∷ []) [] ++ letters_to node (drop (i + 1) letters) (drop (i + 1) nexts)
+letters_next node [] nexts i b is inside inside2 = absurd (omega arith)
+letters_next node (letter ∷ letters) [] i b is inside inside2 = absurd (omega arith)
+letters_next node (letter ∷ letters) (End ∷ nexts) zero b is inside inside2 = rw (← is) refl
+letters_next node (letter ∷ letters) (To other ∷ nexts) zero true is inside inside2 = rw is refl
+letters_next node (letter ∷ letters) (To other ∷ nexts) zero false is inside inside2 = rw is refl
+letters_next node (letter ∷ letters) (next ∷ nexts) (suc i) b is inside inside2 =
     let k : suc i + 1 ≡ suc (i + 1) = omega arith in
-    rw k (letters_next node letters nexts i d (omega arith) (omega arith))
-
-pub letters_here : (node : ℕ) (letters : List ℕ) (nexts : List Next) (i : ℕ) (d : Next) → i < length letters → i < length nexts →
-    leads_to node (get_or nexts i d) ≡ true
-    → letters_to node (drop i letters) (drop i nexts) ≡ get_or letters i 0 ∷ letters_to node (drop (i + 1) letters) (drop (i + 1) nexts)
-letters_here node letters nexts i d inside inside2 e =
-    letters_next node letters nexts i d inside inside2
-    ∙ ap (λ (b : Bool). cond b (get_or letters i 0 ∷ letters_to node (drop (i + 1) letters) (drop (i + 1) nexts))
-    (letters_to node (drop (i + 1) letters) (drop (i + 1) nexts))) e
-
-pub letters_past : (node : ℕ) (letters : List ℕ) (nexts : List Next) (i : ℕ) (d : Next) → i < length letters → i < length nexts →
-    leads_to node (get_or nexts i d) ≡ false
-    → letters_to node (drop i letters) (drop i nexts) ≡ letters_to node (drop (i + 1) letters) (drop (i + 1) nexts)
-letters_past node letters nexts i d inside inside2 e =
-    letters_next node letters nexts i d inside inside2
-    ∙ ap (λ (b : Bool). cond b (get_or letters i 0 ∷ letters_to node (drop (i + 1) letters) (drop (i + 1) nexts))
-    (letters_to node (drop (i + 1) letters) (drop (i + 1) nexts))) e
-
--- what is left to write after a piece was written
-pub piece_items : (old now new piece left rest total : List ℕ) → new ≡ now ++ piece → left ≡ piece ++ rest → now ++ left ≡ old ++ total → new ++ rest ≡ old
-    ++ total
-piece_items old now new piece left rest total is parts so_far =
-    ap (λ (bs : List ℕ). bs ++ rest) is ∙ append_assoc now piece rest ∙ ap (λ (bs : List ℕ). now ++ bs) (sym parts) ∙ so_far
-
-pub piece_len : (piece left rest : List ℕ) → left ≡ piece ++ rest → length left ≡ length piece + length rest
-piece_len piece left rest parts = ap length parts ∙ length-append piece rest
+    rw k (letters_next node letters nexts i b is (omega arith) (omega arith))
 
 -- the nodes that are still to be written, after some branches
-pub seen_after-append : (before : List ℕ) (xs ys : List Next) → seen_after before (xs ++ ys) ≡ seen_after (seen_after before xs) ys
+seen_after-append : (before : List ℕ) (xs ys : List Next) → seen_after before (xs ++ ys) ≡ seen_after (seen_after before xs) ys
 seen_after-append before [] ys = refl
 seen_after-append before (End ∷ xs) ys = seen_after-append before xs ys
 seen_after-append before (To node ∷ xs) ys =
@@ -65,64 +43,24 @@ seen_after-append before (To node ∷ xs) ys =
       | inr e ↦ rw e (seen_after-append (node ∷ before) xs ys)
     ]
 
--- one branch of the list
-one_here : (nexts : List Next) (i : ℕ) (d : Next) → i < length nexts → take 1 (drop i nexts) ≡ get_or nexts i d ∷ []
-one_here nexts i d inside = ap (take 1) (drop_more nexts i d inside)
-
-take_one : (nexts : List Next) (i : ℕ) → i < length nexts → take (i + 1) nexts ≡ take i nexts ++ take 1 (drop i nexts)
-take_one nexts i inside = take_more nexts i End inside ∙ ap (λ (ns : List Next). take i nexts ++ ns) (sym (one_here nexts i End inside))
-
-drop_one : (nexts : List Next) (i : ℕ) → i < length nexts → drop i nexts ≡ take 1 (drop i nexts) ++ drop (i + 1) nexts
-drop_one nexts i inside = drop_more nexts i End inside ∙ ap (λ (ns : List Next). ns ++ drop (i + 1) nexts) (sym (one_here nexts i End inside))
-
-pub nodes_next : (nexts : List Next) (i : ℕ) → i < length nexts
-    → nodes_of (seen_after [] (take i nexts)) (drop i nexts) ≡ nodes_of (seen_after [] (take i nexts)) (take 1 (drop i nexts))
-    ++ nodes_of (seen_after [] (take (i + 1) nexts)) (drop (i + 1) nexts)
-nodes_next nexts i inside =
+-- the branches that are still to be written: that of the next letter, unless an earlier one has its node, and those behind it
+pub branches_next : (nexts : List Next) (i : ℕ) → i < length nexts → branches_text nexts i
+    ≡ flat_map (spaced_branch nexts) (nodes_of (seen_after [] (take i nexts)) (get_or nexts i End ∷ [])) ++ branches_text nexts (i + 1)
+branches_next nexts i inside =
     let before : List ℕ = seen_after [] (take i nexts) in
-    let after : seen_after before (take 1 (drop i nexts)) ≡ seen_after [] (take (i + 1) nexts) =
-    sym (ap (seen_after []) (take_one nexts i inside) ∙ seen_after-append [] (take i nexts) (take 1 (drop i nexts))) in
-    ap (nodes_of before) (drop_one nexts i inside) ∙ nodes_of-append before (take 1 (drop i nexts)) (drop (i + 1) nexts)
-    ∙ ap (λ (ns : List ℕ). nodes_of before (take 1 (drop i nexts)) ++ nodes_of ns (drop (i + 1) nexts)) after
+    let here : List Next = get_or nexts i End ∷ [] in
+    let after : seen_after before here ≡ seen_after [] (take (i + 1) nexts) =
+    sym (ap (seen_after []) (take_more nexts i End inside) ∙ seen_after-append [] (take i nexts) here) in
+    ap (flat_map (spaced_branch nexts))
+    (ap (nodes_of before) (drop_more nexts i End inside) ∙ nodes_of-append before here (drop (i + 1) nexts)
+    ∙ ap (λ (ns : List ℕ). nodes_of before here ++ nodes_of ns (drop (i + 1) nexts)) after) ∙ flat_map-append (spaced_branch nexts) _ _
 
--- the words of the branches that are still to be written
-pub words_next : (all nexts : List Next) (i : ℕ) → i < length nexts
-    → flat_map (spaced_branch all) (nodes_of (seen_after [] (take i nexts)) (drop i nexts))
-    ≡ flat_map (spaced_branch all) (nodes_of (seen_after [] (take i nexts)) (take 1 (drop i nexts)))
-    ++ flat_map (spaced_branch all) (nodes_of (seen_after [] (take (i + 1) nexts)) (drop (i + 1) nexts))
-words_next all nexts i inside = ap (flat_map (spaced_branch all)) (nodes_next nexts i inside) ∙ flat_map-append (spaced_branch all) _ _
-
-pub words_next-len : (all nexts : List Next) (i : ℕ) → i < length nexts
-    → length (flat_map (spaced_branch all) (nodes_of (seen_after [] (take i nexts)) (drop i nexts)))
-    ≡ length (flat_map (spaced_branch all) (nodes_of (seen_after [] (take i nexts)) (take 1 (drop i nexts)))) + length
-    (flat_map (spaced_branch all) (nodes_of (seen_after [] (take (i + 1) nexts)) (drop (i + 1) nexts)))
-words_next-len all nexts i inside = piece_len _ _ _ (words_next all nexts i inside)
-
-pub words_next-items : (old now new : List ℕ) (all : List Next) (i : ℕ) → i < length all → new ≡ now
-    ++ flat_map (spaced_branch all) (nodes_of (seen_after [] (take i all)) (take 1 (drop i all)))
-    → now ++ flat_map (spaced_branch all) (nodes_of (seen_after [] (take i all)) (drop i all)) ≡ old ++ flat_map (spaced_branch all) (nodes_of [] all)
-    → new ++ flat_map (spaced_branch all) (nodes_of (seen_after [] (take (i + 1) all)) (drop (i + 1) all)) ≡ old
-    ++ flat_map (spaced_branch all) (nodes_of [] all)
-words_next-items old now new all i inside is so_far =
-    piece_items old now new (flat_map (spaced_branch all) (nodes_of (seen_after [] (take i all)) (take 1 (drop i all))))
-    (flat_map (spaced_branch all) (nodes_of (seen_after [] (take i all)) (drop i all)))
-    (flat_map (spaced_branch all) (nodes_of (seen_after [] (take (i + 1) all)) (drop (i + 1) all))) (flat_map (spaced_branch all) (nodes_of [] all)) is
-    (words_next all all i inside) so_far
-
-pub words-old : (all nexts : List Next) (i node : ℕ) (d : Next) → i < length nexts → get_or nexts i d ≡ To node → leads (take i nexts) node ≡ true →
-    flat_map (spaced_branch all) (nodes_of (seen_after [] (take i nexts)) (take 1 (drop i nexts))) ≡ []
-words-old all nexts i node d inside is led =
-    let before : List ℕ = seen_after [] (take i nexts) in
-    let seen : has before node ≡ true = has-seen_after [] (take i nexts) node ∙ led in
-    ap (λ (ns : List Next). flat_map (spaced_branch all) (nodes_of before ns)) (one_here nexts i d inside ∙ ap (λ (x : Next). x ∷ []) is) ∙ rw seen refl
-
-pub words-new : (all nexts : List Next) (i node : ℕ) (d : Next) → i < length nexts → get_or nexts i d ≡ To node → leads (take i nexts) node ≡ false
-    → flat_map (spaced_branch all) (nodes_of (seen_after [] (take i nexts)) (take 1 (drop i nexts))) ≡ spaced_branch all node
-words-new all nexts i node d inside is led =
-    let before : List ℕ = seen_after [] (take i nexts) in
-    let seen : has before node ≡ false = has-seen_after [] (take i nexts) node ∙ led in
-    ap (λ (ns : List Next). flat_map (spaced_branch all) (nodes_of before ns)) (one_here nexts i d inside ∙ ap (λ (x : Next). x ∷ []) is)
-    ∙ rw seen (append-nil (spaced_branch all node))
+pub branch_next : (nexts : List Next) (i node : ℕ) (led : Bool) → i < length nexts → get_or nexts i End ≡ To node → leads (take i nexts) node ≡ led →
+    branches_text nexts i ≡ cond led [] (spaced_branch nexts node) ++ branches_text nexts (i + 1)
+branch_next nexts i node true inside is seen = branches_next nexts i inside ∙ rw (is, has-seen_after [] (take i nexts) node ∙ seen) refl
+branch_next nexts i node false inside is seen =
+    branches_next nexts i inside ∙ rw (is, has-seen_after [] (take i nexts) node ∙ seen)
+    (ap (λ (piece : List ℕ). piece ++ branches_text nexts (i + 1)) (append-nil (spaced_branch nexts node)))
 
 all_fewer : (place count more : ℕ) → count ≤ more → (nexts : List Next) → AllByRecursion (IsLater place count) nexts → AllByRecursion (IsLater place more) nexts
 all_fewer place count more fewer [] all = tt
@@ -268,10 +206,10 @@ words_len all (node ∷ nodes) small =
     omega (arith, length-append (letters_to node letter_bytes all) (colon ∷ decimal node)) in
     omega (arith, length-append (spaced_branch all node) (flat_map (spaced_branch all) nodes))
 
-pub branches_len : (nexts : List Next) → length nexts ≡ 14 → ((node : ℕ) → leads nexts node ≡ true → node < 65536) →
-    length (flat_map (spaced_branch nexts) (nodes_of [] nexts)) ≤ 112
-branches_len nexts long small =
-    let words = words_len nexts (nodes_of [] nexts) (λ node h. small node (nodes_in [] nexts node h)) in
+pub branches_len : (place count : ℕ) (nexts : List Next) → AllByRecursion (IsLater place count) nexts → length nexts ≡ 14 → count ≤ 65535 →
+    length (branches_text nexts 0) ≤ 112
+branches_len place count nexts later long few =
+    let words = words_len nexts (nodes_of [] nexts) (λ node h. later_small place count few nexts later node (nodes_in [] nexts node h)) in
     omega (arith, total_small (nodes_of [] nexts) letter_bytes nexts (distinct_nodes [] nexts), few_nodes [] nexts)
 
 -- the text of a line is the pieces that the code writes

@@ -54,9 +54,7 @@ fn play_of(line: &Line<'_>, place: u16, count: u16) -> Result<Node, PlanCause>
         return Err(BAD_LINE);
     }
     check_own_number(place, word_at(line, 0))?;
-    let Some(card) = read_card(word_at(line, 2)) else {
-        return Err(PlanCause::Text(TextCause::BadCard));
-    };
+    let card = read_card(word_at(line, 2)).ok_or(PlanCause::Text(TextCause::BadCard))?;
     let next = next_of(place, count, word_at(line, 3))?;
     Ok(Node::Play { card, next })
 }
@@ -67,8 +65,7 @@ fn see_of(line: &Line<'_>, place: u16, count: u16) -> Result<Node, PlanCause>
     ensures { Gives (λ node. node) plan_cause_number result (see_in place count (line_of line.now).words) }
 {
     check_own_number(place, word_at(line, 0))?;
-    let branches = branches_of(line, place, count)?;
-    let next = branches.next;
+    let next = branches_of(line, place, count)?.next;
     Ok(Node::See { next })
 }
 

@@ -1,12 +1,13 @@
 -- The lines of a plan as the code reads and writes them, branch by branch, and the most bytes that they need.
-use Rattle.std.specs.Prelude.{ℕ, List, [], ◌∷◌, if◌then◌else◌}
+use Rattle.std.specs.Prelude.{ℕ, List, [], ◌∷◌, take, drop, if◌then◌else◌}
+use Rattle.std.specs.List.{flat_map}
 use Rattle.crib_cards.specs.Sets.{has}
 use Rattle.crib_text.specs.Spelling.{space}
 use Rattle.crib_plan.specs.declared.plan.Next.{Next}
 use Rattle.crib_plan.specs.declared.plan.Next.TheVariants.{End, To}
 use Rattle.crib_plan.specs.declared.plan.Node.{Node}
 use Rattle.crib_plan.specs.declared.plan.Node.TheVariants.{Play, See}
-use Rattle.crib_plan.specs.Spelling.{branch_word}
+use Rattle.crib_plan.specs.Spelling.{branch_word, nodes_of}
 
 -- the given nodes, with those of some branches added
 abbrev pub seen_after : List ℕ → List Next → List ℕ
@@ -18,6 +19,11 @@ seen_after before (To node ∷ branches) =
 -- the word of a branch, after a space
 abbrev pub spaced_branch : List Next → ℕ → List ℕ
 spaced_branch branches node = space ∷ branch_word branches node
+
+-- the branches whose first letters are at this place or later, each after a space
+abbrev pub branches_text : List Next → ℕ → List ℕ
+branches_text branches place =
+    flat_map (spaced_branch branches) (nodes_of (seen_after [] (take place branches)) (drop place branches))
 
 -- the most bytes of a node's line. A play line has at most two numbers of five digits. A see line has at most fourteen
 -- branches, with a letter each

@@ -1,10 +1,10 @@
 -- Each hidden deal that agrees with a history passes, and the letter that it shows next can come.
+use Rattle.std.proofs.lemmas.Bool.Decides.{nat_tests}
 use Rattle.std.proofs.Common.{◌≡◌, ◌⊎◌, ℕ, ◌+◌, ◌<◌, ◌≤◌, Bool, true, false, not, ◌&&◌, ◌||◌, eqb, leb, List, map, length, count_by, refl, sym, ap, subst, ◌∙◌}
 use Rattle.std.proofs.Common.{inl, inr, arith}
-use Rattle.std.proofs.lemmas.Bool.{cases_lt, cond-false, and_parts, and_from, or_cases, or_left, or_right, eq-eqb, ne_eqb, leb-true}
-use Rattle.std.proofs.lemmas.Bool.{le-leb}
+use Rattle.std.proofs.lemmas.Bool.{cases_lt, cond-false, eq-eqb, ne_eqb, leb-true}
 use Rattle.crib_cards.specs.Cards.{IsRank, rank_of, rank_value, card_value}
-use Rattle.crib_cards.specs.Sets.{has, rank_counts, count_at, count_rank}
+use Rattle.crib_cards.specs.Sets.{has, rank_counts, count_rank}
 use Rattle.crib_cards.specs.Start.{Start, pone_of, Hands}
 use Rattle.crib_cards.specs.declared.sides.Side.{Side}
 use Rattle.crib_cards.specs.declared.sides.Side.TheVariants.{Owner, Opponent}
@@ -47,47 +47,29 @@ abbrev pub PassesRanks : ℕ → List ℕ → List ℕ → Type 0
 PassesRanks least played hold = (rank : ℕ) → IsRank rank → PassesRank least played hold rank
 
 module _ (least : ℕ) (played hold : List ℕ) where
-  seen_is : (rank : ℕ) → IsRank rank → count_at (rank_counts played) rank ≡ ranks_of played rank
-  seen_is rank is = count_at-rank_counts played rank is
-
-  held_is : (rank : ℕ) → IsRank rank → count_at (rank_counts (map rank_of hold)) rank ≡ count_rank rank hold
-  held_is rank is = count_at-rank_counts (map rank_of hold) rank is ∙ count_map rank_of rank hold
+  -- whether a hold passes for a rank
+  passes_as : (rank : ℕ) → IsRank rank → passes_rank least (rank_counts played) (rank_counts (map rank_of hold)) rank
+      ≡ (leb (ranks_of played rank) (count_rank rank hold) && (leb least (rank_value rank) || leb (count_rank rank hold) (ranks_of played rank)))
+  passes_as rank is =
+      let seen = count_at-rank_counts played rank is in
+      let held = count_at-rank_counts (map rank_of hold) rank is ∙ count_map rank_of rank hold in
+      (λ i. leb (seen i) (held i) && (leb least (rank_value rank) || leb (held i) (seen i)))
 
   one_from : (seen held value : ℕ) → seen ≤ held → (least ≤ value) ⊎ (held ≤ seen) → (leb seen held && (leb least value || leb held seen)) ≡ true
-  one_from seen held value enough (inl low) = and_from (leb seen held) (leb least value || leb held seen) (le-leb seen held enough)
-      (or_left (leb least value) (leb held seen) (le-leb least value low))
-  one_from seen held value enough (inr same) = and_from (leb seen held) (leb least value || leb held seen) (le-leb seen held enough)
-      (or_right (leb least value) (leb held seen) (le-leb held seen same))
+  one_from seen held value enough high = grind (arith, nat_tests)
 
   one_to : (seen held value : ℕ) → (leb seen held && (leb least value || leb held seen)) ≡ true → (seen ≤ held) × ((least ≤ value) ⊎ (held ≤ seen))
-  one_to seen held value e =
-      let parts = and_parts (leb seen held) (leb least value || leb held seen) e in (
-        leb-true seen held parts.0,
-        elim (or_cases (leb least value) (leb held seen) parts.1) [
-          | inl low ↦ inl (leb-true least value low)
-          | inr same ↦
-              inr (leb-true held seen same)
-        ],
-      )
+  one_to seen held value e = (grind (arith, nat_tests), grind (arith, nat_tests))
 
   pub passes_from : PassesRanks least played hold → passes least (rank_counts played) hold ≡ true
   passes_from each =
       all_ranks_from (passes_rank least (rank_counts played) (rank_counts (map rank_of hold)))
-      (λ rank is.
-      let one = each rank is in
-      ap (λ (n : ℕ). leb n (count_at (rank_counts (map rank_of hold)) rank)
-      && (leb least (rank_value rank) || leb (count_at (rank_counts (map rank_of hold)) rank) n)) (seen_is rank is)
-      ∙ ap (λ (n : ℕ). leb (ranks_of played rank) n && (leb least (rank_value rank) || leb n (ranks_of played rank))) (held_is rank is)
-      ∙ one_from (ranks_of played rank) (count_rank rank hold) (rank_value rank) one.enough one.high)
+      (λ rank is. passes_as rank is ∙ one_from (ranks_of played rank) (count_rank rank hold) (rank_value rank) (each rank is).enough (each rank is).high)
 
   pub passes_to : passes least (rank_counts played) hold ≡ true → PassesRanks least played hold
   passes_to all rank is =
       let here = all_ranks (passes_rank least (rank_counts played) (rank_counts (map rank_of hold))) all rank is in
-      let plain = one_to (ranks_of played rank) (count_rank rank hold) (rank_value rank)
-      (sym (ap (λ (n : ℕ). leb n (count_at (rank_counts (map rank_of hold)) rank)
-      && (leb least (rank_value rank) || leb (count_at (rank_counts (map rank_of hold)) rank) n)) (seen_is rank is)
-      ∙ ap (λ (n : ℕ). leb (ranks_of played rank) n && (leb least (rank_value rank) || leb n (ranks_of played rank))) (held_is rank is))
-      ∙ here) in
+      let plain = one_to (ranks_of played rank) (count_rank rank hold) (rank_value rank) (sym (passes_as rank is) ∙ here) in
       record { enough = plain.0; high = plain.1 }
 
 -- ---- turns
@@ -153,8 +135,7 @@ module _ (problem : Setup) (setup : IsSetup problem) (dealt : Dealt) (deal : IsD
     left_high card held =
         let low = least_left the_start the_hands Opponent past card
         (legal_filled the_start the_hands plays.seen (dealt_is problem setup dealt deal) plays.legal) held in
-        let same = ap (least_of (pone_of the_start) Opponent) (plays_filled the_start the_hands history plays) in
-        omega (arith, low, same)
+        omega (arith, low, ap (least_of (pone_of the_start) Opponent) (plays_filled the_start the_hands history plays))
 
     -- each hidden deal that agrees passes
     pub agreeing_passes : PassesRanks (least_value problem history) (their_ranks history) dealt.hold
@@ -166,21 +147,15 @@ module _ (problem : Setup) (setup : IsSetup problem) (dealt : Dealt) (deal : IsD
             | inl low ↦
                 let none : count_rank rank left ≡ 0 = count_none_of (λ card. eqb (rank_of card) rank) left
                 (λ card held.
-                let high = left_high card held in
                 ne_eqb (rank_of card) rank (λ e. let value : card_value card ≡ rank_value rank = ap rank_value e in
-                absurd (omega (arith, high, value, low)))) in
+                absurd (omega (arith, left_high card held, value, low)))) in
                 inr (omega (arith, all, none))
             | inr enough ↦ inl enough
           ];
         }
 
     pub played_most : length (their_ranks history) ≤ 4
-    played_most =
-        let all = left_played (λ _. true) in
-        let played = count_all_of (their_ranks history) in
-        let held = count_all_of dealt.hold in
-        let four : length dealt.hold ≡ 4 = deal.deal.held in
-        omega (arith, all, played, held, four)
+    played_most = omega (arith, left_played (λ _. true), count_all_of (their_ranks history), count_all_of dealt.hold)
 
     pub past_same : letters_of past ≡ filled_record the_start (history_letters history)
     past_same = plays_filled the_start the_hands history plays
@@ -203,18 +178,14 @@ module _ (problem : Setup) (setup : IsSetup problem) (dealt : Dealt) (deal : IsD
         let T : Side → Type 0 = λ side. MayTake the_hands side (move.Card card) past in
         let take : MayTake the_hands Opponent (move.Card card) past = subst T m may.may_take in
         let held : has left card ≡ true = take.0 in
-        let fit : count_of (pile_of (letters_of past)) + card_value card ≤ 31 = leb-true (count_of (pile_of (letters_of past)) + card_value card) 31 take.1 in
         let low = left_high card held in
         let all : count_rank rank left + ranks_of (their_ranks history) rank ≡ count_rank rank dealt.hold = left_played (λ other. eqb other rank) in
-        let one : 1 ≤ count_rank rank left = count_here (λ c. eqb (rank_of c) rank) left card held (eq-eqb rank rank refl) in
-        let most = held_unseen rank in
-        let same = count_same in
         record {
           is = rank_is card (hold_cards problem setup dealt deal card (held_hold card held));
           asked = now_asked Opponent (move.Card card) may m;
-          fits = omega (arith, fit, same);
+          fits = omega (arith, leb-true (count_of (pile_of (letters_of past)) + card_value card) 31 take.1, count_same);
           high = low;
-          free = omega (arith, all, one, most);
+          free = omega (arith, all, count_here (λ c. eqb (rank_of c) rank) left card held (eq-eqb rank rank refl), held_unseen rank);
         }
       where
         held_hold : (card : ℕ) → has left card ≡ true → has dealt.hold card ≡ true
@@ -229,8 +200,7 @@ module _ (problem : Setup) (setup : IsSetup problem) (dealt : Dealt) (deal : IsD
         let heard = heard_next the_start (letters_of past) (filled_stops the_start plays.seen (started problem setup) taken) may.not_done in
         let high = high_go the_start the_hands past (play_of the_start the_hands dealt_ok past legal) Opponent (subst T m may.may_take)
         (ap (λ (side : Side). is_heard (pone_of the_start) side (letters_of past)) (sym m) ∙ heard) in
-        let same = count_same in
-        record { asked = now_asked Opponent move.Go may m; high = omega (arith, high, same) }
+        record { asked = now_asked Opponent move.Go may m; high = omega (arith, high, count_same) }
 
     covers_turn : (turn : Move) → MayCome the_start the_hands turn past → mover (pone_of the_start) (letters_of past) ≡ Opponent →
         Might problem history (letter_of turn)

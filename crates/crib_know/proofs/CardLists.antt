@@ -1,12 +1,14 @@
 -- Lists of cards as sets, and counts of ranks.
+use Rattle.std.proofs.lemmas.Bool.Decides.{nat_tests}
+use Rattle.crib_cards.proofs.SetCounts.{length-count_all}
 use Rattle.std.proofs.Common.{◌≡◌, ℕ, zero, suc, ◌+◌, ◌<◌, ◌≤◌, Bool, true, false, cond, ◌&&◌, eqb, List, [], ◌∷◌, map, length}
 use Rattle.std.proofs.Common.{count_by, refl, sym, ap, subst, ◌∙◌, inl, inr, arith}
 use Rattle.std.specs.List.{list_all, filter, range_with_len}
-use Rattle.std.proofs.lemmas.Bool.{cases_Bool, cases_eq, or_cases, or_left, or_right, both_ways, eqb-true, eq-eqb}
+use Rattle.std.proofs.lemmas.Bool.{cases_Bool, or_cases, or_right, both_ways, eqb-true}
 use Rattle.crib_cards.specs.Cards.{IsCard, IsRank, ranks}
 use Rattle.crib_cards.specs.Sets.{has, are_distinct, set_where, set_of}
 use Rattle.crib_cards.proofs.SetFacts.{in_set_where}
-use Rattle.crib_know.proofs.CardsLeft.{has-filter_from}
+use Rattle.crib_know.proofs.CardsLeft.{eqb_same, has-filter_from}
 use Rattle.crib_cards.proofs.Members.{has_here, has_there, has_cases, all_has, all_from}
 use Rattle.crib_cards.proofs.SetCounts.{count_cons, count_by-set_of}
 
@@ -21,11 +23,7 @@ has_range_parts start (suc n) card h =
 
 pub has_range_from : (start n card : ℕ) → start ≤ card → card < start + n → has (range_with_len start n) card ≡ true
 has_range_from start zero card low high = absurd (omega arith)
-has_range_from start (suc n) card low high =
-    elim (cases_eq start card) [
-      | inl e ↦ or_left (eqb start card) (has (range_with_len (start + 1) n) card) (eq-eqb start card e)
-      | inr ne ↦ or_right (eqb start card) (has (range_with_len (start + 1) n) card) (has_range_from (start + 1) n card (omega arith) (omega arith))
-    ]
+has_range_from start (suc n) card low high = grind (arith, nat_tests, has_range_from (start + 1) n card)
 
 pub has_set_from : (p : ℕ → Bool) (card : ℕ) → IsCard card → p card ≡ true → has (set_where p) card ≡ true
 unfolding set_where
@@ -39,24 +37,15 @@ each_member P x xs first others y h = elim (has_cases x y xs h) [ inl here ↦ s
 abbrev pub one_if : Bool → ℕ
 one_if b = cond b 1 0
 
-pub one_counted : (b : Bool) → b ≡ true → one_if b ≡ 1
-one_counted b e = ap (one_if) e
+pub one_same : (x : ℕ) → one_if (eqb x x) ≡ 1
+one_same x = ap one_if (eqb_same x)
 
 pub none_counted : (b : Bool) → b ≡ false → one_if b ≡ 0
 none_counted b e = ap (one_if) e
 
-at_most_one : (b : Bool) → one_if b ≤ 1
-at_most_one true = omega arith
-at_most_one false = omega arith
-
 pub count_here : (f : ℕ → Bool) (xs : List ℕ) (card : ℕ) → has xs card ≡ true → f card ≡ true → 1 ≤ count_by f xs
 count_here f [] card h e = absurd (both_ways false refl h)
-count_here f (x ∷ xs) card h e =
-    let more = count_cons f x xs in
-    elim (or_cases (eqb x card) (has xs card) h) [
-      | inl here ↦ let one : one_if (f x) ≡ 1 = one_counted (f x) (ap f (eqb-true x card here) ∙ e) in omega (arith, more, one)
-      | inr there ↦ let rest : 1 ≤ count_by f xs = count_here f xs card there e in omega (arith, more, rest)
-    ]
+count_here f (x ∷ xs) card h e = grind (arith, nat_tests, count_cons f x xs, count_here f xs card)
 
 pub record Counted (f : ℕ → Bool) (xs : List ℕ) : Type 0 where
   pub card : ℕ
@@ -69,25 +58,17 @@ found_by f (x ∷ xs) some =
     elim (cases_Bool (f x)) [
       | inl e ↦ record { card = x; held = has_here x xs; passes = e }
       | inr e ↦
-          let none : one_if (f x) ≡ 0 = none_counted (f x) e in
-          let rest = found_by f xs (omega (arith, count_cons f x xs, none, some)) in
+          let rest = found_by f xs (omega (arith, count_cons f x xs, none_counted (f x) e, some)) in
           record { card = rest.card; held = or_right (eqb x rest.card) (has xs rest.card) rest.held; passes = rest.passes }
     ]
 
 pub count_none_of : (f : ℕ → Bool) (xs : List ℕ) → ((card : ℕ) → has xs card ≡ true → f card ≡ false) → count_by f xs ≡ 0
 count_none_of f [] each = refl
 count_none_of f (x ∷ xs) each =
-    let none : one_if (f x) ≡ 0 = none_counted (f x) (each x (has_here x xs)) in
-    let rest : count_by f xs ≡ 0 = count_none_of f xs (λ card h. each card (or_right (eqb x card) (has xs card) h)) in
-    omega (arith, count_cons f x xs, none, rest)
+    omega (arith, count_cons f x xs, none_counted (f x) (each x (has_here x xs)), count_none_of f xs (λ card h. each card (has_there x card xs h)))
 
 pub count_all_of : (xs : List ℕ) → count_by (λ _. true) xs ≡ length xs
-count_all_of [] = refl
-count_all_of (x ∷ xs) = let rest : count_by (λ _. true) xs ≡ length xs = count_all_of xs in omega (arith, count_cons (λ _. true) x xs, rest)
-
-pub count_most : (f : ℕ → Bool) (xs : List ℕ) → count_by f xs ≤ length xs
-count_most f [] = omega arith
-count_most f (x ∷ xs) = let rest = count_most f xs in let one = at_most_one (f x) in omega (arith, count_cons f x xs, rest, one)
+count_all_of xs = sym (length-count_all xs)
 
 pub count_map : (g : ℕ → ℕ) (r : ℕ) (xs : List ℕ) → count_by (λ x. eqb x r) (map g xs) ≡ count_by (λ x. eqb (g x) r) xs
 count_map g r [] = refl
@@ -107,10 +88,7 @@ count_filter f p (x ∷ xs) =
 -- if each number that passes one test passes another, no more pass the first
 count_le : (f g : ℕ → Bool) (xs : List ℕ) → ((x : ℕ) → has xs x ≡ true → one_if (f x) ≤ one_if (g x)) → count_by f xs ≤ count_by g xs
 count_le f g [] each = omega arith
-count_le f g (x ∷ xs) each =
-    let here = each x (has_here x xs) in
-    let rest = count_le f g xs (λ y h. each y (has_there x y xs h)) in
-    omega (arith, count_cons f x xs, count_cons g x xs, here, rest)
+count_le f g (x ∷ xs) each = omega (arith, count_cons f x xs, count_cons g x xs, each x (has_here x xs), count_le f g xs (λ y h. each y (has_there x y xs h)))
 
 -- if each number passes as many of two tests as it passes of a third, so do all
 pub count_sum : (f g h : ℕ → Bool) (xs : List ℕ) → ((x : ℕ) → one_if (f x) ≡ one_if (g x) + one_if (h x)) → count_by f xs ≡ count_by g xs + count_by h xs
@@ -125,19 +103,16 @@ count_fewer f p q xs harder =
     omega (arith, fewer, count_filter f p xs, count_filter f q xs)
   where
     one : (a b c : Bool) → (a ≡ true → b ≡ true) → one_if (a && c) ≤ one_if (b && c)
-    one false b c h = omega arith
-    one true b true h = let more = ap (λ (d : Bool). one_if (d && true)) (h refl) in omega (arith, more)
-    one true b false h = omega arith
+    one a b c h = grind (arith, nat_tests)
 
 -- ---- a list and its set
 pub count_within : (f p : ℕ → Bool) (xs : List ℕ) → are_distinct xs ≡ true → ((card : ℕ) → has xs card ≡ true → has (set_where p) card ≡ true) →
     count_by f xs ≤ count_by f (set_where p)
 unfolding set_where
 count_within f p xs distinct within =
-    let same : count_by f (set_of xs) ≡ count_by f xs = count_by-set_of f xs distinct (λ card h. (in_set_where p card (within card h)).0) in
     let fewer : count_by f (set_of xs) ≤ count_by f (set_where p) =
     count_fewer f (has xs) p (range_with_len 0 52) (λ card is h. (in_set_where p card (within card h)).1) in
-    omega (arith, same, fewer)
+    omega (arith, count_by-set_of f xs distinct (λ card h. (in_set_where p card (within card h)).0), fewer)
 
 -- ---- counts of ranks
 pub all_ranks_from : (p : ℕ → Bool) → ((rank : ℕ) → IsRank rank → p rank ≡ true) → list_all p ranks ≡ true

@@ -1,4 +1,5 @@
 -- The cards that are left to each side after some visible turns.
+use Rattle.std.proofs.Math.Bool.{or_comm}
 use Rattle.std.proofs.Common.{◌≡◌, ℕ, ◌+◌, Bool, true, false, cond, not, ◌||◌, eqb, List, [], ◌∷◌, ◌++◌, count_by, refl, sym, ap, ◌∙◌, arith}
 use Rattle.std.specs.List.{filter}
 use Rattle.std.proofs.lemmas.Bool.{and_parts, and_from, both_ways, ne_eqb}
@@ -98,13 +99,7 @@ module _ (start : Start) (hands : Hands) (dealt : IsDealt hands) (card : ℕ) (m
   own_card : (m : Side) (played : ℕ) (cards : List ℕ) (history : List Event) → has (remaining cards (hand_of hands m)) played ≡ true →
       has cards card ≡ has (own_cards history) card →
       (has cards card || eqb played card) ≡ has (own_cards (event_by m (move.Card played) ∷ history)) card
-  own_card Owner played cards history held h = or_turned (has cards card) (eqb played card) ∙ ap (λ (b : Bool). eqb played card || b) h
-    where
-      or_turned : (a b : Bool) → (a || b) ≡ (b || a)
-      or_turned true true = refl
-      or_turned true false = refl
-      or_turned false true = refl
-      or_turned false false = refl
+  own_card Owner played cards history held h = or_comm (has cards card) (eqb played card) ∙ ap (λ (b : Bool). eqb played card || b) h
   own_card Opponent played cards history held h =
       let theirs = (has-filter_parts (λ c. not (has cards c)) hands.opponent played held).0 in
       let apart : has hands.owner played ≡ false = distinct_apart_back hands.owner hands.opponent played dealt.distinct theirs in

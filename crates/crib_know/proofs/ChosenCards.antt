@@ -1,7 +1,8 @@
 -- What a hold has after the cards are chosen.
+use Rattle.std.proofs.lemmas.Bool.Decides.{nat_tests}
 use Rattle.std.proofs.Common.{◌≡◌, ◌⊎◌, ℕ, ◌+◌, ◌-◌, ◌<◌, ◌≤◌, min, max, Bool, true, false, cond, ◌&&◌, ◌||◌, eqb, ltb, leb, List, [], ◌∷◌, length, refl, ap}
 use Rattle.std.proofs.Common.{sym, subst, ◌∙◌, inl, inr, arith}
-use Rattle.std.proofs.lemmas.Bool.{cases_eq, and_parts, and_cases, or_cases, both_ways, eqb-true, eq-eqb, ne_eqb}
+use Rattle.std.proofs.lemmas.Bool.{and_parts, and_cases, both_ways, eq-eqb}
 use Rattle.std.proofs.lemmas.Bool.{ltb-true, ltb-false, leb-true, leb-false, or_left, or_right}
 use Rattle.crib_cards.specs.Cards.{IsCard, rank_of, rank_value, card_value}
 use Rattle.crib_cards.specs.Sets.{has, IsCardSet, set_with, count_rank, rank_counts, count_at}
@@ -13,7 +14,7 @@ use Rattle.crib_cards.proofs.SetCounts.{count_by-set_with, length-set_with}
 use Rattle.crib_cards.proofs.SetFacts.{in_set_where, rising_above, rising_rest}
 use Rattle.crib_cards.proofs.SetLemmas.{IsCardSet-set_where, has-set_where}
 use Rattle.crib_know.specs.Private.Choice.{chosen_cards}
-use Rattle.crib_know.proofs.CardLists.{one_if, one_counted, none_counted}
+use Rattle.crib_know.proofs.CardLists.{one_if}
 use Rattle.crib_know.proofs.ChosenRanks.{ranks_of}
 use Rattle.crib_know.proofs.RankTotals.{total, total_add, total_one}
 
@@ -22,11 +23,23 @@ if_cases P true xs ys first second = first refl
 if_cases P false xs ys first second = second refl
 
 with_cases : (hold : List ℕ) (card other : ℕ) → has (set_with hold card) other ≡ true → (has hold other ≡ true) ⊎ (other ≡ card)
-with_cases hold card other h =
-    elim (or_cases (has hold other) (eqb other card) (in_set_where (λ k. has hold k || eqb k card) other h).1) [
-      | inl old ↦ inl old
-      | inr new ↦ inr (eqb-true other card new)
-    ]
+with_cases hold card other h = either (has hold other) (in_set_where (λ k. has hold k || eqb k card) other h).1
+  where
+    either : (held : Bool) → (held || eqb other card) ≡ true → (held ≡ true) ⊎ (other ≡ card)
+    either held e = grind (arith, nat_tests)
+
+-- ---- with one more card of a rank: the count of a rank before and after, and how many were seen of it
+below_most : (c r : ℕ) (after before seen value : ℕ → ℕ) (least held : ℕ) → held ≤ max (after r) (seen r) → after r ≡ before r + one_if (eqb c r) →
+    (value c < least → before c < seen c) → value r < least → held ≤ max (before r) (seen r)
+below_most c r after before seen value least held most more fewer below = grind (arith, nat_tests)
+
+one_used : (c r : ℕ) (after before seen : ℕ → ℕ) → after r ≡ before r + one_if (eqb c r) → before c < seen c →
+    min (after r) (seen r) ≡ one_if (eqb c r) + min (before r) (seen r)
+one_used c r after before seen more less = grind (arith, nat_tests)
+
+none_used : (c r : ℕ) (after before seen : ℕ → ℕ) → after r ≡ before r + one_if (eqb c r) → seen c ≤ before c →
+    min (after r) (seen r) ≡ min (before r) (seen r)
+none_used c r after before seen more most = grind (arith, nat_tests)
 
 module _ (seen : List ℕ) (least whole : ℕ) where
   -- how many cards of a hold stand for ranks that were seen
@@ -91,16 +104,8 @@ module _ (seen : List ℕ) (least whole : ℕ) where
         | inr later ↦ inr (has_there card other cards later)
       ];
       number = next.number;
-      low = λ rank below.
-          let most = next.low rank below in
-          elim (cases_eq (rank_of card) rank) [
-            | inl e ↦
-                let L : ℕ → Type 0 = λ r. rank_value r < least → count_rank r first < ranks_of seen r in
-                let less = subst L e fewer below in
-                let one = one_counted (eqb (rank_of card) rank) (eq-eqb (rank_of card) rank e) in
-                omega (arith, most, more rank, less, one)
-            | inr ne ↦ let none = none_counted (eqb (rank_of card) rank) (ne_eqb (rank_of card) rank ne) in omega (arith, most, more rank, none)
-          ];
+      low = λ rank below. below_most (rank_of card) rank (λ r. count_rank r (set_with first card)) (λ r. count_rank r first) (ranks_of seen) rank_value least
+          (count_rank rank hold) (next.low rank below) (more rank) fewer below;
       passed = λ other h absent. elim (has_cases card other cards h) [
         | inl here ↦ absurd (both_ways (has hold other) absent (ap (has hold) (sym here) ∙ next.keeps card added_there))
         | inr later ↦
@@ -125,32 +130,15 @@ module _ (seen : List ℕ) (least whole : ℕ) where
     used_seen less =
         let rank = rank_is card is in
         let once = (total_one (rank_of card) 1 13).1 rank.0 (omega (arith, rank.1)) in
-        let sum = total_add (λ r. one_if (eqb (rank_of card) r)) (λ r. min (count_rank r first) (ranks_of seen r)) 1 13 in
         let same : used (set_with first card) ≡ total (λ r. one_if (eqb (rank_of card) r) + min (count_rank r first) (ranks_of seen r)) 1 13 =
-        (λ i. total (λ r. each r i) 1 13) in
-        omega (arith, once, sum, same)
-      where
-        each : (r : ℕ) → min (count_rank r (set_with first card)) (ranks_of seen r) ≡ one_if (eqb (rank_of card) r) + min (count_rank r first) (ranks_of seen r)
-        each r =
-            elim (cases_eq (rank_of card) r) [
-              | inl e ↦
-                  let L : ℕ → Type 0 = λ k. count_rank k first < ranks_of seen k in
-                  let here = subst L e less in
-                  let one = one_counted (eqb (rank_of card) r) (eq-eqb (rank_of card) r e) in
-                  omega (arith, more r, here, one)
-              | inr ne ↦ let none = none_counted (eqb (rank_of card) r) (ne_eqb (rank_of card) r ne) in omega (arith, more r, none)
-            ]
+        (λ i. total (λ r. one_used (rank_of card) r (λ k. count_rank k (set_with first card)) (λ k. count_rank k first) (ranks_of seen) (more r) less i)
+        1 13) in
+        omega (arith, once, total_add (λ r. one_if (eqb (rank_of card) r)) (λ r. min (count_rank r first) (ranks_of seen r)) 1 13, same)
 
     -- another card is not used
     used_left : ranks_of seen (rank_of card) ≤ count_rank (rank_of card) first → used (set_with first card) ≡ used first
-    used_left most = λ i. total (λ r. each r i) 1 13
-      where
-        each : (r : ℕ) → min (count_rank r (set_with first card)) (ranks_of seen r) ≡ min (count_rank r first) (ranks_of seen r)
-        each r =
-            elim (cases_eq (rank_of card) r) [
-              | inl e ↦ let L : ℕ → Type 0 = λ k. ranks_of seen k ≤ count_rank k first in let here = subst L e most in omega (arith, more r, here)
-              | inr ne ↦ let none = none_counted (eqb (rank_of card) r) (ne_eqb (rank_of card) r ne) in omega (arith, more r, none)
-            ]
+    used_left most =
+        λ i. total (λ r. none_used (rank_of card) r (λ k. count_rank k (set_with first card)) (λ k. count_rank k first) (ranks_of seen) (more r) most i) 1 13
 
   pub chosen : (first : List ℕ) (left : ℕ) (cards : List ℕ) → IsCardSet first → AreCards cards → are_rising cards ≡ true →
       length first + left ≡ whole + used first → Chosen first cards (chosen_cards (rank_counts seen) least first left cards)
@@ -179,9 +167,8 @@ module _ (seen : List ℕ) (least whole : ℕ) where
       if_cases C (ltb (count_rank (rank_of card) first) (count_at (rank_counts seen) (rank_of card))) _ _
       (λ less.
       let few = ltb-true (count_rank (rank_of card) first) (count_at (rank_counts seen) (rank_of card)) less in
-      let used_more = used_seen first card set is out (omega (arith, few, at)) in
       added first card set is out cards _ rising (λ low. omega (arith, few, at))
-      (then_chosen (set_with first card) left more_set (omega (arith, longer, used_more, number))))
+      (then_chosen (set_with first card) left more_set (omega (arith, longer, used_seen first card set is out (omega (arith, few, at)), number))))
       (λ most.
       let enough : ranks_of seen (rank_of card) ≤ count_rank (rank_of card) first =
       (let many = ltb-false (count_rank (rank_of card) first) (count_at (rank_counts seen) (rank_of card)) most in omega (arith, many, at)) in
@@ -189,10 +176,8 @@ module _ (seen : List ℕ) (least whole : ℕ) where
       (λ both.
       let parts = and_parts (ltb 0 left) (leb least (card_value card)) both in
       let some = ltb-true 0 left parts.0 in
-      let high = leb-true least (card_value card) parts.1 in
-      let used_same = used_left first card set is out enough in
-      added first card set is out cards _ rising (λ low. absurd (omega (arith, low, high)))
-      (then_chosen (set_with first card) (left - 1) more_set (omega (arith, longer, used_same, number, some))))
+      added first card set is out cards _ rising (λ low. absurd (omega (arith, low, leb-true least (card_value card) parts.1)))
+      (then_chosen (set_with first card) (left - 1) more_set (omega (arith, longer, used_left first card set is out enough, number, some))))
       (λ neither. skipped first card cards _
       (λ absent. record {
         earlier = first;

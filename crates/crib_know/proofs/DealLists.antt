@@ -1,5 +1,7 @@
 -- Lists and sets of the cards of a deal.
-use Rattle.std.proofs.Common.{◌≡◌, ℕ, zero, suc, ◌+◌, ◌<◌, ◌≤◌, Bool, true, false, not, ◌&&◌, eqb, List, [], ◌∷◌, ◌++◌, length}
+use Rattle.std.proofs.lemmas.Bool.Decides.{nat_tests}
+use Rattle.std.proofs.lemmas.List.Sums.{count_by-le-length}
+use Rattle.std.proofs.Common.{◌≡◌, ℕ, zero, suc, ◌+◌, ◌<◌, ◌≤◌, Bool, true, false, not, ◌&&◌, eqb, List, [], ◌∷◌, length}
 use Rattle.std.proofs.Common.{length-append, take, count_by, refl, ap, ◌∙◌, arith}
 use Rattle.std.specs.List.{filter, range_with_len}
 use Rattle.std.proofs.lemmas.Bool.{and_from, both_ways}
@@ -8,7 +10,7 @@ use Rattle.crib_cards.specs.Sets.{has, are_distinct, set_of, set_where, set_with
 use Rattle.crib_cards.proofs.SetLemmas.{set_where_agree}
 use Rattle.crib_problem.specs.Setup.{Setup, IsSetup, known_cards, unseen_of}
 use Rattle.crib_problem.proofs.StartLemmas.{each_has}
-use Rattle.crib_know.proofs.CardLists.{one_if, count_most, count_sum, count_filter, Counted, found_by, has_set_from, count_here, each_member}
+use Rattle.crib_know.proofs.CardLists.{one_if, count_sum, count_filter, Counted, found_by, has_set_from, count_here, each_member}
 use Rattle.crib_cards.proofs.SetCounts.{count_by-set_of}
 use Rattle.crib_cards.proofs.Members.{AreCards, AreAmong, has_here, has_there}
 use Rattle.crib_cards.proofs.SetFacts.{are_distinct-set_where}
@@ -26,25 +28,18 @@ count_split f p q xs =
     omega (arith, parts, count_filter f p xs, count_filter f (λ c. p c && q c) xs, count_filter f (λ c. p c && not (q c)) xs)
   where
     one : (a b c : Bool) → one_if (a && c) ≡ one_if ((a && b) && c) + one_if ((a && not b) && c)
-    one false b c = refl
-    one true true c = omega arith
-    one true false c = omega arith
+    one a b c = grind (arith, nat_tests)
 
 -- a set is the cards of a list and its other cards
 pub split_set : (f p : ℕ → Bool) (xs : List ℕ) → are_distinct xs ≡ true → AreCards xs → ((card : ℕ) → has xs card ≡ true → p card ≡ true) →
     count_by f (set_where p) ≡ count_by f xs + count_by f (set_where (λ c. p c && not (has xs c)))
 unfolding set_where
 split_set f p xs distinct cards within =
-    let split = count_split f p (has xs) (range_with_len 0 52) in
     let both : set_where (λ c. p c && has xs c) ≡ set_of xs = set_where_agree _ _ (λ card is. just (p card) (has xs card) (within card)) in
-    let set : count_by f (set_of xs) ≡ count_by f xs = count_by-set_of f xs distinct cards in
-    let same = ap (count_by f) both in
-    omega (arith, split, same, set)
+    omega (arith, count_split f p (has xs) (range_with_len 0 52), ap (count_by f) both, count_by-set_of f xs distinct cards)
   where
     just : (a b : Bool) → (b ≡ true → a ≡ true) → (a && b) ≡ b
-    just true b h = refl
-    just false true h = h refl
-    just false false h = refl
+    just a b h = grind (arith, nat_tests)
 
 -- ---- a set and another that has all its cards
 module _ (f : ℕ → Bool) (few many : List ℕ) (few_set : IsCardSet few) (many_set : IsCardSet many) (among : AreAmong many few) where
@@ -60,9 +55,7 @@ module _ (f : ℕ → Bool) (few many : List ℕ) (few_set : IsCardSet few) (man
   count_less card held out passes =
       let there = has_set_from (λ c. has many c && not (has few c)) card (in_set many card many_set held) (and_from (has many card) (not (has few card)) held
       (ap not out)) in
-      let one = count_here f (set_without_all many few) card there passes in
-      let rest = count_rest in
-      omega (arith, one, rest)
+      omega (arith, count_here f (set_without_all many few) card there passes, count_rest)
 
 pub sixteen : count_by (λ card. eqb (card_value card) 10) (set_where (λ _. true)) ≡ 16
 unfolding set_where
@@ -76,17 +69,11 @@ has_take (suc n) (x ∷ xs) card h =
 
 -- the owner knows seven cards
 known_seven : (problem : Setup) → IsSetup problem → length (known_cards problem) ≡ 7
-known_seven problem setup = seven problem.hold problem.thrown setup.held setup.two_thrown
-  where
-    seven : (hold thrown : List ℕ) → length hold ≡ 4 → length thrown ≡ 2 → length (problem.starter ∷ hold ++ thrown) ≡ 7
-    seven hold thrown four two = let both = length-append hold thrown in omega (arith, both, four, two)
+known_seven problem setup = omega (arith, length-append problem.hold problem.thrown, setup.held, setup.two_thrown)
 
 -- at least nine tens are unseen
 pub tens_unseen : (problem : Setup) → IsSetup problem → 9 ≤ count_by is_ten (unseen_of problem)
 tens_unseen problem setup =
     let split = split_set is_ten (λ _. true) (known_cards problem) setup.distinct (λ card h. each_has IsCard (known_cards problem) card setup.cards h)
     (λ card h. refl) in
-    let few = count_most is_ten (known_cards problem) in
-    let seven = known_seven problem setup in
-    let all : count_by is_ten (set_where (λ _. true)) ≡ 16 = sixteen in
-    omega (arith, split, few, seven, all)
+    omega (arith, split, count_by-le-length is_ten (known_cards problem), known_seven problem setup, sixteen)

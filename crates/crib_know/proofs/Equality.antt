@@ -1,5 +1,5 @@
 -- Two knowledges compare as equal exactly where they are the same.
-use Rattle.std.proofs.Common.{ℕ, List, sym, subst, ◌≡◌}
+use Rattle.std.proofs.Common.{sym, subst, ◌≡◌}
 use Rattle.std.specs.Bool.{Decides}
 use Rattle.std.proofs.lemmas.Bool.Decides.{Decides-eqb, Decides-and, Decides-like}
 use Rattle.crib_cards.specs.Sets.{IsCardSet}
@@ -10,9 +10,6 @@ use Rattle.crib_play.proofs.Equality.{same_rounds}
 use Rattle.crib_know.specs.Knowledge.{Knowledge}
 use Rattle.crib_know.specs.Hidden.{IsKnown}
 use Rattle.crib_know.specs.contracts.know.KnowPartialEq.TheImpl as compared
-
-is_set : (cards same : List ℕ) → cards ≡ same → IsCardSet same → IsCardSet cards
-is_set cards same e is = let S : List ℕ → Type 0 = λ xs. IsCardSet xs in subst S (sym e) is
 
 pub same_knows : (one other : Knowledge) → IsKnown one → IsKnown other → Decides (compared.ghosts.eq one other) (one ≡ other)
 same_knows one other known known_other =
@@ -32,17 +29,13 @@ same_knows one other known known_other =
     ))
     (Decides-and _ _
     (Decides-and _ _ (same_rounds one.round other.round)
-    (Decides-and _ _ (same_sets one.own_left other.own_left (own_left one known) (own_left other known_other))
-    (Decides-and _ _ (same_sets one.unseen other.unseen (unseen one known) (unseen other known_other))
-    (same_sets one.fixed other.fixed (fixed one known) (fixed other known_other)))))
+    (Decides-and _ _ (same_sets one.own_left other.own_left (sets one known).0 (sets other known_other).0)
+    (Decides-and _ _ (same_sets one.unseen other.unseen (sets one known).1 (sets other known_other).1)
+    (same_sets one.fixed other.fixed (sets one known).2 (sets other known_other).2))))
     (Decides-and _ _ (same_counts one.ranks_seen other.ranks_seen)
     (Decides-and _ _ (Decides-eqb one.opponent_left other.opponent_left) (Decides-eqb one.least other.least))))
   where
-    own_left : (know : Knowledge) → IsKnown know → IsCardSet know.own_left
-    own_left know known = is_set know.own_left _ (λ i. (known.knows.knowledge i).own_left) (IsCardSet-set_of _)
-
-    unseen : (know : Knowledge) → IsKnown know → IsCardSet know.unseen
-    unseen know known = is_set know.unseen _ (λ i. (known.knows.knowledge i).unseen) (IsCardSet-set_where _)
-
-    fixed : (know : Knowledge) → IsKnown know → IsCardSet know.fixed
-    fixed know known = is_set know.fixed _ (λ i. (known.knows.knowledge i).fixed) (IsCardSet-set_of _)
+    sets : (know : Knowledge) → IsKnown know → IsCardSet know.own_left × IsCardSet know.unseen × IsCardSet know.fixed
+    sets know known =
+        let S : Knowledge → Type 0 = λ k. IsCardSet k.own_left × IsCardSet k.unseen × IsCardSet k.fixed in
+        subst S (sym known.knows.knowledge) (IsCardSet-set_of _, IsCardSet-set_where _, IsCardSet-set_of _)

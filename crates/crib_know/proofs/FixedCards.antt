@@ -1,7 +1,6 @@
 -- The fixed cards: those that the opponent played in the opening.
-use Rattle.std.proofs.Common.{◌≡◌, ℕ, true, false, not, ◌||◌, eqb, cond, List, [], ◌∷◌, Some, None, refl, ap, inl}
-use Rattle.std.proofs.Common.{inr}
-use Rattle.std.proofs.lemmas.Bool.{cases_Bool, and_from, or_parts, or_right, both_ways}
+use Rattle.std.proofs.Common.{◌≡◌, ℕ, true, false, not, ◌||◌, eqb, cond, List, [], ◌∷◌, Some, None, refl, ap}
+use Rattle.std.proofs.lemmas.Bool.{false_from_ne_true, and_from, or_parts, or_right, both_ways}
 use Rattle.crib_cards.specs.Cards.{IsCard}
 use Rattle.crib_cards.specs.Sets.{has, are_distinct}
 use Rattle.crib_cards.specs.declared.sides.Side.{Side}
@@ -9,30 +8,26 @@ use Rattle.crib_cards.specs.declared.sides.Side.TheVariants.{Owner, Opponent}
 use Rattle.crib_cards.specs.declared.moves.Move.{Move}
 use Rattle.crib_cards.specs.declared.moves.Move.TheVariants as move
 use Rattle.crib_cards.specs.declared.moves.Act.{Act}
-use Rattle.crib_play.specs.Score.{asks}
-use Rattle.crib_problem.specs.Played.{OpeningBasis, cards_with, cards_played, cards_by, seen_by, shows_seen, move_refusal, turn_refusal, asked_by}
+use Rattle.crib_problem.specs.Played.{OpeningBasis, cards_with, cards_played, cards_by, seen_by, shows_seen, turn_refusal, asked_by}
 use Rattle.crib_problem.specs.Played.{count_by_acts, own_left_by, least_by, is_over_by, act_refusal, AreAllowed}
-use Rattle.crib_problem.specs.Refusals.{same_card, not_turn, already_over}
+use Rattle.crib_problem.specs.Refusals.{already_over}
 use Rattle.crib_problem.specs.Setup.{Setup, IsSetup, IsMove, known_cards, unseen_of, opening_basis_of, played_back, fixed_cards}
 use Rattle.crib_problem.proofs.Setups.{AllMoves}
-use Rattle.crib_problem.proofs.AskedHolds.{none_of_two, none_of_either}
+use Rattle.crib_problem.proofs.AskedHolds.{none_of_either, MayTurn, may_turn}
 use Rattle.crib_know.proofs.CardLists.{has_set_from, each_member}
 use Rattle.crib_problem.proofs.HonestTurns.{moves_back}
 use Rattle.crib_cards.proofs.Members.{AreCards, has_here, has_there}
 
 -- ---- what holds of an act that is allowed
-pub record Allowed (basis : OpeningBasis) (before : List Act) (act : Act) : Type 0 where
-  pub unseen : shows_seen (seen_by basis before) act.side act.what ≡ false
-  pub asked : not (asks (asked_by basis before) act.side) ≡ false
-  pub may : move_refusal (count_by_acts basis before) (own_left_by basis before) (least_by basis before) act.side act.what ≡ None
+abbrev pub Allowed : OpeningBasis → List Act → Act → Type 0
+Allowed basis before act =
+    MayTurn (seen_by basis before) (asked_by basis before) (count_by_acts basis before) (own_left_by basis before) (least_by basis before) act
 
 pub allowed_parts : (basis : OpeningBasis) (before : List Act) (act : Act) → act_refusal basis before act ≡ None → Allowed basis before act
 allowed_parts basis before act e =
-    let turn = (none_of_either (turn_refusal (seen_by basis before) (asked_by basis before) (count_by_acts basis before) (own_left_by basis before)
-    (least_by basis before) act) (cond (is_over_by basis (act ∷ before)) (Some already_over) None) e).0 in
-    let parts = none_of_two (shows_seen (seen_by basis before) act.side act.what) (not (asks (asked_by basis before) act.side)) same_card not_turn
-    (move_refusal (count_by_acts basis before) (own_left_by basis before) (least_by basis before) act.side act.what) turn in
-    record { unseen = parts.0; asked = parts.1; may = parts.2 }
+    may_turn (seen_by basis before) (asked_by basis before) (count_by_acts basis before) (own_left_by basis before) (least_by basis before) act
+    (none_of_either (turn_refusal (seen_by basis before) (asked_by basis before) (count_by_acts basis before) (own_left_by basis before)
+    (least_by basis before) act) (cond (is_over_by basis (act ∷ before)) (Some already_over) None) e).0
 
 -- ---- the opponent's cards among acts
 -- the opponent's cards among the acts are cards of the pack, all different, and none of the known ones
@@ -51,10 +46,8 @@ pub shown_card : (basis : OpeningBasis) (before : List Act) (card : ℕ) → IsC
     ×
     (has (cards_played before) card ≡ false)
 shown_card basis before card is e =
-    elim (cases_Bool (has basis.known card || has (cards_played before) card)) [
-      | inl seen ↦ absurd (both_ways (has (seen_by basis before) card) e (has_set_from (λ c. has basis.known c || has (cards_played before) c) card is seen))
-      | inr unseen ↦ or_parts (has basis.known card) (has (cards_played before) card) unseen
-    ]
+    or_parts (has basis.known card) (has (cards_played before) card) (false_from_ne_true (has basis.known card || has (cards_played before) card)
+    (λ seen. both_ways (has (seen_by basis before) card) e (has_set_from (λ c. has basis.known c || has (cards_played before) c) card is seen)))
 
 next_shown : (basis : OpeningBasis) (before : List Act) (side : Side) (what : Move) → AreShown basis before → IsMove what →
     shows_seen (seen_by basis before) side what ≡ false → AreShown basis (record { side = side; what = what } ∷ before)
@@ -68,10 +61,7 @@ next_shown basis before Opponent move.Go shown is e = assumption
 next_shown basis before Opponent (move.Card first) shown is e =
     let parts = shown_card basis before first is e in
     let theirs = cards_by Opponent before in
-    let fresh : has theirs first ≡ false = elim (cases_Bool (has theirs first)) [
-      | inl there ↦ absurd (both_ways (has (cards_played before) first) parts.1 (shown.played first there))
-      | inr out ↦ out
-    ] in
+    let fresh = false_from_ne_true (has theirs first) (λ there. both_ways (has (cards_played before) first) parts.1 (shown.played first there)) in
     record {
       cards = each_member (λ card. IsCard card) first theirs is shown.cards;
       distinct = and_from (not (has theirs first)) (are_distinct theirs) (ap not fresh) shown.distinct;
@@ -84,8 +74,7 @@ pub are_shown : (basis : OpeningBasis) (acts : List Act) → AllMoves acts → A
 are_shown basis [] moves allowed = record {
   cards = λ card h. absurd (both_ways false refl h);
   distinct = refl;
-  unknown =
-      λ card h. absurd (both_ways false refl h);
+  unknown = λ card h. absurd (both_ways false refl h);
   played = λ card h. absurd (both_ways false refl h);
 }
 are_shown basis (act ∷ before) moves allowed =
@@ -105,8 +94,5 @@ module _ (problem : Setup) (setup : IsSetup problem) where
   pub fixed_distinct : are_distinct (fixed_cards problem) ≡ true
   fixed_distinct = shown.distinct
 
-  pub fixed_unknown : (card : ℕ) → has (fixed_cards problem) card ≡ true → not (has (known_cards problem) card) ≡ true
-  fixed_unknown card h = ap not (shown.unknown card h)
-
   pub fixed_unseen : (card : ℕ) → has (fixed_cards problem) card ≡ true → has (unseen_of problem) card ≡ true
-  fixed_unseen card h = has_set_from (λ c. not (has (known_cards problem) c)) card (shown.cards card h) (fixed_unknown card h)
+  fixed_unseen card h = has_set_from (λ c. not (has (known_cards problem) c)) card (shown.cards card h) (ap not (shown.unknown card h))

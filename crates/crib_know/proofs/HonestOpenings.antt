@@ -51,9 +51,7 @@ no_more : (later here acts : List Act) → acts ≡ later ++ here → map event_
 no_more [] here acts parts same = parts
 no_more (act ∷ later) here acts parts same =
     let long = ap length parts in
-    let whole = length-append (act ∷ later) here in
-    let events = sym (length-map acts event_of) ∙ ap length same ∙ length-map here event_of in
-    absurd (omega (arith, long, whole, events))
+    absurd (omega (arith, long, length-append (act ∷ later) here, sym (length-map acts event_of) ∙ ap length same ∙ length-map here event_of))
 
 allowed_is_honest : (problem : Setup) → IsSetup problem → (dealt : Dealt) × IsHonest problem dealt (played_back problem)
 allowed_is_honest problem setup =
@@ -87,9 +85,7 @@ honest_is_allowed problem bare can dealt is =
     let there : IsHonest unplayed dealt acts = record { played = is.played; deal = is.deal; legal = is.legal; going = is.going; shows = is.shows } in
     let moves = subst AllMoves is.shows (moves_are unplayed bare dealt is.deal is.played is.legal) in
     let long = at_most_29 (start_of problem) (hands_of problem dealt) is.played (hands_dealt unplayed bare dealt is.deal) is.legal in
-    let fewer = acts_fewer pone is.played in
-    let shown = ap length is.shows in
-    with_opening unplayed problem.played bare can (omega (arith, long, fewer, shown, length-reverse problem.played))
+    with_opening unplayed problem.played bare can (omega (arith, long, acts_fewer pone is.played, ap length is.shows, length-reverse problem.played))
     (subst AllMoves (reverse-reverse problem.played) (moves_back acts moves)) (honest_proved unplayed dealt acts bare there)
 
 pub allowed_proved : AllowedLaw

@@ -1,7 +1,7 @@
 -- What a knowledge says of the histories that it stands for.
-use Rattle.std.proofs.Common.{◌≡◌, ℕ, ◌+◌, ◌<◌, ◌≤◌, true, false, not, eqb, ltb, List, [], ◌∷◌, ◌++◌, map, length, count_by, refl, sym, ap}
-use Rattle.std.proofs.Common.{subst, ◌∙◌, inl, inr, arith}
-use Rattle.std.proofs.lemmas.Bool.{cases_eq, and_parts, both_ways, eq-eqb, ne_eqb, ltb-true}
+use Rattle.std.proofs.Common.{◌≡◌, ℕ, ◌<◌, ◌≤◌, true, false, not, eqb, ltb, List, [], ◌∷◌, ◌++◌, map, length, refl, sym, ap}
+use Rattle.std.proofs.Common.{◌∙◌, arith}
+use Rattle.std.proofs.lemmas.Bool.{and_parts, both_ways, ltb-true}
 use Rattle.crib_cards.specs.Cards.{IsRank, rank_of}
 use Rattle.crib_cards.specs.Sets.{count_rank}
 use Rattle.crib_cards.specs.Start.{pone_of}
@@ -33,12 +33,11 @@ use Rattle.crib_know.specs.Hidden.{IsPossible, CanShow, BeginsAfter, IsFirstDeal
 use Rattle.crib_know.proofs.LedHistories.{MayCome, IsLed}
 use Rattle.crib_know.proofs.ChosenRanks.{ranks_of}
 use Rattle.crib_know.proofs.Events.{Plays, plays_of, plays_taken, play_more}
-use Rattle.crib_know.proofs.CardLists.{one_if, one_counted, none_counted, count_all_of, each_member}
+use Rattle.crib_know.proofs.CardLists.{count_all_of, each_member}
 use Rattle.crib_know.proofs.Deals.{dealt_is, least_after_card, least_after_own, least_after_go_most, least_before}
-use Rattle.crib_know.proofs.AgreeingIsPassing.{PassesRanks, Might, past, left_played, past_same, mover_same, agreeing_passes, played_most}
-use Rattle.crib_know.proofs.AgreeingIsPassing.{held_unseen}
+use Rattle.crib_know.proofs.AgreeingIsPassing.{PassesRanks, Might, past, left_played, past_same, mover_same, played_most}
 use Rattle.crib_know.proofs.PassingIsAgreeing.{can_might, passing_plays, passing_agrees, agrees_passes, shows_letter, own_turn}
-use Rattle.crib_know.proofs.RankTotals.{AreRanks, some_or_none}
+use Rattle.crib_know.proofs.RankTotals.{one_more}
 use Rattle.crib_know.proofs.FirstDeals.{Needs, Fixes, first_dealt, hold_passes, first_is_deal, first_in_order, other_after}
 use Rattle.crib_cards.proofs.SetCounts.{count_cons}
 
@@ -46,15 +45,7 @@ use Rattle.crib_cards.proofs.SetCounts.{count_cons}
 there_more : (rank other : ℕ) (seen unseen : List ℕ) → ranks_of seen rank < count_rank rank unseen → ranks_of seen other ≤ count_rank other unseen →
     ranks_of (rank ∷ seen) other ≤ count_rank other unseen
 there_more rank other seen unseen free there =
-    let more = count_cons (λ r. eqb r other) rank seen in
-    elim (cases_eq rank other) [
-      | inl e ↦
-          let F : ℕ → Type 0 = λ r. ranks_of seen r < count_rank r unseen in
-          let here = subst F e free in
-          let one : one_if (eqb rank other) ≡ 1 = one_counted (eqb rank other) (eq-eqb rank other e) in
-          omega (arith, here, more, one)
-      | inr ne ↦ let none : one_if (eqb rank other) ≡ 0 = none_counted (eqb rank other) (ne_eqb rank other ne) in omega (arith, there, more, none)
-    ]
+    omega (arith, count_cons (λ r. eqb r other) rank seen, one_more (ranks_of seen) (λ r. count_rank r unseen) rank other free there)
 
 -- the ranks that the opponent has played are those of his cards among the acts
 pub ranks_played : (acts : List Act) (rank : ℕ) → ranks_of (their_ranks (map event_of acts)) rank ≡ count_rank rank (cards_by Opponent acts)
@@ -68,8 +59,7 @@ ranks_played (act ∷ before) rank = by_act act.side act.what (ranks_played befo
     by_act Opponent move.Go rest = rest
     by_act Opponent (move.Card card) rest =
         let one = count_cons (λ r. eqb r rank) (rank_of card) (their_ranks (map event_of before)) in
-        let other = count_cons (λ c. eqb (rank_of c) rank) card (cards_by Opponent before) in
-        omega (arith, rest, one, other)
+        omega (arith, rest, one, count_cons (λ c. eqb (rank_of c) rank) card (cards_by Opponent before))
 
 -- later turns only add ranks
 ranks_more : (later history : List Event) (rank : ℕ) → ranks_of (their_ranks history) rank ≤ ranks_of (their_ranks (later ++ history)) rank
@@ -77,9 +67,7 @@ ranks_more [] history rank = omega arith
 ranks_more (Own turn ∷ later) history rank = ranks_more later history rank
 ranks_more (Theirs Go ∷ later) history rank = ranks_more later history rank
 ranks_more (Theirs (Seen first) ∷ later) history rank =
-    let rest = ranks_more later history rank in
-    let one = count_cons (λ r. eqb r rank) first (their_ranks (later ++ history)) in
-    omega (arith, rest, one)
+    omega (arith, ranks_more later history rank, count_cons (λ r. eqb r rank) first (their_ranks (later ++ history)))
 
 -- a history that begins with the opening still does so with one more turn
 pub begin_more : (problem : Setup) (event : Event) (history : List Event) → BeginsAfter problem history → BeginsAfter problem (event ∷ history)
@@ -87,50 +75,38 @@ begin_more problem event history begun = record { later = event ∷ begun.later;
 
 module _ (problem : Setup) (setup : IsSetup problem) where
   -- ---- what a history asks of a hold
-  needs_play : (history : List Event) (rank : ℕ) → Needs problem setup (their_ranks history) (least_value problem history) →
-      CanShow problem history (Seen rank) → Needs problem setup (rank ∷ their_ranks history) (least_value problem (Theirs (Seen rank) ∷ history))
-  needs_play history rank needs can =
-      let dealt = can.0 in
-      let deal = can.1.0 in
-      let after : List Event = Theirs (Seen rank) ∷ history in
-      let plays = plays_of (start_of problem) (hands_of problem dealt) after (started problem setup) (dealt_is problem setup dealt deal) can.1.1 in
-      let might = can_might problem setup history (Seen rank) can in
-      let are : AreRanks (rank ∷ their_ranks history) = each_member (λ r. IsRank r) rank (their_ranks history) might.is needs.are in
-      record {
-        are = are;
-        most = played_most problem setup dealt deal after plays;
-        there = λ other. there_of other are (agreeing_passes problem setup dealt deal after plays) (held_unseen problem setup dealt deal other);
-        least_most = (let same = least_after_card problem history rank in let low = needs.least_most in omega (arith, same, low));
-      }
-    where
-      there_of : (other : ℕ) → AreRanks (rank ∷ their_ranks history) →
-          PassesRanks (least_value problem (Theirs (Seen rank) ∷ history)) (rank ∷ their_ranks history) can.0.hold →
-          count_rank other can.0.hold ≤ count_rank other (unseen_of problem) →
-          ranks_of (rank ∷ their_ranks history) other ≤ count_rank other (unseen_of problem)
-      there_of other are passes most =
-          elim (some_or_none other (rank ∷ their_ranks history) are) [
-            | inl is ↦ let enough = (passes other is).enough in omega (arith, enough, most)
-            | inr none ↦ omega (arith, none)
-          ]
+  needs_shown : (history : List Event) (letter : Letter) → Needs problem setup (their_ranks history) (least_value problem history) →
+      Might problem history letter → length (their_ranks (Theirs letter ∷ history)) ≤ 4 →
+      Needs problem setup (their_ranks (Theirs letter ∷ history)) (least_value problem (Theirs letter ∷ history))
+  needs_shown history (Seen rank) needs might most = record {
+    are = each_member (λ r. IsRank r) rank (their_ranks history) might.is needs.are;
+    most = most;
+    there = λ other. there_more rank other (their_ranks history) (unseen_of problem) might.free (needs.there other);
+    least_most = omega (arith, least_after_card problem history rank, needs.least_most);
+  }
+  needs_shown history Go needs might most = record {
+    are = needs.are;
+    most = most;
+    there = needs.there;
+    least_most = omega (arith, might.high, needs.least_most, least_after_go_most problem history);
+  }
 
   pub needs_history : (history : List Event) → IsLed problem history → Needs problem setup (their_ranks history) (least_value problem history)
   needs_history [] led = record { are = λ rank h. absurd (both_ways false refl h); most = omega arith; there = λ rank. omega arith; least_most = omega arith }
   needs_history (Own turn ∷ history) led =
       let needs = needs_history history led.0 in
-      let low = needs.least_most in
       let same = least_after_own problem history turn (owner_asked turn led.1) in
-      record { are = needs.are; most = needs.most; there = needs.there; least_most = omega (arith, low, same) }
+      record { are = needs.are; most = needs.most; there = needs.there; least_most = omega (arith, same) }
     where
       owner_asked : (own : Move) → MayCome problem history (Own own) → asked_now problem history ≡ turns.Owner
       owner_asked (move.Card card) may = may.0
       owner_asked move.Go may = may.0
-  needs_history (Theirs (Seen rank) ∷ history) led = needs_play history rank (needs_history history led.0) led.1
-  needs_history (Theirs Go ∷ history) led =
-      let needs = needs_history history led.0 in
-      let high = (can_might problem setup history Go led.1).high in
-      let low = needs.least_most in
-      let most = least_after_go_most problem history in
-      record { are = needs.are; most = needs.most; there = needs.there; least_most = omega (arith, high, low, most) }
+  needs_history (Theirs letter ∷ history) led =
+      let can : CanShow problem history letter = led.1 in
+      let hands = hands_of problem can.0 in
+      let plays = plays_of (start_of problem) hands (Theirs letter ∷ history) (started problem setup) (dealt_is problem setup can.0 can.1.0) can.1.1 in
+      needs_shown history letter (needs_history history led.0) (can_might problem setup history letter can)
+      (played_most problem setup can.0 can.1.0 (Theirs letter ∷ history) plays)
 
   pub least_low : (history : List Event) → 1 ≤ least_value problem history
   least_low [] = omega arith
@@ -140,9 +116,7 @@ module _ (problem : Setup) (setup : IsSetup problem) where
   pub begun_fixes : (history : List Event) → BeginsAfter problem history → Fixes problem setup (their_ranks history)
   begun_fixes history begun rank =
       let more = ranks_more begun.later (played_events problem) rank in
-      let played = ranks_played (played_back problem) rank in
-      let whole = ap (λ (h : List Event). ranks_of (their_ranks h) rank) begun.parts in
-      omega (arith, more, played, whole)
+      omega (arith, more, ranks_played (played_back problem) rank, ap (λ (h : List Event). ranks_of (their_ranks h) rank) begun.parts)
 
   -- ---- some deal agrees with it
   module _ (history : List Event) (led : IsLed problem history) (begun : BeginsAfter problem history) where
@@ -158,9 +132,11 @@ module _ (problem : Setup) (setup : IsSetup problem) where
     first_deal : IsDealOf problem first
     first_deal = first_is_deal problem setup (their_ranks history) (least_value problem history) needs fixes
 
+    first_passes : PassesRanks (least_value problem history) (their_ranks history) first.hold
+    first_passes = hold_passes problem setup (their_ranks history) (least_value problem history) needs fixes
+
     first_plays : Plays (start_of problem) (hands_of problem first) history
-    first_plays = passing_plays problem setup first first_deal history led (hold_passes problem setup (their_ranks history) (least_value problem history) needs
-        fixes)
+    first_plays = passing_plays problem setup first first_deal history led first_passes
 
     pub are_taken : AreTaken (start_of problem) (history_letters history)
     are_taken = plays_taken (start_of problem) (hands_of problem first) history first_plays (started problem setup) (dealt_is problem setup first first_deal)
@@ -194,15 +170,7 @@ module _ (problem : Setup) (setup : IsSetup problem) where
         let whole = (play_of start hands dealt_ok moves (legal_filled start hands first_plays.seen dealt_ok first_plays.legal)).left Opponent in
         let all = left_played problem setup first first_deal history first_plays (λ _. true) in
         let four : length first.hold ≡ 4 = first_deal.deal.held in
-        count_up (length (cards_left hands Opponent moves)) (cards_played (pone_of start) Opponent (letters_of moves)) (length (their_ranks history))
-        (length first.hold) whole
-        (sym (ap (λ (n : ℕ). n + length (their_ranks history)) (count_all_of (cards_left hands Opponent moves)))
-        ∙ sym (ap (λ (n : ℕ). count_by (λ _. true) (cards_left hands Opponent moves) + n) (count_all_of (their_ranks history))) ∙ all
-        ∙ count_all_of first.hold)
-        four few
-      where
-        count_up : (left played ranks hold : ℕ) → left + played ≡ 4 → left + ranks ≡ hold → hold ≡ 4 → played < 4 → ranks < 4
-        count_up left played ranks hold a b c d = omega arith
+        omega (arith, few, whole, all, four, count_all_of (cards_left hands Opponent moves), count_all_of (their_ranks history), count_all_of first.hold)
 
     -- ---- a letter can be shown exactly where it might come
     pub shows : (letter : Letter) → Might problem history letter → CanShow problem history letter
@@ -210,34 +178,19 @@ module _ (problem : Setup) (setup : IsSetup problem) where
         let event = Theirs letter in
         let least = least_value problem (event ∷ history) in
         let seen = their_ranks (event ∷ history) in
-        let more = needs_more letter might in
+        let more = needs_shown history letter needs might (at_most_four letter might) in
         let fixes_more = begun_fixes (event ∷ history) (begin_more problem event history begun) in
         shows_letter problem setup (first_dealt problem setup seen least) (first_is_deal problem setup seen least more fixes_more) history letter led might
         (hold_passes problem setup seen least more fixes_more)
       where
-        needs_more : (shown : Letter) → Might problem history shown →
-            Needs problem setup (their_ranks (Theirs shown ∷ history)) (least_value problem (Theirs shown ∷ history))
-        needs_more (Seen rank) play =
-            let few = holds_one play.asked in
-            let same = least_after_card problem history rank in
-            let low = needs.least_most in
-            record {
-              are = each_member (λ r. IsRank r) rank (their_ranks history) play.is needs.are;
-              most = omega (arith, few);
-              there = λ other. there_more rank other (their_ranks history) (unseen_of problem) play.free (needs.there other);
-              least_most = omega (arith, same, low);
-            }
-        needs_more Go play =
-            let high = play.high in
-            let low = needs.least_most in
-            let most = least_after_go_most problem history in
-            record { are = needs.are; most = needs.most; there = needs.there; least_most = omega (arith, high, low, most) }
+        at_most_four : (shown : Letter) → Might problem history shown → length (their_ranks (Theirs shown ∷ history)) ≤ 4
+        at_most_four (Seen rank) play = omega (arith, holds_one play.asked)
+        at_most_four Go play = needs.most
 
     -- ---- the first deal
     pub first_deal_is : IsFirstDeal problem history first
     first_deal_is = record {
-      agrees = passing_agrees problem setup first first_deal history led (hold_passes problem setup (their_ranks history) (least_value problem history) needs
-          fixes);
+      agrees = passing_agrees problem setup first first_deal history led first_passes;
       in_order = first_in_order problem setup (their_ranks history) (least_value problem history) needs fixes;
       first = λ other agrees. other_after problem setup (their_ranks history) (least_value problem history) needs fixes other agrees.0
           (agrees_passes problem setup other agrees.0 history agrees);

@@ -1,4 +1,6 @@
 -- Each hidden deal that agrees has a legal record that begins with the very cards of the opening, suits included.
+use Rattle.crib_problem.proofs.AskedHolds.{asked_open}
+use Rattle.std.proofs.Math.Bool.{or-false, or_comm}
 use Rattle.std.proofs.Common.{◌≡◌, ℕ, ◌+◌, Bool, true, false, not, ◌||◌, eqb, List, [], ◌∷◌, ◌++◌, map, refl, sym, ap, subst, ◌∙◌}
 use Rattle.std.proofs.lemmas.Bool.{le-leb, or_left, or_right}
 use Rattle.crib_cards.specs.Cards.{rank_of, card_value}
@@ -14,7 +16,6 @@ use Rattle.crib_cards.specs.declared.moves.Move.TheVariants as move
 use Rattle.crib_cards.specs.declared.moves.Act.{Act}
 use Rattle.crib_cards.proofs.SetFacts.{has-append}
 use Rattle.crib_play.specs.Record.{mover}
-use Rattle.crib_play.specs.Score.{asks}
 use Rattle.crib_play.specs.Filled.{filled_record}
 use Rattle.crib_play.specs.Standing.{IsStart}
 use Rattle.crib_play.specs.Legal.{IsDealt, letters_of, cards_of}
@@ -38,15 +39,12 @@ use Rattle.crib_know.proofs.AgreeingIsPassing.{MightPlay, own_is, theirs_is}
 use Rattle.crib_know.proofs.PassingIsAgreeing.{MightCome, PassesAfter, may_might, next_play, passes_less, turn_of, fits_same, agrees_passes}
 use Rattle.crib_know.proofs.FixedCards.{allowed_parts, shown_card, back_moves}
 use Rattle.crib_know.proofs.RecordTurns.{agreeing_led}
-use Rattle.crib_know.proofs.OpeningLawProofs.{allowed_led, asked_side, asked_other}
+use Rattle.crib_know.proofs.OpeningLawProofs.{allowed_led}
 use Rattle.crib_cards.proofs.Members.{all_has}
 
 -- ---- lists of cards
 pub or_turned : (a b : Bool) → (a || (b || false)) ≡ (b || a)
-or_turned true true = refl
-or_turned true false = refl
-or_turned false true = refl
-or_turned false false = refl
+or_turned a b = ap (λ (c : Bool). a || c) (or-false b) ∙ or_comm a b
 
 has_cards : (acts : List Act) (card : ℕ) → has (cards_of (moves_of acts)) card ≡ has (cards_played acts) card
 has_cards [] card = refl
@@ -163,14 +161,11 @@ module _ (problem : Setup) (setup : IsSetup problem) (dealt : Dealt) (deal : IsD
   acts_exact (act ∷ before) allowed legal =
       let past = filled_moves start (moves_of before) in
       let side : mover (pone_of start) (letters_of past) ≡ act.side = ap (mover (pone_of start)) (letters_filled start (moves_of before))
-      ∙ who act.side (allowed_parts basis before act allowed.1).asked in
+      ∙ (asked_mover start (filled_record start (letters_of (moves_of before))) act.side (asked_open (asked_by basis before) act.side
+      (allowed_parts basis before act allowed.1).turn)).1 in
       acts_more start hands act.what (moves_of before) (started problem setup) (dealt_is problem setup dealt deal) legal
       ∙ (λ i. record { side = side i; what = act.what } ∷ acts_of (pone_of start) past)
       ∙ ap (λ (acts : List Act). act ∷ acts) (acts_exact before allowed.0 legal.0)
-    where
-      who : (side : Side) → not (asks (asked_by basis before) side) ≡ false → mover (pone_of start) (filled_record start (letters_of (moves_of before))) ≡ side
-      who Owner e = (asked_mover start (filled_record start (letters_of (moves_of before))) Owner (asked_side (asked_by basis before) e)).1
-      who Opponent e = (asked_mover start (filled_record start (letters_of (moves_of before))) Opponent (asked_other (asked_by basis before) e)).1
 
   -- ---- later turns
   abbrev events_played : List Event

@@ -1,5 +1,5 @@
 -- What the owner's turns, the first lead and the first deal require and give.
-use Rattle.std.proofs.Common.{◌≡◌, ℕ, ◌+◌, ◌<◌, ◌≤◌, List, [], ◌∷◌, map, length, take}
+use Rattle.std.proofs.Common.{◌≡◌, ◌≢◌, ℕ, ◌+◌, ◌<◌, ◌≤◌, List, [], ◌∷◌, map, length, take}
 use Rattle.std.proofs.Common.{reverse, get_or, replicate, refl, sym, ap, subst, ◌∙◌, arith}
 use Rattle.std.proofs.lemmas.List.{take_all}
 use Rattle.crib_cards.specs.Sets.{set_of, set_without_all}
@@ -7,29 +7,34 @@ use Rattle.crib_cards.specs.Start.{Start}
 use Rattle.crib_cards.specs.declared.sides.Dealt.{Dealt}
 use Rattle.crib_cards.specs.declared.sides.Side.{Side}
 use Rattle.crib_cards.specs.declared.sides.Scores.{Scores}
-use Rattle.crib_cards.specs.declared.letters.Letter.TheVariants.{Seen, Go}
+use Rattle.crib_cards.specs.declared.letters.Letter.{Letter}
+use Rattle.crib_cards.specs.declared.letters.Letter.TheVariants.{Seen}
+use Rattle.crib_play.specs.declared.turns.Turn.{Turn}
+use Rattle.crib_play.specs.declared.turns.Turn.TheVariants as turns
+use Rattle.crib_cards.specs.Sets.{count_at}
+use Rattle.crib_know.specs.Private.Knowledge.{Shows}
 use Rattle.crib_cards.specs.declared.moves.Move.{Move}
 use Rattle.crib_cards.specs.declared.moves.Act.{Act}
 use Rattle.crib_play.specs.Filled.{filled_record}
 use Rattle.crib_play.specs.Standing.{StandsFor, standing_after}
 use Rattle.crib_play.specs.History.{Event, Own, event_of}
-use Rattle.crib_problem.specs.Setup.{Setup, IsSetup, unseen_of, fixed_cards, start_of, target_of}
-use Rattle.crib_know.specs.Knowledge.{Knowledge, played_events, their_ranks, least_value}
+use Rattle.crib_problem.specs.Setup.{Setup, IsSetup, unseen_of, start_of, target_of}
+use Rattle.crib_know.specs.Knowledge.{Knowledge, played_events, their_ranks, least_value, knowledge_after}
+use Rattle.crib_cards.specs.declared.sides.Side.TheVariants.{Opponent}
+use Rattle.crib_problem.specs.Played.{cards_by}
 use Rattle.crib_know.specs.Private.Knowledge.{at_first_lead}
-use Rattle.crib_know.specs.Hidden.{CanShow, CanShowAt, CanDoAt, CanComeAt, KnowsAfter, IsFirstDeal}
+use Rattle.crib_know.specs.Hidden.{CanShow, CanShowAt, CanDoAt, CanComeAt, IsKnown, KnowsAfter, IsFirstDeal}
 use Rattle.crib_know.proofs.LedHistories.{MayCome, IsLed}
 use Rattle.crib_play.proofs.TurnFacts.{filter_all}
 use Rattle.crib_know.specs.Private.Choice.{chosen_cards}
 use Rattle.crib_know.proofs.OpeningLawProofs.{begun_at_first_lead, played_dealt, played_agrees, may_at}
-use Rattle.crib_know.proofs.RankCounting.{counts_none}
 use Rattle.crib_know.proofs.FirstDeals.{Needs, Fixes, first_hold, first_dealt, hold_four, hold_set, hold_within}
 use Rattle.crib_know.proofs.FirstDeals.{two_others}
 use Rattle.crib_know.proofs.RecordTurns.{possible_led}
 use Rattle.crib_know.proofs.KnowledgeFacts.{led_possible, needs_history, begun_fixes}
 use Rattle.crib_know.proofs.KnowledgeFacts.{first_deal_is}
 use Rattle.crib_know.proofs.CallLemmas.{led_of, own_may}
-use Rattle.crib_know.proofs.CallLemmas.{unseen_same, play_shows}
-use Rattle.crib_know.proofs.CallLemmas.{play_facts, go_shows, go_facts}
+use Rattle.crib_know.proofs.CallLemmas.{can_show_if, shows_then, play_left}
 use Rattle.crib_problem.proofs.HonestTurns.{reverse_more}
 use Rattle.crib_problem.proofs.Setups.{without_opening}
 
@@ -37,16 +42,27 @@ use Rattle.crib_problem.proofs.Setups.{without_opening}
 pub moved : (know now : Knowledge) (problem : Setup) (history : List Event) → know ≡ now → KnowsAfter now problem history → KnowsAfter know problem history
 moved know now problem history same knows = let K : Knowledge → Type 0 = λ k. KnowsAfter k problem history in subst K (sym same) knows
 
--- what can be shown after one history that a knowledge stands for can be shown after each
-pub moved_play : (know now : Knowledge) (same : know ≡ now) (rank : ℕ) → CanShowAt now (Seen rank) → (problem : Setup) (history : List Event) →
-    KnowsAfter know problem history → CanShow problem history (Seen rank)
-moved_play know now same rank can problem history knows =
-    let facts = play_facts know can.0 can.1 (moved know now can.0 can.1 same can.2) rank can.3 in
-    play_shows know problem history knows rank facts.0 facts.1
+-- what holds of the next knowledge after each history makes it a known one
+pub known_next : (know now next : Knowledge) (event : Event) → know ≡ now → IsKnown know →
+    ((problem : Setup) (history : List Event) → KnowsAfter now problem history → KnowsAfter next problem (event ∷ history)) → IsKnown next
+known_next know now next event same known after =
+    record { problem = _; history = _; knows = after known.problem known.history (moved now know known.problem known.history (sym same) known.knows) }
 
-pub moved_go : (know now : Knowledge) (same : know ≡ now) → CanShowAt now Go → (problem : Setup) (history : List Event) → KnowsAfter know problem history →
-    CanShow problem history Go
-moved_go know now same can problem history knows = go_shows know problem history knows (go_facts know can.0 can.1 (moved know now can.0 can.1 same can.2) can.3)
+-- what a letter that can be shown says of the knowledge
+pub moved_shows : (know now : Knowledge) → know ≡ now → (letter : Letter) → CanShowAt now letter → Shows know letter
+moved_shows know now same letter can = shows_then know can.0 can.1 (moved know now can.0 can.1 same can.2) letter can.3
+
+pub moved_left : (know now : Knowledge) → know ≡ now → (rank : ℕ) → CanShowAt now (Seen rank) →
+    (count_at know.ranks_seen rank < 255) × (1 ≤ know.opponent_left)
+moved_left know now same rank can = play_left know can.0 can.1 (moved know now can.0 can.1 same can.2) rank can.3
+
+-- what can be shown after one history that a knowledge stands for can be shown after each
+pub moved_show : (know now : Knowledge) → know ≡ now → (letter : Letter) → CanShowAt now letter → (problem : Setup) (history : List Event) →
+    KnowsAfter know problem history → CanShow problem history letter
+moved_show know now same letter can problem history knows = can_show_if know problem history knows letter (moved_shows know now same letter can)
+
+pub opponent_asked : (turn : Turn) → turn ≡ turns.Opponent → turn ≢ turns.Over
+opponent_asked turn e f = let no : turns.Opponent ≡ turns.Over = sym e ∙ f in absurd cc
 
 -- what the owner can do
 pub moved_can : (know now : Knowledge) → know ≡ now → (what : Move) → CanDoAt now what → CanDoAt know what
@@ -68,7 +84,7 @@ start_knows problem setup dealer scores target next same_dealer same_scores same
       knowledge = λ i. record {
         round = (stands.shows ∙ ap (λ (s : Start). standing_after s (filled_record s [])) same) i;
         own_left = (own ∙ ap set_of (sym (filter_all problem.hold))) i;
-        ranks_seen = (ranks ∙ sym counts_none) i;
+        ranks_seen = ranks i;
         opponent_left = left i;
         least = least i;
         unseen = unseen i;
@@ -77,14 +93,18 @@ start_knows problem setup dealer scores target next same_dealer same_scores same
     }
 
 -- what the owner knows after the opening
-pub played_knows : (problem : Setup) → IsSetup problem → (know next : Knowledge) → KnowsAfter know (at_first_lead problem) (played_events problem) →
-    next.fixed ≡ set_of (fixed_cards problem) → next ≡ record know { fixed = next.fixed } → KnowsAfter next problem (played_events problem)
-played_knows problem setup know next knows fixed others = record {
-  setup = setup;
-  possible = (played_dealt problem setup, played_agrees problem setup);
-  begun = record { later = []; parts = refl };
-  knowledge = others ∙ (λ i. record (knows.knowledge i) { fixed = fixed i });
-}
+pub played_knows : (problem : Setup) → IsSetup problem → (acts : List Act) → acts ≡ problem.played → (n : ℕ) → length acts ≤ n → (know now next : Knowledge) →
+    know ≡ now → KnowsAfter now (at_first_lead problem) (map event_of (reverse (take n acts))) → next.fixed ≡ set_of (cards_by Opponent (reverse acts)) →
+    next ≡ record know { fixed = next.fixed } → KnowsAfter next problem (played_events problem)
+played_knows problem setup acts value n past know now next same knows fixed others =
+    let all = same ∙ knows.knowledge ∙ ap (λ (played : List Act). knowledge_after (at_first_lead problem) (map event_of (reverse played)))
+    (take_all n acts past ∙ value) in
+    record {
+      setup = setup;
+      possible = (played_dealt problem setup, played_agrees problem setup);
+      begun = record { later = []; parts = refl };
+      knowledge = others ∙ (λ i. record (all i) { fixed = (fixed ∙ ap (λ (played : List Act). set_of (cards_by Opponent (reverse played))) value) i });
+    }
 
 -- ---- the first deal
 module _ (know : Knowledge) (problem : Setup) (history : List Event) (knows : KnowsAfter know problem history) where
@@ -104,38 +124,32 @@ module _ (know : Knowledge) (problem : Setup) (history : List Event) (knows : Kn
   abbrev pub know_hold : List ℕ
   know_hold = chosen_cards know.ranks_seen know.least know.fixed know.opponent_left know.unseen
 
-  hold_is : know_hold ≡ first_hold problem knows.setup seen_ranks seen_least
-  hold_is = ap (λ (k : Knowledge). chosen_cards k.ranks_seen k.least k.fixed k.opponent_left k.unseen) knows.knowledge
-
   pub know_four : length know_hold ≡ 4
-  know_four = ap length hold_is ∙ hold_four problem knows.setup seen_ranks seen_least seen_needs seen_fixes
+  know_four = let L : Knowledge → Type 0 = λ k. length (chosen_cards k.ranks_seen k.least k.fixed k.opponent_left k.unseen) ≡ 4 in
+      subst L (sym knows.knowledge) (hold_four problem knows.setup seen_ranks seen_least seen_needs seen_fixes)
 
   -- the cards left for the throw
   module _ (hold : List ℕ) (is : hold ≡ know_hold) (rest : List ℕ) (without : rest ≡ set_without_all know.unseen hold) where
+    hold_is : hold ≡ first_hold problem knows.setup seen_ranks seen_least
+    hold_is = is ∙ ap (λ (k : Knowledge). chosen_cards k.ranks_seen k.least k.fixed k.opponent_left k.unseen) knows.knowledge
+
     rest_is : rest ≡ set_without_all (unseen_of problem) (first_hold problem knows.setup seen_ranks seen_least)
-    rest_is =
-        without
-        ∙ ap (λ (cards : List ℕ). set_without_all cards hold) (unseen_same know problem history knows)
-        ∙ ap (set_without_all (unseen_of problem)) (is ∙ hold_is)
+    rest_is = without ∙ (λ i. set_without_all (knows.knowledge i).unseen (hold_is i))
 
     pub rest_two : 2 ≤ length rest
     rest_two =
-        let mine = first_hold problem knows.setup seen_ranks seen_least in
-        let two = two_others problem knows.setup mine (hold_four problem knows.setup seen_ranks seen_least seen_needs seen_fixes)
+        let two = two_others problem knows.setup (first_hold problem knows.setup seen_ranks seen_least)
+        (hold_four problem knows.setup seen_ranks seen_least seen_needs seen_fixes)
         (hold_set problem knows.setup seen_ranks seen_least seen_needs seen_fixes)
         (hold_within problem knows.setup seen_ranks seen_least seen_needs seen_fixes) in
-        let same = ap length rest_is in
-        omega (arith, two, same)
+        omega (arith, two, ap length rest_is)
 
     pub first_is : (throw : List ℕ) → throw ≡ take 2 rest → IsFirstDeal problem history (record { hold = hold; throw = throw })
     first_is throw two =
         let D : Dealt → Type 0 = λ dealt. IsFirstDeal problem history dealt in
-        let same_hold : first_hold problem knows.setup seen_ranks seen_least ≡ hold = sym (is ∙ hold_is) in
-        let same_throw : take 2 (set_without_all (unseen_of problem) (first_hold problem knows.setup seen_ranks seen_least)) ≡ throw =
-        sym (two ∙ ap (take 2) rest_is) in
-        let same : first_dealt problem knows.setup seen_ranks seen_least ≡ record { hold = hold; throw = throw } =
-        (λ i. record { hold = same_hold i; throw = same_throw i }) in
-        subst D same (first_deal_is problem knows.setup history (led_of know problem history knows) knows.begun)
+        let same : record { hold = hold; throw = throw } ≡ first_dealt problem knows.setup seen_ranks seen_least =
+        (λ i. record { hold = hold_is i; throw = (two ∙ ap (take 2) rest_is) i }) in
+        subst D (sym same) (first_deal_is problem knows.setup history (led_of know problem history knows) knows.begun)
 
 -- ---- a turn that is seen
 pub come_as : (know : Knowledge) (event other : Event) → event ≡ other → CanComeAt know event → CanComeAt know other
@@ -152,23 +166,19 @@ pub come_own : (know : Knowledge) (what : Move) → CanComeAt know (Own what) �
 come_own know what can = own_may know can.0 can.1 can.2 what (come_may know (Own what) can)
 
 -- one more turn of the opening
-pub see_next : (problem : Setup) (setup : IsSetup problem) (know : Knowledge) (i : ℕ) (act : Act) → i < length problem.played →
-    act ≡ get_or problem.played i act → KnowsAfter know (at_first_lead problem) (map event_of (reverse (take i problem.played))) → CanComeAt know (event_of act)
-see_next problem setup know i act lt at knows =
+pub see_next : (problem : Setup) (setup : IsSetup problem) (acts : List Act) → acts ≡ problem.played → (know : Knowledge) (i : ℕ) (act : Act) →
+    i < length acts → act ≡ get_or acts i act → KnowsAfter know (at_first_lead problem) (map event_of (reverse (take i acts))) →
+    CanComeAt know (event_of act)
+see_next problem setup acts value know i act lt at knows =
     let bare = at_first_lead problem in
-    let history = map event_of (reverse (take i problem.played)) in
-    let led : IsLed bare (event_of act ∷ history) = (led_of know bare history knows, may_at problem setup i act lt at) in
+    let history = map event_of (reverse (take i acts)) in
+    let M : List Act → Type 0 = λ played.
+    i < length played → act ≡ get_or played i act → MayCome bare (map event_of (reverse (take i played))) (event_of act) in
+    let led : IsLed bare (event_of act ∷ history) = (led_of know bare history knows, subst M (sym value) (may_at problem setup i act) lt at) in
     (bare, history, knows, led_possible bare knows.setup (event_of act ∷ history) led (begun_at_first_lead problem (event_of act ∷ history)))
 
-pub seen_next : (problem : Setup) (next : Knowledge) (i : ℕ) (act : Act) → i < length problem.played → act ≡ get_or problem.played i act →
-    KnowsAfter next (at_first_lead problem) (event_of act ∷ map event_of (reverse (take i problem.played))) →
-    KnowsAfter next (at_first_lead problem) (map event_of (reverse (take (i + 1) problem.played)))
-seen_next problem next i act lt at knows =
-    let K : List Act → Type 0 = λ acts. KnowsAfter next (at_first_lead problem) (map event_of acts) in
-    subst K (sym (reverse_more problem.played i act lt at)) knows
-
-pub all_seen : (problem : Setup) (know : Knowledge) (i : ℕ) → length problem.played ≤ i →
-    KnowsAfter know (at_first_lead problem) (map event_of (reverse (take i problem.played))) → KnowsAfter know (at_first_lead problem) (played_events problem)
-all_seen problem know i all knows =
-    let K : List Act → Type 0 = λ acts. KnowsAfter know (at_first_lead problem) (map event_of (reverse acts)) in
-    subst K (take_all i problem.played all) knows
+pub seen_next : (know : Knowledge) (problem : Setup) (acts : List Act) (i : ℕ) (act : Act) → i < length acts → act ≡ get_or acts i act →
+    KnowsAfter know problem (event_of act ∷ map event_of (reverse (take i acts))) → KnowsAfter know problem (map event_of (reverse (take (i + 1) acts)))
+seen_next know problem acts i act lt at knows =
+    let K : List Act → Type 0 = λ played. KnowsAfter know problem (map event_of played) in
+    subst K (sym (reverse_more acts i act lt at)) knows

@@ -1,7 +1,9 @@
 -- Each hidden deal that passes agrees with the history.
+use Rattle.std.proofs.lemmas.Bool.Decides.{nat_tests}
+use Rattle.std.proofs.Common.{Bool, ◌⊎◌}
 use Rattle.std.proofs.Common.{◌≡◌, ℕ, ◌+◌, ◌-◌, ◌≤◌, max, true, false, not, eqb, leb, List, [], ◌∷◌, refl, sym, ap, subst, ◌∙◌, inl, inr, arith}
 use Rattle.std.specs.List.{filter}
-use Rattle.std.proofs.lemmas.Bool.{cases_eq, eqb-true, eq-eqb, ne_eqb, leb-true, le-leb, lt-leb}
+use Rattle.std.proofs.lemmas.Bool.{eqb-true, eq-eqb, leb-true, le-leb, lt-leb}
 use Rattle.crib_cards.specs.Cards.{rank_of, rank_value, card_value}
 use Rattle.crib_cards.specs.Sets.{has, count_rank}
 use Rattle.crib_cards.specs.Start.{Start, pone_of, Hands}
@@ -30,7 +32,7 @@ use Rattle.crib_know.specs.Hidden.{AgreesWith, CanShow}
 use Rattle.crib_know.proofs.LedHistories.{MayCome, IsLed}
 use Rattle.crib_know.proofs.Events.{Plays, plays_of, plays_taken, agrees_of, NextPlay, last_play, play_more}
 use Rattle.crib_know.proofs.CardsLeft.{has-filter_parts, has-filter_from, left_remaining, own_played}
-use Rattle.crib_know.proofs.CardLists.{one_if, one_counted, none_counted, found_by, count_here, has_set_from}
+use Rattle.crib_know.proofs.CardLists.{one_if, one_same, found_by, count_here, has_set_from}
 use Rattle.crib_know.proofs.Deals.{dealt_is, hold_cards, least_after_go, least_before}
 use Rattle.crib_know.proofs.ChosenRanks.{ranks_of}
 use Rattle.crib_know.proofs.AgreeingIsPassing.{PassesRanks, asked_is, MightPlay, MightGo, past, left, left_played, past_same, count_same, mover_same}
@@ -124,16 +126,12 @@ module _ (problem : Setup) (setup : IsSetup problem) (dealt : Dealt) (deal : IsD
     their_card rank might passes =
         let all : count_rank rank (left problem setup dealt deal history plays) + ranks_of (their_ranks history) rank ≡ count_rank rank dealt.hold =
         left_played problem setup dealt deal history plays (λ other. eqb other rank) in
-        let enough = (passes rank might.is).enough in
-        let one : one_if (eqb rank rank) ≡ 1 = one_counted (eqb rank rank) (eq-eqb rank rank refl) in
         let found = found_by (λ c. eqb (rank_of c) rank) (left problem setup dealt deal history plays)
-        (omega (arith, all, enough, count_cons (λ other. eqb other rank) rank (their_ranks history), one)) in
+        (omega (arith, all, (passes rank might.is).enough, count_cons (λ other. eqb other rank) rank (their_ranks history), one_same rank)) in
         let is : rank_of found.card ≡ rank = eqb-true (rank_of found.card) rank found.passes in
-        let value : card_value found.card ≡ rank_value rank = ap rank_value is in
         let N : ℕ → Type 0 = λ r. NextPlay start hands (Theirs (Seen r)) history plays in
-        let fit = might.fits in
         subst N is (turn_of Opponent (move.Card found.card) might.asked
-        (found.held, fits_same found.card ∙ le-leb (count_after problem history + card_value found.card) 31 (omega (arith, fit, value))))
+        (found.held, fits_same found.card ∙ le-leb (count_after problem history + card_value found.card) 31 (omega (arith, ap rank_value is))))
 
     -- the opponent says go, and holds no card that fits
     their_go : MightGo problem history → PassesRanks (least_value problem (Theirs Go ∷ history)) (their_ranks history) dealt.hold →
@@ -162,18 +160,20 @@ module _ (problem : Setup) (setup : IsSetup problem) (dealt : Dealt) (deal : IsD
             ]
 
 -- ---- fewer turns ask less of a hold
+fewer_high : (least value card_value held all played : ℕ) (same : Bool) → (same ≡ true → card_value ≡ value) → least ≤ card_value →
+    all ≡ one_if same + played → (least ≤ value) ⊎ (held ≤ all) → (least ≤ value) ⊎ (held ≤ played)
+fewer_high least value card_value held all played same is high more now = grind (arith, nat_tests)
+
 shrink_card : (least : ℕ) (played hold : List ℕ) (card_rank : ℕ) → least ≤ rank_value card_rank → PassesRanks least (card_rank ∷ played) hold →
     PassesRanks least played hold
 shrink_card least played hold card_rank high passes rank is =
     let now = passes rank is in
-    let enough = now.enough in
     let more = count_cons (λ other. eqb other rank) card_rank played in
-    elim (cases_eq card_rank rank) [
-      | inl e ↦ record { enough = omega (arith, enough, more); high = inl (let V : ℕ → Type 0 = λ r. least ≤ rank_value r in subst V e high) }
-      | inr ne ↦
-          let none : one_if (eqb card_rank rank) ≡ 0 = none_counted (eqb card_rank rank) (ne_eqb card_rank rank ne) in
-          record { enough = omega (arith, enough, more); high = elim now.high [ inl low ↦ inl low | inr same ↦ inr (omega (arith, same, more, none)) ] }
-    ]
+    record {
+      enough = omega (arith, now.enough, more);
+      high = fewer_high least (rank_value rank) (rank_value card_rank) (count_rank rank hold) (ranks_of (card_rank ∷ played) rank) (ranks_of played rank)
+          (eqb card_rank rank) (λ e. ap rank_value (eqb-true card_rank rank e)) high more now.high;
+    }
 
 passes_before : (problem : Setup) (event : Event) (history : List Event) (played hold : List ℕ) →
     PassesRanks (least_value problem (event ∷ history)) played hold → PassesRanks (least_value problem history) played hold

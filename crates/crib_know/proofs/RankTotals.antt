@@ -1,10 +1,11 @@
 -- How many ranks a list has, from the counts of the thirteen ranks.
+use Rattle.std.proofs.lemmas.Bool.Decides.{nat_tests}
 use Rattle.std.proofs.Common.{◌≡◌, ◌⊎◌, ℕ, zero, suc, ◌+◌, ◌<◌, ◌≤◌, true, false, eqb, List, [], ◌∷◌, map, length, refl, subst, ◌∙◌, inl, inr, arith}
-use Rattle.std.proofs.lemmas.Bool.{cases_eq, cases_lt, both_ways, eqb-true, eq-eqb, ne_eqb}
+use Rattle.std.proofs.lemmas.Bool.{cases_lt, both_ways, eqb-true}
 use Rattle.std.proofs.lemmas.List.{length-map}
 use Rattle.crib_cards.specs.Cards.{IsRank, rank_of}
 use Rattle.crib_cards.specs.Sets.{has, count_rank}
-use Rattle.crib_know.proofs.CardLists.{one_if, one_counted, none_counted, count_map, found_by, each_member}
+use Rattle.crib_know.proofs.CardLists.{one_if, count_map, found_by, each_member}
 use Rattle.crib_know.proofs.ChosenRanks.{ranks_of}
 use Rattle.crib_cards.proofs.Members.{has_here, has_there, AreCards, rank_is}
 use Rattle.crib_cards.proofs.SetCounts.{count_cons}
@@ -18,9 +19,7 @@ total_le : (f g : ℕ → ℕ) (start n : ℕ) → ((r : ℕ) → start ≤ r �
 unfolding total
 total_le f g start zero each = omega arith
 total_le f g start (suc n) each =
-    let here = each start (omega arith) (omega arith) in
-    let rest = total_le f g (start + 1) n (λ r low high. each r (omega arith) (omega arith)) in
-    omega (arith, here, rest)
+    omega (arith, each start (omega arith) (omega arith), total_le f g (start + 1) n (λ r low high. each r (omega arith) (omega arith)))
 
 pub total_add : (f g : ℕ → ℕ) (start n : ℕ) → total (λ r. f r + g r) start n ≡ total f start n + total g start n
 unfolding total
@@ -31,46 +30,28 @@ total_add f g start (suc n) = let rest = total_add f g (start + 1) n in omega (a
 total_past : (x start n : ℕ) → x < start → total (λ r. one_if (eqb x r)) start n ≡ 0
 unfolding total
 total_past x start zero less = refl
-total_past x start (suc n) less =
-    let here : one_if (eqb x start) ≡ 0 = none_counted (eqb x start) (ne_eqb x start (λ e. absurd (omega arith))) in
-    let rest = total_past x (start + 1) n (omega arith) in
-    omega (arith, here, rest)
+total_past x start (suc n) less = grind (arith, nat_tests, total_past x (start + 1) n (omega arith))
 
 -- a number is counted at most once, and once in a range that has it
 pub total_one : (x start n : ℕ) → (total (λ r. one_if (eqb x r)) start n ≤ 1) × (start ≤ x → x < start + n → total (λ r. one_if (eqb x r)) start n ≡ 1)
 unfolding total
 total_one x start zero = (omega arith, λ low high. absurd (omega arith))
 total_one x start (suc n) =
-    elim (cases_eq x start) [
-      | inl e ↦
-          let here : one_if (eqb x start) ≡ 1 = one_counted (eqb x start) (eq-eqb x start e) in
-          let rest = total_past x (start + 1) n (omega arith) in
-          (omega (arith, here, rest), λ low high. omega (arith, here, rest))
-      | inr ne ↦
-          let here : one_if (eqb x start) ≡ 0 = none_counted (eqb x start) (ne_eqb x start ne) in
-          let rest = total_one x (start + 1) n in
-          (omega (arith, here, rest.0), λ low high. let once = rest.1 (omega arith) (omega arith) in omega (arith, here, once))
-    ]
+    let past = total_past x (start + 1) n in
+    let rest = total_one x (start + 1) n in
+    (grind (arith, nat_tests, past, rest.0), λ low high. grind (arith, nat_tests, past, rest.1))
+
+-- one more at a number where the other function gives more
+pub one_more : (f g : ℕ → ℕ) (at r : ℕ) → f at < g at → f r ≤ g r → one_if (eqb at r) + f r ≤ g r
+one_more f g at r strict most = grind (arith, nat_tests)
 
 -- the greater sum, if one number has more there
 pub total_lt : (f g : ℕ → ℕ) (start n at : ℕ) → start ≤ at → at < start + n → ((r : ℕ) → start ≤ r → r < start + n → f r ≤ g r) → f at < g at →
     total f start n < total g start n
 total_lt f g start n at low high each strict =
     let once = (total_one at start n).1 low high in
-    let sum = total_add (λ r. one_if (eqb at r)) f start n in
-    let most : total (λ r. one_if (eqb at r) + f r) start n ≤ total g start n = total_le (λ r. one_if (eqb at r) + f r) g start n one_more in
-    omega (arith, once, sum, most)
-  where
-    one_more : (r : ℕ) → start ≤ r → r < start + n → one_if (eqb at r) + f r ≤ g r
-    one_more r from below =
-        elim (cases_eq at r) [
-          | inl e ↦
-              let F : ℕ → Type 0 = λ k. f k < g k in
-              let here = subst F e strict in
-              let one = one_counted (eqb at r) (eq-eqb at r e) in
-              omega (arith, here, one)
-          | inr ne ↦ let none = none_counted (eqb at r) (ne_eqb at r ne) in let here = each r from below in omega (arith, here, none)
-        ]
+    let more = total_le (λ r. one_if (eqb at r) + f r) g start n (λ r from below. one_more f g at r strict (each r from below)) in
+    omega (arith, once, total_add (λ r. one_if (eqb at r)) f start n, more)
 
 -- numbers that are ranks
 abbrev pub AreRanks : List ℕ → Type 0
@@ -109,9 +90,7 @@ total_list (x ∷ xs) =
       omega (arith, more, one.0, rest.0),
       λ are.
           let is = are x (has_here x xs) in
-          let once = one.1 is.0 (omega (arith, is.1)) in
-          let all = rest.1 (λ r h. are r (has_there x r xs h)) in
-          omega (arith, more, once, all),
+          omega (arith, more, one.1 is.0 (omega (arith, is.1)), rest.1 (λ r h. are r (has_there x r xs h))),
     )
 
 -- the same for the ranks of cards
@@ -131,5 +110,4 @@ more_all seen played cards at are is each strict =
     let more = total_lt (ranks_of seen) (λ r. ranks_of played r + count_rank r cards) 1 13 at is.0 (omega (arith, is.1))
     (λ r low high. each r (low, omega (arith, high))) strict in
     let sum = total_add (ranks_of played) (λ r. count_rank r cards) 1 13 in
-    let all = (total_list seen).1 are in
-    omega (arith, more, sum, all, (total_list played).0, (total_cards cards).0)
+    omega (arith, more, sum, (total_list seen).1 are, (total_list played).0, (total_cards cards).0)

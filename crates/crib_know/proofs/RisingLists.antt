@@ -1,9 +1,11 @@
 -- Rising lists, and their dictionary order.
+use Rattle.std.proofs.Common.{◌||◌}
+use Rattle.std.proofs.lemmas.Bool.Decides.{nat_tests}
 use Rattle.std.proofs.Common.{◌≡◌, ℕ, zero, suc, ◌+◌, ◌<◌, ◌≤◌, Bool, true, false, cond, ◌&&◌, eqb, ltb, List, [], ◌∷◌, ◌++◌, length, take}
 use Rattle.std.proofs.Common.{refl, sym, ap, ◌∙◌, inl, inr, arith}
 use Rattle.std.specs.List.{filter, range_with_len}
-use Rattle.std.proofs.lemmas.Bool.{cases_Bool, cases_lt, and_parts, and_from, and_left, and_right, and_cases, or_parts, or_from, or_cases}
-use Rattle.std.proofs.lemmas.Bool.{both_ways, eqb-true, eq-eqb, ne_eqb, le-ltb}
+use Rattle.std.proofs.lemmas.Bool.{cases_lt, and_parts, and_from, or_parts}
+use Rattle.std.proofs.lemmas.Bool.{both_ways, eq-eqb}
 use Rattle.crib_cards.specs.Sets.{has, IsCardSet, set_where}
 use Rattle.crib_cards.specs.Order.{is_before, are_rising}
 use Rattle.crib_know.proofs.CardsLeft.{has-filter_parts}
@@ -18,17 +20,10 @@ before_append [] [] us vs len e rest = rest refl
 before_append [] (y ∷ ys) us vs len e rest = absurd (omega arith)
 before_append (x ∷ xs) [] us vs len e rest = absurd (omega arith)
 before_append (x ∷ xs) (y ∷ ys) us vs len e rest =
-    let parts = or_parts (ltb x y) (eqb x y && is_before xs ys) e in
-    or_from (ltb x y) (eqb x y && is_before (xs ++ us) (ys ++ vs)) parts.0
-    (elim (cases_Bool (eqb x y)) [
-      | inl same ↦
-          let is : x ≡ y = eqb-true x y same in
-          and_right (eqb x y) (is_before (xs ++ us) (ys ++ vs))
-          (before_append xs ys us vs (omega arith)
-          (elim (and_cases (eqb x y) (is_before xs ys) parts.1) [ inl other ↦ absurd (both_ways (eqb x y) other same) | inr later ↦ later ])
-          (λ f. rest (ap (λ (z : ℕ). z ∷ xs) is ∙ ap (λ (zs : List ℕ). y ∷ zs) f)))
-      | inr other ↦ and_left (eqb x y) (is_before (xs ++ us) (ys ++ vs)) other
-    ])
+    later (is_before xs ys) (is_before (xs ++ us) (ys ++ vs)) e (λ is f. before_append xs ys us vs (omega arith) f (λ g. rest (λ i. is i ∷ g i)))
+  where
+    later : (a b : Bool) → (ltb x y || (eqb x y && a)) ≡ false → (x ≡ y → a ≡ false → b ≡ false) → (ltb x y || (eqb x y && b)) ≡ false
+    later a b e rest = grind (arith, nat_tests)
 
 -- ---- the first difference of two sets
 -- the lowest card that one test passes and another doesn't, where they agree on all cards below it
@@ -42,10 +37,7 @@ pub record Differs (p q : ℕ → Bool) (start : ℕ) : Type 0 where
 -- a list of higher numbers does not come before one with a lower first number
 not_earlier : (xs : List ℕ) (y : ℕ) (ys : List ℕ) → ((x : ℕ) → has xs x ≡ true → y < x) → 1 ≤ length xs → is_before xs (y ∷ ys) ≡ false
 not_earlier [] y ys above some = absurd (omega arith)
-not_earlier (x ∷ xs) y ys above some =
-    let less = above x (has_here x xs) in
-    or_from (ltb x y) (eqb x y && is_before xs ys) (le-ltb x y (omega (arith, less))) (and_left (eqb x y) (is_before xs ys)
-    (ne_eqb x y (λ e. absurd (omega (arith, less, e)))))
+not_earlier (x ∷ xs) y ys above some = let less = above x (has_here x xs) in grind (arith, nat_tests)
 
 module _ (p q : ℕ → Bool) where
   later : (start : ℕ) → p start ≡ q start → Differs p q (start + 1) → Differs p q start
@@ -66,10 +58,10 @@ module _ (p q : ℕ → Bool) where
       (length xs ≡ length ys → is_before xs ys ≡ true → Differs p q (start + 1)) → length (cond a (start ∷ xs) xs) ≡ length (cond b (start ∷ ys) ys) →
       is_before (cond a (start ∷ xs) xs) (cond b (start ∷ ys) ys) ≡ true → Differs p q start
   by_first start xs ys true true yes_p yes_q above next len e =
-      later start (yes_p ∙ sym yes_q) (next (omega arith) (elim (or_cases (ltb start start) (eqb start start && is_before xs ys) e) [
-        | inl less ↦ absurd (both_ways (ltb start start) (le-ltb start start (omega arith)) less)
-        | inr same ↦ (and_parts (eqb start start) (is_before xs ys) same).1
-      ]))
+      later start (yes_p ∙ sym yes_q) (next (omega arith) (rest (is_before xs ys) e))
+    where
+      rest : (b : Bool) → (ltb start start || (eqb start start && b)) ≡ true → b ≡ true
+      rest b e = grind (arith, nat_tests)
   by_first start xs ys true false yes_p no_q above next len e =
       record { card = start; high = omega arith; here = yes_p; lacks = no_q; below = λ other from less. absurd (omega arith) }
   by_first start xs ys false true no_p yes_q above next len e =

@@ -2,7 +2,6 @@
 
 mod ending;
 mod follows;
-mod words;
 
 pub use ending::Ending;
 pub use follows::follow;

@@ -12,7 +12,7 @@ use crate::replaying::{JudgedGame, Remark, Row};
 use crate::section::Game;
 use crib_cards::{Act, Card, CardSet, Dealt, Move, Side};
 use crib_plan::{Next, Plan, after_card, card_at, place_after, start};
-use crib_play::{Round, Turn, any_fits, fits};
+use crib_play::{Round, any_fits, fits};
 use crib_problem::Problem;
 use std::alloc::Allocator;
 
@@ -72,46 +72,30 @@ impl<'a, A: Allocator> Follower for PlanSoFar<'a, A> {
 fn strays<A: Allocator>(plan: &Plan<A>, place: Next, act: &Act) -> bool
     ensures { result ≡ strays_at plan.now place act.now.side act.now.what }
 {
-    match act.side {
-        Side::Owner => match act.what {
-            Move::Card(card) => !is_stated(card_at(plan, place), card),
-            Move::Go => false,
-        },
-        Side::Opponent => false,
+    match (act.side, act.what) {
+        (Side::Owner, Move::Card(card)) => !is_stated(card_at(plan, place), card),
+        _ => false,
     }
 }
 
 fn is_stated(stated: Option<Card>, card: Card) -> bool
     ensures { result ≡ is_stated stated card }
 {
-    match stated {
-        Some(stated) => stated == card,
-        None => false,
-    }
+    matches!(stated, Some(stated) if stated == card)
 }
 
-// The place of the plan after an act. A turn of the opening leaves it unchanged.
+// The place of the plan after an act. A turn of the opening leaves it unchanged. After the opening, a card of the owner
+// moves it, and so does a letter of the opponent.
 fn place_with<A: Allocator>(plan: &Plan<A>, place: Next, is_played: bool, act: &Act) -> Next
     ensures { result ≡ (if is_played then place else place_after_turn plan.now act.now.side act.now.what true place) }
 {
     if is_played {
-        place
-    } else {
-        place_after_act(plan, place, act)
+        return place;
     }
-}
-
-// The place of the plan after an act that is not in the opening. A card of the owner moves it, and so does a letter of
-// the opponent.
-fn place_after_act<A: Allocator>(plan: &Plan<A>, place: Next, act: &Act) -> Next
-    ensures { result ≡ place_after_turn plan.now act.now.side act.now.what true place }
-{
-    match act.side {
-        Side::Owner => match act.what {
-            Move::Card(_) => after_card(plan, place),
-            Move::Go => place,
-        },
-        Side::Opponent => place_after(plan, place, act.what.letter()),
+    match (act.side, act.what) {
+        (Side::Owner, Move::Card(_)) => after_card(plan, place),
+        (Side::Owner, Move::Go) => place,
+        (Side::Opponent, what) => place_after(plan, place, what.letter()),
     }
 }
 
@@ -130,20 +114,14 @@ fn ending(problem: &Problem, dealt: &Dealt, walk: &JudgedGame, stated: Option<Ca
 fn is_stuck(round: &Round, cards: CardSet, stated: Option<Card>) -> bool
     ensures { result ≡ is_stuck_at round.now cards stated }
 {
-    match round.next() {
-        Turn::Owner => {
-            any_fits(cards, round.count()) && !is_playable(round.count(), cards, stated)
-        }
-        Turn::Opponent | Turn::Over => false,
-    }
+    round.next().asks(Side::Owner)
+        && any_fits(cards, round.count())
+        && !is_playable(round.count(), cards, stated)
 }
 
 // Whether a card is stated, is held, and fits at this count.
 fn is_playable(count: u8, cards: CardSet, stated: Option<Card>) -> bool
     ensures { result ≡ is_playable_at count cards stated }
 {
-    match stated {
-        Some(card) => cards.has(card) && fits(card, count),
-        None => false,
-    }
+    matches!(stated, Some(card) if cards.has(card) && fits(card, count))
 }

@@ -99,9 +99,8 @@ impl JudgedGame {
         ensures { result ≡ turn_fault (is_over self.now.round.asked) (asks self.now.round.asked act.now.side) place }
     {
         if self.is_over() {
-            return Some(GameFault::AfterEnd(place));
-        }
-        if self.round.next().asks(act.side) {
+            Some(GameFault::AfterEnd(place))
+        } else if self.round.next().asks(act.side) {
             None
         } else {
             Some(GameFault::NotTurn(place))
@@ -171,13 +170,8 @@ fn move_fault(cards: CardSet, what: Move, count: u8, place: u8) -> Option<GameFa
                 None
             }
         }
-        Move::Go => {
-            if any_fits(cards, count) {
-                Some(GameFault::MustPlay(place))
-            } else {
-                None
-            }
-        }
+        Move::Go if any_fits(cards, count) => Some(GameFault::MustPlay(place)),
+        Move::Go => None,
     }
 }
 

@@ -41,6 +41,7 @@ side_written old side =
 pub ruleset columns = (three_digits, right_written, scores_written, side_written)
 
 -- ---- rows
+
 regroup_row : (old number gap side what count points scores end : List ℕ)
     → ((((((((old ++ number) ++ gap) ++ side) ++ gap) ++ what) ++ count) ++ points) ++ scores) ++ end
     ≡ old ++ ((((((number ++ (gap ++ side)) ++ (gap ++ what)) ++ count) ++ points) ++ scores) ++ end)
@@ -54,21 +55,16 @@ row_written old number row =
     regroup_row old (right_in 2 number) (codes " ") (side_column row.act.side) (move_word row.act.what) (with_space (right_in 2 row.count))
     (with_space (right_in 2 row.points)) (score_columns row.scores) (codes "\n")
 
-regroup_hand : (old what gap side points scores end : List ℕ)
-    → (((((old ++ what) ++ gap) ++ side) ++ points) ++ scores) ++ end ≡ old ++ ((((what ++ (gap ++ side)) ++ points) ++ scores) ++ end)
-regroup_hand old what gap side points scores end = simp append_assoc
-
 pub hand_written : (old : List ℕ) (row : ShowRow)
     → (((((old ++ show_word row.crib) ++ codes " ") ++ side_column row.side) ++ with_space (right_in 2 row.points)) ++ score_columns row.scores) ++ codes "\n"
     ≡ old ++ show_line row
 unfolding show_line
-hand_written old row =
-    regroup_hand old (show_word row.crib) (codes " ") (side_column row.side) (with_space (right_in 2 row.points)) (score_columns row.scores) (codes "\n")
+hand_written old row = simp append_assoc
 
 -- no rows, and one row more
-pub no_rows : (old : List ℕ) (number : ℕ) → old ≡ old ++ row_lines number []
+pub no_rows : (old : List ℕ) (number : ℕ) → old ++ row_lines number [] ≡ old
 unfolding row_lines
-no_rows old number = sym (append-nil old)
+no_rows old number = append-nil old
 
 rows_and_row : (number : ℕ) (rows : List Row) (row : Row) → row_lines number (rows ++ row ∷ []) ≡ row_lines number rows ++ row_line (number + length rows) row
 unfolding row_lines
@@ -78,55 +74,41 @@ rows_and_row number (first ∷ rows) row =
     ∙ sym (append_assoc (row_line number first) (row_lines (number + 1) rows) (row_line (number + 1 + length rows) row))
     ∙ ap (λ (place : ℕ). row_lines number (first ∷ rows) ++ row_line place row) (omega arith)
 
-pub rows_more : (old text new : List ℕ) (rows : List Row) (number at : ℕ) (row : Row) → at < length rows → number ≡ at → row ≡ get_or rows at row
-    → text ≡ old ++ row_lines 1 (take at rows) → new ≡ text ++ row_line (number + 1) row → new ≡ old ++ row_lines 1 (take (at + 1) rows)
-rows_more old text new rows number at row inside counted is before more =
+pub rows_more : (old : List ℕ) (rows : List Row) (at number : ℕ) (row : Row) → at < length rows → row ≡ get_or rows at row → number ≡ at + 1
+    → (old ++ row_lines 1 (take at rows)) ++ row_line number row ≡ old ++ row_lines 1 (take (at + 1) rows)
+rows_more old rows at number row inside is counted =
     let so_far : List Row = take at rows in
-    let place : number + 1 ≡ 1 + length so_far = ap (λ (n : ℕ). n + 1) counted ∙ omega arith
-    ∙ ap (λ (n : ℕ). 1 + n) (sym (length-take-le at rows (omega arith))) in
+    let place : number ≡ 1 + length so_far = omega (arith, counted, length-take-le at rows (omega arith)) in
     let taken : take (at + 1) rows ≡ so_far ++ row ∷ [] = take_more rows at row inside ∙ ap (λ (last : Row). so_far ++ last ∷ []) (sym is) in
-    more ∙ ap (λ (front : List ℕ). front ++ row_line (number + 1) row) before ∙ append_assoc old (row_lines 1 so_far) (row_line (number + 1) row)
-    ∙ ap (λ (n : ℕ). old ++ (row_lines 1 so_far ++ row_line n row)) place
-    ∙ ap (λ (all : List ℕ). old ++ all) (sym (rows_and_row 1 so_far row))
-    ∙ ap (λ (all : List Row). old ++ row_lines 1 all) (sym taken)
-
-pub ruleset rows = (row_written, hand_written)
+    append_assoc old (row_lines 1 so_far) (row_line number row) ∙ ap (λ (n : ℕ). old ++ (row_lines 1 so_far ++ row_line n row)) place
+    ∙ ap (λ (all : List ℕ). old ++ all) (sym (rows_and_row 1 so_far row)) ∙ ap (λ (all : List Row). old ++ row_lines 1 all) (sym taken)
 
 -- ---- the outcome
 pub outcome_written : (old : List ℕ) (over : Option Outcome) → (old ++ outcome_word over) ++ codes "\n" ≡ old ++ outcome_line over
 outcome_written old over = append_assoc old (outcome_word over) (codes "\n")
 
-pub ruleset outcomes = (outcome_written)
+pub ruleset rows = (row_written, hand_written, no_rows, rows_more, outcome_written)
 
 -- ---- tracks
-regroup_line : (old side first gap holes end : List ℕ)
-    → ((((old ++ side) ++ first) ++ gap) ++ holes) ++ end ≡ old ++ (((side ++ first) ++ (gap ++ holes)) ++ end)
-regroup_line old side first gap holes end = simp append_assoc
 
 pub line_written : (old : List ℕ) (side : Side) (front back : Option ℕ) (first holes : ℕ)
     → ((((old ++ side_column side) ++ with_space (right_in 3 first)) ++ codes " ") ++ map (hole_byte front back) (range_with_len first holes)) ++ codes "\n"
     ≡ old ++ track_line side front back first holes
 unfolding track_line
-line_written old side front back first holes =
-    regroup_line old (side_column side) (with_space (right_in 3 first)) (codes " ") (map (hole_byte front back) (range_with_len first holes)) (codes "\n")
-
-pub regroup_four : (old a b c d : List ℕ) → (((old ++ a) ++ b) ++ c) ++ d ≡ old ++ (((a ++ b) ++ c) ++ d)
-regroup_four old a b c d = simp append_assoc
+line_written old side front back first holes = simp append_assoc
 
 pub track_written : (old : List ℕ) (side : Side) (front back : Option ℕ)
     → (((old ++ track_line side front back 1 30) ++ track_line side front back 31 30) ++ track_line side front back 61 30) ++ track_line side front back 91 31
     ≡ old ++ track_lines side front back
 unfolding track_lines
-track_written old side front back =
-    regroup_four old (track_line side front back 1 30) (track_line side front back 31 30) (track_line side front back 61 30) (track_line side front back 91 31)
+track_written old side front back = simp append_assoc
 
 -- one hole more
-pub holes_more : (old text new : List ℕ) (front back : Option ℕ) (first holes byte : ℕ) → text ≡ old ++ map (hole_byte front back) (range_with_len first holes)
-    → byte ≡ hole_byte front back (first + holes) → new ≡ text ++ byte ∷ [] → new ≡ old ++ map (hole_byte front back) (range_with_len first (holes + 1))
-holes_more old text new front back first holes byte before shown more =
-    let so_far = map (hole_byte front back) (range_with_len first holes) in
-    more ∙ ap (λ (front : List ℕ). front ++ byte ∷ []) before ∙ append_assoc old so_far (byte ∷ [])
-    ∙ ap (λ (last : ℕ). old ++ (so_far ++ last ∷ [])) shown
+pub holes_more : (old : List ℕ) (front back : Option ℕ) (first holes : ℕ)
+    → (old ++ map (hole_byte front back) (range_with_len first holes)) ++ hole_byte front back (first + holes) ∷ []
+    ≡ old ++ map (hole_byte front back) (range_with_len first (holes + 1))
+holes_more old front back first holes =
+    append_assoc old (map (hole_byte front back) (range_with_len first holes)) _
     ∙ ap (λ (all : List ℕ). old ++ all) (sym (map-range_with_len_more (hole_byte front back) first holes (first + holes) refl))
 
-pub ruleset tracks = (line_written, track_written)
+pub ruleset tracks = (line_written, track_written, holes_more)

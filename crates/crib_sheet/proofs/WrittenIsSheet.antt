@@ -17,7 +17,6 @@ use Rattle.crib_game.specs.Replay.{replay_result}
 use Rattle.crib_game.specs.declared.replaying.report.Row.{Row}
 use Rattle.crib_game.specs.declared.replaying.report.Report.{Report}
 use Rattle.crib_board.specs.Board.{right_in, left_in}
-use Rattle.crib_board.proofs.WrittenIsBoard.{regroup_four}
 use Rattle.crib_sheet.specs.declared.game.combination.Combination.{Combination}
 use Rattle.crib_sheet.specs.declared.game.reason.PlayReason.{PlayReason}
 use Rattle.crib_sheet.specs.GamePlay.{reason_points, game_reasons}
@@ -31,6 +30,9 @@ use Rattle.crib_sheet.specs.Heading.{role_word, spaced_cards, how_many, own_scor
 use Rattle.crib_sheet.specs.Heading.{heading_text}
 
 -- ---- the heading
+
+regroup_four : (old a b c d : List ℕ) → (((old ++ a) ++ b) ++ c) ++ d ≡ old ++ (((a ++ b) ++ c) ++ d)
+regroup_four old a b c d = simp append_assoc
 
 regroup_five : (old a b c d e : List ℕ) → ((((old ++ a) ++ b) ++ c) ++ d) ++ e ≡ old ++ ((((a ++ b) ++ c) ++ d) ++ e)
 regroup_five old a b c d e = simp append_assoc

@@ -1,7 +1,7 @@
 -- A deal that agrees with a history has a record of that history in which the opponent plays equal ranks in suit order.
 use Rattle.std.proofs.Common.{◌≡◌, ℕ, ◌+◌, ◌<◌, ◌≤◌, Bool, true, false, cond, not, ◌&&◌, ◌||◌, eqb, leb, ltb, List, [], ◌∷◌, ◌++◌, map, length, count_by, refl}
 use Rattle.std.proofs.Common.{sym, ap, subst, ◌∙◌, inl, inr, arith}
-use Rattle.std.specs.List.{list_any, list_all, filter}
+use Rattle.std.specs.List.{list_any, list_all}
 use Rattle.std.proofs.lemmas.Bool.{cases_Bool, and_parts, and_from, or_left, or_right, both_ways, not-true, eqb-true, eq-eqb, ne_eqb, lt-ltb, ltb-true}
 use Rattle.std.proofs.lemmas.List.Folds.{list_any-append}
 use Rattle.crib_cards.specs.Cards.{rank_of, rank_value, card_value}
@@ -24,6 +24,7 @@ use Rattle.crib_play.specs.Legal.{IsDealt, letters_of, cards_of, cards_left, fit
 use Rattle.crib_play.specs.History.{Event, Own, Theirs, event_of, event_by, history_letters, filled_moves, AreLegal, moves_of}
 use Rattle.crib_play.proofs.CardLemmas.{none_passes, has_played}
 use Rattle.crib_play.proofs.FilledRecords.{letters_filled}
+use Rattle.crib_play.proofs.TurnFacts.{filter_all}
 use Rattle.crib_problem.specs.Setup.{Setup, IsSetup, start_of, hands_of, played_back, fixed_cards, IsDealOf}
 use Rattle.crib_problem.specs.Played.{cards_by, cards_with}
 use Rattle.crib_know.specs.Knowledge.{own_cards, their_ranks, played_events}
@@ -74,11 +75,7 @@ module _ (problem : Setup) (setup : IsSetup problem) (dealt : Dealt) (deal : IsD
     pub suits : is_in_suit_order few dealt.hold (cards_by Opponent acts) ≡ true
 
   suited_start : Suited [] []
-  suited_start = record { legal = tt; seen = refl; shows = refl; left_is = sym (ap set_of (all_left dealt.hold)); theirs = λ card held. refl; suits = refl }
-    where
-      all_left : (cards : List ℕ) → filter (λ card. not (has [] card)) cards ≡ cards
-      all_left [] = refl
-      all_left (card ∷ cards) = ap (λ (rest : List ℕ). card ∷ rest) (all_left cards)
+  suited_start = record { legal = tt; seen = refl; shows = refl; left_is = sym (ap set_of (filter_all dealt.hold)); theirs = λ card held. refl; suits = refl }
 
   -- ---- one turn more
   module _ (seen : List Move) (legal : AreLegal start hands seen) (acts : List Act) (before : Suited acts (events start seen)) where
@@ -122,24 +119,24 @@ module _ (problem : Setup) (setup : IsSetup problem) (dealt : Dealt) (deal : IsD
         let theirs = left_and_played start hands dealt_ok f seen legal in
         omega (arith, mine, same, theirs)
 
-    -- a turn that may come, in suit order
-    come : (side : Side) (turn suited : Move) → mover (pone_of start) (letters_of (filled_moves start seen)) ≡ side →
+    -- one act more, which shows an event
+    with_act : (side : Side) (turn suited : Move) (event : Event) → mover (pone_of start) (letters_of (filled_moves start seen)) ≡ side →
         MayCome start hands turn (filled_moves start seen) →
-        (MayTake hands side turn (filled_moves start seen) → MayTake hands side suited (filled_moves start suit)) →
-        MayCome start hands suited (filled_moves start suit)
-    come side turn suited m may take =
-        let T : Side → Type 0 = λ s. MayTake hands s turn (filled_moves start seen) in
-        let S : Side → Type 0 = λ s. MayTake hands s suited (filled_moves start suit) in
+        (MayTake hands side turn (filled_moves start seen) → MayTake hands side suited (filled_moves start suit)) → event_by side suited ≡ event →
+        left_after_acts dealt.hold (record { side = side; what = suited } ∷ acts) ≡ set_of (left (suited ∷ suit)) →
+        ((card : ℕ) → has dealt.hold card ≡ true → has (cards_of (suited ∷ suit)) card ≡ has (theirs_with side suited theirs) card) →
+        is_in_suit_order few dealt.hold (theirs_with side suited theirs) ≡ true →
+        Suited (record { side = side; what = suited } ∷ acts) (event ∷ history)
+    with_act side turn suited event m may take e left_is theirs_are order =
+        let who = ap (mover (pone_of start)) letters_same ∙ m in
         record {
-          not_done = ap (is_done start) letters_same ∙ may.not_done;
-          may_take = subst S (sym (ap (mover (pone_of start)) letters_same ∙ m)) (take (subst T m may.may_take));
+          legal = (before.legal, record { not_done = ap (is_done start) letters_same ∙ may.not_done; may_take = rw who (take (rw m at may.may_take)) });
+          seen = (λ i. e i ∷ before.seen i);
+          shows = ap (λ (s : Side). event_by s suited ∷ events start suit) who ∙ (λ i. e i ∷ before.shows i);
+          left_is = left_is;
+          theirs = theirs_are;
+          suits = order;
         }
-
-    shown : (side : Side) (suited : Move) (event : Event) → mover (pone_of start) (letters_of (filled_moves start seen)) ≡ side →
-        event_by side suited ≡ event → events start (suited ∷ suit) ≡ event ∷ history
-    shown side suited event m e =
-        ap (λ (s : Side). event_by s suited ∷ events start suit) (ap (mover (pone_of start)) letters_same ∙ m)
-        ∙ (λ i. e i ∷ before.shows i)
 
     left_card : (card : ℕ) → set_without (left_after_acts dealt.hold acts) card ≡ set_of (remaining (cards_of suit ++ card ∷ []) dealt.hold)
     left_card card =
@@ -151,56 +148,35 @@ module _ (problem : Setup) (setup : IsSetup problem) (dealt : Dealt) (deal : IsD
     own_suited : (turn : Move) → mover (pone_of start) (letters_of (filled_moves start seen)) ≡ Owner → MayCome start hands turn (filled_moves start seen) →
         Suited (record { side = Owner; what = turn } ∷ acts) (Own turn ∷ history)
     own_suited (move.Card card) m may =
-        let T : Side → Type 0 = λ s. MayTake hands s (move.Card card) (filled_moves start seen) in
-        let mine : has problem.hold card ≡ true =
-        (has-filter_parts (λ c. not (has (cards_of (filled_moves start seen)) c)) problem.hold card (subst T m may.may_take).0).0 in
-        record {
-          legal = (before.legal, come Owner (move.Card card) (move.Card card) m may (own_take (move.Card card)));
-          seen = ap (λ (h : List Event). Own (move.Card card) ∷ h) before.seen;
-          shows = shown Owner (move.Card card) (Own (move.Card card)) m refl;
-          left_is = left_card card;
-          theirs = λ other held.
-              let apart : eqb card other ≡ false =
-              ne_eqb card other (λ e. both_ways (has dealt.hold other) (ap (has dealt.hold) (sym e)
-              ∙ distinct_apart problem.hold dealt.hold card dealt_ok.distinct mine) held) in
-              list_any-append (λ c. eqb c other) (cards_of suit) (card ∷ [])
-              ∙ ap (λ (b : Bool). has (cards_of suit) other || (b || false)) apart
-              ∙ or_turned (has (cards_of suit) other) false
-              ∙ before.theirs other held;
-          suits = before.suits;
-        }
-    own_suited move.Go m may = record {
-      legal = (before.legal, come Owner move.Go move.Go m may (own_take move.Go));
-      seen = ap (λ (h : List Event). Own move.Go ∷ h) before.seen;
-      shows = shown Owner move.Go (Own move.Go) m refl;
-      left_is = before.left_is;
-      theirs = before.theirs;
-      suits = before.suits;
-    }
+        let take = rw m at may.may_take in
+        let mine : has problem.hold card ≡ true = (has-filter_parts (λ c. not (has (cards_of (filled_moves start seen)) c)) problem.hold card take.0).0 in
+        with_act Owner (move.Card card) (move.Card card) (Own (move.Card card)) m may (own_take (move.Card card)) refl (left_card card)
+        (λ other held.
+        let apart : eqb card other ≡ false =
+        ne_eqb card other (λ e. both_ways (has dealt.hold other) (ap (has dealt.hold) (sym e)
+        ∙ distinct_apart problem.hold dealt.hold card dealt_ok.distinct mine) held) in
+        list_any-append (λ c. eqb c other) (cards_of suit) (card ∷ [])
+        ∙ ap (λ (b : Bool). has (cards_of suit) other || (b || false)) apart
+        ∙ or_turned (has (cards_of suit) other) false
+        ∙ before.theirs other held) before.suits
+    own_suited move.Go m may =
+        with_act Owner move.Go move.Go (Own move.Go) m may (own_take move.Go) refl before.left_is before.theirs before.suits
 
     -- the opponent's card: another one of its rank that is left
     card_suited : (card other : ℕ) → has (left suit) other ≡ true → rank_of other ≡ rank_of card → is_in_suit_order few dealt.hold (other ∷ theirs) ≡ true →
         mover (pone_of start) (letters_of (filled_moves start seen)) ≡ Opponent → MayCome start hands (move.Card card) (filled_moves start seen) →
         Suited (record { side = Opponent; what = move.Card other } ∷ acts) (Theirs (Seen (rank_of card)) ∷ history)
-    card_suited card other mine rank_is order m may = record {
-      legal = (
-        before.legal,
-        come Opponent (move.Card card) (move.Card other) m may
-            (λ take. (
-              ap (λ (cards : List ℕ). has cards other) (left_remaining start hands Opponent suit) ∙ mine,
-              fits_same other card (ap rank_value rank_is)
-                  ∙ take.1,
-            )),
-      );
-      seen = (λ i. Theirs (Seen (rank_is i)) ∷ before.seen i);
-      shows = shown Opponent (move.Card other) (Theirs (Seen (rank_of card))) m (ap (λ (rank : ℕ). Theirs (Seen rank)) rank_is);
-      left_is = left_card other;
-      theirs = λ held is.
-          list_any-append (λ c. eqb c held) (cards_of suit) (other ∷ [])
-          ∙ ap (λ (b : Bool). b || (eqb other held || false)) (before.theirs held is)
-          ∙ or_turned (has theirs held) (eqb other held);
-      suits = order;
-    }
+    card_suited card other mine rank_is order m may =
+        with_act Opponent (move.Card card) (move.Card other) (Theirs (Seen (rank_of card))) m may
+        (λ take. (
+          ap (λ (cards : List ℕ). has cards other) (left_remaining start hands Opponent suit) ∙ mine,
+          fits_same other card (ap rank_value rank_is) ∙ take.1,
+        ))
+        (ap (λ (rank : ℕ). Theirs (Seen rank)) rank_is) (left_card other)
+        (λ held is.
+        list_any-append (λ c. eqb c held) (cards_of suit) (other ∷ [])
+        ∙ ap (λ (b : Bool). b || (eqb other held || false)) (before.theirs held is)
+        ∙ or_turned (has theirs held) (eqb other held)) order
 
     -- the first of its rank
     module _ (card : ℕ) where
@@ -253,8 +229,7 @@ module _ (problem : Setup) (setup : IsSetup problem) (dealt : Dealt) (deal : IsD
       first_suited : mover (pone_of start) (letters_of (filled_moves start seen)) ≡ Opponent → MayCome start hands (move.Card card) (filled_moves start seen) →
           Suited (record { side = Opponent; what = move.Card first } ∷ acts) (Theirs (Seen (rank_of card)) ∷ history)
       first_suited m may =
-          let T : Side → Type 0 = λ s. MayTake hands s (move.Card card) (filled_moves start seen) in
-          let take = subst T m may.may_take in
+          let take = rw m at may.may_take in
           let held : has (left seen) card ≡ true = ap (λ (cards : List ℕ). has cards card) (sym (left_remaining start hands Opponent seen)) ∙ take.0 in
           let found = is_found held in
           card_suited card first (first_left found) found.rank_is
@@ -265,14 +240,7 @@ module _ (problem : Setup) (setup : IsSetup problem) (dealt : Dealt) (deal : IsD
 
     go_suited : mover (pone_of start) (letters_of (filled_moves start seen)) ≡ Opponent → MayCome start hands move.Go (filled_moves start seen) →
         Suited (record { side = Opponent; what = move.Go } ∷ acts) (Theirs Go ∷ history)
-    go_suited m may = record {
-      legal = (before.legal, come Opponent move.Go move.Go m may (λ take. none_fits take));
-      seen = ap (λ (h : List Event). Theirs Go ∷ h) before.seen;
-      shows = shown Opponent move.Go (Theirs Go) m refl;
-      left_is = before.left_is;
-      theirs = before.theirs;
-      suits = before.suits;
-    }
+    go_suited m may = with_act Opponent move.Go move.Go (Theirs Go) m may none_fits refl before.left_is before.theirs before.suits
       where
         none_fits : list_any (fits (filled_moves start seen)) (cards_left hands Opponent (filled_moves start seen)) ≡ false →
             list_any (fits (filled_moves start suit)) (cards_left hands Opponent (filled_moves start suit)) ≡ false
@@ -298,60 +266,52 @@ module _ (problem : Setup) (setup : IsSetup problem) (dealt : Dealt) (deal : IsD
   early_order (card ∷ cards) most = or_left (ltb (length cards) few) (is_in_turn dealt.hold cards card && is_in_suit_order few dealt.hold cards)
       (lt-ltb (length cards) few (omega (arith, most)))
 
+  -- the opponent's cards of some acts of the opening: different cards of the hold, and no more than the opening has
+  abbrev AreEarly : List ℕ → Type 0
+  AreEarly cards = (are_distinct cards ≡ true) × (list_all (has dealt.hold) cards ≡ true) × (length cards ≤ few)
+
+  early_before : (side : Side) (what : Move) (cards : List ℕ) → AreEarly (theirs_with side what cards) → AreEarly cards
+  early_before Owner what cards early = early
+  early_before Opponent (move.Card card) cards early = (
+    (and_parts (not (has cards card)) (are_distinct cards) early.0).1,
+    (and_parts (has dealt.hold card) (list_all (has dealt.hold) cards) early.1).1,
+    (let most = early.2 in omega (arith, most)),
+  )
+  early_before Opponent move.Go cards early = early
+
   played_turn : (side : Side) (what turn : Move) (seen : List Move) (legal : AreLegal start hands seen) (acts : List Act) → Suited acts (events start seen) →
       mover (pone_of start) (letters_of (filled_moves start seen)) ≡ side → event_by side turn ≡ event_by side what →
-      MayCome start hands turn (filled_moves start seen) →
-      are_distinct (theirs_with side what (cards_by Opponent acts)) ≡ true → list_all (has dealt.hold) (theirs_with side what (cards_by Opponent acts)) ≡ true →
-      length (theirs_with side what (cards_by Opponent acts)) ≤ few →
+      MayCome start hands turn (filled_moves start seen) → AreEarly (theirs_with side what (cards_by Opponent acts)) →
       Suited (record { side = side; what = what } ∷ acts) (event_by side turn ∷ events start seen)
-  played_turn Owner what turn seen legal acts before m same may distinct held most =
+  played_turn Owner what turn seen legal acts before m same may early =
       let e : turn ≡ what = cc in
       let S : Move → Type 0 = λ shown. Suited (record { side = Owner; what = shown } ∷ acts) (Own turn ∷ events start seen) in
       subst S e (own_suited seen legal acts before turn m may)
-  played_turn Opponent (move.Card other) (move.Card card) seen legal acts before m same may distinct held most =
+  played_turn Opponent (move.Card other) (move.Card card) seen legal acts before m same may early =
       let rank_is : rank_of other ≡ rank_of card = cc in
       let fresh : has (cards_by Opponent acts) other ≡ false =
-      not-true (has (cards_by Opponent acts) other) (and_parts (not (has (cards_by Opponent acts) other)) (are_distinct (cards_by Opponent acts)) distinct).0 in
-      let in_hold : has dealt.hold other ≡ true = (and_parts (has dealt.hold other) (list_all (has dealt.hold) (cards_by Opponent acts)) held).0 in
+      not-true (has (cards_by Opponent acts) other) (and_parts (not (has (cards_by Opponent acts) other)) (are_distinct (cards_by Opponent acts)) early.0).0 in
+      let in_hold : has dealt.hold other ≡ true = (and_parts (has dealt.hold other) (list_all (has dealt.hold) (cards_by Opponent acts)) early.1).0 in
       let mine = has-filter_from (λ c. not (has (cards_of (moves_of acts)) c)) dealt.hold other in_hold (ap not (before.theirs other in_hold ∙ fresh)) in
-      card_suited seen legal acts before card other mine rank_is (early_order (other ∷ cards_by Opponent acts) most) m may
-  played_turn Opponent (move.Card other) move.Go seen legal acts before m same may distinct held most = absurd cc
-  played_turn Opponent move.Go (move.Card card) seen legal acts before m same may distinct held most = absurd cc
-  played_turn Opponent move.Go move.Go seen legal acts before m same may distinct held most = go_suited seen legal acts before m may
-
-  -- what holds of the cards after an act held before it
-  distinct_before : (side : Side) (what : Move) (cards : List ℕ) → are_distinct (theirs_with side what cards) ≡ true → are_distinct cards ≡ true
-  distinct_before Owner what cards e = e
-  distinct_before Opponent (move.Card card) cards e = (and_parts (not (has cards card)) (are_distinct cards) e).1
-  distinct_before Opponent move.Go cards e = e
-
-  held_before : (side : Side) (what : Move) (cards : List ℕ) → list_all (has dealt.hold) (theirs_with side what cards) ≡ true →
-      list_all (has dealt.hold) cards ≡ true
-  held_before Owner what cards e = e
-  held_before Opponent (move.Card card) cards e = (and_parts (has dealt.hold card) (list_all (has dealt.hold) cards) e).1
-  held_before Opponent move.Go cards e = e
-
-  most_before : (side : Side) (what : Move) (cards : List ℕ) → length (theirs_with side what cards) ≤ few → length cards ≤ few
-  most_before Owner what cards e = e
-  most_before Opponent (move.Card card) cards e = omega (arith, e)
-  most_before Opponent move.Go cards e = e
+      card_suited seen legal acts before card other mine rank_is (early_order (other ∷ cards_by Opponent acts) early.2) m may
+  played_turn Opponent (move.Card other) move.Go seen legal acts before m same may early = absurd cc
+  played_turn Opponent move.Go (move.Card card) seen legal acts before m same may early = absurd cc
+  played_turn Opponent move.Go move.Go seen legal acts before m same may early = go_suited seen legal acts before m may
 
   played_suited : (acts : List Act) (seen : List Move) → AreLegal start hands seen → events start seen ≡ map event_of acts →
-      are_distinct (cards_by Opponent acts) ≡ true → list_all (has dealt.hold) (cards_by Opponent acts) ≡ true →
-      length (cards_by Opponent acts) ≤ few → Suited acts (events start seen)
-  played_suited [] [] legal e distinct held most = suited_start
-  played_suited [] (turn ∷ seen) legal e distinct held most = absurd cc
-  played_suited (act ∷ acts) [] legal e distinct held most = absurd cc
-  played_suited (act ∷ acts) (turn ∷ seen) legal e distinct held most =
+      AreEarly (cards_by Opponent acts) → Suited acts (events start seen)
+  played_suited [] [] legal e early = suited_start
+  played_suited [] (turn ∷ seen) legal e early = absurd cc
+  played_suited (act ∷ acts) [] legal e early = absurd cc
+  played_suited (act ∷ acts) (turn ∷ seen) legal e early =
       let who = mover (pone_of start) (letters_of (filled_moves start seen)) in
       let first : event_by who turn ≡ event_by act.side act.what = cc in
       let rest : events start seen ≡ map event_of acts = cc in
       let side : who ≡ act.side = same_side_of who act.side turn act.what first in
-      let before = played_suited acts seen legal.0 rest (distinct_before act.side act.what (cards_by Opponent acts) distinct)
-      (held_before act.side act.what (cards_by Opponent acts) held) (most_before act.side act.what (cards_by Opponent acts) most) in
+      let before = played_suited acts seen legal.0 rest (early_before act.side act.what (cards_by Opponent acts) early) in
       let S : Side → Type 0 = λ s. Suited (act ∷ acts) (event_by s turn ∷ events start seen) in
-      subst S (sym side) (played_turn act.side act.what turn seen legal.0 acts before side (sym (ap (λ (s : Side). event_by s turn) side) ∙ first) legal.1
-      distinct held most)
+      subst S (sym side) (played_turn act.side act.what turn seen legal.0 acts before side
+      (sym (ap (λ (s : Side). event_by s turn) side) ∙ first) legal.1 early)
 
   -- ---- all turns
   suited_turn : (side : Side) (turn : Move) (seen : List Move) → AreLegal start hands seen → (acts : List Act) → Suited acts (events start seen) →
@@ -365,7 +325,7 @@ module _ (problem : Setup) (setup : IsSetup problem) (dealt : Dealt) (deal : IsD
   pub suited : (later : List Event) (seen : List Move) → AreLegal start hands seen → events start seen ≡ later ++ played_events problem →
       Suited (acts_in_suits dealt.hold (played_back problem) later) (events start seen)
   suited [] seen legal e =
-      played_suited (played_back problem) seen legal e (fixed_distinct problem setup) deal.fixed (omega arith)
+      played_suited (played_back problem) seen legal e (fixed_distinct problem setup, deal.fixed, omega arith)
   suited (event ∷ later) [] legal e = absurd cc
   suited (event ∷ later) (turn ∷ seen) legal e =
       let who = mover (pone_of start) (letters_of (filled_moves start seen)) in

@@ -1,5 +1,5 @@
 -- The outcome of a deal that is done, in terms of what is known.
-use Rattle.std.proofs.Common.{◌≡◌, ◌<◌, ◌≤◌, Bool, true, false, not, ◌↔◌, List, length, refl, sym, ap, subst, ◌∙◌}
+use Rattle.std.proofs.Common.{◌≡◌, ◌<◌, ◌≤◌, Bool, true, false, not, ◌↔◌, List, length, refl, sym, ap, ◌∙◌}
 use Rattle.std.proofs.lemmas.Bool.{both_ways}
 use Rattle.crib_cards.specs.Sides.{game_hole}
 use Rattle.crib_cards.specs.declared.sides.Scores.{Scores}
@@ -32,8 +32,7 @@ module _ (know : Knowledge) (problem : Setup) (history : List Event) (knows : Kn
 
   pub reached_now : target_of problem ≤ know.round.scores.owner → IsReachedBehind problem history
   reached_now high dealt agrees =
-      let S : Scores → Type 0 = λ scores. target_of problem ≤ scores.owner in
-      decided_reached (full_behind problem history dealt) (subst S scores_are high)
+      decided_reached (full_behind problem history dealt) (rw scores_are at high)
 
   pub lost_now : know.round.scores.owner < target_of problem → game_hole ≤ know.round.scores.opponent → IsReachedBehind problem history → ⊥
   lost_now low high all = for_deal _ (first_deal_is problem knows.setup history (possible_led problem knows.setup history knows.possible) knows.begun).agrees
@@ -43,9 +42,7 @@ module _ (know : Knowledge) (problem : Setup) (history : List Event) (knows : Kn
 
       for_deal : (dealt : Dealt) → AgreesWith problem history dealt → ⊥
       for_deal dealt agrees =
-          let L : Scores → Type 0 = λ scores. scores.owner < target_of problem in
-          let H : Scores → Type 0 = λ scores. game_hole ≤ scores.opponent in
-          apart (sym (all dealt agrees) ∙ decided_lost (full_behind problem history dealt) (subst L scores_are low) (subst H scores_are high))
+          apart (sym (all dealt agrees) ∙ decided_lost (full_behind problem history dealt) (rw scores_are at low) (rw scores_are at high))
 
   -- ---- eight cards are played
   module _ (over : know.round.asked ≡ turns.Over) (low : know.round.scores.owner < target_of problem) (open_score : know.round.scores.opponent < game_hole)

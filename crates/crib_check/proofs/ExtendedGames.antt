@@ -1,5 +1,5 @@
 -- Games that go on from a history. Each stops there, or goes on with a turn that may come.
-use Rattle.std.proofs.Common.{◌≡◌, ◌⊎◌, List, [], ◌∷◌, ◌++◌, map, refl, sym, ap, subst, ◌∙◌, inl, inr, append_assoc}
+use Rattle.std.proofs.Common.{◌≡◌, ◌⊎◌, List, [], ◌∷◌, ◌++◌, map, refl, sym, ap, ◌∙◌, inl, inr, append_assoc}
 use Rattle.std.proofs.lemmas.List.{map-append}
 use Rattle.crib_cards.specs.Start.{pone_of}
 use Rattle.crib_cards.specs.declared.sides.Dealt.{Dealt}
@@ -46,8 +46,7 @@ module _ (problem : Setup) (plan : List Node) (game : Game) (result : Ending) (f
   pub failing_follows : FollowsBy plan problem.played (history_of_game game)
   failing_follows =
       let of = failing.of_game.of_game in
-      let F : List Act → Type 0 = λ acts. FollowsBy plan problem.played (map event_of acts) in
-      subst F of.acts (follows_to plan problem.played (pone_of (start_of problem)) failing.played failing.of_game.follows)
+      rw of.acts at (follows_to plan problem.played (pone_of (start_of problem)) failing.played failing.of_game.follows)
 
   -- it goes on from the opening
   pub failing_begins : Extends (played_events problem) (history_of_game game)
@@ -82,12 +81,9 @@ next_turn problem plan setup history begun game result failing ext =
       | inr more ↦
           let event = more.event in
           let later = more.extends.0 in
-          let A : List Event → Type 0 = λ h. AgreesWith problem h game.opp in
-          let F : List Event → Type 0 = λ h. FollowsBy plan problem.played h in
-          let agrees : AgreesWith problem (event ∷ history) game.opp = agrees_earlier problem setup game.opp later (event ∷ history)
-          (subst A more.extends.1 (failing_agrees problem plan game result failing)) in
-          let follows : FollowsBy plan problem.played (event ∷ history) =
-          follows_earlier plan problem.played later (event ∷ history) (subst F more.extends.1 (failing_follows problem plan game result failing)) in
+          let agrees = agrees_earlier problem setup game.opp later (event ∷ history) (rw more.extends.1 at (failing_agrees problem plan game result failing)) in
+          let follows = follows_earlier plan problem.played later (event ∷ history)
+          (rw more.extends.1 at (failing_follows problem plan game result failing)) in
           inr (record {
             event = event;
             extends = more.extends;

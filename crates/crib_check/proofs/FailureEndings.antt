@@ -111,8 +111,8 @@ module _ (problem : Setup) (plan : List Node) (key : Key) (history : List Event)
 
   pub seen_legal : AreLegal start hands seen
   seen_legal =
-      let L : List Move → Type 0 = λ moves. AreLegal start hands moves in
-      subst L seen_is (visible_legal start hands (record_of problem game) (started problem stands.knows.setup) dealt_ok of_game.of_game.legal)
+      subst (AreLegal start hands) seen_is (visible_legal start hands (record_of problem game)
+      (started problem stands.knows.setup) dealt_ok of_game.of_game.legal)
 
   history_is : history_of (pone_of start) (record_of problem game) ≡ history
   history_is = ap (λ (acts : List Act). map event_of acts) of_game.of_game.acts ∙ same
@@ -128,10 +128,10 @@ module _ (problem : Setup) (plan : List Node) (key : Key) (history : List Event)
 
   table_stands : StandsFor key.know.round start (letters_of seen)
   table_stands =
-      let T : List Letter → Type 0 = λ letters. AreTaken start letters in
       record {
         started = started problem stands.knows.setup;
-        taken = subst T letters_are (are_taken problem stands.knows.setup history (possible_led problem stands.knows.setup history stands.knows.possible)
+        taken = subst (AreTaken start) letters_are (are_taken problem stands.knows.setup history
+            (possible_led problem stands.knows.setup history stands.knows.possible)
             stands.knows.begun);
         shows = ap (λ (k : Knowledge). k.round) stands.knows.knowledge ∙ ap (λ (letters : List Letter). standing_after start (filled_record start letters))
             letters_are;
@@ -162,9 +162,8 @@ module _ (problem : Setup) (plan : List Node) (setup : IsSetup problem) (game : 
       let played = failing.played in
       let d = is_done_for problem played in
       let s = is_stuck plan problem.played (start_of problem) (hands_of problem game.opp) played in
-      let F : Ending → Type 0 = λ e. IsFailingEnding e in
       ended_law problem plan game played setup failing.of_game (failing_ended d s (outcome_of (full_of problem game.opp played))
-      (subst F (sym failing.ending_is) failing.failure))
+      (subst IsFailingEnding (sym failing.ending_is) failing.failure))
       ∙ ap Ok failing.ending_is
 
   pub failing_stands : StandsSo problem plan game result (record_of problem game)

@@ -54,7 +54,7 @@ pub decided_reached : (full : Full) → full.target ≤ full.scores.owner → ou
 unfolding outcome_of
 decided_reached full high =
     let at = le-leb full.target full.scores.owner high in
-    cond-true (are_decided full.target full.scores) (outcome_at full.stop full.target full.scores) _
+    cond-true (are_decided full.target full.scores) (outcome_at full full.scores) _
     (or_left (leb full.target full.scores.owner) (leb game_hole full.scores.opponent) at)
     ∙ cond-true (leb full.target full.scores.owner) outcome.Reached _ at
 
@@ -62,7 +62,7 @@ pub decided_lost : (full : Full) → full.scores.owner < full.target → game_ho
 unfolding outcome_of
 decided_lost full low high =
     let lost = le-leb game_hole full.scores.opponent high in
-    cond-true (are_decided full.target full.scores) (outcome_at full.stop full.target full.scores) _
+    cond-true (are_decided full.target full.scores) (outcome_at full full.scores) _
     (or_right (leb full.target full.scores.owner) (leb game_hole full.scores.opponent) lost)
     ∙ cond-false (leb full.target full.scores.owner) outcome.Reached _ (lt-leb full.target full.scores.owner low)
     ∙ cond-true (leb game_hole full.scores.opponent) outcome.Lost _ lost

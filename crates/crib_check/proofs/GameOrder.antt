@@ -1,8 +1,8 @@
 -- The order of games by the opponent's letters.
-use Rattle.std.proofs.Common.{◌≡◌, ℕ, ◌<◌, Bool, true, false, ◌&&◌, ◌||◌, eqb, ltb, List, [], ◌∷◌, ◌++◌, map, reverse, refl, sym, ap, ◌∙◌, append_assoc}
+use Rattle.std.proofs.Common.{◌≡◌, ℕ, ◌<◌, Bool, true, false, ◌&&◌, eqb, ltb, List, [], ◌∷◌, ◌++◌, map, reverse, refl, sym, ap, ◌∙◌, append_assoc}
 use Rattle.std.proofs.Common.{inl, inr, arith}
 use Rattle.std.specs.Prelude.{bytes_eq, filter}
-use Rattle.std.proofs.lemmas.Bool.{cases_Bool, both_ways, lt-ltb, le-ltb, ne_eqb}
+use Rattle.std.proofs.lemmas.Bool.{cases_Bool, both_ways, or_from, and_right, le-ltb, ne_eqb}
 use Rattle.std.proofs.lemmas.Slice.Eq.{bytes_eq-Decides}
 use Rattle.std.proofs.lemmas.List.{map-append, reverse-append}
 use Rattle.crib_cards.specs.Order.{is_before}
@@ -18,8 +18,7 @@ use Rattle.crib_play.specs.History.{Event, Own, Theirs, event_by, event_of}
 use Rattle.crib_game.specs.declared.section.game.Game.{Game}
 use Rattle.crib_check.specs.Failing.{opponent_letters, comes_before}
 use Rattle.crib_check.specs.Private.Histories.{Extends, history_of_game}
-use Rattle.crib_know.proofs.CardsLeft.{eqb_same}
-use Rattle.crib_cards.proofs.DictionaryOrder.{not_before_self}
+use Rattle.crib_cards.proofs.DictionaryOrder.{before_first, before_rest, not_before_rest, not_before_self}
 
 -- an event tells whose turn it was
 pub same_side_of : (side other : Side) (what move : Move) → event_by side what ≡ event_by other move → side ≡ other
@@ -79,30 +78,16 @@ letters_go_on game history letter ext =
     ∙ append_assoc (reverse (letters_in history)) (letter_place letter ∷ []) (reverse (letters_in ext.0))
 
 -- ---- dictionary order
-ltb_same : (x : ℕ) → ltb x x ≡ false
-ltb_same x = le-ltb x x (omega arith)
-
-same_head : (x : ℕ) (xs ys : List ℕ) → is_before (x ∷ xs) (x ∷ ys) ≡ is_before xs ys
-same_head x xs ys = ap (λ (b : Bool). b || (eqb x x && is_before xs ys)) (ltb_same x) ∙ ap (λ (b : Bool). b && is_before xs ys) (eqb_same x)
-
 pub larger_is_later : (before : List ℕ) (x y : ℕ) (xs ys : List ℕ) → y < x → is_before (before ++ x ∷ xs) (before ++ y ∷ ys) ≡ false
-larger_is_later [] x y xs ys less =
-    ap (λ (b : Bool). b || (eqb x y && is_before xs ys)) (le-ltb x y (omega arith)) ∙ ap (λ (b : Bool). b && is_before xs ys)
-    (ne_eqb x y (λ e. absurd (omega (arith, e))))
-larger_is_later (b ∷ before) x y xs ys less = same_head b (before ++ x ∷ xs) (before ++ y ∷ ys) ∙ larger_is_later before x y xs ys less
+larger_is_later [] x y xs ys less = or_from (ltb x y) (eqb x y && is_before xs ys) (le-ltb x y (omega arith))
+    (ap (λ (b : Bool). b && is_before xs ys) (ne_eqb x y (λ e. absurd (omega (arith, e)))))
+larger_is_later (b ∷ before) x y xs ys less = not_before_rest b (before ++ x ∷ xs) (before ++ y ∷ ys) (larger_is_later before x y xs ys less)
 
 pub smaller_is_before : (before : List ℕ) (x y : ℕ) (xs ys : List ℕ) → y < x → is_before (before ++ y ∷ ys) (before ++ x ∷ xs) ≡ true
-smaller_is_before [] x y xs ys less = ap (λ (b : Bool). b || (eqb y x && is_before ys xs)) (lt-ltb y x less)
-smaller_is_before (b ∷ before) x y xs ys less = same_head b (before ++ y ∷ ys) (before ++ x ∷ xs) ∙ smaller_is_before before x y xs ys less
+smaller_is_before [] x y xs ys less = before_first y x ys xs less
+smaller_is_before (b ∷ before) x y xs ys less = before_rest b (before ++ y ∷ ys) (before ++ x ∷ xs) (smaller_is_before before x y xs ys less)
 
 -- ---- games
-later_is_later : (b same c : Bool) → b ≡ false → same ≡ false → (b || (same && c)) ≡ false
-later_is_later b same c e f = ap (λ (x : Bool). x || (same && c)) e ∙ ap (λ (x : Bool). x && c) f
-
-equal_is_later : (b same c : Bool) → b ≡ false → c ≡ false → (b || (same && c)) ≡ false
-equal_is_later b true c e f = ap (λ (x : Bool). x || c) e ∙ f
-equal_is_later b false c e f = ap (λ (x : Bool). x || false) e
-
 -- a game that goes on with a later letter does not come before
 pub later_letter : (game other : Game) (history : List Event) (letter others : Letter) (ext : Extends (Theirs letter ∷ history) (history_of_game game))
     (ext_other : Extends (Theirs others ∷ history) (history_of_game other)) →
@@ -125,8 +110,8 @@ later_letter game other history letter others ext ext_other less =
           (ap (is_before (opponent_letters game)) letters ∙ not_before_self (opponent_letters game)) earlier)
       | inr apart ↦ apart
     ] in
-    later_is_later (is_before (opponent_letters other) (opponent_letters game)) (bytes_eq (opponent_letters other) (opponent_letters game))
-    (is_before (deal_numbers other.opp) (deal_numbers game.opp)) later differ
+    or_from (is_before (opponent_letters other) (opponent_letters game)) _ later (ap (λ (b : Bool). b && is_before (deal_numbers other.opp)
+    (deal_numbers game.opp)) differ)
 
 -- the deals decide between two games with the same history
 pub same_history : (game other : Game) → history_of_game other ≡ history_of_game game → is_before (deal_numbers other.opp) (deal_numbers game.opp) ≡ false →
@@ -134,6 +119,6 @@ pub same_history : (game other : Game) → history_of_game other ≡ history_of_
 same_history game other same later =
     let letters : opponent_letters other ≡ opponent_letters game = letters_of_game other ∙ ap (λ (h : List Event). reverse (letters_in h)) same
     ∙ sym (letters_of_game game) in
-    equal_is_later (is_before (opponent_letters other) (opponent_letters game)) (bytes_eq (opponent_letters other) (opponent_letters game))
-    (is_before (deal_numbers other.opp) (deal_numbers game.opp))
-    (ap (λ (numbers : List ℕ). is_before numbers (opponent_letters game)) letters ∙ not_before_self (opponent_letters game)) later
+    or_from (is_before (opponent_letters other) (opponent_letters game)) _
+    (ap (λ (numbers : List ℕ). is_before numbers (opponent_letters game)) letters ∙ not_before_self (opponent_letters game))
+    (and_right (bytes_eq (opponent_letters other) (opponent_letters game)) (is_before (deal_numbers other.opp) (deal_numbers game.opp)) later)

@@ -11,7 +11,7 @@ use Rattle.crib_play.specs.History.{Event, event_of, filled_moves, moves_of}
 use Rattle.crib_show.specs.declared.show.outcomes.Outcome.{Outcome}
 use Rattle.crib_show.specs.declared.show.outcomes.Outcome.TheVariants as outcome
 use Rattle.crib_show.specs.Outcome.{outcome_of}
-use Rattle.crib_problem.specs.Setup.{Setup, IsSetup, start_of, hands_of, played_back, BeginsAsPlayed}
+use Rattle.crib_problem.specs.Setup.{Setup, IsSetup, start_of, hands_of, played_back}
 use Rattle.crib_problem.proofs.StartLemmas.{started}
 use Rattle.crib_know.specs.Knowledge.{played_events}
 use Rattle.crib_plan.specs.declared.plan.Node.{Node}
@@ -27,13 +27,13 @@ use Rattle.crib_game.specs.Followed.{IsRecordUnder, ending_with}
 use Rattle.crib_game.specs.Private.Judging.{full_at}
 use Rattle.crib_game.specs.Private.Tracing.{ending_at}
 use Rattle.crib_check.specs.declared.keys.Key.{Key}
-use Rattle.crib_check.specs.Failing.{IsFailingEnding, IsFailing, is_suited}
-use Rattle.crib_check.specs.Private.Histories.{FollowsBy, history_of_game}
+use Rattle.crib_check.specs.Failing.{IsFailingEnding, is_suited}
+use Rattle.crib_check.specs.Private.Histories.{history_of_game}
 use Rattle.crib_check.specs.Private.Positions.{StandsAt, IsFirstFrom, IsStuckAt, IsFirstShortfall}
 use Rattle.crib_check.specs.Private.Suits.{acts_in_suits}
 use Rattle.crib_check.proofs.PlaceByHistory.{follows_from}
-use Rattle.crib_check.proofs.FailureEndings.{record_ends}
-use Rattle.crib_check.proofs.WalkConclusions.{stuck_ends, stuck_first, over_ends, over_first}
+use Rattle.crib_check.proofs.FailureEndings.{record_ends, reached_is_none}
+use Rattle.crib_check.proofs.WalkConclusions.{stuck_ends, over_ends, leaf_first}
 use Rattle.crib_check.proofs.AgreeingInSuitOrder.{Suited}
 use Rattle.crib_check.proofs.RecordsFromOpening.{acts_later, suited_turns, suited_legal, suited_shows, suited_acts}
 
@@ -70,55 +70,36 @@ module _ (problem : Setup) (plan : List Node) (key : Key) (later : List Event) (
   played = filled_moves start (moves_of listed)
 
   of_game : IsRecordUnder problem plan game played
-  of_game =
-      let F : List Event → Type 0 = λ h. FollowsBy plan problem.played h in
-      let B : List Act → Type 0 = λ xs. BeginsAsPlayed problem xs in
-      record {
-        of_game = record {
-          deal = agrees.0;
-          legal = suited_legal problem setup game.opp agrees.0 later plays;
-          acts = suited_acts problem setup game.opp agrees.0 later plays ∙ sym acts;
-          begins = subst B (sym acts) (acts_later problem game.opp.hold later);
-        };
-        follows = follows_from plan problem.played (pone_of start) played
-            (subst F (sym (suited_shows problem setup game.opp agrees.0 later plays)) stands.follows);
-      }
-
-  history_is : history_of_game game ≡ history
-  history_is = ap (λ (xs : List Act). map event_of xs) acts ∙ in_suits.seen
-
-  suits_are : is_suited problem game.opp.hold (acts_back game) ≡ true
-  suits_are = ap (λ (xs : List Act). is_suited problem game.opp.hold xs) acts ∙ in_suits.suits
-
-  record_under : IsRecordUnder problem plan game (record_of problem game)
-  record_under =
-      let U : List Move → Type 0 = λ moves. IsRecordUnder problem plan game moves in
-      subst U (ap (λ (xs : List Act). filled_moves start (moves_of xs)) (sym acts)) of_game
-
-  fails_with : (result : Ending) → ending_at problem game.opp key.know.round key.know.own_left (stated_card plan key.place) ≡ result → IsFailingEnding result →
-      IsFailing problem plan game result
-  fails_with result e failure = record {
-    played = record_of problem game;
-    of_game = record_under;
-    ending_is = sym (record_ends problem plan key history stands game history_is record_under) ∙ e;
-    failure = failure;
+  of_game = record {
+    of_game = record {
+      deal = agrees.0;
+      legal = suited_legal problem setup game.opp agrees.0 later plays;
+      acts = suited_acts problem setup game.opp agrees.0 later plays ∙ sym acts;
+      begins = rw acts (acts_later problem game.opp.hold later);
+    };
+    follows = follows_from plan problem.played (pone_of start) played (rw (suited_shows problem setup game.opp agrees.0 later plays) stands.follows);
   }
 
-  pub named_stuck : IsStuckAt plan key → is_in_pack_order game.opp ≡ true →
-      ((other : Dealt) → AgreesWith problem history other → is_before (deal_numbers other) (deal_numbers game.opp) ≡ false) →
-      IsFirstFrom problem plan history game ending.Stuck
-  named_stuck stuck order least =
-      stuck_first problem plan key history stands stuck game (fails_with ending.Stuck (stuck_ends problem plan key history stands stuck game.opp) (inl refl))
-      history_is order suits_are least
+  history_is : history_of_game game ≡ history
+  history_is = ap (map event_of) acts ∙ in_suits.seen
 
-  pub named_over : key.know.round.asked ≡ turns.Over → (result : Ending) → ending_with (outcome_of (full_at problem game.opp key.know.round)) ≡ result →
-      IsFirstShortfall problem history key.know.round game.opp → IsFirstFrom problem plan history game result
-  named_over over result e short =
-      let F : Ending → Type 0 = λ r. IsFailingEnding r in
-      over_first problem plan key history stands over game result
-      (fails_with result (over_ends problem plan key history stands over game.opp ∙ e)
-      (subst F e (failed_outcome (outcome_of (full_at problem game.opp key.know.round)) short.fails)))
-      history_is short.in_order suits_are (λ other others_agree fails. short.first other others_agree fails)
+  record_under : IsRecordUnder problem plan game (record_of problem game)
+  record_under = subst (λ (xs : List Act). IsRecordUnder problem plan game (filled_moves start (moves_of xs))) (sym acts) of_game
+
+  -- the game is the first failing one, if its deal is the first of those that fail here
+  named : (result : Ending) → ending_at problem game.opp key.know.round key.know.own_left (stated_card plan key.place) ≡ result → IsFailingEnding result →
+      is_in_pack_order game.opp ≡ true →
+      ((other : Dealt) → AgreesWith problem history other →
+      IsFailingEnding (ending_at problem other key.know.round key.know.own_left (stated_card plan key.place)) →
+      is_before (deal_numbers other) (deal_numbers game.opp) ≡ false) →
+      IsFirstFrom problem plan history game result
+  named result e failure order least =
+      leaf_first problem plan key history stands game result (record {
+        played = record_of problem game;
+        of_game = record_under;
+        ending_is = sym (record_ends problem plan key history stands game history_is record_under) ∙ e;
+        failure = failure;
+      }) history_is order (ap (is_suited problem game.opp.hold) acts ∙ in_suits.suits) least
 
 -- the same for a game that has a deal
 module _ (problem : Setup) (plan : List Node) (key : Key) (later : List Event) (stands : StandsAt problem plan key (later ++ played_events problem))
@@ -127,20 +108,21 @@ module _ (problem : Setup) (plan : List Node) (key : Key) (later : List Event) (
   abbrev whole : List Event
   whole = later ++ played_events problem
 
-  agrees_back : AgreesWith problem whole dealt → AgreesWith problem whole game.opp
-  agrees_back agrees = let A : Dealt → Type 0 = λ d. AgreesWith problem whole d in subst A (sym opp) agrees
-
   acts_here : acts_back game ≡ acts_in_suits game.opp.hold (played_back problem) later
   acts_here = acts ∙ ap (λ (d : Dealt). acts_in_suits d.hold (played_back problem) later) (sym opp)
 
   pub stuck_named : IsStuckAt plan key → IsFirstDeal problem whole dealt → IsFirstFrom problem plan whole game ending.Stuck
   stuck_named stuck first =
-      named_stuck problem plan key later stands game (agrees_back first.agrees) acts_here stuck (ap is_in_pack_order opp ∙ first.in_order)
-      (λ other agrees. ap (λ (d : Dealt). is_before (deal_numbers other) (deal_numbers d)) opp ∙ first.first other agrees)
+      let here = subst (IsFirstDeal problem whole) (sym opp) first in
+      named problem plan key later stands game here.agrees acts_here ending.Stuck (stuck_ends problem plan key whole stands stuck game.opp) (inl refl)
+      here.in_order (λ other agrees fails. here.first other agrees)
 
   pub over_named : key.know.round.asked ≡ turns.Over → (result : Ending) → result ≡ ending_with (outcome_of (full_at problem dealt key.know.round)) →
       IsFirstShortfall problem whole key.know.round dealt → IsFirstFrom problem plan whole game result
   over_named over result e short =
-      let S : Dealt → Type 0 = λ d. IsFirstShortfall problem whole key.know.round d in
-      named_over problem plan key later stands game (agrees_back short.agrees) acts_here over result
-      (ap (λ (d : Dealt). ending_with (outcome_of (full_at problem d key.know.round))) opp ∙ sym e) (subst S (sym opp) short)
+      let here = subst (IsFirstShortfall problem whole key.know.round) (sym opp) short in
+      let ends = over_ends problem plan key whole stands over in
+      let is = ap (λ (d : Dealt). ending_with (outcome_of (full_at problem d key.know.round))) opp ∙ sym e in
+      named problem plan key later stands game here.agrees acts_here result (ends game.opp ∙ is)
+      (subst IsFailingEnding is (failed_outcome (outcome_of (full_at problem game.opp key.know.round)) here.fails)) here.in_order
+      (λ other agrees fails. here.first other agrees (λ reached. reached_is_none (subst IsFailingEnding (ends other ∙ ap ending_with reached) fails)))

@@ -1,15 +1,13 @@
 -- There is at most one first failing game, with one ending, and none if the plan is sure.
 use Rattle.std.proofs.Common.{◌≡◌, ◌⊎◌, ℕ, zero, suc, ◌+◌, ◌<◌, ◌≤◌, Bool, true, false, cond, ◌&&◌, ◌||◌, eqb, ltb, List, [], ◌∷◌, ◌++◌, map, reverse}
-use Rattle.std.proofs.Common.{length, length-append, Some, None, refl, sym, ap, subst, ◌∙◌, inl, inr, arith}
-use Rattle.std.specs.List.{All, AllByRecursion}
-use Rattle.std.specs.Prelude.{bytes_eq}
-use Rattle.std.proofs.lemmas.Bool.{cases_Bool, cases_lt, and_parts, or_parts, both_ways, lt-ltb}
+use Rattle.std.proofs.Common.{take, drop, length, length-append, Some, None, refl, sym, ap, subst, ◌∙◌, inl, inr, arith}
+use Rattle.std.specs.List.{AllByRecursion}
+use Rattle.std.proofs.lemmas.Bool.{and_parts, or_parts, ltb-false}
 use Rattle.std.proofs.lemmas.Bool.{eq-eqb}
 use Rattle.std.proofs.lemmas.Slice.Eq.{bytes_eq-Decides}
 use Rattle.std.proofs.lemmas.List.{reverse-reverse}
-use Rattle.std.proofs.lemmas.List.Elements.{All-nil, All-cons}
 use Rattle.crib_cards.specs.Cards.{IsCard}
-use Rattle.crib_cards.specs.Deals.{six_cards, deal_numbers}
+use Rattle.crib_cards.specs.Deals.{six_cards, deal_numbers, is_in_pack_order}
 use Rattle.crib_cards.specs.Order.{is_before, are_rising}
 use Rattle.crib_cards.specs.Sets.{set_of}
 use Rattle.crib_cards.specs.Start.{Start, Hands}
@@ -18,8 +16,6 @@ use Rattle.crib_cards.specs.declared.sides.Dealt.{Dealt}
 use Rattle.crib_cards.specs.declared.moves.Move.{Move}
 use Rattle.crib_cards.specs.declared.moves.Act.{Act}
 use Rattle.crib_cards.proofs.SetFacts.{set_of-rising}
-use Rattle.crib_play.specs.declared.turns.Turn.{Turn}
-use Rattle.crib_play.specs.declared.turns.Turn.TheVariants as turns
 use Rattle.crib_play.specs.History.{Event, Own, Theirs, event_of, AreLegal, moves_of}
 use Rattle.crib_show.specs.declared.show.outcomes.Outcome.{Outcome}
 use Rattle.crib_show.specs.declared.show.outcomes.Outcome.TheVariants as outcome
@@ -29,32 +25,34 @@ use Rattle.crib_plan.specs.declared.plan.Node.{Node}
 use Rattle.crib_plan.specs.Places.{stated_card}
 use Rattle.crib_know.specs.Knowledge.{played_events, knowledge_after}
 use Rattle.crib_know.proofs.LedHistories as hidden
-use Rattle.crib_know.specs.Hidden.{AgreesWith, BeginsAfter}
+use Rattle.crib_know.specs.Hidden.{BeginsAfter}
 use Rattle.crib_know.proofs.Events.{events}
 use Rattle.crib_game.specs.declared.section.game.Game.{Game}
 use Rattle.crib_game.specs.declared.following.ending.Ending.{Ending}
-use Rattle.crib_game.specs.declared.following.ending.Ending.TheVariants as ending
 use Rattle.crib_game.specs.Replay.{acts_back, full_of, is_done_for}
 use Rattle.crib_game.specs.Following.{is_stuck}
 use Rattle.crib_game.specs.Followed.{ending_with, ending_without}
-use Rattle.crib_game.specs.Private.Judging.{is_over, full_at}
-use Rattle.crib_game.specs.Private.Tracing.{is_stuck_at, ending_at}
+use Rattle.crib_game.specs.Private.Tracing.{ending_at}
 use Rattle.crib_check.specs.declared.keys.Key.{Key}
 use Rattle.crib_check.specs.declared.verdict.Verdict.TheVariants.{Holds, Fails}
 use Rattle.crib_check.specs.Sure.{IsFollowed, IsSure}
 use Rattle.crib_check.specs.Failing.{IsFailingEnding, IsFailing, IsFirstFailing, opponent_letters, comes_before}
 use Rattle.crib_check.specs.Failing.{is_suited}
-use Rattle.crib_check.specs.Private.Histories.{place_by, IsStatedEvent, FollowsBy, Extends, history_of_game}
+use Rattle.crib_check.specs.Private.Histories.{place_by, IsStatedEvent, Extends, history_of_game}
 use Rattle.crib_check.specs.Private.Positions.{StandsAt, MayTakeAt}
 use Rattle.crib_check.specs.Laws.{ExactLaw, SameLaw}
 use Rattle.crib_check.proofs.ExtendedGames.{next_turn, failing_agrees, failing_follows, failing_begins, follows_earlier, agrees_earlier}
 use Rattle.crib_check.proofs.FailureEndings.{six_is, open_is_none, reached_is_none, failing_stands, failing_at, seen_legal, events_are}
 use Rattle.crib_check.proofs.GameOrder.{letters_in, letters_go_on}
-use Rattle.crib_check.proofs.WalkConclusions.{own_turn_may, over_next, stuck_next, own_event, theirs_open}
+use Rattle.crib_check.proofs.WalkConclusions.{own_turn_may, own_event, ended}
 use Rattle.crib_know.proofs.PassingIsAgreeing.{theirs_letter}
 use Rattle.crib_cards.proofs.LetterPlaces.{same_letter}
 use Rattle.crib_check.proofs.SuitOrder.{same_suits}
-use Rattle.crib_problem.proofs.StartLemmas.{first_all}
+use Rattle.crib_problem.proofs.StartLemmas.{each_has}
+use Rattle.crib_problem.proofs.CardLemmas.{all_parts}
+use Rattle.crib_cards.proofs.Members.{all_cards}
+use Rattle.crib_know.proofs.KnowledgeFacts.{begin_more}
+use Rattle.std.proofs.Math.Seq.{take-append_seam, drop-append_seam}
 
 -- ---- no failing game if the plan is sure
 ending_good : (d s : Bool) (o : Outcome) → (d ≡ true → o ≡ outcome.Reached) → s ≡ false → IsFailingEnding (ending_without (cond d (Some o) None) s) → ⊥
@@ -79,100 +77,58 @@ sure_or_failing problem plan game result sure failing =
     (sure.never_stuck game.opp played followed) (subst F (sym failing.ending_is) failing.failure)
 
 -- ---- the order of lists is total
-pub not_apart : (xs ys : List ℕ) → is_before xs ys ≡ false → is_before ys xs ≡ false → xs ≡ ys
+-- where neither the first part nor the second says that a list comes before
+second_fails : (b same c : Bool) → (b || (same && c)) ≡ false → same ≡ true → c ≡ false
+second_fails b same c e is = sym (ap (λ (t : Bool). t && c) is) ∙ (or_parts b (same && c) e).1
+
+not_apart : (xs ys : List ℕ) → is_before xs ys ≡ false → is_before ys xs ≡ false → xs ≡ ys
 not_apart [] [] e f = refl
 not_apart [] (y ∷ ys) e f = absurd cc
 not_apart (x ∷ xs) [] e f = absurd cc
 not_apart (x ∷ xs) (y ∷ ys) e f =
-    let first = or_parts (ltb x y) (eqb x y && is_before xs ys) e in
-    let second = or_parts (ltb y x) (eqb y x && is_before ys xs) f in
-    elim (cases_lt x y) [
-      | inl less ↦ absurd (both_ways (ltb x y) first.0 (lt-ltb x y less))
-      | inr most ↦
-          elim (cases_lt y x) [
-            | inl more ↦ absurd (both_ways (ltb y x) second.0 (lt-ltb y x more))
-            | inr least ↦
-                let same : x ≡ y = omega (arith, most, least) in
-                let rest = not_apart xs ys (tail x y (is_before xs ys) same first.1) (tail y x (is_before ys xs) (sym same) second.1) in
-                (λ i. same i ∷ rest i)
-          ]
-    ]
-  where
-    tail : (a b : ℕ) (c : Bool) → a ≡ b → (eqb a b && c) ≡ false → c ≡ false
-    tail a b c same none = sym (ap (λ (t : Bool). t && c) (eq-eqb a b same)) ∙ none
-
-not_before : (b same c : Bool) → (b || (same && c)) ≡ false → b ≡ false
-not_before b same c e = (or_parts b (same && c) e).0
-
-not_before_deal : (b same c : Bool) → (b || (same && c)) ≡ false → same ≡ true → c ≡ false
-not_before_deal b same c e is = sym (ap (λ (t : Bool). t && c) is) ∙ (or_parts b (same && c) e).1
+    let least = ltb-false x y (or_parts (ltb x y) (eqb x y && is_before xs ys) e).0 in
+    let most = ltb-false y x (or_parts (ltb y x) (eqb y x && is_before ys xs) f).0 in
+    let same : x ≡ y = omega (arith, least, most) in
+    let rest = not_apart xs ys (second_fails (ltb x y) (eqb x y) (is_before xs ys) e (eq-eqb x y same))
+    (second_fails (ltb y x) (eqb y x) (is_before ys xs) f (eq-eqb y x (sym same))) in
+    (λ i. same i ∷ rest i)
 
 -- two equal lists, split so that the first parts are equally long, have equal parts
 cut_at : (xs ys more others : List ℕ) → length xs ≡ length ys → xs ++ more ≡ ys ++ others → (xs ≡ ys) × (more ≡ others)
-cut_at [] [] more others e same = (refl, same)
-cut_at [] (y ∷ ys) more others e same = absurd (omega (arith, e))
-cut_at (x ∷ xs) [] more others e same = absurd (omega (arith, e))
-cut_at (x ∷ xs) (y ∷ ys) more others e same =
-    let first : x ≡ y = cc in
-    let rest : xs ++ more ≡ ys ++ others = cc in
-    let cut = cut_at xs ys more others (omega (arith, e)) rest in
-    ((λ i. first i ∷ cut.0 i), cut.1)
+cut_at xs ys more others long same = (
+  sym (take-append_seam xs more) ∙ (λ i. take (long i) (same i)) ∙ take-append_seam ys others,
+  sym (drop-append_seam xs more) ∙ (λ i. drop (long i) (same i)) ∙ drop-append_seam ys others,
+)
 
 same_next : (before : List ℕ) (x y : ℕ) (xs ys : List ℕ) → before ++ x ∷ xs ≡ before ++ y ∷ ys → x ≡ y
-same_next before x y xs ys e = (let rest : x ∷ xs ≡ y ∷ ys = (cut_at before before (x ∷ xs) (y ∷ ys) refl e).1 in cc)
+same_next before x y xs ys e = cc ((cut_at before before (x ∷ xs) (y ∷ ys) refl e).1)
 
 -- ---- one deal
 rising_cards : (cards : List ℕ) → AllByRecursion IsCard cards → are_rising cards ≡ true → set_of cards ≡ cards
-rising_cards cards all rising = set_of-rising cards rising (all_of cards all)
-  where
-    all_of : (xs : List ℕ) → AllByRecursion IsCard xs → All IsCard xs
-    all_of [] all = All-nil IsCard
-    all_of (x ∷ xs) all = All-cons IsCard x xs all.0 (all_of xs all.1)
+rising_cards cards all rising = set_of-rising cards rising (all_cards cards (λ card h. each_has IsCard cards card all h))
 
-all_back : (xs ys : List ℕ) → AllByRecursion IsCard (xs ++ ys) → AllByRecursion IsCard ys
-all_back [] ys all = all
-all_back (x ∷ xs) ys all = all_back xs ys all.1
+written : (dealt : Dealt) → AllByRecursion IsCard (six_cards dealt) → is_in_pack_order dealt ≡ true → deal_numbers dealt ≡ dealt.hold ++ dealt.throw
+written dealt all order =
+    let rising = and_parts (are_rising dealt.hold) (are_rising dealt.throw) order in
+    let cards = all_parts dealt.hold dealt.throw all in
+    (λ i. rising_cards dealt.hold cards.0 rising.0 i ++ rising_cards dealt.throw cards.1 rising.1 i)
 
 module _ (problem : Setup) (plan : List Node) (setup : IsSetup problem) (game other : Game) (result others_ending : Ending)
     (one : IsFirstFailing problem plan game result) (two : IsFirstFailing problem plan other others_ending) where
-  abbrev first_before : Bool
-  first_before = is_before (opponent_letters game) (opponent_letters other)
-
-  abbrev then_before : Bool
-  then_before = is_before (opponent_letters other) (opponent_letters game)
-
   after_other : comes_before game other ≡ false
   after_other = two.first game result one.failing
 
   before_other : comes_before other game ≡ false
   before_other = one.first other others_ending two.failing
 
-  first_no : first_before ≡ false
-  first_no = not_before first_before (bytes_eq (opponent_letters game) (opponent_letters other))
-      (is_before (deal_numbers game.opp) (deal_numbers other.opp)) after_other
-
-  then_no : then_before ≡ false
-  then_no = not_before then_before (bytes_eq (opponent_letters other) (opponent_letters game)) (is_before (deal_numbers other.opp) (deal_numbers game.opp))
-      before_other
-
   letters_same : opponent_letters game ≡ opponent_letters other
-  letters_same = not_apart (opponent_letters game) (opponent_letters other) first_no then_no
+  letters_same = not_apart (opponent_letters game) (opponent_letters other) (or_parts _ _ after_other).0 (or_parts _ _ before_other).0
 
   deals_same : deal_numbers game.opp ≡ deal_numbers other.opp
   deals_same =
       not_apart (deal_numbers game.opp) (deal_numbers other.opp)
-      (not_before_deal first_before (bytes_eq (opponent_letters game) (opponent_letters other))
-      (is_before (deal_numbers game.opp) (deal_numbers other.opp)) after_other
-      ((bytes_eq-Decides (opponent_letters game) (opponent_letters other)).1 letters_same))
-      (not_before_deal then_before (bytes_eq (opponent_letters other) (opponent_letters game)) (is_before (deal_numbers other.opp) (deal_numbers game.opp))
-      before_other ((bytes_eq-Decides (opponent_letters other) (opponent_letters game)).1 (sym letters_same)))
-
-  written : (dealt : Dealt) → AllByRecursion IsCard (six_cards dealt) → (are_rising dealt.hold && are_rising dealt.throw) ≡ true →
-      deal_numbers dealt ≡ dealt.hold ++ dealt.throw
-  written dealt all order =
-      let parts = and_parts (are_rising dealt.hold) (are_rising dealt.throw) order in
-      (λ i. rising_cards dealt.hold (first_all dealt.hold dealt.throw all) parts.0 i ++ rising_cards dealt.throw (all_back dealt.hold dealt.throw all) parts.1
-      i)
+      (second_fails _ _ _ after_other ((bytes_eq-Decides (opponent_letters game) (opponent_letters other)).1 letters_same))
+      (second_fails _ _ _ before_other ((bytes_eq-Decides (opponent_letters other) (opponent_letters game)).1 (sym letters_same)))
 
   opp_same : game.opp ≡ other.opp
   opp_same =
@@ -190,14 +146,11 @@ module _ (problem : Setup) (plan : List Node) (setup : IsSetup problem) (game ot
 
   stands_at : (history : List Event) → BeginsAfter problem history → Extends history (history_of_game game) → StandsAt problem plan (key_at history) history
   stands_at history begun ext =
-      let A : List Event → Type 0 = λ h. AgreesWith problem h game.opp in
-      let F : List Event → Type 0 = λ h. FollowsBy plan problem.played h in
-      let agrees : AgreesWith problem history game.opp =
-      agrees_earlier problem setup game.opp ext.0 history (subst A ext.1 (failing_agrees problem plan game result one.failing)) in
+      let agrees = agrees_earlier problem setup game.opp ext.0 history (rw ext.1 at (failing_agrees problem plan game result one.failing)) in
       record {
         knows = record { setup = setup; begun = begun; possible = (game.opp, agrees); knowledge = refl };
         place = refl;
-        follows = follows_earlier plan problem.played ext.0 history (subst F ext.1 (failing_follows problem plan game result one.failing));
+        follows = follows_earlier plan problem.played ext.0 history (rw ext.1 at (failing_follows problem plan game result one.failing));
       }
 
   module _ (history : List Event) (begun : BeginsAfter problem history) (ext : Extends history (history_of_game game)) where
@@ -207,35 +160,14 @@ module _ (problem : Setup) (plan : List Node) (setup : IsSetup problem) (game ot
     stands : StandsAt problem plan here history
     stands = stands_at history begun ext
 
-    -- nothing comes after a game has failed
-    ended_by : (turn : Turn) (dealt : Dealt) → here.know.round.asked ≡ turn →
-        IsFailingEnding (ending_at problem dealt here.know.round here.know.own_left (stated_card plan here.place)) → (event : Event) →
-        hidden.MayCome problem history event →
-        IsStatedEvent plan (place_by plan problem.played history) event → ⊥
-    ended_by turns.Over dealt asked failure event may is = over_next problem plan here history stands asked event may
-    ended_by turns.Opponent dealt asked failure event may is = let F : Ending → Type 0 = λ e. IsFailingEnding e in
-        open_is_none (subst F (theirs_open problem plan here history stands asked dealt) failure)
-    ended_by turns.Owner dealt asked failure event may is =
-        let s = is_stuck_at here.know.round here.know.own_left (stated_card plan here.place) in
-        elim (cases_Bool s) [
-          | inl stuck ↦ stuck_next problem plan here history stands stuck event may is
-          | inr free ↦
-              let F : Ending → Type 0 = λ e. IsFailingEnding e in
-              let open_now : ending_at problem dealt here.know.round here.know.own_left (stated_card plan here.place) ≡ ending.Open =
-              (λ i. ending_without (cond (is_over (asked i)) (Some (outcome_of (full_at problem dealt here.know.round))) None) (free i)) in
-              open_is_none (subst F open_now failure)
-        ]
-
-    ended : (last : Game) (last_ending : Ending) → IsFailing problem plan last last_ending → history_of_game last ≡ history → (event : Event) →
-        hidden.MayCome problem history event → IsStatedEvent plan (place_by plan problem.played history) event → ⊥
-    ended last last_ending failing same event may is =
-        let F : Ending → Type 0 = λ e. IsFailingEnding e in
-        ended_by here.know.round.asked last.opp refl (subst F (sym (failing_at problem plan setup last last_ending failing here history stands same))
-        failing.failure) event may is
-
     may_take : (what : Move) → hidden.MayCome problem history (Own what) → IsStatedEvent plan (place_by plan problem.played history) (Own what) →
         MayTakeAt plan here what
     may_take what may is = (own_turn_may problem plan here history stands what may, is)
+
+    -- nothing comes after a game has failed
+    still : (last : Game) (last_ending : Ending) → IsFailing problem plan last last_ending → history_of_game last ≡ history → (event : Event) →
+        hidden.MayCome problem history event → IsStatedEvent plan (place_by plan problem.played history) event → ⊥
+    still = ended problem plan here history stands
 
     -- the next turns are the same
     same_event : (event next : Event) → (to : Extends (event ∷ history) (history_of_game game)) →
@@ -265,16 +197,15 @@ module _ (problem : Setup) (plan : List Node) (setup : IsSetup problem) (game ot
         | inl same ↦
             elim (next_turn problem plan setup history begun other others_ending two.failing ext_other) [
               | inl same_other ↦ inl (same ∙ sym same_other)
-              | inr next ↦ absurd (ended history begun ext game result one.failing same next.event next.may next.stated)
+              | inr next ↦ absurd (still history begun ext game result one.failing same next.event next.may next.stated)
             ]
         | inr next ↦
             elim (next_turn problem plan setup history begun other others_ending two.failing ext_other) [
-              | inl same_other ↦ absurd (ended history begun ext other others_ending two.failing same_other next.event next.may next.stated)
+              | inl same_other ↦ absurd (still history begun ext other others_ending two.failing same_other next.event next.may next.stated)
               | inr next_other ↦
                   let event : next.event ≡ next_other.event = same_event history begun ext next.event next_other.event next.extends next_other.extends next.may
                   next_other.may next.stated next_other.stated in
-                  let X : Event → Type 0 = λ e. Extends (e ∷ history) (history_of_game other) in
-                  inr (record { event = next.event; to = next.extends; to_other = subst X (sym event) next_other.extends })
+                  inr (record { event = next.event; to = next.extends; to_other = rw event next_other.extends })
             ]
       ]
 
@@ -283,9 +214,6 @@ module _ (problem : Setup) (plan : List Node) (setup : IsSetup problem) (game ot
       let all : length (history_of_game game) ≡ length (to.0 ++ event ∷ history) = ap length to.1 in
       let both = length-append to.0 (event ∷ history) in
       omega (arith, all, both)
-
-  begun_more : (event : Event) (history : List Event) → BeginsAfter problem history → BeginsAfter problem (event ∷ history)
-  begun_more event history begun = record { later = event ∷ begun.later; parts = ap (λ (h : List Event). event ∷ h) begun.parts }
 
   same_from : (n : ℕ) (history : List Event) → length (history_of_game game) ≤ n + length history → BeginsAfter problem history →
       Extends history (history_of_game game) → Extends history (history_of_game other) →
@@ -298,7 +226,7 @@ module _ (problem : Setup) (plan : List Node) (setup : IsSetup problem) (game ot
   same_from (suc n) history most begun ext ext_other =
       elim (together history begun ext ext_other) [
         | inl same ↦ same
-        | inr more ↦ same_from n (more.event ∷ history) (omega (arith, most)) (begun_more more.event history begun) more.to more.to_other
+        | inr more ↦ same_from n (more.event ∷ history) (omega (arith, most)) (begin_more problem more.event history begun) more.to more.to_other
       ]
 
   history_same : history_of_game game ≡ history_of_game other

@@ -1,6 +1,6 @@
 -- The first position stands for the opening, and the position after a turn stands for the history with that turn. The opening is the visible turns that the
 -- problem lists as played.
-use Rattle.std.proofs.Common.{◌≡◌, List, [], ◌∷◌, sym, ap, subst, ◌∙◌}
+use Rattle.std.proofs.Common.{◌≡◌, List, [], ◌∷◌, sym, ap, ◌∙◌}
 use Rattle.crib_play.specs.History.{Event}
 use Rattle.crib_problem.specs.Setup.{Setup}
 use Rattle.crib_plan.specs.declared.plan.Next.{Next}
@@ -19,8 +19,7 @@ pub stands_at_start : (problem : Setup) (plan : List Node) (know : Knowledge) (p
     KnowsAfter know problem (played_events problem) → place ≡ plan_start plan →
     StandsAt problem plan (record { know = know; place = place }) (history_of_trail problem events)
 stands_at_start problem plan know place events none knows at_start =
-    let S : List TrailEvent → Type 0 = λ xs. StandsAt problem plan (record { know = know; place = place }) (history_of_trail problem xs) in
-    subst S (sym none) (record { knows = knows; place = at_start ∙ sym (place_at_start plan problem); follows = follows_at_start plan problem })
+    rw none (record { knows = knows; place = at_start ∙ sym (place_at_start plan problem); follows = follows_at_start plan problem })
 
 module _ (problem : Setup) (plan : List Node) (key : Key) (history : List Event) (stands : StandsAt problem plan key history) where
   -- the position after a turn
@@ -28,11 +27,10 @@ module _ (problem : Setup) (plan : List Node) (key : Key) (history : List Event)
       place ≡ place_after_event plan key.place event → IsStatedEvent plan key.place event →
       StandsAt problem plan (record { know = know; place = place }) (event ∷ history)
   stands_with event know place knows e is =
-      let S : Next → Type 0 = λ p. IsStatedEvent plan p event in
       record {
         knows = knows;
         place =
             e ∙ ap (λ (p : Next). place_after_event plan p event) stands.place
             ∙ sym (place_later plan problem event history stands.knows.begun);
-        follows = (stands.follows, λ late. subst S stands.place is);
+        follows = (stands.follows, λ late. rw stands.place at is);
       }

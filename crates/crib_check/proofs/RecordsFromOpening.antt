@@ -55,8 +55,7 @@ module _ (problem : Setup) (setup : IsSetup problem) (dealt : Dealt) (deal : IsD
 
     pub suited_turns : Suited problem setup dealt deal listed history
     suited_turns =
-        let S : List Event → Type 0 = λ h. Suited problem setup dealt deal listed h in
-        subst S plays.shows (suited problem setup dealt deal later plays.seen plays.legal plays.shows)
+        subst (Suited problem setup dealt deal listed) plays.shows (suited problem setup dealt deal later plays.seen plays.legal plays.shows)
 
     abbrev played : List Move
     played = filled_moves start (moves_of listed)
@@ -82,15 +81,11 @@ module _ (problem : Setup) (setup : IsSetup problem) (dealt : Dealt) (deal : IsD
 
   begun_later : (later : List Event) → Plays start hands (later ++ played_events problem) → BegunPlays (later ++ played_events problem)
   begun_later later plays =
-      let B : List Act → Type 0 = λ acts. BeginsAsPlayed problem acts in
       let turns = suited_turns later plays in
       record {
         plays = record { seen = moves_of (listed later plays); legal = turns.legal; shows = turns.shows };
-        begins = subst B (sym (suited_acts later plays)) (acts_later problem dealt.hold later);
+        begins = subst (BeginsAsPlayed problem) (sym (suited_acts later plays)) (acts_later problem dealt.hold later);
       }
 
   pub begun_plays : (history : List Event) → BeginsAfter problem history → Plays start hands history → BegunPlays history
-  begun_plays history begun plays =
-      let P : List Event → Type 0 = λ h. Plays start hands h in
-      let B : List Event → Type 0 = λ h. BegunPlays h in
-      subst B (sym begun.parts) (begun_later begun.later (subst P begun.parts plays))
+  begun_plays after begun plays = subst BegunPlays (sym begun.parts) (begun_later begun.later (subst (Plays start hands) begun.parts plays))

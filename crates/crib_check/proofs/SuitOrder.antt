@@ -1,6 +1,6 @@
 -- The history and the hold fix a record in which the opponent plays equal ranks in suit order.
 use Rattle.std.proofs.Common.{◌≡◌, ℕ, ◌+◌, ◌<◌, ◌≤◌, Bool, true, false, not, ◌&&◌, ◌||◌, eqb, ltb, List, [], ◌∷◌, ◌++◌, map}
-use Rattle.std.proofs.Common.{length, length-append, refl, sym, ap, subst, ◌∙◌, inl, inr, arith}
+use Rattle.std.proofs.Common.{length, length-append, refl, sym, ap, ◌∙◌, inl, inr, arith}
 use Rattle.std.specs.List.{list_any}
 use Rattle.std.proofs.lemmas.Bool.{cases_Bool, cases_lt, and_parts, and_from, or_cases, or_left, or_right, both_ways, not-true, lt-ltb, le-ltb}
 use Rattle.std.proofs.lemmas.Bool.{eq-eqb}
@@ -144,11 +144,9 @@ module _ (few : ℕ) (start : Start) (hands : Hands) where
         (order_rest act.side act.what (cards_by Opponent (acts ++ base)) most order)
         (order_rest other.side other.what (cards_by Opponent (others ++ base)) (more_cards others) order_other) in
         let side : act.side ≡ other.side = same_side_of act.side other.side act.what other.what first in
-        let T : Side → Type 0 = λ s. MayTake hands s act.what (filled_moves start (moves_of (acts ++ base))) in
-        let take = subst T (same_side_of who act.side act.what act.what shown) legal.1.may_take in
-        let S : Side → Type 0 = λ s. MayTake hands s other.what (filled_moves start (moves_of (others ++ base))) in
-        let A : List Act → Type 0 = λ listed. MayTake hands act.side other.what (filled_moves start (moves_of (listed ++ base))) in
-        let take_other = subst A (sym rest) (subst S (same_side_of who_other other.side other.what other.what shown_other ∙ sym side) legal_other.1.may_take) in
+        let take = rw (same_side_of who act.side act.what act.what shown) at legal.1.may_take in
+        let take_other = rw (← rest) at
+        (rw (same_side_of who_other other.side other.what other.what shown_other ∙ sym side) at legal_other.1.may_take) in
         let what : act.what ≡ other.what =
         same_what (acts ++ base) act.side act.what other.what most (first ∙ ap (λ (s : Side). event_by s other.what) (sym side)) take take_other order
         ((λ i. is_in_suit_order few hands.opponent (theirs_with (side i) other.what (cards_by Opponent (rest i ++ base)))) ∙ order_other) in

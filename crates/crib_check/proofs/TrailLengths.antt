@@ -1,5 +1,5 @@
 -- The histories of trails, and the length of a trail: at most 29 turns.
-use Rattle.std.proofs.Common.{◌≡◌, ℕ, ◌+◌, ◌-◌, ◌<◌, ◌≤◌, List, [], ◌∷◌, ◌++◌, map, reverse, take, length, length-append, ap, subst, ◌∙◌, arith}
+use Rattle.std.proofs.Common.{◌≡◌, ℕ, ◌+◌, ◌-◌, ◌<◌, ◌≤◌, List, [], ◌∷◌, ◌++◌, map, reverse, take, length, length-append, ap, ◌∙◌, arith}
 use Rattle.std.proofs.lemmas.List.{reverse-append, length-reverse, length-map}
 use Rattle.std.proofs.Math.Seq.{take-append_seam}
 use Rattle.crib_cards.specs.Start.{pone_of}
@@ -26,10 +26,9 @@ trail_more problem events more event e =
 pub trail_back : (events more before after : List TrailEvent) (event : TrailEvent) → more ≡ events ++ event ∷ [] → before ≡ more →
     after ≡ take (length before - 1) before → after ≡ events
 trail_back events more before after event e same rest =
-    let T : List TrailEvent → Type 0 = λ xs. after ≡ take (length xs - 1) xs in
     let long : length (events ++ event ∷ []) ≡ length events + 1 = length-append events (event ∷ []) in
     let few : length (events ++ event ∷ []) - 1 ≡ length events = omega (arith, long) in
-    subst T (same ∙ e) rest ∙ ap (λ (n : ℕ). take n (events ++ event ∷ [])) few ∙ take-append_seam events (event ∷ [])
+    (rw (same ∙ e) at rest) ∙ ap (λ (n : ℕ). take n (events ++ event ∷ [])) few ∙ take-append_seam events (event ∷ [])
 
 short_by : (problem : Setup) → IsSetup problem → (history : List Event) (dealt : Dealt) → IsFirstDeal problem history dealt → length history ≤ 29
 short_by problem setup history dealt some =

@@ -64,12 +64,11 @@ first_of_all problem plan game result first = record {
 begins_more : (problem : Setup) (pone : Side) (turn : Move) (played : List Move) → BeginsAsPlayed problem (acts_of pone played) →
     BeginsAsPlayed problem (acts_of pone (turn ∷ played))
 begins_more problem pone turn played begins =
-    let B : List Act → Type 0 = λ acts. BeginsAsPlayed problem acts in
     let act = act_by pone turn played in
     elim (cases_Bool (is_visible pone (letter_of turn) (letters_of played))) [
-      | inl v ↦ subst B (sym (acts_visible pone turn played v))
+      | inl v ↦ subst (BeginsAsPlayed problem) (sym (acts_visible pone turn played v))
           (record { later = act ∷ begins.later; parts = ap (λ (acts : List Act). act ∷ acts) begins.parts })
-      | inr v ↦ subst B (sym (acts_silent pone turn played v)) begins
+      | inr v ↦ subst (BeginsAsPlayed problem) (sym (acts_silent pone turn played v)) begins
     ]
 
 module _ (problem : Setup) (plan : List Node) (dealt : Dealt) (played : List Move) (followed : IsFollowed problem plan dealt played) where
@@ -95,8 +94,7 @@ module _ (problem : Setup) (plan : List Node) (dealt : Dealt) (played : List Mov
       deal = followed.deal;
       legal = followed.legal;
       acts = sym (reverse-reverse (acts_of (pone_of start) played));
-      begins = let B : List Act → Type 0 = λ acts. BeginsAsPlayed problem acts in
-          subst B (sym (reverse-reverse (acts_of (pone_of start) played))) followed.begins;
+      begins = rw (reverse-reverse (acts_of (pone_of start) played)) followed.begins;
     };
     follows = followed.follows;
   }
@@ -138,17 +136,15 @@ module _ (problem : Setup) (plan : List Node) (dealt : Dealt) (played : List Mov
 
   goes_with : (side : Side) (turn : Move) → mover (pone_of start) (letters_of played) ≡ side → done ≡ false → MayTake hands side turn played →
       IsAsStated plan (place_of plan problem.played (pone_of start) played) side turn → NextFollowed
-  goes_with side turn m going take as_stated =
-      let T : Side → Type 0 = λ s. MayTake hands s turn played in
-      let S : Side → Type 0 = λ s. IsAsStated plan (place_of plan problem.played (pone_of start) played) s turn in (
-        turn,
-        record {
-          deal = followed.deal;
-          legal = (followed.legal, record { not_done = going; may_take = subst T (sym m) take });
-          begins = begins_more problem (pone_of start) turn played followed.begins;
-          follows = (followed.follows, λ late. subst S (sym m) as_stated);
-        },
-      )
+  goes_with side turn m going take as_stated = (
+    turn,
+    record {
+      deal = followed.deal;
+      legal = (followed.legal, record { not_done = going; may_take = rw m take });
+      begins = begins_more problem (pone_of start) turn played followed.begins;
+      follows = (followed.follows, λ late. rw m as_stated);
+    },
+  )
 
   owner_plays : mover (pone_of start) (letters_of played) ≡ Owner → done ≡ false → (stated : Option ℕ) →
       stated_card plan (place_of plan problem.played (pone_of start) played) ≡ stated → is_playable hands played stated ≡ true → NextFollowed
@@ -170,8 +166,7 @@ module _ (problem : Setup) (plan : List Node) (dealt : Dealt) (played : List Mov
       ]
   goes_by Opponent m free going =
       let next = progress_law start hands played going in
-      let T : Side → Type 0 = λ s. MayTake hands s next.0 played in
-      goes_with Opponent next.0 m going (subst T m next.1.may_take) tt
+      goes_with Opponent next.0 m going (rw m at next.1.may_take) tt
 
   pub goes_on : stuck ≡ false → done ≡ false → NextFollowed
   goes_on free going = goes_by (mover (pone_of start) (letters_of played)) refl free going

@@ -1,8 +1,8 @@
 -- What the walk may conclude at a position from what it found after it.
-use Rattle.std.proofs.Common.{◌≡◌, ℕ, ◌+◌, Bool, true, false, cond, not, ◌&&◌, leb, List, [], ◌∷◌, Option, Some, None, refl, sym, ap, subst, ◌∙◌, inl}
+use Rattle.std.proofs.Common.{◌≡◌, ◌⊎◌, ℕ, ◌+◌, Bool, true, false, not, ◌&&◌, leb, List, [], ◌∷◌, Option, Some, refl, sym, ap, subst, ◌∙◌, inl}
 use Rattle.std.proofs.Common.{inr, arith}
 use Rattle.std.specs.List.{list_any}
-use Rattle.std.proofs.lemmas.Bool.{cases_eq, cases_lt, and_parts, and_from, both_ways, not-true, le-leb}
+use Rattle.std.proofs.lemmas.Bool.{cases_eq, cases_lt, and_parts, and_from, both_ways, le-leb}
 use Rattle.crib_cards.specs.Cards.{card_value}
 use Rattle.crib_cards.specs.Sets.{has}
 use Rattle.crib_cards.specs.Order.{is_before}
@@ -20,12 +20,11 @@ use Rattle.crib_play.specs.Score.{asks}
 use Rattle.crib_play.specs.Standing.{Standing}
 use Rattle.crib_play.specs.History.{Event, Own, Theirs}
 use Rattle.crib_play.proofs.CardLemmas.{none_passes}
-use Rattle.crib_show.specs.declared.show.outcomes.Outcome.TheVariants as outcome
 use Rattle.crib_show.specs.Outcome.{outcome_of}
 use Rattle.crib_problem.specs.Setup.{Setup}
 use Rattle.crib_plan.specs.declared.plan.Node.{Node}
 use Rattle.crib_plan.specs.Places.{stated_card}
-use Rattle.crib_know.specs.Knowledge.{Knowledge, asked_now, count_after, own_left}
+use Rattle.crib_know.specs.Knowledge.{Knowledge}
 use Rattle.crib_know.specs.Hidden.{AgreesWith, CanDoAt, CanShow, KnowsAfter}
 use Rattle.crib_know.proofs.LedHistories.{MayCome}
 use Rattle.crib_know.proofs.CallLemmas.{own_may}
@@ -36,6 +35,7 @@ use Rattle.crib_game.specs.declared.following.ending.Ending.{Ending}
 use Rattle.crib_game.specs.declared.following.ending.Ending.TheVariants as ending
 use Rattle.crib_game.specs.Replay.{acts_back}
 use Rattle.crib_game.specs.Followed.{ending_with, ending_without}
+use Rattle.crib_game.specs.Replay.{outcome_if_done}
 use Rattle.crib_play.specs.Fitting.{fits_at}
 use Rattle.crib_game.specs.Following.{is_playable_at}
 use Rattle.crib_game.specs.Private.Judging.{is_over, full_at}
@@ -45,7 +45,7 @@ use Rattle.crib_check.specs.Failing.{IsFailingEnding, IsFailing, is_suited}
 use Rattle.crib_check.specs.Private.Histories.{place_by, IsStatedEvent, Extends, history_of_game}
 use Rattle.crib_check.specs.Private.Positions.{StandsAt, HoldsFrom, IsSettled, IsFirstFrom, MayTakeAt, IsStuckAt, AllReach}
 use Rattle.crib_check.specs.Private.Found.{IsSettledBelow}
-use Rattle.crib_check.proofs.ExtendedGames.{extends_less, next_turn, failing_agrees}
+use Rattle.crib_check.proofs.ExtendedGames.{NextTurn, extends_less, next_turn, failing_agrees}
 use Rattle.crib_check.proofs.FailureEndings.{open_is_none, reached_is_none, failing_at}
 use Rattle.crib_check.proofs.GameOrder.{later_letter, same_history}
 
@@ -56,123 +56,84 @@ module _ (problem : Setup) (plan : List Node) (key : Key) (history : List Event)
   abbrev stated : Option ℕ
   stated = stated_card plan key.place
 
-  pub asked_same : key.know.round.asked ≡ asked_now problem history
-  asked_same = ap (λ (k : Knowledge). k.round.asked) stands.knows.knowledge
+  -- the ending of a deal that stops at the position
+  abbrev ending_here : Dealt → Ending
+  ending_here dealt = ending_at problem dealt table key.know.own_left stated
 
-  count_same : count_of key.know.round.pile ≡ count_after problem history
-  count_same = ap (λ (k : Knowledge). count_of k.round.pile) stands.knows.knowledge
+  ends_as : (turn : Turn) (stuck : Bool) → table.asked ≡ turn → is_stuck_at table key.know.own_left stated ≡ stuck → (dealt : Dealt) →
+      ending_here dealt ≡ ending_without (outcome_if_done (is_over turn) (full_at problem dealt table)) stuck
+  ends_as turn stuck asked is dealt = (λ i. ending_without (outcome_if_done (is_over (asked i)) (full_at problem dealt table)) (is i))
 
-  own_same : key.know.own_left ≡ own_left problem history
-  own_same = ap (λ (k : Knowledge). k.own_left) stands.knows.knowledge
+  -- the side that is asked makes the turn that comes
+  abbrev side_of : Event → Turn
+  side_of (Own turn) = turns.Owner
+  side_of (Theirs letter) = turns.Opponent
+
+  may_asked : (event : Event) → MayCome problem history event → table.asked ≡ side_of event
+  may_asked (Own (move.Card card)) may = ap (λ (k : Knowledge). k.round.asked) stands.knows.knowledge ∙ may.0
+  may_asked (Own move.Go) may = ap (λ (k : Knowledge). k.round.asked) stands.knows.knowledge ∙ may.0
+  may_asked (Theirs letter) may =
+      ap (λ (k : Knowledge). k.round.asked) stands.knows.knowledge ∙ theirs_asked problem stands.knows.setup history letter may
 
   -- the owner's turn that may come, in terms of the position
   pub own_turn_may : (what : Move) → MayCome problem history (Own what) → CanDoAt key.know what
   own_turn_may = own_may key.know problem history stands.knows
 
-  -- ---- the deal is done
-  pub over_next : key.know.round.asked ≡ turns.Over → (event : Event) → MayCome problem history event → ⊥
-  over_next over (Own (move.Card card)) may = let e : turns.Over ≡ turns.Owner = sym over ∙ asked_same ∙ may.0 in absurd cc
-  over_next over (Own move.Go) may = let e : turns.Over ≡ turns.Owner = sym over ∙ asked_same ∙ may.0 in absurd cc
-  over_next over (Theirs letter) may = let e : turns.Over ≡ turns.Opponent = sym over ∙ asked_same
-      ∙ theirs_asked problem stands.knows.setup history letter may in absurd cc
+  -- a failing game that goes on from the history stops there, or it has a next turn
+  record Stops (game : Game) : Type 0 where
+    pub same : history_of_game game ≡ history
+    pub agrees : AgreesWith problem history game.opp
+    pub fails : IsFailingEnding (ending_here game.opp)
 
-  pub over_ends : key.know.round.asked ≡ turns.Over → (dealt : Dealt) → ending_at problem dealt table key.know.own_left stated ≡ ending_with
-      (outcome_of (full_at problem dealt table))
-  over_ends over dealt =
-      ap (λ (t : Turn). ending_without (cond (is_over t) (Some (outcome_of (full_at problem dealt table))) None) (is_stuck_at table key.know.own_left stated))
-      over
+  stops : (game : Game) (result : Ending) → IsFailing problem plan game result → history_of_game game ≡ history → Stops game
+  stops game result failing same = record {
+    same = same;
+    agrees = rw same at (failing_agrees problem plan game result failing);
+    fails = subst IsFailingEnding (sym (failing_at problem plan stands.knows.setup game result failing key history stands same)) failing.failure;
+  }
+
+  stops_or_goes : (game : Game) (result : Ending) → IsFailing problem plan game result → Extends history (history_of_game game) →
+      Stops game ⊎ NextTurn problem plan history game
+  stops_or_goes game result failing ext =
+      elim (next_turn problem plan stands.knows.setup history stands.knows.begun game result failing ext) [
+        | inl here ↦ inl (stops game result failing here)
+        | inr next ↦ inr next
+      ]
+
+  goes_on : (game : Game) (result : Ending) → ending_here game.opp ≡ ending.Open → IsFailing problem plan game result → Extends history (history_of_game game) →
+      NextTurn problem plan history game
+  goes_on game result is_open failing ext =
+      elim (stops_or_goes game result failing ext) [
+        | inl here ↦ absurd (open_is_none (subst IsFailingEnding is_open here.fails))
+        | inr next ↦ next
+      ]
+
+  -- ---- the deal is done
+  pub over_ends : table.asked ≡ turns.Over → (dealt : Dealt) → ending_here dealt ≡ ending_with (outcome_of (full_at problem dealt table))
+  over_ends over = ends_as turns.Over (is_stuck_at table key.know.own_left stated) over refl
+
+  over_holds : table.asked ≡ turns.Over → AllReach problem history table → HoldsFrom problem plan history
+  over_holds over all game result failing ext =
+      elim (stops_or_goes game result failing ext) [
+        | inl here ↦ reached_is_none (subst IsFailingEnding (over_ends over game.opp ∙ ap ending_with (all game.opp here.agrees)) here.fails)
+        | inr next ↦ still next.event (sym over ∙ may_asked next.event next.may)
+      ]
+    where
+      still : (event : Event) → turns.Over ≡ side_of event → ⊥
+      still (Own turn) e = absurd cc
+      still (Theirs letter) e = absurd cc
 
   -- ---- the owner is asked and stuck
-  stuck_asked : IsStuckAt plan key → key.know.round.asked ≡ turns.Owner
-  stuck_asked stuck =
+  pub stuck_ends : IsStuckAt plan key → (dealt : Dealt) → ending_here dealt ≡ ending.Stuck
+  stuck_ends stuck =
       let any = list_any (fits_at (count_of table.pile)) key.know.own_left in
       let turn = (and_parts (asks table.asked Owner && any) (not (is_playable_at (count_of table.pile) key.know.own_left stated)) stuck).0 in
-      is_owner table.asked (and_parts (asks table.asked Owner) any turn).0
+      ends_as turns.Owner true (is_owner table.asked (and_parts (asks table.asked Owner) any turn).0) stuck
     where
       is_owner : (turn : Turn) → asks turn Owner ≡ true → turn ≡ turns.Owner
       is_owner turns.Owner e = refl
       is_owner turns.Opponent e = absurd cc
       is_owner turns.Over e = absurd cc
-
-  pub stuck_ends : IsStuckAt plan key → (dealt : Dealt) → ending_at problem dealt table key.know.own_left stated ≡ ending.Stuck
-  stuck_ends stuck dealt =
-      (λ i. ending_without (cond (is_over (stuck_asked stuck i)) (Some (outcome_of (full_at problem dealt table))) None) (stuck i))
-
-  pub stuck_next : IsStuckAt plan key → (event : Event) → MayCome problem history event → IsStatedEvent plan (place_by plan problem.played history) event → ⊥
-  stuck_next stuck (Own (move.Card card)) may is =
-      let mine = own_turn_may (move.Card card) may in
-      let there : stated ≡ Some card = ap (stated_card plan) stands.place ∙ is in
-      let playable : is_playable_at (count_of table.pile) key.know.own_left stated ≡ true =
-      ap (is_playable_at (count_of table.pile) key.know.own_left) there
-      ∙ and_from (has key.know.own_left card) (fits_at (count_of table.pile) card) mine.1 (le-leb (count_of table.pile + card_value card) 31 mine.2) in
-      let not_playable = (and_parts (asks table.asked Owner && list_any (fits_at (count_of table.pile)) key.know.own_left)
-      (not (is_playable_at (count_of table.pile) key.know.own_left stated)) stuck).1 in
-      both_ways (is_playable_at (count_of table.pile) key.know.own_left stated)
-      (not-true (is_playable_at (count_of table.pile) key.know.own_left stated) not_playable) playable
-  stuck_next stuck (Own move.Go) may is =
-      let none = (own_turn_may move.Go may).1 in
-      let any = list_any (fits_at (count_of table.pile)) key.know.own_left in
-      let turn = (and_parts (asks table.asked Owner && any) (not (is_playable_at (count_of table.pile) key.know.own_left stated)) stuck).0 in
-      both_ways any none (and_parts (asks table.asked Owner) any turn).1
-  stuck_next stuck (Theirs letter) may is = let e : turns.Owner ≡ turns.Opponent = sym (stuck_asked stuck) ∙ asked_same
-      ∙ theirs_asked problem stands.knows.setup history letter may in absurd cc
-
-  -- ---- the first of the games that stop at the position
-  leaf_first : (game : Game) (result : Ending) →
-      ((event : Event) → MayCome problem history event → IsStatedEvent plan (place_by plan problem.played history) event → ⊥) →
-      IsFailing problem plan game result →
-      history_of_game game ≡ history → is_in_pack_order game.opp ≡ true → is_suited problem game.opp.hold (acts_back game) ≡ true →
-      ((other : Dealt) → AgreesWith problem history other → IsFailingEnding (ending_at problem other table key.know.own_left stated) →
-      is_before (deal_numbers other) (deal_numbers game.opp) ≡ false) →
-      IsFirstFrom problem plan history game result
-  leaf_first game result none failing same order suits least = record {
-    failing = failing;
-    extends = ([], same);
-    in_pack_order = order;
-    in_suit_order = suits;
-    first = λ other others_ending fails ext. elim (next_turn problem plan stands.knows.setup history stands.knows.begun other others_ending fails ext) [
-      | inl here ↦
-          let A : List Event → Type 0 = λ h. AgreesWith problem h other.opp in
-          let F : Ending → Type 0 = λ e. IsFailingEnding e in
-          same_history game other (here ∙ sym same)
-          (least other.opp (subst A here (failing_agrees problem plan other others_ending fails))
-          (subst F (sym (failing_at problem plan stands.knows.setup other others_ending fails key history stands here)) fails.failure))
-      | inr next ↦ absurd (none next.event next.may next.stated)
-    ];
-  }
-
-  pub stuck_first : IsStuckAt plan key → (game : Game) → IsFailing problem plan game ending.Stuck → history_of_game game ≡ history →
-      is_in_pack_order game.opp ≡ true →
-      is_suited problem game.opp.hold (acts_back game) ≡ true →
-      ((other : Dealt) → AgreesWith problem history other → is_before (deal_numbers other) (deal_numbers game.opp) ≡ false) →
-      IsFirstFrom problem plan history game ending.Stuck
-  stuck_first stuck game failing same order suits least = leaf_first game ending.Stuck (stuck_next stuck) failing same order suits
-      (λ other agrees fails. least other agrees)
-
-  pub over_first : key.know.round.asked ≡ turns.Over → (game : Game) (result : Ending) → IsFailing problem plan game result → history_of_game game ≡ history →
-      is_in_pack_order game.opp ≡ true →
-      is_suited problem game.opp.hold (acts_back game) ≡ true →
-      ((other : Dealt) → AgreesWith problem history other → (outcome_of (full_at problem other table) ≡ outcome.Reached → ⊥) →
-      is_before (deal_numbers other) (deal_numbers game.opp) ≡ false) →
-      IsFirstFrom problem plan history game result
-  over_first over game result failing same order suits least =
-      leaf_first game result (λ event may is. over_next over event may) failing same order suits
-      (λ other agrees fails. least other agrees (λ reached.
-      let F : Ending → Type 0 = λ e. IsFailingEnding e in
-      reached_is_none (subst F (over_ends over other ∙ ap ending_with reached) fails)))
-
-  over_holds : key.know.round.asked ≡ turns.Over → AllReach problem history table → HoldsFrom problem plan history
-  over_holds over all game result failing ext =
-      elim (next_turn problem plan stands.knows.setup history stands.knows.begun game result failing ext) [
-        | inl here ↦
-            let A : List Event → Type 0 = λ h. AgreesWith problem h game.opp in
-            let F : Ending → Type 0 = λ e. IsFailingEnding e in
-            let reached = all game.opp (subst A here (failing_agrees problem plan game result failing)) in
-            reached_is_none
-            (subst F (sym (failing_at problem plan stands.knows.setup game result failing key history stands here) ∙ over_ends over game.opp
-            ∙ ap ending_with reached) failing.failure)
-        | inr next ↦ over_next over next.event next.may
-      ]
 
   -- ---- the owner makes the move of his plan
   take_asked : (what : Move) → MayTakeAt plan key what → key.know.round.asked ≡ turns.Owner
@@ -198,9 +159,8 @@ module _ (problem : Setup) (plan : List Node) (key : Key) (history : List Event)
       none_true true b = refl
       none_true false b = refl
 
-  own_open : (what : Move) → MayTakeAt plan key what → (dealt : Dealt) → ending_at problem dealt table key.know.own_left stated ≡ ending.Open
-  own_open what may dealt =
-      (λ i. ending_without (cond (is_over (take_asked what may i)) (Some (outcome_of (full_at problem dealt table))) None) (not_stuck what may i))
+  own_open : (what : Move) → MayTakeAt plan key what → (dealt : Dealt) → ending_here dealt ≡ ending.Open
+  own_open what may = ends_as turns.Owner false (take_asked what may) (not_stuck what may)
 
   -- the turn that comes is the move of the plan
   pub own_event : (what : Move) → MayTakeAt plan key what → (event : Event) → MayCome problem history event →
@@ -213,28 +173,19 @@ module _ (problem : Setup) (plan : List Node) (key : Key) (history : List Event)
       let none = (own_turn_may move.Go come).1 in
       let fails = none_passes (λ c. leb (count_of table.pile + card_value c) 31) key.know.own_left card none may.0.1 in
       absurd (both_ways (leb (count_of table.pile + card_value card) 31) fails (le-leb (count_of table.pile + card_value card) 31 may.0.2))
-  own_event (move.Card card) may (Theirs letter) come is = let e : turns.Owner ≡ turns.Opponent = sym may.0.0 ∙ asked_same
-      ∙ theirs_asked problem stands.knows.setup history letter come in absurd cc
+  own_event (move.Card card) may (Theirs letter) come is = let e = sym may.0.0 ∙ may_asked (Theirs letter) come in absurd cc
   own_event move.Go may (Own (move.Card other)) come is =
       let mine = own_turn_may (move.Card other) come in
       let fails = none_passes (λ c. leb (count_of table.pile + card_value c) 31) key.know.own_left other may.0.1 mine.1 in
       absurd (both_ways (leb (count_of table.pile + card_value other) 31) fails (le-leb (count_of table.pile + card_value other) 31 mine.2))
   own_event move.Go may (Own move.Go) come is = refl
-  own_event move.Go may (Theirs letter) come is = let e : turns.Owner ≡ turns.Opponent = sym may.0.0 ∙ asked_same
-      ∙ theirs_asked problem stands.knows.setup history letter come in absurd cc
+  own_event move.Go may (Theirs letter) come is = let e = sym may.0.0 ∙ may_asked (Theirs letter) come in absurd cc
 
   own_goes_on : (what : Move) → MayTakeAt plan key what → (game : Game) (result : Ending) → IsFailing problem plan game result →
       Extends history (history_of_game game) → Extends (Own what ∷ history) (history_of_game game)
   own_goes_on what may game result failing ext =
-      elim (next_turn problem plan stands.knows.setup history stands.knows.begun game result failing ext) [
-        | inl here ↦
-            let F : Ending → Type 0 = λ e. IsFailingEnding e in
-            absurd (open_is_none (subst F (sym (failing_at problem plan stands.knows.setup game result failing key history stands here)
-            ∙ own_open what may game.opp) failing.failure))
-        | inr next ↦
-            let X : Event → Type 0 = λ event. Extends (event ∷ history) (history_of_game game) in
-            subst X (own_event what may next.event next.may next.stated) next.extends
-      ]
+      let next = goes_on game result (own_open what may game.opp) failing ext in
+      rw (own_event what may next.event next.may next.stated) at next.extends
 
   pub own_holds : (what : Move) → MayTakeAt plan key what → HoldsFrom problem plan (Own what ∷ history) → HoldsFrom problem plan history
   own_holds what may holds game result failing ext = holds game result failing (own_goes_on what may game result failing ext)
@@ -255,31 +206,21 @@ module _ (problem : Setup) (plan : List Node) (key : Key) (history : List Event)
     pub can : CanShow problem history letter
     pub extends : Extends (Theirs letter ∷ history) (history_of_game game)
 
-  theirs_not_stuck : key.know.round.asked ≡ turns.Opponent → is_stuck_at table key.know.own_left stated ≡ false
-  theirs_not_stuck asked =
-      ap (λ (t : Turn). asks t Owner && list_any (fits_at (count_of table.pile)) key.know.own_left
-      && not (is_playable_at (count_of table.pile) key.know.own_left stated)) asked
+  theirs_open : table.asked ≡ turns.Opponent → (dealt : Dealt) → ending_here dealt ≡ ending.Open
+  theirs_open asked = ends_as turns.Opponent false asked
+      (ap (λ (t : Turn). asks t Owner && list_any (fits_at (count_of table.pile)) key.know.own_left
+      && not (is_playable_at (count_of table.pile) key.know.own_left stated)) asked)
 
-  pub theirs_open : key.know.round.asked ≡ turns.Opponent → (dealt : Dealt) → ending_at problem dealt table key.know.own_left stated ≡ ending.Open
-  theirs_open asked dealt =
-      (λ i. ending_without (cond (is_over (asked i)) (Some (outcome_of (full_at problem dealt table))) None) (theirs_not_stuck asked i))
-
-  next_letter : key.know.round.asked ≡ turns.Opponent → (game : Game) → (event : Event) → MayCome problem history event →
+  next_letter : (game : Game) (event : Event) → turns.Opponent ≡ side_of event → MayCome problem history event →
       Extends (event ∷ history) (history_of_game game) → NextLetter game
-  next_letter asked game (Own (move.Card card)) may ext = let e : turns.Opponent ≡ turns.Owner = sym asked ∙ asked_same ∙ may.0 in absurd cc
-  next_letter asked game (Own move.Go) may ext = let e : turns.Opponent ≡ turns.Owner = sym asked ∙ asked_same ∙ may.0 in absurd cc
-  next_letter asked game (Theirs letter) may ext = record { letter = letter; can = may; extends = ext }
+  next_letter game (Own turn) e may ext = absurd cc
+  next_letter game (Theirs letter) e may ext = record { letter = letter; can = may; extends = ext }
 
-  theirs_goes_on : key.know.round.asked ≡ turns.Opponent → (game : Game) (result : Ending) → IsFailing problem plan game result →
+  theirs_goes_on : table.asked ≡ turns.Opponent → (game : Game) (result : Ending) → IsFailing problem plan game result →
       Extends history (history_of_game game) → NextLetter game
   theirs_goes_on asked game result failing ext =
-      elim (next_turn problem plan stands.knows.setup history stands.knows.begun game result failing ext) [
-        | inl here ↦
-            let F : Ending → Type 0 = λ e. IsFailingEnding e in
-            absurd (open_is_none (subst F (sym (failing_at problem plan stands.knows.setup game result failing key history stands here)
-            ∙ theirs_open asked game.opp) failing.failure))
-        | inr next ↦ next_letter asked game next.event next.may next.extends
-      ]
+      let next = goes_on game result (theirs_open asked game.opp) failing ext in
+      next_letter game next.event (sym asked ∙ may_asked next.event next.may) next.may next.extends
 
   theirs_holds : key.know.round.asked ≡ turns.Opponent → IsSettledBelow problem plan key 14 → HoldsFrom problem plan history
   theirs_holds asked below game result failing ext =
@@ -308,6 +249,34 @@ module _ (problem : Setup) (plan : List Node) (key : Key) (history : List Event)
                 | inr ne ↦ later_letter game other history letter next.letter first.extends next.extends (omega (arith, most, ne))
               ]
         ];
+  }
+
+  -- ---- a failing game that stops at the position
+  -- no turn comes after it
+  pub ended : (game : Game) (result : Ending) → IsFailing problem plan game result → history_of_game game ≡ history → (event : Event) →
+      MayCome problem history event → IsStatedEvent plan (place_by plan problem.played history) event → ⊥
+  ended game result failing same event may is = open_is_none (subst IsFailingEnding (opens event may is) (stops game result failing same).fails)
+    where
+      opens : (event : Event) → MayCome problem history event → IsStatedEvent plan (place_by plan problem.played history) event →
+          ending_here game.opp ≡ ending.Open
+      opens (Own what) may is = own_open what (own_turn_may what may, rw stands.place is) game.opp
+      opens (Theirs letter) may is = theirs_open (may_asked (Theirs letter) may) game.opp
+
+  -- it is the first, if its deal is
+  pub leaf_first : (game : Game) (result : Ending) → IsFailing problem plan game result → history_of_game game ≡ history →
+      is_in_pack_order game.opp ≡ true → is_suited problem game.opp.hold (acts_back game) ≡ true →
+      ((other : Dealt) → AgreesWith problem history other → IsFailingEnding (ending_at problem other table key.know.own_left stated) →
+      is_before (deal_numbers other) (deal_numbers game.opp) ≡ false) →
+      IsFirstFrom problem plan history game result
+  leaf_first game result failing same order suits least = record {
+    failing = failing;
+    extends = ([], same);
+    in_pack_order = order;
+    in_suit_order = suits;
+    first = λ other others_ending fails ext. elim (stops_or_goes other others_ending fails ext) [
+      | inl here ↦ same_history game other (here.same ∙ sym same) (least other.opp here.agrees here.fails)
+      | inr next ↦ absurd (ended game result failing same next.event next.may next.stated)
+    ];
   }
 
 -- ---- the same for all histories

@@ -17,10 +17,7 @@ pub(crate) fn number_of<T: Eq + Hash, A: Allocator>(kept: &Numbered<T, A>, value
     ensures none { IfNone result (IsNumber (T.eq value.now) kept.now.keys
         (position_or_len (T.eq value.now) kept.now.keys) → ⊥) }
 {
-    match u32::try_from(kept.get_index_of(value)?) {
-        Ok(number) => Some(number),
-        Err(_) => None,
-    }
+    u32::try_from(kept.get_index_of(value)?).ok()
 }
 
 // Stores a value, and returns its index. It fails if an allocation fails, or if the index would be 2^32 or more.
@@ -31,11 +28,6 @@ pub(crate) fn keep<T: Eq + Hash + Drop, A: Allocator>(
     ensures more { IsMore kept.old.keys kept.new.keys }
     ensures number { IfOk result (IsNumber (T.eq value) kept.new.keys) }
 {
-    match kept.insert_full(value) {
-        Ok((number, _)) => match u32::try_from(number) {
-            Ok(number) => Ok(number),
-            Err(_) => Err(NoMemory),
-        },
-        Err(_) => Err(NoMemory),
-    }
+    let (number, _) = kept.insert_full(value).map_err(|_| NoMemory)?;
+    u32::try_from(number).map_err(|_| NoMemory)
 }

@@ -1,10 +1,12 @@
 -- The walk of the code: what it keeps, what it needs at a position, and what it has done from there.
-use Rattle.std.specs.Prelude.{◌≡◌, ◌+◌, List, None}
+use Rattle.std.specs.Prelude.{◌≡◌, ◌+◌, List, None, Option}
 use Rattle.crib_cards.specs.Letters.{letter_place}
 use Rattle.crib_cards.specs.declared.letters.Letter.{Letter}
 use Rattle.crib_play.specs.History.{Event}
 use Rattle.crib_problem.specs.Setup.{Setup}
 use Rattle.crib_plan.specs.declared.plan.Node.{Node}
+use Rattle.crib_check.specs.declared.deals.Shows.{Shows}
+use Rattle.crib_check.specs.declared.failure.Failure.{Failure}
 use Rattle.crib_check.specs.declared.keys.Key.{Key}
 use Rattle.crib_check.specs.declared.trails.Event.{Event as TrailEvent}
 use Rattle.crib_check.specs.declared.walk.Walk.{Walk}
@@ -13,14 +15,19 @@ use Rattle.crib_check.specs.Private.Histories.{history_of_trail}
 use Rattle.crib_check.specs.Private.Positions.{IsSettled, StandsAt}
 use Rattle.crib_check.specs.Shows.{AreShowsOf}
 
--- a walk of a problem and a plan: its position table holds only settled positions, and its table of shows is right. The
--- first argument is the property that a table holds a position
-pub record IsWalkOf {A T : Type 0} (holds : T → Key → Type 0) (problem : Setup) (plan : List Node) (walk : Walk A T)
-    : Type 0 where
-  pub same_problem : walk.problem.now ≡ problem
-  pub same_plan : walk.plan.now ≡ plan
-  pub settled : (other : Key) → holds walk.table.now other → IsSettled problem plan other
-  pub shows : AreShowsOf problem walk.shows
+-- what a walk keeps is right for a problem and a plan: they are those of the walk, its position table holds only
+-- settled positions, and its table of shows is right. The first argument is the property that a table holds a position
+pub record IsKept {T : Type 0} (holds : T → Key → Type 0) (problem of : Setup) (plan by : List Node) (table : T)
+    (counted : Shows) : Type 0 where
+  pub same_problem : of ≡ problem
+  pub same_plan : by ≡ plan
+  pub settled : (other : Key) → holds table other → IsSettled problem plan other
+  pub shows : AreShowsOf problem counted
+
+-- a walk of a problem and a plan
+abbrev pub IsWalkOf : {A T : Type 0} → (T → Key → Type 0) → Setup → List Node → Walk A T → Type 0
+IsWalkOf holds problem plan walk =
+    IsKept holds problem walk.problem.now plan walk.plan.now walk.table.now walk.shows
 
 -- the history where a walk is: that of the opening and of its trail
 abbrev pub history_at : {A T : Type 0} → Walk A T → List Event
@@ -33,28 +40,24 @@ pub record MayWalk {A T : Type 0} (holds : T → Key → Type 0) (walk : Walk A 
   pub none : walk.failure ≡ None
   pub here : StandsAt walk.problem.now walk.plan.now key history
 
--- a walk has gone over all games from a position, up to the first failing one: it is still a walk of the problem and
--- the plan, its trail is as before if there is no failure, and its failure is the right one
-pub record HasWalkedOf {A T : Type 0} (holds : T → Key → Type 0) (problem : Setup) (plan : List Node)
-    (trail : List TrailEvent) (key : Key) (history : List Event) (after : Walk A T) : Type 0 where
+-- a walk has gone on up to the first failing game: it is still a walk of the problem and the plan, its trail is as
+-- before if there is no failure, and its trail and its failure are what it is to find
+pub record HasGone {A T : Type 0} (holds : T → Key → Type 0) (problem : Setup) (plan : List Node)
+    (trail : List TrailEvent) (Found : List TrailEvent → Option Failure → Type 0) (after : Walk A T) : Type 0 where
   pub kept : IsWalkOf holds problem plan after
   pub back : after.failure ≡ None → after.trail.items ≡ trail
-  pub found : IsFoundFrom problem plan key history after.trail.items after.failure
+  pub found : Found after.trail.items after.failure
 
--- the same, by the walk as it was before
+-- a walk has gone over all games from a position
 abbrev pub HasWalked : {A T : Type 0} → (T → Key → Type 0) → Walk A T → Key → List Event → Walk A T → Type 0
-HasWalked holds before = HasWalkedOf holds before.problem.now before.plan.now before.trail.items
+HasWalked holds before key history =
+    HasGone holds before.problem.now before.plan.now before.trail.items
+    (IsFoundFrom before.problem.now before.plan.now key history)
 
--- a walk at a position where the opponent is to move, after one more letter: it is still a walk of the problem and the
--- plan, its trail is as before if there is no failure, and its failure is the right one if the letters before are
--- settled
-pub record HasShownOf {A T : Type 0} (holds : T → Key → Type 0) (problem : Setup) (plan : List Node)
-    (trail : List TrailEvent) (key : Key) (letter : Letter) (history : List Event) (after : Walk A T) : Type 0 where
-  pub kept : IsWalkOf holds problem plan after
-  pub back : after.failure ≡ None → after.trail.items ≡ trail
-  pub found : IsSettledBelow problem plan key (letter_place letter) →
-      IsFoundBelow problem plan key (letter_place letter + 1) history after.trail.items after.failure
-
--- the same, by the walk as it was before
+-- a walk at a position where the opponent is to move has gone over all games with one more letter, if the letters
+-- before are settled
 abbrev pub HasShown : {A T : Type 0} → (T → Key → Type 0) → Walk A T → Key → Letter → List Event → Walk A T → Type 0
-HasShown holds before = HasShownOf holds before.problem.now before.plan.now before.trail.items
+HasShown holds before key letter history =
+    HasGone holds before.problem.now before.plan.now before.trail.items
+    (λ trail found. IsSettledBelow before.problem.now before.plan.now key (letter_place letter) →
+    IsFoundBelow before.problem.now before.plan.now key (letter_place letter + 1) history trail found)

@@ -3,25 +3,19 @@ use Rattle.crib_check.proofs.WalkSteps.{HasShownBelow}
 use Rattle.crib_check.proofs.walk.Walk.+walk.Given as goal
 
 abbrev pub decreases-walk : goal.decreases-walk
-decreases-walk g l = 6 * (29 - length l.self.now.trail.items) + 5
-
-abbrev pub decreases-settle : goal.decreases-settle
-decreases-settle g l = 6 * (29 - length l.self.now.trail.items) + 4
-
-abbrev pub decreases-go_on : goal.decreases-go_on
-decreases-go_on g l = 6 * (29 - length l.self.now.trail.items) + 3
+decreases-walk g l = 4 * (29 - length l.self.now.trail.items) + 3
 
 abbrev pub decreases-own_turn : goal.decreases-own_turn
-decreases-own_turn g l = 6 * (29 - length l.self.now.trail.items) + 2
+decreases-own_turn g l = 4 * (29 - length l.self.now.trail.items) + 2
 
 abbrev pub decreases-their_turn : goal.decreases-their_turn
-decreases-their_turn g l = 6 * (29 - length l.self.now.trail.items) + 2
+decreases-their_turn g l = 4 * (29 - length l.self.now.trail.items) + 2
 
 abbrev pub decreases-they_show : goal.decreases-they_show
-decreases-they_show g l = 6 * (29 - length l.self.now.trail.items) + 1
+decreases-they_show g l = 4 * (29 - length l.self.now.trail.items) + 1
 
 abbrev pub decreases-take : goal.decreases-take
-decreases-take g l = 6 * (29 - length l.self.now.trail.items)
+decreases-take g l = 4 * (29 - length l.self.now.trail.items)
 
 abbrev pub invariant-their_turn-loop-place : goal.invariant-their_turn-loop-place
 invariant-their_turn-loop-place g l = HasShownBelow g.T.Settled.holds l.fn.self l.key l.place l.self

@@ -1,8 +1,8 @@
 -- Histories that differ only in the suits of the owner's cards.
-use Rattle.std.proofs.Common.{◌≡◌, ℕ, ◌+◌, ◌≤◌, ◌<◌, Bool, true, false, not, ◌&&◌, ◌||◌, cond, eqb, leb, List, [], ◌∷◌, ◌++◌, map, count_by, refl}
-use Rattle.std.proofs.Common.{sym, ap, subst, ◌∙◌, arith}
+use Rattle.std.proofs.Common.{◌≡◌, ℕ, ◌+◌, ◌≤◌, Bool, true, false, not, ◌&&◌, ◌||◌, cond, eqb, List, [], ◌∷◌, ◌++◌, map, count_by, refl}
+use Rattle.std.proofs.Common.{sym, ap, ◌∙◌, arith}
 use Rattle.std.proofs.lemmas.Bool.{and_parts, eqb-true, eq-eqb, not-true}
-use Rattle.crib_cards.specs.Cards.{rank_of, rank_value, card_value}
+use Rattle.crib_cards.specs.Cards.{rank_of}
 use Rattle.crib_cards.specs.Sets.{has, are_distinct, count_rank}
 use Rattle.crib_cards.specs.Letters.{letter_of}
 use Rattle.crib_cards.specs.Start.{pone_of}
@@ -19,11 +19,10 @@ use Rattle.crib_play.specs.Filled.{filled_record}
 use Rattle.crib_play.specs.Least.{least_of}
 use Rattle.crib_play.specs.History.{Event, Own, Theirs, history_letters}
 use Rattle.crib_play.proofs.TurnFacts.{filter_all}
-use Rattle.crib_problem.specs.Setup.{Setup, IsSetup, unseen_of, start_of}
+use Rattle.crib_problem.specs.Setup.{Setup, IsSetup, start_of}
 use Rattle.crib_know.specs.Knowledge.{own_cards, their_ranks, count_after, least_value, asked_now}
 use Rattle.crib_know.specs.Hidden.{BeginsAfter, CanShow}
 use Rattle.crib_know.proofs.LedHistories.{IsLed}
-use Rattle.crib_know.proofs.ChosenRanks.{ranks_of}
 use Rattle.crib_know.proofs.CardsLeft.{filter_present_by, has-filter_parts, has-filter_from, remaining}
 use Rattle.crib_know.proofs.CardLists.{count_here, count_map, found_by}
 use Rattle.crib_know.proofs.AgreeingIsPassing.{Might}
@@ -100,11 +99,7 @@ module _ (problem : Setup) where
     -- the cards that are left and the cards that are played are together the hold
     left_whole : (history : List Event) → IsLed problem history → count_by test (remaining (own_cards history) problem.hold) + count_by test
         (own_cards history) ≡ count_by test problem.hold
-    left_whole [] led = let e : count_by test (remaining [] problem.hold) ≡ count_by test problem.hold = ap (count_by test) (filter_all problem.hold) in
-        omega (arith, e)
-    left_whole (Own move.Go ∷ history) led = left_whole history led.0
-    left_whole (Theirs (Seen rank) ∷ history) led = left_whole history led.0
-    left_whole (Theirs Go ∷ history) led = left_whole history led.0
+    left_whole [] led = rw (filter_all problem.hold) (omega arith)
     left_whole (Own (move.Card card) ∷ history) led =
         let free : ℕ → Bool = λ c. not (has (own_cards history) c) in
         let less : count_by test (remaining (card ∷ own_cards history) problem.hold) + cond (test card) 1 0 ≡ count_by test
@@ -121,6 +116,7 @@ module _ (problem : Setup) where
         free_without true false = refl
         free_without false true = refl
         free_without false false = refl
+    left_whole (event ∷ history) led = left_whole history led.0
 
   module _ (setup : IsSetup problem) (one other : List Event) (alike : AreAlike one other) (led_one : IsLed problem one) (led_other : IsLed problem other) where
     same_left : (rank : ℕ) → count_rank rank (remaining (own_cards one) problem.hold) ≡ count_rank rank (remaining (own_cards other) problem.hold)
@@ -129,9 +125,8 @@ module _ (problem : Setup) where
         let b = left_whole setup (λ c. eqb (rank_of c) rank) other led_other in
         let c = count_map rank_of rank (own_cards one) in
         let d = count_map rank_of rank (own_cards other) in
-        let e : count_by (λ x. eqb x rank) (map rank_of (own_cards one)) ≡ count_by (λ x. eqb x rank) (map rank_of (own_cards other)) =
-        ap (count_by (λ x. eqb x rank)) (owns_alike one other alike) in
-        omega (arith, a, b, c, d, e)
+        let e = rw (owns_alike one other alike) at c in
+        omega (arith, a, b, d, e)
 
     -- each option after one history has the rank of an option after the other
     pub option_alike : (card : ℕ) → IsOption problem one card → (twin : ℕ) × IsOption problem other twin × (rank_of twin ≡ rank_of card)
@@ -147,8 +142,7 @@ module _ (problem : Setup) where
           record {
             held = parts.0;
             free = not-true (has (own_cards other) found.card) parts.1;
-            fits = ap (λ (n : ℕ). leb (n + card_value found.card) 31) (sym (count_alike one other alike))
-                ∙ ap (λ (r : ℕ). leb (count_after problem one + rank_value r) 31) rank ∙ is.fits;
+            fits = rw (← count_alike one other alike, rank) is.fits;
           },
           rank,
         )
@@ -168,8 +162,7 @@ module _ (problem : Setup) where
           asked = sym asked_alike ∙ might.asked;
           fits = omega (arith, fit, count);
           high = omega (arith, high, least);
-          free = let F : List ℕ → Type 0 = λ ranks. ranks_of ranks rank < count_rank rank (unseen_of problem) in
-              subst F (theirs_alike one other alike) might.free;
+          free = rw (theirs_alike one other alike) at might.free;
         }
     might_alike Go might =
         let high = might.high in

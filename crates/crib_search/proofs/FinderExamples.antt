@@ -1,7 +1,8 @@
 -- Worked examples of the finder's steps, and of the plan that it finds for two holes. The opening is TC TD 9C, which makes 29. The owner knows all twos, and
 -- holds 2C and AC.
-use Rattle.std.proofs.Common.{arith, ◌≡◌, refl, inl, inr, ℕ, ◌<◌, ◌==◌, length, true, false, List, [], ◌∷◌, ◌++◌, Option, Some, None, replicate}
-use Rattle.std.specs.List.{AllZip}
+use Rattle.std.proofs.Common.{arith, ◌≡◌, refl, inl, inr, ℕ, ◌<◌, ◌==◌, length, true, false, List, [], ◌∷◌, ◌++◌, Option, Some, None, ltb, map, replicate}
+use Rattle.std.specs.List.{AllZip, list_all}
+use Rattle.std.proofs.lemmas.Bool.{and_parts, ltb-true}
 use Rattle.std.specs.Prelude.{if◌then◌else◌, MatchOption}
 use Rattle.crib_cards.specs.Sets.{set_where}
 use Rattle.crib_cards.specs.declared.letters.Letter.TheVariants.{Seen, Go}
@@ -241,51 +242,18 @@ pub tree_of_two_cards : ((rank : ℕ) → 1 < rank → ¬ CanShow at_29 three_ev
 unfolding FindsTree
 tree_of_two_cards none = inr (
   Plays 0 Finish ∷ replicate 12 Finish ++ Plays 4 Finish ∷ [],
-  (
-    inl (ace_shown, (Some Finish, ace_reaches, refl)),
-    (
-      hidden 2 (omega arith),
-      (
-        hidden 3 (omega arith),
-        (
-          hidden 4 (omega arith),
-          (
-            hidden 5 (omega arith),
-            (
-              hidden 6 (omega arith),
-              (
-                hidden 7 (omega arith),
-                (
-                  hidden 8 (omega arith),
-                  (
-                    hidden 9 (omega arith),
-                    (
-                      hidden 10 (omega arith),
-                      (
-                        hidden 11 (omega arith),
-                        (
-                          hidden 12 (omega arith),
-                          (
-                            hidden 13 (omega arith),
-                            (inl (go_shown, (Some Finish, two_reaches, refl)), tt),
-                          ),
-                        ),
-                      ),
-                    ),
-                  ),
-                ),
-              ),
-            ),
-          ),
-        ),
-      ),
-    ),
-  ),
+  (inl (ace_shown, (Some Finish, ace_reaches, refl)), ends (2 ∷ 3 ∷ 4 ∷ 5 ∷ 6 ∷ 7 ∷ 8 ∷ 9 ∷ 10 ∷ 11 ∷ 12 ∷ 13 ∷ []) refl),
   refl,
 )
   where
-    hidden : (rank : ℕ) → 1 < rank → BranchFinds (λ further after. Finds 29 at_29 further after) at_29 three_events (Seen rank) Finish
-    hidden rank high = inr (none rank high, refl)
+    -- each rank that can't be shown is the end, and then comes the go
+    ends : (ranks : List ℕ) → list_all (λ rank. ltb 1 rank) ranks ≡ true →
+        AllZip (BranchFinds (λ further after. Finds 29 at_29 further after) at_29 three_events) (map Seen ranks ++ Go ∷ [])
+        (replicate (length ranks) Finish ++ Plays 4 Finish ∷ [])
+    ends [] high = (inl (go_shown, (Some Finish, two_reaches, refl)), tt)
+    ends (rank ∷ ranks) high =
+        let parts = and_parts (ltb 1 rank) (list_all (λ rank. ltb 1 rank) ranks) high in
+        (inr (none rank (ltb-true 1 rank parts.0), refl), ends ranks parts.1)
 
 -- the look is node 0, and the card that the walk leaves last is node 1
 pub plan_of_two_cards : ((rank : ℕ) → 1 < rank → ¬ CanShow at_29 three_events (Seen rank)) →

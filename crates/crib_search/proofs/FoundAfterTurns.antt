@@ -1,21 +1,17 @@
 -- The answer for a knowledge, put together from the answers after each turn.
-use Rattle.std.proofs.Common.{◌≡◌, ◌⊎◌, ◌↔◌, ℕ, zero, suc, ◌+◌, ◌-◌, ◌<◌, ◌≤◌, Bool, true, false, not, cond, eqb, List, [], ◌∷◌, ◌++◌, length, get_or, take}
-use Rattle.std.proofs.Common.{drop, Option, Some, None, slice_get, refl, sym, ap, subst, ◌∙◌, inl, inr, arith}
+use Rattle.std.proofs.Common.{◌≡◌, ◌⊎◌, ◌↔◌, ℕ, zero, suc, ◌+◌, ◌<◌, ◌≤◌, Bool, true, false, cond, List, [], ◌∷◌, ◌++◌, length}
+use Rattle.std.proofs.Common.{Option, Some, None, slice_get, refl, sym, ap, subst, ◌∙◌, inl, inr, arith}
 use Rattle.std.specs.Prelude.{Result, Ok, Err, IfOk, OnOk, OnErr}
 use Rattle.std.specs.Bool.{then_some}
-use Rattle.std.specs.List.{AllZip, filter}
-use Rattle.std.proofs.lemmas.Bool.{both_ways, or_left, or_right, eq-eqb}
-use Rattle.std.proofs.lemmas.List.{take_rest}
-use Rattle.crib_cards.specs.Cards.{IsCard}
-use Rattle.crib_cards.specs.Sets.{has}
+use Rattle.std.specs.List.{AllZip}
+use Rattle.std.proofs.lemmas.Bool.{both_ways, cases_Bool}
 use Rattle.crib_cards.specs.declared.letters.Letter.{Letter}
 use Rattle.crib_cards.specs.declared.moves.Move.TheVariants as move
-use Rattle.crib_cards.proofs.SetFacts.{in_set_where}
 use Rattle.crib_play.specs.declared.turns.Turn.{Turn}
 use Rattle.crib_play.specs.declared.turns.Turn.TheVariants as turns
 use Rattle.crib_play.specs.History.{Event, Own, Theirs}
 use Rattle.crib_problem.specs.Setup.{Setup}
-use Rattle.crib_know.specs.Knowledge.{Knowledge, own_cards, asked_now}
+use Rattle.crib_know.specs.Knowledge.{Knowledge, asked_now}
 use Rattle.crib_know.specs.Hidden.{CanShow, IsKnown, KnowsAfter}
 use Rattle.crib_know.proofs.OwnCalls.{moved}
 use Rattle.crib_know.proofs.RecordTurns.{possible_led}
@@ -28,13 +24,17 @@ use Rattle.crib_search.specs.Trees.{Tree, Finish, Plays, joined_tree}
 use Rattle.crib_search.specs.Private.Nodes.{IsEarlier, IsMore, Names, NamesFound}
 use Rattle.crib_search.specs.Finder.{Found, FindsFor, OwnerFinds, Tries, BranchFinds, Finds, letters, options}
 use Rattle.crib_search.specs.Private.Ahead.{turns_ahead}
-use Rattle.crib_search.specs.Private.Search.{AreAnswers, Drafts, IsHere, IsAnswer, IsBranch, IsLater, IsTried, Steps}
+use Rattle.crib_search.specs.Private.Search.{AreAnswers, Drafts, IsHere, IsAnswer, IsBranch, IsLater}
 use Rattle.crib_know.specs.contracts.know.KnowPartialEq.TheImpl as knows_compared
 use Rattle.crib_search.proofs.TurnsAhead.{turn_falls}
 use Rattle.crib_know.proofs.Equality.{same_knows}
 use Rattle.crib_search.proofs.JoinedTrees.{draft_place_earlier}
-use Rattle.crib_search.proofs.Trees.{some_same}
 use Rattle.crib_search.proofs.KeptNodes.{names_more}
+
+-- what is known after a visible turn, whatever came before it
+abbrev pub Steps : Setup → Knowledge → Event → Knowledge → Type 0
+Steps problem know event next =
+    (history : List Event) → KnowsAfter know problem history → KnowsAfter next problem (event ∷ history)
 
 -- what a turn leads to from a copy of a knowledge, it leads to from the knowledge
 pub steps_from : (know copy next : Knowledge) (event : Event) → copy ≡ know → ((problem : Setup) → Steps problem copy event next) →
@@ -74,22 +74,28 @@ answers_more problem before after more answers are = record {
 -- ---- what an answer names
 pub none_named : (draft_nodes : List DraftNode) (tree : Option Tree) → NamesFound draft_nodes tree None → tree ≡ None
 none_named draft_nodes None names = refl
-none_named draft_nodes (Some tree) names = let e = names.1 in absurd cc
+none_named draft_nodes (Some tree) names = absurd (cc (names.1))
 
 pub some_named : (draft_nodes : List DraftNode) (tree : Option Tree) (draft_place : DraftPlace) → NamesFound draft_nodes tree (Some draft_place) →
     (found : Tree) × (tree ≡ Some found) × Names draft_nodes found draft_place
 some_named draft_nodes None draft_place names = absurd cc
-some_named draft_nodes (Some tree) draft_place names =
-    (tree, refl, subst (λ place. Names draft_nodes tree place) (some_same names.0 draft_place (sym names.1)) names.2)
+some_named draft_nodes (Some tree) draft_place names = let same : draft_place ≡ names.0 = cc (names.1) in (tree, refl, rw same names.2)
 
 -- ---- one turn further
-pub know_falls : (know next : Knowledge) (problem : Setup) (event : Event) (history : List Event) → KnowsAfter know problem history →
+know_falls : (know next : Knowledge) (problem : Setup) (event : Event) (history : List Event) → KnowsAfter know problem history →
     KnowsAfter next problem (event ∷ history) → turns_ahead next < turns_ahead know
 know_falls know next problem event history before after =
     let falls = turn_falls problem before.setup event history (possible_led problem after.setup (event ∷ history) after.possible) in
     let a : turns_ahead know ≡ _ = ap turns_ahead before.knowledge in
     let b : turns_ahead next ≡ _ = ap turns_ahead after.knowledge in
     omega (arith, falls, a, b)
+
+-- after a turn of a knowledge that is here, the next one is here, and fewer turns may come
+pub goes_on : (know copy next : Knowledge) (event : Event) → copy ≡ know → ((problem : Setup) → Steps problem copy event next) →
+    (problem : Setup) → IsHere problem know → IsHere problem next × (turns_ahead next < turns_ahead know)
+goes_on know copy next event same steps problem here =
+    let after = steps_from know copy next event same steps problem here.0 here.1 in
+    ((event ∷ here.0, after), know_falls know next problem event here.0 here.1 after)
 
 -- for each history that the knowledge belongs to, what is found after a turn, and the answer names it
 abbrev AnswersAfter : Drafts → Knowledge → Event → Option DraftPlace → Type 0
@@ -108,7 +114,7 @@ none_after : (drafts : Drafts) (know : Knowledge) (event : Event) → AnswersAft
     (history : List Event) (more : ℕ) → KnowsAfter know drafts.problem history → turns_ahead know ≤ more → Finds more drafts.problem (event ∷ history) None
 none_after drafts know event after history more knows less =
     let found = after history more knows less in
-    subst (λ tree. Finds more drafts.problem (event ∷ history) tree) (none_named drafts.draft_nodes found.0 found.1) found.2
+    rw (none_named drafts.draft_nodes found.0 found.1) at found.2
 
 some_after : (drafts : Drafts) (know : Knowledge) (event : Event) (draft_place : DraftPlace) → AnswersAfter drafts know event (Some draft_place) →
     (history : List Event) (more : ℕ) → KnowsAfter know drafts.problem history → turns_ahead know ≤ more →
@@ -116,7 +122,7 @@ some_after : (drafts : Drafts) (know : Knowledge) (event : Event) (draft_place :
 some_after drafts know event draft_place after history more knows less =
     let found = after history more knows less in
     let named = some_named drafts.draft_nodes found.0 draft_place found.1 in
-    (named.0, named.2, subst (λ tree. Finds more drafts.problem (event ∷ history) tree) named.1 found.2)
+    (named.0, named.2, rw named.1 at found.2)
 
 -- ---- who is asked
 -- an answer is right if it is for each history that the knowledge belongs to, by who is asked
@@ -128,8 +134,14 @@ answer_for drafts know found turn asked each history zero knows less = absurd (o
 answer_for drafts know found turn asked each history (suc more) knows less =
     let here = each history more knows (omega (arith, less)) in
     let now : asked_now drafts.problem history ≡ turn = sym (ap (λ (k : Knowledge). k.round.asked) knows.knowledge) ∙ asked in
-    let F : Turn → Type 0 = λ t. FindsFor t (λ further after. Finds more drafts.problem further after) drafts.problem history here.0 in
-    (here.0, here.1, subst F (sym now) here.2)
+    (here.0, here.1, rw now here.2)
+
+-- the same as `IsAnswer`, if the owner tries these cards in their order
+abbrev pub IsTried : Drafts → Knowledge → List ℕ → Option DraftPlace → Type 0
+IsTried drafts know cards found =
+    (history : List Event) (more : ℕ) → KnowsAfter know drafts.problem history → turns_ahead know ≤ more →
+    (tree : Option Tree) × NamesFound drafts.draft_nodes tree found
+    × Tries (λ further after. Finds more drafts.problem further after) history cards tree
 
 module _ (drafts : Drafts) (know : Knowledge) where
   -- ---- the deal is done
@@ -150,8 +162,7 @@ module _ (drafts : Drafts) (know : Knowledge) where
         answer_for drafts know found turns.Owner asked
         (λ history more knows less.
         let after = answer_after drafts know next (Own move.Go) found step answer history more knows less in
-        let O : List ℕ → Type 0 = λ cards. OwnerFinds (λ further tree. Finds more drafts.problem further tree) history cards after.0 in
-        (after.0, after.1, subst O (sym (none history knows)) after.2))
+        (after.0, after.1, rw (none history knows) after.2))
 
     pub own_tried : (found : Option DraftPlace) (cards : List ℕ) → 0 < length cards →
         ((history : List Event) → KnowsAfter know drafts.problem history → cards ≡ options drafts.problem history) → IsTried drafts know cards found →
@@ -160,8 +171,7 @@ module _ (drafts : Drafts) (know : Knowledge) where
         answer_for drafts know found turns.Owner asked
         (λ history more knows less.
         let after = tried history more knows less in
-        let O : List ℕ → Type 0 = λ xs. OwnerFinds (λ further tree. Finds more drafts.problem further tree) history xs after.0 in
-        (after.0, after.1, subst O (same history knows) (owner_of (λ further tree. Finds more drafts.problem further tree) history after.0 cards some after.2)))
+        (after.0, after.1, rw (← same history knows) (owner_of (λ further tree. Finds more drafts.problem further tree) history after.0 cards some after.2)))
       where
         owner_of : (find : Found) (history : List Event) (found : Option Tree) (cards : List ℕ) → 0 < length cards → Tries find history cards found →
             OwnerFinds find history cards found
@@ -185,6 +195,9 @@ module _ (drafts : Drafts) (know : Knowledge) where
         history more knows less in
         let later = tried history more knows less in
         (later.0, later.1, (None, after, later.2))
+
+  pub tried_none : IsTried drafts know [] None
+  tried_none history more knows less = (None, refl, refl)
 
   -- ---- the opponent
   module _ (letter : Letter) where
@@ -221,10 +234,9 @@ branches_later before after later know shown draft_places branches =
     all_later : (trees : List Tree) (draft_places : List DraftPlace) → AllZip (Names before.draft_nodes) trees draft_places →
         AllZip (Names after.draft_nodes) trees draft_places
     all_later [] [] all = tt
-    all_later [] (draft_place ∷ draft_places) all = absurd all
-    all_later (tree ∷ trees) [] all = absurd all
     all_later (tree ∷ trees) (draft_place ∷ draft_places) all =
         (names_more before.draft_nodes after.draft_nodes later.more tree draft_place all.0, all_later trees draft_places all.1)
+    all_later trees draft_places all = absurd all
 
 -- one branch more
 pub branches_more : (before after : Drafts) → IsLater before after → (know : Knowledge) (letter : Letter) (shown : List Letter)
@@ -240,9 +252,8 @@ branches_more before after later know letter shown draft_places next branches br
   where
     zip_push : {X Y : Type 0} (R : X → Y → Type 0) (xs : List X) (ys : List Y) (x : X) (y : Y) → AllZip R xs ys → R x y → AllZip R (xs ++ x ∷ []) (ys ++ y ∷ [])
     zip_push R [] [] x y all last = (last, tt)
-    zip_push R [] (b ∷ ys) x y all last = absurd all
-    zip_push R (a ∷ xs) [] x y all last = absurd all
     zip_push R (a ∷ xs) (b ∷ ys) x y all last = (all.0, zip_push R xs ys x y all.1 last)
+    zip_push R xs ys x y all last = absurd all
 
 module _ (drafts : Drafts) (know : Knowledge) where
   -- some branch is lacking
@@ -256,8 +267,7 @@ module _ (drafts : Drafts) (know : Knowledge) where
     pub branches_named : IsHere drafts.problem know → (trees : List Tree) × AllZip (Names drafts.draft_nodes) trees now
     branches_named here =
         let all = branches here.0 (turns_ahead know) here.1 (omega arith) in
-        let Z : List DraftPlace → Type 0 = λ xs. AllZip (Names drafts.draft_nodes) all.0 xs in
-        (all.0, subst Z (sym same) all.1)
+        (all.0, rw same all.1)
 
     pub theirs_some : (after : List DraftNode) (draft_place : DraftPlace) → know.round.asked ≡ turns.Opponent →
         ((trees : List Tree) → AllZip (Names drafts.draft_nodes) trees now → Names after (joined_tree trees) draft_place) →
@@ -266,8 +276,7 @@ module _ (drafts : Drafts) (know : Knowledge) where
         answer_for (record { problem = drafts.problem; draft_nodes = after }) know (Some draft_place) turns.Opponent asked
         (λ history more knows less.
         let all = branches history more knows less in
-        let Z : List DraftPlace → Type 0 = λ xs. AllZip (Names drafts.draft_nodes) all.0 xs in
-        (Some (joined_tree all.0), (draft_place, refl, names all.0 (subst Z (sym same) all.1)), inr (all.0, all.2, refl)))
+        (Some (joined_tree all.0), (draft_place, refl, names all.0 (rw same all.1)), inr (all.0, all.2, refl)))
 
 -- ---- answers
 pub ok_map : {T E : Type 0} (result : Result T E) (P Q : T → Type 0) → ((value : T) → P value → Q value) → IfOk result P → IfOk result Q
@@ -282,39 +291,6 @@ answer_earlier drafts know draft_place here answer =
     let named = some_named drafts.draft_nodes found.0 draft_place found.1 in
     draft_place_earlier drafts.draft_nodes named.0 draft_place named.2
 
--- a list with a first item, and the rest of it
-abbrev pub rest_of : {T : Type 0} → List T → List T
-rest_of xs = take (length xs - 1) (drop 1 xs)
-
-pub card_split : (cards : List ℕ) (card : ℕ) → 1 ≤ length cards → card ≡ get_or cards 0 card → card ∷ rest_of cards ≡ cards
-card_split [] card some is = absurd (omega (arith, some))
-card_split (first ∷ cards) card some is = ap (λ (xs : List ℕ). card ∷ xs) (take_rest (first ∷ cards) 1) ∙ ap (λ (c : ℕ). c ∷ cards) is
-
-pub take_none : (len : ℕ) (cards : List ℕ) → len ≤ 0 → take len cards ≡ []
-take_none zero cards few = refl
-take_none (suc len) cards few = absurd (omega (arith, few))
-
-pub fewer : (cards : List ℕ) → 1 ≤ length cards → length (rest_of cards) + 1 ≡ length cards
-fewer [] some = absurd (omega (arith, some))
-fewer (card ∷ cards) some = let e = ap length (take_rest (card ∷ cards) 1) in omega (arith, e)
-
-pub still_has : (cards : List ℕ) (card : ℕ) → has (rest_of cards) card ≡ true → has cards card ≡ true
-still_has cards card h = later cards (ap (λ (xs : List ℕ). has xs card) (sym (take_rest cards 1)) ∙ h)
-  where
-    later : (cards : List ℕ) → has (drop 1 cards) card ≡ true → has cards card ≡ true
-    later [] h = h
-    later (first ∷ cards) h = or_right (eqb first card) (has cards card) h
-
-pub first_has_it : (cards : List ℕ) (card : ℕ) → 1 ≤ length cards → card ≡ get_or cards 0 card → has cards card ≡ true
-first_has_it [] card some is = absurd (omega (arith, some))
-first_has_it (first ∷ cards) card some is = or_left (eqb first card) (has cards card) (eq-eqb first card (sym is))
-
--- all that is left to the owner are cards
-pub card_is : (problem : Setup) (know : Knowledge) (card : ℕ) → IsHere problem know → has know.own_left card ≡ true → IsCard card
-card_is problem know card here held =
-    (in_set_where (has (filter (λ c. not (has (own_cards here.0) c)) problem.hold)) card (ap (λ (k : Knowledge). has k.own_left card) (sym here.1.knowledge)
-    ∙ held)).0
-
 -- ---- the table
 pub answers_kept : (drafts : Drafts) (know copy : Knowledge) (found : Option DraftPlace) (before after : Knowledge → Option (Option DraftPlace)) →
     copy ≡ know → IsHere drafts.problem know → IsAnswer drafts know found → AreAnswers drafts before → ((other : Knowledge) →
@@ -324,9 +300,8 @@ answers_kept drafts know copy found before after same here answer answers kept =
       elim (kept other) [
         | inl old ↦ answers.each other draft_place there (sym old ∙ is)
         | inr new ↦
-            let C : Knowledge → Type 0 = λ k. knows_compared.ghosts.eq k other ≡ true in
-            subst (λ k. IsAnswer drafts k draft_place) ((same_knows know other (known know here) (known other there)).0 (subst C same new.0))
-            (subst (λ f. IsAnswer drafts know f) (some_same found draft_place (sym new.1 ∙ is)) answer)
+            let know_is = (same_knows know other (known know here) (known other there)).0 (rw same at new.0) in
+            let found_is : found ≡ draft_place = cc (new.1) in rw (← know_is, ← found_is) answer
       ];
 }
   where
@@ -338,10 +313,6 @@ pub kept_by : {T E : Type 0} (result : Result T E) (old new : Knowledge → Opti
     (U W : Type 0) → (U → (other : Knowledge) → new other ≡ cond (knows_compared.ghosts.eq know other) (Some found) (old other)) →
     (W → (other : Knowledge) → new other ≡ old other) → OnOk result U → OnErr result W → (other : Knowledge) →
     (new other ≡ old other) ⊎ ((knows_compared.ghosts.eq know other ≡ true) × (new other ≡ Some found))
-kept_by (Ok value) old new know found U W put same ok err other = by (knows_compared.ghosts.eq know other) refl
-  where
-    by : (b : Bool) → knows_compared.ghosts.eq know other ≡ b →
-        (new other ≡ old other) ⊎ ((knows_compared.ghosts.eq know other ≡ true) × (new other ≡ Some found))
-    by true is = inr (is, put ok other ∙ ap (λ (c : Bool). cond c (Some found) (old other)) is)
-    by false is = inl (put ok other ∙ ap (λ (c : Bool). cond c (Some found) (old other)) is)
+kept_by (Ok value) old new know found U W put same ok err other =
+    elim (cases_Bool (knows_compared.ghosts.eq know other)) [ inl is ↦ inr (is, rw is at (put ok other)) | inr is ↦ inl (rw is at (put ok other)) ]
 kept_by (Err error) old new know found U W put same ok err other = inl (same err other)

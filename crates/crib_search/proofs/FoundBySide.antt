@@ -1,7 +1,6 @@
 -- What is found after a history, by who is asked.
-use Rattle.std.proofs.Common.{◌≡◌, ℕ, zero, suc, ◌+◌, true, false, eqb, List, [], ◌∷◌, ◌++◌, take, Option, Some, None, slice_get, refl, ap, subst, ◌∙◌, inl}
+use Rattle.std.proofs.Common.{◌≡◌, ℕ, zero, suc, ◌+◌, true, false, eqb, List, [], ◌∷◌, ◌++◌, take, Option, Some, None, slice_get, refl, inl}
 use Rattle.std.proofs.Common.{inr}
-use Rattle.std.specs.Prelude.{MatchOption}
 use Rattle.std.specs.List.{AllZip}
 use Rattle.std.proofs.lemmas.Bool.{or_cases, or_right, both_ways, eqb-true}
 use Rattle.std.proofs.lemmas.List.{take_more}
@@ -27,9 +26,7 @@ use Rattle.crib_cards.proofs.Members.{has_here}
 pub for_turn : (more : ℕ) (problem : Setup) (history : List Event) (found : Option Tree) (turn : Turn) → asked_now problem history ≡ turn →
     Finds (suc more) problem history found →
     FindsFor turn (λ further after. Finds more problem further after) problem history found
-for_turn more problem history found turn e finds =
-    let F : Turn → Type 0 = λ t. FindsFor t (λ further after. Finds more problem further after) problem history found in
-    subst F e finds
+for_turn more problem history found turn e finds = rw e at finds
 
 -- the same at any bound: something is found only at one that is not zero
 pub for_asked : (more : ℕ) (problem : Setup) (history : List Event) (found : Option Tree) (turn : Turn) → asked_now problem history ≡ turn →
@@ -42,32 +39,21 @@ for_asked (suc more) problem history found turn e finds = (more, for_turn more p
 pub tries_some : (finds : Found) (history : List Event) (cards : List ℕ) (tree : Tree) → Tries finds history cards (Some tree) →
     (card : ℕ) × (next : Tree) × (has cards card ≡ true) × finds (Own (move.Card card) ∷ history) (Some next) × (tree ≡ Plays card next)
 tries_some finds history [] tree tries = absurd cc
-tries_some finds history (first ∷ cards) tree tries = one (tries_some finds history cards tree) tries.0 tries.1 tries.2
-  where
-    one : (Tries finds history cards (Some tree) → (card : ℕ) × (next : Tree) × (has cards card ≡ true) × finds (Own (move.Card card) ∷ history) (Some next) ×
-        (tree ≡ Plays card next)) →
-        (after : Option Tree) → finds (Own (move.Card first) ∷ history) after → MatchOption after (Tries finds history cards (Some tree))
-        (λ t. Some tree ≡ Some (Plays first t)) →
-        (card : ℕ) × (next : Tree) × (has (first ∷ cards) card ≡ true) × finds (Own (move.Card card) ∷ history) (Some next) × (tree ≡ Plays card next)
-    one later None found rest = let deep = later rest in (deep.0, deep.1, or_right (eqb first deep.0) (has cards deep.0) deep.2, deep.3, deep.4)
-    one later (Some next) found e = (first, next, has_here first cards, found, cc)
+tries_some finds history (first ∷ cards) tree (None, found, rest) =
+    let deep = tries_some finds history cards tree rest in (deep.0, deep.1, or_right (eqb first deep.0) (has cards deep.0) deep.2, deep.3, deep.4)
+tries_some finds history (first ∷ cards) tree (Some next, found, e) = (first, next, has_here first cards, found, cc)
 
 -- one of the cards after which a tree is found
 pub tries_there : (finds : Found) (history : List Event) (cards : List ℕ) (found : Option Tree) (card : ℕ) → Tries finds history cards found →
     has cards card ≡ true →
     ((after : Option Tree) → finds (Own (move.Card card) ∷ history) after → after ≡ None → ⊥) → found ≡ None → ⊥
 tries_there finds history [] found card tries h some none = both_ways false refl h
-tries_there finds history (first ∷ cards) found card tries h some none =
-    one (λ rest there. tries_there finds history cards found card rest there some none) tries.0 tries.1 tries.2
-  where
-    one : (Tries finds history cards found → has cards card ≡ true → ⊥) → (after : Option Tree) → finds (Own (move.Card first) ∷ history) after →
-        MatchOption after (Tries finds history cards found) (λ t. found ≡ Some (Plays first t)) → ⊥
-    one later None here rest =
-        elim (or_cases (eqb first card) (has cards card) h) [
-          | inl same ↦ let F : ℕ → Type 0 = λ c. finds (Own (move.Card c) ∷ history) None in some None (subst F (eqb-true first card same) here) refl
-          | inr there ↦ later rest there
-        ]
-    one later (Some next) here e = absurd cc
+tries_there finds history (first ∷ cards) found card (None, here, rest) h some none =
+    elim (or_cases (eqb first card) (has cards card) h) [
+      | inl same ↦ some None (rw (eqb-true first card same) at here) refl
+      | inr there ↦ tries_there finds history cards found card rest there some none
+    ]
+tries_there finds history (first ∷ cards) found card (Some next, here, e) h some none = absurd cc
 
 -- ---- the opponent
 -- what is true of each letter by its place
@@ -76,10 +62,7 @@ pub zip_at : (P : Letter → Tree → Type 0) (shown : List Letter) (trees : Lis
     (tree : Tree) × (slice_get trees place ≡ Some tree) × P letter tree
 zip_at P [] trees place letter all e = absurd cc
 zip_at P (first ∷ shown) [] place letter all e = absurd all
-zip_at P (first ∷ shown) (tree ∷ trees) zero letter all e =
-    let same : first ≡ letter = cc in
-    let Q : Letter → Type 0 = λ l. P l tree in
-    (tree, refl, subst Q same all.0)
+zip_at P (first ∷ shown) (tree ∷ trees) zero letter all e = let same : first ≡ letter = cc in (tree, refl, rw same at all.0)
 zip_at P (first ∷ shown) (tree ∷ trees) (suc place) letter all e = zip_at P shown trees place letter all.1 e
 
 -- a letter stands in its place among the letters
@@ -90,9 +73,8 @@ letter_at Go is = refl
 
 pub take_letter : (letter : Letter) (place : ℕ) → IsLetter letter → letter_place letter ≡ place → take (place + 1) letters ≡ take place letters ++ letter ∷ []
 take_letter letter place is at =
-    let found = subst (λ n. slice_get letters n ≡ Some letter) at (letter_at letter is) in
-    take_more letters place letter (slice_get_within letters place letter found)
-    ∙ ap (λ (l : Letter). take place letters ++ l ∷ []) (get_or_from_slice_get letters place letter letter found)
+    let found = rw at at (letter_at letter is) in
+    rw (take_more letters place letter (slice_get_within letters place letter found), get_or_from_slice_get letters place letter letter found)
 
 module _ (problem : Setup) (setup : IsSetup problem) (history : List Event) where
   -- the branch of a letter that can be shown
@@ -110,14 +92,14 @@ module _ (problem : Setup) (setup : IsSetup problem) (history : List Event) wher
 -- if a tree is found, it joins some branches
 pub opponent_some : (finds : Found) (problem : Setup) (history : List Event) (tree : Tree) → FindsFor turns.Opponent finds problem history (Some tree) →
     (trees : List Tree) × AllZip (BranchFinds finds problem history) letters trees × (tree ≡ joined_tree trees)
-opponent_some finds problem history tree (inl lacks) = let e = lacks.1 in absurd cc
-opponent_some finds problem history tree (inr found) = let e = found.2 in (found.0, found.1, cc)
+opponent_some finds problem history tree (inl lacks) = absurd (cc (lacks.1))
+opponent_some finds problem history tree (inr found) = (found.0, found.1, cc (found.2))
 
 -- if none is found, some letter can be shown after which none is found
 pub opponent_none : (finds : Found) (problem : Setup) (history : List Event) → FindsFor turns.Opponent finds problem history None →
     LacksBranch finds problem history
 opponent_none finds problem history (inl lacks) = lacks.0
-opponent_none finds problem history (inr found) = let e = found.2 in absurd cc
+opponent_none finds problem history (inr found) = absurd (cc (found.2))
 
 -- ---- from the start
 pub finds_of_tree : (problem : Setup) (found : Option Tree) → FindsTree problem found → Finds 30 problem (played_events problem) found

@@ -1,9 +1,8 @@
 -- The nodes of the plan that is found are a plan, if there are not too many.
-use Rattle.std.proofs.Common.{◌≡◌, ℕ, zero, suc, ◌≤◌, Bool, not, ◌&&◌, List, [], ◌∷◌, length, Option, Some, None, refl, sym, ap, subst, ◌∙◌}
+use Rattle.std.proofs.Common.{◌≡◌, ℕ, zero, suc, ◌≤◌, Bool, not, ◌&&◌, List, [], ◌∷◌, length, Some, None, refl, ap, ◌∙◌}
 use Rattle.std.proofs.Common.{inl, inr}
-use Rattle.std.specs.Prelude.{option_map}
 use Rattle.std.specs.List.{AllByRecursion, AllZip, filter, list_all}
-use Rattle.std.proofs.lemmas.Bool.{cases_Bool, cond-true, cond-false}
+use Rattle.std.proofs.lemmas.Bool.{cases_Bool}
 use Rattle.crib_cards.specs.Cards.{IsCard}
 use Rattle.crib_cards.specs.Sets.{has}
 use Rattle.crib_cards.specs.declared.letters.Letter.{Letter}
@@ -18,11 +17,10 @@ use Rattle.crib_plan.specs.Nodes.{ArePlan, most_nodes}
 use Rattle.crib_know.specs.Knowledge.{asked_now, played_events}
 use Rattle.crib_search.specs.Trees.{Tree, Finish, Plays, Sees, Branches, NoBranch, Branch, branches_of, trees_of, same_tree, is_finish, is_play}
 use Rattle.crib_search.specs.Trees.{joined_tree_from, joined_tree, trees_with, trees_after_walk, trees_after_walks, plan_of_tree}
-use Rattle.crib_search.specs.Finder.{BranchFinds, Finds, FindsFor, FindsTree, Found, IsFound, OwnerFinds, letters, options}
+use Rattle.crib_search.specs.Finder.{BranchFinds, Finds, FindsFor, Found, IsFound, OwnerFinds, letters, options}
 use Rattle.crib_search.proofs.FoundBySide.{finds_of_tree, opponent_some, tries_some}
 use Rattle.crib_search.proofs.NumberedNodes.{AreFine, IsFine, are_nodes, plan_count}
 use Rattle.crib_search.proofs.Options.{option_is}
-use Rattle.crib_search.proofs.Trees.{some_same}
 use Rattle.crib_search.proofs.TreeWalks.{is_in, walk_closed}
 
 -- ---- trees whose plays are cards and whose looks have fourteen branches
@@ -53,8 +51,8 @@ filter_whole test [] all = tt
 filter_whole test (tree ∷ trees) all =
     let rest = filter_whole test trees all.1 in
     elim (cases_Bool (test tree)) [
-      | inl kept ↦ subst AllWhole (sym (cond-true (test tree) (tree ∷ filter test trees) (filter test trees) kept)) (all.0, rest)
-      | inr left ↦ subst AllWhole (sym (cond-false (test tree) (tree ∷ filter test trees) (filter test trees) left)) rest
+      | inl kept ↦ rw kept (all.0, rest)
+      | inr left ↦ rw left rest
     ]
 
 joined_from_whole : (all some : List Tree) → AllWhole all → length all ≡ 14 → AllWhole some → IsWhole (joined_tree_from all some)
@@ -62,17 +60,14 @@ joined_from_whole all [] are count some_are = tt
 joined_from_whole all (tree ∷ trees) are count some_are =
     let one = is_play tree && list_all (same_tree tree) trees in
     elim (cases_Bool one) [
-      | inl same ↦ subst IsWhole (sym (cond-true one tree (Sees (branches_of all)) same)) some_are.0
-      | inr apart ↦ subst IsWhole (sym (cond-false one tree (Sees (branches_of all)) apart)) (branches_count all ∙ count, branches_whole all are)
+      | inl same ↦ rw same some_are.0
+      | inr apart ↦ rw apart (branches_count all ∙ count, branches_whole all are)
     ]
 
 joined_whole : (trees : List Tree) → AllWhole trees → length trees ≡ 14 → IsWhole (joined_tree trees)
 joined_whole trees all count = joined_from_whole trees (filter (λ tree. not (is_finish tree)) trees) all count (filter_whole _ trees all)
 
 -- ---- what is found
-finish_whole : (tree : Tree) → Some tree ≡ Some Finish → IsWhole tree
-finish_whole tree e = subst IsWhole (sym (some_same tree Finish e)) tt
-
 module _ (problem : Setup) (setup : IsSetup problem) where
   -- each tree that is found is whole
   abbrev AllFound : Found → Type 0
@@ -84,33 +79,26 @@ module _ (problem : Setup) (setup : IsSetup problem) where
   owner_whole finds all history (first ∷ cards) same tree found =
       let tried = tries_some finds history (first ∷ cards) tree found in
       let option = option_is problem history tried.0 (ap (λ (xs : List ℕ). has xs tried.0) same ∙ tried.2) in
-      subst IsWhole (sym tried.4) (
-        hold_is_card problem setup tried.0 option.held,
-        all (Own (move.Card tried.0) ∷ history) tried.1 tried.3,
-      )
+      rw tried.4 (hold_is_card problem setup tried.0 option.held, all (Own (move.Card tried.0) ∷ history) tried.1 tried.3)
 
   all_branches : (finds : Found) → AllFound finds → (history : List Event) (shown : List Letter) (trees : List Tree) →
       AllZip (BranchFinds finds problem history) shown trees → AllWhole trees × (length trees ≡ length shown)
   all_branches finds all history [] [] zip = (tt, refl)
-  all_branches finds all history [] (tree ∷ trees) zip = absurd zip
-  all_branches finds all history (letter ∷ shown) [] zip = absurd zip
   all_branches finds all history (letter ∷ shown) (tree ∷ trees) zip =
       let rest = all_branches finds all history shown trees zip.1 in
-      ((branch zip.0, rest.0), ap suc rest.1)
-    where
-      branch : BranchFinds finds problem history letter tree → IsWhole tree
-      branch (inl found) = all (Theirs letter ∷ history) tree found.1
-      branch (inr none) = subst IsWhole (sym none.1) tt
+      let branch : IsWhole tree = elim zip.0 [ inl found ↦ all (Theirs letter ∷ history) tree found.1 | inr none ↦ rw none.1 tt ] in
+      ((branch, rest.0), ap suc rest.1)
+  all_branches finds all history shown trees zip = absurd zip
 
   side_whole : (turn : Turn) (finds : Found) → AllFound finds → (history : List Event) (tree : Tree) → FindsFor turn finds problem history (Some tree) →
       IsWhole tree
-  side_whole turns.Over finds all history tree (inl reached) = finish_whole tree reached.1
-  side_whole turns.Over finds all history tree (inr none) = let e = none.1 in absurd cc
+  side_whole turns.Over finds all history tree (inl reached) = let end : tree ≡ Finish = cc (reached.1) in rw end tt
+  side_whole turns.Over finds all history tree (inr none) = absurd (cc (none.1))
   side_whole turns.Owner finds all history tree found = owner_whole finds all history (options problem history) refl tree found
   side_whole turns.Opponent finds all history tree found =
       let joins = opponent_some finds problem history tree found in
       let branches = all_branches finds all history letters joins.0 joins.1 in
-      subst IsWhole (sym joins.2) (joined_whole joins.0 branches.0 branches.1)
+      rw joins.2 (joined_whole joins.0 branches.0 branches.1)
 
   found_whole : (more : ℕ) → AllFound (λ history found. Finds more problem history found)
   found_whole zero history tree finds = absurd finds
@@ -121,8 +109,8 @@ module _ (problem : Setup) (setup : IsSetup problem) where
 leave_fine : (tree : Tree) (before inside : List Tree) → IsFine tree → AreFine before → AreFine inside → AreFine (trees_with tree before inside)
 leave_fine tree before inside fine old new =
     elim (cases_Bool (is_in tree before)) [
-      | inl there ↦ subst AreFine (sym (cond-true (is_in tree before) before (tree ∷ inside) there)) old
-      | inr fresh ↦ subst AreFine (sym (cond-false (is_in tree before) before (tree ∷ inside) fresh)) (fine, new)
+      | inl there ↦ rw there old
+      | inr fresh ↦ rw fresh (fine, new)
     ]
 
 mutual
@@ -145,13 +133,8 @@ tree_plan tree whole few =
     (few, are_nodes all (length (plan_of_tree tree)) (plan_count all all closed) closed (walk_fine tree [] whole tt))
 
 pub found_plan : (problem : Setup) (plan : List Node) → IsSetup problem → IsFound problem (Some plan) → length plan ≤ most_nodes → ArePlan plan
-found_plan problem plan setup found few = from found.0 found.1 found.2
-  where
-    from : (tree : Option Tree) → FindsTree problem tree → Some plan ≡ option_map plan_of_tree tree → ArePlan plan
-    from None finds e = absurd cc
-    from (Some tree) finds e =
-        let same : plan ≡ plan_of_tree tree = cc in
-        let F : List Node → Type 0 = λ nodes. length nodes ≤ most_nodes in
-        let P : List Node → Type 0 = λ nodes. ArePlan nodes in
-        let whole = found_whole problem setup 30 (played_events problem) tree (finds_of_tree problem (Some tree) finds) in
-        subst P (sym same) (tree_plan tree whole (subst F same few))
+found_plan problem plan setup (None, finds, e) few = absurd cc
+found_plan problem plan setup (Some tree, finds, e) few =
+    let same : plan ≡ plan_of_tree tree = cc in
+    let whole = found_whole problem setup 30 (played_events problem) tree (finds_of_tree problem (Some tree) finds) in
+    rw same (tree_plan tree whole (rw same at few))

@@ -1,23 +1,22 @@
 -- A plan that stands for the tree that is found is sure.
-use Rattle.std.proofs.Common.{◌≡◌, ℕ, Bool, true, false, not, ◌&&◌, List, [], ◌∷◌, ◌++◌, map, Option, Some, refl, sym, ap, subst, ◌∙◌, inl, inr}
+use Rattle.std.proofs.Common.{◌≡◌, ℕ, Bool, true, false, not, ◌&&◌, List, [], ◌∷◌, ◌++◌, map, Some, refl, sym, ap, ◌∙◌, inl, inr}
 use Rattle.std.specs.List.{list_any}
 use Rattle.std.proofs.lemmas.List.{map-append}
-use Rattle.std.proofs.lemmas.Bool.{cases_Bool, cond-true, and_parts, and_from, both_ways, not-true}
+use Rattle.std.proofs.lemmas.Bool.{cases_Bool, and_parts, and_from, both_ways, not-true}
 use Rattle.crib_cards.specs.Sets.{has}
 use Rattle.crib_cards.specs.Sides.{same_side}
 use Rattle.crib_cards.specs.Start.{Start, pone_of, Hands}
-use Rattle.crib_cards.specs.declared.sides.Side.{Side}
 use Rattle.crib_cards.specs.declared.sides.Side.TheVariants.{Owner}
 use Rattle.crib_cards.specs.declared.sides.Dealt.{Dealt}
 use Rattle.crib_cards.specs.declared.letters.Letter.{Letter}
 use Rattle.crib_cards.specs.declared.moves.Move.{Move}
 use Rattle.crib_cards.specs.declared.moves.Move.TheVariants as move
 use Rattle.crib_play.specs.declared.turns.Turn.TheVariants as turns
-use Rattle.crib_play.specs.Record.{Record, mover, is_heard}
-use Rattle.crib_play.specs.Score.{scores_after, is_done, side_asked, asked_after}
+use Rattle.crib_play.specs.Record.{mover}
+use Rattle.crib_play.specs.Score.{is_done}
 use Rattle.crib_play.specs.Filled.{is_silent_next}
-use Rattle.crib_play.specs.Legal.{letters_of, cards_left, fits, MayTake, MayCome}
-use Rattle.crib_play.specs.History.{visible_moves, filled_moves, Event, Own, Theirs, event_by, event_of, history_of}
+use Rattle.crib_play.specs.Legal.{letters_of, cards_left, fits, MayCome}
+use Rattle.crib_play.specs.History.{visible_moves, filled_moves, Event, Own, Theirs, event_of, history_of}
 use Rattle.crib_play.proofs.FilledRecords.{not_silent_heard, not_silent_done}
 use Rattle.crib_play.proofs.TurnFacts.{play_of, heard_card, same_is}
 use Rattle.crib_show.specs.Outcome.{outcome_of}
@@ -26,16 +25,16 @@ use Rattle.crib_problem.specs.Setup.{Setup, IsSetup, start_of, hands_of, played_
 use Rattle.crib_plan.specs.declared.plan.Next.{Next}
 use Rattle.crib_plan.specs.declared.plan.Node.{Node}
 use Rattle.crib_plan.specs.declared.plan.Node.TheVariants.{Play}
-use Rattle.crib_plan.specs.Places.{plan_start, node_at, card_of_node, stated_card, after_play}
+use Rattle.crib_plan.specs.Places.{plan_start, node_at, card_of_node, stated_card}
 use Rattle.crib_game.specs.Following.{place_of, is_playable, is_stuck}
-use Rattle.crib_game.specs.Replay.{full_of, full_with}
+use Rattle.crib_game.specs.Replay.{full_of}
 use Rattle.crib_know.specs.Knowledge.{asked_now, played_events}
 use Rattle.crib_know.proofs.LedHistories as know
 use Rattle.crib_know.specs.Hidden.{BeginsAfter, CanShow}
 use Rattle.crib_know.proofs.LedHistories.{IsLed}
 use Rattle.crib_know.proofs.Deals.{dealt_is}
 use Rattle.crib_check.specs.Sure.{IsFollowed, IsSure}
-use Rattle.crib_search.specs.Trees.{Tree, Plays}
+use Rattle.crib_search.specs.Trees.{Tree}
 use Rattle.crib_search.specs.Finder.{Found, options, OwnerFinds, Finds, FindsTree}
 use Rattle.crib_check.specs.Private.Histories.{place_by, IsStatedEvent, FollowsBy}
 use Rattle.crib_check.proofs.PlaceByHistory.{begun_late, place_at_start, place_later, place_history, follows_to}
@@ -72,23 +71,21 @@ module _ (problem : Setup) (setup : IsSetup problem) (plan : List Node) where
   stated_in history more tree [] none card is finds does = absurd (no_option problem history none card is)
   stated_in history more tree (first ∷ cards) e card is finds does =
       let tried = tries_some (λ further after. Finds more problem further after) history (first ∷ cards) tree finds in
-      let option = option_is problem history tried.0 (ap (λ (xs : List ℕ). has xs tried.0) e ∙ tried.2) in
-      let D : Tree → Type 0 = λ t. Does plan t (place_by plan problem.played history) in
-      play tried.0 tried.1 option tried.3 (subst D tried.4 does)
-    where
-      play : (c : ℕ) (next : Tree) → IsOption problem history c → Finds more problem (Own (move.Card c) ∷ history) (Some next) →
-          Does plan (Plays c next) (place_by plan problem.played history) → Stated history
-      play c next option found (inl e) = absurd cc
-      play c next option found (inr stands) = record {
-        more = more;
-        card = c;
-        next = next;
-        after = stands.0;
-        option = option;
-        finds = found;
-        node = stands.1;
-        stands = stands.2;
-      }
+      let option = option_is problem history tried.0 (rw e tried.2) in
+      elim (rw tried.4 at does) [
+        | inl e ↦ absurd cc
+        | inr stands ↦
+            record {
+              more = more;
+              card = tried.0;
+              next = tried.1;
+              after = stands.0;
+              option = option;
+              finds = tried.3;
+              node = stands.1;
+              stands = stands.2;
+            }
+      ]
 
   stated_at : (history : List Event) → At history → asked_now problem history ≡ turns.Owner → (card : ℕ) → IsOption problem history card → Stated history
   stated_at history at asked card is =
@@ -100,14 +97,11 @@ module _ (problem : Setup) (setup : IsSetup problem) (plan : List Node) where
       ≡ Some card → At (Own (move.Card card) ∷ history)
   own_card_at history begun card stated is =
       let same : stated.card ≡ card = some_same stated.card card (sym (ap card_of_node stated.node) ∙ is) in
-      let F : ℕ → Type 0 = λ c. Finds stated.more problem (Own (move.Card c) ∷ history) (Some stated.next) in
-      let S : Next → Type 0 = λ place. Stands plan stated.next place in
       record {
         more = stated.more;
         tree = stated.next;
-        finds = subst F same stated.finds;
-        does = inr (subst S (sym (place_later plan problem (Own (move.Card card)) history begun
-            ∙ ap (λ (node : Option Node). after_play node (place_by plan problem.played history)) stated.node)) stated.stands);
+        finds = rw same at stated.finds;
+        does = inr (rw (place_later plan problem (Own (move.Card card)) history begun, stated.node) stated.stands);
       }
 
   own_go_at : (history : List Event) → BeginsAfter problem history → At history → asked_now problem history ≡ turns.Owner →
@@ -117,10 +111,8 @@ module _ (problem : Setup) (setup : IsSetup problem) (plan : List Node) where
     where
       goes : (more : ℕ) (cards : List ℕ) → options problem history ≡ cards → OwnerFinds (λ further after. Finds more problem further after) history cards
           (Some at.tree) → At (Own move.Go ∷ history)
-      goes more [] e finds =
-          let D : Next → Type 0 = λ place. Does plan at.tree place in
-          record { more = more; tree = at.tree; finds = finds; does = subst D (sym (place_later plan problem (Own move.Go) history begun)) at.does }
-      goes more (first ∷ cards) e finds = absurd (none first (option_is problem history first (ap (λ (xs : List ℕ). has xs first) e ∙ has_here first cards)))
+      goes more [] e finds = record { more = more; tree = at.tree; finds = finds; does = rw (place_later plan problem (Own move.Go) history begun) at.does }
+      goes more (first ∷ cards) e finds = absurd (none first (option_is problem history first (rw e (has_here first cards))))
 
   theirs_at : (history : List Event) → BeginsAfter problem history → (letter : Letter) → At history → CanShow problem history letter →
       At (Theirs letter ∷ history)
@@ -129,14 +121,12 @@ module _ (problem : Setup) (setup : IsSetup problem) (plan : List Node) where
       let find : Found = λ further after. Finds now.0 problem further after in
       let some = opponent_some find problem history at.tree now.1 in
       let branch = branch_found problem setup history find some.0 letter can some.1 in
-      let D : Tree → Type 0 = λ t. Does plan t (place_by plan problem.played history) in
-      let P : Next → Type 0 = λ place. Does plan branch.0 place in
       record {
         more = now.0;
         tree = branch.0;
         finds = branch.2;
-        does = subst P (sym (place_later plan problem (Theirs letter) history begun))
-            (joined_does plan some.0 letter branch.0 branch.1 (place_by plan problem.played history) (subst D some.2 at.does));
+        does = rw (place_later plan problem (Theirs letter) history begun)
+            (joined_does plan some.0 letter branch.0 branch.1 (place_by plan problem.played history) (rw some.2 at at.does));
       }
 
   module _ (tree : Tree) (found : FindsTree problem (Some tree)) (stands : Stands plan tree (plan_start plan)) where
@@ -144,8 +134,7 @@ module _ (problem : Setup) (setup : IsSetup problem) (plan : List Node) where
     at_all : (later : List Event) → IsLed problem (later ++ played_events problem) → FollowsBy plan problem.played (later ++ played_events problem) →
         At (later ++ played_events problem)
     at_all [] led follows =
-        let S : Next → Type 0 = λ place. Stands plan tree place in
-        record { more = 30; tree = tree; finds = finds_of_tree problem (Some tree) found; does = inr (subst S (sym (place_at_start plan problem)) stands) }
+        record { more = 30; tree = tree; finds = finds_of_tree problem (Some tree) found; does = inr (rw (place_at_start plan problem) stands) }
     at_all (event ∷ later) led follows =
         at_event event (later ++ played_events problem) (record { later = later; parts = refl }) (at_all later led.0 follows.0) led.1
         (follows.1 (begun_late problem (later ++ played_events problem) (record { later = later; parts = refl })))
@@ -171,24 +160,20 @@ module _ (problem : Setup) (setup : IsSetup problem) (plan : List Node) where
       at_record =
           let parts : history ≡ map event_of followed.begins.later ++ played_events problem =
           ap (map event_of) followed.begins.parts ∙ map-append event_of followed.begins.later (played_back problem) in
-          let L : List Event → Type 0 = λ h. IsLed problem h in
-          let F : List Event → Type 0 = λ h. FollowsBy plan problem.played h in
-          let A : List Event → Type 0 = λ h. At h in
-          subst A (sym parts)
-          (at_all (map event_of followed.begins.later) (subst L parts (led_by_record problem setup dealt followed.deal played followed.legal))
-          (subst F parts (follows_to plan problem.played (pone_of start) played followed.follows)))
+          rw parts
+          (at_all (map event_of followed.begins.later) (rw (← parts) (led_by_record problem setup dealt followed.deal played followed.legal))
+          (rw (← parts) (follows_to plan problem.played (pone_of start) played followed.follows)))
 
       -- ---- a record that is done
       reached : is_done start (letters_of played) ≡ true → outcome_of (full_of problem dealt played) ≡ Reached
       reached done =
           let whole = letters_whole problem setup dealt followed.deal played followed.legal (not_silent_done start (letters_of played) done) in
           let over : asked_now problem history ≡ turns.Over =
-          ap (asked_after start) (sym whole) ∙ cond-true (is_done start (letters_of played)) turns.Over
-          (side_asked (mover (pone_of start) (letters_of played))) done in
-          ap (λ (letters : Record). outcome_of (full_with problem dealt (scores_after start letters))) whole
-          ∙ (elim (for_asked at_record.more problem history (Some at_record.tree) turns.Over over at_record.finds).1 [
+          rw (← whole, done) in
+          rw whole
+          (elim (for_asked at_record.more problem history (Some at_record.tree) turns.Over over at_record.finds).1 [
             | inl all ↦ all.0 dealt (agrees_of_record problem setup dealt followed.deal played followed.legal)
-            | inr lacks ↦ let e = lacks.1 in absurd cc
+            | inr lacks ↦ absurd (cc (lacks.1))
           ])
 
       -- ---- a record where a card of the owner fits
@@ -197,18 +182,14 @@ module _ (problem : Setup) (setup : IsSetup problem) (plan : List Node) where
         stops : is_silent_next start (letters_of played) ≡ false
         stops =
             not_silent_heard start (letters_of played)
-            (ap (λ (side : Side). is_heard (pone_of start) side (letters_of played)) mine
-            ∙ heard_card start hands played (play_of start hands (dealt_is problem setup dealt followed.deal) played followed.legal) Owner card held fit)
+            (rw mine
+            (heard_card start hands played (play_of start hands (dealt_is problem setup dealt followed.deal) played followed.legal) Owner card held fit))
 
         may : MayCome start hands (move.Card card) played
-        may =
-            let T : Side → Type 0 = λ side. MayTake hands side (move.Card card) played in
-            record { not_done = not_done; may_take = subst T (sym mine) (held, fit) }
+        may = record { not_done = not_done; may_take = rw mine (held, fit) }
 
         can : know.MayCome problem history (Own (move.Card card))
-        can =
-            let C : Side → Type 0 = λ side. know.MayCome problem history (event_by side (move.Card card)) in
-            subst C mine (led_by_record problem setup dealt followed.deal (move.Card card ∷ played) (followed.legal, may)).1
+        can = rw mine at ((led_by_record problem setup dealt followed.deal (move.Card card ∷ played) (followed.legal, may)).1)
 
         stated : Stated history
         stated = stated_at history at_record can.0 card (option_left problem history card can.1 can.2)

@@ -2,6 +2,9 @@
 use Rattle.std.proofs.Common.{◌≡◌, ◌⊎◌, ℕ, zero, suc, Bool, true, false, cond, List, [], ◌∷◌, ◌++◌, length, Some, slice_get, refl, sym, ap, subst, ◌∙◌, inl}
 use Rattle.std.proofs.Common.{inr, get_or, arith}
 use Rattle.std.specs.List.{AllByRecursion, IsDistinct, position}
+use Rattle.std.proofs.Common.{◌&&◌, eqb}
+use Rattle.std.specs.Bool.{Decides}
+use Rattle.std.proofs.lemmas.Bool.Decides.{Decides-and, Decides-eqb, Decides-like, same_from_decides}
 use Rattle.std.proofs.lemmas.Bool.{both_ways}
 use Rattle.std.proofs.lemmas.List.Quantifiers.{position-Some}
 use Rattle.std.proofs.lemmas.Option.{slice_get-get_or}
@@ -10,9 +13,10 @@ use Rattle.crib_search.specs.declared.nodes.DraftPlace.TheVariants.{At}
 use Rattle.crib_search.specs.declared.nodes.DraftNode.{DraftNode}
 use Rattle.crib_search.specs.declared.nodes.DraftNode.TheVariants.{Play, See}
 use Rattle.crib_search.specs.contracts.nodes.DraftNodePartialEq.TheImpl as compared
-use Rattle.crib_search.specs.Trees.{Tree, Finish, Plays, Sees, Branches, NoBranch, Branch}
+use Rattle.crib_search.specs.Trees.{Tree, Finish, Plays, Sees, Branches, NoBranch, Branch, same_tree, same_branches}
 use Rattle.crib_search.specs.Private.Nodes.{IsBelow, AreKept, IsMore, Names, NameAll}
 use Rattle.crib_search.proofs.Equality.{same_draft_nodes}
+use Rattle.crib_search.proofs.Trees.{differ}
 
 -- the nodes with one more at the end, or the same nodes if it was among them
 abbrev pub IsAdded : List DraftNode → DraftNode → List DraftNode → Type 0
@@ -104,78 +108,37 @@ mutual
   all_more before after more (Branch tree branches) nexts names =
       (names.0, names.1, names.2, names_more before after more tree names.0 names.3, all_more before after more branches names.1 names.4)
 
-pub same_place : (one other : ℕ) → At one ≡ At other → one ≡ other
-same_place one other e = cc
+-- the places of two trees are the same exactly where the trees are
+module _ (draft_nodes : List DraftNode) (kept : AreKept draft_nodes) where
+  mutual
+    pub same_where : (one other : Tree) (place at : DraftPlace) → Names draft_nodes one place → Names draft_nodes other at →
+        Decides (same_tree one other) (place ≡ at)
+    same_where Finish Finish place at a b = (λ h. cc, λ e. refl)
+    same_where Finish other place at a b = differ (λ e. cc (b.2))
+    same_where one Finish place at a b = differ (λ e. cc (a.2))
+    same_where (Plays card next) (Plays other after) place at a b =
+        Decides-like (eqb card other && same_tree next after)
+        (λ s. cc (a.2, b.2, kept.once a.0 b.0 (Play other b.1) (cc (a.3, s.0, s.1)) b.3)) (λ e. (cc (a.2, a.3, b.2, b.3), cc (a.2, a.3, b.2, b.3)))
+        (Decides-and (eqb card other) (same_tree next after) (Decides-eqb card other) (same_where next after a.1 b.1 a.4 b.4))
+    same_where (Sees branches) (Sees others) place at a b =
+        Decides-like (same_branches branches others) (λ s. cc (a.2, b.2, kept.once a.0 b.0 (See b.1) (cc (a.3, s)) b.3)) (λ e. cc (a.2, a.3, b.2, b.3))
+        (all_same_where branches others a.1 b.1 a.4 b.4)
+    same_where one other place at a b = differ (λ e. cc (a.2, a.3, b.2, b.3))
 
-play_parts : (card other : ℕ) (next after : DraftPlace) → Some (Play card next) ≡ Some (Play other after) → (card ≡ other) × (next ≡ after)
-play_parts card other next after e = (cc, cc)
+    all_same_where : (ones others : Branches) (places ats : List DraftPlace) → NameAll draft_nodes ones places → NameAll draft_nodes others ats →
+        Decides (same_branches ones others) (places ≡ ats)
+    all_same_where NoBranch NoBranch places ats a b = (λ h. cc, λ e. refl)
+    all_same_where NoBranch (Branch tree others) places ats a b = differ (λ e. cc (b.2))
+    all_same_where (Branch tree branches) NoBranch places ats a b = differ (λ e. cc (a.2))
+    all_same_where (Branch one ones) (Branch other others) places ats a b =
+        Decides-like (same_tree one other && same_branches ones others) (λ s. cc (a.2, b.2, s.0, s.1)) (λ e. (cc (a.2, b.2), cc (a.2, b.2)))
+        (Decides-and (same_tree one other) (same_branches ones others) (same_where one other a.0 b.0 a.3 b.3)
+        (all_same_where ones others a.1 b.1 a.4 b.4))
 
-see_parts : (nexts others : List DraftPlace) → Some (See nexts) ≡ Some (See others) → nexts ≡ others
-see_parts nexts others e = cc
-
-apart : (card : ℕ) (next : DraftPlace) (nexts : List DraftPlace) → Some (Play card next) ≡ Some (See nexts) → ⊥
-apart card next nexts e = cc
-
-pub list_parts : (one other : DraftPlace) (ones others : List DraftPlace) → one ∷ ones ≡ other ∷ others → (one ≡ other) × (ones ≡ others)
-list_parts one other ones others e = (cc, cc)
-
--- a place names one tree
-mutual
-  pub names_tree : (draft_nodes : List DraftNode) (one other : Tree) (draft_place : DraftPlace) → Names draft_nodes one draft_place →
-      Names draft_nodes other draft_place → one ≡ other
-  names_tree draft_nodes Finish Finish draft_place a b = refl
-  names_tree draft_nodes Finish (Plays card next) draft_place a b = let e = b.2 in absurd cc
-  names_tree draft_nodes Finish (Sees branches) draft_place a b = let e = b.2 in absurd cc
-  names_tree draft_nodes (Plays card next) Finish draft_place a b = let e = a.2 in absurd cc
-  names_tree draft_nodes (Plays card next) (Plays other after) draft_place a b =
-      let place = same_place a.0 b.0 (sym a.2 ∙ b.2) in
-      let same = play_parts card other a.1 b.1 (sym a.3 ∙ ap (slice_get draft_nodes) place ∙ b.3) in
-      let N : DraftPlace → Type 0 = λ s. Names draft_nodes next s in
-      ap (λ (c : ℕ). Plays c next) same.0 ∙ ap (Plays other) (names_tree draft_nodes next after b.1 (subst N same.1 a.4) b.4)
-  names_tree draft_nodes (Plays card next) (Sees branches) draft_place a b =
-      let place = same_place a.0 b.0 (sym a.2 ∙ b.2) in
-      let e = sym a.3 ∙ ap (slice_get draft_nodes) place ∙ b.3 in absurd (apart card a.1 b.1 e)
-  names_tree draft_nodes (Sees branches) Finish draft_place a b = let e = a.2 in absurd cc
-  names_tree draft_nodes (Sees branches) (Plays card next) draft_place a b =
-      let place = same_place a.0 b.0 (sym a.2 ∙ b.2) in
-      let e = sym a.3 ∙ ap (slice_get draft_nodes) place ∙ b.3 in absurd (apart card b.1 a.1 (sym e))
-  names_tree draft_nodes (Sees branches) (Sees others) draft_place a b =
-      let place = same_place a.0 b.0 (sym a.2 ∙ b.2) in
-      let same = see_parts a.1 b.1 (sym a.3 ∙ ap (slice_get draft_nodes) place ∙ b.3) in
-      let N : List DraftPlace → Type 0 = λ s. NameAll draft_nodes branches s in
-      ap Sees (names_trees draft_nodes branches others b.1 (subst N same a.4) b.4)
-
-  pub names_trees : (draft_nodes : List DraftNode) (ones others : Branches) (nexts : List DraftPlace) → NameAll draft_nodes ones nexts →
-      NameAll draft_nodes others nexts → ones ≡ others
-  names_trees draft_nodes NoBranch NoBranch nexts a b = refl
-  names_trees draft_nodes NoBranch (Branch tree others) nexts a b = let e = b.2 in absurd cc
-  names_trees draft_nodes (Branch tree branches) NoBranch nexts a b = let e = a.2 in absurd cc
-  names_trees draft_nodes (Branch one ones) (Branch other others) nexts a b =
-      let same = list_parts a.0 b.0 a.1 b.1 (sym a.2 ∙ b.2) in
-      let N : DraftPlace → Type 0 = λ s. Names draft_nodes one s in
-      let M : List DraftPlace → Type 0 = λ s. NameAll draft_nodes ones s in
-      ap (λ (t : Tree). Branch t ones) (names_tree draft_nodes one other b.0 (subst N same.0 a.3) b.3)
-      ∙ ap (Branch other) (names_trees draft_nodes ones others b.1 (subst M same.1 a.4) b.4)
-
--- one place among kept nodes names a tree
-mutual
-  pub names_draft_place : (draft_nodes : List DraftNode) → AreKept draft_nodes → (tree : Tree) (one other : DraftPlace) → Names draft_nodes tree one →
-      Names draft_nodes tree other → one ≡ other
-  names_draft_place draft_nodes kept Finish one other a b = a ∙ sym b
-  names_draft_place draft_nodes kept (Plays card next) one other a b =
-      let after = names_draft_place draft_nodes kept next a.1 b.1 a.4 b.4 in
-      a.2 ∙ ap At (kept.once a.0 b.0 (Play card b.1) (a.3 ∙ ap (λ (s : DraftPlace). Some (Play card s)) after) b.3) ∙ sym b.2
-  names_draft_place draft_nodes kept (Sees branches) one other a b =
-      let after = names_draft_places draft_nodes kept branches a.1 b.1 a.4 b.4 in
-      a.2 ∙ ap At (kept.once a.0 b.0 (See b.1) (a.3 ∙ ap (λ (s : List DraftPlace). Some (See s)) after) b.3) ∙ sym b.2
-
-  pub names_draft_places : (draft_nodes : List DraftNode) → AreKept draft_nodes → (branches : Branches) (ones others : List DraftPlace) →
-      NameAll draft_nodes branches ones →
-      NameAll draft_nodes branches others → ones ≡ others
-  names_draft_places draft_nodes kept NoBranch ones others a b = a ∙ sym b
-  names_draft_places draft_nodes kept (Branch tree branches) ones others a b =
-      a.2 ∙ ap (λ (s : DraftPlace). s ∷ a.1) (names_draft_place draft_nodes kept tree a.0 b.0 a.3 b.3)
-      ∙ ap (λ (s : List DraftPlace). b.0 ∷ s) (names_draft_places draft_nodes kept branches a.1 b.1 a.4 b.4) ∙ sym b.2
+  pub same_for : (one other : Tree) (place at : ℕ) → Names draft_nodes one (At place) → Names draft_nodes other (At at) → same_tree one other ≡ eqb at place
+  same_for one other place at a b =
+      same_from_decides (same_tree one other) (eqb at place) (same_where one other (At place) (At at) a b)
+      (Decides-like (eqb at place) (λ e. cc) (λ e. cc) (Decides-eqb at place))
 
 -- the stored node is the one that was asked for
 pub stored_is : (draft_nodes : List DraftNode) (place : ℕ) (draft_node : DraftNode) → (there : DraftNode) × (slice_get draft_nodes place ≡ Some there) ×

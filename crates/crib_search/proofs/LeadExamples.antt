@@ -1,6 +1,6 @@
 -- The plans after each lead of a worked problem. The opening is 2C, own 6C, 4C, own JH, and a go of each side at 22, so the opponent has 2C, 4C and two
 -- ten-cards. The owner has KC and QH left, and plays one of them on the lead.
-use Rattle.std.proofs.Common.{arith, ◌≡◌, refl, ap, ◌∙◌, subst, inl, inr, ℕ, Bool, true, false, eqb, not, ◌&&◌, ◌||◌, Option, Some, None}
+use Rattle.std.proofs.Common.{arith, ◌≡◌, refl, subst, inl, inr, ℕ, Bool, true, false, eqb, not, ◌&&◌, ◌||◌, Option, Some, None}
 use Rattle.std.proofs.Common.{List, [], ◌∷◌, ◌++◌, length, filter}
 use Rattle.std.specs.Prelude.{if◌then◌else◌}
 use Rattle.std.specs.List.{list_all, list_any}
@@ -16,10 +16,11 @@ use Rattle.crib_play.specs.Legal.{cards_of, cards_left, fits}
 use Rattle.crib_show.specs.Outcome.{outcome_of}
 use Rattle.crib_show.specs.Show.{hand_points}
 use Rattle.crib_show.specs.declared.show.outcomes.Outcome.{Outcome}
-use Rattle.crib_show.specs.declared.show.outcomes.Outcome.TheVariants.{Reached, Lost, Short}
+use Rattle.crib_show.specs.declared.show.outcomes.Outcome.TheVariants.{Reached}
 use Rattle.crib_show.proofs.ReorderedLists.{Reordered, behind, front, both, same_order}
 use Rattle.crib_problem.specs.declared.problem.Goal.TheVariants.{Win}
 use Rattle.crib_problem.specs.declared.problem.Version.TheVariants.{Two}
+use Rattle.crib_problem.proofs.ExampleProblems.{plays, says_go}
 use Rattle.crib_problem.specs.Setup.{Setup, start_of, hands_of, played_back, unseen_of, fixed_cards}
 use Rattle.crib_plan.specs.declared.plan.Next.{Next}
 use Rattle.crib_plan.specs.declared.plan.Next.TheVariants.{End, To}
@@ -27,12 +28,6 @@ use Rattle.crib_plan.specs.declared.plan.Node.{Node}
 use Rattle.crib_plan.specs.declared.plan.Node.TheVariants.{Play}
 use Rattle.crib_game.specs.Replay.{is_done_for, full_of, same_act}
 use Rattle.crib_game.specs.Following.{opening_is_over, is_stuck, place_of}
-
-abbrev pub opp : Move → Act
-opp what = record { side = Opponent; what = what }
-
-abbrev pub own : Move → Act
-own what = record { side = Owner; what = what }
 
 -- the owner deals, and wants to win; the starter is KS. Two gos end the pile of 2C 6C 4C JH, and KC and QH are left to the owner. The opponent is at 113, and
 -- wins with eight points in the play and the hand
@@ -45,13 +40,13 @@ before_the_lead = record {
   hold = 20 ∷ 42 ∷ 48 ∷ 46 ∷ [];
   thrown = 44 ∷ 47 ∷ [];
   goal = Win;
-  played = opp (Card 4) ∷ own (Card 20) ∷ opp (Card 12) ∷ own (Card 42) ∷ opp Go ∷ own Go ∷ [];
+  played = plays Opponent 4 ∷ plays Owner 20 ∷ plays Opponent 12 ∷ plays Owner 42 ∷ says_go Opponent ∷ says_go Owner ∷ [];
 }
 
 -- the same problem after the lead of a card
 abbrev pub after_lead : ℕ → Setup
 after_lead lead = record before_the_lead {
-  played = opp (Card 4) ∷ own (Card 20) ∷ opp (Card 12) ∷ own (Card 42) ∷ opp Go ∷ own Go ∷ opp (Card lead) ∷ [];
+  played = plays Opponent 4 ∷ plays Owner 20 ∷ plays Opponent 12 ∷ plays Owner 42 ∷ says_go Opponent ∷ says_go Owner ∷ plays Opponent lead ∷ [];
 }
 
 -- the ten-cards that are unseen: the tens, JC JD JS, QD, and KD KH
@@ -73,7 +68,7 @@ pub all_before : (p : ℕ → Bool) (cards more : List ℕ) → list_all p (card
 all_before p [] more all = refl
 all_before p (first ∷ cards) more all =
     let parts = and_parts (p first) (list_all p (cards ++ more)) all in
-    ap (λ b. b && list_all p cards) parts.0 ∙ all_before p cards more parts.1
+    rw parts.0 (all_before p cards more parts.1)
 
 pub brought_front : (cards : List ℕ) (card : ℕ) → has cards card ≡ true → (others : List ℕ) × Reordered cards (card ∷ others)
 brought_front [] card h = absurd (both_ways false refl h)
@@ -88,9 +83,8 @@ brought_front (first ∷ cards) card h =
     ]
 
 pub one_card : (cards : List ℕ) → length cards ≡ 1 → (card : ℕ) × (cards ≡ card ∷ [])
-one_card [] e = absurd (omega (arith, e))
 one_card (card ∷ []) e = (card, refl)
-one_card (card ∷ other ∷ cards) e = absurd (omega (arith, e))
+one_card cards e = absurd (omega (arith, e))
 
 each_lead : (test : ℕ → Bool) → list_all test leads ≡ true → (lead : ℕ) → has leads lead ≡ true → test lead ≡ true
 each_lead test all lead is = all_has test leads lead all is
@@ -118,9 +112,8 @@ IsLeft None = ⊥
 IsLeft (Some acts) = Unit {0}
 
 abbrev pub is_over : Option (List Act) → Bool
-is_over None = false
 is_over (Some []) = true
-is_over (Some (act ∷ acts)) = false
+is_over acts = false
 
 left_before : (act : Act) (it : Option (List Act)) → IsLeft (left_with act it) → IsLeft it
 left_before act None is = is
@@ -135,7 +128,7 @@ pub the_card : (number card : ℕ) (more : List Act) → IsLeft (if eqb number c
 the_card number card more is =
     elim (cases_Bool (eqb number card)) [
       | inl same ↦ eqb-true number card same
-      | inr other ↦ absurd (subst (λ (test : Bool). IsLeft (if test then Some more else None)) other is)
+      | inr other ↦ absurd (rw other at is)
     ]
 
 -- ---- the records of the plan, the last turn first
@@ -179,11 +172,11 @@ pub data Course (lead last : ℕ) : List Move → Type 0 where
 abbrev nobody : Dealt
 nobody = record { hold = []; throw = [] }
 
-abbrev pub free : ℕ → List Move → Bool
+abbrev free : ℕ → List Move → Bool
 free lead past = not (is_stuck (plan_after lead) (after_lead lead).played (start_of (after_lead lead)) (hands_of (after_lead lead) nobody) past)
 
-abbrev goes_on : ℕ → List Move → Bool
-goes_on lead past = not (is_done_for (after_lead lead) past)
+abbrev pub goes_on : ℕ → List Move → Bool
+goes_on lead past = free lead past && not (is_done_for (after_lead lead) past)
 
 abbrev pub can_play : List Move → Bool
 can_play past = list_any (fits past) (cards_left (hands_of before_the_lead nobody) Owner past)
@@ -194,8 +187,7 @@ is_second (To node) = eqb node 1
 
 abbrev pub is_reached : Outcome → Bool
 is_reached Reached = true
-is_reached Lost = false
-is_reached Short = false
+is_reached outcome = false
 
 abbrev pub with_last : ℕ → ℕ → Dealt → Dealt
 with_last lead last dealt = record dealt { hold = last ∷ 4 ∷ 12 ∷ lead ∷ [] }
@@ -230,12 +222,6 @@ must_play = each_lead (λ lead. can_play (to_lead lead)) refl
 pub all_shown : (lead : ℕ) → has leads lead ≡ true → list_all (has (cards_of (to_first lead))) (4 ∷ 12 ∷ lead ∷ []) ≡ true
 all_shown = each_lead (λ lead. list_all (has (cards_of (to_first lead))) (4 ∷ 12 ∷ lead ∷ [])) refl
 
-pub free_at_lead : (lead : ℕ) → has leads lead ≡ true → free lead (to_lead lead) ≡ true
-free_at_lead = each_lead (λ lead. free lead (to_lead lead)) refl
-
-pub free_at_first : (lead : ℕ) → has leads lead ≡ true → free lead (to_first lead) ≡ true
-free_at_first = each_lead (λ lead. free lead (to_first lead)) refl
-
 pub on_at_lead : (lead : ℕ) → has leads lead ≡ true → goes_on lead (to_lead lead) ≡ true
 on_at_lead = each_lead (λ lead. goes_on lead (to_lead lead)) refl
 
@@ -265,15 +251,6 @@ late = each_last (λ lead last. opening_is_over (after_lead lead).played Opponen
 pub placed : (lead last : ℕ) → has leads lead ≡ true → has (tens lead) last ≡ true →
     is_second (place_of (plan_after lead) (after_lead lead).played Opponent (to_close lead last)) ≡ true
 placed = each_last (λ lead last. is_second (place_of (plan_after lead) (after_lead lead).played Opponent (to_close lead last))) refl
-
-pub free_at_last : (lead last : ℕ) → has leads lead ≡ true → has (tens lead) last ≡ true → free lead (to_last lead last) ≡ true
-free_at_last = each_last (λ lead last. free lead (to_last lead last)) refl
-
-pub free_at_30 : (lead last : ℕ) → has leads lead ≡ true → has (tens lead) last ≡ true → free lead (Go ∷ to_last lead last) ≡ true
-free_at_30 = each_last (λ lead last. free lead (Go ∷ to_last lead last)) refl
-
-pub free_at_close : (lead last : ℕ) → has leads lead ≡ true → has (tens lead) last ≡ true → free lead (to_close lead last) ≡ true
-free_at_close = each_last (λ lead last. free lead (to_close lead last)) refl
 
 pub free_at_end : (lead last : ℕ) → has leads lead ≡ true → has (tens lead) last ≡ true → free lead (to_end lead last) ≡ true
 free_at_end = each_last (λ lead last. free lead (to_end lead last)) refl

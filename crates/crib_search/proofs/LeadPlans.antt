@@ -1,5 +1,5 @@
 -- The plans of the worked leads are sure. After the opening the opponent has the lead and one ten-card more.
-use Rattle.std.proofs.Common.{arith, ◌≡◌, refl, sym, ap, ◌∙◌, subst, inl, inr, ℕ, Bool, true, false, eqb, not, ◌||◌, Option, Some, None}
+use Rattle.std.proofs.Common.{arith, ◌≡◌, refl, sym, ap, ◌∙◌, subst, inl, inr, ℕ, Bool, true, false, eqb, not, ◌||◌, Option, Some}
 use Rattle.std.proofs.Common.{List, [], ◌∷◌, ◌++◌}
 use Rattle.std.specs.Prelude.{IsTrue, IsFalse}
 use Rattle.std.specs.List.{list_any}
@@ -19,7 +19,7 @@ use Rattle.crib_play.specs.Filled.{is_visible}
 use Rattle.crib_play.proofs.CardLemmas.{none_passes}
 use Rattle.crib_show.specs.Outcome.{outcome_of}
 use Rattle.crib_show.specs.declared.show.outcomes.Outcome.{Outcome}
-use Rattle.crib_show.specs.declared.show.outcomes.Outcome.TheVariants.{Reached, Lost, Short}
+use Rattle.crib_show.specs.declared.show.outcomes.Outcome.TheVariants.{Reached}
 use Rattle.crib_show.proofs.ReorderedLists.{Reordered, behind, front, both, same_order, length-reordered, list_any-reordered, are_distinct-reordered}
 use Rattle.crib_show.proofs.OrderLaw.{reordered-append, outcome_of-reordered}
 use Rattle.crib_problem.specs.Setup.{Setup, IsDealOf, start_of, hands_of, played_back, unseen_of, fixed_cards}
@@ -29,14 +29,14 @@ use Rattle.crib_plan.specs.declared.plan.Node.{Node}
 use Rattle.crib_plan.proofs.LeadsTo.{or_rest}
 use Rattle.crib_know.proofs.CardsLeft.{has-filter_parts, has-filter_from}
 use Rattle.crib_game.specs.Replay.{is_done_for, full_of}
-use Rattle.crib_game.specs.Following.{IsAsStated, Follows, is_stuck, place_of}
+use Rattle.crib_game.specs.Following.{Follows, is_stuck, place_of}
 use Rattle.crib_check.specs.Sure.{IsSure, IsFollowed}
-use Rattle.crib_search.proofs.LeadExamples.{opp, own, before_the_lead, after_lead, leads, first_after, second_after, plan_after}
+use Rattle.crib_search.proofs.LeadExamples.{before_the_lead, after_lead, leads, first_after, second_after, plan_after}
 use Rattle.crib_search.proofs.LeadExamples.{all_before, brought_front, one_card, tens, left_with, left_after, IsLeft}
-use Rattle.crib_search.proofs.LeadExamples.{is_over, left_visible, the_card, six_turns, four_turns, to_lead, to_first, to_last, to_close}
-use Rattle.crib_search.proofs.LeadExamples.{Course, free, can_play, is_second, is_reached, with_last, begins, are_fixed, not_4, not_12, only_tens}
-use Rattle.crib_search.proofs.LeadExamples.{still_left, must_play, all_shown, free_at_lead, free_at_first, on_at_lead, on_at_first, is_left}
-use Rattle.crib_search.proofs.LeadExamples.{last_fits, own_stops, own_plays, four_shown, late, placed, free_at_last, free_at_30, free_at_close}
+use Rattle.crib_search.proofs.LeadExamples.{is_over, left_visible, the_card, four_turns, to_first, to_last}
+use Rattle.crib_search.proofs.LeadExamples.{Course, goes_on, can_play, is_second, is_reached, with_last, begins, are_fixed, not_4, not_12, only_tens}
+use Rattle.crib_search.proofs.LeadExamples.{still_left, must_play, all_shown, on_at_lead, on_at_first, is_left}
+use Rattle.crib_search.proofs.LeadExamples.{last_fits, own_stops, own_plays, four_shown, late, placed}
 use Rattle.crib_search.proofs.LeadExamples.{free_at_end, on_at_last, on_at_30, on_at_close, done_at_end, wins, nothing, two, six, four, jack}
 use Rattle.crib_search.proofs.LeadExamples.{their_go, own_go, the_lead, the_first, the_last, at_30, the_close, the_end}
 
@@ -48,10 +48,8 @@ record Held (lead : ℕ) (dealt : Dealt) : Type 0 where
   unseen : has (unseen_of before_the_lead) last ≡ true
 
 fewer : (a b c d : Bool) → not (a || (b || (c || d))) ≡ true → (a || (b || (c || false))) ≡ false
-fewer true b c d e = absurd (both_ways false refl e)
-fewer false true c d e = absurd (both_ways false refl e)
-fewer false false true d e = absurd (both_ways false refl e)
 fewer false false false d e = refl
+fewer a b c d e = absurd (both_ways false refl e)
 
 held : (lead : ℕ) → has leads lead ≡ true → (dealt : Dealt) → IsDealOf (after_lead lead) dealt → Held lead dealt
 held lead is dealt deal =
@@ -102,8 +100,7 @@ second_place (To node) h = ap To (eqb-true node 1 h)
 
 reached_is : (outcome : Outcome) → is_reached outcome ≡ true → outcome ≡ Reached
 reached_is Reached h = refl
-reached_is Lost h = absurd (both_ways false refl h)
-reached_is Short h = absurd (both_ways false refl h)
+reached_is outcome h = absurd (both_ways false refl h)
 
 not_both : (b : Bool) → not b ≡ true → b ≡ true → ⊥
 not_both true e h = both_ways false refl e
@@ -172,31 +169,16 @@ module _ (lead : ℕ) (is : has leads lead ≡ true) (dealt : Dealt) (deal : IsD
 
   further : (turn : Move) (past : List Move) → Courses past → MayCome (start_of problem) (hands_of problem dealt) turn past →
       Follows plan problem.played Opponent (turn ∷ past) → IsLeft (left_after lead (acts_of Opponent (turn ∷ past))) → Courses (turn ∷ past)
-  further (Card card) past nothing come follows on =
-      subst (λ (card : ℕ). Courses (Card card ∷ []))
-      (the_card 4 card (own (Card 20) ∷ opp (Card 12) ∷ own (Card 42) ∷ opp Go ∷ own Go ∷ opp (Card lead) ∷ []) on) two
-  further Go past nothing come follows on = absurd on
-  further (Card card) past two come follows on =
-      subst (λ (card : ℕ). Courses (Card card ∷ Card 4 ∷ [])) (the_card 20 card (opp (Card 12) ∷ own (Card 42) ∷ opp Go ∷ own Go ∷ opp (Card lead) ∷ []) on) six
-  further Go past two come follows on = absurd on
-  further (Card card) past six come follows on =
-      subst (λ (card : ℕ). Courses (Card card ∷ Card 20 ∷ Card 4 ∷ [])) (the_card 12 card (own (Card 42) ∷ opp Go ∷ own Go ∷ opp (Card lead) ∷ []) on) four
-  further Go past six come follows on = absurd on
-  further (Card card) past four come follows on =
-      subst (λ (card : ℕ). Courses (Card card ∷ Card 12 ∷ Card 20 ∷ Card 4 ∷ [])) (the_card 42 card (opp Go ∷ own Go ∷ opp (Card lead) ∷ []) on) jack
-  further Go past four come follows on = absurd on
-  further (Card card) past jack come follows on = absurd on
+  further (Card card) past nothing come follows on = rw (← the_card 4 card _ on) two
+  further (Card card) past two come follows on = rw (← the_card 20 card _ on) six
+  further (Card card) past six come follows on = rw (← the_card 12 card _ on) four
+  further (Card card) past four come follows on = rw (← the_card 42 card _ on) jack
   further Go past jack come follows on = their_go (has_ten come.may_take)
-  further (Card card) past (their_go ten) come follows on = absurd on
   further Go past (their_go ten) come follows on = own_go ten
-  further (Card card) past (own_go ten) come follows on =
-      subst (λ (card : ℕ). Courses (Card card ∷ six_turns)) (the_card lead card [] on) (the_lead ten)
-  further Go past (own_go ten) come follows on = absurd on
-  further (Card card) past (the_lead ten) come follows on =
-      subst (λ (card : ℕ). Courses (Card card ∷ to_lead lead)) (same_Some (first_after lead) card (follows.1 refl)) (the_first ten)
+  further (Card card) past (own_go ten) come follows on = rw (← the_card lead card _ on) (the_lead ten)
+  further (Card card) past (the_lead ten) come follows on = rw (← same_Some (first_after lead) card (follows.1 refl)) (the_first ten)
   further Go past (the_lead ten) come follows on = absurd (both_ways (can_play past) come.may_take (must_play lead is))
-  further (Card card) past (the_first ten) come follows on =
-      subst (λ (card : ℕ). Courses (Card card ∷ to_first lead)) (the_card_left card come.may_take.0) (the_last ten)
+  further (Card card) past (the_first ten) come follows on = rw (← the_card_left card come.may_take.0) (the_last ten)
   further Go past (the_first ten) come follows on = absurd (may_not_go ten come.may_take)
   further (Card card) past (the_last ten) come follows on =
       absurd (both_ways (can_play past) (not-true (can_play past) (own_stops lead last is ten))
@@ -206,10 +188,10 @@ module _ (lead : ℕ) (is : has leads lead ≡ true) (dealt : Dealt) (deal : IsD
   further Go past (at_30 ten) come follows on = the_close ten
   further (Card card) past (the_close ten) come follows on =
       let place = second_place (place_of plan problem.played Opponent past) (placed lead last is ten) in
-      let states = subst (λ (at : Next). IsAsStated plan at Owner (Card card)) place (follows.1 (late lead last is ten)) in
-      subst (λ (card : ℕ). Courses (Card card ∷ to_close lead last)) (same_Some (second_after lead) card states) (the_end ten)
+      rw (← same_Some (second_after lead) card (rw place at (follows.1 (late lead last is ten)))) (the_end ten)
   further Go past (the_close ten) come follows on = absurd (both_ways (can_play past) come.may_take (own_plays lead last is ten))
   further turn past (the_end ten) come follows on = absurd (both_ways (is_done_for problem past) come.not_done (done_at_end lead last is ten))
+  further turn past course come follows on = absurd on
 
   course : (played : List Move) → IsLegal (start_of problem) (hands_of problem dealt) played → Follows plan problem.played Opponent played →
       IsLeft (left_after lead (acts_of Opponent played)) → Courses played
@@ -218,48 +200,41 @@ module _ (lead : ℕ) (is : has leads lead ≡ true) (dealt : Dealt) (deal : IsD
       let earlier = left_visible (is_visible Opponent (letter_of turn) (letters_of past)) lead (act_by Opponent turn past) (acts_of Opponent past) on in
       further turn past (course past legal.0 follows.0 earlier) legal.1 follows on
 
-  is_free : (played : List Move) → free lead played ≡ true → IsFalse (is_stuck plan problem.played (start_of problem) (hands_of problem dealt) played)
-  is_free played h = not-true (is_stuck plan problem.played (start_of problem) (hands_of problem dealt) played) h
+  is_free : (played : List Move) → goes_on lead played ≡ true → IsFalse (is_stuck plan problem.played (start_of problem) (hands_of problem dealt) played)
+  is_free played h =
+      let stuck = is_stuck plan problem.played (start_of problem) (hands_of problem dealt) played in
+      not-true stuck (and_parts (not stuck) (not (is_done_for problem played)) h).0
+
+  not_done : (played : List Move) → goes_on lead played ≡ true → IsFalse (is_done_for problem played)
+  not_done played h =
+      let stuck = is_stuck plan problem.played (start_of problem) (hands_of problem dealt) played in
+      not-true (is_done_for problem played) (and_parts (not stuck) (not (is_done_for problem played)) h).1
 
   not_stuck : (played : List Move) → left_after lead (acts_of Opponent played) ≡ Some [] → Courses played →
       IsFalse (is_stuck plan problem.played (start_of problem) (hands_of problem dealt) played)
-  not_stuck played over nothing = absurd (both_ways false refl (ap is_over over))
-  not_stuck played over two = absurd (both_ways false refl (ap is_over over))
-  not_stuck played over six = absurd (both_ways false refl (ap is_over over))
-  not_stuck played over four = absurd (both_ways false refl (ap is_over over))
-  not_stuck played over jack = absurd (both_ways false refl (ap is_over over))
-  not_stuck played over (their_go ten) = absurd (both_ways false refl (ap is_over over))
-  not_stuck played over (own_go ten) = absurd (both_ways false refl (ap is_over over))
-  not_stuck played over (the_lead ten) = is_free played (free_at_lead lead is)
-  not_stuck played over (the_first ten) = is_free played (free_at_first lead is)
-  not_stuck played over (the_last ten) = is_free played (free_at_last lead last is ten)
-  not_stuck played over (at_30 ten) = is_free played (free_at_30 lead last is ten)
-  not_stuck played over (the_close ten) = is_free played (free_at_close lead last is ten)
-  not_stuck played over (the_end ten) = is_free played (free_at_end lead last is ten)
+  not_stuck played over (the_lead ten) = is_free played (on_at_lead lead is)
+  not_stuck played over (the_first ten) = is_free played (on_at_first lead is)
+  not_stuck played over (the_last ten) = is_free played (on_at_last lead last is ten)
+  not_stuck played over (at_30 ten) = is_free played (on_at_30 lead last is ten)
+  not_stuck played over (the_close ten) = is_free played (on_at_close lead last is ten)
+  not_stuck played over (the_end ten) =
+      not-true (is_stuck plan problem.played (start_of problem) (hands_of problem dealt) played) (free_at_end lead last is ten)
+  not_stuck played over course = absurd (both_ways false refl (ap is_over over))
 
   done_well : (played : List Move) → Courses played → IsTrue (is_done_for problem played) → outcome_of (full_of problem dealt played) ≡ Reached
-  done_well played nothing done = absurd (both_ways false refl done)
-  done_well played two done = absurd (both_ways false refl done)
-  done_well played six done = absurd (both_ways false refl done)
-  done_well played four done = absurd (both_ways false refl done)
-  done_well played jack done = absurd (both_ways false refl done)
-  done_well played (their_go ten) done = absurd (both_ways false refl done)
-  done_well played (own_go ten) done = absurd (both_ways false refl done)
-  done_well played (the_lead ten) done = absurd (both_ways (is_done_for problem played) (not-true (is_done_for problem played) (on_at_lead lead is)) done)
-  done_well played (the_first ten) done = absurd (both_ways (is_done_for problem played) (not-true (is_done_for problem played) (on_at_first lead is)) done)
-  done_well played (the_last ten) done =
-      absurd (both_ways (is_done_for problem played) (not-true (is_done_for problem played) (on_at_last lead last is ten)) done)
-  done_well played (at_30 ten) done = absurd (both_ways (is_done_for problem played) (not-true (is_done_for problem played) (on_at_30 lead last is ten)) done)
-  done_well played (the_close ten) done =
-      absurd (both_ways (is_done_for problem played) (not-true (is_done_for problem played) (on_at_close lead last is ten)) done)
+  done_well played (the_lead ten) done = absurd (both_ways (is_done_for problem played) (not_done played (on_at_lead lead is)) done)
+  done_well played (the_first ten) done = absurd (both_ways (is_done_for problem played) (not_done played (on_at_first lead is)) done)
+  done_well played (the_last ten) done = absurd (both_ways (is_done_for problem played) (not_done played (on_at_last lead last is ten)) done)
+  done_well played (at_30 ten) done = absurd (both_ways (is_done_for problem played) (not_done played (on_at_30 lead last is ten)) done)
+  done_well played (the_close ten) done = absurd (both_ways (is_done_for problem played) (not_done played (on_at_close lead last is ten)) done)
   done_well played (the_end ten) done =
       outcome_of-reordered (full_of problem dealt played) dealt (with_last lead last dealt) (record { hold = hidden.order; throw = same_order dealt.throw })
       ∙ reached_is (outcome_of (full_of problem (with_last lead last dealt) played)) (wins dealt lead last is ten)
+  done_well played course done = absurd (both_ways false refl done)
 
 over_is : (it : Option (List Act)) → is_over it ≡ true → it ≡ Some []
-over_is None h = absurd (both_ways false refl h)
 over_is (Some []) h = refl
-over_is (Some (act ∷ acts)) h = absurd (both_ways false refl h)
+over_is it h = absurd (both_ways false refl h)
 
 begun : (lead : ℕ) → has leads lead ≡ true → (later : List Act) → left_after lead (later ++ played_back (after_lead lead)) ≡ Some []
 begun lead is [] = over_is (left_after lead (played_back (after_lead lead))) (begins lead is)
@@ -278,4 +253,4 @@ plan_is_sure lead is = record {
     course_of : (dealt : Dealt) (played : List Move) (follows : IsFollowed (after_lead lead) (plan_after lead) dealt played) →
         Course lead (hidden lead is dealt follows.deal).last played
     course_of dealt played follows =
-        course lead is dealt follows.deal played follows.legal follows.follows (subst IsLeft (sym (over dealt played follows)) tt)
+        course lead is dealt follows.deal played follows.legal follows.follows (rw (over dealt played follows) tt)

@@ -1,13 +1,13 @@
 -- If no tree is found, no plan is sure.
-use Rattle.std.proofs.Common.{◌≡◌, ℕ, zero, suc, ◌+◌, true, false, List, [], ◌∷◌, Option, Some, None, refl, sym, ap, subst, ◌∙◌, inl, inr}
+use Rattle.std.proofs.Common.{◌≡◌, ℕ, zero, suc, ◌+◌, true, false, List, [], ◌∷◌, Option, Some, None, refl, sym, ap, ◌∙◌, inl, inr}
 use Rattle.std.specs.List.{list_any}
-use Rattle.std.proofs.lemmas.Bool.{cases_Bool, cond-false, and_parts, both_ways, leb-true}
+use Rattle.std.proofs.lemmas.Bool.{cases_Bool, and_parts, both_ways, leb-true}
 use Rattle.crib_cards.specs.Cards.{card_value}
 use Rattle.crib_cards.specs.Sets.{has}
 use Rattle.crib_cards.specs.Sides.{same_side}
 use Rattle.crib_cards.specs.Start.{Start, pone_of, Hands}
 use Rattle.crib_cards.specs.declared.sides.Side.{Side}
-use Rattle.crib_cards.specs.declared.sides.Side.TheVariants.{Owner, Opponent}
+use Rattle.crib_cards.specs.declared.sides.Side.TheVariants.{Owner}
 use Rattle.crib_cards.specs.declared.sides.Dealt.{Dealt}
 use Rattle.crib_cards.specs.declared.letters.Letter.{Letter}
 use Rattle.crib_cards.specs.declared.letters.Letter.TheVariants.{Seen}
@@ -18,8 +18,8 @@ use Rattle.crib_play.specs.declared.turns.Turn.TheVariants as turns
 use Rattle.crib_play.specs.Record.{Record, mover}
 use Rattle.crib_play.specs.Score.{scores_after, is_done, side_asked, asked_after}
 use Rattle.crib_play.specs.Filled.{filled_record}
-use Rattle.crib_play.specs.Legal.{letters_of, cards_left, fits, MayTake, MayCome, IsLegal}
-use Rattle.crib_play.specs.History.{filled_moves, Event, Own, Theirs, event_by, acts_of, history_of, history_letters}
+use Rattle.crib_play.specs.Legal.{letters_of, cards_left, fits, MayCome, IsLegal}
+use Rattle.crib_play.specs.History.{filled_moves, Event, Own, Theirs, acts_of, history_of, history_letters}
 use Rattle.crib_play.proofs.LegalRecords.{legal_filled, visible_filled}
 use Rattle.crib_play.proofs.RecordsReached.{asked_mover}
 use Rattle.crib_show.specs.Outcome.{outcome_of}
@@ -30,19 +30,17 @@ use Rattle.crib_plan.specs.declared.plan.Node.{Node}
 use Rattle.crib_plan.specs.Places.{stated_card}
 use Rattle.crib_game.specs.Replay.{full_with}
 use Rattle.crib_game.specs.Following.{place_of, is_playable}
-use Rattle.crib_know.specs.Knowledge.{played_events, their_ranks, count_after, least_value, asked_now}
+use Rattle.crib_know.specs.Knowledge.{played_events, count_after, asked_now}
 use Rattle.crib_know.proofs.LedHistories as know
 use Rattle.crib_know.specs.Hidden.{AgreesWith, BeginsAfter}
 use Rattle.crib_know.proofs.LedHistories.{IsLed}
 use Rattle.crib_know.proofs.Events.{Plays, plays_of, events, history_events}
-use Rattle.crib_know.proofs.AgreeingIsPassing.{PassesRanks}
 use Rattle.crib_know.proofs.PassingIsAgreeing.{agrees_passes, passing_plays}
 use Rattle.crib_know.proofs.Deals.{dealt_is}
 use Rattle.crib_know.proofs.KnowledgeFacts.{begin_more, first_deal_is}
 use Rattle.crib_know.proofs.OpeningLawProofs.{played_led}
 use Rattle.crib_check.specs.Sure.{IsFollowed, IsSure}
 use Rattle.crib_check.specs.Shows.{full_behind}
-use Rattle.crib_search.specs.Trees.{Tree}
 use Rattle.crib_search.specs.Finder.{Found, options, OwnerFinds, Tries, Finds}
 use Rattle.crib_check.specs.Private.Histories.{place_by, FollowsBy}
 use Rattle.crib_check.proofs.PlaceByHistory.{follows_at_start, place_history, follows_from}
@@ -58,15 +56,11 @@ use Rattle.crib_search.proofs.CardsToTry.{none_left_fits}
 -- a deal whose play is over is done
 pub over_done : (start : Start) (past : Record) → asked_after start past ≡ turns.Over → is_done start past ≡ true
 over_done start past e =
-    elim (cases_Bool (is_done start past)) [
-      | inl d ↦ d
-      | inr d ↦ absurd (asked_some (mover (pone_of start) past) (sym (cond-false (is_done start past) turns.Over (side_asked (mover (pone_of start) past)) d)
-          ∙ e))
-    ]
+    elim (cases_Bool (is_done start past)) [ inl d ↦ d | inr d ↦ absurd (asked_some (mover (pone_of start) past) (rw d at e)) ]
   where
     asked_some : (side : Side) → side_asked side ≡ turns.Over → ⊥
     asked_some Owner h = cc
-    asked_some Opponent h = cc
+    asked_some side h = cc
 
 playable_some : (hands : Hands) (past : List Move) (stated : Option ℕ) → is_playable hands past stated ≡ true → (card : ℕ) × (stated ≡ Some card) ×
     (has (cards_left hands Owner past) card ≡ true) × (fits past card ≡ true)
@@ -97,8 +91,7 @@ module _ (problem : Setup) (setup : IsSetup problem) (plan : List Node) (sure : 
 
     followed : IsFollowed problem plan dealt past
     followed =
-        let F : List Event → Type 0 = λ h. FollowsBy plan problem.played h in
-        record { deal = deal; legal = legal; begins = begins; follows = follows_from plan problem.played (pone_of start) past (subst F (sym shows) follows) }
+        record { deal = deal; legal = legal; begins = begins; follows = follows_from plan problem.played (pone_of start) past (rw shows follows) }
 
     letters_are : letters_of past ≡ filled_record start (history_letters history)
     letters_are = letters_past problem setup dealt deal history plays
@@ -137,12 +130,9 @@ module _ (problem : Setup) (setup : IsSetup problem) (plan : List Node) (sure : 
           know.MayCome problem history (Own (move.Card stated))
       stated_here =
           let one = playable_some hands past (stated_card plan (place_of plan problem.played (pone_of start) past)) plays_one in
-          let T : Side → Type 0 = λ side. MayTake hands side (move.Card one.0) past in
-          let may : MayCome start hands (move.Card one.0) past = record { not_done = not_done; may_take = subst T (sym mine) (one.2, one.3) } in
-          let C : Side → Type 0 = λ side. know.MayCome problem (history_of (pone_of start) past) (event_by side (move.Card one.0)) in
-          let H : List Event → Type 0 = λ h. know.MayCome problem h (Own (move.Card one.0)) in
+          let may : MayCome start hands (move.Card one.0) past = record { not_done = not_done; may_take = rw mine (one.2, one.3) } in
           let led = led_by_record problem setup dealt deal (move.Card one.0 ∷ past) (legal, may) in
-          (one.0, ap (stated_card plan) (sym place_is) ∙ one.1, subst H shows (subst C mine led.1))
+          (one.0, ap (stated_card plan) (sym place_is) ∙ one.1, rw (mine, shows) at led.1)
 
   -- ---- some deal has a history that can come
   stated_at : (history : List Event) → IsLed problem history → BeginsAfter problem history → FollowsBy plan problem.played history →
@@ -179,10 +169,7 @@ module _ (problem : Setup) (setup : IsSetup problem) (plan : List Node) (sure : 
 
     reached : asked_now problem one ≡ turns.Over → (dealt : Dealt) → AgreesWith problem one dealt → outcome_of (full_behind problem one dealt) ≡ Reached
     reached over dealt agrees =
-        let P : ℕ → Type 0 = λ n. PassesRanks n (their_ranks one) dealt.hold in
-        let R : List ℕ → Type 0 = λ ranks. PassesRanks (least_value problem other) ranks dealt.hold in
-        let passes = subst R (theirs_alike one other alike)
-        (subst P (least_alike problem one other alike) (agrees_passes problem setup dealt agrees.0 one agrees)) in
+        let passes = rw (theirs_alike one other alike, least_alike problem one other alike) at (agrees_passes problem setup dealt agrees.0 one agrees) in
         let some = begun_plays problem setup dealt agrees.0 other begun_other (passing_plays problem setup dealt agrees.0 other led_other passes) in
         ap (λ (letters : List Letter). outcome_of (full_with problem dealt (scores_after start (filled_record start letters)))) (letters_alike one other alike)
         ∙ reached_here dealt agrees.0 other some.plays some.begins follows (asked_other turns.Over over)
@@ -211,8 +198,7 @@ module _ (problem : Setup) (setup : IsSetup problem) (plan : List Node) (sure : 
         let fit = option_is problem one first.first first.among in
         tries_there find one (options problem one) None first.first tried first.among
         (λ after found e.
-        let F : Option Tree → Type 0 = λ result. Finds more problem (Own (move.Card first.first) ∷ one) result in
-        later (Own (move.Card first.first) ∷ one) (Own (move.Card stated.0) ∷ other) (subst F e found)
+        later (Own (move.Card first.first) ∷ one) (Own (move.Card stated.0) ∷ other) (rw e at found)
         (led_one, (asked, left_option problem one first.first setup fit, leb-true (count_after problem one + card_value first.first) 31 fit.fits))
         (led_other, stated.2)
         (begin_more problem (Own (move.Card first.first)) one begun_one)
@@ -224,8 +210,7 @@ module _ (problem : Setup) (setup : IsSetup problem) (plan : List Node) (sure : 
     owner : asked_now problem one ≡ turns.Owner → (cards : List ℕ) → options problem one ≡ cards → OwnerFinds find one cards None → ⊥
     owner asked [] e found = goes asked e found
     owner asked (first ∷ cards) e found =
-        let T : List ℕ → Type 0 = λ xs. Tries find one xs None in
-        tries asked first (option_is problem one first (ap (λ (xs : List ℕ). has xs first) e ∙ has_here first cards)) (subst T (sym e) found)
+        tries asked first (option_is problem one first (rw e (has_here first cards))) (rw e found)
 
     by_turn : (turn : Turn) → asked_now problem one ≡ turn → ⊥
     by_turn turns.Over e =

@@ -1,6 +1,5 @@
 -- The tree that is found is unique, and so is the answer that there is none.
-use Rattle.std.proofs.Common.{◌≡◌, ℕ, zero, suc, List, [], ◌∷◌, Option, Some, None, refl, sym, ap, subst, ◌∙◌, inl, inr}
-use Rattle.std.specs.Prelude.{MatchOption, option_map}
+use Rattle.std.proofs.Common.{◌≡◌, ℕ, zero, suc, List, [], ◌∷◌, Option, Some, None, refl, sym, ◌∙◌, inl, inr}
 use Rattle.std.specs.List.{AllZip}
 use Rattle.crib_cards.specs.declared.letters.Letter.{Letter}
 use Rattle.crib_cards.specs.declared.moves.Move.TheVariants as move
@@ -9,7 +8,7 @@ use Rattle.crib_play.specs.declared.turns.Turn.TheVariants as turns
 use Rattle.crib_play.specs.History.{Event, Own, Theirs}
 use Rattle.crib_problem.specs.Setup.{Setup, IsSetup}
 use Rattle.crib_know.specs.Knowledge.{played_events, asked_now}
-use Rattle.crib_search.specs.Trees.{Tree, Plays, joined_tree, plan_of_tree}
+use Rattle.crib_search.specs.Trees.{Tree}
 use Rattle.crib_search.specs.Finder.{Found, Tries, OwnerFinds, LacksBranch, BranchFinds, FindsFor, Finds, letters, options}
 use Rattle.crib_search.specs.Laws.{OneLaw}
 use Rattle.crib_search.proofs.FoundBySide.{finds_of_tree, branch_found}
@@ -22,15 +21,11 @@ IsOne finds = (history : List Event) (one other : Option Tree) → finds history
 module _ (finds : Found) (single : IsOne finds) where
   tries_one : (history : List Event) (cards : List ℕ) (one other : Option Tree) → Tries finds history cards one → Tries finds history cards other → one ≡ other
   tries_one history [] one other a b = a ∙ sym b
-  tries_one history (card ∷ cards) one other a b =
-      let M : Option Tree → Type 0 = λ after. MatchOption after (Tries finds history cards other) (λ tree. other ≡ Some (Plays card tree)) in
-      both (tries_one history cards one other) a.0 a.2 (subst M (single (Own (move.Card card) ∷ history) b.0 a.0 b.1 a.1) b.2)
-    where
-      both : (Tries finds history cards one → Tries finds history cards other → one ≡ other) → (after : Option Tree) →
-          MatchOption after (Tries finds history cards one) (λ tree. one ≡ Some (Plays card tree)) →
-          MatchOption after (Tries finds history cards other) (λ tree. other ≡ Some (Plays card tree)) → one ≡ other
-      both later None a b = later a b
-      both later (Some tree) a b = a ∙ sym b
+  tries_one history (card ∷ cards) one other (None, a, rest) (None, b, more) = tries_one history cards one other rest more
+  tries_one history (card ∷ cards) one other (Some tree, a, rest) (Some next, b, more) =
+      let same = single (Own (move.Card card) ∷ history) (Some tree) (Some next) a b in cc
+  tries_one history (card ∷ cards) one other (after, a, rest) (later, b, more) =
+      let same = single (Own (move.Card card) ∷ history) after later a b in absurd cc
 
   owner_one : (history : List Event) (cards : List ℕ) (one other : Option Tree) → OwnerFinds finds history cards one → OwnerFinds finds history cards other →
       one ≡ other
@@ -49,12 +44,10 @@ module _ (finds : Found) (single : IsOne finds) where
         AllZip (BranchFinds finds problem history) shown others → ones ≡ others
     branches_one [] [] [] a b = refl
     branches_one [] [] (other ∷ others) a b = absurd b
-    branches_one [] (one ∷ ones) others a b = absurd a
-    branches_one (letter ∷ shown) [] others a b = absurd a
     branches_one (letter ∷ shown) (one ∷ ones) [] a b = absurd b
     branches_one (letter ∷ shown) (one ∷ ones) (other ∷ others) a b =
-        ap (λ (tree : Tree). tree ∷ ones) (branch_one letter one other a.0 b.0) ∙ ap (λ (trees : List Tree). other ∷ trees)
-        (branches_one shown ones others a.1 b.1)
+        cc (branch_one letter one other a.0 b.0, branches_one shown ones others a.1 b.1)
+    branches_one shown ones others a b = absurd a
 
     -- if a branch is lacking, not all are found
     not_both : LacksBranch finds problem history → (trees : List Tree) → AllZip (BranchFinds finds problem history) letters trees → ⊥
@@ -73,7 +66,7 @@ module _ (finds : Found) (single : IsOne finds) where
     turn_one turns.Opponent one other (inl a) (inr b) = absurd (not_both a.0 b.0 b.1)
     turn_one turns.Opponent one other (inr a) (inl b) = absurd (not_both b.0 a.0 a.1)
     turn_one turns.Opponent one other (inr a) (inr b) =
-        a.2 ∙ ap (λ (trees : List Tree). Some (joined_tree trees)) (branches_one letters a.0 b.0 a.1 b.1) ∙ sym b.2
+        cc (a.2, b.2, branches_one letters a.0 b.0 a.1 b.1)
 
 pub finds_one : (problem : Setup) → IsSetup problem → (more : ℕ) (history : List Event) (one other : Option Tree) → Finds more problem history one →
     Finds more problem history other → one ≡ other
@@ -83,5 +76,4 @@ finds_one problem setup (suc more) history one other a b =
 
 pub one_law : OneLaw
 one_law problem plan other setup a b =
-    a.2 ∙ ap (option_map plan_of_tree) (finds_one problem setup 30 (played_events problem) a.0 b.0 (finds_of_tree problem a.0 a.1)
-    (finds_of_tree problem b.0 b.1)) ∙ sym b.2
+    cc (a.2, b.2, finds_one problem setup 30 (played_events problem) a.0 b.0 (finds_of_tree problem a.0 a.1) (finds_of_tree problem b.0 b.1))

@@ -3,7 +3,7 @@ use Rattle.std.proofs.Common.{◌≡◌, ◌⊎◌, ℕ, zero, suc, Bool, true, 
 use Rattle.std.proofs.Common.{inl, inr}
 use Rattle.std.specs.Prelude.{unwrap_or}
 use Rattle.std.specs.List.{filter, list_all}
-use Rattle.std.proofs.lemmas.Bool.{cases_Bool, and_parts, both_ways}
+use Rattle.std.proofs.lemmas.Bool.{cases_Bool, and_parts, and_from, both_ways}
 use Rattle.crib_cards.specs.Letters.{letter_place}
 use Rattle.crib_cards.specs.declared.letters.Letter.{Letter}
 use Rattle.crib_plan.specs.declared.plan.Next.{Next}
@@ -13,7 +13,7 @@ use Rattle.crib_plan.specs.declared.plan.Node.TheVariants.{Play, See}
 use Rattle.crib_plan.specs.Places.{node_at, after_letter, place_after_letter}
 use Rattle.crib_search.specs.Trees.{Tree, Finish, Plays, Sees, Branches, NoBranch, Branch, branches_of, same_tree, is_finish, is_play, joined_tree}
 use Rattle.crib_search.specs.Trees.{joined_tree_from}
-use Rattle.crib_search.proofs.Trees.{In, in_get, in_filter, in_all, finish_is}
+use Rattle.crib_search.proofs.Trees.{goes_on, finish_is, first_is, same_self}
 
 -- a place of a plan stands for a tree: from there on the plan is the tree
 abbrev mutual
@@ -52,13 +52,9 @@ module _ (plan : List Node) where
   -- at a play node, a letter does not move the place
   play_stays : (tree : Tree) (place : Next) (letter : Letter) → is_play tree ≡ true → Does plan tree place →
       Stands plan tree (place_after_letter plan place letter)
-  play_stays Finish place letter p d = absurd (both_ways false refl p)
-  play_stays (Sees branches) place letter p d = absurd (both_ways false refl p)
   play_stays (Plays card next) place letter p (inl e) = absurd cc
-  play_stays (Plays card next) place letter p (inr stands) =
-      let stays : place_after_letter plan place letter ≡ place = ap (λ (node : Option Node). after_letter node letter place) stands.1 in
-      let S : Next → Type 0 = λ there. Stands plan (Plays card next) there in
-      subst S (sym stays) stands
+  play_stays (Plays card next) place letter p (inr stands) = rw stands.1 stands
+  play_stays tree place letter p d = absurd (both_ways false refl p)
 
   module _ (trees : List Tree) (letter : Letter) (tree : Tree) (is : slice_get trees (letter_place letter) ≡ Some tree) (place : Next) where
     abbrev further : Next
@@ -73,31 +69,21 @@ module _ (plan : List Node) where
         let S : Next → Type 0 = λ next. Stands plan tree next in
         inr (subst S (sym goes) found.stands)
 
-    does_from : (left : List Tree) → filter (λ t. not (is_finish t)) trees ≡ left → Does plan (joined_tree_from trees left) place → Does plan tree further
-    does_from left e does =
-        elim (cases_Bool (is_finish tree)) [
-          | inl f ↦ inl (finish_is tree f)
-          | inr n ↦
-              let I : List Tree → Type 0 = λ kept. In tree kept in
-              does_in left (subst I e (in_filter (λ t. not (is_finish t)) trees tree (in_get trees (letter_place letter) tree is) (ap not n))) does
-        ]
+    -- if a place will do for the joined tree, its place after a letter will do for the branch of that letter
+    pub joined_does : Does plan (joined_tree trees) place → Does plan tree further
+    joined_does does =
+        elim (cases_Bool (is_finish tree)) [ inl f ↦ inl (finish_is tree f) | inr on ↦ does_from on (filter goes_on trees) refl does ]
       where
-        one_play : (first : Tree) (others : List Tree) → In tree (first ∷ others) → is_play first ≡ true → list_all (same_tree first) others ≡ true →
-            Does plan first place → Does plan tree further
-        one_play first others (inl here) p all does = let S : Tree → Type 0 = λ t. Stands plan t further in
-            inr (subst S here (play_stays first place letter p does))
-        one_play first others (inr there) p all does = let S : Tree → Type 0 = λ t. Stands plan t further in
-            inr (subst S (in_all first others tree all there) (play_stays first place letter p does))
-
-        does_in : (left : List Tree) → In tree left → Does plan (joined_tree_from trees left) place → Does plan tree further
-        does_in [] h does = absurd h
-        does_in (first ∷ others) h does = choose (is_play first && list_all (same_tree first) others) refl does
+        does_from : is_finish tree ≡ false → (left : List Tree) → filter goes_on trees ≡ left → Does plan (joined_tree_from trees left) place →
+            Does plan tree further
+        does_from on [] e does = inl (sym (first_is Finish trees (letter_place letter) tree (rw e) is on))
+        does_from on (first ∷ others) e does = choose (is_play first && list_all (same_tree first) others) refl does
           where
             choose : (b : Bool) → (is_play first && list_all (same_tree first) others) ≡ b → Does plan (cond b first (Sees (branches_of trees))) place →
                 Does plan tree further
-            choose true c does = let parts = and_parts (is_play first) (list_all (same_tree first) others) c in one_play first others h parts.0 parts.1 does
+            choose true c does =
+                let parts = and_parts (is_play first) (list_all (same_tree first) others) c in
+                let all = and_from (same_tree first first) (list_all (same_tree first) others) (same_self first) parts.1 in
+                let same = first_is first trees (letter_place letter) tree (rw e all) is on in
+                inr (rw (← same) (play_stays first place letter parts.0 does))
             choose false c does = see_does does
-
-    -- if a place will do for the joined tree, its place after a letter will do for the branch of that letter
-    pub joined_does : Does plan (joined_tree trees) place → Does plan tree further
-    joined_does does = does_from (filter (λ t. not (is_finish t)) trees) refl does

@@ -1,10 +1,8 @@
 -- The walk of a tree, and the plan that it numbers.
-use Rattle.std.proofs.Common.{◌≡◌, ◌⊎◌, ℕ, suc, ◌+◌, ◌<◌, ◌≤◌, Bool, true, false, ◌||◌, List, [], ◌∷◌, ◌++◌, map, Some, slice_get, add-one, refl, sym, ap}
-use Rattle.std.proofs.Common.{subst, ◌∙◌, inl, inr, arith}
+use Rattle.std.proofs.Common.{◌≡◌, ◌⊎◌, ℕ, ◌+◌, ◌<◌, ◌≤◌, Bool, true, false, List, [], ◌∷◌, map, Some, slice_get, add-one, refl, ap}
+use Rattle.std.proofs.Common.{inl, inr, arith}
 use Rattle.std.specs.List.{list_any, flat_map}
-use Rattle.std.proofs.lemmas.Bool.{cases_Bool, cond-true, cond-false, or_cases, or_left, or_right, both_ways}
-use Rattle.crib_plan.specs.declared.plan.Next.{Next}
-use Rattle.crib_plan.specs.declared.plan.Next.TheVariants.{To}
+use Rattle.std.proofs.lemmas.Bool.{cases_Bool, or_cases, or_left, or_right, both_ways}
 use Rattle.crib_plan.specs.declared.plan.Node.{Node}
 use Rattle.crib_plan.specs.declared.plan.Node.TheVariants.{Play, See}
 use Rattle.crib_plan.specs.Places.{plan_start}
@@ -45,8 +43,7 @@ IsMore before after = (tree : Tree) → is_in tree before ≡ true → is_in tre
 
 pub placed_more : (before after : List Tree) → IsMore before after → (tree : Tree) → Placed tree before → Placed tree after
 placed_more before after more Finish placed = tt
-placed_more before after more (Plays card next) placed = more (Plays card next) placed
-placed_more before after more (Sees branches) placed = more (Sees branches) placed
+placed_more before after more tree placed = more tree placed
 
 pub all_more : (before after : List Tree) → IsMore before after → (branches : Branches) → AllPlaced branches before → AllPlaced branches after
 all_more before after more NoBranch placed = tt
@@ -81,12 +78,9 @@ leave : (tree : Tree) (before inside : List Tree) (most : ℕ) → IsClosed befo
     IsWalked before (trees_with tree before inside) (size tree) × (is_in tree (trees_with tree before inside) ≡ true)
 leave tree before inside most closed walk bigger leads =
     elim (cases_Bool (is_in tree before)) [
-      | inl there ↦ let W : List Tree → Type 0 = λ after. IsWalked before after (size tree) × (is_in tree after ≡ true) in
-          subst W (sym (cond-true (is_in tree before) before (tree ∷ inside) there))
-          (record { closed = closed; more = λ other h. h; small = λ other h. inl h }, there)
+      | inl there ↦ rw there (record { closed = closed; more = λ other h. h; small = λ other h. inl h }, there)
       | inr new ↦
-          let W : List Tree → Type 0 = λ after. IsWalked before after (size tree) × (is_in tree after ≡ true) in
-          subst W (sym (cond-false (is_in tree before) before (tree ∷ inside) new)) (
+          rw new (
             record {
               closed = (absent new, leads, walk.closed);
               more = λ other h. one_more tree inside other (walk.more other h);
@@ -150,7 +144,7 @@ leads_in [] closed tree h = absurd (both_ways false refl h)
 leads_in (first ∷ trees) closed tree h =
     leads_more trees (first ∷ trees) (one_more first trees) tree
     (elim (or_cases (same_tree tree first) (is_in tree trees) h) [
-      | inl here ↦ let L : Tree → Type 0 = λ t. Leads t trees in subst L (sym (same_is tree first here)) closed.1
+      | inl here ↦ rw (same_is tree first here) closed.1
       | inr there ↦ leads_in trees closed.2 tree there
     ])
 
@@ -165,15 +159,9 @@ module _ (all : List Tree) where
   node_in [] closed tree h node is = absurd (both_ways false refl h)
   node_in (first ∷ trees) closed tree h node is =
       elim (cases_Bool (same_tree tree first)) [
-        | inl here ↦
-            ap (slice_get (flat_map (nodes_for all) (first ∷ trees))) (cond-true (same_tree tree first) 0 (number_of tree trees + 1) here)
-            ∙ ap (λ (nodes : List Node). slice_get (nodes ++ flat_map (nodes_for all) trees) 0) (ap (nodes_for all) (sym (same_is tree first here)) ∙ is)
+        | inl here ↦ rw (here, ← same_is tree first here, is)
         | inr other ↦
-            let one = one_node first trees closed.1 in
-            ap (slice_get (flat_map (nodes_for all) (first ∷ trees))) (cond-false (same_tree tree first) 0 (number_of tree trees + 1) other
-            ∙ add-one (number_of tree trees))
-            ∙ ap (λ (nodes : List Node). slice_get (nodes ++ flat_map (nodes_for all) trees) (suc (number_of tree trees))) one.1
-            ∙ node_in trees closed.2 tree (sym (ap (λ (b : Bool). b || is_in tree trees) other) ∙ h) node is
+            rw (other, add-one, (one_node first trees closed.1).1) (node_in trees closed.2 tree (rw other at h) node is)
       ]
 
   module _ (closed : IsClosed all) where
@@ -199,15 +187,8 @@ module _ (all : List Tree) where
 -- the plan of a tree starts at the place of the tree
 starts : (tree : Tree) → plan_start (plan_of_tree tree) ≡ place_of_tree (trees_after_walk tree []) tree
 starts Finish = refl
-starts (Plays card next) =
-    let tree : Tree = Plays card next in
-    ap To (sym (cond-true (same_tree tree tree) 0 (number_of tree (trees_after_walk next []) + 1) (same_self tree)))
-starts (Sees branches) =
-    let tree : Tree = Sees branches in
-    ap To (sym (cond-true (same_tree tree tree) 0 (number_of tree (trees_after_walks branches []) + 1) (same_self tree)))
+starts tree = rw (same_self tree)
 
 -- the plan of a tree stands for it
 pub plan_stands : (tree : Tree) → Stands (plan_of_tree tree) tree (plan_start (plan_of_tree tree))
-plan_stands tree =
-    let S : Next → Type 0 = λ place. Stands (plan_of_tree tree) tree place in
-    subst S (sym (starts tree)) (tree_stands (trees_after_walk tree []) (walk_closed tree) tree (walk_placed tree))
+plan_stands tree = rw (starts tree) (tree_stands (trees_after_walk tree []) (walk_closed tree) tree (walk_placed tree))

@@ -1,5 +1,7 @@
 -- Each visible turn lowers the bound on the turns that may still come.
-use Rattle.std.proofs.Common.{◌≡◌, ℕ, ◌+◌, ◌*◌, ◌-◌, ◌<◌, ◌≤◌, Bool, true, false, cond, eqb, ltb, List, [], ◌∷◌, ◌++◌, refl, sym, subst, arith}
+use Rattle.std.proofs.Common.{◌≡◌, ℕ, ◌+◌, ◌-◌, ◌<◌, ◌≤◌, Bool, true, false, cond, eqb, ltb, List, [], ◌∷◌, ◌++◌, refl, subst, arith}
+use Rattle.std.proofs.Common.{inl, inr}
+use Rattle.std.proofs.lemmas.Bool.{cases_Bool}
 use Rattle.crib_cards.specs.Cards.{rank_of}
 use Rattle.crib_cards.specs.Sides.{other_side}
 use Rattle.crib_cards.specs.declared.sides.Side.{Side}
@@ -7,14 +9,13 @@ use Rattle.crib_cards.specs.declared.sides.Side.TheVariants.{Owner, Opponent}
 use Rattle.crib_cards.specs.declared.letters.Letter.{Letter}
 use Rattle.crib_cards.specs.declared.letters.Letter.TheVariants.{Seen, Go}
 use Rattle.crib_cards.specs.declared.moves.Move.TheVariants as move
-use Rattle.crib_play.specs.declared.turns.Turn.TheVariants as turns
 use Rattle.crib_play.specs.Record.{count_of, is_begun}
 use Rattle.crib_play.specs.Score.{side_asked}
 use Rattle.crib_play.specs.Filled.{filled_record}
 use Rattle.crib_play.specs.Sound.{IsSound}
 use Rattle.crib_play.specs.Standing.{Standing, standing_after, MayShow, AreTaken, StandsFor, seat_of}
-use Rattle.crib_play.specs.Private.TableChanges.{is_over, with_seat, with_go_said, table_after_close, with_points, with_asked, with_card_on_pile}
-use Rattle.crib_play.specs.Private.TableChanges.{table_after_laying, next_to_lead, with_next_asked, table_after_play, table_after_go}
+use Rattle.crib_play.specs.Private.TableChanges.{is_over, with_seat, with_go_said, table_after_close, with_card_on_pile}
+use Rattle.crib_play.specs.Private.TableChanges.{table_after_laying, with_next_asked, table_after_play, table_after_go}
 use Rattle.crib_play.specs.History.{Event, Own, Theirs, history_letters}
 use Rattle.crib_play.proofs.SoundLemmas.{sound_heard}
 use Rattle.crib_play.proofs.RecordsReached.{stands_played, stands_passed, reached}
@@ -43,28 +44,17 @@ ahead_closed : (table : Standing) → turns_ahead_at (table_after_close table) �
 ahead_closed table = omega arith
 
 settled_least : (table : Standing) (side : Side) → turns_ahead_at (with_next_asked table side) ≤ turns_ahead_at table
-settled_least table side = over (is_over table)
-  where
-    last : (b : Bool) → turns_ahead_at (cond b (with_asked table (side_asked side))
-        (with_asked (table_after_close (with_points table table.last 1)) (next_to_lead (table_after_close (with_points table table.last 1)) side))) ≤
-        turns_ahead_at table
-    last true = omega arith
-    last false = omega arith
-
-    other : (b : Bool) → turns_ahead_at (cond b (with_asked table (side_asked (other_side side)))
-        (cond (seat_of table side).may_be_asked (with_asked table (side_asked side))
-        (with_asked (table_after_close (with_points table table.last 1)) (next_to_lead (table_after_close (with_points table table.last 1)) side)))) ≤
-        turns_ahead_at table
-    other true = omega arith
-    other false = last (seat_of table side).may_be_asked
-
-    over : (b : Bool) → turns_ahead_at (cond b (with_asked table turns.Over)
-        (cond (seat_of table (other_side side)).may_be_asked (with_asked table (side_asked (other_side side)))
-        (cond (seat_of table side).may_be_asked (with_asked table (side_asked side))
-        (with_asked (table_after_close (with_points table table.last 1)) (next_to_lead (table_after_close (with_points table table.last 1)) side))))) ≤
-        turns_ahead_at table
-    over true = omega arith
-    over false = other (seat_of table (other_side side)).may_be_asked
+settled_least table side =
+    elim (cases_Bool (is_over table)) [
+      | inl over ↦ rw over (omega arith)
+      | inr on ↦ elim (cases_Bool (seat_of table (other_side side)).may_be_asked) [
+        | inl other ↦ rw (on, other) (omega arith)
+        | inr none ↦ elim (cases_Bool (seat_of table side).may_be_asked) [
+          | inl last ↦ rw (on, none, last) (omega arith)
+          | inr last ↦ rw (on, none, last) (omega arith)
+        ]
+      ]
+    ]
 
 -- ---- a card
 pile_less : (table : Standing) (side : Side) (rank : ℕ) → IsSound table → table.asked ≡ side_asked side →
@@ -102,18 +92,10 @@ said_less : (table : Standing) (side : Side) → IsSound table → table.asked �
     turns_ahead_at (with_seat table side (with_go_said (seat_of table side))) < turns_ahead_at table
 said_less table Owner sound asked begun =
     let heard : table.owner.may_be_asked ≡ true = sound_heard table Owner sound asked in
-    let P : Bool → Bool → Type 0 = λ b h. 3 * (table.owner.left + table.opponent.left) + cond b (0 + cond table.opponent.may_be_asked 1 0) 0 < 3 *
-    (table.owner.left + table.opponent.left) + cond b (cond h 1 0 + cond table.opponent.may_be_asked 1 0) 0 in
-    let Q : Bool → Type 0 = λ b. P b table.owner.may_be_asked in
-    let R : Bool → Type 0 = λ h. P true h in
-    subst Q (sym begun) (subst R (sym heard) (omega arith))
+    rw (begun, heard) (omega arith)
 said_less table Opponent sound asked begun =
     let heard : table.opponent.may_be_asked ≡ true = sound_heard table Opponent sound asked in
-    let P : Bool → Bool → Type 0 = λ b h. 3 * (table.owner.left + table.opponent.left) + cond b (cond table.owner.may_be_asked 1 0 + 0) 0 < 3 *
-    (table.owner.left + table.opponent.left) + cond b (cond table.owner.may_be_asked 1 0 + cond h 1 0) 0 in
-    let Q : Bool → Type 0 = λ b. P b table.opponent.may_be_asked in
-    let R : Bool → Type 0 = λ h. P true h in
-    subst Q (sym begun) (subst R (sym heard) (omega arith))
+    rw (begun, heard) (omega arith)
 
 passed_less : (table : Standing) (side : Side) → IsSound table → table.asked ≡ side_asked side → 22 ≤ count_of table.pile →
     turns_ahead_at (table_after_go table side) < turns_ahead_at table
@@ -125,9 +107,8 @@ passed_less table side sound asked high =
 -- ---- a history that can come can also come in the problem without its opening
 led_bare : (problem : Setup) (history : List Event) → IsLed problem history → IsLed (at_first_lead problem) history
 led_bare problem [] led = tt
-led_bare problem (Own (move.Card card) ∷ history) led = (led_bare problem history led.0, led.1)
-led_bare problem (Own move.Go ∷ history) led = (led_bare problem history led.0, led.1)
 led_bare problem (Theirs letter ∷ history) led = (led_bare problem history led.0, (led.1.0, (record { deal = led.1.1.0.deal; fixed = refl }, led.1.1.1)))
+led_bare problem (event ∷ history) led = (led_bare problem history led.0, led.1)
 
 taken_bare : (problem : Setup) → IsSetup problem → (history : List Event) → IsLed problem history → AreTaken (start_of problem) (history_letters history)
 taken_bare problem setup history led =
@@ -149,12 +130,10 @@ module _ (problem : Setup) (setup : IsSetup problem) (history : List Event) (led
       turns_ahead_at (standing_after (start_of problem) (filled_record (start_of problem) (letter ∷ history_letters history))) < turns_ahead_at table
   less_after side (Seen rank) asked may =
       let next = (stands_played table (start_of problem) (history_letters history) side rank stands asked may).0 in
-      let L : Standing → Type 0 = λ t. turns_ahead_at t < turns_ahead_at table in
-      subst L next.shows (played_less table side rank sound asked)
+      subst (λ t. turns_ahead_at t < turns_ahead_at table) next.shows (played_less table side rank sound asked)
   less_after side Go asked may =
       let next = (stands_passed table (start_of problem) (history_letters history) side stands asked may).0 in
-      let L : Standing → Type 0 = λ t. turns_ahead_at t < turns_ahead_at table in
-      subst L next.shows (passed_less table side sound asked may)
+      subst (λ t. turns_ahead_at t < turns_ahead_at table) next.shows (passed_less table side sound asked may)
 
 pub turn_falls : (problem : Setup) → IsSetup problem → (event : Event) (history : List Event) → IsLed problem (event ∷ history) →
     turns_ahead (knowledge_after problem (event ∷ history)) < turns_ahead (knowledge_after problem history)

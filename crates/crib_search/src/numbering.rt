@@ -52,7 +52,7 @@ impl<'a, A: Allocator + Copy> Numbering<'a, A> {
         let mut numbering = Numbering {
             nodes,
             order: Vec::new(alloc),
-            marks: no_marks(alloc, nodes.len())?,
+            marks: vec![in alloc; None; nodes.len()]?,
         };
         numbering.number_from(first)?;
         Ok(numbering)
@@ -107,29 +107,13 @@ impl<'a, A: Allocator + Copy> Numbering<'a, A> {
         match self.nodes.draft_node(place) {
             DraftNode::Play { card: _, next } => {
                 self.number_from(next)?;
-                Ok(())
             }
             DraftNode::See { next } => {
-                self.number_from_all(&next)?;
-                Ok(())
+                for draft_place in next {
+                    self.number_from(draft_place)?;
+                }
             }
         }
-    }
-
-    // Walks on from some places, one after another.
-    #[cycle(number_from)]
-    fn number_from_all(&mut self, draft_places: &[DraftPlace]) -> Result<(), AllocError>
-        requires earlier { AllByRecursion (IsEarlier (length self.old.draft_nodes)) draft_places.now }
-        requires few { length draft_places.now ≤ 14 }
-        ensures same { self.new.draft_nodes ≡ self.old.draft_nodes }
-        ensures walk { IfOk result
-            (λ _. IsWalkAll self.old.draft_nodes draft_places.now self.old.left self.new.left) }
-    {
-        let [draft_place, others @ ..] = draft_places else {
-            return Ok(());
-        };
-        self.number_from(*draft_place)?;
-        self.number_from_all(others)?;
         Ok(())
     }
 
@@ -208,19 +192,4 @@ impl<'a, A: Allocator + Copy> Numbering<'a, A> {
             None => Next::End,
         }
     }
-}
-
-// Marks for `count` places, none of which was left.
-fn no_marks<A: Allocator + Copy>(
-    alloc: A,
-    count: usize,
-) -> Result<Vec<Option<usize>, A>, AllocError>
-    ensures marks { IfOk result (λ marks. AreMarks marks.items []) }
-    ensures whole { IfOk result (λ marks. length marks.items ≡ count) }
-{
-    let mut marks = Vec::with_capacity(alloc, count)?;
-    for _ in 0..count {
-        marks.push(None)?;
-    }
-    Ok(marks)
 }

@@ -2,7 +2,6 @@
 use Rattle.std.specs.Prelude.{◌≡◌, ℕ, ◌<◌, ◌==◌, Bool, true, false, List, [], ◌∷◌, length, slice_get, Option}
 use Rattle.std.specs.Prelude.{Some, None}
 use Rattle.std.specs.List.{AllByRecursion}
-use Rattle.crib_cards.specs.Cards.{IsCard}
 use Rattle.crib_search.specs.declared.nodes.DraftPlace.{DraftPlace}
 use Rattle.crib_search.specs.declared.nodes.DraftPlace.TheVariants.{End, At}
 use Rattle.crib_search.specs.declared.nodes.DraftNode.{DraftNode}
@@ -16,7 +15,7 @@ IsEarlier count (At place) = place < count
 
 -- a node leads only to places below a number: it plays a card, or it has fourteen branches
 abbrev pub IsBelow : ℕ → DraftNode → Type 0
-IsBelow count (Play card next) = IsCard card × IsEarlier count next
+IsBelow count (Play card next) = IsEarlier count next
 IsBelow count (See nexts) = (length nexts ≡ 14) × AllByRecursion (IsEarlier count) nexts
 
 -- kept nodes: each leads only to nodes before it, and no node is kept twice

@@ -1,6 +1,7 @@
 -- The numbers that the code gives to the nodes of a plan, from a walk over the kept nodes. `plan_of_tree` defines the
 -- same for trees. A walk leaves a node after all nodes that the node leads to.
-use Rattle.std.specs.Prelude.{◌≡◌, ℕ, ◌-◌, ◌<◌, ◌==◌, List, [], ◌∷◌, ◌++◌, length, map, slice_get}
+use Rattle.std.specs.Prelude.{◌≡◌, ℕ, ◌-◌, ◌<◌, ◌==◌, List, [], ◌∷◌, length, map, slice_get, flat_map}
+use Rattle.std.specs.Prelude.{slice_index_or}
 use Rattle.std.specs.Prelude.{Option, Some, None, if◌then◌else◌}
 use Rattle.std.specs.List.{AllZip}
 use Rattle.crib_plan.specs.declared.plan.Next.{Next}
@@ -31,7 +32,7 @@ mark_of place (other ∷ left) = if other == place then Some (length left) else 
 
 -- each place is marked with how many places were left before it, or with none if it was not left
 abbrev pub AreMarks : List (Option ℕ) → List ℕ → Type 0
-AreMarks marks left = (place : ℕ) → place < length marks → slice_get marks place ≡ Some (mark_of place left)
+AreMarks marks left = (place : ℕ) → place < length marks → slice_index_or marks place None ≡ mark_of place left
 
 -- a walk from a place. If the place names a tree, and the places left before name some trees, then the places left
 -- after name the trees after a walk of this tree
@@ -80,6 +81,4 @@ nodes_at left (Some draft_node) = node_for left draft_node ∷ []
 
 -- the nodes of the plan for some places of those that the walk left
 abbrev pub nodes_of_places : List DraftNode → List ℕ → List ℕ → List Node
-nodes_of_places draft_nodes left [] = []
-nodes_of_places draft_nodes left (place ∷ places) =
-    nodes_at left (slice_get draft_nodes place) ++ nodes_of_places draft_nodes left places
+nodes_of_places draft_nodes left places = flat_map (λ place. nodes_at left (slice_get draft_nodes place)) places

@@ -16,7 +16,7 @@ use Rattle.crib_search.specs.declared.nodes.DraftNode.{DraftNode}
 use Rattle.crib_search.specs.Trees.{Tree}
 use Rattle.crib_search.specs.declared.table.FoundTable.{FoundTable}
 use Rattle.crib_search.specs.Private.Nodes.{IsMore, Names, NamesFound}
-use Rattle.crib_search.specs.Finder.{Tries, BranchFinds, Finds}
+use Rattle.crib_search.specs.Finder.{BranchFinds, Finds}
 use Rattle.crib_search.specs.Private.Ahead.{turns_ahead}
 
 -- what a search has so far: its problem, and the nodes that it keeps of plans in the making
@@ -33,11 +33,6 @@ pub record IsLater (before after : Drafts) : Type 0 where
 abbrev pub IsHere : Setup → Knowledge → Type 0
 IsHere problem know = (history : List Event) × KnowsAfter know problem history
 
--- what is known after a visible turn, whatever came before it
-abbrev pub Steps : Setup → Knowledge → Event → Knowledge → Type 0
-Steps problem know event next =
-    (history : List Event) → KnowsAfter know problem history → KnowsAfter next problem (event ∷ history)
-
 -- for each history that the knowledge belongs to, a tree or none is found, and the answer names it
 abbrev pub IsAnswer : Drafts → Knowledge → Option DraftPlace → Type 0
 IsAnswer drafts know found =
@@ -52,13 +47,6 @@ answer_in table = get knows_compared.ghosts.eq table.found
 pub record AreAnswers (drafts : Drafts) (answers : Knowledge → Option (Option DraftPlace)) : Type 0 where
   pub each : (know : Knowledge) (found : Option DraftPlace) → IsHere drafts.problem know → answers know ≡ Some found →
       IsAnswer drafts know found
-
--- the same as `IsAnswer`, if the owner tries these cards in their order
-abbrev pub IsTried : Drafts → Knowledge → List ℕ → Option DraftPlace → Type 0
-IsTried drafts know cards found =
-    (history : List Event) (more : ℕ) → KnowsAfter know drafts.problem history → turns_ahead know ≤ more →
-    (tree : Option Tree) × NamesFound drafts.draft_nodes tree found
-    × Tries (λ further after. Finds more drafts.problem further after) history cards tree
 
 -- the answer for a letter is right: it names the branch, or it is none, the letter can be shown, and no tree is found
 -- after it

@@ -1,15 +1,13 @@
-use Rattle.std.proofs.Common.{rules, ◌≡◌, ◌+◌, ◌≤◌, List, length, get_or, sym, subst, ◌∙◌, arith}
-use Rattle.std.specs.List.{AllByRecursion}
-use Rattle.crib_search.specs.declared.nodes.DraftPlace.{DraftPlace}
+use Rattle.std.proofs.Common.{rules, ◌≡◌, ◌+◌, ◌≤◌, length, get_or, sym, ◌∙◌, arith}
+use Rattle.std.proofs.lemmas.List.Elements.{All-from_recursion}
 use Rattle.crib_search.specs.declared.nodes.DraftPlace.TheVariants.{End}
-use Rattle.crib_search.specs.declared.nodes.DraftNode.{DraftNode}
 use Rattle.crib_search.specs.declared.nodes.DraftNode.TheVariants.{Play, See}
 use Rattle.crib_search.specs.Private.Nodes.{IsEarlier}
-use Rattle.crib_search.specs.Private.Numbers.{IsWalk, IsWalkAll}
-use Rattle.crib_search.proofs.WalkHeights.{height, highest}
-use Rattle.crib_search.proofs.FoundAfterTurns.{rest_of}
-use Rattle.crib_search.proofs.NodeWalks.{walk_default, walk_again, walk_new, walk_none, walk_more, below_height, below_highest, earlier_more, all_earlier_more}
-use Rattle.crib_search.proofs.NodeWalks.{draft_place_split, rest_earlier, rest_falls}
+use Rattle.crib_search.specs.Private.Numbers.{Walked}
+use Rattle.std.proofs.Common.{drop, ap, ◌<◌}
+use Rattle.std.proofs.lemmas.List.{drop_more, drop_all}
+use Rattle.crib_search.proofs.NodeWalks.{height}
+use Rattle.crib_search.proofs.NodeWalks.{walk_default, walk_again, walk_new, walk_none, walk_more, below_height, earlier_more}
 use Rattle.crib_search.proofs.numbering.Numbering.+number_from.Goals as goal
 
 pub number_from-returns-in_default-clause-walk : goal.number_from-returns-in_default-clause-walk
@@ -17,21 +15,18 @@ number_from-returns-in_default-clause-walk g t c = walk_default c.args.self.now.
 
 pub number_from-returns-then-is_left-clause-walk : goal.number_from-returns-then-is_left-clause-walk
 number_from-returns-then-is_left-clause-walk g t c =
-    let W : DraftPlace → Type 0 = λ draft_place. IsWalk c.args.self.now.draft_nodes draft_place c.args.self.now.left c.args.self.now.left in
-    subst W (sym c.in-At.is)
+    rw c.in-At.is
     (walk_again c.args.self.now.draft_nodes c.is_left.ensures.kept c.in-At.place c.args.self.now.left (sym c.is_left.ensures.marked ∙ c.if-is_left.true))
 
 pub number_from-returns-clause-walk : goal.number_from-returns-clause-walk
 number_from-returns-clause-walk g t c =
-    let W : DraftPlace → Type 0 = λ draft_place. IsWalk c.args.self.now.draft_nodes draft_place c.args.self.now.left c.leave.new.self.left in
-    subst W (sym c.in-At.is)
+    rw c.in-At.is
     (walk_new c.args.self.now.draft_nodes c.is_left.ensures.kept c.in-At.place c.args.self.now.left (sym c.is_left.ensures.marked ∙ c.if-is_left.false)
     c.number_below.new.self.left c.leave.new.self.left c.in_ok-number_below.ensures.walk c.in_ok-leave.ensures.left)
 
 pub number_below-number_from-requires : goal.number_below-number_from-requires
 number_below-number_from-requires g t c κs within =
-    let draft_node = c.draft_node.ensures.kept.earlier c.args.place (Play c.in-Play.card c.in-Play.next) c.in-Play.ensures.node in
-    let below : IsEarlier c.args.place c.in-Play.next = draft_node.1 in
+    let below = c.draft_node.ensures.kept.earlier c.args.place (Play c.in-Play.card c.in-Play.next) c.in-Play.ensures.node in
     let low : height c.in-Play.next ≤ c.args.place = below_height c.args.place c.in-Play.next below in
     let here = c.requires in
     let le : c.args.place ≤ length c.args.self.now.draft_nodes = omega (arith, here) in
@@ -39,34 +34,33 @@ number_below-number_from-requires g t c κs within =
     earlier_more c.args.place (length c.args.self.now.draft_nodes) c.in-Play.next le below in
     search (rules, low, earlier)
 
-pub number_below-number_from_all-requires : goal.number_below-number_from_all-requires
-number_below-number_from_all-requires g t c κs within =
-    let draft_node = c.draft_node.ensures.kept.earlier c.args.place (See c.in-See.next) c.in-See.ensures.node in
-    let below : AllByRecursion (IsEarlier c.args.place) c.in-See.next = draft_node.1 in
-    let count : length c.in-See.next ≡ 14 = draft_node.0 in
-    let low : highest c.in-See.next ≤ c.args.place = below_highest c.args.place c.in-See.next below in
+pub number_below-number_from-requires-in-loop-draft_place : goal.number_below-number_from-requires-in-loop-draft_place
+number_below-number_from-requires-in-loop-draft_place g t c κs within =
+    let all = c.draft_node.ensures.kept.earlier c.args.place (See c.in-See.next) c.in-See.ensures.node in
+    let next = get_or c.in-See.next c.loop-draft_place.draft_place-index End in
+    let below = All-from_recursion (IsEarlier c.args.place) c.in-See.next all.1 c.loop-draft_place.draft_place-index End (omega (arith, all.0)) in
+    let low : height next ≤ c.args.place = below_height c.args.place next below in
     let here = c.requires in
-    let le : c.args.place ≤ length c.args.self.now.draft_nodes = omega (arith, here) in
-    let earlier : AllByRecursion (IsEarlier (length c.args.self.now.draft_nodes)) c.in-See.next =
-    all_earlier_more c.args.place (length c.args.self.now.draft_nodes) c.in-See.next le below in
-    search (rules, low, count, earlier)
+    let earlier = earlier_more c.args.place (length c.args.self.now.draft_nodes) next (omega (arith, here)) below in
+    search (rules, low, rw (← c.loop-draft_place.invariant.same) at earlier)
 
-pub number_from_all-returns-in_default-clause-walk : goal.number_from_all-returns-in_default-clause-walk
-number_from_all-returns-in_default-clause-walk g t c = walk_none c.args.self.now.draft_nodes c.args.draft_places.now c.args.self.now.left c.in_default.len_below
+pub number_below-loop-draft_place-preserved : goal.number_below-loop-draft_place-preserved
+number_below-loop-draft_place-preserved g t c =
+    let all = c.draft_node.ensures.kept.earlier c.args.place (See c.in-See.next) c.in-See.ensures.node in
+    let within : c.loop-draft_place.draft_place-index < length c.in-See.next = omega (arith, all.0) in
+    record {
+      same = c.number_from-in-loop-draft_place.ensures.same ∙ c.loop-draft_place.invariant.same;
+      walk = λ after rest. c.loop-draft_place.invariant.walk after (rw (drop_more c.in-See.next c.loop-draft_place.draft_place-index End within)
+          (walk_more c.args.self.now.draft_nodes (get_or c.in-See.next c.loop-draft_place.draft_place-index End)
+          (drop (c.loop-draft_place.draft_place-index + 1) c.in-See.next) c.loop-draft_place.self.left c.number_from-in-loop-draft_place.new.self.left after
+          (rw c.loop-draft_place.invariant.same at c.in_ok-number_from-in-See.ensures.walk) rest));
+    }
 
-pub number_from_all-number_from_all-requires : goal.number_from_all-number_from_all-requires
-number_from_all-number_from_all-requires g t c κs within =
-    let E : List DraftNode → Type 0 = λ nodes. AllByRecursion (IsEarlier (length nodes)) (rest_of c.args.draft_places.now) in
-    let earlier = subst E (sym c.number_from.ensures.same) (rest_earlier c.args.self.now.draft_nodes c.args.draft_places.now c.requires.earlier) in
-    let falls = rest_falls c.args.draft_places.now (omega arith) in
-    let low : highest (rest_of c.args.draft_places.now) ≤ highest c.args.draft_places.now = falls.0 in
-    let fewer : length (rest_of c.args.draft_places.now) + 1 ≡ length c.args.draft_places.now = falls.1 in
-    search (rules, low, fewer, earlier)
-
-pub number_from_all-returns-clause-walk : goal.number_from_all-returns-clause-walk
-number_from_all-returns-clause-walk g t c =
-    let some : 1 ≤ length c.args.draft_places.now = omega arith in
-    let W : List DraftNode → Type 0 = λ nodes. IsWalkAll nodes (rest_of c.args.draft_places.now) c.number_from.new.self.left c.number_from_all.new.self.left in
-    walk_more c.args.self.now.draft_nodes (get_or c.args.draft_places.now 0 End) (rest_of c.args.draft_places.now) c.args.draft_places.now
-    c.args.self.now.left c.number_from.new.self.left c.number_from_all.new.self.left
-    (draft_place_split c.args.draft_places.now some) c.in_ok-number_from.ensures.walk (subst W c.number_from.ensures.same c.in_ok-number_from_all.ensures.walk)
+pub number_below-returns-after-loop-draft_place-clause-walk : goal.number_below-returns-after-loop-draft_place-clause-walk
+number_below-returns-after-loop-draft_place-clause-walk g t c = λ draft_node there.
+    let all = c.draft_node.ensures.kept.earlier c.args.place (See c.in-See.next) c.in-See.ensures.node in
+    let nodes : c.self.inside.nodes.now ≡ c.args.self.now.draft_nodes = ap (λ (walked : Walked). walked.draft_nodes) c.self.view_is in
+    let same : draft_node ≡ See c.in-See.next = cc (c.in-See.ensures.node) in
+    rw same (c.loop-draft_place.invariant.walk c.loop-draft_place.self.left
+    (rw (drop_all c.loop-draft_place.draft_place-index c.in-See.next (omega (arith, all.0)))
+    (walk_none c.args.self.now.draft_nodes c.loop-draft_place.self.left)))

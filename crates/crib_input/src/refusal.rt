@@ -53,15 +53,19 @@ pub struct Refusal {
 }
 
 impl Refusal {
+    // Returns the refusal of a line for a cause.
+    fn at(line: u32, cause: Cause) -> Refusal
+        ensures { result ≡ record { line = line; cause = cause } }
+    {
+        Refusal { line, cause }
+    }
+
     /// Returns the refusal of a game for `fault`. The section of the game begins at line `first`.
     pub fn of_game(fault: GameFault, first: u32, game: &Game) -> Refusal
         requires { first + 258 ≤ u32.MAX }
         ensures { refusal_of result ≡ game_refusal first (length game.now.acts.items) fault }
     {
-        Refusal {
-            line: fault.line(first, game.acts.len()),
-            cause: Cause::Game(fault),
-        }
+        Refusal::at(fault.line(first, game.acts.len()), Cause::Game(fault))
     }
 }
 
@@ -69,10 +73,7 @@ impl From<TextFault> for Refusal {
     ghost from_gives = { λ fault refusal. refusal ≡ record { line = fault.line; cause = causes.Text fault.cause } };
 
     fn from(fault: TextFault) -> Refusal {
-        Refusal {
-            line: fault.line,
-            cause: Cause::Text(fault.cause),
-        }
+        Refusal::at(fault.line, Cause::Text(fault.cause))
     }
 }
 
@@ -80,10 +81,7 @@ impl From<ProblemFault> for Refusal {
     ghost from_gives = { λ fault refusal. refusal ≡ record { line = fault.line; cause = causes.Problem fault.cause } };
 
     fn from(fault: ProblemFault) -> Refusal {
-        Refusal {
-            line: fault.line,
-            cause: Cause::Problem(fault.cause),
-        }
+        Refusal::at(fault.line, Cause::Problem(fault.cause))
     }
 }
 
@@ -123,9 +121,6 @@ impl From<PlanFault> for NotRead {
         if fault.cause.number() == TextCause::NoMemory.number() {
             return NotRead::Memory;
         }
-        NotRead::Refused(Refusal {
-            line: fault.line,
-            cause: Cause::Plan(fault.cause),
-        })
+        NotRead::Refused(Refusal::at(fault.line, Cause::Plan(fault.cause)))
     }
 }

@@ -25,27 +25,18 @@ fn refuses_after(
     let line = count_lines(front).saturating_add(1);
     let wanted = format!(in rt.alloc(); "refused line {line}: {number}\n").expect(rt, "memory");
     let what = numbered(rt, "the front of length", front.len() as u64);
-    outcome_of(rt.alloc(), rt.alloc(), job, input).is(
-        rt,
-        wanted.as_str(),
-        Status::Refused,
-        what.as_str(),
-    );
+    let written = outcome_of(rt.alloc(), rt.alloc(), job, input);
+    written.is(rt, wanted.as_str(), Status::Refused, what.as_str());
 }
 
-// Asserts that each proper beginning of an input is refused as cut short, at the line after its last LF.
-fn refuses_each_beginning(rt: &(impl Abort + AllocGlobal), job: Job, sections: &[&str]) {
-    let text = joined(rt.alloc(), sections).expect(rt, "memory");
-    let input = text.as_bytes();
-    for len in 0..input.len() {
-        refuses_after(rt, job, &input[..len], &input[..len], 3);
-    }
-}
-
-// Asserts the same of each of these inputs.
+// Asserts that each proper beginning of these inputs is refused as cut short, at the line after its last LF.
 fn refuses_beginnings(rt: &(impl Abort + AllocGlobal), job: Job, inputs: &[&[&str]]) {
     for sections in inputs {
-        refuses_each_beginning(rt, job, sections);
+        let text = joined(rt.alloc(), sections).expect(rt, "memory");
+        let input = text.as_bytes();
+        for len in 0..input.len() {
+            refuses_after(rt, job, &input[..len], &input[..len], 3);
+        }
     }
 }
 
@@ -82,7 +73,7 @@ fn of_follow(rt: HostRuntime) -> Result<(), Fail> {
 
     // The whole game strays from the plan. Each beginning of it is refused as cut short and not for straying.
     let strays = joined_with(rt.alloc(), &ONE_GAME, 20, "own 2H")?;
-    refuses_each_beginning(&rt, Job::Follow, &[strays.as_str()]);
+    refuses_beginnings(&rt, Job::Follow, &[&[strays.as_str()]]);
     Ok(())
 }
 

@@ -83,14 +83,9 @@ fn of_follow(rt: HostRuntime) -> Result<(), Fail> {
         assert_eq!(rt; followed, reported_alone(reported), "with {wanted}");
     }
     let strays = joined_with(rt.alloc(), &ONE_GAME, 20, "own 2H")?;
+    let sections = [strays.as_str()];
     let refused = "refused line 20: 46\n";
-    let strayed = refuse_each(
-        &rt,
-        Job::Follow,
-        &[strays.as_str()],
-        refused,
-        Status::Refused,
-    );
+    let strayed = refuse_each(&rt, Job::Follow, &sections, refused, Status::Refused);
     assert_eq!(rt; strayed, reported_alone(2));
     Ok(())
 }

@@ -70,12 +70,7 @@ fn words_that_are_cut_short_change_nothing(rt: HostRuntime) -> Result<(), Fail> 
         let words = Counted::new(Tray::new(rt.alloc(), 1, trouble));
         let source = feed(input.as_bytes());
         let written = outcome_on(rt.alloc(), Job::Check, source, tray(rt.alloc()), words);
-        written.is(
-            &rt,
-            "refused line 5: 5\n",
-            Status::Refused,
-            "words cut short",
-        );
+        written.is(&rt, "refused line 5: 5\n", Status::Refused, "cut short");
         assert_eq!(rt; written.words.as_slice(), &NOT_A_CARD.as_bytes()[..sent]);
     }
     Ok(())

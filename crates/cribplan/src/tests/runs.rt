@@ -122,10 +122,6 @@ pub(crate) fn writes(
     status: Status,
 ) {
     let input = joined(rt.alloc(), sections).expect(rt, "memory");
-    outcome_with_words(rt.alloc(), rt.alloc(), job, input.as_bytes()).is(
-        rt,
-        wanted,
-        status,
-        input.as_str(),
-    );
+    let written = outcome_with_words(rt.alloc(), rt.alloc(), job, input.as_bytes());
+    written.is(rt, wanted, status, input.as_str());
 }

@@ -74,7 +74,7 @@ class Program:
         return seconds, written.partition("\n")[0]
 
     def _memory(self, task: Task) -> int | None:
-        """The peak memory of one run in kB. A parent of little memory starts it, since a child is told its parent's."""
+        """The peak memory of one run in kB. A parent of little memory starts it, since a child reports its parent's."""
         if not self.has_memory:
             return None
         with task.file.open("rb") as source, tempfile.NamedTemporaryFile("r") as told:

@@ -16,9 +16,16 @@ count_of() {
     if [ "$1" -eq 1 ]; then echo "1 $2"; else echo "$1 $2s"; fi
 }
 
-# refuse_words: the command line isn't one of those that the recipe knows.
+# print_usage: the command lines that the recipe knows, from the comment at its head.
+print_usage() {
+    sed -n '2,/^#$/s/^# \(.*\)/  \1/p' "$0"
+    echo "  $name --help | --version"
+}
+
+# refuse_words WORD..: the command line isn't one of those that the recipe knows. The first word is the one to be named.
 refuse_words() {
-    say "these words aren't known; $name --help says which are"
+    if [ $# -eq 0 ]; then say "a word is missing. Type one of these:"; else say "\"$1\" isn't expected here. Type one of these:"; fi
+    print_usage >&2
     exit 2
 }
 
@@ -26,6 +33,15 @@ refuse_words() {
 print_help() {
     sed -n '2,/^$/s/^# \{0,1\}//p' "$0"
     echo "Exit status: 2 if an input or these words are refused, 3 if something failed. Manual: man $name"
+}
+
+# print_version: of the recipes and the manual. PROOF has it too, which says whether the programs beside it are proved.
+print_version() {
+    local place
+    for place in "$shared/VERSION" "$shared/../VERSION"; do
+        [ ! -r "$place" ] || { echo "$name $(cat "$place")" && return; }
+    done
+    return 1
 }
 
 # find_program NAME: the path of a program: beside the recipe, then one folder up, then on the path.
@@ -37,16 +53,14 @@ find_program() {
     return 1
 }
 
-# need_cribplan: finds cribplan, in $program. The launcher looks whether it has to be built; once is enough.
+# need_cribplan: finds cribplan, in $program. In the folder of the sources this is the one that its launcher runs.
 need_cribplan() {
-    local built=$here/../crates/cribplan/out/cribplan
     program=$(find_program cribplan) || {
         say "there is no cribplan beside it, one folder up, or on the path"
         exit 3
     }
     if [ "$program" -ef "$here/../cribplan" ]; then
-        "$program" --help >/dev/null || exit 3
-        [ ! -x "$built" ] || program=$built
+        program=$("$here/../tools/program" cribplan) || exit 3
     fi
 }
 
@@ -57,7 +71,7 @@ keep_input() {
         say "it reads standard input; type $name < $1"
         exit 2
     fi
-    [ $# -eq 0 ] || refuse_words
+    [ $# -eq 0 ] || refuse_words "$@"
     head -c 8388609 >"$room/input" || exit 3
 }
 
@@ -98,6 +112,18 @@ finish() {
     exit "$1"
 }
 
+# An awk function that several recipes need: a word as it is meant, which is a card, a keyword, or the word itself.
+# shellcheck disable=SC2016
+meant='
+    function meant(word,    capital, small) {
+        capital = toupper(word)
+        sub(/^10/, "T", capital)
+        if (capital ~ /^[A23456789TJQK][CDHS]$/) return capital
+        small = tolower(word)
+        return small ~ ("^(problem|dealer|owner|opponent|score|starter|hold|throw|goal|win|holes|stop|played|own|opp|go|" \
+            "game|acts|plan|nodes|play|see|end)$") ? small : word
+    }'
+
 # The parts of a problem that cribplan has accepted: its lines from `dealer` to `throw`, its goal, and its turns.
 facts=()
 goal=
@@ -116,21 +142,21 @@ write_problem() {
     printf '%s\n' "problem 2" "${facts[@]}" "$1" "played $((${#turns[@]} + $# - 1))" "${turns[@]}" "${@:2}"
 }
 
-# is_sure GOAL [TURN]: whether a plan is sure for that goal, once the owner has made that turn: 0 if so, with its length
-# in $nodes, 1 if not, and 2 if the turn is refused. A turn that ends the deal leaves no problem behind. Then the plan
-# that makes it and nothing else is checked; a go needs no node.
+# is_sure GOAL [TURN]: whether a plan is sure for that goal, once that turn is made: 0 if so, with its length in $nodes,
+# 1 if not, and 2 if the turn is refused. A turn of the owner that ends the deal leaves no problem behind. Then the plan
+# that makes it and nothing else is checked, and if it holds, $nodes is empty; a go needs no node.
 is_sure() {
     ask solve < <(write_problem "$@")
     nodes=${answer[1]-}
-    if [ $# -gt 1 ] && is_refused 24; then
+    nodes=${nodes#nodes }
+    if [[ ${2-} == own* ]] && is_refused 24; then
         case $2 in
         'own go') set -- "$1" "nodes 0" ;;
         *) set -- "$1" "nodes 1" "0 play ${2#own } end" ;;
         esac
         ask check < <(write_problem "$1" && printf '%s\n' "plan 1" "${@:2}")
-        nodes="nodes 0"
+        nodes=
     fi
-    nodes=${nodes#nodes }
     return "$status"
 }
 
@@ -153,39 +179,48 @@ find_greatest() {
     done
 }
 
-# find_pegs: where the pegs stand after the turns; in $own_now and $opponent_now. `board` wants the opponent's six
-# cards. In place of those that nobody has shown it gets unseen cards that count ten: these fit no count of 22 or
-# more, and at a smaller one nobody says go. There are always enough of them.
-find_pegs() {
+# write_game GOAL [TURN]: a game of the turns, and one more where it is given, below the problem with that goal. It needs
+# the opponent's six cards. In place of those that nobody has shown it has unseen cards that count ten: these fit no
+# count of 22 or more, and at a smaller one nobody says go. There are always enough of them.
+write_game() {
     local six=() turn card
-    read -r _ own_now opponent_now <<<"${facts[1]}"
-    [ "${#turns[@]}" -gt 0 ] || return 0
-    for turn in "${turns[@]}"; do
+    for turn in "${turns[@]}" "${@:2}"; do
         case $turn in
         'opp go' | own*) ;;
         *) six+=("${turn#opp }") ;;
         esac
     done
     for card in {K,Q,J,T}{C,D,H,S}; do
-        [[ " ${facts[*]} ${turns[*]} " == *" $card "* ]] || six+=("$card")
+        [[ " ${facts[*]} ${turns[*]} ${six[*]} " == *" $card "* ]] || six+=("$card")
     done
-    ask board < <(
-        write_problem "goal win"
-        printf '%s\n' "game 1" "hold ${six[*]:0:4}" "throw ${six[*]:4:2}" "acts ${#turns[@]}" "${turns[@]}"
-    )
+    write_problem "$1"
+    printf '%s\n' "game 1" "hold ${six[*]:0:4}" "throw ${six[*]:4:2}" "acts $((${#turns[@]} + $# - 1))" "${turns[@]}" "${@:2}"
+}
+
+# find_pegs: where the pegs are after the turns; in $own_now and $opponent_now.
+find_pegs() {
+    read -r _ own_now opponent_now <<<"${facts[1]}"
+    [ "${#turns[@]}" -gt 0 ] || return 0
+    ask board < <(write_game "goal win")
     stop_if_refused
     read -r _ _ _ _ _ own_now opponent_now <<<"${answer[${#turns[@]} + 1]}"
 }
 
-# print_pegs: says where they stand if cards were played, so that a score of the wrong moment is seen.
+# print_pegs: where they are, if cards were played, so that a score of the wrong moment is seen.
 print_pegs() {
     [ "${#turns[@]}" -eq 0 ] || echo "pegs now: owner $own_now, opponent $opponent_now"
 }
 
-if [ "${1-}" = --help ] || [ "${1-}" = -h ]; then
+case ${1-} in
+--help | -h)
     print_help || exit 3
     exit
-fi
+    ;;
+--version)
+    print_version || exit 3
+    exit
+    ;;
+esac
 # stop STATUS: ends the recipe for a signal. A second one, as of a key pressed twice, doesn't stop the tidying up.
 stop() {
     trap '' HUP INT PIPE TERM

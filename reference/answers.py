@@ -1,4 +1,4 @@
-"""The answers of the five commands: the bytes and the exit status that are owed to an input."""
+"""The answers of the five commands: the bytes and the exit status that answer an input."""
 
 from __future__ import annotations
 
@@ -57,7 +57,7 @@ def solve(problem: Problem) -> Answer:
 
 
 def replay(problem: Problem, game: Game) -> Answer:
-    """What a game comes to."""
+    """How a game ends."""
     return Answer(replay_text(Judge(problem, None, game).report()), 0)
 
 

@@ -44,7 +44,7 @@ def board_text(problem: Problem, report: Report) -> str:
 
 
 def track_lines(player: str, scores: list[int]) -> list[str]:
-    """A player's holes, with his pegs. The scores are all that he had, one after another."""
+    """A player's holes, with the pegs. The scores are all that they had, one after another."""
     front = scores[-1]
     before = [score for score in scores if score != front]
     holes = ["."] * 122  # the one of number 0 is off the board

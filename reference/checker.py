@@ -47,7 +47,7 @@ class Checker:
         return None
 
     def failure_of_owner(self, view: View, place: Place, acts: Shown) -> Failure | None:
-        """The same where the owner is asked: he is stuck, or there is one way on."""
+        """The same at the owner's turn: they are stuck, or there is one way on."""
         fitting = view.fitting()
         if not fitting:
             return self.failure_after(view.after_own(None), place, (*acts, (OWNER, None)))
@@ -67,7 +67,7 @@ class Checker:
         return Failure(ending, self.game(deal, acts))
 
     def game(self, deal: Game, acts: Shown) -> Game:
-        """The game of a deal: of equal ranks the opponent plays the first suit that he has left."""
+        """The game of a deal: of equal ranks the opponent plays the first suit that they have left."""
         left = [card for card in deal.hold if card not in self.deals.fixed]
         written = list(self.problem.played)
         for side, what in acts:

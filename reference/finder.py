@@ -39,7 +39,7 @@ class Finder:
         return self.where_owner_is_asked(view) if view.table.turn == OWNER else self.where_opponent_is_asked(view)
 
     def where_owner_is_asked(self, view: View) -> Place:
-        """He plays the first of his cards after which a plan is sure. Equal ranks are tried once."""
+        """The owner plays the first of their cards after which a plan is sure. Equal ranks are tried once."""
         fitting = view.fitting()
         if not fitting:
             return self.place_at(view.after_own(None))

@@ -1,4 +1,4 @@
-"""Games: what the opponent really has, and the acts. How they are judged, and how the deal stands after them."""
+"""Games: what the opponent really has, and the acts. How they are judged, and what the deal is after them."""
 
 from __future__ import annotations
 
@@ -56,7 +56,7 @@ class Shown(NamedTuple):
 
 
 class Report(NamedTuple):
-    """What a game comes to."""
+    """How a game ends."""
 
     rows: list[Row]
     shown: list[Shown]
@@ -65,7 +65,7 @@ class Report(NamedTuple):
 
 
 def refuse_cards(problem: Problem, game: Game) -> None:
-    """Refuses the opponent's cards where one is known, or stood before."""
+    """Refuses the opponent's cards where one is known, or was there before."""
     seen = problem.known()
     for place, card in enumerate((*game.hold, *game.throw)):
         if card in seen:
@@ -74,7 +74,7 @@ def refuse_cards(problem: Problem, game: Game) -> None:
 
 
 def fault_of(table: Table, act: Act, hand: set[Card], is_stated: bool) -> int | None:
-    """Why an act may not stand, if it may not."""
+    """Why an act is refused, if it is."""
     if table.is_done():
         return 45
     if act.side != table.turn:
@@ -126,13 +126,13 @@ class Judge:
         self.rows.append(Row(act, count, points, self.table.scores))
 
     def place_after(self, plan: Plan, act: Act) -> Place:
-        """The place of the plan after an act that may stand."""
+        """The place of the plan after an act that is accepted."""
         if act.side == OPPONENT:
             return place_after(plan, self.place, GO if act.card is None else act.card.rank)
         return self.place if act.card is None else plan[self.place].next
 
     def is_stuck(self) -> bool:
-        """Whether the owner has to choose a card, and the plan states none that he holds and that fits."""
+        """Whether the owner has to choose a card, and the plan states none that they hold and that fits."""
         fitting = {card for card in self.hands[OWNER] if self.table.fits(card.rank)}
         if self.plan is None or self.table.turn != OWNER or not fitting:
             return False
@@ -140,7 +140,7 @@ class Judge:
         return node is None or node.card not in fitting
 
     def report(self) -> Report:
-        """What the game comes to."""
+        """How the game ends."""
         table = self.table
         if not table.is_done():
             return Report(self.rows, [], table.scores, "stuck" if self.is_stuck() else "open")

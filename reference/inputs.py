@@ -192,7 +192,7 @@ def some_plan(random: Random, problem: Problem) -> Plan:
 
 
 def random_game(random: Random, deal: Deal, plan: Plan | None) -> Game:
-    """A game by legal random play, often a whole one. With a plan the owner follows it as far as he can."""
+    """A game by legal random play, often a whole one. With a plan the owner follows it as far as they can."""
     problem = deal.problem
     played = [{act.card for act in problem.played if act.side == side} for side in (OWNER, OPPONENT)]
     hands = (set(problem.hold) - played[OWNER], set(deal.hold) - played[OPPONENT])

@@ -17,7 +17,7 @@ CARDS = [card.text() for card in DECK]
 
 
 def some_word(random: Random) -> str:
-    """A word that stands somewhere in a text, or nearly."""
+    """A word that is somewhere in a text, or nearly."""
     return random.choice(random.choice([NUMBERS, WORDS, CARDS]))
 
 

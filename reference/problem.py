@@ -1,4 +1,4 @@
-"""Problems: what the owner of a plan knows, and what he wants."""
+"""Problems: what the owner of a plan knows, and what they want."""
 
 from __future__ import annotations
 
@@ -30,7 +30,7 @@ class Problem:
         return self.scores[OWNER] + int(words[1]) if words[0] == "holes" else LAST_HOLE
 
     def is_stop(self) -> bool:
-        """Whether it is enough that the opponent doesn't come to the last hole."""
+        """Whether it is enough that the opponent doesn't reach the last hole."""
         return self.goal == "stop"
 
     def known(self) -> set[Card]:
@@ -117,7 +117,7 @@ def read_played(lines: Lines, problem: Problem) -> Problem:
     table = problem.first_table()
     hand = set(problem.hold)
     seen = problem.known()
-    least = 1  # value of a card that the opponent still holds, by the gos that he said
+    least = 1  # value of a card that the opponent still holds, by the gos that they said
     played: list[Act] = []
     for _ in range(lines.number_of_acts("played")):
         act = lines.act()
@@ -151,7 +151,7 @@ def refuse_owners_turn(lines: Lines, table: Table, act: Act, hand: set[Card]) ->
 
 
 def refuse_opponents_turn(lines: Lines, table: Table, act: Act, least: int) -> None:
-    """Refuses a turn of the opponent that breaks the rules, whatever he holds."""
+    """Refuses a turn of the opponent that breaks the rules, whatever they hold."""
     if table.turn != OPPONENT:
         lines.refuse(44)
     if act.card is None:

@@ -1,8 +1,8 @@
 """What the owner can see in the middle of a deal, and every deal that agrees with it.
 
-The opponent's six cards are tried in two steps. In the play only the ranks of the four that he holds count: his suits
-and his throw are never asked for. So two deals whose holds have the same ranks can be played in the same ways, with the
-same points, and one of them stands for both: what he may hold is a set of ranks, of every four unseen cards. In the
+The opponent's six cards are tried in two steps. In the play only the ranks of the four that they hold count: the suits
+and the throw are never asked for. So two deals whose holds have the same ranks can be played in the same ways, with the
+same points, and one of them represents both: what they may hold is a set of ranks, of every four unseen cards. In the
 show suits and the throw count too, and there every hold of these ranks is tried with every throw.
 """
 
@@ -34,12 +34,12 @@ class View(NamedTuple):
     """What the owner can see."""
 
     table: Table
-    hand: Hand  # the cards that he has left
+    hand: Hand  # the cards that they have left
     shown: Ranks  # what the opponent has played
-    left: frozenset[Ranks]  # the ranks that the opponent may have left, of each deal that agrees with his acts
+    left: frozenset[Ranks]  # the ranks that the opponent may have left, of each deal that agrees with their acts
 
     def after_own(self, card: Card | None) -> View:
-        """The view after a card of the owner, or his go."""
+        """The view after a card of the owner, or their go."""
         table, _ = self.table.after(None if card is None else card.rank)
         return self._replace(table=table, hand=tuple(other for other in self.hand if other != card))
 
@@ -48,7 +48,7 @@ class View(NamedTuple):
         return [card for card in self.hand if self.table.fits(card.rank)]
 
     def by_letter(self) -> dict[int, set[Ranks]]:
-        """What the opponent may show, and what he may have left after each: every deal, with every play of it."""
+        """What the opponent may show, and what they may have left after each: every deal, with every play of it."""
         letters: dict[int, set[Ranks]] = {}
         for ranks in self.left:
             fitting = {rank for rank in ranks if self.table.fits(rank)}
@@ -70,7 +70,7 @@ class View(NamedTuple):
 
 
 class Deals:
-    """Every deal of a problem: four cards that the opponent holds, and two that he threw."""
+    """Every deal of a problem: four cards that the opponent holds, and two that they threw."""
 
     def __init__(self, problem: Problem) -> None:
         self.problem = problem
@@ -148,7 +148,7 @@ class Deals:
         return counted(table.scores, table.target, self.problem.is_stop(), shown)[1]
 
     def is_sure(self, view: View) -> bool:
-        """Whether the owner gets what he wants in every deal that agrees, where all eight cards are played."""
+        """Whether the owner reaches the goal in every deal that agrees, where all eight cards are played."""
         return all(
             self.ending(view.table, hand, crib) == "reached" for hand, crib in self.points_with(view.shown)
         )
@@ -162,7 +162,7 @@ class Deals:
         raise AssertionError("no deal agrees")
 
     def first_unsure(self, view: View) -> tuple[Game, str]:
-        """The first deal that agrees in which the owner doesn't get what he wants in the show, and how it ends."""
+        """The first deal that agrees in which the owner misses the goal in the show, and how it ends."""
         starter = self.problem.starter
         for hold in self.holds_by_ranks[view.shown]:
             hand = points_of(hold, starter, is_crib=False)

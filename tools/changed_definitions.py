@@ -1,10 +1,17 @@
 """Single changes of definitions, in what a definition says and never in its signature or in the patterns of its cases.
 
-The kinds: a clause of a product or a record dropped; a case with its neighbour's body, or a condition denied; a side
-turned; a list not reversed; a filter or a bound dropped; one number more or less; `<` for `≤`; a field, an argument or
-a definition exchanged with one of its type; a base case changed; a body that gives up. What can stand for what is read
-from the sources: the variants of a type, the fields of a record, the signatures of the definitions. Words of the
-library, and those that a change puts in, are in changed_words.txt.
+The kinds:
+- a bound: one number more or less, `<` for `≤`, `≤` for `=`, no bound, a list longer or shorter by one;
+- what may follow: a step of reading dropped, a list without its first or last item, a case with its neighbour's body;
+- which of two refusals, with which line: two steps or two conditions in the other order, another number or variable;
+- which side, score or end of a list: a side turned, a field, an argument or a definition exchanged with one of its
+  type, a list from behind or not reversed, a list before or after its first item;
+- repetition: an item put in twice, a list sorted, or without what it repeats;
+- what widens: a clause, premise or filter dropped, an alternative that always holds or never, a condition denied,
+  always true or never, a body that looks at nothing.
+
+What may replace what is read from the sources: the variants of a type, the fields of a record, the signatures of the
+definitions. Words of the library, and those that a change puts in, are in changed_words.txt.
 """
 
 from __future__ import annotations
@@ -18,7 +25,6 @@ from spec_source import ROOT, declared_names, imports_of, paragraphs
 
 HELPERS = (ROOT / "tools/changed_words.txt").read_text()  # the words that a change puts in, as a module
 ATOMIC = re.compile(r"[≡≤<]|\bIs(?:True|False)\b")  # a clause that is dropped by a change of one of its words
-ENOUGH = 3  # the changes of a definition below which its bodies give up, too
 TOKEN = re.compile(r"\"[^\"]*\"|--[^\n]*|[\w'◌]+(?:\.[\w']+)*|\s+|∷|\+\+|&&|\|\||==|[^\s\w]")
 NAMED = re.compile(r"^ *(?:abbrev |unfoldable )?(?:pub )?(?:data )?([\w'◌-]+)(?: [({][^)}]*[)}])* :", re.M)
 EQUATION = re.compile(r"(?<![<>=/≡])=(?![=/>])")
@@ -27,11 +33,20 @@ Edit = tuple[int, int, str]  # from where to where, and the new text
 
 
 def listed(kind: str) -> dict[str, list[str]]:
-    """What changed_words.txt lists of a kind: a word or a type, and what may stand for it."""
+    """What changed_words.txt lists of a kind: a word or a type, and what may replace it."""
     return {word: new.split() for word, new in re.findall(rf"^-- {kind} (.+?): (.*)$", HELPERS, re.M)}
 
 
+def before_a_list(words: list[str]) -> re.Pattern[str]:
+    """What is before the last argument of one of some words, which is a list."""
+    more = r"(?:\((?:[^()]|\([^()]*\))*\) +|\w+ +)*(?:\((?:letters_of|cards_in|map rank_of) +)?"
+    return re.compile(rf"\b(?:{'|'.join(words)}) +{more}$")
+
+
 TURNED, GIVEN_UP, OTHERWISE = listed("the word"), listed("a body of"), listed("an argument of")
+SETS = listed("a list")["named as a set"]
+IN_ANY_ORDER, AS_A_SET = (before_a_list(listed("a list")[kind]) for kind in ("in any order", "as a set"))
+SAME = {"Dropped": "Unit {0}", **dict(re.findall(r"^(give_\w+) = (.*)$", HELPERS, re.M))}  # a body that gives up already
 EXPORTED = re.findall(r"^(?:pub use \S+\.\{(.*)\}|abbrev pub (\S+) :.*)$", HELPERS, re.M)
 WORDS = [word for words, own in EXPORTED for word in (own or words).split(", ")]
 HOMES = {word.strip("◌"): f"use Rattle.pins.specs.Changed.{{{word}}}" for word in WORDS}  # the import of each word
@@ -72,7 +87,8 @@ class Sources:
                 signed = r"^(?:abbrev |unfoldable )?pub ([\w'-]+) :((?:[^\n=]|\n +)*)$"
                 found = re.findall(signed, text, re.M)
                 self.signatures[module] = {name: " ".join(signature.split()) for name, signature in found}
-                aliases.update(re.findall(r"^abbrev pub (\w+) : Type 0\n\1 = (.*)$", text, re.M))
+                for alias, kind in re.findall(r"^abbrev pub (\w+) : Type 0\n\1 = (.*)$", text, re.M):
+                    aliases[alias] = f"({kind})" if "→" in kind else kind
         for signatures in self.signatures.values():
             for name, signature in signatures.items():
                 signatures[name] = re.sub(r"\w+", lambda word: aliases.get(word[0], word[0]), signature)
@@ -83,7 +99,7 @@ class Sources:
                 self.fields.setdefault(name, set()).add(other)
 
     def others(self, module: Module, place: str) -> dict[str, str]:
-        """Of each name of a module another one that may stand for it: the next variant without a value, or the next
+        """Of each name of a module another one that may replace it: the next variant without a value, or the next
         definition with the same signature."""
         if place.endswith(".TheVariants"):
             variants = self.texts.get((*module[:2], place), "")
@@ -154,6 +170,17 @@ def parts_of(text: str, sign: str) -> list[str]:
     return parts
 
 
+def arms_of(tokens: list[re.Match[str]]) -> tuple[int, int]:
+    """Where the `then` and the `else` are of the `if` that tokens begin with."""
+    depth, then = 0, 0
+    for n, token in enumerate(tokens):
+        depth += (token[0] == "if") - (token[0] == "else")
+        then = then or n * (token[0] == "then" and depth == 1)
+        if not depth:
+            return then, n
+    raise ValueError("an `if` without an `else`")
+
+
 class Definition:
     """A declaration: its text, and the types of its signature. A kind of change is a method that yields its edits."""
 
@@ -161,13 +188,13 @@ class Definition:
         self.header, self.block, self.spans = header, block, [*sides_of(block)]
         self.types = [part.strip() for part in parts_of(header.signatures.get(name, ""), "→")]
 
-    def edits(self) -> list[Edit]:
-        """All changes. Where they are few, the bodies give up, too."""
-        found = [edit for span in self.spans for kind in (self.of_words, self.dropped) for edit in kind(*span)]
-        found += [edit for span in self.spans for edit in self.of_arguments(*span)] + [*self.neighbours()]
-        if len(found) < ENOUGH:
-            found += [edit for kind in (self.given_up, self.otherwise) for span in self.spans for edit in kind(*span)]
-        return found
+    def edits(self) -> Iterator[Edit]:
+        """All changes."""
+        kinds = (self.of_words, self.of_clauses, self.of_arguments, self.otherwise, self.of_rests, self.of_steps)
+        for span in self.spans:
+            for kind in (*kinds, self.given_up):
+                yield from kind(*span)
+        yield from self.neighbours()
 
     def of_words(self, start: int, end: int) -> Iterator[Edit]:
         """Each word for another one, each condition denied, and each call with two arguments exchanged."""
@@ -179,12 +206,12 @@ class Definition:
                 continue
             yield from ((*found.span(), new) for new in self.others(found, before))
             if token == "if":
-                yield from self.denied(tokens[n:])
+                yield from self.of_conditions(tokens[n:])
             if token in self.header.signatures:
                 yield from self.exchanged(tokens[n + 1 :], parts_of(self.header.signatures[token], "→"))
 
     def others(self, found: re.Match[str], before: str) -> Iterator[str]:
-        """What may stand for a word: another word, one more or less, another last letter, another field."""
+        """What may replace a word: another word, one more or less, another last letter, another field."""
         token, is_last = found[0], self.block[found.end() :].lstrip().startswith("[]")
         yield from (new for new in TURNED.get(token, []) if not (new == "∷last" and is_last))
         yield from self.header.turned.get(token, [])
@@ -196,15 +223,17 @@ class Definition:
         if value and token not in self.header.turned:
             yield from (f"{value}.{other}" for other in sorted(self.header.fields.get(field, ())))
 
-    def denied(self, tokens: list[re.Match[str]]) -> Iterator[Edit]:
-        """A condition denied: what is between an `if` and its `then`."""
-        depth = 0
-        for later in tokens:
-            depth += (later[0] == "if") - (later[0] == "then")
-            if not depth:
-                start, end = tokens[0].end(), later.start()
-                yield start, end, f" not ({self.block[start:end].strip()}) "
-                return
+    def of_conditions(self, tokens: list[re.Match[str]]) -> Iterator[Edit]:
+        """The condition of an `if` denied, always true and never; and with its body after the next one."""
+        then, otherwise = arms_of(tokens)
+        start, end = tokens[0].end(), tokens[then].start()
+        yield from ((start, end, new) for new in (f" not ({self.block[start:end].strip()}) ", " true ", " false "))
+        later, heads = tokens[otherwise + 1 :], [token[0] for token in tokens[1:3]]
+        is_one_of = "bytes_eq" in heads or "==" in heads  # no two such conditions hold, so their order does not matter
+        if later[0][0] == "if" and not (is_one_of and heads == [token[0] for token in later[1:3]]):
+            first, between = (start, tokens[otherwise].start()), later[0].end()
+            second = (between, later[arms_of(later)[1]].start())
+            yield start, second[1], self.block[slice(*second)] + self.block[first[1] : between] + self.block[slice(*first)]
 
     def exchanged(self, tokens: list[re.Match[str]], types: list[str]) -> Iterator[Edit]:
         """A call with two neighbouring arguments of one type, each in the place of the other."""
@@ -226,37 +255,70 @@ class Definition:
         head = self.block[self.block.rfind("\n", 0, start) + 1 : start].rstrip(" =")
         return [*zip(re.findall(r"\((?:[^()]|\([^()]*\))*\)|\S+", head)[1:], self.types)]
 
+    def uses(self, name: str, start: int, end: int, fields: str = ".") -> Iterator[tuple[int, int]]:
+        """Where a name is in a side, and neither in a text nor as a field. Its fields count if `fields` is empty."""
+        for found in re.finditer(rf"(?<![\w.'\"]){name}(?![\w'\"{fields}]| = )", self.block[start:end]):
+            yield start + found.start(), start + found.end()
+
     def of_arguments(self, start: int, end: int) -> Iterator[Edit]:
         """Each use of an argument for another argument of its type."""
         patterns = self.patterns(start)
         for one, kind in patterns:
             others = [other for other, its in patterns if its == kind and other != one and other.isidentifier()]
             if one.isidentifier() and others:
-                for found in re.finditer(rf"(?<![\w.']){one}(?![\w'])", self.block[start:end]):
-                    yield start + found.start(), start + found.end(), others[0]
+                yield from ((*at, others[0]) for at in self.uses(one, start, end, ""))
 
     def otherwise(self, start: int, end: int) -> Iterator[Edit]:
-        """Each use of an argument with one more, or of a list without its first or from behind."""
+        """Each use of an argument with one more, or of a list as another list."""
         for one, kind in self.patterns(start):
-            for new in OTHERWISE.get(kind.split(" ")[0], []) if one.isidentifier() else []:
-                for found in re.finditer(rf"(?<![\w.']){one}(?![\w'.])", self.block[start:end]):
-                    yield start + found.start(), start + found.end(), f"({new} {one})"
+            for at in self.uses(one, start, end) if one.isidentifier() else ():
+                before = self.block[start : at[0]]
+                is_set = one in SETS or AS_A_SET.search(before)
+                same = ["from_behind", "in_order"] if is_set or IN_ANY_ORDER.search(before) else []
+                words = OTHERWISE.get(kind, OTHERWISE.get(kind.split(" ")[0], []))
+                yield from ((*at, f"({new} {one})") for new in words if new not in same + ["each_once"] * bool(is_set))
 
-    def dropped(self, start: int, end: int) -> Iterator[Edit]:
-        """A product or a field without a clause that no change of a word drops."""
-        for part in parts_of(self.block[start:end], "×"):
-            clause = part.strip()
-            at = start + part.index(clause)
-            start += len(part) + 1
-            is_clause = re.search(r" [a-z(]", clause) and not re.fullmatch(r"\(\w+ :.*\)", clause)
-            if is_clause and not ATOMIC.search(clause) and re.match(r"¬|[A-Z]|\(", clause):
-                yield at, at + len(clause), "Dropped"
+    def of_rests(self, start: int, end: int) -> Iterator[Edit]:
+        """Each use of the rest of a list with its first item, and of both without it."""
+        for pattern, _ in self.patterns(start):
+            if named := re.fullmatch(r"\((?:.* ∷ )?([^∷]+ ∷ (\w+))\)", pattern):
+                yield from ((*at, f"({named[1]})") for at in self.uses(named[2], start, end))
+                both = re.finditer(re.escape(f"({named[1]})"), self.block[start:end])
+                yield from ((start + found.start(), start + found.end(), named[2]) for found in both)
+
+    def of_steps(self, start: int, end: int) -> Iterator[Edit]:
+        """Of steps after one another: one that only refuses passes, two in the other order, another one's value."""
+        steps = [found for found in re.finditer(r"^ +(\w+) ← .*\n", self.block[:end], re.M) if found.start() >= start]
+        for step, after in zip(steps, [*steps[1:], None]):
+            if step[1] == "_":
+                yield *step.span(), re.sub("←.*", "← Ok tt", step[0])
+            if after and step.end() == after.start() and not re.search(rf"\b{step[1]}\b", after[0].split("←")[1]):
+                yield step.start(), after.end(), after[0] + step[0]
+        named = [step for step in steps if step[1] != "_"]
+        for step, later in zip(named, named[1:]):
+            for one, other in ((step[1], later[1]), (later[1], step[1])):
+                yield from ((*at, other) for at in self.uses(one, later.end(), end, "") if self.block.startswith(".", at[1]))
+
+    def of_clauses(self, start: int, end: int) -> Iterator[Edit]:
+        """A clause or a premise that always holds, unless a change of a word drops it; an alternative that never does."""
+        signs = (("×", "Dropped"), ("→", "Dropped"), ("⊎", "Dropped"), ("⊎", "Never"))
+        for sign, word in signs if self.types[-1] in ("", "Type 0") else ():
+            at, parts = start, parts_of(self.block[start:end], sign)
+            for part in parts:
+                clause = part.strip()
+                where = at + part.index(clause)
+                at += len(part) + 1
+                is_clause = re.search(r" [a-z(]", clause) and not re.fullmatch(r"\(\w+ :.*\)", clause)
+                is_whole = sign != "⊎" and not ATOMIC.search(clause) or sign == "⊎" and len(parts) > 1
+                if is_clause and is_whole and re.match(r"¬|(?!List |Option )[A-Z]|\(", clause):
+                    yield where, where + len(clause), word
 
     def given_up(self, start: int, end: int) -> Iterator[Edit]:
         """A body that looks at nothing."""
-        result = self.types[-1]
+        result, body = self.types[-1], self.block[start:end].strip()
         for new in GIVEN_UP.get(result if result == "Type 0" else result.split(" ")[0], []):
-            yield start, end, f" {new}" + "\n" * self.block[start:end].endswith("\n")
+            if body not in (SAME[new], "true", "false"):
+                yield start, end, f" {new}" + "\n" * self.block[start:end].endswith("\n")
 
     def neighbours(self) -> Iterator[Edit]:
         """Each right side of several for the next one's."""
@@ -284,8 +346,8 @@ def changes_of(sources: Sources, module: Module, wanted: set[str]) -> Iterator[C
     for block in paragraphs(text):
         at = text.index(block, at)
         names = declared_names(block)
-        if not wanted & {*names} or block.startswith(("use ", "infix")) or re.search(r"^pub data ", block, re.M):
-            continue
+        if not wanted & {*names} or not re.search(r"^(?:abbrev|unfoldable|pub record) ", block, re.M):
+            continue  # it is an import, a type of data or a lemma
         for start, end, new in Definition(header, block, names[0]).edits():
             changed = block[:start] + new + block[end:]
             if changed not in seen and changed != block:

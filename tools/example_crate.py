@@ -69,7 +69,7 @@ class Declared:
         self.homes: dict[tuple[str, str], str] = {}  # a crate and a type's name: its module of src
         self.values: dict[tuple[str, str], tuple[str, str]] = {}  # the same: what it is seen as, and its view's text
         self.others: dict[str, str] = {}  # another name of a type: the type
-        for path in code_files():
+        for path in (path for path in code_files() if path.stem != "tests"):
             (crate, module), text = place_of(path), path.read_text()
             self.homes.update({(crate, name): module for name, _ in type_blocks(path)})
             self.others.update(re.findall(r"^pub(?:\(\w+\))? type (\w+) = (.*);$", text, re.M))
@@ -229,7 +229,7 @@ def file_of(module: Module, front: str = "") -> str:
 
 
 def renamed(text: str, front: dict[Module, str]) -> str:
-    """A text with the names of this one crate; modules in `front` stand below a name of their own."""
+    """A text with the names of this one crate; modules in `front` are below a name of their own."""
 
     def new_name(found: re.Match[str]) -> str:
         crate, kind, name = found.groups()

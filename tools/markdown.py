@@ -25,18 +25,13 @@ def rows(text: str) -> list[list[str]]:
     return [[cell.strip() for cell in re.split(r"(?<!\\)\|", line)] for line in lines]
 
 
-def first_cells(text: str, pattern: str) -> list[str]:
-    """The first cells of a table's rows, where they are so."""
-    return [found[1] for row in rows(text) if (found := re.fullmatch(pattern, row[0]))]
-
-
 def fenced(text: str) -> list[str]:
     """The fenced quotes of a page."""
     return re.findall(r"^```[^\n]*\n(.*?)^```$", text, re.M | re.S)
 
 
 def quoted(text: str) -> list[str]:
-    """What stands in backticks."""
+    """The texts in backticks."""
     return re.findall(r"`([^`]+)`", text)
 
 

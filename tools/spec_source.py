@@ -1,4 +1,4 @@
-"""The definitions of the repository, where they stand, and what each of them rests on.
+"""The definitions of the repository, where they are, and what each of them rests on.
 
 It reads the folders `specs` and `src` of each crate: definitions with their lines, the types and traits of Rust with
 their fields, views and invariants, and the clauses of functions. A name of a file means what the `use` and `ghost use`
@@ -18,7 +18,7 @@ from typing import NamedTuple, TypeVar
 T = TypeVar("T")
 ROOT = Path(__file__).resolve().parent.parent
 CRATES = ROOT / "crates"
-THEOREM = ("crib_answer", "answering.rt", "answer_to")  # the call that the headline is about: its crate, file and name
+THEOREM = ("crib_answer", "answer_to")  # the call that the headline is about: its crate and name
 NAME = re.compile(r"(?<![\w.])[^\W\d][\w'-]*(?:\.[\w'-]+)?|>>=|←")
 IMPORT = re.compile(
     r"^ *(?:pub )?(?:ghost )?use (?:Rattle\.(\w+)\.(specs|proofs)\.)?([\w.]+?)(?:\.\{([^}]*)\}| as (\w+))?;?$", re.M
@@ -56,10 +56,11 @@ def comment_of(lines: list[str]) -> str:
 
 class Block:
     """A definition, a type with its view, or the head of a function: its file, its name, its lines, the names in them,
-    and of a definition what its comment says."""
+    its text with comments, and of a definition what its comment says."""
 
     def __init__(self, path: Path, name: str, lines: list[str]) -> None:
-        self.path, self.name, self.lines, self.comment = path, name, code_lines(lines), comment_of(lines)
+        self.path, self.name, self.text, self.comment = path, name, lines, comment_of(lines)
+        self.lines = code_lines(lines)
         aside = r'"[^"]*"|//.*|--.*'  # texts and remarks, and in Rust the names of variants
         aside += r"|^    \w+(?=[,(])" if path.suffix == ".rt" else ""
         words = NAME.findall("\n".join(re.sub(aside, "", line) for line in self.lines))
@@ -103,11 +104,12 @@ def reached(roots: Iterable[T], below: Callable[[T], Iterable[T]]) -> list[T]:
     return [*found]
 
 
-def library_names(crate: str) -> set[str]:
-    """The names that the `lib.rt` of a crate hands out; none of a program."""
+def exported(crate: str) -> set[str]:
+    """The names that the `lib.rt` of a crate exports; of a program those that its files declare as `pub`."""
     library = CRATES / crate / "src/lib.rt"
-    handed = r"^pub use (?:\w+::)+(?:\{([^}]*)\}|(\w+));|^pub \w+ (\w+)"
-    return words_in(re.findall(handed, library.read_text(), re.M)) if library.is_file() else set()
+    head = r"^pub use (?:\w+::)+(?:\{([^}]*)\}|(\w+));|^pub \w+ (\w+)"
+    paths = [library] if library.is_file() else code_files(crate)
+    return words_in(found for path in paths for found in re.findall(head, path.read_text(), re.M))
 
 
 def paragraphs(text: str) -> list[str]:
@@ -158,7 +160,7 @@ def type_blocks(path: Path) -> list[tuple[str, Block]]:
 @dataclass
 class Function:
     """A function of src, or a ghost member: its name, the type or trait that it belongs to, whether it is `pub`, what
-    block it stands in (`impl`, `trait` or `for`), and the lines of its head and of its body."""
+    block it is in (`impl`, `trait` or `for`), and the lines of its head and of its body."""
 
     path: Path
     name: str
@@ -215,6 +217,16 @@ def functions_of(path: Path) -> Iterator[Function]:
             yield Function(path, found[2], owner, bool(found[1]), within, *head_and_body(lines, n))
 
 
+def calls_of(crate: str) -> dict[str, Function]:
+    """The calls that a crate exports, of a method by `Type::name`."""
+    names, found = exported(crate), {}
+    for one in (one for path in code_files(crate) for one in functions_of(path)):
+        is_call = one.is_pub or one.within == "trait" and not one.lines[0].lstrip().startswith("ghost")
+        if is_call and (one.owner or one.name) in names:
+            found.setdefault(f"{one.owner}::{one.name}".removeprefix("::"), one)
+    return found
+
+
 class Source:
     """All definitions of the repository, and what the names of each file mean."""
 
@@ -228,9 +240,9 @@ class Source:
         for path in code_files():
             self.types.update({(place_of(path)[0], name): block for name, block in type_blocks(path)})
 
-    def function(self, crate: str, file: str, name: str) -> Function:
-        """The function of that name in a file."""
-        return next(one for one in functions_of(CRATES / crate / "src" / file) if one.name == name)
+    def function(self, crate: str, name: str) -> Function:
+        """The function of that name in a crate."""
+        return next(one for path in code_files(crate) for one in functions_of(path) if one.name == name)
 
     def of_theorem(self) -> list[Block]:
         """The clause that is the theorem, and all that it rests on."""
@@ -242,7 +254,7 @@ class Source:
         return {name: block for (its, of, name), block in self.specs.items() if (its, of) == (crate, module)}
 
     def meanings(self, path: Path) -> dict[str, Block]:
-        """The blocks that the names of a file stand for."""
+        """The blocks that the names of a file mean."""
         if path not in self.meanings_of:
             (crate, module), text = place_of(path), path.read_text()
             found = self.of_module(crate, module) if path.suffix == ".antt" else self.rust_types(crate, text)

@@ -11,7 +11,7 @@ pass() {
     passed=$((passed + 1))
 }
 
-# fail WHAT: what differs stands in $said.
+# fail WHAT: what differs is in $said.
 fail() {
     failed=$((failed + 1))
     echo "FAILED: $1"
@@ -31,7 +31,7 @@ add() {
     failed=$((failed + more_failed))
 }
 
-# tell: the last line of a script, and its exit status, 1 where something failed.
+# `tell`: prints the last line of a script, and its exit status, 1 where something failed.
 tell() {
     echo "$passed passed, $failed failed"
     [ "$failed" -eq 0 ]

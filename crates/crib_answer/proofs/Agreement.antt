@@ -1,12 +1,14 @@
 -- The answers of one job agree with those of another.
 use Rattle.std.proofs.Common.{◌≡◌, ◌⊎◌, ◌≤◌, ℕ, List, [], ◌∷◌, ◌++◌, length, codes, Option, Some, None, Result, Ok, Err, inl, inr, refl, sym, ap, ◌∙◌}
 use Rattle.std.proofs.Common.{arith}
-use Rattle.std.specs.Prelude.{◌↔◌}
+use Rattle.std.specs.Prelude.{◌↔◌, ◌==◌, Bool, true, false, slice_index, if◌then◌else◌}
 use Rattle.std.proofs.lemmas.Bool.{cases_lt}
 use Rattle.crib_cards.specs.declared.sides.Scores.{Scores}
 use Rattle.crib_text.specs.Refusals.{Refusal}
 use Rattle.crib_text.specs.Reading.{◌>>=◌}
-use Rattle.crib_problem.specs.Setup.{Setup}
+use Rattle.crib_show.specs.declared.show.outcomes.Outcome.{Outcome}
+use Rattle.crib_show.specs.declared.show.outcomes.Outcome.TheVariants as outcome
+use Rattle.crib_problem.specs.Setup.{Setup, hands_of, start_of}
 use Rattle.crib_problem.specs.Spelling.{problem_text}
 use Rattle.crib_plan.specs.declared.plan.Node.{Node}
 use Rattle.crib_plan.specs.Nodes.{most_nodes}
@@ -16,7 +18,9 @@ use Rattle.crib_game.specs.declared.fault.GameFault.{GameFault}
 use Rattle.crib_game.specs.declared.section.game.Game.{Game}
 use Rattle.crib_game.specs.declared.replaying.report.Report.{Report}
 use Rattle.crib_game.specs.declared.replaying.report.Row.{Row}
-use Rattle.crib_game.specs.Replay.{game_fault, record_of, report_of, replay_result, unless_fault}
+use Rattle.crib_game.specs.Followed.{ending_of, ending_without, follow_fault}
+use Rattle.crib_game.specs.Following.{is_stuck}
+use Rattle.crib_game.specs.Replay.{game_fault, outcome_after, record_of, report_of, replay_result, unless_fault}
 use Rattle.crib_game.specs.Spelling.{game_text}
 use Rattle.crib_game.proofs.FollowLawProofs.{answer_law}
 use Rattle.crib_game.proofs.GameFaults.{no_fault_is}
@@ -35,7 +39,7 @@ use Rattle.crib_answer.specs.Input.{judgement_of, report_of_input, ending_of_inp
 use Rattle.crib_run.specs.Reply.{Reply}
 use Rattle.crib_run.specs.Reply.{refusal_reply}
 use Rattle.crib_answer.specs.Answer.{board_reply, ending_reply, ending_status, reply_by, report_reply}
-use Rattle.crib_answer.specs.Laws.{FailedGameLaw, FollowedGameLaw, FoundPlanLaw, SameRefusalLaw, SameReportLaw}
+use Rattle.crib_answer.specs.Laws.{FailedGameLaw, FollowedGameLaw, FoundPlanLaw, SameRefusalLaw, SameReportLaw, outcome_with}
 use Rattle.crib_answer.specs.Reported.{IsReported, last_scores}
 use Rattle.crib_answer.proofs.JudgedInputs.{board_spelled, ending_accepted, ending_spelled, report_accepted, report_spelled}
 use Rattle.crib_answer.proofs.Replies.{fails_law, first_of, planned_by_output, sure_owed}
@@ -163,8 +167,26 @@ same_report_law input reply more answers e =
 
 -- ---- a game that is followed
 
-followed_ending : (read : Result Ending Refusal) (result : Ending) → ending_reply result ≡ reply_by ending_reply read → (given : Ending) × (read ≡ Ok given)
-followed_ending (Ok given) result e = (given, refl)
+-- an ending by the first two letters of its word
+abbrev ending_called : List ℕ → Ending
+ending_called word =
+    if slice_index word 0 == 111 then ending.Open
+    else if slice_index word 0 == 108 then ending.Lost
+    else if slice_index word 0 == 114 then ending.Reached
+    else if slice_index word 1 == 116 then ending.Stuck
+    else ending.Short
+
+-- the words of endings differ
+is_called : (result : Ending) → ending_called (ending_reply result).output ≡ result
+is_called ending.Open = refl
+is_called ending.Stuck = refl
+is_called ending.Lost = refl
+is_called ending.Short = refl
+is_called ending.Reached = refl
+
+followed_ending : (read : Result Ending Refusal) (result : Ending) → ending_reply result ≡ reply_by ending_reply read → read ≡ Ok result
+followed_ending (Ok given) result e =
+    ap Ok (sym (is_called given) ∙ ap (λ (r : Reply). ending_called r.output) (sym e) ∙ is_called result)
 followed_ending (Err refusal) result e = absurd (never_refused result (ap (λ (r : Reply). r.status) e))
   where
     never_refused : (one : Ending) → ending_status one ≡ Refused → ⊥
@@ -174,16 +196,39 @@ followed_ending (Err refusal) result e = absurd (never_refused result (ap (λ (r
     never_refused ending.Short e = cc
     never_refused ending.Reached e = cc
 
+-- the ending of a record is that of its outcome
+outcome_is : (over : Option Outcome) (stuck : Bool) → over ≡ outcome_with (ending_without over stuck)
+outcome_is (Some outcome.Reached) stuck = refl
+outcome_is (Some outcome.Lost) stuck = refl
+outcome_is (Some outcome.Short) stuck = refl
+outcome_is None true = refl
+outcome_is None false = refl
+
+-- the ending of a game that is followed
+ending_is : (fault : Option GameFault) (value result : Ending) → ◌≡◌ {A = Result Ending GameFault} (unless_fault fault value) (Ok result) → value ≡ result
+ending_is None value result e = cc
+ending_is (Some fault) value result e = absurd cc
+
 pub followed_game_law : FollowedGameLaw
+unfolding reported
 followed_game_law input result answers =
     let read = followed_ending (ending_of_input input) result answers in
-    let has = ending_accepted input read.0 read.1 in
+    let has = ending_accepted input result read in
     let problem = has.problem in
     let game = has.game in
     let setup = has.spelled.problem_is in
-    let stands = answer_law problem has.plan game read.0 setup has.spelled.game_is.six has.followed in
+    let stands = answer_law problem has.plan game result setup has.spelled.game_is.six has.followed in
     let none = no_fault_is problem game (record_of problem game) setup stands.of_game.of_game in
     let spelled : SpellsGame (problem_text problem ++ game_text game) problem game =
     record { problem_is = setup; game_is = has.spelled.game_is; text = refl } in
     let replayed = ap (λ (fault : Option GameFault). unless_fault fault (report_of problem game)) none in
-    (problem, has.plan, game, has.spelled, reported (problem_text problem ++ game_text game) problem game spelled replayed)
+    let over = outcome_after problem game.opp (record_of problem game) in
+    let stuck = is_stuck has.plan problem.played (start_of problem) (hands_of problem game.opp) (record_of problem game) in
+    let same = ending_is (follow_fault problem has.plan game) (ending_of problem has.plan game.opp (record_of problem game)) result has.followed in (
+      problem,
+      has.plan,
+      game,
+      has.spelled,
+      reported (problem_text problem ++ game_text game) problem game spelled replayed,
+      outcome_is over stuck ∙ ap outcome_with same,
+    )

@@ -9,6 +9,7 @@ use Rattle.crib_problem.proofs.Setups.{setup_from}
 use Rattle.crib_plan.specs.declared.plan.Node.{Node}
 use Rattle.crib_plan.specs.Nodes.{ArePlan}
 use Rattle.crib_plan.specs.Spelling.{plan_text, plan_lines}
+use Rattle.crib_show.specs.declared.show.outcomes.Outcome.TheVariants as outcome
 use Rattle.crib_game.specs.declared.section.game.Game.{Game}
 use Rattle.crib_game.specs.declared.following.ending.Ending.{Ending}
 use Rattle.crib_game.specs.declared.following.ending.Ending.TheVariants as ending
@@ -27,7 +28,7 @@ use Rattle.crib_run.specs.Reply.{Reply, fault_line, fault_reply, refusal_reply}
 use Rattle.crib_answer.specs.Answer.{AnswersCheck, AnswersProblem, AnswersSolve, AsksForMemory, board_reply, ending_reply, found_reply, reply_by, report_reply}
 use Rattle.crib_answer.specs.Answer.{too_large, verdict_reply}
 use Rattle.crib_answer.specs.Input.{board_of_input, ending_of_input, report_of_input}
-use Rattle.crib_answer.specs.Laws.{IsAccepted}
+use Rattle.crib_answer.specs.Laws.{IsAccepted, outcome_with}
 use Rattle.crib_input.specs.Input.{most_bytes, problem_of_input, question_of_input}
 use Rattle.crib_input.specs.Spelled.{SpellsProblem, SpellsPlan}
 use Rattle.crib_check.specs.Failing.{IsFirstFailing}
@@ -48,6 +49,11 @@ sections_by_job = refl
 -- `replay` never asks for memory
 pub replay_asks_for_none : AsksForMemory Replay [] → ⊥
 replay_asks_for_none asks = asks
+
+-- the outcome of each ending: a game that is stuck is open
+pub outcomes_by_ending : map outcome_with (ending.Open ∷ ending.Stuck ∷ ending.Lost ∷ ending.Short ∷ ending.Reached ∷ [])
+    ≡ None ∷ None ∷ Some outcome.Lost ∷ Some outcome.Short ∷ Some outcome.Reached ∷ []
+outcomes_by_ending = refl
 
 -- an input has at most 8,388,608 bytes
 pub longest_input : most_bytes ≡ 8388608

@@ -1,6 +1,5 @@
 pub mod Lines
 pub mod RightReplies
-pub mod Reasons
 pub mod Replies
 pub mod AnswerMeanings
 pub mod CutShortInputs
@@ -8,3 +7,4 @@ pub mod Examples
 mod ReplyExamples
 pub mod JudgedInputs
 pub mod Agreement
+mod InputExamples

@@ -9,10 +9,8 @@ use Rattle.crib_plan.specs.Nodes.{most_nodes}
 use Rattle.crib_check.specs.Verdicts.{IsRight}
 use Rattle.crib_check.specs.declared.verdict.Verdict.{Verdict}
 use Rattle.crib_check.specs.declared.verdict.Verdict.TheVariants.{Holds}
-use Rattle.crib_run.specs.Reply.{Reply}
-use Rattle.crib_run.specs.Reply.{fault_reply}
+use Rattle.crib_run.specs.Reply.{Reply, fault_reply, refusal_reply}
 use Rattle.crib_answer.specs.Answer.{Answers, AnswersCheck, AnswersProblem, Makes, found_reply, verdict_reply}
-use Rattle.crib_run.specs.Reply.{refusal_reply}
 use Rattle.crib_search.specs.Finder.{IsFound, ExceedsLimit}
 use Rattle.crib_input.specs.Input.{most_bytes, problem_alone_at, problem_of_input, question_at, question_of_input}
 use Rattle.crib_input.specs.Input.{played_at, played_of_input, played_under_at, played_under_of_input}

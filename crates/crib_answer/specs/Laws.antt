@@ -1,12 +1,15 @@
 -- The laws of the replies. They say what the bytes of an input spell, by the bytes of the right reply to it.
-use Rattle.std.specs.Prelude.{◌≡◌, ◌⊎◌, ◌↔◌, ◌<◌, ℕ, List, ◌∷◌, ◌++◌, length, codes}
+use Rattle.std.specs.Prelude.{◌≡◌, ◌⊎◌, ◌↔◌, ◌<◌, ℕ, List, ◌∷◌, ◌++◌, Option, Some, None, length, codes}
 use Rattle.crib_text.specs.Refusals.{Refusal, cut_short, too_long}
 use Rattle.crib_text.specs.Words.{line_after}
+use Rattle.crib_show.specs.declared.show.outcomes.Outcome.{Outcome}
+use Rattle.crib_show.specs.declared.show.outcomes.Outcome.TheVariants as outcome
 use Rattle.crib_problem.specs.Setup.{Setup}
 use Rattle.crib_problem.specs.Spelling.{problem_text}
 use Rattle.crib_plan.specs.declared.plan.Node.{Node}
 use Rattle.crib_game.specs.declared.section.game.Game.{Game}
 use Rattle.crib_game.specs.declared.following.ending.Ending.{Ending}
+use Rattle.crib_game.specs.declared.following.ending.Ending.TheVariants as ending
 use Rattle.crib_game.specs.Spelling.{game_text}
 use Rattle.crib_check.specs.declared.verdict.Verdict.TheVariants.{Holds, Fails}
 use Rattle.crib_check.specs.Sure.{IsSure}
@@ -114,13 +117,22 @@ FoundPlanLaw =
     (input : List ℕ) (reply : Reply) (more : List ℕ) → Answers Solve input reply →
     reply.output ≡ codes "plan" ++ more → Answers Check (input ++ reply.output) (verdict_reply Holds)
 
+-- the outcome of a deal with an ending: an open game and a stuck one have none
+abbrev pub outcome_with : Ending → Option Outcome
+outcome_with ending.Open = None
+outcome_with ending.Stuck = None
+outcome_with ending.Lost = Some outcome.Lost
+outcome_with ending.Short = Some outcome.Short
+outcome_with ending.Reached = Some outcome.Reached
+
 -- if the right reply of `follow` to an input is an ending, the input spells a problem, a plan and a game. The problem
--- and the game without the plan have a report with the acts of this game
+-- and the game without the plan have a report with the acts of this game, and its outcome is that of the ending
 abbrev pub FollowedGameLaw : Type 0
 FollowedGameLaw =
     (input : List ℕ) (result : Ending) → Answers Follow input (ending_reply result) →
     (problem : Setup) × (plan : List Node) × (game : Game) × SpellsPlannedGame input problem plan game
-    × IsReported (problem_text problem ++ game_text game) problem game
+    × (reported : IsReported (problem_text problem ++ game_text game) problem game)
+    × (reported.report.over ≡ outcome_with result)
 
 -- `replay` refuses an input exactly as `board` does
 abbrev pub SameRefusalLaw : Type 0

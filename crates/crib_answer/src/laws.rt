@@ -53,7 +53,8 @@ pub fn solve_law()
 /// - `found_plan`: if the right reply of `solve` is a plan, `holds` is the right reply of `check` to the same input
 ///   with that plan after it.
 /// - `followed_game`: if the right reply of `follow` is an ending, the problem and the game without the plan are a game
-///   that `replay` accepts, with the same acts.
+///   that `replay` accepts, with the same acts. The ending is the outcome that `replay` reports, and `open` or `stuck`
+///   only if that is `open`.
 /// - `same_refusal`: `replay` and `board` refuse the same inputs, with the same line and number.
 /// - `same_report`: if the right reply of `replay` has scores, they are those on the board that is the right reply of
 ///   `board` to the same input. After `play` it has the scores of the board's last act, and each counted hand has the

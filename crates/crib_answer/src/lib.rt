@@ -6,15 +6,13 @@ mod ending;
 mod job;
 mod laws;
 mod passed;
-mod reason;
 mod report;
 mod solve;
 mod verdict;
 
-pub use answering::answer_to;
+pub use answering::{answer_of, answer_to};
 pub use job::{Job, NAMES, UnknownJob};
 pub use laws::{agreement_law, check_law, reply_law, solve_law};
-pub use reason::reason_of;
 
 #[cfg(test)]
 mod tests;

@@ -2,29 +2,32 @@
 ghost use Rattle.std.specs.Prelude.{◌≡◌, ◌≢◌, ◌⊎◌, ◌≤◌, length};
 ghost use Rattle.crib_text.specs.Refusals.{no_memory};
 ghost use Rattle.crib_game.specs.Spelling.{game_text};
-ghost use Rattle.crib_run.specs.Reply.{fault_reply};
 ghost use Rattle.crib_answer.specs.Answer.{verdict_reply};
-ghost use Rattle.crib_run.specs.Reply.{reply_of};
+ghost use Rattle.crib_run.specs.Reply.{IsOutcome, fault_reply, reply_of};
 
 use crate::ending::add_ending;
 use crib_check::Verdict;
 use crib_game::{Ending, Game, write_game};
-use crib_run::{Answer, ShortText, Status, Text, add, line_answer, memory_answer};
+use crib_input::{FaultCause, Reason};
+use crib_run::{Answer, ShortText, Status, Text, add, line_answer};
 use std::alloc::Allocator;
 
 /// Returns the answer to a verdict (docs/FORMATS.md, "check"): `holds` with the status `Yes`, or `fails`, the ending
-/// and the first failing game with the status `No`. Only the text of the game is allocated. If that fails, the answer
-/// is `fault 11`.
+/// and the first failing game with the status `No`. Only the text of the game is allocated. If that fails, so does the
+/// answer.
 #[tactic(auto, using(crate::proofs::Lines::verdicts))]
-pub(crate) fn verdict_answer<A: Allocator + Copy>(alloc: A, verdict: &Verdict) -> Answer<A>
-    ensures { (reply_of result ≡ verdict_reply verdict.now)
-        ⊎ ((verdict.now ≢ Verdict.Holds) × (reply_of result ≡ fault_reply no_memory)) }
+pub(crate) fn verdict_answer<A: Allocator + Copy>(
+    alloc: A,
+    verdict: &Verdict,
+) -> Result<Answer<A>, Reason>
+    ensures { IsOutcome reply_of (λ reply. (reply ≡ verdict_reply verdict.now)
+        ⊎ ((verdict.now ≢ Verdict.Holds) × (reply ≡ fault_reply no_memory))) result }
 {
     match verdict {
-        Verdict::Holds => line_answer(b"holds\n", Status::Yes),
+        Verdict::Holds => Ok(line_answer(b"holds\n", Status::Yes)),
         Verdict::Fails(ending, game) => match write_game(alloc, game) {
-            Ok(section) => failure_answer(*ending, game, section.as_slice()),
-            Err(_) => memory_answer(),
+            Ok(section) => Ok(failure_answer(*ending, game, section.as_slice())),
+            Err(_) => Err(Reason::Fault(FaultCause::NoMemory)),
         },
     }
 }

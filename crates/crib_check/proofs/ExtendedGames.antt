@@ -1,4 +1,4 @@
--- Games that go on from a history. Each stops there, or goes on with a turn that may come.
+-- Games that go on from a history. Each stops there, or goes on with a turn that may be next.
 use Rattle.std.proofs.Common.{◌≡◌, ◌⊎◌, List, [], ◌∷◌, ◌++◌, map, refl, sym, ap, ◌∙◌, inl, inr, append_assoc}
 use Rattle.std.proofs.lemmas.List.{map-append}
 use Rattle.crib_cards.specs.Start.{pone_of}

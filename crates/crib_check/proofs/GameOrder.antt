@@ -20,7 +20,7 @@ use Rattle.crib_check.specs.Failing.{opponent_letters, comes_before}
 use Rattle.crib_check.specs.Private.Histories.{Extends, history_of_game}
 use Rattle.crib_cards.proofs.DictionaryOrder.{before_first, before_rest, not_before_rest, not_before_self}
 
--- an event tells whose turn it was
+-- an event shows whose turn it was
 pub same_side_of : (side other : Side) (what move : Move) → event_by side what ≡ event_by other move → side ≡ other
 same_side_of Owner Owner what move e = refl
 same_side_of Owner Opponent what move e = absurd cc

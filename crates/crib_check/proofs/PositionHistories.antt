@@ -1,4 +1,4 @@
--- The first position stands for the opening, and the position after a turn stands for the history with that turn. The opening is the visible turns that the
+-- The first position represents the opening, and the position after a turn represents the history with that turn. The opening is the visible turns that the
 -- problem lists as played.
 use Rattle.std.proofs.Common.{◌≡◌, List, [], ◌∷◌, sym, ap, ◌∙◌}
 use Rattle.crib_play.specs.History.{Event}

@@ -64,7 +64,7 @@ module _ (problem : Setup) (plan : List Node) (key : Key) (history : List Event)
       ending_here dealt ≡ ending_without (outcome_if_done (is_over turn) (full_at problem dealt table)) stuck
   ends_as turn stuck asked is dealt = (λ i. ending_without (outcome_if_done (is_over (asked i)) (full_at problem dealt table)) (is i))
 
-  -- the side that is asked makes the turn that comes
+  -- the side that is asked makes the next turn
   abbrev side_of : Event → Turn
   side_of (Own turn) = turns.Owner
   side_of (Theirs letter) = turns.Opponent
@@ -75,7 +75,7 @@ module _ (problem : Setup) (plan : List Node) (key : Key) (history : List Event)
   may_asked (Theirs letter) may =
       ap (λ (k : Knowledge). k.round.asked) stands.knows.knowledge ∙ theirs_asked problem stands.knows.setup history letter may
 
-  -- the owner's turn that may come, in terms of the position
+  -- the owner's turn that may be next, in terms of the position
   pub own_turn_may : (what : Move) → MayCome problem history (Own what) → CanDoAt key.know what
   own_turn_may = own_may key.know problem history stands.knows
 
@@ -162,7 +162,7 @@ module _ (problem : Setup) (plan : List Node) (key : Key) (history : List Event)
   own_open : (what : Move) → MayTakeAt plan key what → (dealt : Dealt) → ending_here dealt ≡ ending.Open
   own_open what may = ends_as turns.Owner false (take_asked what may) (not_stuck what may)
 
-  -- the turn that comes is the move of the plan
+  -- the next turn is the move of the plan
   pub own_event : (what : Move) → MayTakeAt plan key what → (event : Event) → MayCome problem history event →
       IsStatedEvent plan (place_by plan problem.played history) event → event ≡ Own what
   own_event (move.Card card) may (Own (move.Card other)) come is =

@@ -94,7 +94,7 @@ move_step hands side (move.Card card) past place are =
 move_step hands side move.Go past place are =
     ap (λ (b : Bool). cond b (Some (MustPlay place)) None) (any-set_of (fits past) (cards_left hands side past) (all_left hands side past are))
 
--- the round after some turns stands for the filled record of their moves
+-- the round after some turns represents the filled record of their moves
 pub shows_filled : (table : Standing) (start : Start) (seen : List Move) → table ≡ standing_after start (filled_record start (letters_of seen)) →
     table ≡ standing_after start (letters_of (filled_moves start seen))
 shows_filled table start seen shows = shows ∙ ap (standing_after start) (sym (letters_filled start seen))

@@ -1,3 +1,5 @@
 pub mod Inputs
 pub mod GameInputs
 pub mod CutShortInputs
+pub mod InputReaders
+mod InputExamples

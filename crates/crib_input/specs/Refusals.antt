@@ -2,7 +2,7 @@
 use Rattle.std.specs.Prelude.{◌≡◌, ◌≢◌, ℕ, Result, Ok, Err}
 use Rattle.crib_text.specs.declared.fault.Fault.{Fault}
 use Rattle.crib_text.specs.Refusals as texts
-use Rattle.crib_text.specs.Refusals.{Refusal, no_memory}
+use Rattle.crib_text.specs.Refusals.{Refusal, no_memory, read_fault}
 use Rattle.crib_problem.specs.Refusals.{problem_cause_number}
 use Rattle.crib_plan.specs.Refusals.{plan_cause_number, plan_refusal}
 use Rattle.crib_game.specs.Refusals.{game_fault_number}
@@ -10,8 +10,10 @@ use Rattle.crib_plan.specs.declared.fault.PlanCause.{PlanCause}
 use Rattle.crib_input.specs.declared.refusal.Cause.{Cause}
 use Rattle.crib_input.specs.declared.refusal.Cause.TheVariants.{Text, Problem, Plan, Game}
 use Rattle.crib_input.specs.declared.refusal.Refusal as refusals
-use Rattle.crib_input.specs.declared.refusal.NotRead.{NotRead}
-use Rattle.crib_input.specs.declared.refusal.NotRead.TheVariants as not_reads
+use Rattle.crib_input.specs.declared.reason.FaultCause.{FaultCause}
+use Rattle.crib_input.specs.declared.reason.FaultCause.TheVariants.{ReadFailed, WriteFailed, NoMemory, TooLarge}
+use Rattle.crib_input.specs.declared.reason.Reason.{Reason}
+use Rattle.crib_input.specs.declared.reason.Reason.TheVariants as reasons
 
 -- the number of a cause
 abbrev pub input_cause_number : Cause → ℕ
@@ -24,16 +26,23 @@ input_cause_number (Game fault) = game_fault_number fault
 abbrev pub refusal_of : refusals.Refusal → Refusal
 refusal_of refusal = record { line = refusal.line; number = input_cause_number refusal.cause }
 
+-- the number of a fault
+abbrev pub fault_number : FaultCause → ℕ
+fault_number ReadFailed = read_fault
+fault_number WriteFailed = 10
+fault_number NoMemory = no_memory
+fault_number TooLarge = 50
+
 -- a result agrees with what was read: its value, seen through `view`, is the one that was read, or it has the same
--- refusal. If an allocation failed, this says nothing
-abbrev pub ReadsAs : {X Y : Type 0} → (X → Y) → Result X NotRead → Result Y Refusal → Type 0
+-- refusal. The only fault of reading is that an allocation failed
+abbrev pub ReadsAs : {X Y : Type 0} → (X → Y) → Result X Reason → Result Y Refusal → Type 0
 ReadsAs view (Ok value) said = said ≡ Ok (view value)
-ReadsAs view (Err (not_reads.Refused refusal)) said = said ≡ Err (refusal_of refusal)
-ReadsAs view (Err not_reads.Memory) said = Unit {0}
+ReadsAs view (Err (reasons.Refused refusal)) said = said ≡ Err (refusal_of refusal)
+ReadsAs view (Err (reasons.Fault cause)) said = cause ≡ NoMemory
 
 -- an input was not read because of a fault of its plan: an allocation failed if the fault has the number `no_memory`,
 -- and otherwise the input has the refusal of the fault
-abbrev pub IsForPlan : Fault PlanCause → NotRead → Type 0
-IsForPlan fault (not_reads.Refused refusal) =
+abbrev pub IsForPlan : Fault PlanCause → Reason → Type 0
+IsForPlan fault (reasons.Refused refusal) =
     (refusal_of refusal ≡ plan_refusal fault) × (plan_cause_number fault.cause ≢ no_memory)
-IsForPlan fault not_reads.Memory = plan_cause_number fault.cause ≡ no_memory
+IsForPlan fault (reasons.Fault cause) = (cause ≡ NoMemory) × (plan_cause_number fault.cause ≡ no_memory)

@@ -2,13 +2,15 @@
 #![tactic(auto)]
 
 mod reading;
+mod reason;
 mod refusal;
 mod sections;
 
 pub use reading::{
     Played, PlayedUnder, Question, played_of, played_under_of, problem_of, question_of,
 };
-pub use refusal::{Cause, NotRead, Refusal};
+pub use reason::{FaultCause, Reason};
+pub use refusal::{Cause, Refusal};
 pub use sections::Sections;
 
 #[cfg(test)]

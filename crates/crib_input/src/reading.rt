@@ -4,8 +4,11 @@ ghost use Rattle.crib_text.specs.Reading.{Gives};
 ghost use Rattle.crib_input.specs.Input.{played_of_input, played_under_of_input, problem_of_input, question_of_input};
 ghost use Rattle.crib_input.specs.Memory.{count_of_input};
 ghost use Rattle.crib_input.specs.Refusals.{ReadsAs, refusal_of};
+ghost use Rattle.crib_input.specs.declared.reason.FaultCause.TheVariants.{NoMemory};
+ghost use Rattle.crib_input.specs.declared.reason.Reason.TheVariants.{Fault};
 
-use crate::refusal::{NotRead, Refusal};
+use crate::reason::Reason;
+use crate::refusal::Refusal;
 use crib_game::{Game, read_game};
 use crib_plan::{Plan, read_plan};
 use crib_problem::{Problem, read_problem};
@@ -52,13 +55,14 @@ pub fn problem_of(input: &[u8]) -> Result<Problem, Refusal>
     Ok(problem)
 }
 
-/// Reads a problem and a plan. Returns them. Fails with the first refusal, or with [`NotRead::Memory`] if the
-/// allocation for the plan fails. It allocates only if the problem and the first two lines of the plan are not refused.
+/// Reads a problem and a plan. Returns them. Fails with the first refusal, or with
+/// [`FaultCause::NoMemory`](crate::FaultCause) if the allocation for the plan fails. It allocates only if the problem
+/// and the first two lines of the plan are not refused.
 #[tactic(auto, unfolding(crate::specs::Input::input_lines, crate::specs::Input::question_of_input, crate::specs::Input::question_at, crate::specs::Memory::count_of_input, crate::specs::Memory::count_behind))]
-pub fn question_of<A: Allocator + Copy>(alloc: A, input: &[u8]) -> Result<Question<A>, NotRead>
+pub fn question_of<A: Allocator + Copy>(alloc: A, input: &[u8]) -> Result<Question<A>, Reason>
     requires { length input.now ≤ MAX_INPUT }
     ensures read { ReadsAs (λ question. (question.problem, question.plan)) result (question_of_input input.now) }
-    ensures asked { result ≡ Err NotRead.Memory → IsOk (count_of_input input.now) }
+    ensures asked { result ≡ Err (Fault NoMemory) → IsOk (count_of_input input.now) }
 {
     let mut lines = Lines::new(input)?;
     let problem = read_problem(&mut lines)?;
@@ -86,18 +90,19 @@ pub fn played_of(input: &[u8]) -> Result<Played, Refusal>
     })
 }
 
-/// Reads a problem, a plan and a game. Returns them. Fails with the first refusal, or with [`NotRead::Memory`] if the
-/// allocation for the plan fails. It allocates only if the problem and the first two lines of the plan are not refused.
+/// Reads a problem, a plan and a game. Returns them. Fails with the first refusal, or with
+/// [`FaultCause::NoMemory`](crate::FaultCause) if the allocation for the plan fails. It allocates only if the problem
+/// and the first two lines of the plan are not refused.
 /// The game may not fit the problem, and it may stray from the plan.
 #[tactic(auto, unfolding(crate::specs::Input::input_lines, crate::specs::Input::played_under_of_input, crate::specs::Input::played_under_at, crate::specs::Memory::count_of_input, crate::specs::Memory::count_behind))]
 pub fn played_under_of<A: Allocator + Copy>(
     alloc: A,
     input: &[u8],
-) -> Result<PlayedUnder<A>, NotRead>
+) -> Result<PlayedUnder<A>, Reason>
     requires { length input.now ≤ MAX_INPUT }
     ensures read { ReadsAs (λ played. (played.problem, played.plan, played.game, played.first)) result
         (played_under_of_input input.now) }
-    ensures asked { result ≡ Err NotRead.Memory → IsOk (count_of_input input.now) }
+    ensures asked { result ≡ Err (Fault NoMemory) → IsOk (count_of_input input.now) }
 {
     let mut lines = Lines::new(input)?;
     let problem = read_problem(&mut lines)?;

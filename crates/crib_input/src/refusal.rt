@@ -2,11 +2,10 @@
 ghost use Rattle.std.specs.Prelude.{◌≡◌, ◌+◌, ◌≤◌, length};
 ghost use Rattle.crib_game.specs.Refusals.{game_refusal};
 ghost use Rattle.crib_input.specs.declared.refusal.Cause.TheVariants as causes;
-ghost use Rattle.crib_input.specs.declared.refusal.NotRead.TheVariants as not_reads;
-ghost use Rattle.crib_input.specs.Refusals.{IsForPlan, input_cause_number, refusal_of};
+ghost use Rattle.crib_input.specs.Refusals.{input_cause_number, refusal_of};
 
 use crib_game::{Game, GameFault};
-use crib_plan::{PlanCause, PlanFault};
+use crib_plan::PlanCause;
 use crib_problem::{ProblemCause, ProblemFault};
 use crib_text::{TextCause, TextFault};
 use thiserror::Error;
@@ -82,45 +81,5 @@ impl From<ProblemFault> for Refusal {
 
     fn from(fault: ProblemFault) -> Refusal {
         Refusal::at(fault.line, Cause::Problem(fault.cause))
-    }
-}
-
-/// Why an input was not read.
-#[derive(Clone, Copy, Debug, PartialEq, Eq, Error)]
-pub enum NotRead {
-    /// The input is refused.
-    #[error(transparent)]
-    Refused(Refusal),
-    /// An allocation failed.
-    #[error("out of memory")]
-    Memory,
-}
-
-impl From<TextFault> for NotRead {
-    ghost from_gives = { λ fault not_read.
-        not_read ≡ not_reads.Refused (record { line = fault.line; cause = causes.Text fault.cause }) };
-
-    fn from(fault: TextFault) -> NotRead {
-        NotRead::Refused(Refusal::from(fault))
-    }
-}
-
-impl From<ProblemFault> for NotRead {
-    ghost from_gives = { λ fault not_read.
-        not_read ≡ not_reads.Refused (record { line = fault.line; cause = causes.Problem fault.cause }) };
-
-    fn from(fault: ProblemFault) -> NotRead {
-        NotRead::Refused(Refusal::from(fault))
-    }
-}
-
-impl From<PlanFault> for NotRead {
-    ghost from_gives = { λ fault not_read. IsForPlan fault not_read };
-
-    fn from(fault: PlanFault) -> NotRead {
-        if fault.cause.number() == TextCause::NoMemory.number() {
-            return NotRead::Memory;
-        }
-        NotRead::Refused(Refusal::at(fault.line, Cause::Plan(fault.cause)))
     }
 }

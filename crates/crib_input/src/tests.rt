@@ -52,7 +52,7 @@ const PROBLEMS: &[Row] = &[
         problem!("1", "3H", "0 x", "win", ""),
         3,
         6,
-        "not a number that may stand here",
+        "not a valid number here",
     ),
     ("problem 3\n", 1, 7, "not a version of this section"),
     (
@@ -61,12 +61,7 @@ const PROBLEMS: &[Row] = &[
         8,
         "after the last section",
     ),
-    (
-        problem!("1", "8C", "0 0", "win", ""),
-        5,
-        20,
-        "a card that stood before",
-    ),
+    (problem!("1", "8C", "0 0", "win", ""), 5, 20, "already used"),
     (problem!("1", "3H", "0 121", "win", ""), 3, 21, "above 120"),
     (
         problem!("1", "3H", "0 0", "holes 0", ""),
@@ -114,7 +109,7 @@ const PLANS: &[Row] = &[
         planned!("plan 1\nnodes 2\n0 see :1\n1 play TC end\n"),
         10,
         31,
-        "not a branch that may stand here",
+        "not a valid branch",
     ),
     (planned!("plan 1\nnodes 65536\n"), 9, 32, "above 65,535"),
 ];
@@ -207,9 +202,9 @@ fn is_refusal(
         format!(in rt.alloc(); "{refusal}")?.as_str(),
         whole.as_str()
     );
-    let not_read = NotRead::Refused(refusal);
+    let reason = Reason::Refused(refusal);
     assert_eq!(rt;
-        format!(in rt.alloc(); "{not_read}")?.as_str(),
+        format!(in rt.alloc(); "{reason}")?.as_str(),
         whole.as_str()
     );
     Ok(())
@@ -227,7 +222,7 @@ fn problems_are_refused_with_a_sentence(rt: HostRuntime) -> Result<(), Fail> {
 fn plans_are_refused_with_a_sentence(rt: HostRuntime) -> Result<(), Fail> {
     for row in PLANS {
         match question_of(rt.alloc(), input(&rt, row)) {
-            Err(NotRead::Refused(refusal)) => is_refusal(&rt, Some(refusal), row)?,
+            Err(Reason::Refused(refusal)) => is_refusal(&rt, Some(refusal), row)?,
             _ => panic!(rt; "read, or out of memory"),
         }
     }
@@ -274,7 +269,7 @@ fn an_input_that_is_too_long_has_a_sentence(rt: HostRuntime) -> Result<(), Fail>
         &("too long", 0, 2, "longer than 8,388,608 bytes"),
     )?;
     assert_eq!(rt;
-        format!(in rt.alloc(); "{}", NotRead::Memory)?.as_str(),
+        format!(in rt.alloc(); "{}", Reason::Fault(FaultCause::NoMemory))?.as_str(),
         "out of memory"
     );
     Ok(())

@@ -1,4 +1,4 @@
--- Each hidden deal that agrees with a history passes, and the letter that it shows next can come.
+-- Each hidden deal that agrees with a history passes, and the letter that it shows next can be next.
 use Rattle.std.proofs.lemmas.Bool.Decides.{nat_tests}
 use Rattle.std.proofs.Common.{◌≡◌, ◌⊎◌, ℕ, ◌+◌, ◌<◌, ◌≤◌, Bool, true, false, not, ◌&&◌, ◌||◌, eqb, leb, List, map, length, count_by, refl, sym, ap, subst, ◌∙◌}
 use Rattle.std.proofs.Common.{inl, inr, arith}
@@ -207,7 +207,7 @@ module _ (problem : Setup) (setup : IsSetup problem) (dealt : Dealt) (deal : IsD
     covers_turn (move.Card card) may m = covers_card card may m
     covers_turn move.Go may m = covers_pass may m
 
-  -- the letter that an agreeing deal shows next can come
+  -- the letter that an agreeing deal shows next can be next
   pub covers : (history : List Event) (letter : Letter) → LastPlay the_start the_hands (Theirs letter) history → Might problem history letter
   covers history letter last =
       let is = theirs_is (mover (pone_of the_start) (filled_record the_start (history_letters history))) last.1.turn letter last.1.shows in

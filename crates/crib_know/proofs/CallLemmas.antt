@@ -1,4 +1,4 @@
--- What each call requires and gives, for a knowledge that stands for a history.
+-- What each call requires and gives, for a knowledge that represents a history.
 use Rattle.std.proofs.Common.{map, count_by, ◌++◌, []}
 use Rattle.crib_cards.specs.Sets.{rank_counts}
 use Rattle.crib_cards.proofs.SetCounts.{count_append}
@@ -53,7 +53,7 @@ counts_more listed rank is = counts_with-rank_counts listed rank is ∙ (λ i. m
     each : (f : ℕ → Bool) → count_by f (listed ++ rank ∷ []) ≡ count_by f (rank ∷ listed)
     each f = omega (arith, count_append f listed (rank ∷ []), count_append f (rank ∷ []) listed)
 
--- a history that a knowledge stands for can come turn by turn
+-- a history that a knowledge represents can be made turn by turn
 pub led_of : (know : Knowledge) (problem : Setup) (history : List Event) → KnowsAfter know problem history → IsLed problem history
 led_of know problem history knows = possible_led problem knows.setup history knows.possible
 
@@ -154,7 +154,7 @@ module _ (know : Knowledge) (problem : Setup) (history : List Event) (knows : Kn
   can_may (move.Card card) can = let C : Knowledge → Type 0 = λ k. CanDoAt k (move.Card card) in subst C knows.knowledge can
   can_may move.Go can = let C : Knowledge → Type 0 = λ k. CanDoAt k move.Go in subst C knows.knowledge can
 
-  -- the owner can make the move that may come
+  -- the owner can make the move that may be next
   pub own_may : (what : Move) → MayCome problem history (Own what) → CanDoAt know what
   own_may (move.Card card) may = holds (λ k. CanDoAt k (move.Card card)) may
   own_may move.Go may = holds (λ k. CanDoAt k move.Go) may

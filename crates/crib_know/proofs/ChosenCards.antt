@@ -42,7 +42,7 @@ none_used : (c r : ℕ) (after before seen : ℕ → ℕ) → after r ≡ before
 none_used c r after before seen more most = grind (arith, nat_tests)
 
 module _ (seen : List ℕ) (least whole : ℕ) where
-  -- how many cards of a hold stand for ranks that were seen
+  -- how many cards of a hold represent ranks that were seen
   abbrev pub used : List ℕ → ℕ
   used hold = total (λ r. min (count_rank r hold) (ranks_of seen r)) 1 13
 
@@ -125,7 +125,7 @@ module _ (seen : List ℕ) (least whole : ℕ) where
       ];
     }
 
-    -- a card that stands for a rank that was seen is used
+    -- a card that represents a rank that was seen is used
     used_seen : count_rank (rank_of card) first < ranks_of seen (rank_of card) → used (set_with first card) ≡ used first + 1
     used_seen less =
         let rank = rank_is card is in

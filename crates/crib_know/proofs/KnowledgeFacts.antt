@@ -1,4 +1,4 @@
--- What a knowledge says of the histories that it stands for.
+-- What a knowledge says of the histories that it represents.
 use Rattle.std.proofs.Common.{◌≡◌, ℕ, ◌<◌, ◌≤◌, true, false, not, eqb, ltb, List, [], ◌∷◌, ◌++◌, map, length, refl, sym, ap}
 use Rattle.std.proofs.Common.{◌∙◌, arith}
 use Rattle.std.proofs.lemmas.Bool.{and_parts, both_ways, ltb-true}
@@ -141,7 +141,7 @@ module _ (problem : Setup) (setup : IsSetup problem) where
     pub are_taken : AreTaken (start_of problem) (history_letters history)
     are_taken = plays_taken (start_of problem) (hands_of problem first) history first_plays (started problem setup) (dealt_is problem setup first first_deal)
 
-    -- a go of the owner comes at a count of at least 22
+    -- a go of the owner is at a count of at least 22
     pub high_own_go : MayCome problem history (Own move.Go) → 22 ≤ count_after problem history
     high_own_go may =
         let last = own_turn problem setup first first_deal history first_plays move.Go may in
@@ -172,7 +172,7 @@ module _ (problem : Setup) (setup : IsSetup problem) where
         let four : length first.hold ≡ 4 = first_deal.deal.held in
         omega (arith, few, whole, all, four, count_all_of (cards_left hands Opponent moves), count_all_of (their_ranks history), count_all_of first.hold)
 
-    -- ---- a letter can be shown exactly where it might come
+    -- ---- a letter can be shown exactly where it might be next
     pub shows : (letter : Letter) → Might problem history letter → CanShow problem history letter
     shows letter might =
         let event = Theirs letter in

@@ -1,4 +1,4 @@
--- Histories that can come turn by turn.
+-- Histories that can be made turn by turn.
 use Rattle.std.specs.Prelude.{◌≡◌, ◌+◌, ◌≤◌, List, [], ◌∷◌, IsTrue, IsFalse}
 use Rattle.std.specs.List.{list_any}
 use Rattle.crib_cards.specs.Cards.{card_value}

@@ -1,4 +1,4 @@
--- The turns of the opening can come one by one, and some hidden deal agrees with them.
+-- The turns of the opening can be made one by one, and some hidden deal agrees with them.
 use Rattle.std.proofs.lemmas.Bool.Decides.{nat_tests}
 use Rattle.crib_problem.proofs.AskedHolds.{none_of_two, asked_open}
 use Rattle.std.proofs.lemmas.List.{map-append}
@@ -116,7 +116,7 @@ module _ (problem : Setup) (setup : IsSetup problem) where
     least_same : least_value problem history ≡ least_by basis before
     least_same = ap (λ (letters : Record). least_of (pone_of (start_of problem)) Opponent (filled_record (start_of problem) letters)) (letters_same before)
 
-    -- an act that is allowed in the opening can come
+    -- an act that is allowed in the opening can be next
     act_may : (side : Side) (what : Move) → IsLed bare history → AreShown basis (record { side = side; what = what } ∷ before) → IsMove what →
         Allowed basis before (record { side = side; what = what }) → MayCome bare history (event_by side what)
     act_may Owner (move.Card card) led shown is act =

@@ -56,7 +56,7 @@ pub moved_left : (know now : Knowledge) → know ≡ now → (rank : ℕ) → Ca
     (count_at know.ranks_seen rank < 255) × (1 ≤ know.opponent_left)
 moved_left know now same rank can = play_left know can.0 can.1 (moved know now can.0 can.1 same can.2) rank can.3
 
--- what can be shown after one history that a knowledge stands for can be shown after each
+-- what can be shown after one history that a knowledge represents can be shown after each
 pub moved_show : (know now : Knowledge) → know ≡ now → (letter : Letter) → CanShowAt now letter → (problem : Setup) (history : List Event) →
     KnowsAfter know problem history → CanShow problem history letter
 moved_show know now same letter can problem history knows = can_show_if know problem history knows letter (moved_shows know now same letter can)

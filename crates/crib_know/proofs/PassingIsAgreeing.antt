@@ -92,7 +92,7 @@ module _ (problem : Setup) (setup : IsSetup problem) (dealt : Dealt) (deal : IsD
     pub fits_same : (card : ℕ) → fits before card ≡ leb (count_after problem history + card_value card) 31
     fits_same card = ap (λ (n : ℕ). leb (n + card_value card) 31) (count_same problem setup dealt deal history plays)
 
-    -- a turn of the owner that can come, as the last turn of a history
+    -- a turn of the owner that can be next, as the last turn of a history
     pub own_turn : (turn : Move) → MayCome problem history (Own turn) → NextPlay start hands (Own turn) history plays
     own_turn (move.Card card) may =
         turn_of Owner (move.Card card) may.0 (own_to card may.1, fits_same card ∙ le-leb (count_after problem history + card_value card) 31 may.2)
@@ -102,7 +102,7 @@ module _ (problem : Setup) (setup : IsSetup problem) (dealt : Dealt) (deal : IsD
         (λ card held. fits_same card ∙ none_passes (λ c. leb (count_after problem history + card_value c) 31) (own_left problem history) card may.1
         (own_from card held)))
 
-    -- a turn that the owner takes can come
+    -- a turn that the owner takes can be next
     own_asked : mover (pone_of start) (letters_of before) ≡ Owner → is_done start (letters_of before) ≡ false → asked_now problem history ≡ turns.Owner
     own_asked m d = ap (asked_after start) (sym (past_same problem setup dealt deal history plays)) ∙ asked_is start (letters_of before) Owner d m
 
@@ -182,7 +182,7 @@ passes_before problem event history played hold passes rank is =
     let less = least_before problem history event in
     record { enough = now.enough; high = elim now.high [ inl low ↦ inl (omega (arith, low, less)) | inr same ↦ inr same ] }
 
--- ---- a letter that can be shown might come
+-- ---- a letter that can be shown might be next
 pub can_might : (problem : Setup) → IsSetup problem → (history : List Event) (letter : Letter) → CanShow problem history letter → Might problem history letter
 can_might problem setup history letter can =
     let deal = can.1.0 in
@@ -190,7 +190,7 @@ can_might problem setup history letter can =
     let plays = plays_of (start_of problem) hands (Theirs letter ∷ history) (started problem setup) (dealt_is problem setup can.0 deal) can.1.1 in
     covers problem setup can.0 deal history letter (last_play (start_of problem) hands (Theirs letter) history plays)
 
--- a turn of the owner that can come, or a letter that the opponent might show
+-- a turn of the owner that can be next, or a letter that the opponent might show
 abbrev pub MightCome : Setup → List Event → Event → Type 0
 MightCome problem history (Own turn) = MayCome problem history (Own turn)
 MightCome problem history (Theirs letter) = Might problem history letter
@@ -211,7 +211,7 @@ theirs_letter problem setup history Go can = tt
 
 -- ---- each deal that passes agrees
 module _ (problem : Setup) (setup : IsSetup problem) (dealt : Dealt) (deal : IsDealOf problem dealt) where
-  -- the hold passes with what a history tells
+  -- the hold passes with what a history shows
   abbrev pub PassesAfter : List Event → Type 0
   PassesAfter history = PassesRanks (least_value problem history) (their_ranks history) dealt.hold
 
@@ -222,7 +222,7 @@ module _ (problem : Setup) (setup : IsSetup problem) (dealt : Dealt) (deal : IsD
       (passes_before problem (Theirs (Seen rank)) history (rank ∷ their_ranks history) dealt.hold passes)
   passes_less (Theirs Go) history might passes = passes_before problem (Theirs Go) history (their_ranks history) dealt.hold passes
 
-  -- a turn that might come, as the next one of these hands
+  -- a turn that might be next, as the next one of these hands
   pub next_play : (event : Event) (history : List Event) (before : Plays (start_of problem) (hands_of problem dealt) history) →
       MightCome problem history event → PassesAfter (event ∷ history) → NextPlay (start_of problem) (hands_of problem dealt) event history before
   next_play (Own turn) history before might passes = own_turn problem setup dealt deal history before turn might
@@ -257,7 +257,7 @@ module _ (problem : Setup) (setup : IsSetup problem) (dealt : Dealt) (deal : IsD
       agreeing_passes problem setup dealt deal history (plays_of (start_of problem) (hands_of problem dealt) history (started problem setup)
       (dealt_is problem setup dealt deal) agrees.1)
 
-  -- a letter that might come is shown by a hidden deal that passes with it
+  -- a letter that might be next is shown by a hidden deal that passes with it
   pub shows_letter : (history : List Event) (letter : Letter) → IsLed problem history → Might problem history letter → PassesAfter (Theirs letter ∷ history) →
       CanShow problem history letter
   shows_letter history letter led might passes =

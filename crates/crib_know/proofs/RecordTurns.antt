@@ -1,4 +1,4 @@
--- The turns of a legal record can come one by one.
+-- The turns of a legal record can be made one by one.
 use Rattle.std.proofs.Common.{◌≡◌, true, List, [], ◌∷◌, map, ap, subst, ◌∙◌}
 use Rattle.crib_cards.specs.Start.{pone_of}
 use Rattle.crib_cards.specs.declared.sides.Dealt.{Dealt}
@@ -62,6 +62,6 @@ module _ (problem : Setup) (setup : IsSetup problem) (dealt : Dealt) where
         ),
       )
 
--- a history with which some hidden deal agrees can come turn by turn
+-- a history with which some hidden deal agrees can be made turn by turn
 pub possible_led : (problem : Setup) → IsSetup problem → (history : List Event) → IsPossible problem history → IsLed problem history
 possible_led problem setup history possible = agreeing_led problem setup possible.0 history possible.1

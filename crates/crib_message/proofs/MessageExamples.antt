@@ -1,5 +1,5 @@
 -- Worked examples of messages: the line that is shown, its number and its mark, and the words before it.
-use Rattle.std.proofs.Common.{◌≡◌, refl, true, false, ℕ, List, [], ◌∷◌, ◌++◌, codes, map, Some, None}
+use Rattle.std.proofs.Common.{arith, ◌≡◌, refl, true, false, ℕ, List, [], ◌∷◌, ◌++◌, codes, map, Some, None, inl, inr}
 use Rattle.std.specs.Prelude.{flat_map}
 use Rattle.std.specs.List.{All, list_all}
 use Rattle.std.specs.Fmt.{digits}
@@ -8,10 +8,11 @@ use Rattle.std.proofs.lemmas.List.Elements.{All-nil, All-cons}
 use Rattle.crib_text.specs.Words.{lines_of}
 use Rattle.crib_text.specs.declared.fault.TextCause.TheVariants.{BadCard}
 use Rattle.crib_input.specs.declared.refusal.Cause.TheVariants.{Text}
-use Rattle.crib_run.specs.declared.reason.FaultCause.TheVariants.{NoMemory}
-use Rattle.crib_run.specs.declared.reason.Reason.TheVariants.{Refused, Fault}
-use Rattle.crib_message.specs.declared.place.Section.TheVariants.{Problem, Plan, Game, After}
-use Rattle.crib_message.specs.Message.{IsExcerpt, IsFaultMessage, IsMessage, IsRefusalMessage, Says, heading, is_plain, numbered_line, shown_byte, shown_line}
+use Rattle.crib_input.specs.declared.reason.FaultCause.TheVariants.{NoMemory}
+use Rattle.crib_input.specs.declared.reason.Reason.TheVariants.{Refused, Fault}
+use Rattle.crib_message.specs.declared.scene.Section.TheVariants.{Problem, Plan, Game, After}
+use Rattle.crib_message.specs.Message.{IsExcerpt, IsFaultMessage, IsMark, IsMessage, IsRefusalMessage, Says}
+use Rattle.crib_message.specs.Message.{heading, is_plain, numbered_line, shown_byte, shown_line}
 
 -- ---- the lines of an input
 abbrev two_lines : List ℕ
@@ -66,9 +67,24 @@ pub the_end_of_a_line : shown_line 8 (codes "0 see ") (codes "A:1") [] ≡ codes
 unfolding digits
 the_end_of_a_line = refl
 
-pub an_excerpt : IsExcerpt 8 (codes "0 see A:1 2:1") (codes "  8 | ...A:1...\n    |    ^\n")
+-- carets below bytes that are shown, one of them as four columns
+pub an_excerpt : IsExcerpt 8 (codes "0 see A" ++ 255 ∷ codes " 2:1") (codes "  8 | 0 see A\\xff 2:1\n    |       ^^^^^\n")
 unfolding digits
-an_excerpt = record { before = codes "0 see "; shown = codes "A:1"; after = codes " 2:1"; mark = codes "    |    ^\n"; cut = refl; is = refl }
+an_excerpt = record {
+  before = [];
+  shown = codes "0 see A" ++ 255 ∷ codes " 2:1";
+  after = [];
+  mark = codes "    |       ^^^^^\n";
+  cut = refl;
+  wide = refl;
+  is = refl;
+  marks = inr (record { left = codes "0 see "; meant = codes "A" ++ 255 ∷ []; right = codes " 2:1"; cut = refl; is = refl });
+}
+
+-- one caret behind the end of a line
+pub behind_the_end : IsMark 12 [] (codes "own") (codes "     |    ^\n")
+unfolding digits
+behind_the_end = record { left = codes "own"; meant = []; right = []; cut = refl; is = refl }
 
 -- ---- headings
 pub of_a_problem : heading (codes "cribplan") 5 (record { section = Problem; number = 5 }) ≡ codes "cribplan: line 5: "
@@ -107,18 +123,33 @@ a_card_with_10 = record {
   excerpt = codes "  2 | hold 10S\n    |      ^^^\n";
   is = refl;
   plain = all_plain (codes "\"10S\" is not a card.") refl;
-  shows = record { before = []; shown = codes "hold 10S"; after = []; mark = codes "    |      ^^^\n"; cut = refl; is = refl };
+  shows = record {
+    before = [];
+    shown = codes "hold 10S";
+    after = [];
+    mark = codes "    |      ^^^\n";
+    cut = refl;
+    wide = refl;
+    is = refl;
+    marks = inr (record { left = codes "hold "; meant = codes "10S"; right = []; cut = refl; is = refl });
+  };
 }
 
 -- a fault shows no line
 pub no_memory : IsFaultMessage (codes "cribplan") (codes "cribplan: out of memory\n")
 no_memory = record { sentence = codes "out of memory"; is = refl; plain = all_plain (codes "out of memory") refl }
 
--- ---- a message by its reason, and a beginning of it on a device
+-- ---- a message by its reason, and what a device has of it
 pub of_a_refusal :
     IsMessage (codes "cribplan") (codes "problem 1\nhold 10S\n") (Refused (record { line = 2; cause = Text BadCard }))
     (codes "cribplan: line 2: \"10S\" is not a card.\n  2 | hold 10S\n    |      ^^^\n")
 of_a_refusal = a_card_with_10
 
-pub of_a_fault : Says (codes "cribplan") (codes "problem 1\n") (Fault NoMemory) (Some (codes "a")) (Some (codes "acribplan: out"))
-of_a_fault = (codes "cribplan: out of memory\n", 13, no_memory, refl)
+pub of_a_fault :
+    Says (codes "cribplan") (codes "problem 1\n") (Fault NoMemory) (Some (codes "a")) (Some (codes "acribplan: out of memory\n")) ⊥
+of_a_fault = (codes "cribplan: out of memory\n", no_memory, inl refl)
+
+-- a beginning of it, if the device failed
+pub of_a_failing_device : {failed : Type 0} → failed →
+    Says (codes "cribplan") (codes "problem 1\n") (Fault NoMemory) (Some (codes "a")) (Some (codes "acribplan: out")) failed
+of_a_failing_device fails = (codes "cribplan: out of memory\n", no_memory, inr (13, omega arith, refl, fails))

@@ -1,6 +1,6 @@
 -- Lemmas about the text of a message, which is appended piece by piece.
-use Rattle.std.proofs.Common.{◌≡◌, ℕ, ◌++◌, List, [], ◌∷◌, length, take, Option, Result, Ok, Err, OnOk, IfErr, refl, sym, subst, ap, ◌∙◌, append_assoc}
-use Rattle.std.proofs.Math.Seq.{take-length}
+use Rattle.std.proofs.Common.{◌≡◌, ℕ, ◌<◌, ◌⊎◌, ◌++◌, List, [], ◌∷◌, length, take, Option, Result, Ok, Err, OnOk, OnErr}
+use Rattle.std.proofs.Common.{IfErr, inl, inr, refl, ap, ◌∙◌, append_assoc}
 use Rattle.std.specs.Io.KnownBytes.{Appends}
 use Rattle.std.specs.Prelude.{Some, None, MatchOption}
 use Rattle.crib_text.specs.Spelling.{line_feed}
@@ -10,6 +10,11 @@ use Rattle.crib_message.specs.Message.{numbered_line, IsExcerpt}
 pub four_added : (old first second third : List ℕ) (a b c d last : List ℕ) → first ≡ old ++ a → second ≡ first ++ b →
     third ≡ second ++ c → last ≡ third ++ d → last ≡ old ++ (a ++ (b ++ (c ++ d)))
 four_added old first second third a b c d last e f g h = h ∙ rw (g, f, e) (simp append_assoc)
+
+-- seven pieces
+pub seven_added : (old w1 w2 w3 w4 w5 w6 a b c d e f g last : List ℕ) → w1 ≡ old ++ a → w2 ≡ w1 ++ b → w3 ≡ w2 ++ c → w4 ≡ w3 ++ d →
+    w5 ≡ w4 ++ e → w6 ≡ w5 ++ f → last ≡ w6 ++ g → last ≡ old ++ (a ++ (b ++ (c ++ (d ++ (e ++ (f ++ g))))))
+seven_added old w1 w2 w3 w4 w5 w6 a b c d e f g last h1 h2 h3 h4 h5 h6 h7 = h7 ∙ rw (h6, h5, h4, h3, h2, h1) (simp append_assoc)
 
 -- a sentence, LF, and the excerpt
 pub said : (old first second last sentence excerpt : List ℕ) → first ≡ old ++ sentence → second ≡ first ++ line_feed ∷ [] →
@@ -33,8 +38,10 @@ pub nothing_added : (bytes : List ℕ) → bytes ≡ bytes ++ []
 nothing_added [] = refl
 nothing_added (byte ∷ bytes) = ap (λ (xs : List ℕ). byte ∷ xs) (nothing_added bytes)
 
--- what was sent of some bytes is a beginning of them
-pub sent_part : {E : Type 0} (sent : E → ℕ) (result : Result (Unit {0}) E) (old new : Option (List ℕ)) (bytes : List ℕ) → OnOk result (Appends old new bytes)
-    → IfErr result (λ stopped. Appends old new (take (sent stopped) bytes)) → (count : ℕ) × Appends old new (take count bytes)
-sent_part sent (Ok done) old new bytes all part = (length bytes, subst (λ (b : List ℕ). Appends old new b) (sym (take-length bytes)) all)
-sent_part sent (Err stopped) old new bytes all part = (sent stopped, part)
+-- bytes were sent whole, or a proper beginning of them
+pub sent_part : {E : Type 0} (sent : E → ℕ) (result : Result (Unit {0}) E) (old new : Option (List ℕ)) (bytes : List ℕ) (failed : Type 0) →
+    OnOk result (Appends old new bytes) → IfErr result (λ stopped. Appends old new (take (sent stopped) bytes)) →
+    IfErr result (λ stopped. sent stopped < length bytes) → OnErr result failed →
+    Appends old new bytes ⊎ ((count : ℕ) × (count < length bytes) × Appends old new (take count bytes) × failed)
+sent_part sent (Ok done) old new bytes failed all part cut stop = inl all
+sent_part sent (Err stopped) old new bytes failed all part cut stop = inr (sent stopped, cut, part, stop)

@@ -1,17 +1,17 @@
 -- The message of a refusal or a fault.
-use Rattle.std.specs.Prelude.{◌≡◌, ◌-◌, ◌/◌, ◌%◌, ℕ, Bool, true, List, [], ◌∷◌, ◌++◌, codes, decimal, flat_map}
-use Rattle.std.specs.Prelude.{Option, None, MatchOption, All, nat_le, ◌&&◌, ◌==◌, if◌then◌else◌}
-use Rattle.std.specs.Prelude.{slice_get, slice_index, take}
+use Rattle.std.specs.Prelude.{◌≡◌, ◌⊎◌, ◌<◌, ◌-◌, ◌/◌, ◌%◌, ℕ, Bool, true, List, [], ◌∷◌, ◌++◌, codes}
+use Rattle.std.specs.Prelude.{decimal, flat_map, Option, None, MatchOption, All, nat_le, ◌&&◌, ◌==◌, if◌then◌else◌}
+use Rattle.std.specs.Prelude.{length, min, slice_get, slice_index, take}
 use Rattle.std.specs.Io.KnownBytes.{Appends}
 use Rattle.crib_text.specs.Spelling.{line_feed}
 use Rattle.crib_text.specs.Words.{lines_of}
 use Rattle.crib_input.specs.Refusals.{refusal_of}
-use Rattle.crib_run.specs.declared.reason.Reason.{Reason}
-use Rattle.crib_run.specs.declared.reason.Reason.TheVariants.{Refused, Fault}
+use Rattle.crib_input.specs.declared.reason.Reason.{Reason}
+use Rattle.crib_input.specs.declared.reason.Reason.TheVariants.{Refused, Fault}
 use Rattle.crib_message.specs.declared.message.Message.{Message}
-use Rattle.crib_message.specs.declared.place.Place.{Place}
-use Rattle.crib_message.specs.declared.place.Section.{Section}
-use Rattle.crib_message.specs.declared.place.Section.TheVariants.{Problem, Plan, Game, After}
+use Rattle.crib_message.specs.declared.scene.Place.{Place}
+use Rattle.crib_message.specs.declared.scene.Section.{Section}
+use Rattle.crib_message.specs.declared.scene.Section.TheVariants.{Problem, Plan, Game, After}
 
 -- the bytes of a message
 unfoldable pub message_text : Message → List ℕ
@@ -47,18 +47,48 @@ shown_line number before shown after =
     codes "  " ++ (decimal number ++ (codes " | " ++ (dots before ++ (flat_map shown_byte shown ++ (dots after
     ++ line_feed ∷ [])))))
 
--- an excerpt: a stretch of a line with the line's number, and then nothing or a mark
+-- marks below a byte: as many as the columns in which it is shown
+abbrev pub marks_below : ℕ → ℕ → List ℕ
+marks_below mark byte = if is_plain byte then mark ∷ [] else mark ∷ mark ∷ mark ∷ mark ∷ []
+
+-- blanks below bytes
+abbrev pub blanks : List ℕ → List ℕ
+blanks bytes = flat_map (marks_below 32) bytes
+
+-- carets below bytes, or one caret if there are none
+abbrev pub carets : List ℕ → List ℕ
+carets [] = codes "^"
+carets (byte ∷ bytes) = flat_map (marks_below 94) (byte ∷ bytes)
+
+-- the line below a line that is shown: carets below the bytes that are meant, or behind all of them if none is, and
+-- blanks below the other columns but for a bar below the bar
+abbrev pub mark_line : ℕ → List ℕ → List ℕ → List ℕ → List ℕ
+mark_line number before left meant =
+    codes "  " ++ (blanks (decimal number) ++ (codes " | " ++ (blanks (dots before) ++ (blanks left
+    ++ (carets meant ++ line_feed ∷ [])))))
+
+-- a mark: it is below a stretch of the bytes that are shown
+pub record IsMark (number : ℕ) (before shown mark : List ℕ) : Type 0 where
+  pub left : List ℕ
+  pub meant : List ℕ
+  pub right : List ℕ
+  pub cut : shown ≡ left ++ (meant ++ right)
+  pub is : mark ≡ mark_line number before left meant
+
+-- an excerpt: a line with its number, or 100 bytes of a longer one, and then nothing or a mark
 pub record IsExcerpt (number : ℕ) (line excerpt : List ℕ) : Type 0 where
   pub before : List ℕ
   pub shown : List ℕ
   pub after : List ℕ
   pub mark : List ℕ
   pub cut : line ≡ before ++ (shown ++ after)
+  pub wide : length shown ≡ min 100 (length line)
   pub is : excerpt ≡ shown_line number before shown after ++ mark
+  pub marks : (mark ≡ []) ⊎ IsMark number before shown mark
 
 -- ---- a message
 
--- where a line stands in its section, if this is a plan or a game
+-- where a line is in its section, if this is a plan or a game
 abbrev pub section_words : ℕ → Section → List ℕ
 section_words number Problem = []
 section_words number Plan = codes ", line " ++ (decimal number ++ codes " of the plan")
@@ -96,7 +126,8 @@ IsMessage program input (Refused refusal) text =
     IsRefusalMessage program input (refusal_of refusal).line text
 IsMessage program input (Fault _) text = IsFaultMessage program text
 
--- a message is written to a device, or a beginning of it
-abbrev pub Says : List ℕ → List ℕ → Reason → Option (List ℕ) → Option (List ℕ) → Type 0
-Says program input reason old new =
-    (text : List ℕ) × (sent : ℕ) × IsMessage program input reason text × Appends old new (take sent text)
+-- a message is written whole to a device, or the device failed after a proper beginning of it
+abbrev pub Says : List ℕ → List ℕ → Reason → Option (List ℕ) → Option (List ℕ) → Type 0 → Type 0
+Says program input reason old new failed =
+    (text : List ℕ) × IsMessage program input reason text × (Appends old new text
+    ⊎ ((sent : ℕ) × (sent < length text) × Appends old new (take sent text) × failed))

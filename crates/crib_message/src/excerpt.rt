@@ -1,10 +1,11 @@
 //! A line of the input as it is shown: its number, its bytes, and below them the mark.
-ghost use Rattle.std.specs.Prelude.{◌≡◌, ◌≤◌, ◌+◌, ◌++◌, length};
+ghost use Rattle.std.specs.Prelude.{◌≡◌, ◌<◌, ◌≤◌, ◌+◌, ◌-◌, ◌*◌, ◌/◌, ◌%◌, ◌++◌, ◌∷◌, []};
+ghost use Rattle.std.specs.Prelude.{ℕ, List, codes, flat_map, length, min};
 ghost use Rattle.arrayvec.specs.ArrayVec.{array_vec_len};
-ghost use Rattle.crib_message.specs.Message.{IsExcerpt, dots, is_plain, shown_byte, shown_line};
+ghost use Rattle.crib_message.specs.Message.{IsExcerpt, IsMark, carets, dots, hex_digit, is_plain, marks_below};
+ghost use Rattle.crib_message.specs.Message.{shown_byte, shown_line};
 
-use crate::explained::Mark;
-use crate::sentence::escape_of;
+use crate::scene::Mark;
 use arrayvec::ArrayVec;
 use itoa::Buffer;
 
@@ -14,11 +15,8 @@ const SHOWN: usize = 100;
 // How many bytes are shown before the mark, if the line is cut there.
 const BEFORE: usize = 40;
 
-/// A line as it is shown, at most 842 bytes.
-pub(crate) type Excerpt = ArrayVec<u8, 842>;
-
-// The line with the mark, which stands below.
-type Below = ArrayVec<u8, 420>;
+/// A line as it is shown, at most 900 bytes.
+pub(crate) type Excerpt = ArrayVec<u8, 900>;
 
 // A line in three stretches, of which the middle one is shown.
 #[derive(Clone, Copy, Debug)]
@@ -36,8 +34,7 @@ pub(crate) fn excerpt_of(number: u32, line: &[u8], mark: Option<Mark>) -> Excerp
     let window = window_on(line, mark);
     let mut excerpt = shown(number, window);
     if let Some(mark) = mark {
-        let below = marked(number, window, mark);
-        add(&mut excerpt, below.as_slice());
+        add_mark(&mut excerpt, number, window, mark);
     }
     excerpt
 }
@@ -45,15 +42,22 @@ pub(crate) fn excerpt_of(number: u32, line: &[u8], mark: Option<Mark>) -> Excerp
 // Cuts a line so that its first 100 bytes are shown, or 100 around the mark.
 fn window_on(line: &[u8], mark: Option<Mark>) -> Window<'_>
     ensures cut { line.now ≡ result.before.now ++ (result.shown.now ++ result.after.now) }
-    ensures short { length result.shown.now ≤ 100 }
+    ensures wide { length result.shown.now ≡ min 100 (length line.now) }
 {
     let wanted = match mark {
         Some(mark) => mark.from.saturating_sub(BEFORE),
         None => 0,
     };
-    let from = wanted.min(line.len().saturating_sub(SHOWN));
-    let (before, rest) = line.split_at(from);
-    let (shown, after) = rest.split_at(rest.len().min(SHOWN));
+    cut(line, wanted.min(line.len().saturating_sub(SHOWN)), SHOWN)
+}
+
+// Cuts bytes in three, the middle one from a place on, with so many bytes if there are.
+fn cut(bytes: &[u8], from: usize, len: usize) -> Window<'_>
+    ensures cut { bytes.now ≡ result.before.now ++ (result.shown.now ++ result.after.now) }
+    ensures wide { length result.shown.now ≡ min len (length bytes.now - from) }
+{
+    let (before, rest) = bytes.split_at(from.min(bytes.len()));
+    let (shown, after) = rest.split_at(len.min(rest.len()));
     Window {
         before,
         shown,
@@ -72,24 +76,21 @@ fn shown(number: u32, window: Window<'_>) -> Excerpt
     add(&mut excerpt, b"  ");
     add(&mut excerpt, Buffer::new().format(number).as_bytes());
     add(&mut excerpt, b" | ");
-    add_dots(&mut excerpt, window.before);
+    add(&mut excerpt, dots(window.before));
     for byte in window.shown {
         add_byte(&mut excerpt, *byte);
     }
-    add_dots(&mut excerpt, window.after);
+    add(&mut excerpt, dots(window.after));
     add(&mut excerpt, b"\n");
     excerpt
 }
 
-// Appends `...` if there are bytes that are not shown.
-fn add_dots(excerpt: &mut Excerpt, hidden: &[u8])
-    requires { array_vec_len excerpt.old ≤ 839 }
-    ensures items { excerpt.new.items ≡ excerpt.old.items ++ dots hidden.now }
-    ensures len { array_vec_len excerpt.new ≤ array_vec_len excerpt.old + 3 }
+// Returns `...` if there are bytes that are not shown.
+fn dots(hidden: &[u8]) -> &'static [u8]
+    ensures text { result.now ≡ dots hidden.now }
+    ensures short { length result.now ≤ 3 }
 {
-    if !hidden.is_empty() {
-        add(excerpt, b"...");
-    }
+    if hidden.is_empty() { b"" } else { b"..." }
 }
 
 // Appends a byte, as `\xNN` if it is not 32 to 126.
@@ -106,7 +107,7 @@ fn add_byte(excerpt: &mut Excerpt, byte: u8)
 }
 
 fn add(excerpt: &mut Excerpt, bytes: &[u8])
-    requires { array_vec_len excerpt.old + length bytes.now ≤ 842 }
+    requires { array_vec_len excerpt.old + length bytes.now ≤ 900 }
     ensures items { excerpt.new.items ≡ excerpt.old.items ++ bytes.now }
     ensures len { array_vec_len excerpt.new ≡ array_vec_len excerpt.old + length bytes.now }
 {
@@ -120,42 +121,62 @@ pub(crate) fn is_plain(byte: u8) -> bool
     (b' '..=b'~').contains(&byte)
 }
 
-// Returns the line below: carets below the bytes that are meant, or one caret if the mark is empty.
-fn marked(number: u32, window: Window<'_>, mark: Mark) -> Below {
-    let left = mark.from.saturating_sub(window.before.len());
-    let (left, rest) = window.shown.split_at(left.min(window.shown.len()));
-    let (meant, _) = rest.split_at(mark.to.saturating_sub(mark.from).min(rest.len()));
-    let dots = if window.before.is_empty() { 0 } else { 3 };
-    let mut below = Below::new();
-    add_repeated(
-        &mut below,
-        b' ',
-        Buffer::new().format(number).len().saturating_add(2),
-    );
-    add_repeated(&mut below, b' ', 1);
-    add_repeated(&mut below, b'|', 1);
-    add_repeated(
-        &mut below,
-        b' ',
-        width_of(left).saturating_add(dots).saturating_add(1),
-    );
-    add_repeated(&mut below, b'^', width_of(meant).max(1));
-    add_repeated(&mut below, b'\n', 1);
-    below
+// Appends the line below: carets below the bytes that are meant, or one caret if the mark is empty.
+fn add_mark(excerpt: &mut Excerpt, number: u32, window: Window<'_>, mark: Mark)
+    requires room { array_vec_len excerpt.old ≤ 422 }
+    requires short { length window.shown.now ≤ 100 }
+    ensures { (below : List ℕ) × IsMark number window.entry.before.now window.entry.shown.now below
+        × (excerpt.new.items ≡ excerpt.old.items ++ below) }
+{
+    let from = mark.from.saturating_sub(window.before.len());
+    let stretch = cut(window.shown, from, mark.to.saturating_sub(mark.from));
+    add(excerpt, b"  ");
+    add_below(excerpt, b' ', Buffer::new().format(number).as_bytes());
+    add(excerpt, b" | ");
+    add_below(excerpt, b' ', dots(window.before));
+    add_below(excerpt, b' ', stretch.before);
+    add_carets(excerpt, stretch.shown);
+    add(excerpt, b"\n");
 }
 
-// Appends copies of a byte.
-fn add_repeated(below: &mut Below, byte: u8, count: usize) {
-    for _ in 0..count {
-        let _left_out = below.try_push(byte);
+// Appends carets below bytes, or one caret if there are none.
+fn add_carets(excerpt: &mut Excerpt, meant: &[u8])
+    requires { array_vec_len excerpt.old + 4 * length meant.now + 1 ≤ 900 }
+    ensures items { excerpt.new.items ≡ excerpt.old.items ++ carets meant.now }
+    ensures len { array_vec_len excerpt.new ≤ array_vec_len excerpt.old + 4 * length meant.now + 1 }
+{
+    if meant.is_empty() {
+        add(excerpt, b"^");
+    } else {
+        add_below(excerpt, b'^', meant);
     }
 }
 
-// Returns the number of columns in which bytes are shown.
-fn width_of(bytes: &[u8]) -> usize {
-    let mut width = 0usize;
+// Appends a mark below each column in which bytes are shown.
+fn add_below(excerpt: &mut Excerpt, mark: u8, bytes: &[u8])
+    requires { array_vec_len excerpt.old + 4 * length bytes.now ≤ 900 }
+    ensures items { excerpt.new.items ≡ excerpt.old.items ++ flat_map (marks_below mark) bytes.now }
+    ensures len { array_vec_len excerpt.new ≤ array_vec_len excerpt.old + 4 * length bytes.now }
+{
     for byte in bytes {
-        width = width.saturating_add(if is_plain(*byte) { 1 } else { 4 });
+        if is_plain(*byte) {
+            add(excerpt, &[mark]);
+        } else {
+            add(excerpt, &[mark; 4]);
+        }
     }
-    width
+}
+
+// Returns `\xNN` for a byte.
+fn escape_of(byte: u8) -> [u8; 4]
+    ensures { result ≡ codes "\\x" ++ hex_digit (byte / 16) ∷ hex_digit (byte % 16) ∷ [] }
+{
+    [b'\\', b'x', digit_of(byte / 16), digit_of(byte % 16)]
+}
+
+fn digit_of(digit: u8) -> u8
+    requires { digit < 16 }
+    ensures { result ≡ hex_digit digit }
+{
+    b"0123456789abcdef"[usize::from(digit)]
 }

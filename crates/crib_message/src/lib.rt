@@ -4,37 +4,23 @@
 //! memory.
 #![tactic(auto)]
 
-mod after;
 mod branches;
 mod bytes;
 mod cards;
-mod counts;
 mod excerpt;
 mod explained;
-mod games;
-mod line_shapes;
-mod line_words;
-mod lines;
+mod grammar;
+mod hints;
 mod message;
-mod node_shapes;
-mod numbers;
-mod openings;
-mod place;
-mod plans;
-mod problem_words;
-mod rows;
-mod said;
+mod misfit;
+mod order;
 mod saying;
 mod scene;
-mod section_slips;
 mod sentence;
-mod slips;
 mod spelling;
+mod state;
 mod strays;
-mod table;
-mod text_words;
 mod turns;
-mod word_slips;
 
 pub use message::{Message, message_of};
 pub use saying::say;

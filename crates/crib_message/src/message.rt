@@ -7,12 +7,10 @@ ghost use Rattle.crib_message.specs.Message.{heading, is_plain, message_text, pl
 
 use crate::excerpt::{excerpt_of, is_plain};
 use crate::explained::{Explained, explain};
-use crate::lines::line_at;
-use crate::place::{Place, Section};
+use crate::scene::{Place, Scene, Section};
 use crate::sentence::Sentence;
 use arrayvec::ArrayVec;
-use crib_input::{Refusal, Sections};
-use crib_run::{FaultCause, Reason};
+use crib_input::{FaultCause, Reason, Refusal, Sections};
 use itoa::Buffer;
 use std::fmt::Write;
 
@@ -120,12 +118,12 @@ fn refusal_message(program: &[u8], sections: Sections, input: &[u8], refusal: &R
     requires { length program.now ≤ 20 }
     ensures { IsRefusalMessage program.now input.now refusal.now.line result.text.items }
 {
-    let Explained { sentence, mark } = explain(sections, input, refusal);
-    let place = Place::of_line(sections, input, refusal.line);
-    let mut message = headed(program, refusal.line, place);
+    let scene = Scene::new(sections, input, refusal.line);
+    let Explained { sentence, mark } = explain(&scene, refusal.cause);
+    let mut message = headed(program, refusal.line, scene.place);
     message.add_sentence(sentence.as_slice());
     message.add(b"\n");
-    if let Some(line) = line_at(input, refusal.line) {
+    if let Some(line) = scene.line {
         message.add(excerpt_of(refusal.line, line, mark).as_slice());
     }
     message

@@ -1,6 +1,153 @@
-//! A refused line and what is known of it.
-use crate::place::Place;
+//! A refused line: its section, its place there, and its words.
+ghost use Rattle.std.specs.Prelude.{◌≡◌, option_map};
+ghost use Rattle.crib_message.specs.Message.{numbered_line};
+
+use crate::grammar::{Row, Slot};
 use crib_input::Sections;
+use crib_text::read_number;
+
+/// Returns the bytes of the line with this number, from 1. The last line may lack its LF. Returns `None` if the input
+/// has no such line.
+pub(crate) fn line_at(input: &[u8], number: u32) -> Option<&[u8]>
+    ensures { option_map (λ line. line.now) result ≡ numbered_line input.now number }
+{
+    if number == 0 || input.is_empty() {
+        return None;
+    }
+    let text = match input.strip_suffix(b"\n") {
+        Some(text) => text,
+        None => input,
+    };
+    text.split(|byte| *byte == b'\n').nth(number as usize - 1)
+}
+
+/// Returns the bytes of the word with this index, from 0, or none. Words are separated by single spaces.
+pub(crate) fn word_in(line: &[u8], index: usize) -> &[u8] {
+    line.split(|byte| *byte == b' ').nth(index).unwrap_or(b"")
+}
+
+/// A stretch of the bytes of a line.
+#[derive(Clone, Copy, Debug, PartialEq, Eq)]
+pub(crate) struct Mark {
+    pub(crate) from: usize,
+    pub(crate) to: usize,
+}
+
+impl Mark {
+    /// Returns the stretch of so many bytes from a place.
+    pub(crate) fn of(from: usize, len: usize) -> Mark {
+        let to = from.saturating_add(len);
+        Mark { from, to }
+    }
+}
+
+/// A word of a line, its index there, and the place of its first byte.
+#[derive(Clone, Copy, Debug)]
+pub(crate) struct Word<'a> {
+    pub(crate) bytes: &'a [u8],
+    pub(crate) index: usize,
+    pub(crate) from: usize,
+}
+
+impl<'a> Word<'a> {
+    /// Returns the first word of a line.
+    pub(crate) fn of(bytes: &'a [u8]) -> Word<'a> {
+        let index = 0;
+        let from = 0;
+        Word { bytes, index, from }
+    }
+
+    /// Returns the bytes of the line that the word takes.
+    pub(crate) fn mark(&self) -> Option<Mark> {
+        Some(Mark::of(self.from, self.bytes.len()))
+    }
+
+    /// Returns the part in front of the first colon.
+    pub(crate) fn letters(&self) -> &'a [u8] {
+        self.bytes.split(|byte| *byte == b':').next().unwrap_or(b"")
+    }
+
+    /// Returns the part behind the first colon.
+    pub(crate) fn target(&self) -> Option<Word<'a>> {
+        let start = self.letters().len().saturating_add(1);
+        let bytes = self.bytes.get(start..)?;
+        let from = self.from.saturating_add(start);
+        Some(Word {
+            bytes,
+            from,
+            ..*self
+        })
+    }
+}
+
+/// A section of an input.
+#[derive(Clone, Copy, Debug, PartialEq, Eq)]
+pub(crate) enum Section {
+    Problem,
+    Plan,
+    Game,
+    /// The lines after the last section.
+    After,
+}
+
+/// The place of a line: its section, and its number there, from 1.
+#[derive(Clone, Copy, Debug, PartialEq, Eq)]
+pub(crate) struct Place {
+    pub(crate) section: Section,
+    pub(crate) number: u32,
+}
+
+impl Place {
+    // Returns the place of a line. The lines before it are valid, so their counts state how long a section is.
+    fn of_line(sections: Sections, input: &[u8], line: u32) -> Place {
+        let wanted = match sections {
+            Sections::Problem => [Section::Problem, Section::After, Section::After],
+            Sections::Question => [Section::Problem, Section::Plan, Section::After],
+            Sections::Played => [Section::Problem, Section::Game, Section::After],
+            Sections::PlayedUnder => [Section::Problem, Section::Plan, Section::Game],
+        };
+        let mut before = 0u32;
+        for section in wanted {
+            let end = before.saturating_add(section_len(section, input, before));
+            if line <= end {
+                let number = line.saturating_sub(before);
+                return Place { section, number };
+            }
+            before = end;
+        }
+        Place {
+            section: Section::After,
+            number: line.saturating_sub(before),
+        }
+    }
+}
+
+// Returns the number of lines of a section after so many lines: those that are always there, and those that it counts.
+fn section_len(section: Section, input: &[u8], before: u32) -> u32 {
+    let head = match section {
+        Section::Problem if !is_second(input) => return 7,
+        Section::Problem => 8,
+        Section::Plan => 2,
+        Section::Game => 4,
+        Section::After => return 0,
+    };
+    count_at(input, before.saturating_add(head)).saturating_add(head)
+}
+
+/// Returns the number of lines of the problem.
+pub(crate) fn problem_len(input: &[u8]) -> u32 {
+    section_len(Section::Problem, input, 0)
+}
+
+fn is_second(input: &[u8]) -> bool {
+    input.starts_with(b"problem 2\n")
+}
+
+/// Returns the number that is the second word of a line, or 0 if there is none.
+pub(crate) fn count_at(input: &[u8], line: u32) -> u32 {
+    let line = line_at(input, line).unwrap_or(b"");
+    read_number(word_in(line, 1)).unwrap_or(0)
+}
 
 /// A line that is refused, or the place of one that is missing.
 #[derive(Clone, Copy, Debug)]
@@ -10,7 +157,86 @@ pub(crate) struct Scene<'a> {
     pub(crate) input: &'a [u8],
     /// The number of the line in the input, from 1. It is 0 if the refusal is of no line.
     pub(crate) number: u32,
-    /// The bytes of the line, without its LF. They are none if the line is missing.
-    pub(crate) line: &'a [u8],
+    /// The bytes of the line, without its LF, unless the line is missing.
+    pub(crate) line: Option<&'a [u8]>,
     pub(crate) place: Place,
+    /// The line that the grammar has at this place.
+    pub(crate) row: Row,
+}
+
+impl<'a> Scene<'a> {
+    /// Returns the scene of a line, from 1, that is not later than the first refusal.
+    pub(crate) fn new(sections: Sections, input: &'a [u8], number: u32) -> Scene<'a>
+        ensures { option_map (λ line. line.now) result.line ≡ numbered_line input.now number }
+    {
+        let place = Place::of_line(sections, input, number);
+        Scene {
+            sections,
+            input,
+            number,
+            line: line_at(input, number),
+            place,
+            row: Row::at(place),
+        }
+    }
+
+    /// Returns the bytes of the line, or none if it is missing.
+    pub(crate) fn text(&self) -> &'a [u8] {
+        self.line.unwrap_or(b"")
+    }
+
+    /// Returns the bytes of the word with this index, or none.
+    pub(crate) fn word(&self, index: usize) -> &'a [u8] {
+        word_in(self.text(), index)
+    }
+
+    /// Returns the number of words.
+    pub(crate) fn word_count(&self) -> usize {
+        self.text().split(|byte| *byte == b' ').count()
+    }
+
+    /// Returns what the grammar has at this word, if it has a word there.
+    pub(crate) fn slot(&self, index: usize) -> Option<Slot> {
+        self.row.slot(self.word(1), index)
+    }
+
+    /// Returns what may be here.
+    pub(crate) fn pattern(&self) -> &'static str {
+        self.row.pattern(self.is_second())
+    }
+
+    /// Whether the input begins with a problem of version 2.
+    pub(crate) fn is_second(&self) -> bool {
+        is_second(self.input)
+    }
+
+    /// Whether the grammar has turns of an opening, nodes or acts here, up to the number that was announced.
+    pub(crate) fn is_counted(&self) -> bool {
+        matches!(self.row, Row::Act | Row::Node)
+    }
+
+    /// Returns the number of lines before the section.
+    pub(crate) fn before(&self) -> u32 {
+        self.number.saturating_sub(self.place.number)
+    }
+
+    /// Returns the node that a line of a plan has to state.
+    pub(crate) fn node(&self) -> u32 {
+        self.place.number.saturating_sub(3)
+    }
+
+    /// Returns the number of nodes that the plan announces.
+    pub(crate) fn node_count(&self) -> u32 {
+        count_at(self.input, self.before().saturating_add(2))
+    }
+
+    /// Returns the owner's holes at the first lead.
+    pub(crate) fn score(&self) -> u32 {
+        count_at(self.input, 3)
+    }
+
+    /// Returns the holes that the owner is short of 121.
+    pub(crate) fn holes_left(&self) -> u32 {
+        121u32.saturating_sub(self.score())
+    }
 }

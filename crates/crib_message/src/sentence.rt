@@ -1,10 +1,9 @@
-//! A sentence.
-ghost use Rattle.std.specs.Prelude.{◌≡◌, ◌<◌, ◌≤◌, ◌/◌, ◌%◌, ◌++◌, ◌∷◌, [], length, codes};
-ghost use Rattle.crib_message.specs.Message.{hex_digit};
+//! A sentence, and how words, cards, sides and acts are written in it.
+ghost use Rattle.std.specs.Prelude.{◌≤◌, length};
 
 use arrayvec::ArrayVec;
-use crib_cards::{Card, card_text};
-use itoa::Buffer;
+use crib_cards::{Card, CardSet, Move, Side, card_text};
+use crib_play::fits;
 use std::fmt;
 
 // The most bytes of a word that are shown as it was typed.
@@ -26,76 +25,168 @@ impl Sentence {
     {
         self.0.as_slice()
     }
-
-    /// Appends bytes.
-    pub(crate) fn add(&mut self, bytes: &[u8]) {
-        for byte in bytes {
-            let _left_out = self.0.try_push(*byte);
-        }
-    }
-
-    /// Appends the decimal digits of a number.
-    pub(crate) fn number(&mut self, number: u32) {
-        self.add(Buffer::new().format(number).as_bytes());
-    }
-
-    /// Appends a card, such as `TC`.
-    pub(crate) fn card(&mut self, card: Card) {
-        self.add(&card_text(card));
-    }
-
-    /// Appends cards with a space between two, such as `TC 9C`.
-    pub(crate) fn cards(&mut self, cards: &[Card]) {
-        let mut is_first = true;
-        for card in cards {
-            if !is_first {
-                self.add(b" ");
-            }
-            self.card(*card);
-            is_first = false;
-        }
-    }
-
-    /// Appends a word as it was typed, in double quotes. Bytes other than 32 to 126 are written as `\xNN`, and a word
-    /// of more than 24 bytes is cut.
-    pub(crate) fn typed(&mut self, word: &[u8]) {
-        self.add(b"\"");
-        for byte in word.iter().take(TYPED) {
-            self.shown(*byte);
-        }
-        if word.len() > TYPED {
-            self.add(b"...");
-        }
-        self.add(b"\"");
-    }
-
-    /// Appends a byte, as `\xNN` if it is not 32 to 126.
-    pub(crate) fn shown(&mut self, byte: u8) {
-        if (b' '..=b'~').contains(&byte) {
-            self.add(&[byte]);
-        } else {
-            self.add(&escape_of(byte));
-        }
-    }
-}
-
-/// Returns `\xNN` for a byte.
-pub(crate) fn escape_of(byte: u8) -> [u8; 4]
-    ensures { result ≡ codes "\\x" ++ hex_digit (byte / 16) ∷ hex_digit (byte % 16) ∷ [] }
-{
-    [b'\\', b'x', digit_of(byte / 16), digit_of(byte % 16)]
-}
-
-fn digit_of(digit: u8) -> u8
-    requires { digit < 16 }
-    ensures { result ≡ hex_digit digit }
-{
-    b"0123456789abcdef"[usize::from(digit)]
 }
 
 impl fmt::Write for Sentence {
     fn write_str(&mut self, text: &str) -> fmt::Result {
-        self.add(text.as_bytes());
+        for byte in text.as_bytes() {
+            let _left_out = self.0.try_push(*byte);
+        }
         Ok(())
+    }
+}
+
+/// A word as it was typed, in double quotes. Bytes other than 32 to 126 are written as `\xNN`, and a word of more than
+/// 24 bytes is cut.
+#[derive(Clone, Copy, Debug)]
+pub(crate) struct Typed<'a>(pub(crate) &'a [u8]);
+
+impl fmt::Display for Typed<'_> {
+    fn fmt<W: fmt::Write>(&self, f: &mut fmt::Formatter<W>) -> fmt::Result {
+        write!(f, "\"")?;
+        for byte in self.0.iter().take(TYPED) {
+            match *byte {
+                plain @ b' '..=b'~' => write!(f, "{}", char::from(plain))?,
+                other => write!(f, "\\x{other:02x}")?,
+            }
+        }
+        let end = if self.0.len() > TYPED { "..." } else { "" };
+        write!(f, "{end}\"")
+    }
+}
+
+/// A card, such as `TC`.
+#[derive(Clone, Copy, Debug)]
+pub(crate) struct Named(char, char);
+
+impl Named {
+    pub(crate) fn of(card: Card) -> Named {
+        let [rank, suit] = card_text(card);
+        Named(char::from(rank), char::from(suit))
+    }
+}
+
+impl fmt::Display for Named {
+    fn fmt<W: fmt::Write>(&self, f: &mut fmt::Formatter<W>) -> fmt::Result {
+        write!(f, "{}{}", self.0, self.1)
+    }
+}
+
+/// At most four cards in pack order, with a space between two, or `no card`.
+#[derive(Clone, Copy, Debug)]
+pub(crate) struct Cards([Option<Named>; 4]);
+
+impl Cards {
+    // Returns the cards of a set that fit at a count.
+    fn of(set: CardSet, count: u8) -> Cards {
+        let mut rest = set;
+        let mut cards = [None; 4];
+        for card in &mut cards {
+            if let Some(lowest) = rest.lowest()
+                && fits(lowest, count)
+            {
+                *card = Some(Named::of(lowest));
+                rest = rest.without(lowest);
+            }
+        }
+        Cards(cards)
+    }
+
+    fn len(&self) -> usize {
+        self.0.iter().filter(|card| card.is_some()).count()
+    }
+}
+
+impl fmt::Display for Cards {
+    fn fmt<W: fmt::Write>(&self, f: &mut fmt::Formatter<W>) -> fmt::Result {
+        match self.0 {
+            [None, ..] => write!(f, "no card"),
+            [Some(a), None, ..] => write!(f, "{a}"),
+            [Some(a), Some(b), None, _] => write!(f, "{a} {b}"),
+            [Some(a), Some(b), Some(c), None] => write!(f, "{a} {b} {c}"),
+            [Some(a), Some(b), Some(c), Some(d)] => write!(f, "{a} {b} {c} {d}"),
+        }
+    }
+}
+
+/// The cards that a side holds, and those of them that fit.
+#[derive(Clone, Copy, Debug)]
+pub(crate) struct Held {
+    pub(crate) cards: Cards,
+    fitting: Cards,
+}
+
+impl Held {
+    /// Returns the cards of a set, of which some fit at a count.
+    pub(crate) fn of(set: CardSet, count: u8) -> Held {
+        Held {
+            cards: Cards::of(set, 0),
+            fitting: Cards::of(set, count),
+        }
+    }
+
+    /// Whether some card fits.
+    pub(crate) fn has_fitting(&self) -> bool {
+        self.fitting.len() > 0
+    }
+}
+
+impl fmt::Display for Held {
+    fn fmt<W: fmt::Write>(&self, f: &mut fmt::Formatter<W>) -> fmt::Result {
+        let Held { cards, fitting } = *self;
+        let verb = if fitting.len() == 1 { "fits" } else { "fit" };
+        if fitting.len() == cards.len() {
+            write!(f, "{cards}, which {verb}")
+        } else {
+            write!(f, "{cards}, of which {fitting} {verb}")
+        }
+    }
+}
+
+/// A side, as `the owner` or `the opponent`.
+#[derive(Clone, Copy, Debug)]
+pub(crate) struct The(pub(crate) Side);
+
+impl fmt::Display for The {
+    fn fmt<W: fmt::Write>(&self, f: &mut fmt::Formatter<W>) -> fmt::Result {
+        let side = if self.0 == Side::Owner {
+            "owner"
+        } else {
+            "opponent"
+        };
+        write!(f, "the {side}")
+    }
+}
+
+/// The go of a side, as a line of a game, in double quotes.
+#[derive(Clone, Copy, Debug)]
+pub(crate) struct GoOf(pub(crate) Side);
+
+impl fmt::Display for GoOf {
+    fn fmt<W: fmt::Write>(&self, f: &mut fmt::Formatter<W>) -> fmt::Result {
+        let side = if self.0 == Side::Owner { "own" } else { "opp" };
+        write!(f, "\"{side} go\"")
+    }
+}
+
+/// A move: a card, or `go`.
+#[derive(Clone, Copy, Debug)]
+pub(crate) struct Moved(Option<Named>);
+
+impl Moved {
+    pub(crate) fn of(what: &Move) -> Moved {
+        match what {
+            Move::Card(card) => Moved(Some(Named::of(*card))),
+            Move::Go => Moved(None),
+        }
+    }
+}
+
+impl fmt::Display for Moved {
+    fn fmt<W: fmt::Write>(&self, f: &mut fmt::Formatter<W>) -> fmt::Result {
+        match self.0 {
+            Some(card) => write!(f, "{card}"),
+            None => write!(f, "go"),
+        }
     }
 }

@@ -2,6 +2,7 @@
 mod first_lines;
 mod game_lines;
 mod games;
+mod grammar;
 mod hand_lines;
 mod messages;
 mod openings;
@@ -10,12 +11,10 @@ mod plans;
 mod tables;
 
 use crate::excerpt::excerpt_of;
-use crate::explained::Mark;
-use crate::lines::line_at;
+use crate::scene::{Mark, line_at};
 use crate::tests::messages::are_said;
 use crate::*;
-use crib_input::{Cause, Refusal, Sections};
-use crib_run::{FaultCause, Reason};
+use crib_input::{Cause, FaultCause, Reason, Refusal, Sections};
 use crib_text::TextCause;
 use std::process::Abort;
 

@@ -23,7 +23,7 @@ use Rattle.crib_plan.specs.Reading.{branch_in, branches_in, branch_node_in}
 use Rattle.crib_plan.proofs.NextReadIsSpelled.{branch_node_found}
 use Rattle.crib_plan.proofs.LeadsTo.{leads, nodes_of-append, or_rest, has-seen_after}
 
--- branches that lead only to nodes that stood before add no node
+-- branches that lead only to nodes that were there before add no node
 pub nodes_of-none : (before : List ℕ) (ys : List Next) → ((node : ℕ) → leads ys node ≡ true → has before node ≡ true) → nodes_of before ys ≡ []
 nodes_of-none before [] all = refl
 nodes_of-none before (End ∷ ys) all = nodes_of-none before ys all
@@ -70,7 +70,7 @@ led_leads node (false ∷ holding) (next ∷ nexts) other e =
           rw differs f
     ]
 
--- a new node comes last among the nodes
+-- a new node is last among the nodes
 new_node : (node : ℕ) (xs : List Next) (x : Next) (ys : List Next) (holding : List Bool) → leads xs node ≡ false →
     ((other : ℕ) → leads (x ∷ ys) other ≡ true → leads xs other ≡ true)
     → nodes_of [] (xs ++ To node ∷ led_by node holding ys) ≡ nodes_of [] (xs ++ x ∷ ys) ++ node ∷ []

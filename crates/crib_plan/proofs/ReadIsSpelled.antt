@@ -1,20 +1,19 @@
 -- If a line is read as a node, it is the spelling of that node.
-use Rattle.std.proofs.Common.{◌≡◌, ℕ, ◌^◌, ◌<◌, ◌≤◌, eqb, List, [], ◌∷◌, Ok, Err, codes, decimal, refl, sym, ap, subst, ◌∙◌, arith}
+use Rattle.std.proofs.Common.{◌≡◌, ℕ, ◌^◌, ◌<◌, ◌≤◌, eqb, List, [], ◌∷◌, Ok, Err, codes, decimal, refl, sym, ap, subst, ◌∙◌}
 use Rattle.std.proofs.Common.{inl, inr}
-use Rattle.std.specs.Prelude.{nat_le, bytes_eq}
-use Rattle.std.proofs.lemmas.Bool.{cases_Bool, eqb-true, leb-true}
+use Rattle.std.specs.Prelude.{bytes_eq}
+use Rattle.std.proofs.lemmas.Bool.{cases_Bool, eqb-true}
 use Rattle.std.proofs.lemmas.Slice.Eq.{bytes_eq-Decides}
 use Rattle.crib_cards.specs.CardText.{card_read, card_text}
 use Rattle.crib_cards.proofs.CardReadLemmas.{card_read_is}
 use Rattle.crib_text.specs.Refusals.{bad_line, bad_card}
-use Rattle.crib_text.specs.Reading.{or_refused, unless_refused, after_keyword, only_word, number_in}
-use Rattle.crib_text.proofs.ReadingLemmas.{bind_ok, unless_ok, or_ok, ok_is, after_found, only_found, number_found}
+use Rattle.crib_text.specs.Reading.{or_refused, number_in}
+use Rattle.crib_text.proofs.ReadingLemmas.{bind_ok, unless_ok, or_ok, ok_is, number_found}
 use Rattle.crib_plan.specs.declared.plan.Node.{Node}
 use Rattle.crib_plan.specs.declared.plan.Node.TheVariants.{Play, See}
-use Rattle.crib_plan.specs.Nodes.{most_nodes, IsNode}
+use Rattle.crib_plan.specs.Nodes.{IsNode}
 use Rattle.crib_plan.specs.Spelling.{node_line}
-use Rattle.crib_plan.specs.Refusals.{too_many}
-use Rattle.crib_plan.specs.Reading.{own_number_in, next_in, no_branches, branches_in, play_in, see_in, node_from, count_in}
+use Rattle.crib_plan.specs.Reading.{own_number_in, next_in, no_branches, branches_in, play_in, see_in, node_from}
 use Rattle.crib_plan.proofs.NextReadIsSpelled.{next_found}
 use Rattle.crib_plan.proofs.BranchReadIsSpelled.{line_found}
 
@@ -26,7 +25,7 @@ own_found place word u e =
     let number = number_found word a.0 a.1 in
     (number.0 ∙ ap decimal is, subst (λ (n : ℕ). n < 2 ^ 32) is number.1)
 
--- the words are the line of a node, and the node may stand at its place
+-- the words are the line of a node, and the node may be at its place
 abbrev IsLineOf : ℕ → ℕ → List (List ℕ) → Node → Type 0
 IsLineOf place count words node = (words ≡ node_line place node) × (place < 2 ^ 32) × IsNode place count node
 

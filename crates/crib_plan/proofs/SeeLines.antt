@@ -3,7 +3,7 @@ use Rattle.std.proofs.Common.{◌≡◌, ℕ, zero, suc, ◌+◌, ◌<◌, ◌�
 use Rattle.std.proofs.Common.{refl, sym, ap, subst, ◌∙◌, arith, inl, inr}
 use Rattle.std.specs.Prelude.{position, nat_lt, replicate}
 use Rattle.std.specs.List.{list_any, position_or_len}
-use Rattle.std.proofs.lemmas.Bool.{cases_Bool, eqb-true, eq-eqb, and_parts, not-true, or_left, or_right}
+use Rattle.std.proofs.lemmas.Bool.{cases_Bool, and_parts, not-true, or_left, or_right}
 use Rattle.std.proofs.lemmas.List.Folds.{list_any-append}
 use Rattle.std.proofs.lemmas.List.Quantifiers.{position-Some}
 use Rattle.crib_cards.specs.Sets.{has}
@@ -12,8 +12,8 @@ use Rattle.crib_plan.specs.declared.plan.Next.TheVariants.{End, To}
 use Rattle.crib_plan.specs.Spelling.{letter_bytes, leads_to}
 use Rattle.crib_plan.specs.Reading.{is_end, are_free, led_by, Branches, no_branches, Letters, letters_in}
 use Rattle.crib_plan.specs.SeeLaws.{Branch, AreInOrder, first_number, has_letter, has_node, IsBehindLast, IsNextSet}
-use Rattle.crib_plan.proofs.BranchReadIsSpelled.{chosen, led_leads, length-led, AreLetters, letters_found, end_leads_not}
-use Rattle.crib_plan.proofs.LeadsTo.{leads, or_rest}
+use Rattle.crib_plan.proofs.BranchReadIsSpelled.{chosen, length-led, AreLetters, letters_found, end_leads_not}
+use Rattle.crib_plan.proofs.LeadsTo.{leads}
 use Rattle.crib_plan.proofs.SeeSets.{chosen_in_order, number_of_first, where_leads, leads_led, free_all}
 
 -- ---- nodes
@@ -50,7 +50,7 @@ leads_after node other (false ∷ holding) (next ∷ nexts) free long =
 
 -- ---- the branches so far
 
--- what the code keeps stands for the branches that were read
+-- what the code keeps represents the branches that were read
 pub record Stand (earlier : List Branch) (before : Branches) : Type 0 where
   pub long : length before.nexts ≡ 14
   pub letters : (letter : ℕ) → is_end (where_leads letter_bytes before.nexts letter) ≡ not (has_letter earlier letter)

@@ -1,7 +1,7 @@
 -- The proofs of the laws of see lines.
-use Rattle.std.proofs.Common.{◌≡◌, ◌≢◌, ℕ, ◌+◌, ◌<◌, ◌≤◌, Bool, true, false, not, cond, ◌&&◌, ◌⊎◌, List, [], ◌∷◌, ◌++◌, length, map, drop}
-use Rattle.std.proofs.Common.{Option, Some, None, Result, Ok, Err, codes, decimal, refl, sym, ap, subst, ◌∙◌, append_assoc, arith, inl, inr}
-use Rattle.std.specs.Prelude.{position, nat_lt, nat_le, bytes_eq, IsOk}
+use Rattle.std.proofs.Common.{◌≡◌, ◌≢◌, ℕ, ◌+◌, ◌<◌, ◌≤◌, Bool, true, false, not, cond, ◌&&◌, ◌⊎◌, List, [], ◌∷◌, ◌++◌, length, map}
+use Rattle.std.proofs.Common.{Some, None, Result, Ok, Err, codes, decimal, refl, sym, ap, subst, ◌∙◌, append_assoc, arith, inl, inr}
+use Rattle.std.specs.Prelude.{nat_lt, bytes_eq, IsOk}
 use Rattle.std.specs.List.{list_any, position_or_len, count_by, AllByRecursion}
 use Rattle.std.proofs.lemmas.Bool.{cases_Bool, cases_lt, le-leb, ltb-true, and_parts}
 use Rattle.std.proofs.lemmas.List.{append-nil}
@@ -14,7 +14,7 @@ use Rattle.crib_text.specs.Reading.{◌>>=◌, or_refused, unless_refused, numbe
 use Rattle.crib_text.proofs.ReadingLemmas.{bind_ok, unless_ok, ok_is, number_found, number_spelled}
 use Rattle.crib_plan.specs.Spelling.{letter_bytes, colon}
 use Rattle.crib_plan.specs.Refusals.{bad_next, bad_set}
-use Rattle.crib_plan.specs.Reading.{later_node, node_in, branch_node_in, letters_read, are_free, led_by, is_colon, Branches, no_branches, Letters, Parts}
+use Rattle.crib_plan.specs.Reading.{later_node, node_in, branch_node_in, led_by, is_colon, Branches, no_branches, Letters, Parts}
 use Rattle.crib_plan.specs.Reading.{parts_in, letters_in, branch_in, branches_in}
 use Rattle.crib_plan.specs.SeeLaws.{Branch, branch_spelling, first_number, IsNextSet, Pass, IsRefused, HasNoColon, IsLaterNode, ColonLaw, SetLaw, EndLaw}
 use Rattle.crib_plan.specs.SeeLaws.{NumberLaw, RangeLaw, NodeLaw, PassLaw}

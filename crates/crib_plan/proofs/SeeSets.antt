@@ -86,7 +86,7 @@ has_chosen (true ∷ holding) (first ∷ letters) letter e =
     ]
 has_chosen (false ∷ holding) (first ∷ letters) letter e = or_right (eqb first letter) (has letters letter) (has_chosen holding letters letter e)
 
--- the first letter of a list stands only at its front
+-- the first letter of a list is only at its front
 not_chosen : (holding : List Bool) (first : ℕ) (letters : List ℕ) (letter : ℕ) → are_distinct (first ∷ letters) ≡ true → eqb first letter ≡ true
     → has (chosen holding letters) letter ≡ false
 not_chosen holding first letters letter distinct same =
@@ -107,7 +107,7 @@ chosen_none (true ∷ holding) (letter ∷ letters) none =
     absurd (omega arith)
 chosen_none (false ∷ holding) (letter ∷ letters) none = chosen_none holding letters (omega arith)
 
--- the first letter of a set stands at the first place that the set holds
+-- the first letter of a set is at the first place that the set holds
 pub number_of_first : (holding : List Bool) (letters : List ℕ) → are_distinct letters ≡ true → length holding ≡ length letters
     → position_or_len (λ holds. holds) holding < length holding
     → position_or_len (λ letter. eqb letter (get_or (chosen holding letters) 0 0)) letters ≡ position_or_len (λ holds. holds) holding

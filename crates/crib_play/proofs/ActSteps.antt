@@ -1,4 +1,4 @@
--- Proves that an act leads from a table that stands for some visible turns to one that stands for them and the new turn.
+-- Proves that an act leads from a table that represents some visible turns to one that represents them and the new turn.
 use Rattle.std.proofs.Common.{◌≡◌, ℕ, ◌+◌, ◌-◌, ◌≤◌, zero, suc, Bool, true, false, cond, not, eqb, ltb, List, [], ◌∷◌, ◌++◌, refl, sym, ap, ◌∙◌}
 use Rattle.std.proofs.Common.{inl, inr, arith}
 use Rattle.std.proofs.lemmas.Bool.Decides.{nat_tests}
@@ -77,7 +77,7 @@ passed_face target s turn Opponent = simp and-false
 none_left : (s : State) (side : Side) → s.said side ≡ false → heard_of s side ≡ false → s.left side ≡ 0
 none_left s side said e = let none = rw said at e in grind (arith, nat_tests, none)
 
--- where no go stands in this count and the deal is not done, some side is heard
+-- where no go is in this count and the deal is not done, some side is heard
 some_heard : (target : ℕ) (s : State) (m : Side) → IsSum s → done target s ≡ false → ((side : Side) → s.said side ≡ false) →
     heard_of s (other_side m) ≡ false → heard_of s m ≡ false → ⊥
 some_heard target s m total d said other mine =

@@ -1,4 +1,4 @@
--- Worked examples of what people dispute about the play. Other disputes stand elsewhere: the crib flush and who counts first in `crib_show`, and a plan that
+-- Worked examples of what people dispute about the play. Other disputes are elsewhere: the crib flush and who counts first in `crib_show`, and a plan that
 -- runs out in `crib_game`.
 use Rattle.std.specs.Prelude.{◌≡◌, refl, List, [], ◌∷◌, true, reverse}
 use Rattle.std.specs.List.{list_any}

@@ -8,7 +8,7 @@ use Rattle.crib_cards.specs.Sets.{has, IsCardSet, first_of_list}
 use Rattle.crib_cards.proofs.SetFacts.{are_rising-set_where}
 use Rattle.crib_play.specs.Fitting.{fits_at}
 
--- a card that stands later in a rising list has no lower value, so it does not fit either
+-- a card that is later in a rising list has no lower value, so it does not fit either
 none_later : (count low : ℕ) (cards : List ℕ) → are_rising (low ∷ cards) ≡ true → fits_at count low ≡ false → list_any (fits_at count) cards ≡ false
 none_later count low [] rising out = refl
 none_later count low (card ∷ cards) rising out =

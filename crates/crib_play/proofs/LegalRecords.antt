@@ -1,4 +1,4 @@
--- Proves that visible turns which may come one by one fill to a legal record, and that the visible turns of a legal record may come so.
+-- Proves that visible turns which may be made one by one fill to a legal record, and that the visible turns of a legal record may be made so.
 use Rattle.std.proofs.Common.{◌≡◌, ℕ, Bool, true, false, not, List, [], ◌∷◌, refl, sym, ap, ◌∙◌, inl, inr}
 use Rattle.std.proofs.lemmas.Bool.{cases_Bool, and_parts, not-true, not-false}
 use Rattle.std.proofs.Math.Bool.{and-true}
@@ -89,7 +89,7 @@ pub taken_legal : (start : Start) (hands : Hands) (seen : List Move) → IsStart
     AreTaken start (letters_of seen)
 taken_legal start hands seen is dealt are = taken_before start hands seen is dealt are (visible_filled start hands seen is dealt are)
 
--- the same, for turns that may come one by one
+-- the same, for turns that may be made one by one
 pub visible_after : (start : Start) (hands : Hands) (turn : Move) (seen : List Move) → IsStart start → IsDealt hands → AreLegal start hands seen →
     MayCome start hands turn (filled_moves start seen) →
     is_visible (pone_of start) (letter_of turn) (letters_of (filled_moves start seen)) ≡ true

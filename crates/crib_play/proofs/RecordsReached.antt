@@ -150,7 +150,7 @@ pub reached : (start : Start) (seen : List Letter) → IsStart start → AreTake
 reached start [] is taken = reached_start start is
 reached start (turn ∷ seen) is taken = reached_turn start turn (filled_record start seen) taken.1 (reached start seen is taken.0)
 
--- a round after one more turn stands for the turns with this one
+-- a round after one more turn represents the turns with this one
 stands_more : (start : Start) (turn : Letter) (seen : List Letter) (round after : Standing) (more : ℕ) → StandsFor round start seen →
     MayFollow start turn (filled_record start seen) → Adds start turn (filled_record start seen) after more →
     StandsFor after start (turn ∷ seen) × (more ≡ points_added start turn seen)

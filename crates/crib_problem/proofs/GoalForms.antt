@@ -1,4 +1,4 @@
--- The goal of a problem: its hole, and the form of its line. All lemmas that go goal by goal stand here.
+-- The goal of a problem: its hole, and the form of its line. All lemmas that go goal by goal are here.
 use Rattle.std.proofs.Common.{◌≡◌, ℕ, ◌-◌, ◌<◌, ◌≤◌, ◌^◌, true, false, eqb, cond, ◌&&◌, List, [], ◌∷◌, length, Ok, Err, codes, decimal, refl, sym, ap, subst}
 use Rattle.std.proofs.Common.{◌∙◌, arith, inl, inr}
 use Rattle.std.specs.Prelude.{nat_le, bytes_eq}

@@ -1,30 +1,23 @@
 -- Proves that each line that is read as part of a problem is the spelling of that part.
-use Rattle.std.proofs.Common.{◌≡◌, ℕ, Bool, ◌-◌, ◌≤◌, true, false, not, eqb, cond, ◌&&◌, List, [], ◌∷◌, ◌++◌, length, map, Ok, Err, codes}
+use Rattle.std.proofs.Common.{◌≡◌, ℕ, Bool, ◌-◌, ◌≤◌, true, false, not, eqb, cond, ◌&&◌, List, [], ◌∷◌, ◌++◌, map, Ok, Err}
 use Rattle.std.proofs.Common.{decimal, refl, sym, ap, subst, ◌∙◌, arith, inl, inr}
-use Rattle.std.specs.Prelude.{nat_le, bytes_eq}
 use Rattle.std.specs.List.{AllByRecursion}
-use Rattle.std.proofs.lemmas.Bool.{cases_Bool, both_ways, eqb-true, leb-true, and_parts, not-true}
-use Rattle.std.proofs.lemmas.Slice.Eq.{bytes_eq-Decides}
+use Rattle.std.proofs.lemmas.Bool.{cases_Bool, both_ways, eqb-true, not-true}
 use Rattle.crib_cards.specs.Cards.{IsCard}
 use Rattle.crib_cards.specs.Sets.{has, are_distinct}
-use Rattle.crib_cards.specs.Sides.{game_hole}
 use Rattle.crib_cards.specs.CardText.{card_text}
 use Rattle.crib_cards.specs.declared.sides.Scores.{Scores}
-use Rattle.crib_text.specs.Refusals.{bad_line, bad_version}
-use Rattle.crib_text.specs.Reading.{unless_refused, after_keyword, only_word, number_in}
-use Rattle.crib_text.proofs.ReadingLemmas.{bind_ok, if_ok, unless_ok, ok_is, after_found, only_found, number_found}
+use Rattle.crib_text.specs.Refusals.{bad_version}
+use Rattle.crib_text.specs.Reading.{unless_refused}
+use Rattle.crib_text.proofs.ReadingLemmas.{bind_ok, if_ok, unless_ok, ok_is}
 use Rattle.crib_cards.proofs.CardReadLemmas.{card_read_is}
 use Rattle.crib_cards.proofs.Members.{has_here, distinct_append}
 use Rattle.crib_text.proofs.Forms.{IsWordForm, most_form}
-use Rattle.crib_problem.specs.declared.problem.Goal.{Goal}
-use Rattle.crib_problem.specs.declared.problem.Goal.TheVariants.{Win, Holes, Stop}
 use Rattle.crib_problem.specs.declared.problem.Version.{Version}
 use Rattle.crib_problem.specs.declared.problem.Version.TheVariants.{One, Two}
-use Rattle.crib_problem.specs.Setup.{IsGoal, CanSay}
-use Rattle.crib_problem.specs.Spelling.{goal_words, version_word}
-use Rattle.crib_problem.specs.Refusals.{same_card, bad_score, bad_goal}
-use Rattle.crib_problem.specs.Reading.{version_of_number, score_in, both_scores, scores_in, card_in, new_card, new_cards}
-use Rattle.crib_problem.specs.Reading.{holes_in, stop_goal, plain_goal, holes_goal, win_in, target_in, goal_in}
+use Rattle.crib_problem.specs.Spelling.{version_word}
+use Rattle.crib_problem.specs.Refusals.{same_card, bad_score}
+use Rattle.crib_problem.specs.Reading.{version_of_number, score_in, both_scores, card_in, new_card, new_cards}
 use Rattle.crib_problem.proofs.CardLemmas.{card_in_is}
 
 pub version_found : (n : ℕ) (version : Version) → version_of_number n ≡ Ok version → decimal n ≡ version_word version

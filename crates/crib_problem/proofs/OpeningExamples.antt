@@ -7,7 +7,7 @@ use Rattle.crib_cards.specs.declared.moves.Act.{Act}
 use Rattle.crib_cards.specs.declared.moves.Move.TheVariants.{Card, Go}
 use Rattle.crib_play.specs.declared.turns.Turn.TheVariants as turns
 use Rattle.crib_problem.specs.Played.{AreAllowed, OpeningBasis, act_refusal, asked_by, cards_by, cards_played, count_by_acts, least_by, move_refusal}
-use Rattle.crib_problem.specs.Played.{own_left_by, seen_by}
+use Rattle.crib_problem.specs.Played.{cards_with, own_left_by, seen_by}
 
 -- the owner holds TC 9C 2C 8C and threw 4S 6S; the starter is 3H, the opponent deals and is at the given score, and the goal is to win
 abbrev basis_at : ℕ → OpeningBasis
@@ -193,3 +193,66 @@ dealer_leads_not are = (let refused = are.1 in cc)
 -- nor is it allowed afterwards
 dealer_has_led : AreAllowed (basis_at 0) (own 36 ∷ theirs 37 ∷ []) → ⊥
 dealer_has_led are = dealer_leads_not are.0
+
+-- what the opponent has shown is kept as it was played, also what is alike
+pub card_before_cards : cards_with (Card 5) (7 ∷ 4 ∷ 7 ∷ []) ≡ 5 ∷ 7 ∷ 4 ∷ 7 ∷ []
+card_before_cards = refl
+
+pub go_before_cards : cards_with Go (7 ∷ 4 ∷ 7 ∷ []) ≡ 7 ∷ 4 ∷ 7 ∷ []
+go_before_cards = refl
+
+-- the first card that was played is seen, and not left
+pub ten_seen : seen_by (basis_at 0) (own_go ∷ theirs 37 ∷ own 36 ∷ []) ≡ 4 ∷ 10 ∷ 15 ∷ 23 ∷ 28 ∷ 32 ∷ 36 ∷ 37 ∷ []
+unfolding set_where
+ten_seen = refl
+
+pub theirs_alone_seen : seen_by (basis_at 0) (theirs 0 ∷ []) ≡ 0 ∷ 4 ∷ 10 ∷ 15 ∷ 23 ∷ 28 ∷ 32 ∷ 36 ∷ []
+unfolding set_where
+theirs_alone_seen = refl
+
+pub last_card_is_not_left : own_left_by (basis_at 0) (own 32 ∷ theirs 37 ∷ own 36 ∷ []) ≡ 4 ∷ 28 ∷ []
+unfolding set_where
+last_card_is_not_left = refl
+
+-- a card of the opponent is held against the count (42) before it is held against the opponent's gos (23)
+pub fit_before_deal : move_refusal 30 [] 5 Opponent (Card 4) ≡ Some 42
+fit_before_deal = refl
+
+pub deal_where_it_fits : move_refusal 29 [] 5 Opponent (Card 4) ≡ Some 23
+deal_where_it_fits = refl
+
+pub five_of_five : move_refusal 26 [] 5 Opponent (Card 16) ≡ None
+five_of_five = refl
+
+-- a card of the owner is held (41) before it fits (42), and the greatest count is 31
+pub hold_before_fit : move_refusal 30 (28 ∷ 4 ∷ []) 1 Owner (Card 5) ≡ Some 41
+hold_before_fit = refl
+
+pub two_at_30 : move_refusal 30 (28 ∷ 4 ∷ []) 1 Owner (Card 4) ≡ Some 42
+two_at_30 = refl
+
+pub two_at_29 : move_refusal 29 (28 ∷ 4 ∷ []) 1 Owner (Card 4) ≡ None
+two_at_29 = refl
+
+-- the opponent's go is refused up to 21
+pub their_gos : move_refusal 21 [] 1 Opponent Go ∷ move_refusal 22 [] 1 Opponent Go ∷ [] ≡ Some 23 ∷ None ∷ []
+their_gos = refl
+
+-- one card that fits is enough to refuse the owner's go
+pub own_gos : move_refusal 29 (28 ∷ 4 ∷ []) 1 Owner Go ∷ move_refusal 30 (28 ∷ 4 ∷ []) 1 Owner Go ∷ move_refusal 0 [] 1 Owner Go ∷ []
+    ≡ Some 43 ∷ None ∷ None ∷ []
+own_gos = refl
+
+-- the first act that is refused makes an opening not allowed, also if the next one is fine
+pub first_lead_of_the_dealer : AreAllowed (basis_at 0) (own 36 ∷ theirs 37 ∷ []) → ⊥
+unfolding set_where
+first_lead_of_the_dealer are = (let refused = are.0.1 in cc)
+
+-- the owner deals, and the first card that the opponent showed can't be shown again
+pub first_card_again : act_refusal (record {
+  start = record { dealer = Owner; scores = record { owner = 0; opponent = 0 }; target = 121 };
+  hold = 36 ∷ 32 ∷ 4 ∷ 28 ∷ [];
+  known = 10 ∷ 36 ∷ 32 ∷ 4 ∷ 28 ∷ 15 ∷ 23 ∷ [];
+}) (reverse (theirs 37 ∷ own 4 ∷ [])) (theirs 37) ≡ Some 20
+unfolding set_where
+first_card_again = refl

@@ -1,6 +1,6 @@
 -- Worked examples of problems: goals, conditions, hidden deals, and games that begin with the opening.
-use Rattle.std.proofs.Common.{arith, ◌≡◌, refl, ap, true, false, [], ◌∷◌, ◌++◌, List, ℕ, length, codes}
-use Rattle.std.specs.Prelude.{replicate}
+use Rattle.std.proofs.Common.{arith, ◌≡◌, refl, ap, subst, true, false, [], ◌∷◌, ◌++◌, List, ℕ, length, codes}
+use Rattle.std.specs.Prelude.{replicate, IsFalse}
 use Rattle.std.specs.Fmt.{digits}
 use Rattle.std.specs.List.{AllByRecursion}
 use Rattle.std.proofs.lemmas.Bool.{both_ways}
@@ -11,12 +11,16 @@ use Rattle.crib_cards.specs.declared.letters.Letter.TheVariants.{Seen}
 use Rattle.crib_cards.specs.declared.moves.Act.{Act}
 use Rattle.crib_cards.specs.declared.moves.Move.{Move}
 use Rattle.crib_cards.specs.declared.moves.Move.TheVariants.{Card, Go}
-use Rattle.crib_play.specs.Score.{is_done}
+use Rattle.crib_cards.specs.declared.sides.Dealt.{Dealt}
+use Rattle.crib_play.specs.History.{with_silent_moves}
+use Rattle.crib_play.specs.Legal.{letters_of}
+use Rattle.crib_play.specs.Score.{is_done, scores_after}
+use Rattle.crib_problem.specs.Laws.{IsHonest}
 use Rattle.crib_problem.specs.declared.problem.Goal.TheVariants.{Win, Holes, Stop}
 use Rattle.crib_problem.specs.declared.problem.Version.TheVariants.{One, Two}
-use Rattle.crib_problem.specs.Setup.{Setup, IsSetup, IsGoal, CanSay, IsMove, IsDealOf, BeginsAsPlayed, target_of, known_cards, start_of}
+use Rattle.crib_problem.specs.Setup.{Setup, IsSetup, IsGoal, CanSay, IsMove, IsDealOf, BeginsAsPlayed, setup_by, target_of, known_cards, start_of}
 use Rattle.crib_problem.specs.Spelling.{problem_text, problem_lines}
-use Rattle.crib_problem.proofs.ExampleProblems.{plays, four_twos, after_two, aces}
+use Rattle.crib_problem.proofs.ExampleProblems.{plays, says_go, level, four_twos, after_two, aces}
 
 -- the owner deals and holds four twos, the scores are 61 to 70, and the goal is twelve holes
 abbrev midway : Setup
@@ -163,3 +167,43 @@ begins_with_2D is = no is.later is.parts
     no (act ∷ []) e = (let acts = ap length e in absurd (omega (arith, acts)))
     no (act ∷ next ∷ []) e = (let acts = ap length e in absurd (omega (arith, acts)))
     no (act ∷ next ∷ more ∷ rest) e = (let acts = ap length e in absurd (omega (arith, acts)))
+
+-- an ace that was played and lies in the throw isn't held
+pub ace_that_was_played_is_thrown : IsDealOf after_two (record aces { hold = 1 ∷ 2 ∷ 3 ∷ 8 ∷ []; throw = 0 ∷ 9 ∷ [] }) → ⊥
+ace_that_was_played_is_thrown is = absurd (both_ways false refl is.fixed)
+
+-- ---- the parts of a problem
+pub parts_of_midway :
+    setup_by Two Owner (record { owner = 61; opponent = 70 }) 49 (7 ∷ 4 ∷ 6 ∷ 5 ∷ []) (21 ∷ 12 ∷ []) Stop (plays Opponent 0 ∷ says_go Owner ∷ [])
+    ≡ record {
+      version = Two;
+      dealer = Owner;
+      scores = record { owner = 61; opponent = 70 };
+      starter = 49;
+      hold = 7 ∷ 4 ∷ 6 ∷ 5 ∷ [];
+      thrown = 21 ∷ 12 ∷ [];
+      goal = Stop;
+      played = plays Opponent 0 ∷ says_go Owner ∷ [];
+    }
+parts_of_midway = refl
+
+-- the owner holds TC 8C AC AD, and wants three holes. After TC TD, 8C, a go at 28, AC and AD, which are a pair, the gos that nobody
+-- hears close the pile, and its last card makes the third hole: the deal is done, so these acts are no opening
+abbrev three_holes : Setup
+three_holes = record level { version = Two; hold = 36 ∷ 28 ∷ 0 ∷ 1 ∷ []; goal = Holes 3 }
+
+abbrev to_the_pair : List Move
+to_the_pair = Card 1 ∷ Go ∷ Card 0 ∷ Go ∷ Card 28 ∷ Card 37 ∷ Card 36 ∷ []
+
+pub two_holes_with_the_pair : scores_after (start_of three_holes) (letters_of to_the_pair) ≡ record { owner = 2; opponent = 2 }
+two_holes_with_the_pair = refl
+
+pub three_holes_with_the_close :
+    scores_after (start_of three_holes) (letters_of (with_silent_moves 3 (start_of three_holes) to_the_pair)) ≡ record { owner = 3; opponent = 2 }
+three_holes_with_the_close = refl
+
+abbrev IsGoing : List Move → Type 0
+IsGoing played = IsFalse (is_done (start_of three_holes) (letters_of (with_silent_moves 3 (start_of three_holes) played)))
+
+pub done_by_silent_gos : (dealt : Dealt) (acts : List Act) (is : IsHonest three_holes dealt acts) → is.played ≡ to_the_pair → ⊥
+done_by_silent_gos dealt acts is e = absurd (both_ways true (subst IsGoing e is.going) refl)

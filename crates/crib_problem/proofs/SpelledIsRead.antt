@@ -3,31 +3,25 @@ use Rattle.std.proofs.Common.{◌≡◌, ℕ, ◌+◌, ◌*◌, ◌-◌, ◌≤�
 use Rattle.std.proofs.Common.{ap, ◌∙◌, arith}
 use Rattle.std.proofs.lemmas.Fmt.{length-decimal-le}
 use Rattle.std.proofs.lemmas.List.{length-map}
-use Rattle.std.proofs.lemmas.Bool.{le-leb, ne_eqb, and_parts, and_from, not-true}
+use Rattle.std.proofs.lemmas.Bool.{ne_eqb, and_parts, not-true}
 use Rattle.crib_cards.specs.Cards.{IsCard}
 use Rattle.crib_cards.specs.Sets.{has, are_distinct}
-use Rattle.crib_cards.specs.Sides.{game_hole}
 use Rattle.crib_cards.specs.CardText.{card_text}
 use Rattle.crib_cards.specs.declared.sides.Side.{Side}
 use Rattle.crib_cards.specs.declared.sides.Side.TheVariants.{Owner, Opponent}
-use Rattle.crib_cards.specs.declared.sides.Scores.{Scores}
 use Rattle.crib_cards.proofs.CardReadLemmas.{card_read-card_text, card_text-word, card_texts-words}
 use Rattle.crib_cards.proofs.Members.{has_here, has_there}
-use Rattle.crib_text.proofs.SpellingLemmas.{is_word, are_words, is_word-decimal}
+use Rattle.crib_text.proofs.SpellingLemmas.{is_word, is_word-decimal}
 use Rattle.crib_text.specs.Reading.{◌>>=◌, number_in}
-use Rattle.crib_text.proofs.ReadingLemmas.{bind_ok, after_spelled, only_spelled, number_spelled, number_found}
-use Rattle.crib_problem.specs.declared.problem.Goal.{Goal}
-use Rattle.crib_problem.specs.declared.problem.Goal.TheVariants.{Win, Holes, Stop}
+use Rattle.crib_text.proofs.ReadingLemmas.{bind_ok, number_spelled, number_found}
 use Rattle.crib_problem.specs.declared.problem.Version.{Version}
 use Rattle.crib_problem.specs.declared.problem.Version.TheVariants.{One, Two}
-use Rattle.crib_problem.specs.Setup.{Setup, IsGoal, CanSay}
+use Rattle.crib_problem.specs.Setup.{Setup}
 use Rattle.crib_cards.specs.Words.{side_word}
-use Rattle.crib_problem.specs.Spelling.{goal_words, version_number, version_word}
+use Rattle.crib_problem.specs.Spelling.{version_number, version_word}
 use Rattle.crib_problem.specs.Reading.{version_of_number, version_in, side_in, dealer_in, both_scores, scores_in, new_card, new_cards, cards_in_line}
-use Rattle.crib_problem.specs.Reading.{starter_in, holes_in, stop_goal, plain_goal, holes_goal, win_in, target_in, goal_in}
+use Rattle.crib_problem.specs.Reading.{starter_in}
 use Rattle.crib_problem.proofs.CardLemmas.{card_in-some}
-use Rattle.crib_text.proofs.RoomLemmas.{three_digits}
-use Rattle.crib_text.proofs.TextLengths.{words_length}
 use Rattle.crib_text.proofs.Forms.{IsWordForm, AreWordsForm, words_as, keyword_form, named_form, each_form}
 use Rattle.crib_problem.proofs.ActForms.{card_form}
 use Rattle.crib_problem.proofs.LinesReadAreSpelled.{AreNew, version_found, score_form, scores_found, card_found, cards_found}

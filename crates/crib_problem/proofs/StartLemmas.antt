@@ -10,9 +10,7 @@ use Rattle.crib_cards.proofs.SetFacts.{has-append, in_set_where, has-set_of, IsC
 use Rattle.crib_cards.proofs.SetCounts.{length-set_with}
 use Rattle.crib_play.specs.Standing.{IsStart}
 use Rattle.crib_play.specs.Legal.{IsDealt}
-use Rattle.crib_problem.specs.Setup.{Setup, IsSetup, IsGoal, goal_hole, known_cards, unseen_of, start_of, hands_of}
-use Rattle.crib_problem.specs.declared.problem.Goal.{Goal}
-use Rattle.crib_problem.specs.declared.problem.Goal.TheVariants.{Win, Holes, Stop}
+use Rattle.crib_problem.specs.Setup.{Setup, IsSetup, known_cards, unseen_of, start_of, hands_of}
 use Rattle.crib_problem.proofs.CardLemmas.{all_parts}
 use Rattle.crib_problem.proofs.GoalForms.{goal_bounds}
 use Rattle.crib_cards.proofs.Members.{all_has, distinct_append, distinct_left}

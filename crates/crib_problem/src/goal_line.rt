@@ -54,7 +54,7 @@ pub(crate) fn goal_of(line: &Line<'_>, version: Version, score: u8) -> Result<Go
     holes_of(score, word_at(line, 2))
 }
 
-pub(crate) fn put_goal<A: Allocator>(text: &mut Vec<u8, A>, goal: Goal)
+pub(crate) fn append_goal<A: Allocator>(text: &mut Vec<u8, A>, goal: Goal)
     requires { vec_len text.old + 15 ≤ vec_capacity text.old }
     ensures { Appended text.old text.new (line_text (codes "goal" ∷ goal_words goal)) 15 }
 {

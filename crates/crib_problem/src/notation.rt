@@ -90,12 +90,12 @@ pub fn append_acts<A: Allocator>(text: &mut Vec<u8, A>, keyword: &[u8], acts: &[
     ensures items { text.new.items ≡ text.old.items ++ flat_map line_text (acts_lines keyword.now acts.now) }
     ensures len { vec_len text.new ≤ vec_len text.old + length keyword.now + 4 + 7 * length acts.now }
 {
-    put_count(text, keyword, acts.len() as u32);
-    put_acts(text, acts);
+    append_count(text, keyword, acts.len() as u32);
+    append_act_lines(text, acts);
 }
 
 #[tactic(auto, using(crib_text::proofs::RoomLemmas::short))]
-fn put_count<A: Allocator>(text: &mut Vec<u8, A>, keyword: &[u8], count: u32)
+fn append_count<A: Allocator>(text: &mut Vec<u8, A>, keyword: &[u8], count: u32)
     requires few { count ≤ most_acts }
     requires fits { vec_len text.old + length keyword.now + 4 ≤ vec_capacity text.old }
     ensures items { text.new.items ≡ text.old.items ++ line_text (keyword.now ∷ decimal count ∷ []) }
@@ -109,16 +109,16 @@ fn put_count<A: Allocator>(text: &mut Vec<u8, A>, keyword: &[u8], count: u32)
 }
 
 // Appends a line for each act.
-fn put_acts<A: Allocator>(text: &mut Vec<u8, A>, acts: &[Act])
+fn append_act_lines<A: Allocator>(text: &mut Vec<u8, A>, acts: &[Act])
     requires { vec_len text.old + 7 * length acts.now ≤ vec_capacity text.old }
     ensures { Appended text.old text.new (flat_map line_text (map act_line acts.now)) (7 * length acts.now) }
 {
     for act in acts {
-        put_act(text, act);
+        append_act(text, act);
     }
 }
 
-fn put_act<A: Allocator>(text: &mut Vec<u8, A>, act: &Act)
+fn append_act<A: Allocator>(text: &mut Vec<u8, A>, act: &Act)
     requires { vec_len text.old + 7 ≤ vec_capacity text.old }
     ensures { Appended text.old text.new (line_text (act_line act.now)) 7 }
 {
@@ -145,12 +145,12 @@ pub fn append_cards<A: Allocator>(text: &mut Vec<u8, A>, keyword: &[u8], cards: 
     ensures len { vec_len text.new ≡ vec_len text.old + length keyword.now + 3 * length cards.now + 1 }
 {
     append(text, keyword);
-    put_cards(text, cards);
+    append_card_words(text, cards);
     append(text, b"\n");
 }
 
 // Appends each card's text after a space.
-fn put_cards<A: Allocator>(text: &mut Vec<u8, A>, cards: &[Card])
+fn append_card_words<A: Allocator>(text: &mut Vec<u8, A>, cards: &[Card])
     requires { vec_len text.old + 3 * length cards.now ≤ vec_capacity text.old }
     ensures items { text.new.items ≡ text.old.items ++ flat_map spaced_card cards.now }
     ensures room { vec_capacity text.old ≤ vec_capacity text.new }

@@ -1,3 +1,5 @@
 pub mod Lines
 pub mod Runs
 mod Examples
+pub mod Delivery
+mod BesideExamples

@@ -8,7 +8,7 @@ use Rattle.crib_run.specs.declared.status.Status.{Status}
 use Rattle.crib_input.specs.Input.{most_bytes}
 use Rattle.crib_run.specs.Reply.{Reply}
 use Rattle.crib_run.specs.Reply.{refusal_reply, fault_reply}
-use Rattle.crib_run.specs.Run.{IsRead, AnswersRead, Sends, Delivers, RunMeans, unread_reply}
+use Rattle.crib_run.specs.Run.{IsRead, AnswersRead, Sends, Delivers, RunMeans}
 
 -- a run that sent a reply means what the reply means
 sent_means : (means : List ℕ → Reply → Type 0) (input : List ℕ) (reply : Reply) (reads writes : Type 0) (old new : Option (List ℕ)) (ended : Status)
@@ -79,8 +79,3 @@ pub run_means : (may means : List ℕ → Reply → Type 0) → HaveMeaning may 
     (ended : Status) → Delivers may known reads old new writes ended → MeaningOf means known old new (reads ⊎ writes) ended
 run_means may means given known reads writes old new ended d =
     read_means may means given known reads writes old new ended d.read d.reply d.gave d.answers d.sent
-
--- a run that reads no input and sends why
-abbrev pub unread_run : {may : List ℕ → Reply → Type 0} {known : Option (List ℕ)} {reads writes : Type 0} {old new : Option (List ℕ)} {ended : Status}
-    (cause : TextCause) → IsRead known reads (Err cause) → Sends (unread_reply cause) old new writes ended → Delivers may known reads old new writes ended
-unread_run cause gave sent = record { read = Err cause; gave = gave; reply = unread_reply cause; answers = refl; sent = sent }

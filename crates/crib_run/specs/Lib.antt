@@ -1,5 +1,5 @@
 pub mod Status
 pub mod Text
-pub mod Reason
 pub mod Reply
 pub mod Run
+pub mod Beside

@@ -1,13 +1,13 @@
--- The reply of an answer, and the replies to inputs that are not read.
-use Rattle.std.specs.Prelude.{ℕ, List, [], ◌∷◌, ◌++◌, codes, decimal}
-use Rattle.crib_text.specs.Refusals.{Refusal, no_memory}
+-- The reply of an answer, and the reply with a reason why there is none.
+use Rattle.std.specs.Prelude.{◌≡◌, ◌⊎◌, ℕ, List, [], ◌∷◌, ◌++◌, Result, Ok, Err, codes, decimal}
+use Rattle.crib_text.specs.Refusals.{Refusal}
 use Rattle.crib_text.specs.Spelling.{line_text}
-use Rattle.crib_input.specs.declared.refusal.NotRead.{NotRead}
-use Rattle.crib_input.specs.declared.refusal.NotRead.TheVariants as not_reads
-use Rattle.crib_input.specs.Refusals.{refusal_of}
+use Rattle.crib_input.specs.declared.reason.Reason.{Reason}
+use Rattle.crib_input.specs.declared.reason.Reason.TheVariants as reasons
+use Rattle.crib_input.specs.Refusals.{fault_number, refusal_of}
 use Rattle.crib_run.specs.declared.answer.Answer as answers
 use Rattle.crib_run.specs.declared.status.Status.{Status}
-use Rattle.crib_run.specs.declared.status.Status.TheVariants.{Refused, Fault}
+use Rattle.crib_run.specs.declared.status.Status.TheVariants.{Yes, No, Refused, Fault}
 use Rattle.crib_run.specs.Text.{text_bytes}
 
 -- a reply: the bytes that the program writes, and its exit status
@@ -35,7 +35,22 @@ fault_line number = line_text (codes "fault" ∷ decimal number ∷ [])
 abbrev pub fault_reply : ℕ → Reply
 fault_reply number = record { output = fault_line number; status = Fault }
 
--- the reply to an input that was not read: that of its refusal, or the fault of a failed allocation
-abbrev pub not_read_reply : NotRead → Reply
-not_read_reply (not_reads.Refused refusal) = refusal_reply (refusal_of refusal)
-not_read_reply not_reads.Memory = fault_reply no_memory
+-- the reply with a reason why there is no answer: the line of the refusal, or that of the fault
+abbrev pub reason_reply : Reason → Reply
+reason_reply (reasons.Refused refusal) = refusal_reply (refusal_of refusal)
+reason_reply (reasons.Fault cause) = fault_reply (fault_number cause)
+
+-- the reply of an outcome: that of the answer, or that with the reason why there is none
+abbrev pub outcome_reply : {A : Type 0} → (A → Reply) → Result A Reason → Reply
+outcome_reply reply (Ok answer) = reply answer
+outcome_reply reply (Err reason) = reason_reply reason
+
+-- a status is that of an answer: yes or no
+abbrev pub IsAnswer : Status → Type 0
+IsAnswer status = (status ≡ Yes) ⊎ (status ≡ No)
+
+-- the outcome of a question: an answer, which is a yes or a no, or the reason why there is none. `may` relates the
+-- question to the reply of either
+abbrev pub IsOutcome : {A : Type 0} → (A → Reply) → (Reply → Type 0) → Result A Reason → Type 0
+IsOutcome reply may (Ok answer) = IsAnswer (reply answer).status × may (reply answer)
+IsOutcome reply may (Err reason) = may (reason_reply reason)

@@ -1,21 +1,17 @@
-//! Answers to inputs, and how one is sent: a text and a status in memory, the answers that every program shares, and
-//! the writing of an answer to a device.
+//! Answers to inputs, and how one is delivered: a text and a status in memory, the line with a reason why there is no
+//! answer, the writing of an answer to a device, and the words beside it.
 #![tactic(auto)]
 
 mod answer;
-mod faults;
-mod reason;
-mod refusal;
+mod making;
 mod reply;
 mod sending;
 mod status;
 mod text;
 
 pub use answer::Answer;
-pub use faults::{fault_answer, line_answer, memory_answer, read_fault_answer};
-pub use reason::{FaultCause, Reason};
-pub use refusal::{not_read_answer, refusal_answer, too_long_answer};
-pub use sending::{send, unread_answer, unread_reason};
+pub use making::{line_answer, reason_answer, section_answer};
+pub use sending::{Asked, Explain, Sendable, deliver, deliver_reason, unread_reason};
 pub use status::Status;
 pub use text::{ShortText, Text, add, add_number};
 

@@ -1,30 +1,40 @@
-//! Sends an answer to a device.
-ghost use Rattle.std.specs.Prelude.{◌≡◌};
+//! Sends an answer to a device, or the reason why there is none, and then says the reason in words.
+ghost use Rattle.std.specs.Prelude.{◌≡◌, ◌≤◌, ℕ, List, IfOk, length};
 ghost use Rattle.crib_text.specs.Device.{HasFailed};
 ghost use Rattle.crib_text.specs.Transfer.{IsReadingFault};
-ghost use Rattle.crib_run.specs.Reason.{reason_reply};
-ghost use Rattle.crib_run.specs.Reply.{reply_of};
+ghost use Rattle.crib_input.specs.declared.reason.Reason.{Reason};
+ghost use Rattle.crib_message.specs.Message.{IsMessage};
+ghost use Rattle.crib_run.specs.Beside.{Explains, Writes};
+ghost use Rattle.crib_run.specs.Reply.{IsAnswer, Reply, outcome_reply, reason_reply, reply_of};
 ghost use Rattle.crib_run.specs.Run.{Sends, unread_reply};
 
 use crate::answer::Answer;
-use crate::faults::{memory_answer, read_fault_answer};
-use crate::reason::{FaultCause, Reason};
-use crate::refusal::too_long_answer;
+use crate::making::reason_answer;
 use crate::status::Status;
-use crib_input::Refusal;
+use crib_input::{FaultCause, Reason, Refusal, Sections};
+use crib_message::say;
 use crib_text::{Sink, TextCause, TextFault, put};
-use std::alloc::Allocator;
+use std::alloc::{Allocator, Global};
 
-/// Returns the answer if no whole input was read: `fault 9` if the reader failed, `fault 11` if an allocation failed,
-/// and the refusal 2 if the input has more than 8,388,608 bytes.
-pub fn unread_answer<A: Allocator>(fault: TextFault) -> Answer<A>
-    requires { IsReadingFault fault }
-    ensures { reply_of result ≡ unread_reply fault.cause }
-{
-    match fault.cause {
-        TextCause::ReadFault => read_fault_answer(),
-        TextCause::NoMemory => memory_answer(),
-        _ => too_long_answer(),
+/// What can be sent as an answer.
+pub trait Sendable {
+    // The bytes that are sent, and the status.
+    ghost reply: { Self → Reply };
+
+    /// Writes the answer. Returns its status, or `Fault` if the writer failed.
+    fn send<W: Sink>(&self, sink: &mut W) -> Status
+        ensures { Sends (reply self.now) (W.contents sink.old) (W.contents sink.new)
+            (HasFailed (W.faults sink.old) (W.faults sink.new)) result };
+}
+
+impl<A: Allocator> Sendable for Answer<A> {
+    ghost reply = { λ answer. reply_of answer };
+
+    fn send<W: Sink>(&self, sink: &mut W) -> Status {
+        match put(sink, self.as_slice()) {
+            Ok(()) => self.status(),
+            Err(_) => Status::Fault,
+        }
     }
 }
 
@@ -40,13 +50,83 @@ pub fn unread_reason(fault: TextFault) -> Reason
     }
 }
 
-/// Writes an answer. Returns its status, or `Fault` if the writer failed.
-pub fn send<A: Allocator, W: Sink>(sink: &mut W, answer: &Answer<A>) -> Status
-    ensures { Sends (reply_of answer.now) (W.contents sink.old) (W.contents sink.new)
-        (HasFailed (W.faults sink.old) (W.faults sink.new)) result }
-{
-    match put(sink, answer.as_slice()) {
-        Ok(()) => answer.status(),
-        Err(_) => Status::Fault,
+/// What says the reason why there is no answer.
+pub trait Explain {
+    // The texts that say a reason.
+    ghost says: { Self → Reason → List ℕ → Type 0 };
+
+    /// Writes a text that says the reason. If the device fails, a proper beginning of it is written.
+    fn explain<E: Sink>(&self, words: &mut E, reason: &Reason)
+        ensures { Writes (says self.now reason.now) (E.contents words.old) (E.contents words.new)
+            (HasFailed (E.faults words.old) (E.faults words.new)) };
+}
+
+/// What a message is about: the program, whose name has at most 20 bytes, the sections that its input has to have, and
+/// the input. The input is empty if it was not read.
+#[derive(Clone, Copy, Debug)]
+pub struct Asked<'a> {
+    pub program: &'a [u8],
+    pub sections: Sections,
+    pub input: &'a [u8],
+    ghost short: { length program.now ≤ 20 },
+}
+
+impl Explain for Asked<'_> {
+    ghost says = { λ asked reason text. IsMessage asked.program.now asked.input.now reason text };
+
+    fn explain<E: Sink>(&self, words: &mut E, reason: &Reason) {
+        say(words, self.program, self.sections, self.input, reason);
     }
+}
+
+/// Sends an answer, or the line of the reason why there is none. After that it writes to `words` why there is none, or
+/// that it could not be written. Returns the status of the run. It needs no memory.
+///
+/// - `sent`: `sink` has the whole reply, or a proper beginning of it if this device failed.
+/// - `words`: beside an answer nothing is written to `words`. Otherwise it is the text that says the reason behind the
+///   reply, or a proper beginning of it if this device failed.
+pub fn deliver<T: Sendable, X: Explain, W: Sink, E: Sink>(
+    outcome: &Result<T, Reason>,
+    asked: &X,
+    sink: &mut W,
+    words: &mut E,
+) -> Status
+    requires { IfOk outcome.now (λ answer. IsAnswer (T.reply answer).status) }
+    ensures sent { Sends (outcome_reply T.reply outcome.now) (W.contents sink.old) (W.contents sink.new)
+        (HasFailed (W.faults sink.old) (W.faults sink.new)) result }
+    ensures words { Explains (X.says asked.now) (outcome_reply T.reply outcome.now) result (E.contents words.old)
+        (E.contents words.new) (HasFailed (E.faults words.old) (E.faults words.new)) }
+{
+    match outcome {
+        Ok(answer) => {
+            let status = answer.send(sink);
+            if status == Status::Fault {
+                asked.explain(words, &Reason::Fault(FaultCause::WriteFailed));
+            }
+            status
+        }
+        Err(reason) => deliver_reason(*reason, asked, sink, words),
+    }
+}
+
+/// Sends the line of a reason, and then says it, as [`deliver`] does.
+pub fn deliver_reason<X: Explain, W: Sink, E: Sink>(
+    reason: Reason,
+    asked: &X,
+    sink: &mut W,
+    words: &mut E,
+) -> Status
+    ensures sent { Sends (reason_reply reason) (W.contents sink.old) (W.contents sink.new)
+        (HasFailed (W.faults sink.old) (W.faults sink.new)) result }
+    ensures words { Explains (X.says asked.now) (reason_reply reason) result (E.contents words.old)
+        (E.contents words.new) (HasFailed (E.faults words.old) (E.faults words.new)) }
+{
+    let line = reason_answer::<Global>(reason);
+    let status = line.send(sink);
+    if status == line.status() {
+        asked.explain(words, &reason);
+    } else {
+        asked.explain(words, &Reason::Fault(FaultCause::WriteFailed));
+    }
+    status
 }

@@ -1,5 +1,7 @@
 //! The answers that every program shares, and the exit statuses.
 use crate::*;
+use crib_input::{FaultCause, Reason, Refusal};
+use crib_text::{TextCause, TextFault};
 use std::alloc::Global;
 use std::process::Abort;
 
@@ -10,15 +12,27 @@ fn is_answer(rt: &impl Abort, answer: &Answer<Global>, wanted: &str, status: Sta
 }
 
 #[test]
-fn answers_where_there_is_no_input(rt: HostRuntime) {
-    is_answer(
-        &rt,
-        &too_long_answer(),
-        "refused line 0: 2\n",
-        Status::Refused,
-    );
-    is_answer(&rt, &read_fault_answer(), "fault 9\n", Status::Fault);
-    is_answer(&rt, &memory_answer(), "fault 11\n", Status::Fault);
+fn a_reason_has_its_line(rt: HostRuntime) {
+    let too_long = Refusal::from(TextFault::of_input(TextCause::TooLong));
+    for (reason, wanted, status) in [
+        (
+            Reason::from(too_long),
+            "refused line 0: 2\n",
+            Status::Refused,
+        ),
+        (
+            Reason::Fault(FaultCause::ReadFailed),
+            "fault 9\n",
+            Status::Fault,
+        ),
+        (
+            Reason::Fault(FaultCause::NoMemory),
+            "fault 11\n",
+            Status::Fault,
+        ),
+    ] {
+        is_answer(&rt, &reason_answer(reason), wanted, status);
+    }
 }
 
 #[test]

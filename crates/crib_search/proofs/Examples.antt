@@ -1,10 +1,10 @@
 -- Worked examples of plans as trees.
-use Rattle.std.specs.Prelude.{◌≡◌, refl, [], ◌∷◌, List, false}
+use Rattle.std.specs.Prelude.{◌≡◌, refl, [], ◌∷◌, List, map, true, false}
 use Rattle.crib_plan.specs.declared.plan.Next.TheVariants.{End, To}
 use Rattle.crib_plan.specs.declared.plan.Node.TheVariants.{Play, See}
 use Rattle.crib_search.specs.Finder.{one_of_each_rank}
 use Rattle.crib_search.specs.Trees.{Tree, Finish, Plays, Sees, branches_of, is_play, joined_tree, trees_with, trees_after_walk}
-use Rattle.crib_search.specs.Trees.{number_of, place_of_tree, plan_of_tree}
+use Rattle.crib_search.specs.Trees.{is_finish, nodes_for, number_of, place_of_tree, plan_of_tree, trees_of}
 
 -- branches that are the end, except those of the ace, the two and the go
 abbrev after : Tree → Tree → Tree → List Tree
@@ -86,3 +86,31 @@ no_nodes = refl
 -- of two twos and a four, the finder tries the first two and the four
 pub tried_once : one_of_each_rank (5 ∷ 12 ∷ 4 ∷ []) ≡ 5 ∷ 12 ∷ []
 tried_once = refl
+
+-- the trees of some branches are those that they were made of
+pub trees_in_order : trees_of (branches_of (clubs ∷ Finish ∷ diamonds ∷ clubs ∷ [])) ≡ clubs ∷ Finish ∷ diamonds ∷ clubs ∷ []
+trees_in_order = refl
+
+pub kinds_of_trees : map is_finish (Finish ∷ clubs ∷ look ∷ []) ∷ map is_play (Finish ∷ clubs ∷ look ∷ []) ∷ []
+    ≡ (true ∷ false ∷ false ∷ []) ∷ (false ∷ true ∷ false ∷ []) ∷ []
+kinds_of_trees = refl
+
+pub numbers_in_a_list : map (λ tree. number_of tree (look ∷ clubs ∷ diamonds ∷ clubs ∷ [])) (look ∷ clubs ∷ diamonds ∷ hearts ∷ []) ≡ 0 ∷ 1 ∷ 2 ∷ 4 ∷ []
+numbers_in_a_list = refl
+
+-- a list with the tree of the place 2 behind both others
+abbrev three_trees : List Tree
+three_trees = shared ∷ clubs ∷ diamonds ∷ []
+
+-- an ace and a two lead to 2C, and a go to 2D, which is the last tree of the list
+pub node_of_a_look : nodes_for three_trees (Sees (branches_of (after clubs clubs diamonds)))
+    ≡ See (To 1 ∷ To 1 ∷ End ∷ End ∷ End ∷ End ∷ End ∷ End ∷ End ∷ End ∷ End ∷ End ∷ End ∷ To 2 ∷ []) ∷ []
+node_of_a_look = refl
+
+pub node_of_a_play : nodes_for three_trees (Plays 9 diamonds) ∷ nodes_for three_trees (Plays 9 Finish) ∷ nodes_for three_trees Finish ∷ []
+    ≡ (Play 9 (To 2) ∷ []) ∷ (Play 9 End ∷ []) ∷ [] ∷ []
+node_of_a_play = refl
+
+-- 3C 2D 3D 4C 2C 3H: of each rank the first card
+pub first_of_each_rank : one_of_each_rank (8 ∷ 5 ∷ 9 ∷ 12 ∷ 4 ∷ 10 ∷ []) ≡ 8 ∷ 5 ∷ 12 ∷ []
+first_of_each_rank = refl

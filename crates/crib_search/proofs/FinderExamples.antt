@@ -246,7 +246,7 @@ tree_of_two_cards none = inr (
   refl,
 )
   where
-    -- each rank that can't be shown is the end, and then comes the go
+    -- each rank that can't be shown is the end, and then is the go
     ends : (ranks : List ℕ) → list_all (λ rank. ltb 1 rank) ranks ≡ true →
         AllZip (BranchFinds (λ further after. Finds 29 at_29 further after) at_29 three_events) (map Seen ranks ++ Go ∷ [])
         (replicate (length ranks) Finish ++ Plays 4 Finish ∷ [])
@@ -270,3 +270,36 @@ three_nodes_exceed_two none = (See (To 2 ∷ replicate 12 End ++ To 1 ∷ []) �
 
 pub more_nodes_than_the_limit : (limit : ℕ) → ExceedsLimit at_29 limit → (plan : List Node) × (limit < length plan)
 more_nodes_than_the_limit limit exceeds = (exceeds.0, exceeds.2)
+
+-- ---- what a step finds is what is found after each of its turns
+pub owner_tries_in_order : (finds : Found) (found : Option Tree) → OwnerFinds finds three_events (4 ∷ 0 ∷ []) found →
+    Tries finds three_events (4 ∷ 0 ∷ []) found
+owner_tries_in_order finds found tries = tries
+
+pub owner_goes : (finds : Found) (found : Option Tree) → OwnerFinds finds three_events [] found → finds (Own move.Go ∷ three_events) found
+owner_goes finds found is = is
+
+pub branch_that_is_shown : (finds : Found) (tree : Tree) → CanShow at_29 three_events Go → finds (Theirs Go ∷ three_events) (Some tree) →
+    BranchFinds finds at_29 three_events Go tree
+branch_that_is_shown finds tree can is = inl (can, is)
+
+pub letter_that_lacks_a_tree : (finds : Found) → CanShow at_29 three_events Go → finds (Theirs Go ∷ three_events) None → LacksBranch finds at_29 three_events
+letter_that_lacks_a_tree finds can is = (Go, can, is)
+
+-- none is found only if a letter lacks a tree, and a tree only if each letter has one
+pub none_without_a_lack : (LacksBranch given at_29 three_events → ⊥) → FindsFor turns.Opponent given at_29 three_events None → ⊥
+none_without_a_lack never (inl lacks) = never lacks.0
+none_without_a_lack never (inr joined) = (let found = joined.2 in absurd cc)
+
+pub no_tree_without_branches : (tree : Tree) → ((branches : List Tree) → AllZip (BranchFinds given at_29 three_events) letters branches → ⊥) →
+    FindsFor turns.Opponent given at_29 three_events (Some tree) → ⊥
+no_tree_without_branches tree never (inl lacks) = (let found = lacks.1 in absurd cc)
+no_tree_without_branches tree never (inr joined) = never joined.0 joined.1
+
+pub second_card_after_a_lack : (finds : Found) → finds (Own (move.Card 4) ∷ three_events) None → finds (Own (move.Card 0) ∷ three_events) (Some Finish) →
+    Tries finds three_events (4 ∷ 0 ∷ []) (Some (Plays 0 Finish))
+second_card_after_a_lack finds lacks is = (None, lacks, (Some Finish, is, refl))
+
+pub owner_is_asked : (finds : Found) (history : List Event) (found : Option Tree) → FindsFor turns.Owner finds level history found →
+    OwnerFinds finds history (options level history) found
+owner_is_asked finds history found is = is

@@ -41,7 +41,7 @@ pub steps_from : (know copy next : Knowledge) (event : Event) → copy ≡ know 
     (problem : Setup) → Steps problem know event next
 steps_from know copy next event same steps = λ problem history knows. steps problem history (moved copy know problem history same knows)
 
--- ---- a search that has come further
+-- ---- a search that is further
 pub later_trans : (one two three : Drafts) → IsLater one two → IsLater two three → IsLater one three
 later_trans one two three first second = record {
   same = second.same ∙ first.same;
@@ -90,7 +90,7 @@ know_falls know next problem event history before after =
     let b : turns_ahead next ≡ _ = ap turns_ahead after.knowledge in
     omega (arith, falls, a, b)
 
--- after a turn of a knowledge that is here, the next one is here, and fewer turns may come
+-- after a turn of a knowledge that is here, the next one is here, and fewer turns may be next
 pub goes_on : (know copy next : Knowledge) (event : Event) → copy ≡ know → ((problem : Setup) → Steps problem copy event next) →
     (problem : Setup) → IsHere problem know → IsHere problem next × (turns_ahead next < turns_ahead know)
 goes_on know copy next event same steps problem here =

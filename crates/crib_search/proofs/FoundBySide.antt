@@ -65,7 +65,7 @@ zip_at P (first ∷ shown) [] place letter all e = absurd all
 zip_at P (first ∷ shown) (tree ∷ trees) zero letter all e = let same : first ≡ letter = cc in (tree, refl, rw same at all.0)
 zip_at P (first ∷ shown) (tree ∷ trees) (suc place) letter all e = zip_at P shown trees place letter all.1 e
 
--- a letter stands in its place among the letters
+-- a letter is in its place among the letters
 letter_at : (letter : Letter) → IsLetter letter → slice_get letters (letter_place letter) ≡ Some letter
 letter_at (Seen rank) is =
     each_rank (λ r. slice_get letters (letter_place (Seen r)) ≡ Some (Seen r)) refl refl refl refl refl refl refl refl refl refl refl refl refl rank is

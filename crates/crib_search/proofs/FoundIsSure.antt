@@ -1,4 +1,4 @@
--- A plan that stands for the tree that is found is sure.
+-- A plan that represents the tree that is found is sure.
 use Rattle.std.proofs.Common.{◌≡◌, ℕ, Bool, true, false, not, ◌&&◌, List, [], ◌∷◌, ◌++◌, map, Some, refl, sym, ap, ◌∙◌, inl, inr}
 use Rattle.std.specs.List.{list_any}
 use Rattle.std.proofs.lemmas.List.{map-append}
@@ -130,7 +130,7 @@ module _ (problem : Setup) (setup : IsSetup problem) (plan : List Node) where
       }
 
   module _ (tree : Tree) (found : FindsTree problem (Some tree)) (stands : Stands plan tree (plan_start plan)) where
-    -- the same after every history that can come and follows the plan
+    -- the same after every history that can be next and follows the plan
     at_all : (later : List Event) → IsLed problem (later ++ played_events problem) → FollowsBy plan problem.played (later ++ played_events problem) →
         At (later ++ played_events problem)
     at_all [] led follows =

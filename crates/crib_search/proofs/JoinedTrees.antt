@@ -1,5 +1,5 @@
 -- The place for all letters names the joined tree.
-use Rattle.std.proofs.Common.{◌≡◌, ℕ, ◌<◌, Bool, true, false, not, ◌&&◌, cond, List, [], ◌∷◌, length, Some, None, slice_get, refl}
+use Rattle.std.proofs.Common.{◌≡◌, ℕ, ◌<◌, Bool, true, false, ◌&&◌, cond, List, [], ◌∷◌, length, Some, None, slice_get, refl}
 use Rattle.std.proofs.Common.{arith}
 use Rattle.std.specs.List.{AllZip, AllByRecursion, filter, list_all}
 use Rattle.std.proofs.lemmas.Option.{slice_get_within}
@@ -7,7 +7,7 @@ use Rattle.crib_search.specs.declared.nodes.DraftPlace.{DraftPlace}
 use Rattle.crib_search.specs.declared.nodes.DraftPlace.TheVariants.{End, At}
 use Rattle.crib_search.specs.declared.nodes.DraftNode.{DraftNode}
 use Rattle.crib_search.specs.declared.nodes.DraftNode.TheVariants.{See}
-use Rattle.crib_search.specs.Trees.{Tree, Finish, Sees, branches_of, same_tree, is_finish, is_play, joined_tree}
+use Rattle.crib_search.specs.Trees.{Tree, Finish, Sees, branches_of, same_tree, is_play, joined_tree}
 use Rattle.crib_search.specs.Private.Nodes.{IsEarlier, AreKept, IsMore, Names, NameAll, first_place, goes_to, is_play_at}
 use Rattle.crib_search.proofs.Trees.{goes_on, same_self}
 use Rattle.crib_search.proofs.KeptNodes.{all_more, same_for}

@@ -1,4 +1,4 @@
--- The kept nodes, and the trees that they stand for.
+-- The kept nodes, and the trees that they represent.
 use Rattle.std.proofs.Common.{◌≡◌, ◌⊎◌, ℕ, zero, suc, Bool, true, false, cond, List, [], ◌∷◌, ◌++◌, length, Some, slice_get, refl, sym, ap, subst, ◌∙◌, inl}
 use Rattle.std.proofs.Common.{inr, get_or, arith}
 use Rattle.std.specs.List.{AllByRecursion, IsDistinct, position}
@@ -29,7 +29,7 @@ all_at P [] place draft_node all e = absurd cc
 all_at P (first ∷ draft_nodes) zero draft_node all e = let same : first ≡ draft_node = cc in subst P same all.0
 all_at P (first ∷ draft_nodes) (suc place) draft_node all e = all_at P draft_nodes place draft_node all.1 e
 
--- each node stands once if the nodes are distinct
+-- each node is there once if the nodes are distinct
 once_of : (draft_nodes : List DraftNode) → IsDistinct compared.ghosts.eq draft_nodes → (place other : ℕ) (draft_node : DraftNode) →
     slice_get draft_nodes place ≡ Some draft_node →
     slice_get draft_nodes other ≡ Some draft_node → place ≡ other

@@ -125,7 +125,7 @@ module _ (problem : Setup) (setup : IsSetup problem) (plan : List Node) (sure : 
       place_is : place_of plan problem.played (pone_of start) past ≡ place_by plan problem.played history
       place_is = place_history plan problem.played (pone_of start) past ∙ ap (place_by plan problem.played) shows
 
-      -- the plan states a card, and the card may come
+      -- the plan states a card, and the card may be next
       stated_here : (stated : ℕ) × (stated_card plan (place_by plan problem.played history) ≡ Some stated) ×
           know.MayCome problem history (Own (move.Card stated))
       stated_here =
@@ -134,7 +134,7 @@ module _ (problem : Setup) (setup : IsSetup problem) (plan : List Node) (sure : 
           let led = led_by_record problem setup dealt deal (move.Card one.0 ∷ past) (legal, may) in
           (one.0, ap (stated_card plan) (sym place_is) ∙ one.1, rw (mine, shows) at led.1)
 
-  -- ---- some deal has a history that can come
+  -- ---- some deal has a history that can be next
   stated_at : (history : List Event) → IsLed problem history → BeginsAfter problem history → FollowsBy plan problem.played history →
       asked_now problem history ≡ turns.Owner → (card : ℕ) → IsOption problem history card →
       (stated : ℕ) × (stated_card plan (place_by plan problem.played history) ≡ Some stated) × know.MayCome problem history (Own (move.Card stated))

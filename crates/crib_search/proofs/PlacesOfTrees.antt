@@ -1,5 +1,5 @@
--- The places of a plan that stand for a tree.
-use Rattle.std.proofs.Common.{◌≡◌, ◌⊎◌, ℕ, zero, suc, Bool, true, false, not, ◌&&◌, cond, List, [], ◌∷◌, Option, Some, slice_get, refl, sym, ap, subst, ◌∙◌}
+-- The places of a plan that represent a tree.
+use Rattle.std.proofs.Common.{◌≡◌, ◌⊎◌, ℕ, zero, suc, Bool, true, false, ◌&&◌, cond, List, [], ◌∷◌, Option, Some, slice_get, refl, sym, ap, subst, ◌∙◌}
 use Rattle.std.proofs.Common.{inl, inr}
 use Rattle.std.specs.Prelude.{unwrap_or}
 use Rattle.std.specs.List.{filter, list_all}
@@ -15,7 +15,7 @@ use Rattle.crib_search.specs.Trees.{Tree, Finish, Plays, Sees, Branches, NoBranc
 use Rattle.crib_search.specs.Trees.{joined_tree_from}
 use Rattle.crib_search.proofs.Trees.{goes_on, finish_is, first_is, same_self}
 
--- a place of a plan stands for a tree: from there on the plan is the tree
+-- a place of a plan represents a tree: from there on the plan is the tree
 abbrev mutual
   pub Stands : List Node → Tree → Next → Type 0
   Stands plan Finish place = place ≡ End
@@ -27,7 +27,7 @@ abbrev mutual
   StandAll plan (Branch tree branches) nexts = (next : Next) × (others : List Next) × (nexts ≡ next ∷ others) × Stands plan tree next ×
       StandAll plan branches others
 
--- a place will do for a tree: it stands for the tree, or the tree is the end
+-- a place will do for a tree: it represents the tree, or the tree is the end
 abbrev pub Does : List Node → Tree → Next → Type 0
 Does plan tree place = (tree ≡ Finish) ⊎ Stands plan tree place
 

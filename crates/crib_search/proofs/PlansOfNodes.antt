@@ -40,7 +40,7 @@ module _ (draft_nodes : List DraftNode) (kept : AreKept draft_nodes) (first : Dr
 first_ahead : (problem : Setup) → turns_ahead (knowledge_after problem []) ≡ 24
 first_ahead problem = refl
 
--- no more turns may come than at the first lead
+-- no more turns may be next than at the first lead
 ahead_led : (problem : Setup) → IsSetup problem → (history : List Event) → IsLed problem history → turns_ahead (knowledge_after problem history) ≤ 24
 ahead_led problem setup [] led = let e = first_ahead problem in omega (arith, e)
 ahead_led problem setup (event ∷ history) led =

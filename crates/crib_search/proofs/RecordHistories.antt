@@ -1,4 +1,4 @@
--- What a record tells of its history.
+-- What a record shows of its history.
 use Rattle.std.proofs.Common.{◌≡◌, ℕ, ◌+◌, true, false, not, leb, List, refl, sym, ap, ◌∙◌}
 use Rattle.crib_cards.specs.Cards.{card_value}
 use Rattle.crib_cards.specs.Sets.{has}

@@ -32,7 +32,7 @@ Leads Finish trees = ⊥
 Leads (Plays card next) trees = Placed next trees
 Leads (Sees branches) trees = AllPlaced branches trees
 
--- each tree stands once, and leads to later ones
+-- each tree is there once, and leads to later ones
 abbrev pub IsClosed : List Tree → Type 0
 IsClosed [] = Unit {0}
 IsClosed (tree ∷ trees) = (is_in tree trees ≡ false) × Leads tree trees × IsClosed trees
@@ -189,6 +189,6 @@ starts : (tree : Tree) → plan_start (plan_of_tree tree) ≡ place_of_tree (tre
 starts Finish = refl
 starts tree = rw (same_self tree)
 
--- the plan of a tree stands for it
+-- the plan of a tree represents it
 pub plan_stands : (tree : Tree) → Stands (plan_of_tree tree) tree (plan_start (plan_of_tree tree))
 plan_stands tree = rw (starts tree) (tree_stands (trees_after_walk tree []) (walk_closed tree) tree (walk_placed tree))

@@ -1,4 +1,4 @@
--- Each visible turn lowers the bound on the turns that may still come.
+-- Each visible turn lowers the bound on the turns that may still be made.
 use Rattle.std.proofs.Common.{◌≡◌, ℕ, ◌+◌, ◌-◌, ◌<◌, ◌≤◌, Bool, true, false, cond, eqb, ltb, List, [], ◌∷◌, ◌++◌, refl, subst, arith}
 use Rattle.std.proofs.Common.{inl, inr}
 use Rattle.std.proofs.lemmas.Bool.{cases_Bool}
@@ -104,7 +104,7 @@ passed_less table side sound asked high =
     let b = said_less table side sound asked (begun_count table.pile high) in
     omega (arith, a, b)
 
--- ---- a history that can come can also come in the problem without its opening
+-- ---- a history that can be next can also be next in the problem without its opening
 led_bare : (problem : Setup) (history : List Event) → IsLed problem history → IsLed (at_first_lead problem) history
 led_bare problem [] led = tt
 led_bare problem (Theirs letter ∷ history) led = (led_bare problem history led.0, (led.1.0, (record { deal = led.1.1.0.deal; fixed = refl }, led.1.1.1)))

@@ -1,5 +1,5 @@
 -- A worked example of a problem that isn't winnable, although it is after each lead whose suit is known. The opponent leads one of ten cards. No plan is sure
--- before the lead, because a plan can't tell JC from JS. But if the suit of the lead is known, a plan is sure, whichever card it is.
+-- before the lead, because a plan can't distinguish JC from JS. But if the suit of the lead is known, a plan is sure, whichever card it is.
 use Rattle.std.proofs.Common.{arith, ◌≡◌, refl, inl, inr, ℕ, true, eqb, List, [], ◌∷◌, filter, None}
 use Rattle.crib_cards.specs.Cards.{card_value}
 use Rattle.crib_cards.specs.Sets.{has, set_where}

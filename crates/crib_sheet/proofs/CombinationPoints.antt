@@ -5,7 +5,6 @@ use Rattle.std.specs.List.{list_any}
 use Rattle.std.proofs.lemmas.List.Sums.{sum_by-append, sum_by-cons}
 use Rattle.crib_cards.specs.Cards.{rank_of, suit_of, jack}
 use Rattle.crib_show.specs.Show.{choices, is_fifteen, is_pair, are_of_suit, hand_flush, crib_flush, jack_points, plain_points}
-use Rattle.crib_show.specs.Show.{fifteen_points, pair_points, run_points}
 use Rattle.crib_show.proofs.Choices.{sum_by-choices}
 use Rattle.crib_show.proofs.ReorderedLists.{Reordered, behind, front, both, same_order}
 use Rattle.crib_show.proofs.RankLaw.{plain_of_ranks-reordered}
@@ -78,19 +77,15 @@ starter_first (card ∷ cards) starter =
     both (card ∷ cards ++ starter ∷ []) (card ∷ starter ∷ cards) (starter ∷ card ∷ cards)
     (behind card (cards ++ starter ∷ []) (starter ∷ cards) (starter_first cards starter)) (front card starter cards)
 
--- the points of the fifteens, runs and pairs
+-- the points of the fifteens, pairs and runs
 plain_sum : (all : List ℕ) → sum_by points_of (plain_combinations all) ≡ plain_points all
 plain_sum all =
     let fifteens = kind_points Fifteen all ∙ twice is_fifteen (choices (map rank_of all)) in
-    let runs = kind_points Run all in
     let pairs = kind_points Pair all ∙ twice is_pair (choices (map rank_of all)) in
-    let apart = sum_by-append points_of (combinations_of Fifteen all) (combinations_of Run all) in
-    sum_by-append points_of (combinations_of Fifteen all ++ combinations_of Run all) (combinations_of Pair all)
-    ∙ (λ i. (apart ∙ (λ j. fifteens j + runs j)) i + pairs i)
-    ∙ regroup (fifteen_points (map rank_of all)) (run_points (map rank_of all)) (pair_points (map rank_of all))
-  where
-    regroup : (a b c : ℕ) → a + b + c ≡ a + c + b
-    regroup a b c = omega arith
+    let runs = kind_points Run all in
+    let apart = sum_by-append points_of (combinations_of Fifteen all) (combinations_of Pair all) in
+    sum_by-append points_of (combinations_of Fifteen all ++ combinations_of Pair all) (combinations_of Run all)
+    ∙ (λ i. (apart ∙ (λ j. fifteens j + pairs j)) i + runs i)
 
 plain_sum_of : (cards : List ℕ) (starter : ℕ) → sum_by points_of (plain_combinations (cards ++ starter ∷ [])) ≡ plain_points (starter ∷ cards)
 plain_sum_of cards starter =

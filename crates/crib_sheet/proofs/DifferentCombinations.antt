@@ -16,19 +16,19 @@ use Rattle.crib_sheet.specs.GameShowLaws.{AllDiffer, HandListLaw, CribListLaw}
 use Rattle.crib_sheet.proofs.CombinationPoints.{starter_first}
 
 -- what holds of all entries
-all_every : {X : Type 0} (P : X → Type 0) → ((x : X) → P x) → (xs : List X) → AllByRecursion P xs
+pub all_every : {X : Type 0} (P : X → Type 0) → ((x : X) → P x) → (xs : List X) → AllByRecursion P xs
 all_every P holds [] = tt
 all_every P holds (x ∷ xs) = (holds x, all_every P holds xs)
 
-all_weaker : {X : Type 0} (P Q : X → Type 0) → ((x : X) → P x → Q x) → (xs : List X) → AllByRecursion P xs → AllByRecursion Q xs
+pub all_weaker : {X : Type 0} (P Q : X → Type 0) → ((x : X) → P x → Q x) → (xs : List X) → AllByRecursion P xs → AllByRecursion Q xs
 all_weaker P Q weaker [] all = tt
 all_weaker P Q weaker (x ∷ xs) all = (weaker x all.0, all_weaker P Q weaker xs all.1)
 
-all_both : {X : Type 0} (P : X → Type 0) (xs ys : List X) → AllByRecursion P xs → AllByRecursion P ys → AllByRecursion P (xs ++ ys)
+pub all_both : {X : Type 0} (P : X → Type 0) (xs ys : List X) → AllByRecursion P xs → AllByRecursion P ys → AllByRecursion P (xs ++ ys)
 all_both P [] ys all more = more
 all_both P (x ∷ xs) ys all more = (all.0, all_both P xs ys all.1 more)
 
-all_map : {X Y : Type 0} (P : Y → Type 0) (f : X → Y) (xs : List X) → AllByRecursion (λ x. P (f x)) xs → AllByRecursion P (map f xs)
+pub all_map : {X Y : Type 0} (P : Y → Type 0) (f : X → Y) (xs : List X) → AllByRecursion (λ x. P (f x)) xs → AllByRecursion P (map f xs)
 all_map P f [] all = tt
 all_map P f (x ∷ xs) all = (all.0, all_map P f xs all.1)
 
@@ -56,7 +56,7 @@ differ_filter p (x ∷ xs) differ = one (p x) (differ_filter p xs differ.1)
     one true rest = (all_filter (λ y. x ≢ y) p xs differ.0, rest)
     one false rest = rest
 
-differ_both : {X : Type 0} (xs ys : List X) → AllDiffer xs → AllDiffer ys → AllByRecursion (λ x. AllByRecursion (λ y. x ≢ y) ys) xs → AllDiffer (xs ++ ys)
+pub differ_both : {X : Type 0} (xs ys : List X) → AllDiffer xs → AllDiffer ys → AllByRecursion (λ x. AllByRecursion (λ y. x ≢ y) ys) xs → AllDiffer (xs ++ ys)
 differ_both [] ys differ more apart = more
 differ_both (x ∷ xs) ys differ more apart = (all_both (λ y. x ≢ y) xs ys differ.0 apart.0, differ_both xs ys differ.1 more apart.1)
 
@@ -95,8 +95,8 @@ choices_differ (card ∷ cards) are =
 -- the place of a kind in a list of combinations
 abbrev order : Kind → ℕ
 order Fifteen = 0
-order Run = 1
-order Pair = 2
+order Pair = 1
+order Run = 2
 order Flush = 3
 order Jack = 4
 
@@ -138,10 +138,10 @@ kind_differs kind all are =
 
 plain_stands : (all : List ℕ) → are_distinct all ≡ true → Stands 3 (plain_combinations all)
 plain_stands all are =
-    joined 2 (combinations_of Fifteen all ++ combinations_of Run all) (combinations_of Pair all)
-    (joined 1 (combinations_of Fifteen all) (combinations_of Run all)
+    joined 2 (combinations_of Fifteen all ++ combinations_of Pair all) (combinations_of Run all)
+    (joined 1 (combinations_of Fifteen all) (combinations_of Pair all)
     (joined 0 [] (combinations_of Fifteen all) (record { before = tt; differ = tt }) (kind_at Fifteen all) (kind_differs Fifteen all are))
-    (kind_at Run all) (kind_differs Run all are)) (kind_at Pair all) (kind_differs Pair all are)
+    (kind_at Pair all) (kind_differs Pair all are)) (kind_at Run all) (kind_differs Run all are)
 
 -- a list of one combination of a kind, or of none
 abbrev AreAlone : ℕ → List Combination → Type 0

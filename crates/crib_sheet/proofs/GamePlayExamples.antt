@@ -5,7 +5,8 @@ use Rattle.crib_cards.specs.declared.letters.Letter.TheVariants as letter
 use Rattle.crib_cards.specs.declared.letters.Letter.TheVariants.{Seen}
 use Rattle.crib_cards.specs.declared.sides.Side.TheVariants.{Opponent}
 use Rattle.crib_sheet.specs.declared.game.reason.PlayReason.TheVariants.{Fifteen, ThirtyOne, Alike, Run, Go, LastCard}
-use Rattle.crib_sheet.specs.GamePlay.{reason_points, reasons_added, reasons_in, reasons_points, turn_reasons}
+use Rattle.crib_sheet.specs.GameLaws.{reasons_in}
+use Rattle.crib_sheet.specs.GamePlay.{reason_points, reasons_added, reasons_points, turn_reasons}
 
 -- the opponent deals, and both scores are 0
 abbrev level_start : Start

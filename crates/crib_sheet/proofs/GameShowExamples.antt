@@ -46,7 +46,7 @@ jack_turned = refl
 
 -- 3C 4D 5H 5S with KC
 pub double_run : hand_combinations (8 ∷ 13 ∷ 18 ∷ 19 ∷ []) 48 ≡ fifteen (18 ∷ 48 ∷ []) ∷ fifteen (19 ∷ 48 ∷ [])
-    ∷ combination Run (8 ∷ 13 ∷ 18 ∷ []) ∷ combination Run (8 ∷ 13 ∷ 19 ∷ []) ∷ pair 18 19 ∷ []
+    ∷ pair 18 19 ∷ combination Run (8 ∷ 13 ∷ 18 ∷ []) ∷ combination Run (8 ∷ 13 ∷ 19 ∷ []) ∷ []
 unfolding hand_combinations combinations_of
 double_run = refl
 

@@ -2,21 +2,26 @@ mod GameShowExamples
 mod GameTextExamples
 mod HeadingExamples
 mod PlanHeadExamples
+mod SheetExamples
+mod ActsExamples
 pub mod ChosenCombinations
 pub mod CombinationPoints
 pub mod DifferentCombinations
+pub mod GameLawProofs
 pub mod GamePlayExamples
+pub mod GamesOfSheets
+pub mod HaltedPlays
+pub mod PlanApart
 pub mod PlanExamples
 pub mod PlanFits
 pub mod PlanLabels
-pub mod PlanLevels
 pub mod PlanOutlines
+pub mod PlanPlays
 pub mod PlanSheetCounts
 pub mod PlanSheetRows
 pub mod PlanSheets
 pub mod PlanSpots
 pub mod PlanTargets
-pub mod PlanTextCounts
 pub mod PlanTextExamples
 pub mod PlanTextSizes
 pub mod PlanTextWidths
@@ -25,9 +30,11 @@ pub mod PlanWays
 pub mod PlayWalks
 pub mod ReasonPoints
 pub mod ReasonsAdded
-pub mod WrittenIsHead
-pub mod WrittenIsSheet
+pub mod SheetSizes
 pub mod Labels
 pub mod PlanRows
+pub mod Printing
 pub mod PutLemmas
 pub mod PutRows
+pub mod MadeSheets
+pub mod SheetMeanings

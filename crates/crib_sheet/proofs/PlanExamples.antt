@@ -37,7 +37,7 @@ three_eights =
     Play heart (To 3) ∷ See (To 7 ∷ To 4 ∷ replicate 11 (To 7) ++ End ∷ []) ∷ Play spade (To 5) ∷ Play deuce End ∷
     Play heart (To 7) ∷ Play deuce (To 10) ∷ Play deuce (To 9) ∷ Play heart (To 10) ∷ Play spade End ∷ []
 
--- the row with which its sheet begins, if this is what stands for the last node
+-- the row with which its sheet begins, if this is what represents the last node
 abbrev eights_row : Row → Row
 eights_row last =
     Plays diamond (look (

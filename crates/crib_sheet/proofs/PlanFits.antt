@@ -11,10 +11,18 @@ use Rattle.crib_plan.specs.declared.plan.Node.TheVariants.{Play, See}
 use Rattle.crib_plan.specs.Spelling.{leads_to}
 use Rattle.crib_sheet.specs.PlanSheet.{Row, Paragraph, Over, Named, row_named, row_to, lines_to, row_of, rows_from}
 use Rattle.crib_sheet.specs.PlanSheet.{sheet_with}
-use Rattle.crib_sheet.specs.PlanSheetSize.{level_count, levels_below, most_cards, most_cards_below, greatest, sheet_levels, sheet_cards}
+use Rattle.crib_sheet.specs.PlanSheetSize.{level_count, levels_below}
 use Rattle.crib_sheet.specs.PlanOutline.{apart_in}
-use Rattle.crib_sheet.specs.Private.Spots.{levels_at, cards_at, is_apart_at, AreLow, HasSize, AreSized}
+use Rattle.crib_sheet.specs.Private.Spots.{levels_at, cards_at, is_apart_at, most_levels, AreLow, IsWhole, AreSized}
+use Rattle.crib_sheet.specs.Private.Ways.{ways_to}
 use Rattle.crib_sheet.specs.declared.plan.spots.Spot.{Spot}
+use Rattle.crib_sheet.proofs.SheetSizes.{greatest, most_cards, most_cards_below, sheet_cards, sheet_levels}
+
+-- the row of a node has at most so many levels, and begins with at most so many cards
+abbrev HasSize : List Spot → ℕ → ℕ → Node → Type 0
+HasSize spots levels cards (Play card next) = (levels_at spots next ≤ levels) × (cards_at spots next < cards)
+HasSize spots levels cards (See branches) =
+    (0 < levels) × AllByRecursion (λ next. levels_at spots next < levels) branches
 
 -- a row has at most so many levels. It begins with at most so many cards, and has lines of at most five cards
 pub record IsSmall (levels cards : ℕ) (row : Row) : Type 0 where
@@ -28,7 +36,7 @@ small_named : (levels cards number : ℕ) → IsSmall levels cards (Named number
 small_named levels cards number = record { depth = omega arith; width = λ before few. omega arith }
 
 module _ (apart : ℕ → Bool) (spots : List Spot) (low : AreLow spots) where
-  -- a paragraph whose node stands in place is as small as is known of it, and each is small
+  -- a paragraph whose node is in place is as small as is known of it, and each is small
   pub record Fits (paragraph : Paragraph) : Type 0 where
     pub known : apart paragraph.number ≡ false → IsSmall (levels_at spots (To paragraph.number)) (cards_at spots (To paragraph.number)) paragraph.row
     pub small : IsSmall 5 5 paragraph.row
@@ -172,11 +180,22 @@ apart_same [] i within = absurd (omega arith)
 apart_same (spot ∷ spots) zero within = refl
 apart_same (spot ∷ spots) (suc i) within = apart_same spots i (omega arith)
 
+each_below : (spots : List Spot) (branches : List Next) (bound : ℕ) → most_levels spots branches < bound →
+    AllByRecursion (λ next. levels_at spots next < bound) branches
+each_below spots [] bound below = tt
+each_below spots (next ∷ branches) bound below = (omega (arith, below), each_below spots branches bound (omega (arith, below)))
+
+size_of : (spots : List Spot) (levels cards ways : ℕ) (node : Node) → IsWhole spots levels cards ways node → HasSize spots levels cards node
+size_of spots levels cards ways (Play card next) whole = (omega (arith, whole.its_levels), omega (arith, whole.its_cards))
+size_of spots levels cards ways (See branches) whole =
+    (omega (arith, whole.its_levels), each_below spots branches levels (omega (arith, whole.its_levels)))
+
 -- a node without a paragraph has the size that is known of it
 sized_apart : (spots : List Spot) (plan : List Node) → length spots ≡ length plan → AreSized 1 plan spots → (i : ℕ) (node : Node) → 1 ≤ i →
     slice_get plan i ≡ Some node → apart_in (map (λ spot. spot.is_apart) spots) i ≡ false → HasSize spots (levels_at spots (To i)) (cards_at spots (To i)) node
 sized_apart spots plan long are i node above found inline =
-    are.sized i node above found (sym (apart_same spots i (omega (arith, slice_get_within plan i node found))) ∙ inline)
+    size_of spots (levels_at spots (To i)) (cards_at spots (To i)) (ways_to plan i) node
+    (are.whole i node above found (sym (apart_same spots i (omega (arith, slice_get_within plan i node found))) ∙ inline))
 
 pub rows_behind : (spots : List Spot) (plan : List Node) → length spots ≡ length plan → (low : AreLow spots) → AreSized 1 plan spots →
     AllByRecursion (Fits (apart_in (map (λ spot. spot.is_apart) spots)) spots low)
@@ -188,10 +207,3 @@ pub outline_fits : (spots : List Spot) (plan : List Node) → length spots ≡ l
     × (sheet_cards (sheet_with (apart_in (map (λ spot. spot.is_apart) spots)) plan) ≤ 5)
 outline_fits spots plan long low are =
     sheet_fits (apart_in (map (λ spot. spot.is_apart) spots)) spots plan low (sized_apart spots plan long are)
-
-pub cards_fit : (flags : List Bool) (spots seen : List Spot) (plan nodes : List Node) → flags ≡ map (λ spot. spot.is_apart) seen → seen ≡ spots →
-    nodes ≡ plan → length spots ≡ length nodes → AreLow spots → AreSized 1 nodes spots → sheet_cards (sheet_with (apart_in flags) plan) ≤ 5
-cards_fit flags spots seen plan nodes is same known long low are =
-    let equal : map (λ spot. spot.is_apart) spots ≡ flags = ap (map (λ (s : Spot). s.is_apart)) (sym same) ∙ sym is in
-    subst (λ p. sheet_cards (sheet_with (apart_in flags) p) ≤ 5) known
-    (subst (λ fs. sheet_cards (sheet_with (apart_in fs) nodes) ≤ 5) equal (outline_fits spots nodes long low are).1)

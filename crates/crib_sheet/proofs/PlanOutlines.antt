@@ -1,54 +1,29 @@
 -- The sheet of an outline repeats no look, and so it has few lines and a short text.
-use Rattle.std.proofs.Common.{◌≡◌, ℕ, zero, suc, ◌+◌, ◌*◌, ◌<◌, ◌≤◌, eqb, Bool, false, List, [], ◌∷◌, ◌++◌, length, map, flat_map, take, drop, get_or}
-use Rattle.std.proofs.Common.{option_map, unwrap_or, refl, sym, ap, subst, ◌∙◌, arith, inl, inr}
+use Rattle.std.proofs.Common.{◌≡◌, ℕ, zero, suc, ◌+◌, ◌*◌, ◌<◌, ◌≤◌, eqb, Bool, false, List, [], ◌∷◌, ◌++◌, length, map, flat_map, drop, get_or}
+use Rattle.std.proofs.Common.{slice_get, Some, option_map, unwrap_or, refl, sym, ap, subst, ◌∙◌, arith, inl, inr}
 use Rattle.std.specs.List.{AllByRecursion}
 use Rattle.std.proofs.lemmas.Bool.{cases_eq, cases_lt, eqb-true, eq-eqb, true≢false}
 use Rattle.std.proofs.Math.Nat.{mul_comm, mul-le-mul_left}
-use Rattle.std.proofs.lemmas.List.{map_push, map_more}
-use Rattle.std.proofs.lemmas.Option.{slice_get_past}
-use Rattle.crib_plan.specs.declared.plan.Next.TheVariants.{To}
+use Rattle.std.proofs.lemmas.Option.{slice_get_past, slice_get-get_or}
+use Rattle.crib_plan.specs.declared.plan.Next.TheVariants.{End, To}
 use Rattle.crib_plan.specs.declared.plan.Node.{Node}
+use Rattle.crib_plan.specs.declared.plan.Node.TheVariants.{Play}
 use Rattle.crib_plan.specs.Nodes.{ArePlan}
 use Rattle.crib_sheet.specs.PlanBranches.{plan_branches}
 use Rattle.crib_sheet.specs.PlanOutline.{apart_in}
 use Rattle.crib_sheet.specs.PlanSheet.{Row, Paragraph, Over, Plays, Looks, Named, rows_from, sheet_with}
-use Rattle.crib_sheet.specs.PlanSheetSize.{level_count, line_count, sheet_lines, sheet_levels, sheet_cards, sheet_columns}
+use Rattle.crib_sheet.specs.PlanSheetSize.{level_count, line_count, longest_line, sheet_lines}
 use Rattle.crib_sheet.specs.PlanText.{sheet_text}
-use Rattle.crib_sheet.specs.Private.Spots.{levels_at, ways_at, is_apart_at, AreLow, AreSized, HaveWays}
-use Rattle.crib_sheet.specs.Private.Ways.{ways_in, AreCounted}
+use Rattle.crib_sheet.specs.Private.Spots.{levels_at, is_apart_at, AreLow, AreSized}
+use Rattle.crib_sheet.specs.Private.Ways.{ways_to}
 use Rattle.crib_sheet.specs.declared.plan.spots.Spot.{Spot}
-use Rattle.crib_sheet.specs.declared.plan.ways.Way.{Way}
 use Rattle.crib_sheet.proofs.PlanFits.{Fits, rows_behind, apart_same, outline_fits}
 use Rattle.crib_sheet.proofs.PlanSheetCounts.{IsBare, few_lines, line_measure, paragraphs_are_nodes}
 use Rattle.crib_sheet.proofs.PlanSheetRows.{plans_have_sheets}
 use Rattle.crib_sheet.proofs.PlanTextSizes.{short_text}
+use Rattle.crib_sheet.proofs.PlanTextWidths.{narrow_text}
 use Rattle.crib_sheet.proofs.PlanTargets.{times, targets, plan_times, start_times}
-
--- ---- the numbers of nodes that lead to a node
-
-same_ways : (ways : List Way) (spots : List Spot) (node : ℕ) → map (λ spot. spot.ways) spots ≡ map (λ way. way.ways) ways →
-    ways_at spots node ≡ ways_in ways node
-same_ways [] [] node same = refl
-same_ways [] (spot ∷ spots) node same = absurd cc
-same_ways (way ∷ ways) [] node same = absurd cc
-same_ways (way ∷ ways) (spot ∷ spots) zero same = cc
-same_ways (way ∷ ways) (spot ∷ spots) (suc node) same =
-    same_ways ways spots node (let rest : map (λ (s : Spot). s.ways) spots ≡ map (λ (w : Way). w.ways) ways = cc in rest)
-
-pub have_ways : (nodes : List Node) (ways seen : List Way) (spots : List Spot) → AreCounted nodes ways → seen ≡ ways →
-    map (λ spot. spot.ways) spots ≡ map (λ way. way.ways) seen → HaveWays nodes spots
-have_ways nodes ways seen spots counted is same = record {
-  counted = λ node within. same_ways seen spots node same ∙ ap (λ some. ways_in some node) is ∙ counted.counted node within;
-}
-
-pub ways_push : (spots : List Spot) (spot : Spot) (ways : List Way) (place : ℕ) (none : Way) → place < length ways →
-    map (λ spot. spot.ways) spots ≡ map (λ way. way.ways) (take place ways) → spot.ways ≡ (get_or ways place none).ways →
-    map (λ spot. spot.ways) (spots ++ spot ∷ []) ≡ map (λ way. way.ways) (take (place + 1) ways)
-ways_push spots spot ways place none within same here =
-    map_push (λ (s : Spot). s.ways) spots spot
-    ∙ ap (λ (front : List ℕ). front ++ spot.ways ∷ []) same
-    ∙ ap (λ (last : ℕ). map (λ (w : Way). w.ways) (take place ways) ++ last ∷ []) here
-    ∙ sym (map_more (λ (w : Way). w.ways) ways place none within)
+use Rattle.crib_sheet.proofs.SheetSizes.{sheet_cards, sheet_columns, sheet_levels}
 
 -- ---- rows without lines
 
@@ -72,10 +47,10 @@ module _ (apart : ℕ → Bool) (spots : List Spot) (low : AreLow spots) where
     rows_bare rows fit.1,
   )
 
--- each node with lines is led to once where it stands
-led_once : (spots : List Spot) (plan : List Node) (number : ℕ) → length spots ≡ length plan → ArePlan plan → AreSized 1 plan spots → HaveWays plan spots →
+-- each node with lines is led to once where it is
+led_once : (spots : List Spot) (plan : List Node) (number : ℕ) → length spots ≡ length plan → ArePlan plan → AreSized 1 plan spots →
     apart_in (map (λ spot. spot.is_apart) spots) number ≡ false → eqb (levels_at spots (To number)) 0 ≡ false → times number (flat_map targets plan) ≤ 1
-led_once spots plan number long is sized ways here full =
+led_once spots plan number long is sized here full =
     elim (cases_eq number 0) [
       | inl e ↦
           (let none = start_times 0 (length plan) plan is.1 in
@@ -85,12 +60,13 @@ led_once spots plan number long is sized ways here full =
           (elim (cases_lt number (length spots)) [
             | inl within ↦
                 (let inline : is_apart_at spots number ≡ false = sym (apart_same spots number within) ∙ here in
-                let counted = ways.counted number (omega (arith, within, long)) in
-                elim (cases_lt 1 (ways_at spots number)) [
+                elim (cases_lt 1 (ways_to plan number)) [
                   | inl twice ↦
-                      (let flat = sized.once number (omega (arith, differs)) inline twice in
+                      (let node = get_or plan number (Play 0 End) in
+                      let found : slice_get plan number ≡ Some node = slice_get-get_or plan number (Play 0 End) (omega (arith, within, long)) in
+                      let flat = (sized.whole number node (omega (arith, differs)) found inline).once twice in
                       absurd (true≢false (sym (eq-eqb (levels_at spots (To number)) 0 flat) ∙ full)))
-                  | inr once ↦ omega (arith, once, counted, plan_times number plan)
+                  | inr once ↦ omega (arith, once, plan_times number plan)
                 ])
             | inr past ↦
                 (let none : levels_at spots (To number) ≡ 0 =
@@ -100,10 +76,10 @@ led_once spots plan number long is sized ways here full =
     ]
 
 pub outline_lines : (spots : List Spot) (plan : List Node) → length spots ≡ length plan → ArePlan plan → AreLow spots → AreSized 1 plan spots →
-    HaveWays plan spots → sheet_lines (sheet_with (apart_in (map (λ spot. spot.is_apart) spots)) plan) ≤ plan_branches plan
-outline_lines spots plan long is low sized ways =
+    sheet_lines (sheet_with (apart_in (map (λ spot. spot.is_apart) spots)) plan) ≤ plan_branches plan
+outline_lines spots plan long is low sized =
     let apart : ℕ → Bool = apart_in (map (λ (s : Spot). s.is_apart) spots) in
-    few_lines apart (bare apart spots low) plan is.1 (λ number here full. led_once spots plan number long is sized ways here full)
+    few_lines apart (bare apart spots low) plan is.1 (λ number here full. led_once spots plan number long is sized here full)
     (rows_bare apart spots low (rows_from apart 1 (drop 1 plan)) (rows_behind spots plan long low sized))
 
 -- the text of a sheet with few levels, cards and lines
@@ -124,13 +100,25 @@ short_page apart plan is levels cards lines =
       mul-le-mul_left 76 few,
     )
 
-pub outline_text : (flags : List Bool) (spots seen : List Spot) (plan nodes : List Node) → flags ≡ map (λ spot. spot.is_apart) seen → seen ≡ spots →
-    nodes ≡ plan → length spots ≡ length nodes → ArePlan nodes → AreLow spots → AreSized 1 nodes spots → HaveWays nodes spots →
-    length (sheet_text (sheet_with (apart_in flags) plan)) ≤ 76 * (plan_branches plan + length plan + 1)
-outline_text flags spots seen plan nodes is same known long are low sized ways =
+pub outline_narrow : (flags : List Bool) (spots seen : List Spot) (plan nodes : List Node) → flags ≡ map (λ spot. spot.is_apart) seen → seen ≡ spots →
+    nodes ≡ plan → length spots ≡ length nodes → ArePlan nodes → AreLow spots → AreSized 1 nodes spots →
+    longest_line 0 (sheet_text (sheet_with (apart_in flags) plan)) ≤ 78
+outline_narrow flags spots seen plan nodes is same known long are low sized =
     let apart : ℕ → Bool = apart_in (map (λ (s : Spot). s.is_apart) spots) in
     let fits = outline_fits spots nodes long low sized in
-    let short = short_page apart nodes are fits.0 fits.1 (outline_lines spots nodes long are low sized ways) in
+    let sheet = sheet_with apart nodes in
+    let narrow : longest_line 0 (sheet_text sheet) ≤ 78 = omega (arith, narrow_text sheet (plans_have_sheets apart nodes are), fits.0, fits.1) in
+    let equal : map (λ spot. spot.is_apart) spots ≡ flags = ap (map (λ (s : Spot). s.is_apart)) (sym same) ∙ sym is in
+    subst (λ p. longest_line 0 (sheet_text (sheet_with (apart_in flags) p)) ≤ 78) known
+    (subst (λ fs. longest_line 0 (sheet_text (sheet_with (apart_in fs) nodes)) ≤ 78) equal narrow)
+
+pub outline_text : (flags : List Bool) (spots seen : List Spot) (plan nodes : List Node) → flags ≡ map (λ spot. spot.is_apart) seen → seen ≡ spots →
+    nodes ≡ plan → length spots ≡ length nodes → ArePlan nodes → AreLow spots → AreSized 1 nodes spots →
+    length (sheet_text (sheet_with (apart_in flags) plan)) ≤ 76 * (plan_branches plan + length plan + 1)
+outline_text flags spots seen plan nodes is same known long are low sized =
+    let apart : ℕ → Bool = apart_in (map (λ (s : Spot). s.is_apart) spots) in
+    let fits = outline_fits spots nodes long low sized in
+    let short = short_page apart nodes are fits.0 fits.1 (outline_lines spots nodes long are low sized) in
     let equal : map (λ spot. spot.is_apart) spots ≡ flags = ap (map (λ (s : Spot). s.is_apart)) (sym same) ∙ sym is in
     subst (λ p. length (sheet_text (sheet_with (apart_in flags) p)) ≤ 76 * (plan_branches p + length p + 1)) known
     (subst (λ fs. length (sheet_text (sheet_with (apart_in fs) nodes)) ≤ 76 * (plan_branches nodes + length nodes + 1)) equal short)

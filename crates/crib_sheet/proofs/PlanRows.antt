@@ -145,10 +145,10 @@ paragraph_none flags plan i inside is = rw (paragraphs_at flags plan i (Play 0 E
 
 -- ---- the page
 
-pub page_is : (flags : List Bool) (plan : List Node) →
-    page_text (sheet_with (apart_in flags) plan) ≡ first_text flags plan ++ (paragraphs_text flags plan 0 ++ legend_text)
+pub page_is : (sure : Bool) (flags : List Bool) (plan : List Node) →
+    page_text sure (sheet_with (apart_in flags) plan) ≡ first_text sure flags plan ++ (paragraphs_text flags plan 0 ++ legend_text sure)
 unfolding page_text sheet_with sheet_text first_text paragraphs_text place_row
-page_is flags plan = simp append_assoc
+page_is sure flags plan = simp append_assoc
 
 pub ruleset rows = (place_end, place_apart, place_node)
 
@@ -157,7 +157,7 @@ abbrev pub room : ℕ → Next → ℕ
 room count End = 0
 room count (To node) = count - node
 
--- what stands before the rest of a row, by what the rest is
+-- what is before the rest of a row, by what the rest is
 pub before_of : (flags : List Bool) (plan : List Node) (place : Next) (row : Row) → place_row flags plan place ≡ row →
     before_rest row ≡ before_rest (place_row flags plan place)
 before_of flags plan place row is = ap before_rest (sym is)

@@ -1,10 +1,10 @@
--- A sheet has few lines: at most one for each branch of its plan, if each of its nodes stands in one place.
+-- A sheet has few lines: at most one for each branch of its plan, if each of its nodes is in one place.
 use Rattle.std.proofs.Common.{◌≡◌, ℕ, suc, ◌+◌, ◌*◌, ◌<◌, ◌≤◌, Bool, true, false, not, eqb, ◌||◌, List, [], ◌∷◌, ◌++◌, length, map, filter}
 use Rattle.std.proofs.Common.{take, drop, flat_map, refl, sym, ap, ◌∙◌, arith, inl, inr, add-one}
 use Rattle.std.specs.Prelude.{if◌then◌else◌}
 use Rattle.std.specs.List.{list_any, sum_by, AllByRecursion}
 use Rattle.std.proofs.lemmas.Bool.{cases_Bool, cases_lt, eqb-true, eq-eqb, ne_eqb, true≢false}
-use Rattle.std.proofs.Math.Nat.{add-mul, mul_comm, mul-le-mul_left}
+use Rattle.std.proofs.Math.Nat.{add-mul, mul_comm}
 use Rattle.std.proofs.Math.Bool.{or_comm, or-false}
 use Rattle.std.proofs.lemmas.List.Sums.{sum_by-cons}
 use Rattle.crib_cards.specs.Sets.{has}
@@ -17,14 +17,11 @@ use Rattle.crib_plan.specs.Spelling.{leads_to, nodes_of}
 use Rattle.crib_plan.specs.Places.{plan_start}
 use Rattle.crib_sheet.specs.PlanSheet.{Row, Lines, Paragraph, Over, Plays, Looks, Named, NoLine, Line, row_named, row_to, lines_to, row_of, rows_from}
 use Rattle.crib_sheet.specs.PlanSheet.{sheet_with}
-use Rattle.crib_sheet.specs.PlanSheetSize.{line_count, lines_count, card_count, cards_below, sheet_lines}
-use Rattle.crib_sheet.specs.PlanBranches.{branch_count, play_count, plan_branches}
-use Rattle.crib_sheet.specs.PlanSheetSize.{sheet_levels}
-use Rattle.crib_sheet.specs.PlanTextLaws.{NothingIsRepeated, ParagraphsAreNodes, PlansHaveLinearTexts}
-use Rattle.crib_sheet.proofs.PlanTextSizes.{linear_text}
-use Rattle.crib_sheet.proofs.PlanSheetRows.{plans_have_sheets}
+use Rattle.crib_sheet.specs.PlanSheetSize.{line_count, lines_count, sheet_lines}
+use Rattle.crib_sheet.specs.PlanBranches.{branch_count, plan_branches}
 use Rattle.crib_sheet.proofs.PlanSheets.{rest_of}
-use Rattle.crib_sheet.proofs.PlanTargets.{total, total-append, total_later, times, any_next, targets, targets_later, plan_times, seen}
+use Rattle.crib_sheet.proofs.PlanTargets.{total, total-append, total_later, times, any_next, targets, targets_later, seen}
+use Rattle.crib_sheet.proofs.SheetSizes.{ParagraphsAreNodes}
 
 -- ---- rows
 
@@ -48,7 +45,7 @@ module _ (each_card each_line : ℕ) (apart : ℕ → Bool) where
   abbrev value : Row → ℕ
   value = measure each_card each_line
 
-  -- what the row of a node is worth where it stands
+  -- what the row of a node is worth where it is
   abbrev there : List Paragraph → ℕ → ℕ
   there later number = value (row_to apart later (To number))
 
@@ -130,7 +127,7 @@ module _ (each_card each_line : ℕ) (apart : ℕ → Bool) where
 
   -- ---- each row is worth its share once
 
-  -- what the rows are worth that stand in no paragraph of their own
+  -- what the rows are worth that are in no paragraph of their own
   inline_total : List Paragraph → ℕ
   inline_total [] = 0
   inline_total (paragraph ∷ paragraphs) = (if apart paragraph.number then 0 else value paragraph.row) + inline_total paragraphs
@@ -176,7 +173,7 @@ module _ (each_card each_line : ℕ) (apart : ℕ → Bool) where
             rw e (omega (arith, rest, is)))
       ]
 
-  -- a node whose row is worth nothing where it stands
+  -- a node whose row is worth nothing where it is
   abbrev pub IsBare : (ℕ → Bool) → Paragraph → Type 0
   IsBare bare paragraph = apart paragraph.number ≡ false → bare paragraph.number ≡ true → value paragraph.row ≡ 0
 
@@ -249,24 +246,18 @@ module _ (each_card each_line : ℕ) (apart : ℕ → Bool) where
         | inr e ↦ rw e (omega (arith, all, shared, split))
       ]
 
--- ---- lines, cards and paragraphs
+-- ---- lines and paragraphs
 
 mutual
-  measures : (row : Row) → (line_count row ≡ measure 0 1 row) × (card_count row ≡ measure 1 0 row)
-  measures Over = (refl, refl)
-  measures (Plays card row) = let more = measures row in (omega (arith, more.0), omega (arith, more.1))
-  measures (Looks lines) = measures_below lines
-  measures (Named number) = (refl, refl)
+  pub line_measure : (row : Row) → line_count row ≡ measure 0 1 row
+  line_measure Over = refl
+  line_measure (Plays card row) = omega (arith, line_measure row)
+  line_measure (Looks lines) = lines_measure lines
+  line_measure (Named number) = refl
 
-  measures_below : (lines : Lines) → (lines_count lines ≡ measure_below 0 1 lines) × (cards_below lines ≡ measure_below 1 0 lines)
-  measures_below NoLine = (refl, refl)
-  measures_below (Line set row others) =
-      let here = measures row in
-      let more = measures_below others in
-      (omega (arith, here.0, more.0), omega (arith, here.1, more.1))
-
-pub line_measure : (row : Row) → line_count row ≡ measure 0 1 row
-line_measure row = (measures row).0
+  lines_measure : (lines : Lines) → lines_count lines ≡ measure_below 0 1 lines
+  lines_measure NoLine = refl
+  lines_measure (Line set row others) = omega (arith, line_measure row, lines_measure others)
 
 rows_counted : (count : Row → ℕ) (each_card each_line : ℕ) → ((row : Row) → count row ≡ measure each_card each_line row) → (paragraphs : List Paragraph) →
     sum_by count (map (λ paragraph. paragraph.row) paragraphs) ≡ rows_total each_card each_line paragraphs
@@ -280,10 +271,6 @@ own_branch : (apart : ℕ → Bool) (node : Node) → own 0 1 apart node ≡ bra
 own_branch apart (Play card next) = refl
 own_branch apart (See branches) = omega arith
 
-own_play : (apart : ℕ → Bool) (node : Node) → own 1 0 apart node ≡ play_count node
-own_play apart (Play card next) = refl
-own_play apart (See branches) = omega arith
-
 own_counted : (count : Node → ℕ) (each_card each_line : ℕ) (apart : ℕ → Bool) → ((node : Node) → own each_card each_line apart node ≡ count node) →
     (nodes : List Node) → own_total each_card each_line apart nodes ≡ sum_by count nodes
 own_counted count each_card each_line apart is [] = refl
@@ -291,7 +278,7 @@ own_counted count each_card each_line apart is (node ∷ nodes) =
     let more = own_counted count each_card each_line apart is nodes in
     omega (arith, is node, more, sum_by-cons count node nodes)
 
--- a sheet has no more lines than its plan has branches, if each node whose row has lines is led to once where it stands
+-- a sheet has no more lines than its plan has branches, if each node whose row has lines is led to once where it is
 pub few_lines : (apart bare : ℕ → Bool) (plan : List Node) → AreNodes 0 (length plan) plan →
     ((number : ℕ) → apart number ≡ false → bare number ≡ false → times number (flat_map targets plan) ≤ 1) →
     AllByRecursion (IsBare 0 1 apart bare) (rows_from apart 1 (drop 1 plan)) → sheet_lines (sheet_with apart plan) ≤ plan_branches plan
@@ -305,27 +292,6 @@ few_lines apart bare plan are once bares =
       rows_counted line_count 0 1 line_measure sheet.paragraphs,
       sheet_value 0 1 apart bare plan are once bares,
       own_counted branch_count 0 1 apart (own_branch apart) plan,
-    )
-
-none_bare : (each_card each_line : ℕ) (apart : ℕ → Bool) (rows : List Paragraph) → AllByRecursion (IsBare each_card each_line apart (λ number. false)) rows
-none_bare each_card each_line apart [] = tt
-none_bare each_card each_line apart (paragraph ∷ rows) = (λ here wrong. absurd cc, none_bare each_card each_line apart rows)
-
-pub nothing_repeated : NothingIsRepeated
-unfolding sheet_with kept
-nothing_repeated apart plan is once =
-    let sheet = sheet_with apart plan in
-    let few : (number : ℕ) → apart number ≡ false → false ≡ false → times number (flat_map targets plan) ≤ 1 =
-    λ number here full. omega (arith, plan_times number plan, once number here) in (
-      few_lines apart (λ number. false) plan is.1 few (none_bare 0 1 apart (rows_from apart 1 (drop 1 plan))),
-      omega (
-        arith,
-        sum_by-cons card_count sheet.first (map (λ (p : Paragraph). p.row) sheet.paragraphs),
-        (measures sheet.first).1,
-        rows_counted card_count 1 0 (λ row. (measures row).1) sheet.paragraphs,
-        sheet_value 1 0 apart (λ number. false) plan is.1 few (none_bare 1 0 apart (rows_from apart 1 (drop 1 plan))),
-        own_counted play_count 1 0 apart (own_play apart) plan,
-      ),
     )
 
 length_kept : (apart : ℕ → Bool) (paragraphs : List Paragraph) → length (filter (λ paragraph. apart paragraph.number) paragraphs) ≤ length paragraphs
@@ -343,12 +309,3 @@ length_rows apart place (node ∷ nodes) = omega (arith, length_rows apart (plac
 pub paragraphs_are_nodes : ParagraphsAreNodes
 unfolding sheet_with
 paragraphs_are_nodes apart plan = omega (arith, length_kept apart (rows_from apart 0 plan), length_rows apart 0 plan)
-
-pub linear_texts : PlansHaveLinearTexts
-linear_texts apart plan is once =
-    let sheet = sheet_with apart plan in
-    let few = nothing_repeated apart plan is once in
-    let rows : sheet_lines sheet + length sheet.paragraphs + 1 ≤ plan_branches plan + length plan + 1 =
-    omega (arith, few.0, paragraphs_are_nodes apart plan) in
-    let more = mul-le-mul_left (4 * sheet_levels sheet + 41) rows in
-    omega (arith, linear_text sheet (plans_have_sheets apart plan is), few.1, more)

@@ -34,7 +34,7 @@ any_map : (test : Next → Bool) (nexts : List Next) → list_any (λ flag. flag
 any_map test [] = refl
 any_map test (next ∷ nexts) = ap (λ b. test next || b) (any_map test nexts)
 
--- what leads to a node among the branches that are still to come leads to it among all
+-- what leads to a node among the branches that are still ahead leads to it among all
 abbrev AreAmong : List Next → List Next → Type 0
 AreAmong all branches = (node : ℕ) → list_any (leads_to node) branches ≡ true → list_any (leads_to node) all ≡ true
 

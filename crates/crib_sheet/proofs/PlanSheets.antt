@@ -101,7 +101,7 @@ node_fits place count (first ∷ nodes) (suc i) node are is =
     subst (λ k. IsNode k count node) e (node_fits (place + 1) count nodes i node are.1 is)
 
 -- the branch of a letter is later, if all branches are
-branch_later : (place count : ℕ) (branches : List Next) (i : ℕ) → AllByRecursion (IsLater place count) branches →
+pub branch_later : (place count : ℕ) (branches : List Next) (i : ℕ) → AllByRecursion (IsLater place count) branches →
     IsLater place count (unwrap_or (slice_get branches i) End)
 branch_later place count [] i all = tt
 branch_later place count (branch ∷ branches) zero all = all.0
@@ -209,7 +209,7 @@ any_at (branch ∷ branches) zero node is =
 any_at (branch ∷ branches) (suc i) node is = or_right (leads_to node branch) (list_any (leads_to node) branches) (any_at branches i node is)
 
 -- the line of a letter has the row of the place to which the letter leads
-line_of : (apart : ℕ → Bool) (later : List Paragraph) (branches : List Next) (letter : Letter) (next : Next) → branch_of branches letter ≡ next →
+pub line_of : (apart : ℕ → Bool) (later : List Paragraph) (branches : List Next) (letter : Letter) (next : Next) → branch_of branches letter ≡ next →
     row_for (lines_to apart later branches 0 branches) letter ≡ row_to apart later next
 line_of apart later branches letter End is = no_line apart later branches letter is 0 branches
 line_of apart later branches letter (To node) is =

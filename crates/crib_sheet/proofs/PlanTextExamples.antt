@@ -1,17 +1,17 @@
 -- Worked examples of the texts of sheets.
 use Rattle.std.specs.Prelude.{◌≡◌, ◌≤◌, ℕ, false, refl, Bool, List, [], ◌∷◌, ◌++◌, map, codes}
 use Rattle.std.specs.List.{count_by}
-use Rattle.std.proofs.Common.{arith}
 use Rattle.std.specs.Fmt.{digits}
 use Rattle.crib_cards.specs.Sets.{has}
 use Rattle.crib_plan.specs.Spelling.{letter_bytes}
 use Rattle.crib_sheet.specs.PlanSheet.{Row, Sheet, Over, Plays, Looks, Named, NoLine, sheet_with}
 use Rattle.crib_sheet.specs.PlanText.{rank_words, label, row_text, paragraph_text, sheet_text}
-use Rattle.crib_sheet.specs.PlanSheetSize.{most_cards, sheet_lines, all_cards, sheet_levels, sheet_cards, sheet_columns, longest_line}
+use Rattle.crib_sheet.specs.PlanSheetSize.{sheet_lines, longest_line}
 use Rattle.crib_plan.specs.declared.plan.Next.TheVariants.{End, To}
 use Rattle.crib_plan.specs.declared.plan.Node.TheVariants.{Play, See}
-use Rattle.crib_sheet.specs.PlanBranches.{LedToOnce, looks_of, node_leads, plan_branches, plan_plays}
+use Rattle.crib_sheet.specs.PlanBranches.{node_leads, plan_branches}
 use Rattle.crib_sheet.proofs.PlanExamples.{look, deuce, heart, spade, three_eights, eights_sheet}
+use Rattle.crib_sheet.proofs.SheetSizes.{all_cards, most_cards, sheet_cards, sheet_columns, sheet_levels}
 
 -- ---- labels
 
@@ -24,7 +24,7 @@ few_ranks : (label (set_of []) ≡ []) × (label (set_of (codes "2")) ≡ codes 
 unfolding label rank_words
 few_ranks = (refl, refl, refl)
 
--- three neighbours are a range, and a go comes last
+-- three neighbours are a range, and a go is last
 ranges_and_a_go : (label (set_of (codes "456")) ≡ codes "4-6") × (label (set_of (codes "g")) ≡ codes "go")
     × (label (set_of (codes "A456789TJQKg")) ≡ codes "A 4-K go") × (label (set_of letter_bytes) ≡ codes "A-K go")
 unfolding label rank_words
@@ -98,7 +98,7 @@ eights_sizes : (sheet_lines eights_sheet ≡ 5) × (sheet_levels eights_sheet �
 unfolding sheet_with
 eights_sizes = (refl, refl, refl, refl)
 
--- the deuce of node 7 stands in two lines
+-- the deuce of node 7 is in two lines
 cards_with_a_paragraph : all_cards eights_sheet ≡ 10
 unfolding sheet_with
 cards_with_a_paragraph = refl
@@ -145,17 +145,11 @@ a_line_without_its_end = refl
 
 -- ---- branches
 
-levels_of_nodes : map looks_of (Play deuce End ∷ See [] ∷ []) ≡ 0 ∷ 1 ∷ []
-levels_of_nodes = refl
-
 branches_of_the_first_node : plan_branches (See (To 1 ∷ To 1 ∷ To 2 ∷ End ∷ []) ∷ Play deuce End ∷ []) ≡ 2
 branches_of_the_first_node = refl
 
 eights_branches : plan_branches three_eights ≡ 5
 eights_branches = refl
-
-eights_plays : plan_plays three_eights ≡ 9
-eights_plays = refl
 
 -- the nodes 3 and 6 lead to node 7, though many letters do
 led_to_twice : count_by (node_leads 7) three_eights ≡ 2
@@ -166,7 +160,3 @@ led_to_once = refl
 
 led_to_by_none : count_by (node_leads 0) three_eights ≡ 0
 led_to_by_none = refl
-
--- without a paragraph for node 10 its spade would stand in two rows
-two_lead_to_the_spade : LedToOnce (λ node. false) three_eights → ⊥
-two_lead_to_the_spade once = let two : 2 ≤ 1 = once 10 refl in absurd (omega arith)

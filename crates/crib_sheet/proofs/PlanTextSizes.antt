@@ -10,11 +10,12 @@ use Rattle.crib_text.specs.Spelling.{space}
 use Rattle.crib_sheet.specs.PlanSheet.{Row, Lines, Paragraph, Sheet, Over, Plays, Looks, Named, NoLine, Line}
 use Rattle.crib_sheet.specs.PlanText.{range_words, rank_words, go_words, label, label_width, label_column, indent, before_rest, row_text, lines_text}
 use Rattle.crib_sheet.specs.PlanText.{paragraph_text, sheet_text}
-use Rattle.crib_sheet.specs.PlanSheetSize.{card_count, cards_below, all_cards, line_count, lines_count, level_count, levels_below}
-use Rattle.crib_sheet.specs.PlanSheetSize.{most_cards, most_cards_below, greatest}
-use Rattle.crib_sheet.specs.PlanSheetSize.{sheet_lines, sheet_levels}
-use Rattle.crib_sheet.specs.PlanSheetSize.{sheet_rows, sheet_cards}
-use Rattle.crib_sheet.specs.PlanTextLaws.{IsRow, AreLines, IsParagraph, TextsAreLinear, TextsAreShort}
+use Rattle.crib_sheet.specs.PlanSheetSize.{line_count, lines_count, level_count, levels_below}
+use Rattle.crib_sheet.specs.PlanSheetSize.{sheet_lines}
+use Rattle.crib_sheet.specs.PlanSheetSize.{sheet_rows}
+use Rattle.crib_sheet.specs.PlanTextLaws.{IsRow, AreLines, IsParagraph}
+use Rattle.crib_sheet.proofs.SheetSizes.{TextsAreLinear, TextsAreShort, all_cards, card_count, cards_below, greatest, most_cards}
+use Rattle.crib_sheet.proofs.SheetSizes.{most_cards_below, sheet_cards, sheet_levels}
 
 -- ---- labels
 
@@ -97,7 +98,7 @@ line_length indented column row others =
       length-append indented column,
     )
 
--- what stands before the rest of a row, at its start or after a card
+-- what is before the rest of a row, at its start or after a card
 start_length : (row : Row) (level bound : ℕ) → 1 ≤ bound → length (before_rest row) + length (row_text level row) ≤ bound + 1 →
     length (row_text level row) ≤ bound
 start_length Over level bound some fits = some

@@ -11,14 +11,15 @@ use Rattle.crib_text.specs.Spelling.{space}
 use Rattle.crib_plan.proofs.WordLemmas.{IsDigit, decimal_digits}
 use Rattle.crib_sheet.specs.PlanSheet.{Row, Lines, Paragraph, Sheet, Over, Plays, Looks, Named, NoLine, Line}
 use Rattle.crib_sheet.specs.PlanText.{label, label_width, label_column, indent, before_rest, row_text, lines_text, paragraph_text, sheet_text}
-use Rattle.crib_sheet.specs.PlanSheetSize.{level_count, levels_below, most_cards, most_cards_below, greatest, sheet_levels, sheet_cards, sheet_columns}
+use Rattle.crib_sheet.specs.PlanSheetSize.{level_count, levels_below}
 use Rattle.crib_sheet.specs.PlanSheetSize.{longest_line}
 use Rattle.crib_sheet.specs.PlanTextLaws.{IsRow, AreLines, IsParagraph, IsSheet}
 use Rattle.crib_sheet.proofs.PlanLabels.{is_label_byte, label_bytes}
 use Rattle.crib_sheet.proofs.PlanTexts.{paragraph_is}
 use Rattle.crib_sheet.proofs.PlanTextSizes.{column_length, width_bound, number_length, rows_of}
+use Rattle.crib_sheet.proofs.SheetSizes.{greatest, most_cards, most_cards_below, sheet_cards, sheet_columns, sheet_levels}
 
--- ---- what stands in one line
+-- ---- what is in one line
 
 abbrev pub no_feed : ℕ → Bool
 no_feed byte = not (eqb byte 10)

@@ -55,7 +55,7 @@ same_numbers number number' rest rest' small small' same =
 
 -- ---- cards
 
-same_cards : (card card' : ℕ) (rest rest' : List ℕ) → IsCard card → IsCard card' → card_text card ++ rest ≡ card_text card' ++ rest' →
+pub same_cards : (card card' : ℕ) (rest rest' : List ℕ) → IsCard card → IsCard card' → card_text card ++ rest ≡ card_text card' ++ rest' →
     (card ≡ card') × (rest ≡ rest')
 same_cards card card' rest rest' is is' same =
     (card_text-injective card card' is is' cc, cc)
@@ -69,7 +69,7 @@ blanks_more (suc count) rest = omega (arith, blanks_more count rest)
 -- ---- what begins a text
 
 -- no card begins with a byte that is the letter of no rank
-no_card : (byte card : ℕ) → agree_below (λ c. eqb (rank_letter (rank_of c)) byte) (λ _. false) 52 ≡ true → IsCard card →
+pub no_card : (byte card : ℕ) → agree_below (λ c. eqb (rank_letter (rank_of c)) byte) (λ _. false) 52 ≡ true → IsCard card →
     rank_letter (rank_of card) ≡ byte → ⊥
 no_card byte card none is same =
     true≢false (sym (eq-eqb (rank_letter (rank_of card)) byte same)
@@ -85,7 +85,7 @@ clash byte byte' rest rest' differ same = differ (first_byte byte byte' rest res
 look_or_see : (rest rest' : List ℕ) → codes ", then " ++ 108 ∷ rest ≡ codes ", then " ++ 115 ∷ rest' → ⊥
 look_or_see rest rest' same = let e : ◌≡◌ {A = ℕ} 108 115 = ap (λ bytes. get_or bytes 7 0) same in absurd (omega arith)
 
--- what stands after a card tells what comes
+-- what is after a card shows what is
 after_card : (level : ℕ) (row row' : Row) (rest rest' : List ℕ) →
     (before_rest row ++ row_text level row) ++ rest ≡ (before_rest row' ++ row_text level row') ++ rest' →
     row_text level row ++ rest ≡ row_text level row' ++ rest'

@@ -1,6 +1,6 @@
 -- How often the nodes of a plan are led to, counted node by node and letter by letter.
 use Rattle.std.proofs.Common.{◌≡◌, ◌≢◌, ℕ, zero, suc, ◌+◌, ◌<◌, ◌≤◌, min, cond, eqb, Bool, true, false, not, ◌&&◌, ◌||◌, List, [], ◌∷◌, ◌++◌, length, take, set}
-use Rattle.std.proofs.Common.{get_or, Some, None, option_map, unwrap_or, refl, sym, ap, ◌∙◌, arith, inl, inr}
+use Rattle.std.proofs.Common.{get_or, Some, None, unwrap_or, refl, sym, ap, ◌∙◌, arith, inl, inr}
 use Rattle.std.specs.List.{list_any, count_by}
 use Rattle.std.proofs.lemmas.Bool.{cases_Bool, cases_eq, cases_lt, eqb-true, eq-eqb, ne_eqb}
 use Rattle.std.proofs.lemmas.List.{take_all}
@@ -14,36 +14,25 @@ use Rattle.crib_plan.specs.Spelling.{leads_to}
 use Rattle.crib_sheet.specs.PlanBranches.{node_leads}
 use Rattle.crib_sheet.specs.Private.Pages.{new_node}
 use Rattle.crib_sheet.specs.Private.Ways.{ways_in, one_more, leads_anew, AreNone, AreCounted}
-use Rattle.crib_sheet.specs.declared.plan.ways.Way.{Way}
 
 -- ---- one entry is written
 
-set_here : (ways : List Way) (i : ℕ) (way : Way) → i < length ways → ways_in (set ways i way) i ≡ way.ways
+set_here : (ways : List ℕ) (i : ℕ) (way : ℕ) → i < length ways → ways_in (set ways i way) i ≡ way
 set_here [] i way within = absurd (omega arith)
 set_here (first ∷ ways) zero way within = refl
 set_here (first ∷ ways) (suc i) way within = set_here ways i way (omega arith)
 
-set_there : (ways : List Way) (i j : ℕ) (way : Way) → i ≢ j → ways_in (set ways i way) j ≡ ways_in ways j
+set_there : (ways : List ℕ) (i j : ℕ) (way : ℕ) → i ≢ j → ways_in (set ways i way) j ≡ ways_in ways j
 set_there [] i j way differs = refl
 set_there (first ∷ ways) zero zero way differs = absurd (differs refl)
 set_there (first ∷ ways) zero (suc j) way differs = refl
 set_there (first ∷ ways) (suc i) zero way differs = refl
 set_there (first ∷ ways) (suc i) (suc j) way differs = set_there ways i j way (λ e. differs (ap suc e))
 
-at_entry : (ways : List Way) (i : ℕ) (none : Way) → i < length ways → ways_in ways i ≡ (get_or ways i none).ways
+pub at_entry : (ways : List ℕ) (i : ℕ) (none : ℕ) → i < length ways → ways_in ways i ≡ get_or ways i none
 at_entry [] i none within = absurd (omega arith)
 at_entry (first ∷ ways) zero none within = refl
 at_entry (first ∷ ways) (suc i) none within = at_entry ways i none (omega arith)
-
--- an entry that is written with the same number
-pub same_ways : (ways : List Way) (i : ℕ) (way none : Way) → i < length ways → way.ways ≡ (get_or ways i none).ways → (j : ℕ) →
-    ways_in (set ways i way) j ≡ ways_in ways j
-same_ways ways i way none within same j =
-    elim (cases_eq i j) [
-      | inl is ↦
-          (sym (ap (ways_in (set ways i way)) is) ∙ set_here ways i way within ∙ same ∙ sym (at_entry ways i none within) ∙ ap (ways_in ways) is)
-      | inr differs ↦ set_there ways i j way differs
-    ]
 
 -- ---- a place that may lead to a node
 
@@ -80,8 +69,8 @@ anew_none before (To other) number is =
     ]
 
 -- one way more to the node of a place
-pub one_way : (ways : List Way) (before : List Next) (place : Next) (node : ℕ) (way none : Way) → node < length ways →
-    new_node before place ≡ Some node → way.ways ≡ min 2 ((get_or ways node none).ways + 1) → (number : ℕ) →
+pub one_way : (ways : List ℕ) (before : List Next) (place : Next) (node : ℕ) (way none : ℕ) → node < length ways →
+    new_node before place ≡ Some node → way ≡ min 2 (get_or ways node none + 1) → (number : ℕ) →
     ways_in (set ways node way) number ≡ one_more (ways_in ways number) (leads_anew number before place)
 one_way ways before place node way none within new counted number =
     let led = anew_some before place node number new in
@@ -98,7 +87,7 @@ one_way ways before place node way none within new counted number =
     ]
 
 -- the node of a place is not counted if it has no entry
-pub no_entry : (ways : List Way) (before : List Next) (place : Next) (node : ℕ) → length ways ≤ node → new_node before place ≡ Some node →
+pub no_entry : (ways : List ℕ) (before : List Next) (place : Next) (node : ℕ) → length ways ≤ node → new_node before place ≡ Some node →
     (number : ℕ) → ways_in ways number ≡ one_more (ways_in ways number) (leads_anew number before place)
 no_entry ways before place node past new number =
     let led = anew_some before place node number new in
@@ -106,14 +95,14 @@ no_entry ways before place node past new number =
       | inl e ↦
           (let is : node ≡ number = eqb-true node number e in
           let two : ways_in ways number ≡ 2 =
-          sym (ap (ways_in ways) is) ∙ ap (λ found. unwrap_or (option_map (λ (w : Way). w.ways) found) 2) (slice_get_past ways node past) in
+          sym (ap (ways_in ways) is) ∙ ap (λ found. unwrap_or found 2) (slice_get_past ways node past) in
           let yes : leads_anew number before place ≡ true = led ∙ e in
           two ∙ sym (ap (λ count. min 2 (count + 1)) two) ∙ sym (ap (one_more (ways_in ways number)) yes))
       | inr e ↦ (let no : leads_anew number before place ≡ false = led ∙ e in sym (ap (one_more (ways_in ways number)) no))
     ]
 
 -- a place that leads to no node, or to the same node as an earlier one
-pub no_way : (ways : List Way) (before : List Next) (place : Next) → new_node before place ≡ None → (number : ℕ) →
+pub no_way : (ways : List ℕ) (before : List Next) (place : Next) → new_node before place ≡ None → (number : ℕ) →
     ways_in ways number ≡ one_more (ways_in ways number) (leads_anew number before place)
 no_way ways before place new number = sym (ap (one_more (ways_in ways number)) (anew_none before place number new))
 
@@ -162,16 +151,16 @@ all_nodes now nodes place number past is = is ∙ ap (λ some. min 2 (count_by (
 
 -- ---- entries before anything is counted
 
-pub none_push : (ways : List Way) (way : Way) → AreNone ways → way.ways ≡ 0 → AreNone (ways ++ way ∷ [])
+pub none_push : (ways : List ℕ) (way : ℕ) → AreNone ways → way ≡ 0 → AreNone (ways ++ way ∷ [])
 none_push ways way are is = record { none = along ways are.none }
   where
-    along : (some : List Way) → ((node : ℕ) → node < length some → ways_in some node ≡ 0) → (node : ℕ) → node < length (some ++ way ∷ []) →
+    along : (some : List ℕ) → ((node : ℕ) → node < length some → ways_in some node ≡ 0) → (node : ℕ) → node < length (some ++ way ∷ []) →
         ways_in (some ++ way ∷ []) node ≡ 0
     along [] all zero within = is
     along [] all (suc node) within = absurd (omega arith)
     along (first ∷ some) all zero within = all zero (omega arith)
     along (first ∷ some) all (suc node) within = along some (λ n less. all (suc n) (omega arith)) node (omega arith)
 
-pub counted_from : (nodes : List Node) (old new : List Way) → length old ≡ length nodes → AreNone old →
+pub counted_from : (nodes : List Node) (old new : List ℕ) → length old ≡ length nodes → AreNone old →
     ((node : ℕ) → ways_in old node ≡ 0 → ways_in new node ≡ min 2 (count_by (node_leads node) nodes)) → AreCounted nodes new
 counted_from nodes old new long none all = record { counted = λ node within. all node (none.none node (omega (arith, long, within))) }

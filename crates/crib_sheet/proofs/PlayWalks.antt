@@ -156,7 +156,7 @@ rows_forward start before (act ∷ acts) =
     ∙ ap (λ (rows : List Row). rows ++ rows_from start (act ∷ before) acts) (reverse-append (act_row start act before ∷ []) (act_rows start before))
     ∙ append_assoc (reverse (act_rows start before)) (act_row start act before ∷ []) (rows_from start (act ∷ before) acts)
 
-rows_of_report : (problem : Setup) (game : Game) → (report_of problem game).rows.items ≡ rows_from (start_of problem) [] game.acts.items
+pub rows_of_report : (problem : Setup) (game : Game) → (report_of problem game).rows.items ≡ rows_from (start_of problem) [] game.acts.items
 rows_of_report problem game =
     ap (λ (all : List Act). reverse (act_rows (start_of problem) all)) (sym (append-nil (acts_back game)))
     ∙ rows_forward (start_of problem) [] game.acts.items
@@ -175,7 +175,7 @@ pub record Walks (start : Start) (acts : List Act) (play : PlaySoFar) (found : L
   pub found_is : lists_of found ≡ reverse (act_reasons start before)
 
 -- a report that is returned is that of the game
-reported : (problem : Setup) (game : Game) (report : Report) → replay_result problem game ≡ Ok report → report_of problem game ≡ report
+pub reported : (problem : Setup) (game : Game) (report : Report) → replay_result problem game ≡ Ok report → report_of problem game ≡ report
 reported problem game report e = value_of (game_fault problem game) (report_of problem game) e
   where
     value_of : (fault : Option GameFault) (value : Report) → ◌≡◌ {A = Result Report GameFault} (unless_fault fault value) (Ok report) → value ≡ report

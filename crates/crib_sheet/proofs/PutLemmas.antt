@@ -14,7 +14,7 @@ use Rattle.crib_sheet.specs.PlanText.{indent}
 use Rattle.crib_sheet.specs.Private.Puts.{TakesAll, FailsWithin, Puts, PutsFront}
 
 -- a proper beginning of some bytes is one of them and more
-fails_sooner : (a b : List ℕ) (s t : Option (List ℕ)) (n m : ℕ) → FailsWithin a s t n m → FailsWithin (a ++ b) s t n m
+pub fails_sooner : (a b : List ℕ) (s t : Option (List ℕ)) (n m : ℕ) → FailsWithin a s t n m → FailsWithin (a ++ b) s t n m
 fails_sooner a b s t n m fails =
     let less = fails.less in
     record {
@@ -24,7 +24,7 @@ fails_sooner a b s t n m fails =
       failed = fails.failed;
     }
 
-fails_later : (a b : List ℕ) (s t u : Option (List ℕ)) (n m k : ℕ) → TakesAll a s t n m → FailsWithin b t u m k → FailsWithin (a ++ b) s u n k
+pub fails_later : (a b : List ℕ) (s t u : Option (List ℕ)) (n m k : ℕ) → TakesAll a s t n m → FailsWithin b t u m k → FailsWithin (a ++ b) s u n k
 fails_later a b s t u n m k takes fails =
     let less = fails.less in
     record {
@@ -34,7 +34,7 @@ fails_later a b s t u n m k takes fails =
       failed = λ small. let more = fails.failed small in let before = takes.counted (omega arith) in omega arith;
     }
 
-takes_both : (a b : List ℕ) (s t u : Option (List ℕ)) (n m k : ℕ) → TakesAll a s t n m → TakesAll b t u m k → TakesAll (a ++ b) s u n k
+pub takes_both : (a b : List ℕ) (s t u : Option (List ℕ)) (n m k : ℕ) → TakesAll a s t n m → TakesAll b t u m k → TakesAll (a ++ b) s u n k
 takes_both a b s t u n m k first next = record {
   whole = Appends-trans s t u _ _ first.whole next.whole;
   counted = λ small. let more = next.counted small in let before = first.counted (omega arith) in omega arith;

@@ -11,10 +11,10 @@ use Rattle.crib_plan.specs.declared.plan.Node.{Node}
 use Rattle.crib_plan.specs.declared.plan.Node.TheVariants.{Play, See}
 use Rattle.crib_plan.specs.Nodes.{IsLater, IsNode, ArePlan}
 use Rattle.crib_plan.specs.Spelling.{leads_to}
-use Rattle.crib_sheet.specs.PlanSheet.{Paragraph, Named, lines_to, rows_from}
+use Rattle.crib_sheet.specs.PlanSheet.{Paragraph, Named, lines_to, rows_from, Over}
 use Rattle.crib_sheet.specs.PlanOutline.{apart_in}
 use Rattle.crib_sheet.specs.PlanText.{row_text, lines_text, before_rest, indent, label, label_column, label_width, paragraph_text}
-use Rattle.crib_sheet.specs.PlanPage.{none_needed}
+use Rattle.crib_sheet.specs.PlanPage.{end_of_row, legend_text, no_card}
 use Rattle.crib_sheet.specs.Private.Pages.{first_text, IsDeep, place_row, node_row, lines_at, line_front, width_at, new_node, numbered_text, paragraphs_text}
 use Rattle.crib_sheet.proofs.Labels.{branches_past}
 use Rattle.crib_sheet.proofs.PlanRows.{place_end, place_apart, place_node, node_play, node_see, node_at, no_line, new_line, lines_end_at, room}
@@ -142,32 +142,40 @@ numbered_is flags plan node = simp append_assoc
 
 -- ---- the first row
 
-pub first_of_none : (flags : List Bool) (plan : List Node) → length plan ≡ 0 → codes "No card is needed.\n" ≡ first_text flags plan
+pub first_of_none : (sure : Bool) (flags : List Bool) (plan : List Node) → length plan ≡ 0 →
+    no_card sure Over ++ codes "\n" ≡ first_text sure flags plan
 unfolding first_text place_row
-first_of_none flags [] empty = refl
-first_of_none flags (node ∷ plan) empty = absurd (omega arith)
+first_of_none sure flags [] empty = refl
+first_of_none sure flags (node ∷ plan) empty = absurd (omega arith)
 
 -- a node's row is more than nothing
-node_needed : (flags : List Bool) (plan : List Node) → ArePlan plan → 0 < length plan → (node : Node) → get_or plan 0 (Play 0 End) ≡ node →
-    none_needed (node_row flags plan 0) ≡ []
-node_needed flags plan are some (Play card next) is = ap none_needed (node_play flags plan 0 card next (Play 0 End) are some is)
-node_needed flags plan are some (See branches) is = ap none_needed (node_see flags plan 0 branches (Play 0 End) are some is)
+node_needed : (sure : Bool) (flags : List Bool) (plan : List Node) → ArePlan plan → 0 < length plan → (node : Node) → get_or plan 0 (Play 0 End) ≡ node →
+    no_card sure (node_row flags plan 0) ≡ []
+node_needed sure flags plan are some (Play card next) is = ap (no_card sure) (node_play flags plan 0 card next (Play 0 End) are some is)
+node_needed sure flags plan are some (See branches) is = ap (no_card sure) (node_see flags plan 0 branches (Play 0 End) are some is)
 
-some_needed : (flags : List Bool) (plan : List Node) → ArePlan plan → 0 < length plan → none_needed (place_row flags plan (To 0)) ≡ []
-some_needed flags plan are some =
+some_needed : (sure : Bool) (flags : List Bool) (plan : List Node) → ArePlan plan → 0 < length plan → no_card sure (place_row flags plan (To 0)) ≡ []
+some_needed sure flags plan are some =
     elim (cases_Bool (apart_in flags 0)) [
-      | inl e ↦ ap none_needed (place_apart flags plan 0 e)
-      | inr e ↦ ap none_needed (place_node flags plan 0 e) ∙ node_needed flags plan are some (get_or plan 0 (Play 0 End)) refl
+      | inl e ↦ ap (no_card sure) (place_apart flags plan 0 e)
+      | inr e ↦ ap (no_card sure) (place_node flags plan 0 e) ∙ node_needed sure flags plan are some (get_or plan 0 (Play 0 End)) refl
     ]
 
-pub first_of_some : (flags : List Bool) (plan : List Node) → ArePlan plan → 0 < length plan →
-    row_text 0 (place_row flags plan (To 0)) ≡ first_text flags plan
+pub first_of_some : (sure : Bool) (flags : List Bool) (plan : List Node) → ArePlan plan → 0 < length plan →
+    row_text 0 (place_row flags plan (To 0)) ≡ first_text sure flags plan
 unfolding first_text
-first_of_some flags [] are some = absurd (omega arith)
-first_of_some flags (node ∷ plan) are some =
-    ap (λ (none : List ℕ). none ++ row_text 0 (place_row flags (node ∷ plan) (To 0))) (sym (some_needed flags (node ∷ plan) are some))
+first_of_some sure flags [] are some = absurd (omega arith)
+first_of_some sure flags (node ∷ plan) are some =
+    ap (λ (none : List ℕ). none ++ row_text 0 (place_row flags (node ∷ plan) (To 0))) (sym (some_needed sure flags (node ∷ plan) are some))
 
 -- ---- the pieces of a line, of a name and of a look
+
+pub legend_is : (sure : Bool) →
+    codes "\nPlay a row in order, one card at each of your turns. If none of your cards\nfits, say go and stay there. At \"look\", go on in the line of "
+    ++ codes "what they show\nnext: a rank, or a go, even after yours. At \"see [n]\", go on in paragraph [n].\n" ++ end_of_row sure
+    ≡ legend_text sure
+unfolding legend_text
+legend_is sure = refl
 
 pub front_is : (level width : ℕ) (set : List Bool) → indent level ++ (label_column width set ++ codes " : ") ≡ line_front level width set
 unfolding line_front

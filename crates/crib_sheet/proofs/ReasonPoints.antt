@@ -10,11 +10,11 @@ use Rattle.crib_cards.specs.declared.letters.Letter.{Letter}
 use Rattle.crib_cards.specs.declared.letters.Letter.TheVariants as letter
 use Rattle.crib_play.specs.Record.{Record, cards_in, count_of, pile_of, closes}
 use Rattle.crib_play.specs.Points.{count_points, alike_points, are_alike, card_points, last_card_points, last_cards, most_last_cards, play_points}
-use Rattle.crib_play.specs.Points.{points_in, turn_points}
+use Rattle.crib_play.specs.Points.{turn_points}
 use Rattle.crib_sheet.specs.declared.game.reason.PlayReason.{PlayReason}
 use Rattle.crib_sheet.specs.declared.game.reason.PlayReason.TheVariants.{Fifteen, ThirtyOne, Alike, Run, Go, LastCard}
 use Rattle.crib_sheet.specs.GamePlay.{alike_reasons, card_reasons, count_reasons, last_card_reasons, pile_reasons_at, reason_if, reason_points}
-use Rattle.crib_sheet.specs.GamePlay.{reasons_in, reasons_points, run_reasons, turn_reasons}
+use Rattle.crib_sheet.specs.GamePlay.{reasons_points, run_reasons, turn_reasons}
 
 pub points_if : (holds : Bool) (reason : PlayReason) → reasons_points (reason_if holds reason) ≡ cond holds (reason_points reason) 0
 points_if true reason = omega arith
@@ -90,8 +90,3 @@ points_of_card before pile =
 pub points_of_turn : (turn : Letter) (past : Record) → reasons_points (turn_reasons turn past) ≡ turn_points turn past
 points_of_turn (letter.Seen rank) past = points_of_card (length (cards_in past)) (pile_of past ++ rank ∷ [])
 points_of_turn letter.Go past = points_if (closes letter.Go past) Go
-
-pub points_of_record : (past : Record) → reasons_points (reasons_in past) ≡ points_in past
-points_of_record [] = refl
-points_of_record (turn ∷ past) =
-    omega (arith, points_append (reasons_in past) (turn_reasons turn past), points_of_turn turn past, points_of_record past)

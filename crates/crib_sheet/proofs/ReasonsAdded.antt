@@ -1,8 +1,8 @@
 -- The reasons that a visible turn adds: its own, and the go of a close that the silent gos after it bring.
-use Rattle.std.proofs.Common.{◌≡◌, ℕ, zero, suc, ◌+◌, Bool, true, false, cond, List, [], ◌∷◌, ◌++◌, length, map, drop, reverse}
+use Rattle.std.proofs.Common.{◌≡◌, ℕ, zero, suc, ◌+◌, Bool, true, false, cond, ◌&&◌, ◌||◌, List, [], ◌∷◌, ◌++◌, map, reverse}
 use Rattle.std.proofs.Common.{refl, sym, ap, subst, ◌∙◌, inl, inr, arith}
 use Rattle.std.proofs.lemmas.Bool.{cases_Bool, false≢true}
-use Rattle.std.proofs.lemmas.List.{append-nil, append_assoc, drop_at, map-append, reverse-append}
+use Rattle.std.proofs.lemmas.List.{append-nil, append_assoc, map-append, reverse-append}
 use Rattle.crib_cards.specs.Letters.{letter_of}
 use Rattle.crib_cards.specs.Start.{Start}
 use Rattle.crib_cards.specs.declared.letters.Letter.{Letter}
@@ -19,7 +19,8 @@ use Rattle.crib_game.specs.declared.replaying.report.Row.{Row}
 use Rattle.crib_game.specs.Replay.{act_rows, acts_back, report_of}
 use Rattle.crib_sheet.specs.declared.game.reason.PlayReason.{PlayReason}
 use Rattle.crib_sheet.specs.declared.game.reason.PlayReason.TheVariants as reason
-use Rattle.crib_sheet.specs.GamePlay.{act_reasons, game_reasons, reason_if, reasons_added, reasons_in, reasons_points, turn_reasons}
+use Rattle.crib_sheet.specs.GameLaws.{ReasonsAddedLaw, reasons_in}
+use Rattle.crib_sheet.specs.GamePlay.{act_reasons, game_reasons, reason_if, reasons_added, reasons_points, silent_gos_close, turn_reasons}
 use Rattle.crib_sheet.proofs.ReasonPoints.{points_append, points_if, points_of_turn}
 
 -- ---- gos after a record
@@ -86,29 +87,31 @@ closing_go past full e gos =
     }
 
 -- gos over an empty pile are no close
-not_closed : (past full : Record) (closed : Bool) → pile_of past ≡ [] → GosAfter past full closed → closed ≡ false
+pub not_closed : (past full : Record) (closed : Bool) → pile_of past ≡ [] → GosAfter past full closed → closed ≡ false
 not_closed past full true empty gos = absurd (false≢true (sym (ap is_begun empty) ∙ gos.begun refl))
 not_closed past full false empty gos = refl
 
-pub gos_after : (n : ℕ) (start : Start) (past : Record) → (closed : Bool) × GosAfter past (with_silent_gos n start past) closed
-gos_after zero start past = (false, no_gos past)
+pub gos_after : (n : ℕ) (start : Start) (past : Record) → GosAfter past (with_silent_gos n start past) (silent_gos_close n start past)
+gos_after zero start past = no_gos past
 gos_after (suc n) start past =
+    let more = with_silent_gos n start (Go ∷ past) in
+    let later = silent_gos_close n start (Go ∷ past) in
     elim (cases_Bool (is_silent_next start past)) [
       | inl silent ↦
-          let more = with_silent_gos n start (Go ∷ past) in
-          let rest = gos_after n start (Go ∷ past) in
-          let all = with_go past more rest.0 rest.1 in
-          (all.0, subst (λ (b : Bool). GosAfter past (cond b more past) all.0) (sym silent) all.1)
-      | inr heard ↦ (false, subst (λ (b : Bool). GosAfter past (cond b (with_silent_gos n start (Go ∷ past)) past) false) (sym heard) (no_gos past))
+          subst (λ (b : Bool). GosAfter past (cond b more past) (b && (closes Go past || later))) (sym silent)
+          (with_go past more later (gos_after n start (Go ∷ past)))
+      | inr heard ↦ subst (λ (b : Bool). GosAfter past (cond b more past) (b && (closes Go past || later))) (sym heard) (no_gos past)
     ]
   where
-    with_go : (before full : Record) (closed : Bool) → GosAfter (Go ∷ before) full closed → (all : Bool) × GosAfter before full all
+    with_go : (before full : Record) (closed : Bool) → GosAfter (Go ∷ before) full closed → GosAfter before full (closes Go before || closed)
     with_go before full closed gos =
         elim (cases_Bool (closes Go before)) [
           | inl e ↦
               let empty : pile_of (Go ∷ before) ≡ [] = pile_after_go before ∙ ap (λ (b : Bool). cond b [] (pile_of before)) e in
-              (true, closing_go before full e (subst (GosAfter (Go ∷ before) full) (not_closed (Go ∷ before) full closed empty gos) gos))
-          | inr e ↦ (closed, open_go before full closed e gos)
+              let none = not_closed (Go ∷ before) full closed empty gos in
+              subst (λ (b : Bool). GosAfter before full (b || closed)) (sym e)
+              (closing_go before full e (subst (GosAfter (Go ∷ before) full) none gos))
+          | inr e ↦ subst (λ (b : Bool). GosAfter before full (b || closed)) (sym e) (open_go before full closed e gos)
         ]
 
 -- ---- one more visible turn
@@ -123,19 +126,16 @@ pub record TurnAdds (start : Start) (turn : Letter) (seen : List Letter) (closed
 pub turn_adds : (start : Start) (turn : Letter) (seen : List Letter) → (closed : Bool) × TurnAdds start turn seen closed
 turn_adds start turn seen =
     let past = filled_record start seen in
-    let gos = gos_after 3 start (turn ∷ past) in
-    let own = turn_reasons turn past in
-    let go = reason_if gos.0 reason.Go in (
-      gos.0,
-      record {
-        reasons = ap (drop (length (reasons_in past))) (gos.1.reasons ∙ append_assoc (reasons_in past) own go)
-            ∙ drop_at (reasons_in past) (own ++ go) (length (reasons_in past)) refl;
-        points = omega (arith, gos.1.points);
-        pile = gos.1.pile;
-        cards = gos.1.cards;
-        begun = gos.1.begun;
-      },
+    let gos = gos_after 3 start (turn ∷ past) in (
+      silent_gos_close 3 start (turn ∷ past),
+      record { reasons = refl; points = omega (arith, gos.points); pile = gos.pile; cards = gos.cards; begun = gos.begun },
     )
+
+pub reasons_added_law : ReasonsAddedLaw
+reasons_added_law start turn seen =
+    let past = filled_record start seen in
+    let closed = silent_gos_close 3 start (turn ∷ past) in
+    (gos_after 3 start (turn ∷ past)).reasons ∙ append_assoc (reasons_in past) (turn_reasons turn past) (reason_if closed reason.Go)
 
 -- the points of the reasons that a visible turn adds are those that it adds
 pub points_of_added : (start : Start) (turn : Letter) (seen : List Letter) → reasons_points (reasons_added start turn seen) ≡ points_added start turn seen

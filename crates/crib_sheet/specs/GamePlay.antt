@@ -1,6 +1,6 @@
 -- What the acts of the play count points for, from the rules of the play.
-use Rattle.std.specs.Prelude.{ℕ, ◌==◌, nat_le, Bool, true, false, not, ◌&&◌, List, [], ◌∷◌, ◌++◌, length, drop, reverse}
-use Rattle.std.specs.Prelude.{sum_by}
+use Rattle.std.specs.Prelude.{ℕ, zero, suc, ◌==◌, nat_le, Bool, true, false, not, ◌&&◌, ◌||◌, List, [], ◌∷◌, ◌++◌}
+use Rattle.std.specs.Prelude.{length, reverse, sum_by}
 use Rattle.crib_cards.specs.Letters.{letter_of}
 use Rattle.crib_cards.specs.Start.{Start}
 use Rattle.crib_cards.specs.Runs.{is_run}
@@ -9,7 +9,7 @@ use Rattle.crib_cards.specs.declared.letters.Letter.TheVariants as letter
 use Rattle.crib_cards.specs.declared.moves.Act.{Act}
 use Rattle.crib_play.specs.Record.{Record, cards_in, count_of, pile_of, closes}
 use Rattle.crib_play.specs.Points.{most_last_cards, are_alike, alike_points}
-use Rattle.crib_play.specs.Filled.{filled_record}
+use Rattle.crib_play.specs.Filled.{filled_record, is_silent_next}
 use Rattle.crib_play.specs.Legal.{letters_of}
 use Rattle.crib_play.specs.History.{moves_of}
 use Rattle.crib_problem.specs.Setup.{Setup, start_of}
@@ -73,15 +73,17 @@ abbrev pub turn_reasons : Letter → Record → List PlayReason
 turn_reasons (letter.Seen rank) past = card_reasons (length (cards_in past)) (pile_of past ++ rank ∷ [])
 turn_reasons letter.Go past = reason_if (closes letter.Go past) Go
 
--- why the turns of a record count points, in the order of play
-abbrev pub reasons_in : Record → List PlayReason
-reasons_in [] = []
-reasons_in (turn ∷ past) = reasons_in past ++ turn_reasons turn past
+-- whether one of the silent gos after a record, up to a given number of them, closes the pile
+abbrev pub silent_gos_close : ℕ → Start → Record → Bool
+silent_gos_close zero start past = false
+silent_gos_close (suc more) start past =
+    is_silent_next start past && (closes letter.Go past || silent_gos_close more start (letter.Go ∷ past))
 
--- why one more visible turn counts points, with the silent gos after it
+-- why one more visible turn counts points: its own reasons, and then the go, if a silent go after it closes the pile
 abbrev pub reasons_added : Start → Letter → List Letter → List PlayReason
 reasons_added start turn seen =
-    drop (length (reasons_in (filled_record start seen))) (reasons_in (filled_record start (turn ∷ seen)))
+    turn_reasons turn (filled_record start seen)
+    ++ reason_if (silent_gos_close 3 start (turn ∷ filled_record start seen)) Go
 
 -- why each of some acts counts points. Both lists have the last one first
 abbrev pub act_reasons : Start → List Act → List (List PlayReason)

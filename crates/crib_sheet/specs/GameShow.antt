@@ -40,9 +40,9 @@ unfoldable pub combinations_of : Kind → List ℕ → List Combination
 combinations_of kind all =
     map (combination kind) (filter (λ cards. counts_as kind (map rank_of all) (map rank_of cards)) (choices all))
 
--- the fifteens, runs and pairs among some cards. A hand and a crib have the same
+-- the fifteens, pairs and runs among some cards. A hand and a crib have the same
 abbrev pub plain_combinations : List ℕ → List Combination
-plain_combinations all = combinations_of Fifteen all ++ combinations_of Run all ++ combinations_of Pair all
+plain_combinations all = combinations_of Fifteen all ++ combinations_of Pair all ++ combinations_of Run all
 
 -- the flush in a hand: all five cards if they are of one suit, and otherwise the four in the hand if these are
 abbrev pub flush_in_hand : List ℕ → ℕ → List Combination
@@ -63,7 +63,7 @@ jack_among (card ∷ cards) starter =
     if (rank_of card == jack) && (suit_of card == suit_of starter) then combination Jack (card ∷ []) ∷ []
     else jack_among cards starter
 
--- what is counted in a hand: fifteens, runs, pairs, the flush and the jack
+-- what is counted in a hand: fifteens, pairs, runs, the flush and the jack
 unfoldable pub hand_combinations : List ℕ → ℕ → List Combination
 hand_combinations cards starter =
     plain_combinations (cards ++ starter ∷ []) ++ flush_in_hand cards starter ++ jack_among cards starter

@@ -2,7 +2,6 @@
 -- in them, and the outcome.
 use Rattle.std.specs.Prelude.{ℕ, zero, suc, ◌+◌, ◌==◌, Bool, List, [], ◌∷◌, ◌++◌, length, flat_map}
 use Rattle.std.specs.Prelude.{take, Option, Some, None, Result, Ok, Err, codes, decimal, if◌then◌else◌}
-use Rattle.crib_cards.specs.CardText.{card_text}
 use Rattle.crib_cards.specs.declared.moves.Move.{Move}
 use Rattle.crib_cards.specs.declared.moves.Move.TheVariants as move
 use Rattle.crib_cards.specs.declared.sides.Dealt.{Dealt}
@@ -10,6 +9,7 @@ use Rattle.crib_cards.specs.declared.sides.Side.{Side}
 use Rattle.crib_cards.specs.declared.sides.Side.TheVariants.{Opponent}
 use Rattle.crib_cards.specs.declared.sides.Scores.{Scores}
 use Rattle.crib_cards.specs.Start.{pone_of, hand_of}
+use Rattle.crib_show.specs.Words.{show_word}
 use Rattle.crib_show.specs.declared.show.outcomes.Outcome.{Outcome}
 use Rattle.crib_show.specs.declared.show.outcomes.Outcome.TheVariants.{Reached, Lost, Short}
 use Rattle.crib_show.specs.declared.show.outcomes.ShowRow.{ShowRow}
@@ -30,7 +30,7 @@ use Rattle.crib_sheet.specs.declared.game.reason.PlayReason.{PlayReason}
 use Rattle.crib_sheet.specs.declared.game.reason.PlayReason.TheVariants.{Fifteen, ThirtyOne, Alike, Run, Go, LastCard}
 use Rattle.crib_sheet.specs.GamePlay.{reason_points, game_reasons}
 use Rattle.crib_sheet.specs.GameShow.{points_of, hand_combinations, crib_combinations}
-use Rattle.crib_sheet.specs.Heading.{role_word, spaced_cards, how_many, heading_text}
+use Rattle.crib_sheet.specs.Heading.{role_word, spaced_card, spaced_cards, how_many, heading_text}
 
 -- ---- reasons
 
@@ -131,10 +131,6 @@ abbrev pub combination_lines : List Combination → List ℕ
 combination_lines [] = codes "  nothing counts\n"
 combination_lines (made ∷ others) = flat_map combination_line (made ∷ others)
 
--- what is counted: a hand or the crib
-abbrev pub counted_word : Bool → List ℕ
-counted_word crib = if crib then codes "crib" else codes "hand"
-
 -- the cards of a hand or of the crib
 abbrev pub counted_cards : Setup → Dealt → ShowRow → List ℕ
 counted_cards problem dealt row =
@@ -149,8 +145,8 @@ counted_combinations problem dealt row =
 -- a counted hand or the crib: its side, its cards, and the starter
 unfoldable pub counted_name : Setup → List ℕ → ShowRow → List ℕ
 counted_name problem cards row =
-    codes "\nThe " ++ role_word problem.dealer row.side ++ codes "'s " ++ counted_word row.crib ++ codes ":"
-    ++ spaced_cards cards ++ codes " with " ++ card_text problem.starter
+    codes "\nThe " ++ role_word problem.dealer row.side ++ codes "'s " ++ show_word row.crib ++ codes ":"
+    ++ spaced_cards cards ++ codes " with" ++ spaced_card problem.starter
 
 -- the points of a counted hand or of the crib, and both scores after it
 unfoldable pub counted_points : ShowRow → List ℕ
@@ -167,36 +163,28 @@ counted_text problem dealt row =
 -- ---- the sheet
 
 -- the line of the opponent's cards
-unfoldable pub dealt_line : Setup → Dealt → List ℕ
-dealt_line problem dealt =
-    codes "The " ++ role_word problem.dealer Opponent ++ codes " holds" ++ spaced_cards dealt.hold
+unfoldable pub dealt_line : Side → Dealt → List ℕ
+dealt_line dealer dealt =
+    codes "The " ++ role_word dealer Opponent ++ codes " holds" ++ spaced_cards dealt.hold
     ++ codes " and threw" ++ spaced_cards dealt.throw ++ codes ".\n"
 
--- that the owner keeps the opponent from winning
-unfoldable pub kept_words : Side → List ℕ
-kept_words dealer = codes "you keep the " ++ role_word dealer Opponent ++ codes " from winning"
+-- what the owner did who reached a goal, after an empty line. A goal of holes may be reached before the deal is over
+abbrev pub reached_line : Side → Goal → List ℕ
+reached_line dealer Win = codes "\nThe deal is over: you win.\n"
+reached_line dealer (Holes holes) = codes "\nYou have reached your goal; the deal isn't counted further.\n"
+reached_line dealer Stop =
+    codes "\nThe deal is over: you keep the " ++ role_word dealer Opponent ++ codes " from winning.\n"
 
--- what the owner did who reached a goal
-abbrev pub reached_words : Side → Goal → List ℕ
-reached_words dealer Win = codes "you win"
-reached_words dealer (Holes holes) = codes "you reach your goal"
-reached_words dealer Stop = kept_words dealer
+-- how the deal ended for an owner with this goal, after an empty line
+abbrev pub over_text : Side → Goal → Outcome → List ℕ
+over_text dealer goal Reached = reached_line dealer goal
+over_text dealer goal Lost = codes "\nThe deal is over: the " ++ role_word dealer Opponent ++ codes " wins.\n"
+over_text dealer goal Short = codes "\nThe deal is over: you fall short of your goal.\n"
 
--- how a deal of this dealer ended, for an owner with this goal
-abbrev pub ending_words : Side → Goal → Outcome → List ℕ
-ending_words dealer goal Reached = reached_words dealer goal
-ending_words dealer goal Lost = codes "the " ++ role_word dealer Opponent ++ codes " wins"
-ending_words dealer goal Short = codes "you fall short of your goal"
-
--- the line of the outcome of a deal that is done, after an empty line
-unfoldable pub over_text : Setup → Outcome → List ℕ
-over_text problem outcome =
-    codes "\nThe deal is over: " ++ ending_words problem.dealer problem.goal outcome ++ codes ".\n"
-
--- the line of the outcome, if the deal is done, after an empty line
-abbrev pub outcome_text : Setup → Option Outcome → List ℕ
-outcome_text problem None = codes "\nThe deal isn't over yet.\n"
-outcome_text problem (Some outcome) = over_text problem outcome
+-- how the deal ended, or that it isn't over yet, after an empty line
+abbrev pub outcome_text : Side → Goal → Option Outcome → List ℕ
+outcome_text dealer goal None = codes "\nThe deal isn't over yet.\n"
+outcome_text dealer goal (Some outcome) = over_text dealer goal outcome
 
 -- the heading of the columns of acts, after an empty line
 abbrev pub columns_line : List ℕ
@@ -205,8 +193,9 @@ columns_line = codes "\n # side   card count you they  points\n"
 -- the sheet of a game with this report and these reasons of its acts
 unfoldable pub sheet_of : Setup → Dealt → Report → List (List PlayReason) → List ℕ
 sheet_of problem dealt report reasons =
-    heading_text problem ++ dealt_line problem dealt ++ columns_line ++ rows_text problem report reasons
-    ++ flat_map (counted_text problem dealt) report.show.items ++ outcome_text problem report.over
+    heading_text problem ++ dealt_line problem.dealer dealt ++ columns_line ++ rows_text problem report reasons
+    ++ flat_map (counted_text problem dealt) report.show.items
+    ++ outcome_text problem.dealer problem.goal report.over
 
 -- the sheet of a replay: that of its report, or its refusal
 abbrev pub sheet_for : Setup → Game → Result Report GameFault → Result (List ℕ) GameFault
@@ -216,32 +205,3 @@ sheet_for problem game (Err fault) = Err fault
 -- the sheet of a game, or the refusal of its replay
 abbrev pub game_sheet_text : Setup → Game → Result (List ℕ) GameFault
 game_sheet_text problem game = sheet_for problem game (replay_result problem game)
-
--- ---- the acts of a refused game
-
--- the game with its first acts alone
-abbrev pub beginning : Game → ℕ → Game
-beginning game acts = record game { acts = record { items = take acts game.acts.items } }
-
--- the lines of a game's acts, if it is accepted
-abbrev pub lines_if_accepted : Setup → Game → Result Report GameFault → Option (List ℕ)
-lines_if_accepted problem game (Ok report) = Some (rows_text problem report (game_reasons problem game))
-lines_if_accepted problem game (Err fault) = None
-
--- the first of two texts that there is, or nothing
-abbrev pub text_or : Option (List ℕ) → List ℕ → List ℕ
-text_or (Some text) other = text
-text_or None other = other
-
--- the lines of the longest accepted beginning of a game with at most this many acts, or nothing if there is none
-unfoldable pub accepted_text : Setup → Game → ℕ → List ℕ
-accepted_text problem game zero =
-    text_or (lines_if_accepted problem (beginning game 0) (replay_result problem (beginning game 0))) []
-accepted_text problem game (suc acts) =
-    text_or
-    (lines_if_accepted problem (beginning game (suc acts)) (replay_result problem (beginning game (suc acts))))
-    (accepted_text problem game acts)
-
--- the lines of the acts of the longest accepted beginning of a game
-abbrev pub accepted_acts_text : Setup → Game → List ℕ
-accepted_acts_text problem game = accepted_text problem game (length game.acts.items)

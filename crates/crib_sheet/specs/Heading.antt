@@ -21,10 +21,6 @@ spaced_card card = space ∷ card_text card
 abbrev pub spaced_cards : List ℕ → List ℕ
 spaced_cards cards = flat_map spaced_card cards
 
--- the owner's part in a deal of this dealer, and score
-unfoldable pub own_score : Side → ℕ → List ℕ
-own_score dealer score = codes "You are the " ++ role_word dealer Owner ++ codes " at " ++ decimal score
-
 -- the opponent's part in a deal of this dealer, and score
 unfoldable pub other_score : Side → ℕ → List ℕ
 other_score dealer score =
@@ -33,8 +29,9 @@ other_score dealer score =
 -- the line of both scores at the first lead, and of the starter
 unfoldable pub scores_line : Setup → List ℕ
 scores_line problem =
-    own_score problem.dealer problem.scores.owner ++ other_score problem.dealer problem.scores.opponent
-    ++ codes ". The starter is " ++ card_text problem.starter ++ codes ".\n"
+    codes "You are the " ++ role_word problem.dealer Owner ++ codes " at " ++ decimal problem.scores.owner
+    ++ other_score problem.dealer problem.scores.opponent ++ codes ". The starter is" ++ spaced_card problem.starter
+    ++ codes ".\n"
 
 -- the line of the owner's cards
 unfoldable pub own_line : Setup → List ℕ
@@ -52,20 +49,21 @@ goal_words dealer (Holes holes) = how_many holes (codes "hole") ++ codes " or mo
 goal_words dealer Stop = codes "to keep the " ++ role_word dealer Opponent ++ codes " from winning in this deal"
 
 -- the line of the goal
-unfoldable pub goal_line : Setup → List ℕ
-goal_line problem = codes "You want " ++ goal_words problem.dealer problem.goal ++ codes ".\n"
+unfoldable pub goal_line : Side → Goal → List ℕ
+goal_line dealer goal = codes "You want " ++ goal_words dealer goal ++ codes ".\n"
 
 -- the line of an opening with this many turns. An opening without a turn has none
 unfoldable pub opening_line : ℕ → List ℕ
 opening_line turns =
     if turns == 0 then []
-    else if turns == 1 then codes "The first turn was played already. The scores are those before it.\n"
+    else if turns == 1 then codes "The first turn was played. Scores and cards are those before it.\n"
     else
     codes "The first " ++ decimal turns
-    ++ codes " turns were played already. The scores are those before them.\n"
+    ++ codes " turns were played. Scores and cards are those before them.\n"
 
 -- the heading of a sheet: whose deal it is, the scores at the first lead, the starter, the owner's cards and goal, and
 -- how much was played already
 unfoldable pub heading_text : Setup → List ℕ
 heading_text problem =
-    scores_line problem ++ own_line problem ++ goal_line problem ++ opening_line (length problem.played)
+    scores_line problem ++ own_line problem ++ goal_line problem.dealer problem.goal
+    ++ opening_line (length problem.played)

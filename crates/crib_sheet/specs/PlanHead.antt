@@ -5,13 +5,17 @@ use Rattle.crib_cards.specs.declared.sides.Side.{Side}
 use Rattle.crib_text.specs.Spelling.{line_feed}
 use Rattle.crib_problem.specs.Setup.{Setup}
 use Rattle.crib_problem.specs.Spelling.{move_word}
+use Rattle.crib_plan.specs.declared.plan.Node.{Node}
 use Rattle.crib_game.specs.declared.fault.GameFault.{GameFault}
 use Rattle.crib_game.specs.declared.following.ending.Ending.{Ending}
+use Rattle.crib_game.specs.declared.section.game.Game.{Game}
 use Rattle.crib_game.specs.declared.following.ending.Ending.TheVariants.{Open, Stuck, Lost, Short, Reached}
 use Rattle.crib_check.specs.declared.verdict.Verdict.{Verdict}
 use Rattle.crib_check.specs.declared.verdict.Verdict.TheVariants.{Holds, Fails}
 use Rattle.crib_sheet.specs.GameText.{game_sheet_text}
 use Rattle.crib_sheet.specs.Heading.{role_word, heading_text}
+use Rattle.crib_sheet.specs.PlanNow.{now_text}
+use Rattle.crib_sheet.specs.PlanStuck.{stuck_text}
 
 -- the line of a turn of the opening: `  pone 8D`
 unfoldable pub turn_line : Side → Act → List ℕ
@@ -38,8 +42,26 @@ abbrev pub game_lines : Result (List ℕ) GameFault → List ℕ
 game_lines (Ok sheet) = line_feed ∷ sheet
 game_lines (Err fault) = []
 
--- the head of a plan's sheet. A plan that is not sure says so first, with the sheet of the first game in which it fails
-unfoldable pub head_text : Setup → Verdict → List ℕ
-head_text problem Holds = heading_text problem ++ turn_lines problem.dealer problem.played ++ sure_line
-head_text problem (Fails ending game) =
-    failing_line ending ++ game_lines (game_sheet_text problem game) ++ codes "\nThe plan:\n\n"
+-- why a plan is stuck after a game that ends so, after an empty line
+abbrev pub why_text : Setup → List Node → Ending → Game → List ℕ
+why_text problem plan Open game = []
+why_text problem plan Stuck game = line_feed ∷ stuck_text problem plan game.acts.items
+why_text problem plan Lost game = []
+why_text problem plan Short game = []
+why_text problem plan Reached game = []
+
+-- the head of the sheet of a plan that is sure: the position at the first lead and now
+unfoldable pub sure_text : Setup → List ℕ
+sure_text problem =
+    heading_text problem ++ turn_lines problem.dealer problem.played ++ now_text problem ++ sure_line
+
+-- the head of the sheet of a plan that is not sure: the first game in which it fails, and why it is stuck there
+unfoldable pub failing_text : Setup → List Node → Ending → Game → List ℕ
+failing_text problem plan ending game =
+    failing_line ending ++ game_lines (game_sheet_text problem game) ++ why_text problem plan ending game
+    ++ codes "\nThe plan:\n\n"
+
+-- the head of a plan's sheet, by the verdict on the plan
+abbrev pub head_text : Setup → List Node → Verdict → List ℕ
+head_text problem plan Holds = sure_text problem
+head_text problem plan (Fails ending game) = failing_text problem plan ending game

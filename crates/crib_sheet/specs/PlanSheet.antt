@@ -1,4 +1,4 @@
--- The sheet of a plan: paragraphs of lines that tell the owner what to play.
+-- The sheet of a plan: paragraphs of lines that show the owner what to play.
 use Rattle.std.specs.Prelude.{ℕ, ◌+◌, ◌==◌, Bool, false, List, [], ◌∷◌, map, filter, slice_get, take}
 use Rattle.std.specs.Prelude.{Option, Some, None, unwrap_or, if◌then◌else◌}
 use Rattle.std.specs.List.{list_any}
@@ -104,7 +104,7 @@ row_to apart later End = Over
 row_to apart later (To node) = if apart node then Named node else row_named later node
 
 -- the lines of a see node, one for each node that a letter leads to, in the order of their first letters. `from` is the
--- place of the first letter that is still to come
+-- place of the first letter that is still ahead
 abbrev pub lines_to : (ℕ → Bool) → List Paragraph → List Next → ℕ → List Next → Lines
 lines_to apart later all from [] = NoLine
 lines_to apart later all from (End ∷ branches) = lines_to apart later all (from + 1) branches

@@ -53,7 +53,7 @@ label_column width set = label set ++ replicate (width - length (label set)) spa
 abbrev pub indent : ℕ → List ℕ
 indent level = replicate (4 * level) space
 
--- what stands between a card and the rest of its row
+-- what is between a card and the rest of its row
 abbrev pub before_rest : Row → List ℕ
 before_rest Over = []
 before_rest (Plays card row) = space ∷ []

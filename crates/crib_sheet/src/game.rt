@@ -1,5 +1,6 @@
 //! The sheet of a game: what each point is for.
 mod acts;
+mod before;
 mod combination;
 mod counted;
 mod laws;
@@ -8,9 +9,11 @@ mod reasons;
 mod shows;
 mod text;
 
+pub(crate) use before::put_acts_before;
 pub use combination::{Combination, Kind};
-pub use laws::combination_law;
+pub use laws::{combination_law, game_sheet_law, points_law};
 pub use reason::PlayReason;
 pub use reasons::{PlayReasons, reasons_of};
 pub use shows::{Combinations, crib_combinations, hand_combinations};
-pub use text::{write_acts, write_game_sheet};
+pub(crate) use text::put_sheet;
+pub use text::send_game_sheet;

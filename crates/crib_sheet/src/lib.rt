@@ -1,17 +1,19 @@
-//! Sheets: a plan in words, and a game with the reasons of its points, for a person to read.
+//! Sheets: a plan in words, and a game with the reasons of its points, for a person to read, and the answers that
+//! are sheets.
 #![tactic(auto)]
 
+mod answer;
 mod game;
 mod heading;
+mod page;
 mod plan;
 
+pub use answer::{GameSheet, NAMES, PlanSheet, Sheet, SheetAsked, SheetJob, sheet_of};
 pub use game::{
     Combination, Combinations, Kind, PlayReason, PlayReasons, combination_law, crib_combinations,
-    hand_combinations, reasons_of, write_acts, write_game_sheet,
+    game_sheet_law, hand_combinations, points_law, reasons_of, send_game_sheet,
 };
-pub use plan::{
-    Outline, plan_head, plan_size_law, send_plan_sheet, sheet_law, sheet_text_law, text_size_law,
-};
+pub use plan::{Outline, play_law, send_plan_sheet, sheet_law, sheet_text_law};
 
 #[cfg(test)]
 mod tests;

@@ -2,15 +2,16 @@
 mod head;
 mod labels;
 mod laws;
+mod now;
 mod outline;
 mod page;
 mod pieces;
 mod rows;
 mod spots;
+mod stuck;
 mod ways;
 
-pub use head::plan_head;
-pub use laws::{plan_size_law, sheet_law, sheet_text_law, text_size_law};
+pub use laws::{play_law, sheet_law, sheet_text_law};
 pub use outline::Outline;
 pub use page::send_plan_sheet;
 

@@ -4,8 +4,8 @@ use Rattle.std.specs.Prelude.{◌∷◌}
 use Rattle.crib_cards.specs.Cards.{IsRank, rank_of}
 use Rattle.crib_show.specs.declared.deals.WorstShow.{WorstShow}
 use Rattle.crib_show.specs.Show.{plain_of_ranks}
-use Rattle.crib_show.specs.declared.worst.totals.Sought.{Sought}
-use Rattle.crib_show.specs.Private.Totals.{ranks_give}
+use Rattle.crib_show.specs.declared.worst.totals.Target.{Target}
+use Rattle.crib_show.specs.Private.Totals.{ranks_score}
 use Rattle.crib_show.specs.Private.Extremes.{most_crib_suits, most_suit_points, has_room, no_crib, plain_crib, least_of_ranks}
 
 -- the points of the greatest hand of some ranks
@@ -31,5 +31,5 @@ IsMostBefore worst first second most =
     HoldsBefore (λ p q. IsTrue (has_room worst p q) → plain_crib worst p q + most_crib_suits worst p q ≤ most) first second
 
 -- no pair of ranks that was tried gives enough points
-abbrev pub NoneGiveBefore : WorstShow → Sought → ℕ → ℕ → ℕ → ℕ → Type 0
-NoneGiveBefore worst sought spare enough first second = HoldsBefore (λ p q. IsFalse (ranks_give worst sought spare enough p q)) first second
+abbrev pub NoneScoresBefore : WorstShow → Target → ℕ → ℕ → ℕ → ℕ → Type 0
+NoneScoresBefore worst aim suit_bonus wanted first second = HoldsBefore (λ p q. IsFalse (ranks_score worst aim suit_bonus wanted p q)) first second

@@ -27,7 +27,7 @@ pub record IsWordForm {A : Type 0} (read : List ℕ → Result A ℕ) (word : A 
   pub full : (value : A) → is value → is_word (word value) ≡ true
   pub short : (value : A) → is value → length (word value) ≤ most
 
--- the same of some words. Each takes one byte more, for what stands behind it
+-- the same of some words. Each takes one byte more, for what is behind it
 pub record AreWordsForm {A : Type 0} (read : List (List ℕ) → Result A ℕ) (words : A → List (List ℕ)) (is : A → Type 0) (most : A → ℕ) : Type 0 where
   pub found : (given : List (List ℕ)) (value : A) → read given ≡ Ok value → (given ≡ words value) × is value
   pub spelled : (value : A) → is value → read (words value) ≡ Ok value

@@ -5,8 +5,8 @@ use Rattle.crib_answer.specs.declared.job.Job.{Job}
 use Rattle.crib_answer.specs.declared.job.Job.TheVariants.{Replay, Follow, Check, Solve, Board}
 use Rattle.crib_answer.specs.declared.job.UnknownJob.{UnknownJob}
 use Rattle.crib_answer.specs.Job.{all_jobs, job_names, name_of, job_called}
-use Rattle.crib_words.specs.Command.{AreReadable, is_command}
-use Rattle.crib_words.proofs.NamedCommands.{are_readable}
+use Rattle.crib_command.specs.Command.{AreReadable, is_command}
+use Rattle.crib_command.proofs.NamedCommands.{are_readable}
 
 -- no name of a job is an option, and each of them is read as a job
 pub jobs_readable : (names : List Text) → names ≡ job_names → AreReadable {T = Job} {E = UnknownJob} (λ text r. r ≡ job_called text) names

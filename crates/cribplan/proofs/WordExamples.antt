@@ -4,7 +4,7 @@ use Rattle.std.specs.Str.{chars}
 use Rattle.clap.specs.Walk.{Text}
 use Rattle.clap.specs.declared.error.kind.ErrorKind.TheVariants.{DisplayHelp, InvalidValue}
 use Rattle.crib_answer.specs.declared.job.Job.TheVariants.{Check, Replay}
-use Rattle.crib_words.specs.Command.{refusal_from, without_mark}
+use Rattle.crib_command.specs.Command.{refusal_from, without_mark}
 use Rattle.cribplan.specs.Command.{IsJobWords, words_refusal}
 
 -- a command line: `cribplan`, and then some words

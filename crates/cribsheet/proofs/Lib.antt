@@ -1,5 +1,3 @@
 pub mod JobWords
-pub mod SheetMeanings
-pub mod SentSheets
-pub mod MadeSheets
-mod SheetExamples
+pub mod Runs
+mod WordExamples

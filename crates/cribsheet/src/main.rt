@@ -1,24 +1,28 @@
 //! `cribsheet plan|game` reads standard input to its end, and writes a sheet in words to standard output.
 #![tactic(auto)]
 
-mod beside;
+ghost use Rattle.std.specs.Prelude.{◌≡◌, ◌⊎◌, ◌≤◌, ℕ, List, IfSome, [], length};
+ghost use Rattle.std.specs.Io.KnownBytes.{Appends};
+ghost use Rattle.crib_text.specs.Device.{HasFailed};
+ghost use Rattle.crib_run.specs.Beside.{Explains, input_of};
+ghost use Rattle.crib_run.specs.Run.{Delivers, RunMeans};
+ghost use Rattle.crib_sheet.specs.Acts.{IsSaid};
+ghost use Rattle.crib_sheet.specs.Meaning.{SheetMeans};
+ghost use Rattle.crib_sheet.specs.Sheet.{SheetMakes};
+
 mod command;
-mod game;
-mod job;
-mod parts;
-mod plan;
-mod run;
-mod sending;
 
 use clap::Error;
 use clap::error::ErrorKind;
-use command::{job_of, job_without_words, program};
-use crib_input::Sections;
+use command::program;
+use crib_command::{command_of, command_without_words, show, words_of_args};
+use crib_input::{FaultCause, Reason, Sections};
 pub use crib_run::Status;
-use crib_text::{Counted, TextCause, TextFault};
-use crib_words::{send_unread, show, words_of_args};
-pub use job::SheetJob;
-use run::run_with_words;
+use crib_run::{deliver, deliver_reason, unread_reason};
+pub use crib_sheet::SheetJob;
+use crib_sheet::{SheetAsked, sheet_of};
+use crib_text::{Counted, MAX_INPUT, Sink, Source, read_all};
+use std::alloc::Allocator;
 use std::process::ExitCode;
 use std::rt::Env;
 
@@ -31,14 +35,9 @@ fn main(rt: HostRuntime) -> ExitCode {
             run_with_words(rt.alloc(), job, &mut source, &mut sink, &mut words)
         }
         Err(error) if error.kind() == ErrorKind::OutOfMemory => {
-            let fault = TextFault::of_input(TextCause::NoMemory);
-            send_unread(
-                &mut sink,
-                &mut words,
-                b"cribsheet",
-                Sections::Problem,
-                fault,
-            )
+            let reason = Reason::Fault(FaultCause::NoMemory);
+            let asked = asked(Sections::Problem, b"");
+            deliver_reason(reason, &asked, &mut sink, &mut words)
         }
         Err(error) => show(&rt, &program(), &error),
     };
@@ -48,9 +47,69 @@ fn main(rt: HostRuntime) -> ExitCode {
 // Returns the job that the words of the command line name. It has no contract, as `words_of_args` has none.
 fn job_of_args(rt: &(impl Env + AllocGlobal)) -> Result<SheetJob, Error> {
     match words_of_args(rt) {
-        Ok(words) => job_of(rt.alloc(), words.as_slice()),
-        Err(error) => job_without_words(rt.alloc(), &error),
+        Ok(words) => command_of(rt.alloc(), &program(), words.as_slice()),
+        Err(error) => command_without_words(rt.alloc(), &program(), &error),
     }
+}
+
+/// Does a job: reads the input to its end, writes the sheet and nothing else, and returns the exit status. After that
+/// it writes to a third device why there is no sheet, or that it could not be written (docs/FORMATS.md, "Words on
+/// standard error"). If an act of a game is refused, the acts before it follow. Nothing there changes the sheet or the
+/// status. An input of more than 8,388,608 bytes is refused.
+///
+/// - `answers`: what is written is a right reply of the job to what was read. It is the whole reply, or a proper
+///   beginning of it if the writer failed. If the bytes of the reader are known, these are what was read. `plan` writes
+///   the position and the verdict in words, the sheet of the plan and how to read it, with the status `Yes` if the plan
+///   is sure and `No` if it is not. `game` writes the sheet of the game, with the status `Yes`. Both write the refusal
+///   of the input if it has one, or `fault 11` if an allocation failed.
+/// - `means`: what the status means for the input. If the bytes of the reader are known, these are the input. The
+///   status `Yes` of `plan` means that the plan of the input is sure, and `No` that it is not. The status `Fault` means
+///   that an allocation or a device failed.
+/// - `words`: a refusal or a fault has its message on the third device, whole unless that device fails. After the
+///   refusal of an act are the acts before it, and after no other message.
+/// - `silent`: nothing is written there if the status is `Yes` or `No`.
+pub fn run_with_words<A: Allocator + Copy, S: Source, W: Sink, E: Sink>(
+    alloc: A,
+    job: SheetJob,
+    source: &mut S,
+    sink: &mut W,
+    words: &mut E,
+) -> Status
+    ensures answers { Delivers (SheetMakes job) (S.remaining source.old)
+        (HasFailed (S.faults source.old) (S.faults source.new)) (W.contents sink.old) (W.contents sink.new)
+        (HasFailed (W.faults sink.old) (W.faults sink.new)) result }
+    ensures means { (input : List ℕ) × IfSome (S.remaining source.old) (λ bytes. input ≡ bytes)
+        × RunMeans (SheetMeans job) input (W.contents sink.old) (W.contents sink.new)
+        (HasFailed (S.faults source.old) (S.faults source.new) ⊎ HasFailed (W.faults sink.old) (W.faults sink.new))
+        result }
+    ensures words { (run : Delivers (SheetMakes job) (S.remaining source.old)
+        (HasFailed (S.faults source.old) (S.faults source.new)) (W.contents sink.old) (W.contents sink.new)
+        (HasFailed (W.faults sink.old) (W.faults sink.new)) result)
+        × Explains (IsSaid (input_of run.read)) run.reply result (E.contents words.old) (E.contents words.new)
+        (HasFailed (E.faults words.old) (E.faults words.new)) }
+    ensures silent { (result ≡ Status.Yes) ⊎ (result ≡ Status.No)
+        → Appends (E.contents words.old) (E.contents words.new) [] }
+{
+    let sections = job.sections();
+    match read_all(alloc, source) {
+        Ok(input) => {
+            let input = input.as_slice();
+            let outcome = sheet_of(alloc, job, input);
+            deliver(&outcome, &asked(sections, input), sink, words)
+        }
+        Err(fault) => {
+            let reason = unread_reason(fault);
+            deliver_reason(reason, &asked(sections, b""), sink, words)
+        }
+    }
+}
+
+// What the words beside a sheet are about.
+fn asked(sections: Sections, input: &[u8]) -> SheetAsked<'_>
+    requires { length input.now ≤ MAX_INPUT }
+    ensures { result.input.now ≡ input.now }
+{
+    SheetAsked { sections, input }
 }
 
 #[cfg(test)]

@@ -86,7 +86,7 @@ pub const OUT_OF_TURN: &str = aces!("3C 3D", "2\nown 2C\nown 2H\n");
 /// The opponent pairs an ace, and pegs the two holes that they need to reach 121.
 pub const PAIRED: &str = close!("2\nown AC\nopp AD\n");
 
-/// `PAIRED`, with a third act, which comes too late.
+/// `PAIRED`, with a third act, which is too late.
 pub const PAIRED_AND_LATE: &str = close!("3\nown AC\nopp AD\nown 2C\n");
 
 /// The opponent answers the first two with a king.

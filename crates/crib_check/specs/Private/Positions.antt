@@ -56,12 +56,12 @@ MayTakeAt plan key what = CanDoAt key.know what × IsStatedEvent plan key.place 
 abbrev pub IsStuckAt : List Node → Key → Type 0
 IsStuckAt plan key = IsTrue (is_stuck_at key.know.round key.know.own_left (stated_card plan key.place))
 
--- with the scores of this standing, each deal that agrees with a history has the outcome Reached
+-- with the scores of this state, each deal that agrees with a history has the outcome Reached
 abbrev pub AllReach : Setup → List Event → Standing → Type 0
 AllReach problem history table =
     (dealt : Dealt) → AgreesWith problem history dealt → outcome_of (full_at problem dealt table) ≡ Reached
 
--- with the scores of this standing, the first deal, by its card numbers, that agrees with a history and does not have
+-- with the scores of this state, the first deal, by its card numbers, that agrees with a history and does not have
 -- the outcome Reached
 pub record IsFirstShortfall (problem : Setup) (history : List Event) (table : Standing) (dealt : Dealt) : Type 0 where
   pub agrees : AgreesWith problem history dealt

@@ -286,3 +286,14 @@ fn a_refused_put_leaves_the_keys_as_they_were(rt: HostRuntime) {
     }
     panic!(rt; "more growths than 50")
 }
+
+// The plan takes one allocation. The next one is for the table.
+#[test]
+fn asks_for_memory_for_a_table_of_its_own(rt: HostRuntime) {
+    let problem = problem(&rt, TWELVE);
+    let heap = Refusing::after(rt.alloc(), 1);
+    let plan = read_plan(&heap, &mut lines(&rt, TWOS)).expect(&rt, "a plan");
+    assert!(rt; !heap.has_refused());
+    assert!(rt; verdict_on(&heap, &problem, &plan) == Verdict::Holds);
+    assert!(rt; heap.has_refused());
+}

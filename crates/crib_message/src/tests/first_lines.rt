@@ -4,9 +4,9 @@ use crib_input::Sections;
 
 const LINES: &str = r##"
 > problem one|
-"one" is not a number that may stand here; expected: problem 1 or problem 2. Write a number in digits alone.
+"one" is not a valid number here; expected: problem 1 or problem 2. Write a number in digits alone.
 > problem 1.0|
-"1.0" is not a number that may stand here; expected: problem 1 or problem 2. Write a number in digits alone.
+"1.0" is not a valid number here; expected: problem 1 or problem 2. Write a number in digits alone.
 > Problem: 1|
 "Problem:" is not expected here; expected: problem 1 or problem 2. Write no other sign at the word problem.
 > problem 1 # x|
@@ -64,14 +64,14 @@ The owner is the player whose plan it is, and the opponent is the other one.
 "scores" is not expected here; expected: score and two numbers from 0 to 120, the owner's and the opponent's.
 Did you mean score?
 > score 0 zero|
-"zero" is not a number that may stand here; expected: a number from 0 to 120. Write a number in digits alone.
+"zero" is not a valid number here; expected: a number from 0 to 120. Write a number in digits alone.
 > score 109:110|
 "109:110" is not expected here; expected: score and two numbers from 0 to 120, the owner's and the opponent's.
 Write a blank between two numbers.
 > score 109 - 110|
 "-" is not expected here; expected: score and two numbers from 0 to 120, the owner's and the opponent's
 > score -5 0|
-"-5" is not a number that may stand here; expected: a number from 0 to 120. Write a number without a sign.
+"-5" is not a valid number here; expected: a number from 0 to 120. Write a number without a sign.
 > score 109-110|
 "109-110" is not expected here; expected: score and two numbers from 0 to 120, the owner's and the opponent's.
 Write a blank between two numbers.
@@ -80,19 +80,31 @@ Write a blank between two numbers.
 > score 0 130|
 "130" is above 120; expected: a number from 0 to 120
 > score 060 0|
-"060" is not a number that may stand here; expected: a number from 0 to 120. Write a number without a zero in front.
+"060" is not a valid number here; expected: a number from 0 to 120. Write a number without a zero in front.
 > score +6 0|
-"+6" is not a number that may stand here; expected: a number from 0 to 120. Write a number without a sign.
+"+6" is not a valid number here; expected: a number from 0 to 120. Write a number without a sign.
 > score 6O 0|
-"6O" is not a number that may stand here; expected: a number from 0 to 120. Write 0 and 1 as digits, not as letters.
+"6O" is not a valid number here; expected: a number from 0 to 120. Write 0 and 1 as digits, not as letters.
 > score 99999999999 0|
-"99999999999" is not a number that may stand here; expected: a number from 0 to 120. The greatest number is 4294967295.
+"99999999999" is not a valid number here; expected: a number from 0 to 120. The greatest number is 4294967295.
 > score 60|
 the end of the line is not expected here; expected: score and two numbers from 0 to 120, the owner's and the opponent's
 > score 60 0 0|
 "0" is not expected here; expected: score and two numbers from 0 to 120, the owner's and the opponent's
 > score 60, 0|
-"60," is not a number that may stand here; expected: a number from 0 to 120. Write no other sign at a number.
+"60," is not a valid number here; expected: a number from 0 to 120. Write no other sign at a number.
+> score 1O9 110|
+"1O9" is not a valid number here; expected: a number from 0 to 120. Write 0 and 1 as digits, not as letters.
+> score 109 1I0|
+"1I0" is not a valid number here; expected: a number from 0 to 120. Write 0 and 1 as digits, not as letters.
+> score 109.5 110|
+"109.5" is not a valid number here; expected: a number from 0 to 120. Write a number in digits alone.
+> score 109.5|
+"109.5" is not expected here; expected: score and two numbers from 0 to 120, the owner's and the opponent's.
+Write whole numbers, with a blank between two.
+> score 1o9|
+"1o9" is not expected here; expected: score and two numbers from 0 to 120, the owner's and the opponent's.
+Write 0 and 1 as digits, not as letters.
 # problem 1|dealer owner|score 0 0|
 > starter King of Diamonds|
 "King" is not expected here; expected: starter and a card. Write a card as two letters, its rank and its suit: TS.

@@ -49,7 +49,7 @@ an empty line is after the last section; expected: the end of the input. Remove 
 > acts 2|own 2C|opp 7C
 the last line is cut short; expected: LF at its end. Every line ends with LF, the last one too: press Enter behind it.
 > acts two|
-"two" is not a number that may stand here; expected: a number from 0 to 32. Write a number in digits alone.
+"two" is not a valid number here; expected: a number from 0 to 32. Write a number in digits alone.
 > acts 1|own 2C|opp 7C|
 "opp" is after the last section; expected: the end of the input.
 Line 11 says acts 1, but the number of lines for it is 2.
@@ -64,6 +64,16 @@ Line 11 says acts 2, but the number of lines for it is 1.
 "opp" is not expected here; expected: own or opp, and then a card or go. Write each act on a line of its own.
 > acts 1|own 10C|
 "10C" is not a card. Write ten as T: TC.
+> acts 1|opp 10|
+"10" is not a card. Write the suit behind the rank, as in TS.
+> acts 1|opp t|
+"t" is not a card. Write the suit behind the rank, as in TS.
+> acts 1|opp 11|
+"11" is not a card. Write the suit behind the rank, as in JS.
+> acts 1|opp 10c|
+"10c" is not a card. Write ten as T: TC.
+> acts 1|own 2 C|
+"2" is not expected here; expected: own or opp, and then a card or go. Write the rank and the suit of a card together.
 > acts 1|own|
 the end of the line is not expected here; expected: own or opp, and then a card or go
 > acts 1|you 2C|

@@ -30,15 +30,15 @@ the end of the line is not expected here; expected: hold and four cards. The num
 "5C" is not expected here; expected: hold and four cards.
 The number of cards here is 6: hold has four, and throw has the other two.
 > hold KD 4D 9H JC|
-KD is a card that stood before, on line 4
+KD is already used, on line 4
 > hold 4D 4D 9H JC|
-4D is a card that stood before on this line
+4D is already used on this line
 > throw 6C 6D|
 "throw" is not expected here; expected: hold and four cards. The line hold is missing.
 > hold 2C 3C 4C 5C|throw 6C|
 the end of the line is not expected here; expected: throw and two cards. The number of cards here is 1.
 > hold 2C 3C 4C 5C|throw 6C 2C|
-2C is a card that stood before, on line 5
+2C is already used, on line 5
 > hold 2C 3C 4C 5C|goal win|
 "goal" is not expected here; expected: throw and two cards. The line throw is missing.
 > hold none|
@@ -47,7 +47,7 @@ the end of the line is not expected here; expected: throw and two cards. The num
 "my" is not expected here; expected: hold and four cards. Begin this line with the word hold.
 # problem 1|dealer owner|score 60 0|starter KD|hold 2C 3C 4C 5C|throw 6C 6D|
 > goal holes five|
-"five" is not a number that may stand here; expected: 1 to 61, what is left from 60 to hole 121.
+"five" is not a valid number here; expected: 1 to 61, what is left from 60 to hole 121.
 Write a number in digits alone.
 > goal holes12|
 "holes12" is not expected here; expected: goal win or goal holes N. Write a blank behind the word holes.
@@ -109,6 +109,13 @@ Line 8 says played 1, but the number of lines for it is 2.
 > problem 2|dealer owner|score 0 0|starter KD|hold 2C 3C 4C 5C|throw 6C 6D|played 0|goal win|
 "played" is not expected here; expected: goal win, goal holes N or goal stop.
 In a problem 2 the line played follows the goal; at the first lead it is played 0.
+# problem 2|dealer owner|score 0 0|starter KD|hold 2C 3C 4C 5C|throw 6C 6D|
+> goal stop 5|
+"5" is not expected here; expected: goal win, goal holes N or goal stop. Only goal holes has a number behind it.
+> goal win 12|
+"12" is not expected here; expected: goal win, goal holes N or goal stop. Only goal holes has a number behind it.
+> goal Stop|
+"Stop" is not expected here; expected: goal win, goal holes N or goal stop. Write small letters: stop.
 "#;
 
 #[test]

@@ -2,12 +2,12 @@
 use super::tables::rows_of;
 use crate::explained::explain;
 use crate::message_of;
+use crate::scene::Scene;
 use crib_game::{follow, replay};
 use crib_input::{
-    NotRead, Played, PlayedUnder, Refusal, Sections, played_of, played_under_of, problem_of,
+    Played, PlayedUnder, Reason, Refusal, Sections, played_of, played_under_of, problem_of,
     question_of,
 };
-use crib_run::Reason;
 use crib_text::MAX_INPUT;
 use std::alloc::Allocator;
 use std::process::Abort;
@@ -28,22 +28,26 @@ fn followed<A: Allocator>(played: &PlayedUnder<A>) -> Option<Refusal> {
     }
 }
 
-fn refusal_in(not_read: &NotRead) -> Option<Refusal> {
-    match not_read {
-        NotRead::Refused(refusal) => Some(*refusal),
-        NotRead::Memory => None,
+fn refusal_of(reason: &Reason) -> Option<Refusal> {
+    match reason {
+        Reason::Refused(refusal) => Some(*refusal),
+        Reason::Fault(_) => None,
     }
 }
 
-// Returns the refusal of an input with these sections, of which the game is judged too.
-fn refusal_of(rt: &(impl Abort + AllocGlobal), sections: Sections, input: &str) -> Refusal {
+/// Returns the refusal of an input with these sections, of which the game is judged too, if it is refused.
+pub(crate) fn refusal_in(
+    rt: &(impl Abort + AllocGlobal),
+    sections: Sections,
+    input: &str,
+) -> Option<Refusal> {
     let bytes = input.as_bytes();
     assert!(rt; bytes.len() <= MAX_INPUT);
-    let refusal = match sections {
+    match sections {
         Sections::Problem => problem_of(bytes).err(),
         Sections::Question => match question_of(rt.alloc(), bytes) {
             Ok(_) => None,
-            Err(not_read) => refusal_in(&not_read),
+            Err(reason) => refusal_of(&reason),
         },
         Sections::Played => match played_of(bytes) {
             Ok(played) => judged(&played),
@@ -51,10 +55,14 @@ fn refusal_of(rt: &(impl Abort + AllocGlobal), sections: Sections, input: &str) 
         },
         Sections::PlayedUnder => match played_under_of(rt.alloc(), bytes) {
             Ok(played) => followed(&played),
-            Err(not_read) => refusal_in(&not_read),
+            Err(reason) => refusal_of(&reason),
         },
-    };
-    let Some(refusal) = refusal else {
+    }
+}
+
+// Returns the refusal of an input that has to be refused.
+fn refused(rt: &(impl Abort + AllocGlobal), sections: Sections, input: &str) -> Refusal {
+    let Some(refusal) = refusal_in(rt, sections, input) else {
         panic!(rt; "not refused: {input}");
     };
     refusal
@@ -64,8 +72,9 @@ fn refusal_of(rt: &(impl Abort + AllocGlobal), sections: Sections, input: &str) 
 pub(crate) fn are_explained(rt: &(impl Abort + AllocGlobal), sections: Sections, table: &str) {
     for row in rows_of(rt, table).iter() {
         let input = row.input.as_str();
-        let refusal = refusal_of(rt, sections, input);
-        let explained = explain(sections, input.as_bytes(), &refusal);
+        let refusal = refused(rt, sections, input);
+        let scene = Scene::new(sections, input.as_bytes(), refusal.line);
+        let explained = explain(&scene, refusal.cause);
         let said = std::str::from_utf8(explained.sentence.as_slice());
         assert_eq!(rt; said, Ok(row.words.as_str()), "of {input}");
     }
@@ -75,7 +84,7 @@ pub(crate) fn are_explained(rt: &(impl Abort + AllocGlobal), sections: Sections,
 pub(crate) fn are_said(rt: &(impl Abort + AllocGlobal), sections: Sections, table: &str) {
     for row in rows_of(rt, table).iter() {
         let input = row.input.as_str();
-        let reason = Reason::Refused(refusal_of(rt, sections, input));
+        let reason = Reason::Refused(refused(rt, sections, input));
         let message = message_of(b"cribplan", sections, input.as_bytes(), &reason);
         let said = std::str::from_utf8(message.as_slice());
         let wanted = format!(in rt.alloc(); "{}\n", row.words).expect(rt, "memory");

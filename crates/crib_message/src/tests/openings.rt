@@ -48,7 +48,7 @@ cribplan: line 11: TC is not held: TC was played (line 9); the owner still holds
      |     ^^
 > played 4|own TC|opp TD|own 9C|opp KD|
 cribplan: line 12: a card that does not fit: KD counts 10, the count is 29, and 2 is left to 31;
-"opp go" may be missing before this line
+"opp go" would pass the turn to the owner
   12 | opp KD
      |     ^^
 > played 1|own go|
@@ -77,11 +77,11 @@ a card of theirs or "opp go" is missing before this line
   12 | own 2C
      | ^^^
 > played 2|own TC|opp 3H|
-cribplan: line 10: 3H is a card that stood before: 3H is the starter (line 4)
+cribplan: line 10: 3H is already used: 3H is the starter (line 4)
   10 | opp 3H
      |     ^^
 > played 4|own TC|opp TD|own 9C|opp TD|
-cribplan: line 12: TD is a card that stood before: TD was played (line 10)
+cribplan: line 12: TD is already used: TD was played (line 10)
   12 | opp TD
      |     ^^
 > played 6|own TC|opp TD|own 9C|opp go|own 2C|own go|
@@ -100,7 +100,7 @@ it is the owner's turn, and the count is 5; they hold 9C, which fits
   16 | opp go
      | ^^^
 > played 1|opp TC|
-cribplan: line 9: TC is a card that stood before: the owner holds TC; it is the owner's turn
+cribplan: line 9: TC is already used: the owner holds TC; it is the owner's turn
   9 | opp TC
     |     ^^
 # problem 2|dealer opponent|score 0 119|starter 3H|hold TC 9C 2C 8C|throw 4S 6S|goal win|

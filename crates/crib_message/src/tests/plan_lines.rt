@@ -17,10 +17,10 @@ the end of the line is not expected here; expected: plan 1
 > |plan 1|
 an empty line is not expected here; expected: plan 1. Remove the empty line.
 > plan 1|nodes one|
-"one" is not a number that may stand here; expected: nodes and the number of nodes that follow.
+"one" is not a valid number here; expected: nodes and the number of nodes that follow.
 Write a number in digits alone.
 > plan v1|
-"v1" is not a number that may stand here; expected: plan 1. Write a number in digits alone.
+"v1" is not a valid number here; expected: plan 1. Write a number in digits alone.
 >
 the input ends here; expected: plan 1. This command reads a problem and then a plan.
 > game 1|acts 0|
@@ -50,7 +50,7 @@ A node begins with its number: 0 play 2C end.
 "A:1,2:1" is not expected here; expected: letters, one colon and a later node, such as A23:1.
 Write a blank between two branches, and no other sign.
 > 0 see A: 1|
-"A:" is not a number that may stand here; expected: the number of a later node behind the colon.
+"A:" is not a valid number here; expected: the number of a later node behind the colon.
 Write no blank at the colon of a branch.
 > 0 play 2C|
 the end of the line is not expected here; expected: the number of a later node, or end
@@ -68,9 +68,9 @@ the end of the line is not expected here; expected: a node, such as 0 play 2C en
 > 0 PLAY 2C 1|
 "PLAY" is not expected here; expected: a node, such as 0 play 2C end or 0 see A2:1. Write small letters: play.
 > 0: play 2C 1|
-"0:" is not a number that may stand here; expected: 0, the number of this node. Write no other sign at a number.
+"0:" is not a valid number here; expected: 0, the number of this node. Write no other sign at a number.
 > 0 see A:x|
-"x" is not a number that may stand here; expected: the number of a later node behind the colon.
+"x" is not a valid number here; expected: the number of a later node behind the colon.
 Write a number in digits alone.
 > 0 play 10C 1|
 "10C" is not a card. Write ten as T: TC.
@@ -88,14 +88,52 @@ Line 9 says nodes 2, but the number of lines for it is 1.
 "A" is not expected here; expected: letters, one colon and a later node, such as A23:1.
 Write no blank at the colon of a branch.
 > 0 see A:|
-"A:" is not a number that may stand here; expected: the number of a later node behind the colon
+"A:" is not a valid number here; expected: the number of a later node behind the colon
 > 0 see A:End|
-"End" is not a number that may stand here; expected: the number of a later node behind the colon.
+"End" is not a valid number here; expected: the number of a later node behind the colon.
 Leave this branch out: a letter in no branch leads to the end.
+> 0 play 8S stop|
+"stop" is not a valid number here; expected: the number of a later node, or end. Write end, or the number of a node.
+> 0 play 8D next|
+"next" is not a valid number here; expected: the number of a later node, or end. Write end, or the number of a node.
+> 0 play 3 8H|
+"3" is not a card. Write the card in front of the node to go on at: 0 play 2C 1.
+> 0 play 3 10H|
+"3" is not a card. Write the card in front of the node to go on at: 0 play 2C 1.
+> 0 play end 8h|
+"end" is not a card. Write the card in front of the node to go on at: 0 play 2C 1.
+> 0 play 10 end|
+"10" is not a card. Write the suit behind the rank, as in TS.
+> 0 play 8 S end|
+"8" is not expected here; expected: a card, and then a later node or end.
+Write the rank and the suit of a card together.
+> 0 see A:next|
+"next" is not a valid number here; expected: the number of a later node behind the colon.
+Write the number of a node, not a name.
+> 0 see 7:A|
+"A" is not a valid number here; expected: the number of a later node behind the colon.
+Write the letters in front of the colon, and the node behind it.
+> 0 see 1:A|
+"1:A" is not a valid branch: "1" is none of the letters A23456789TJQKg;
+write the letters in front of the colon, and the node behind it
+> 0 see 10:2|
+"10:2" is not a valid branch: "1" is none of the letters A23456789TJQKg; a ten is T, and an ace A
+> 0 see other:1 23:1|
+"other:1" is not a valid branch: "o" is none of the letters A23456789TJQKg; write each rank by its letter
+> 0 see GO:1|
+"GO:1" is not a valid branch: "G" is none of the letters A23456789TJQKg; a go is a small g alone
+> 0 see 5c:1|
+"5c:1" is not a valid branch: "c" is none of the letters A23456789TJQKg; a branch has ranks and no suits
+> 0 see king:1|
+"king:1" is not a valid branch: "k" is none of the letters A23456789TJQKg; write each rank by its letter
 # problem 2|dealer owner|score 60 0|starter KD|hold 2C 3C 4C 5C|throw 6C 6D|goal win|
 > plan 1|nodes 0|
 "plan" is not expected here; expected: played and the number of turns that follow.
 In a problem 2 the line played follows the goal; at the first lead it is played 0.
+#
+> none|
+"none" is not expected here; expected: problem 1 or problem 2.
+Where no plan is sure, solve writes none, and there is no plan to read.
 "##;
 
 #[test]

@@ -35,49 +35,49 @@ node 9 isn't there, since the plan has 2 nodes, numbered from 0
   10 | 0 see A:9
      |         ^
 > plan 1|nodes 2|0 see :1|1 play TC end|
-cribplan: line 10, line 3 of the plan: ":1" is not a branch that may stand here: no letter stands before its colon
+cribplan: line 10, line 3 of the plan: ":1" is not a valid branch: no letter stands before its colon
   10 | 0 see :1
      |       ^^
 > plan 1|nodes 2|0 see 5A:1|1 play TC end|
-cribplan: line 10, line 3 of the plan: "5A:1" is not a branch that may stand here:
+cribplan: line 10, line 3 of the plan: "5A:1" is not a valid branch:
 A comes before 5 in the order A23456789TJQKg
   10 | 0 see 5A:1
      |       ^^^^
 > plan 1|nodes 2|0 see AA:1|1 play TC end|
-cribplan: line 10, line 3 of the plan: "AA:1" is not a branch that may stand here: A stands in it twice
+cribplan: line 10, line 3 of the plan: "AA:1" is not a valid branch: A stands in it twice
   10 | 0 see AA:1
      |       ^^^^
 > plan 1|nodes 2|0 see a:1|1 play TC end|
-cribplan: line 10, line 3 of the plan: "a:1" is not a branch that may stand here:
+cribplan: line 10, line 3 of the plan: "a:1" is not a valid branch:
 "a" is none of the letters A23456789TJQKg; a rank is a capital
   10 | 0 see a:1
      |       ^^^
 > plan 1|nodes 2|0 see 10:1|1 play TC end|
-cribplan: line 10, line 3 of the plan: "10:1" is not a branch that may stand here:
+cribplan: line 10, line 3 of the plan: "10:1" is not a valid branch:
 "1" is none of the letters A23456789TJQKg; a ten is T, and an ace A
   10 | 0 see 10:1
      |       ^^^^
 > plan 1|nodes 2|0 see 5C:1|1 play TC end|
-cribplan: line 10, line 3 of the plan: "5C:1" is not a branch that may stand here:
+cribplan: line 10, line 3 of the plan: "5C:1" is not a valid branch:
 "C" is none of the letters A23456789TJQKg; a branch has ranks and no suits
   10 | 0 see 5C:1
      |       ^^^^
 > plan 1|nodes 2|0 see G:1|1 play TC end|
-cribplan: line 10, line 3 of the plan: "G:1" is not a branch that may stand here:
+cribplan: line 10, line 3 of the plan: "G:1" is not a valid branch:
 "G" is none of the letters A23456789TJQKg; a go is a small g alone
   10 | 0 see G:1
      |       ^^^
 > plan 1|nodes 3|0 see A:1 A:2|1 play TC end|2 play 9C end|
-cribplan: line 10, line 3 of the plan: "A:2" is not a branch that may stand here: A stood in the branch "A:1" already
+cribplan: line 10, line 3 of the plan: "A:2" is not a valid branch: A stood in the branch "A:1" already
   10 | 0 see A:1 A:2
      |           ^^^
 > plan 1|nodes 3|0 see 2:1 A:2|1 play TC end|2 play 9C end|
-cribplan: line 10, line 3 of the plan: "A:2" is not a branch that may stand here:
-it stands before "2:1", since branches are sorted by their first letters
+cribplan: line 10, line 3 of the plan: "A:2" is not a valid branch:
+it belongs before "2:1": branches are sorted by their first letters
   10 | 0 see 2:1 A:2
      |           ^^^
 > plan 1|nodes 2|0 see A:1 23:1|1 play TC end|
-cribplan: line 10, line 3 of the plan: "23:1" is not a branch that may stand here:
+cribplan: line 10, line 3 of the plan: "23:1" is not a valid branch:
 the branch "A:1" leads to the same node; write both as one branch, "A23:1"
   10 | 0 see A:1 23:1
      |           ^^^^
@@ -116,12 +116,12 @@ expected: the end of the line, since a play node has a card and one later node o
   10 | 0 play TC 1 2
      |             ^
 > plan 1|nodes 1|x play TC end|
-cribplan: line 10, line 3 of the plan: "x" is not a number that may stand here; expected: 0, the number of this node.
+cribplan: line 10, line 3 of the plan: "x" is not a valid number here; expected: 0, the number of this node.
 Write a number in digits alone.
   10 | x play TC end
      | ^
 > plan 1|nodes 1|0 play TC x|
-cribplan: line 10, line 3 of the plan: "x" is not a number that may stand here;
+cribplan: line 10, line 3 of the plan: "x" is not a valid number here;
 expected: the number of a later node, or end. Write a number in digits alone.
   10 | 0 play TC x
      |           ^
@@ -136,7 +136,7 @@ expected: letters, one colon and a later node, such as A23:1. Write a blank betw
   10 | 0 see A:1:1
      |       ^^^^^
 > plan 1|nodes 2|0 see A:x|1 play TC end|
-cribplan: line 10, line 3 of the plan: "x" is not a number that may stand here;
+cribplan: line 10, line 3 of the plan: "x" is not a valid number here;
 expected: the number of a later node behind the colon. Write a number in digits alone.
   10 | 0 see A:x
      |         ^
@@ -146,7 +146,7 @@ The first node has the number 0.
   10 | 1 see A:2
      | ^
 > plan 1|nodes 1|0 play TC -1|
-cribplan: line 10, line 3 of the plan: "-1" is not a number that may stand here;
+cribplan: line 10, line 3 of the plan: "-1" is not a valid number here;
 expected: the number of a later node, or end. Write a number without a sign.
   10 | 0 play TC -1
      |           ^^
@@ -156,17 +156,17 @@ node 1 isn't there, since the plan has 1 node, number 0. Line 9 says nodes 1, bu
   10 | 0 play TC 1
      |           ^
 > plan 1|nodes 2|0 see go:1|1 play TC end|
-cribplan: line 10, line 3 of the plan: "go:1" is not a branch that may stand here:
+cribplan: line 10, line 3 of the plan: "go:1" is not a valid branch:
 "o" is none of the letters A23456789TJQKg; a go is a small g alone
   10 | 0 see go:1
      |       ^^^^
 > plan 1|nodes 2|0 see A-5:1|1 play TC end|
-cribplan: line 10, line 3 of the plan: "A-5:1" is not a branch that may stand here:
+cribplan: line 10, line 3 of the plan: "A-5:1" is not a valid branch:
 "-" is none of the letters A23456789TJQKg; write each letter, with no sign between two, as in A23:1
   10 | 0 see A-5:1
      |       ^^^^^
 > plan 1|nodes 2|0 see else:1|1 play TC end|
-cribplan: line 10, line 3 of the plan: "else:1" is not a branch that may stand here:
+cribplan: line 10, line 3 of the plan: "else:1" is not a valid branch:
 "e" is none of the letters A23456789TJQKg; write each rank by its letter
   10 | 0 see else:1
      |       ^^^^^^

@@ -1,4 +1,4 @@
--- A bound on the visible turns that may still come. The code needs it to prove that it ends.
+-- A bound on the visible turns that may still be made. The code needs it to prove that it ends.
 use Rattle.std.specs.Prelude.{ℕ, ◌+◌, ◌*◌, if◌then◌else◌}
 use Rattle.crib_play.specs.Record.{is_begun}
 use Rattle.crib_play.specs.Standing.{Standing}

@@ -12,7 +12,7 @@ use Rattle.crib_sheet.specs.PlanSheet.{Row, Lines, row_named, row_to, lines_to, 
 use Rattle.crib_sheet.specs.PlanText.{indent, label_column, row_text, label_width, rank_words, go_words}
 use Rattle.crib_sheet.specs.PlanText.{paragraph_text}
 use Rattle.crib_sheet.specs.PlanOutline.{apart_in}
-use Rattle.crib_sheet.specs.PlanPage.{none_needed}
+use Rattle.crib_sheet.specs.PlanPage.{no_card}
 
 -- a row may begin at a place on this level: the node is one of the plan, and has as many nodes before it
 abbrev pub IsDeep : ℕ → ℕ → Next → Type 0
@@ -41,7 +41,7 @@ abbrev pub new_node : List Next → Next → Option ℕ
 new_node before End = None
 new_node before (To node) = if list_any (leads_to node) before then None else Some node
 
--- what stands before the row of a line
+-- what is before the row of a line
 unfoldable pub line_front : ℕ → ℕ → List Bool → List ℕ
 line_front level width set = indent level ++ label_column width set ++ codes " : "
 
@@ -54,9 +54,9 @@ unfoldable pub spaced_label : List Bool → List ℕ
 spaced_label set = spaced (rank_words 0 0 (take 13 set) ++ go_words (drop 13 set))
 
 -- the text of the first row
-unfoldable pub first_text : List Bool → List Node → List ℕ
-first_text flags plan =
-    none_needed (place_row flags plan (plan_start plan)) ++ row_text 0 (place_row flags plan (plan_start plan))
+unfoldable pub first_text : Bool → List Bool → List Node → List ℕ
+first_text sure flags plan =
+    no_card sure (place_row flags plan (plan_start plan)) ++ row_text 0 (place_row flags plan (plan_start plan))
 
 -- the paragraph of a node
 unfoldable pub numbered_text : List Bool → List Node → ℕ → List ℕ

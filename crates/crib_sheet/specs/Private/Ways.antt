@@ -1,16 +1,15 @@
 -- How often the nodes of a plan are led to, while that is counted.
-use Rattle.std.specs.Prelude.{◌≡◌, ℕ, ◌+◌, ◌<◌, min, Bool, true, false, not, ◌&&◌, List, length, slice_get, option_map}
+use Rattle.std.specs.Prelude.{◌≡◌, ℕ, ◌+◌, ◌<◌, min, Bool, true, false, not, ◌&&◌, List, length, slice_get}
 use Rattle.std.specs.Prelude.{unwrap_or, count_by}
 use Rattle.std.specs.List.{list_any}
 use Rattle.crib_plan.specs.declared.plan.Next.{Next}
 use Rattle.crib_plan.specs.declared.plan.Node.{Node}
 use Rattle.crib_plan.specs.Spelling.{leads_to}
 use Rattle.crib_sheet.specs.PlanBranches.{node_leads}
-use Rattle.crib_sheet.specs.declared.plan.ways.Way.{Way}
 
 -- the number of nodes that lead to a node, at most 2
-abbrev pub ways_in : List Way → ℕ → ℕ
-ways_in ways node = unwrap_or (option_map (λ way. way.ways) (slice_get ways node)) 2
+abbrev pub ways_in : List ℕ → ℕ → ℕ
+ways_in ways node = unwrap_or (slice_get ways node) 2
 
 -- such a number, after one more node that may lead there
 abbrev pub one_more : ℕ → Bool → ℕ
@@ -22,9 +21,13 @@ abbrev pub leads_anew : ℕ → List Next → Next → Bool
 leads_anew node before place = leads_to node place && not (list_any (leads_to node) before)
 
 -- no node is led to yet
-pub record AreNone (ways : List Way) : Type 0 where
+pub record AreNone (ways : List ℕ) : Type 0 where
   pub none : (node : ℕ) → node < length ways → ways_in ways node ≡ 0
 
+-- the number of nodes of a plan that lead to a node, at most 2
+abbrev pub ways_to : List Node → ℕ → ℕ
+ways_to nodes node = min 2 (count_by (node_leads node) nodes)
+
 -- each node's number is that of the nodes that lead to it, at most 2
-pub record AreCounted (nodes : List Node) (ways : List Way) : Type 0 where
-  pub counted : (node : ℕ) → node < length nodes → ways_in ways node ≡ min 2 (count_by (node_leads node) nodes)
+pub record AreCounted (nodes : List Node) (ways : List ℕ) : Type 0 where
+  pub counted : (node : ℕ) → node < length nodes → ways_in ways node ≡ ways_to nodes node

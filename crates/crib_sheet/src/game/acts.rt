@@ -1,45 +1,41 @@
-//! The lines of acts, with the reasons of their points. Each call appends to a text that already has room for it.
-ghost use Rattle.std.specs.Prelude.{◌≡◌, ◌+◌, ◌*◌, ◌≤◌, length, map, flat_map, vec_len, vec_capacity};
-ghost use Rattle.crib_text.specs.Private.Writing.{Appended};
+//! The lines of acts, with the reasons of their points.
+ghost use Rattle.std.specs.Prelude.{◌≡◌, ◌+◌, ◌≤◌, length, map, flat_map};
 ghost use Rattle.crib_board.specs.Board.{left_in};
 ghost use Rattle.crib_sheet.specs.Heading.{role_word};
 ghost use Rattle.crib_sheet.specs.GameText.{act_line, act_lines, act_text, alike_word, last_after, next_reason};
 ghost use Rattle.crib_sheet.specs.GameText.{points_text, reason_text, reason_word, run_word, score_text, taker_text};
+ghost use Rattle.crib_sheet.specs.Private.Prints.{Prints};
 
 use super::reason::PlayReason;
 use super::reasons::PlayReasons;
-use crate::heading::role_of;
-use crib_board::{put_move, put_right};
+use crate::page::{Page, put_move, put_right, put_role, put_small};
 use crib_cards::{Move, Scores, Side};
 use crib_game::Row;
-use crib_text::{append, append_small};
-use std::alloc::Allocator;
 
-/// Appends a line for each act with its reasons. The numbers begin at `number`, and `last` is the side that played the
+/// Puts a line for each act with its reasons. The numbers begin at `number`, and `last` is the side that played the
 /// last card before these acts.
-#[tactic(auto, using(crate::proofs::WrittenIsSheet::acts), unfolding(crate::specs::GameText::act_lines))]
-pub(crate) fn put_acts<A: Allocator>(
-    text: &mut Vec<u8, A>,
+#[tactic(auto, unfolding(crate::specs::GameText::act_lines))]
+pub(crate) fn put_acts<P: Page>(
+    page: &mut P,
     dealer: Side,
     number: u8,
     last: Side,
     rows: &[Row],
     reasons: &[PlayReasons],
 )
-    requires numbered { number + length rows.now ≤ 255 }
-    requires fits { vec_len text.old + 161 * length rows.now ≤ vec_capacity text.old }
-    ensures { Appended text.old text.new
-        (act_lines dealer number last rows.now (map (λ why. why.items) reasons.now)) (161 * length rows.now) }
+    requires { number + length rows.now ≤ 255 }
+    ensures { Prints (act_lines dealer number last rows.now (map (λ why. why.items) reasons.now))
+        (P.stand page.old) (P.stand page.new) }
 {
-    let [row, rows @ ..] = rows else {
+    let Some((row, others)) = rows.split_first() else {
         return;
     };
-    let [why, reasons @ ..] = reasons else {
+    let Some((why, more)) = reasons.split_first() else {
         return;
     };
     let last = last_after(row.act.side, row.act.what, last);
-    put_act_line(text, dealer, number, last, row, why.as_slice());
-    put_acts(text, dealer, number + 1, last, rows, reasons);
+    put_act_line(page, dealer, number, last, row, why.as_slice());
+    put_acts(page, dealer, number + 1, last, others, more);
 }
 
 // The side that played the last card after an act.
@@ -52,122 +48,106 @@ fn last_after(side: Side, what: Move, last: Side) -> Side
     }
 }
 
-// Appends the line of an act. `last` is the side that played the last card, which may be this one.
-#[tactic(auto, using(crate::proofs::WrittenIsSheet::acts))]
-fn put_act_line<A: Allocator>(
-    text: &mut Vec<u8, A>,
+// Puts the line of an act. `last` is the side that played the last card, which may be this one.
+fn put_act_line<P: Page>(
+    page: &mut P,
     dealer: Side,
     number: u8,
     last: Side,
     row: &Row,
     reasons: &[PlayReason],
 )
-    requires few { length reasons.now ≤ 6 }
-    requires fits { vec_len text.old + 161 ≤ vec_capacity text.old }
-    ensures { Appended text.old text.new
-        (act_line dealer number last row.now reasons.now) (53 + 18 * length reasons.now) }
+    ensures { Prints (act_line dealer number last row.now reasons.now) (P.stand page.old) (P.stand page.new) }
 {
-    put_act(text, dealer, number, row);
-    put_points(text, dealer, last, row, reasons);
-    append(text, b"\n");
+    put_act(page, dealer, number, row);
+    put_points(page, dealer, last, row, reasons);
+    page.put(b"\n");
 }
 
-// Appends the columns of an act.
-#[tactic(auto, using(crate::proofs::WrittenIsSheet::acts))]
-fn put_act<A: Allocator>(text: &mut Vec<u8, A>, dealer: Side, number: u8, row: &Row)
-    requires { vec_len text.old + 31 ≤ vec_capacity text.old }
-    ensures { Appended text.old text.new (act_text dealer number row.now) 31 }
+// Puts the columns of an act.
+fn put_act<P: Page>(page: &mut P, dealer: Side, number: u8, row: &Row)
+    ensures { Prints (act_text dealer number row.now) (P.stand page.old) (P.stand page.new) }
 {
-    put_right(text, 2, number);
-    append(text, b" ");
-    append(text, role_column(dealer, row.act.side));
-    append(text, b" ");
-    put_move(text, row.act.what);
-    append(text, b"      ");
-    put_right(text, 2, row.count);
-    put_scores(text, row.scores);
+    put_right(page, 2, number);
+    page.put(b" ");
+    put_role_column(page, dealer, row.act.side);
+    page.put(b" ");
+    put_move(page, row.act.what);
+    page.put(b"      ");
+    put_right(page, 2, row.count);
+    put_scores(page, row.scores);
 }
 
-// A side's word, left-aligned in six columns.
-fn role_column(dealer: Side, side: Side) -> &'static [u8]
-    ensures value { result.now ≡ left_in 6 (role_word dealer side) }
-    ensures len { length result.now ≡ 6 }
+// Puts a side's word, left-aligned in six columns.
+fn put_role_column<P: Page>(page: &mut P, dealer: Side, side: Side)
+    ensures { Prints (left_in 6 (role_word dealer side)) (P.stand page.old) (P.stand page.new) }
 {
-    if dealer == side { b"dealer" } else { b"pone  " }
+    page.put(if dealer == side { b"dealer" } else { b"pone  " });
 }
 
-// Appends both scores in columns.
-#[tactic(auto, using(crate::proofs::WrittenIsSheet::acts))]
-fn put_scores<A: Allocator>(text: &mut Vec<u8, A>, scores: Scores)
-    requires { vec_len text.old + 9 ≤ vec_capacity text.old }
-    ensures { Appended text.old text.new (score_text scores) 9 }
+// Puts both scores in columns.
+fn put_scores<P: Page>(page: &mut P, scores: Scores)
+    ensures { Prints (score_text scores) (P.stand page.old) (P.stand page.new) }
 {
-    append(text, b" ");
-    put_right(text, 3, scores.owner);
-    append(text, b"  ");
-    put_right(text, 3, scores.opponent);
+    page.put(b" ");
+    put_right(page, 3, scores.owner);
+    page.put(b"  ");
+    put_right(page, 3, scores.opponent);
 }
 
-// Appends the points of an act and the reasons for them, if there are any.
-#[tactic(auto, using(crate::proofs::WrittenIsSheet::points), unfolding(crate::specs::GameText::points_text))]
-fn put_points<A: Allocator>(
-    text: &mut Vec<u8, A>,
-    dealer: Side,
-    last: Side,
-    row: &Row,
-    reasons: &[PlayReason],
-)
-    requires { vec_len text.old + 21 + 18 * length reasons.now ≤ vec_capacity text.old }
-    ensures { Appended text.old text.new (points_text dealer last row.now reasons.now) (21 + 18 * length reasons.now) }
+// Puts the points of an act and the reasons for them, if there are any.
+fn put_points<P: Page>(page: &mut P, dealer: Side, last: Side, row: &Row, reasons: &[PlayReason])
+    ensures { Prints (points_text dealer last row.now reasons.now) (P.stand page.old) (P.stand page.new) }
 {
-    let [reason, others @ ..] = reasons else {
+    let Some((reason, others)) = reasons.split_first() else {
         return;
     };
-    append(text, b"  ");
-    append_small(text, row.points);
-    append(text, b": ");
-    put_reason(text, *reason);
-    put_others(text, others);
-    put_taker(text, dealer, last, row.act.what);
+    page.put(b"  ");
+    put_small(page, row.points);
+    page.put(b": ");
+    put_reason(page, *reason);
+    put_others(page, others);
+    put_taker(page, dealer, last, row.act.what);
 }
 
-// Appends more reasons, each after a comma.
-#[tactic(auto, using(crate::proofs::WrittenIsSheet::points))]
-fn put_others<A: Allocator>(text: &mut Vec<u8, A>, reasons: &[PlayReason])
-    requires { vec_len text.old + 18 * length reasons.now ≤ vec_capacity text.old }
-    ensures { Appended text.old text.new (flat_map next_reason reasons.now) (18 * length reasons.now) }
+// Puts more reasons, each after a comma.
+fn put_others<P: Page>(page: &mut P, reasons: &[PlayReason])
+    ensures { Prints (flat_map next_reason reasons.now) (P.stand page.old) (P.stand page.new) }
 {
     for reason in reasons {
-        append(text, b", ");
-        put_reason(text, *reason);
+        put_next(page, *reason);
     }
 }
 
-// Appends whose the points of a move are, if they are not the mover's.
-#[tactic(auto, using(crate::proofs::WrittenIsSheet::points))]
-fn put_taker<A: Allocator>(text: &mut Vec<u8, A>, dealer: Side, last: Side, what: Move)
-    requires { vec_len text.old + 16 ≤ vec_capacity text.old }
-    ensures { Appended text.old text.new (taker_text dealer last what) 16 }
+// Puts a reason after a comma.
+fn put_next<P: Page>(page: &mut P, reason: PlayReason)
+    ensures { Prints (next_reason reason) (P.stand page.old) (P.stand page.new) }
+{
+    page.put(b", ");
+    put_reason(page, reason);
+}
+
+// Puts whose the points of a move are, if they are not the mover's.
+fn put_taker<P: Page>(page: &mut P, dealer: Side, last: Side, what: Move)
+    ensures { Prints (taker_text dealer last what) (P.stand page.old) (P.stand page.new) }
 {
     match what {
         Move::Card(_) => (),
         Move::Go => {
-            append(text, b" (to the ");
-            append(text, role_of(dealer, last));
-            append(text, b")");
+            page.put(b" (to the ");
+            put_role(page, dealer, last);
+            page.put(b")");
         }
     }
 }
 
-// Appends a reason and its points.
-#[tactic(auto, using(crate::proofs::WrittenIsSheet::points))]
-fn put_reason<A: Allocator>(text: &mut Vec<u8, A>, reason: PlayReason)
-    requires { vec_len text.old + 16 ≤ vec_capacity text.old }
-    ensures { Appended text.old text.new (reason_text reason) 16 }
+// Puts a reason and its points.
+fn put_reason<P: Page>(page: &mut P, reason: PlayReason)
+    ensures { Prints (reason_text reason) (P.stand page.old) (P.stand page.new) }
 {
-    append(text, reason_word(reason));
-    append(text, b" ");
-    append_small(text, reason.points());
+    page.put(reason_word(reason));
+    page.put(b" ");
+    put_small(page, reason.points());
 }
 
 fn reason_word(reason: PlayReason) -> &'static [u8]

@@ -22,7 +22,7 @@ const JACK: u8 = 11;
 
 /// Returns what counts in a hand: its four cards, counted with the starter.
 ///
-/// The list has the fifteens first, then the runs, the pairs, the flush, and the jack of the starter's suit. The flush
+/// The list has the fifteens first, then the pairs, the runs, the flush, and the jack of the starter's suit. The flush
 /// is of all five cards, or of the four in the hand. The points of the list add up to those of the hand.
 #[tactic(auto, unfolding(crate::specs::GameShow::hand_combinations))]
 pub fn hand_combinations(cards: &[Card; 4], starter: Card) -> Combinations
@@ -49,7 +49,7 @@ pub fn crib_combinations(cards: &[Card; 4], starter: Card) -> Combinations
     found
 }
 
-// Returns the fifteens, runs and pairs among the five cards.
+// Returns the fifteens, pairs and runs among the five cards.
 fn plain_combinations(cards: &[Card; 4], starter: Card) -> Combinations
     ensures listed { result.items ≡ plain_combinations (cards.now ++ starter ∷ []) }
     ensures range { length result.items ≤ 96 }
@@ -57,8 +57,8 @@ fn plain_combinations(cards: &[Card; 4], starter: Card) -> Combinations
     let all = with_starter(cards, starter);
     let mut found = ArrayVec::new();
     put_combinations(Kind::Fifteen, &all, &mut found);
-    put_combinations(Kind::Run, &all, &mut found);
     put_combinations(Kind::Pair, &all, &mut found);
+    put_combinations(Kind::Run, &all, &mut found);
     found
 }
 

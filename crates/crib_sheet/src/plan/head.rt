@@ -1,124 +1,132 @@
 //! The head of a plan's sheet: the position, and whether the plan is sure.
-ghost use Rattle.std.specs.Prelude.{◌≡◌, ◌+◌, ◌*◌, ◌≤◌, ◌++◌, IfOk, length, vec_len, vec_capacity};
-ghost use Rattle.crib_text.specs.Private.Writing.{Appended};
+ghost use Rattle.std.specs.Prelude.{◌≡◌, ◌≤◌, length, flat_map};
 ghost use Rattle.crib_sheet.specs.GameText.{game_sheet_text};
-ghost use Rattle.crib_sheet.specs.PlanHead.{failing_line, game_lines, head_text, turn_line, turn_lines};
+ghost use Rattle.crib_sheet.specs.PlanHead.{failing_line, failing_text, game_lines, head_text, sure_text};
+ghost use Rattle.crib_sheet.specs.PlanHead.{turn_line, turn_lines, why_text};
+ghost use Rattle.crib_sheet.specs.Private.Prints.{Prints};
+ghost use Rattle.crib_sheet.specs.Private.Puts.{Puts};
 
-use crate::game::write_game_sheet;
-use crate::heading::{put_heading, role_of};
-use crib_board::{BoardFault, put_move};
+use crate::game::put_sheet;
+use crate::heading::put_heading;
+use crate::page::{Page, Printer, put_move, put_role};
+use crate::plan::now::put_now;
+use crate::plan::pieces::Cut;
+use crate::plan::stuck::put_stuck;
 use crib_cards::{Act, Side};
 use crib_check::Verdict;
-use crib_game::{Ending, Game};
+use crib_game::{Ending, Game, replay};
+use crib_plan::Plan;
 use crib_problem::Problem;
-use crib_text::append;
-use std::alloc::{AllocError, Allocator};
+use crib_text::Sink;
+use std::alloc::Allocator;
 
-// The most bytes of the head of a sure plan. Its heading has at most 239, each of at most 32 turns 12, and the verdict
-// 76.
-const MOST_IF_SURE: usize = 699;
-
-// The most bytes of the head of a plan that is not sure. The verdict has at most 73, the sheet of the game with the
-// line before it 16036, and the last lines 12.
-const MOST_IF_FAILING: usize = 16121;
-
-/// Returns the head of the sheet of a plan, by the verdict on it: at most 16,121 bytes. For a plan that is sure these
-/// are the position, the turns that were played already, and that the plan is sure. For any other plan they are why it
-/// is not sure, and the sheet of the first game in which it fails. It fails if an allocation fails, one of at most two.
-#[tactic(auto, unfolding(crate::specs::PlanHead::head_text))]
-pub fn plan_head<A: Allocator + Copy>(
-    alloc: A,
+/// Puts the head of the sheet of a plan, by the verdict on it. For a plan that is sure this is the position, the turns
+/// that were played already and what they led to, and that the plan is sure. For any other plan it is why the plan is
+/// not sure, and the sheet of the first game in which it fails.
+pub(crate) fn put_head<A: Allocator, W: Sink>(
+    sink: &mut W,
     problem: &Problem,
+    plan: &Plan<A>,
     verdict: &Verdict,
-) -> Result<Vec<u8, A>, AllocError>
-    ensures text { IfOk result (λ text. text.items ≡ head_text problem.now verdict.now) }
-    ensures short { IfOk result (λ text. length text.items ≤ 16121) }
+) -> Result<(), Cut>
+    ensures { Puts (head_text problem.now plan.now verdict.now) (W.contents sink.old) (W.contents sink.new)
+        (W.faults sink.old) (W.faults sink.new) result }
+{
+    let mut page = Printer {
+        sink,
+        is_cut: false,
+    };
+    put_verdict(&mut page, problem, plan, verdict);
+    let Printer { sink, is_cut } = page;
+    // The proof reads what the device holds from this use of it.
+    let _ = &*sink;
+    if is_cut { Err(Cut) } else { Ok(()) }
+}
+
+fn put_verdict<A: Allocator, P: Page>(
+    page: &mut P,
+    problem: &Problem,
+    plan: &Plan<A>,
+    verdict: &Verdict,
+)
+    ensures { Prints (head_text problem.now plan.now verdict.now) (P.stand page.old) (P.stand page.new) }
 {
     match verdict {
-        Verdict::Holds => sure_head(alloc, problem),
-        Verdict::Fails(ending, game) => failing_head(alloc, problem, *ending, game),
+        Verdict::Holds => put_sure(page, problem),
+        Verdict::Fails(ending, game) => put_failing(page, problem, plan, *ending, game),
     }
 }
 
-// Returns the head of a plan that is sure.
-#[tactic(auto, using(crate::proofs::WrittenIsHead::heads))]
-fn sure_head<A: Allocator + Copy>(alloc: A, problem: &Problem) -> Result<Vec<u8, A>, AllocError>
-    ensures text { IfOk result (λ text. text.items ≡ head_text problem.now Verdict.Holds) }
-    ensures short { IfOk result (λ text. length text.items ≤ 699) }
+// Puts the head of a plan that is sure.
+fn put_sure<P: Page>(page: &mut P, problem: &Problem)
+    ensures { Prints (sure_text problem.now) (P.stand page.old) (P.stand page.new) }
 {
-    let mut text = Vec::with_capacity(alloc, MOST_IF_SURE)?;
-    put_heading(&mut text, problem);
-    put_turns(&mut text, problem.dealer(), problem.played());
-    append(
-        &mut text,
-        b"This plan is sure: it reaches your goal against every hand and every play.\n\n",
-    );
-    Ok(text)
+    put_heading(page, problem);
+    put_turns(page, problem.dealer(), problem.played());
+    put_now(page, problem);
+    page.put(b"This plan is sure: it reaches your goal against every hand and every play.\n\n");
 }
 
-// Returns the head of a plan that fails in a game with this ending.
-#[tactic(auto, using(crate::proofs::WrittenIsHead::heads))]
-fn failing_head<A: Allocator + Copy>(
-    alloc: A,
+// Puts the head of a plan that fails in a game with this ending.
+fn put_failing<A: Allocator, P: Page>(
+    page: &mut P,
     problem: &Problem,
+    plan: &Plan<A>,
     ending: Ending,
     game: &Game,
-) -> Result<Vec<u8, A>, AllocError>
-    ensures text { IfOk result (λ text. text.items ≡ head_text problem.now (Verdict.Fails ending game.now)) }
-    ensures short { IfOk result (λ text. length text.items ≤ 16121) }
+)
+    ensures { Prints (failing_text problem.now plan.now ending game.now) (P.stand page.old) (P.stand page.new) }
 {
-    let mut text = Vec::with_capacity(alloc, MOST_IF_FAILING)?;
-    append(&mut text, failing_words(ending));
-    put_game(&mut text, alloc, problem, game)?;
-    append(&mut text, b"\nThe plan:\n\n");
-    Ok(text)
+    page.put(failing_words(ending));
+    put_game(page, problem, game);
+    put_why(page, problem, plan, ending, game);
+    page.put(b"\nThe plan:\n\n");
 }
 
-// Appends the sheet of a game, after an empty line. A refused game has none.
-fn put_game<A: Allocator + Copy>(
-    text: &mut Vec<u8, A>,
-    alloc: A,
-    problem: &Problem,
-    game: &Game,
-) -> Result<(), AllocError>
-    requires { vec_len text.old + 16036 ≤ vec_capacity text.old }
-    ensures items { IfOk result (λ _. text.new.items
-        ≡ text.old.items ++ game_lines (game_sheet_text problem.now game.now)) }
-    ensures room { vec_capacity text.old ≤ vec_capacity text.new }
-    ensures len { vec_len text.new ≤ vec_len text.old + 16036 }
+// Puts the sheet of a game, after an empty line. A refused game has none.
+fn put_game<P: Page>(page: &mut P, problem: &Problem, game: &Game)
+    ensures { Prints (game_lines (game_sheet_text problem.now game.now)) (P.stand page.old) (P.stand page.new) }
 {
-    match write_game_sheet(alloc, problem, game) {
-        Ok(sheet) => {
-            append(text, b"\n");
-            append(text, sheet.as_slice());
-            Ok(())
-        }
-        Err(BoardFault::Game(_)) => Ok(()),
-        Err(BoardFault::NoMemory) => Err(AllocError),
+    if let Ok(report) = replay(problem, game) {
+        page.put(b"\n");
+        put_sheet(page, problem, game, &report);
     }
 }
 
-// Appends the lines of the opening.
-fn put_turns<A: Allocator>(text: &mut Vec<u8, A>, dealer: Side, acts: &[Act])
-    requires { vec_len text.old + 12 * length acts.now ≤ vec_capacity text.old }
-    ensures { Appended text.old text.new (turn_lines dealer acts.now) (12 * length acts.now) }
+// Puts why the plan is stuck after a game, after an empty line, if that is the ending of the game.
+fn put_why<A: Allocator, P: Page>(
+    page: &mut P,
+    problem: &Problem,
+    plan: &Plan<A>,
+    ending: Ending,
+    game: &Game,
+)
+    ensures { Prints (why_text problem.now plan.now ending game.now) (P.stand page.old) (P.stand page.new) }
+{
+    if let Ending::Stuck = ending {
+        page.put(b"\n");
+        put_stuck(page, problem, plan, game.acts.as_slice());
+    }
+}
+
+// Puts the lines of the opening.
+fn put_turns<P: Page>(page: &mut P, dealer: Side, acts: &[Act])
+    ensures { Prints (turn_lines dealer acts.now) (P.stand page.old) (P.stand page.new) }
 {
     for act in acts {
-        put_turn(text, dealer, act);
+        put_turn(page, dealer, act);
     }
 }
 
-// Appends the line of a turn.
-#[tactic(auto, using(crate::proofs::WrittenIsHead::heads))]
-fn put_turn<A: Allocator>(text: &mut Vec<u8, A>, dealer: Side, act: &Act)
-    requires { vec_len text.old + 12 ≤ vec_capacity text.old }
-    ensures { Appended text.old text.new (turn_line dealer act.now) 12 }
+// Puts the line of a turn.
+fn put_turn<P: Page>(page: &mut P, dealer: Side, act: &Act)
+    ensures { Prints (turn_line dealer act.now) (P.stand page.old) (P.stand page.new) }
 {
-    append(text, b"  ");
-    append(text, role_of(dealer, act.side));
-    append(text, b" ");
-    put_move(text, act.what);
-    append(text, b"\n");
+    page.put(b"  ");
+    put_role(page, dealer, act.side);
+    page.put(b" ");
+    put_move(page, act.what);
+    page.put(b"\n");
 }
 
 // Returns why a plan is not sure.

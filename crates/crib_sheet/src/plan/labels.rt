@@ -103,7 +103,8 @@ fn add(text: &mut SpacedLabel, bytes: &[u8])
     text.try_extend_from_slice(bytes).unwrap();
 }
 
-fn letter_byte(place: usize) -> u8
+/// Returns the byte of the letter at a place.
+pub(crate) fn letter_byte(place: usize) -> u8
     requires { place < 14 }
     ensures { result ≡ spec.letter_byte place }
 {

@@ -1,9 +1,9 @@
 //! Which nodes of a plan have paragraphs of their own.
 ghost use Rattle.std.specs.Prelude.{◌≡◌, ◌+◌, ◌*◌, ◌≤◌, length, map, IfOk};
 ghost use Rattle.crib_sheet.specs.PlanBranches.{plan_branches};
-ghost use Rattle.crib_sheet.specs.PlanOutline.{apart_in};
+ghost use Rattle.crib_sheet.specs.PlanOutline.{OnlyLargeAreApart, apart_in};
 ghost use Rattle.crib_sheet.specs.PlanSheet.{sheet_with};
-ghost use Rattle.crib_sheet.specs.PlanSheetSize.{sheet_cards, sheet_levels, sheet_lines};
+ghost use Rattle.crib_sheet.specs.PlanSheetSize.{longest_line, sheet_lines};
 ghost use Rattle.crib_sheet.specs.PlanText.{sheet_text};
 
 use crate::plan::spots::{Spot, spots_of};
@@ -13,9 +13,9 @@ use std::marker::Model;
 
 /// Which nodes of a plan have paragraphs of their own on its sheet: an entry for each node.
 ///
-/// A see node has one if its row would be printed twice or more. A node has one if rows would go on there with more
-/// than four cards, or with more than four levels of lines. A node has one if two nodes lead to it and it leads to a
-/// look that has none. Node 0 has none. A node that the start doesn't lead to may have one too, though no row names it.
+/// A node has one only if rows would go on there with more than four cards, or with more than four levels of lines, or
+/// if they would go on with lines and two nodes lead to it. Node 0 has none. A node that the start doesn't lead to may
+/// have one too, though no row names it.
 #[derive(Drop)]
 pub struct Outline<A: Allocator = Global> {
     pub(crate) flags: Vec<bool, A>,
@@ -33,14 +33,16 @@ impl<A: Allocator + Copy> Outline<A> {
     /// Chooses the nodes that get paragraphs. Fails if an allocation fails.
     ///
     /// - `length`: there is an entry for each node.
-    /// - `levels`, `cards`: the sheet has at most five levels of lines, and at most five cards in a line.
+    /// - `apart`: a node has a paragraph only if its row is too long or too deep, or has lines and is led to twice.
+    /// - `narrow`: no line of the sheet has more than 78 columns.
     /// - `lines`: no line below a look is printed twice, so that there are at most as many as the plan has branches.
     /// - `size`: the text of the sheet has at most 76 bytes for each branch and for each node, and 76 more.
     #[tactic(auto, using(crate::proofs::PlanFits::outline_fits, crate::proofs::PlanOutlines::outline_lines))]
     pub fn of<B: Allocator>(alloc: A, plan: &Plan<B>) -> Result<Outline<A>, AllocError>
         ensures length { IfOk result (λ outline. length outline ≡ length plan.now) }
-        ensures levels { IfOk result (λ outline. sheet_levels (sheet_with (apart_in outline) plan.now) ≤ 5) }
-        ensures cards { IfOk result (λ outline. sheet_cards (sheet_with (apart_in outline) plan.now) ≤ 5) }
+        ensures apart { IfOk result (λ outline. OnlyLargeAreApart (apart_in outline) plan.now) }
+        ensures narrow { IfOk result (λ outline. longest_line 0 (sheet_text (sheet_with (apart_in outline) plan.now))
+            ≤ 78) }
         ensures lines { IfOk result (λ outline. sheet_lines (sheet_with (apart_in outline) plan.now)
             ≤ plan_branches plan.now) }
         ensures size { IfOk result (λ outline. length (sheet_text (sheet_with (apart_in outline) plan.now))

@@ -34,7 +34,7 @@ pub(crate) fn put_number<W: Sink>(sink: &mut W, number: u16) -> Result<(), Cut>
     put_bytes(sink, Buffer::new().format(number).as_bytes())
 }
 
-/// Puts what stands before the row of a line: the blanks of its level, its label, and a colon.
+/// Puts what is before the row of a line: the blanks of its level, its label, and a colon.
 pub(crate) fn put_front<W: Sink>(
     sink: &mut W,
     level: u16,

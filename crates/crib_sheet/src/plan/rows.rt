@@ -1,4 +1,4 @@
-//! The rows of a plan's sheet, each written as the walk over the plan comes to it.
+//! The rows of a plan's sheet, each written as the walk over the plan reaches it.
 ghost use Rattle.std.specs.Prelude.{◌≡◌, ◌≤◌, ◌<◌, ◌+◌, length, map, codes, ◌++◌};
 ghost use Rattle.std.specs.List.{AllByRecursion};
 ghost use Rattle.crib_cards.specs.CardText.{card_text};
@@ -121,7 +121,7 @@ impl<'a> Walk<'a> {
         self.put_lines(sink, &look)
     }
 
-    // What stands between a card and the rest of its row.
+    // What is between a card and the rest of its row.
     fn before_rest(&self, place: Next) -> &'static [u8]
         requires plan { ArePlan self.now.nodes.now }
         requires there { IsDeep 0 (length self.now.nodes.now) place }
@@ -205,7 +205,7 @@ impl<'a> Walk<'a> {
     }
 }
 
-// Puts a card, and what stands between it and the rest of its row.
+// Puts a card, and what is between it and the rest of its row.
 fn put_card<W: Sink>(sink: &mut W, card: Card, rest: &[u8]) -> Result<(), Cut>
     requires { length rest.now ≤ 7 }
     ensures { Puts (card_text card ++ rest.now) (W.contents sink.old) (W.contents sink.new) (W.faults sink.old)

@@ -1,11 +1,12 @@
 //! What is known of the nodes of a plan while paragraphs are chosen.
-ghost use Rattle.std.specs.Prelude.{◌≡◌, ◌<◌, ◌≤◌, false, length, map, IfOk};
-ghost use Rattle.std.specs.List.{AllByRecursion};
+ghost use Rattle.std.specs.Prelude.{◌≡◌, ◌≤◌, true, false, length, IfOk};
 ghost use Rattle.crib_plan.specs.Nodes.{ArePlan};
-ghost use Rattle.crib_sheet.specs.Private.Spots.{AreLow, AreSized, HasSize, HaveWays};
+ghost use Rattle.crib_sheet.specs.Private.Spots.{AreLow, AreSized, IsBroken, IsWhole};
+ghost use Rattle.crib_sheet.specs.Private.Spots.{is_first_apart, node_cards, node_levels};
 ghost use Rattle.crib_sheet.specs.Private.Spots as spec;
+ghost use Rattle.crib_sheet.specs.Private.Ways.{AreCounted};
 
-use crate::plan::ways::{Way, ways_of};
+use crate::plan::ways::ways_of;
 use crib_plan::{Next, Node};
 use std::alloc::{AllocError, Allocator};
 
@@ -19,15 +20,12 @@ const LONGEST: u8 = 4;
 pub(crate) struct Spot {
     // Whether the node has a paragraph of its own.
     pub(crate) is_apart: bool,
-    // The number of nodes that lead to it, at most 2.
-    ways: u8,
     // The levels of lines, and the cards, with which a row that leads to it goes on.
     levels: u8,
     cards: u8,
 }
 
 /// Returns what is known of each node of a plan. Fails if an allocation fails.
-#[tactic(auto, using(crate::proofs::PlanOutlines::have_ways))]
 pub(crate) fn spots_of<A: Allocator + Copy>(
     alloc: A,
     nodes: &[Node],
@@ -36,26 +34,25 @@ pub(crate) fn spots_of<A: Allocator + Copy>(
     ensures length { IfOk result (λ spots. length spots.items ≡ length nodes.now) }
     ensures low { IfOk result (λ spots. AreLow spots.items) }
     ensures sized { IfOk result (λ spots. AreSized 1 nodes.now spots.items) }
-    ensures ways { IfOk result (λ spots. HaveWays nodes.now spots.items) }
+    ensures first { IfOk result (λ spots. is_first_apart spots.items ≡ false) }
 {
     let ways = ways_of(alloc, nodes)?;
-    let mut spots = new_spots(alloc, ways.as_slice())?;
-    break_rows(&mut spots, nodes);
+    let mut spots = new_spots(alloc, nodes.len())?;
+    break_rows(&mut spots, ways.as_slice(), nodes);
     Ok(spots)
 }
 
-// Entries of nodes of which only the ways to them are known.
-#[tactic(auto, using(crate::proofs::PlanSpots::low_none, crate::proofs::PlanSpots::low_push, crate::proofs::PlanOutlines::ways_push))]
-fn new_spots<A: Allocator>(alloc: A, ways: &[Way]) -> Result<Vec<Spot, A>, AllocError>
-    ensures length { IfOk result (λ spots. length spots.items ≡ length ways.now) }
+// Entries of nodes of which nothing is known yet.
+#[tactic(auto, using(crate::proofs::PlanSpots::low_none, crate::proofs::PlanSpots::low_push, crate::proofs::PlanSpots::first_push))]
+fn new_spots<A: Allocator>(alloc: A, count: usize) -> Result<Vec<Spot, A>, AllocError>
+    ensures length { IfOk result (λ spots. length spots.items ≡ count) }
     ensures low { IfOk result (λ spots. AreLow spots.items) }
-    ensures ways { IfOk result (λ spots. map (λ spot. spot.ways) spots.items ≡ map (λ way. way.ways) ways.now) }
+    ensures first { IfOk result (λ spots. is_first_apart spots.items ≡ false) }
 {
-    let mut spots = Vec::with_capacity(alloc, ways.len())?;
-    for way in ways {
+    let mut spots = Vec::with_capacity(alloc, count)?;
+    for _place in 0..count {
         spots.push(Spot {
-            is_apart: way.is_shared,
-            ways: way.ways,
+            is_apart: false,
             levels: 0,
             cards: 0,
         })?;
@@ -63,66 +60,76 @@ fn new_spots<A: Allocator>(alloc: A, ways: &[Way]) -> Result<Vec<Spot, A>, Alloc
     Ok(spots)
 }
 
-// Gives paragraphs to the nodes whose rows would be too long or too deep, or repeat lines, from the last node on.
-fn break_rows(spots: &mut [Spot], nodes: &[Node])
+// Gives paragraphs to the nodes whose rows are too large, from the last node on.
+fn break_rows(spots: &mut [Spot], ways: &[u8], nodes: &[Node])
     requires plan { ArePlan nodes.now }
     requires length { length spots.old ≡ length nodes.now }
     requires low { AreLow spots.old }
-    requires ways { HaveWays nodes.now spots.old }
+    requires ways { length ways.now ≡ length nodes.now }
+    requires counted { AreCounted nodes.now ways.now }
     ensures length { length spots.new ≡ length spots.old }
     ensures low { AreLow spots.new }
     ensures sized { AreSized 1 nodes.now spots.new }
-    ensures ways { HaveWays nodes.now spots.new }
+    ensures first { is_first_apart spots.new ≡ is_first_apart spots.old }
 {
     let mut place = nodes.len();
     while place > 1 {
         place -= 1;
-        let spot = broken(spots, spots[place], &nodes[place]);
+        let spot = settled(spots, ways[place], &nodes[place]);
         spots[place] = spot;
     }
 }
 
-// What is known of a node, from the nodes after it.
-fn broken(spots: &[Spot], spot: Spot, node: &Node) -> Spot
+// What is known of a node to which so many ways lead, from the nodes after it.
+fn settled(spots: &[Spot], ways: u8, node: &Node) -> Spot
     requires { AreLow spots.now }
     ensures low { (result.levels ≤ 4) × (result.cards ≤ 4) }
-    ensures sized { result.is_apart ≡ false → HasSize spots.now result.levels result.cards node.now }
-    ensures once { result.is_apart ≡ false → 1 < result.ways → result.levels ≡ 0 }
-    ensures ways { result.ways ≡ spot.ways }
+    ensures whole { result.is_apart ≡ false → IsWhole spots.now result.levels result.cards ways node.now }
+    ensures broken { result.is_apart ≡ true → IsBroken spots.now result.levels result.cards ways node.now }
 {
-    let (levels, cards) = row_size(spots, node);
-    if spot.is_apart || levels > DEEPEST || cards > LONGEST || (levels > 0 && spot.ways > 1) {
+    let levels = levels_of(spots, node);
+    let cards = cards_of(spots, node);
+    if levels > DEEPEST || cards > LONGEST || (levels > 0 && ways > 1) {
         return Spot {
             is_apart: true,
-            ways: spot.ways,
             levels: 0,
             cards: 0,
         };
     }
     Spot {
         is_apart: false,
-        ways: spot.ways,
         levels,
         cards,
     }
 }
 
-// The levels of lines in the row of a node, and the cards with which it begins.
-fn row_size(spots: &[Spot], node: &Node) -> (u8, u8)
+// The levels of lines in the row of a node.
+fn levels_of(spots: &[Spot], node: &Node) -> u8
     requires { AreLow spots.now }
-    ensures { HasSize spots.now result.0 result.1 node.now }
+    ensures { result ≡ node_levels spots.now node.now }
 {
     match node {
-        Node::Play { card: _, next } => (levels_at(spots, *next), cards_at(spots, *next) + 1),
-        Node::See { next } => (most_levels(spots, next) + 1, 0),
+        Node::Play { card: _, next } => levels_at(spots, *next),
+        Node::See { next } => most_levels(spots, next) + 1,
+    }
+}
+
+// The cards with which the row of a node begins.
+fn cards_of(spots: &[Spot], node: &Node) -> u8
+    requires { AreLow spots.now }
+    ensures { result ≡ node_cards spots.now node.now }
+{
+    match node {
+        Node::Play { card: _, next } => cards_at(spots, *next) + 1,
+        Node::See { next: _ } => 0,
     }
 }
 
 // The most levels of lines with which a row goes on at some places.
 fn most_levels(spots: &[Spot], places: &[Next]) -> u8
     requires { AreLow spots.now }
-    ensures most { result ≤ 4 }
-    ensures each { AllByRecursion (λ place. spec.levels_at spots.now place ≤ result) places.now }
+    ensures few { result ≤ 4 }
+    ensures most { result ≡ spec.most_levels spots.now places.now }
 {
     match places {
         [] => 0,

@@ -1,8 +1,11 @@
 //! The sheets of plans, whole.
 use crate::*;
+use crib_check::Verdict;
 use crib_plan::{Plan, read_plan};
+use crib_problem::{Problem, read_problem};
 use crib_run::Status;
 use crib_text::{Counted, Lines, Sink};
+use example_texts::problems::STOP_FAR;
 use failing_devices::{Tray, Trouble};
 use std::alloc::Global;
 use std::io::ErrorKind;
@@ -102,9 +105,14 @@ const DEEP_SHEET: &str = "look:
 const LEGEND: &str = "
 Play a row in order, one card at each of your turns. If none of your cards
 fits, say go and stay there. At \"look\", go on in the line of what they show
-next: a rank, or a go, even after yours. At the end of a row, or if there is
-no line, nothing is left to decide. At \"see [n]\", go on in paragraph [n].
+next: a rank, or a go, even after yours. At \"see [n]\", go on in paragraph [n].
+At the end of a row, or if there is no line, ";
+
+const IF_SURE: &str = "nothing is left to decide, or
+your goal is reached: then play as you like.
 ";
+
+const OTHERWISE: &str = "the plan states nothing more.\n";
 
 /// The plan that this text spells.
 pub(crate) fn plan(rt: &(impl Abort + AllocGlobal), text: &str) -> Plan<Global> {
@@ -114,20 +122,54 @@ pub(crate) fn plan(rt: &(impl Abort + AllocGlobal), text: &str) -> Plan<Global> 
     read_plan(rt.alloc(), &mut lines).expect(rt, "a plan")
 }
 
+// The head of a sure plan for this problem.
+const HEAD: &str = "\
+You are the pone at 0, and the dealer is at 0. The starter is KD.
+You hold 2C 2D 2H 2S and threw 4C 6D.
+You want to keep the dealer from winning in this deal.
+This plan is sure: it reaches your goal against every hand and every play.
+
+";
+
+fn problem(rt: &impl Abort) -> Problem {
+    let text = STOP_FAR.as_bytes();
+    assert!(rt; text.len() <= 8_388_608);
+    read_problem(&mut Lines::new(text).expect(rt, "a text")).expect(rt, "a problem")
+}
+
 fn outline(rt: &(impl Abort + AllocGlobal), plan: &Plan<Global>) -> Outline<Global> {
     Outline::of(rt.alloc(), plan).expect(rt, "memory")
 }
 
-// Asserts that the sheet of a plan has this text.
-fn has_sheet(rt: &(impl Abort + AllocGlobal), plan_text: &str, sheet: &str) {
+// Asserts that the sheet of a plan has this text, by its status, and this end.
+fn has_page(
+    rt: &(impl Abort + AllocGlobal),
+    plan_text: &str,
+    sheet: &str,
+    status: Status,
+    end: &str,
+) {
     let plan = plan(rt, plan_text);
     let outline = outline(rt, &plan);
     let mut sink = Counted::new(Tray::new(rt.alloc(), 4096, Trouble::Never));
-    let status = send_plan_sheet(&mut sink, b"A plan.\n\n", &plan, &outline, Status::No);
+    let problem = problem(rt);
+    let sent = send_plan_sheet(
+        &mut sink,
+        &problem,
+        &plan,
+        &Verdict::Holds,
+        &outline,
+        status,
+    );
     let text = sink.into_inner().into_bytes();
-    let wanted = format!(in rt.alloc(); "A plan.\n\n{sheet}{LEGEND}").expect(rt, "memory");
+    let wanted = format!(in rt.alloc(); "{HEAD}{sheet}{LEGEND}{end}").expect(rt, "memory");
     assert_eq!(rt; text.as_slice(), wanted.as_bytes());
-    assert_eq!(rt; status, Status::No);
+    assert_eq!(rt; sent, status);
+}
+
+fn has_sheet(rt: &(impl Abort + AllocGlobal), plan_text: &str, sheet: &str) {
+    has_page(rt, plan_text, sheet, Status::No, OTHERWISE);
+    has_page(rt, plan_text, sheet, Status::Yes, IF_SURE);
 }
 
 #[test]
@@ -151,8 +193,16 @@ fn cuts_deep_looks(rt: HostRuntime) {
 }
 
 #[test]
-fn says_that_no_card_is_needed(rt: HostRuntime) {
-    has_sheet(&rt, "plan 1\nnodes 0\n", "No card is needed.\n");
+fn says_whether_a_card_is_needed(rt: HostRuntime) {
+    let plan = "plan 1\nnodes 0\n";
+    has_page(&rt, plan, "No card is needed.\n", Status::Yes, IF_SURE);
+    has_page(
+        &rt,
+        plan,
+        "The plan states no card.\n",
+        Status::No,
+        OTHERWISE,
+    );
 }
 
 // The writer accepts seven bytes at each call. One of its calls fails.
@@ -160,12 +210,27 @@ fn says_that_no_card_is_needed(rt: HostRuntime) {
 fn a_failed_write_leaves_a_front(rt: HostRuntime) {
     let plan = plan(&rt, DEEP);
     let outline = outline(&rt, &plan);
+    let problem = problem(&rt);
     let mut whole = Counted::new(Tray::new(rt.alloc(), 7, Trouble::Never));
-    let _status = send_plan_sheet(&mut whole, b"", &plan, &outline, Status::Yes);
+    let _status = send_plan_sheet(
+        &mut whole,
+        &problem,
+        &plan,
+        &Verdict::Holds,
+        &outline,
+        Status::Yes,
+    );
     let wanted = whole.into_inner().into_bytes();
     for call in 1..1000 {
         let mut sink = Counted::new(Tray::new(rt.alloc(), 7, Trouble::At(call, ErrorKind::Other)));
-        let status = send_plan_sheet(&mut sink, b"", &plan, &outline, Status::Yes);
+        let status = send_plan_sheet(
+            &mut sink,
+            &problem,
+            &plan,
+            &Verdict::Holds,
+            &outline,
+            Status::Yes,
+        );
         let faults = sink.faults();
         let text = sink.into_inner().into_bytes();
         if faults == 0 {

@@ -1,14 +1,17 @@
 //! Whole sheets of games.
-use crate::tests::played;
-use crate::*;
-use crib_board::BoardFault;
-use crib_game::GameFault;
+use crate::game::put_acts_before;
+use crate::page::Printer;
+use crate::tests::{played, sheet};
+use crib_game::{GameFault, replay};
 use crib_input::Played;
+use crib_run::Status;
+use crib_text::Counted;
 use example_texts::games::*;
 use example_texts::problems::*;
-use refusing_alloc::Refusing;
+use failing_devices::{Tray, Trouble};
+use std::alloc::Global;
+use std::io::ErrorKind;
 use std::process::Abort;
-use std::test::Fail;
 
 // The opponent says go at 29, and the owner falls short.
 const LAST_CARD_SHEET: &str = "\
@@ -46,8 +49,7 @@ The deal is over: you fall short of your goal.
 ";
 
 // Six turns were played already, and nothing else changes.
-const BEGUN_LINE: &str =
-    "The first 6 turns were played already. The scores are those before them.\n";
+const BEGUN_LINE: &str = "The first 6 turns were played. Scores and cards are those before them.\n";
 
 const PEGGED_OUT_SHEET: &str = "\
 You are the pone at 100, and the dealer is at 119. The starter is KD.
@@ -92,79 +94,126 @@ The pone holds AC AD AH AS and threw 3C 7C.
 The deal is over: you win.
 ";
 
+// The pone's hand reaches the goal, and nothing more is counted.
+const HOLES_SHEET: &str = "\
+You are the pone at 0, and the dealer is at 0. The starter is KD.
+You hold 2C 2D 2H 2S and threw 4C 6D.
+You want 12 holes or more in this deal.
+The dealer holds AC AD AH AS and threw 3C 3D.
+
+ # side   card count you they  points
+ 1 pone   2C       2   0    0
+ 2 dealer AC       3   0    0
+ 3 pone   2D       5   0    0
+ 4 dealer AD       6   0    0
+ 5 pone   2H       8   0    0
+ 6 dealer AH       9   0    0
+ 7 pone   2S      11   0    0
+ 8 dealer AS      12   0    1  1: last card 1
+
+The pone's hand: 2C 2D 2H 2S with KD, 12 points (you 12, they 1)
+  pair 2: 2C 2D
+  pair 2: 2C 2H
+  pair 2: 2C 2S
+  pair 2: 2D 2H
+  pair 2: 2D 2S
+  pair 2: 2H 2S
+
+You have reached your goal; the deal isn't counted further.
+";
+
 const ACTS_BEFORE_A_KING: &str = " 1 pone   TC      10   0    0
  2 dealer TD      20   0    2  2: pair 2
  3 pone   9C      29   0    2
 ";
 
+fn tray(rt: &(impl Abort + AllocGlobal), trouble: Trouble) -> Counted<Tray<Global>> {
+    Counted::new(Tray::new(rt.alloc(), 7, trouble))
+}
+
 // The sheet of the game has this text.
-fn has_sheet(
-    rt: &(impl Abort + AllocGlobal),
-    problem: &str,
-    game: &str,
-    sheet: &str,
-) -> Result<(), Fail> {
-    let Played { problem, game, .. } = played(rt, problem, game);
-    let text = write_game_sheet(rt.alloc(), &problem, &game)?;
-    assert_eq!(rt; text.as_slice(), sheet.as_bytes());
-    Ok(())
+fn has_sheet(rt: &(impl Abort + AllocGlobal), problem: &str, game: &str, wanted: &str) {
+    let (text, status) = sheet(rt, problem, game, Trouble::Never);
+    assert_eq!(rt; text.as_slice(), wanted.as_bytes());
+    assert_eq!(rt; status, Status::Yes);
 }
 
 #[test]
-fn writes_the_sheet_of_a_whole_game(rt: HostRuntime) -> Result<(), Fail> {
-    has_sheet(&rt, TENS, LAST_CARD, LAST_CARD_SHEET)
+fn writes_the_sheet_of_a_whole_game(rt: HostRuntime) {
+    has_sheet(&rt, TENS, LAST_CARD, LAST_CARD_SHEET);
 }
 
 #[test]
-fn writes_how_much_was_played_already(rt: HostRuntime) -> Result<(), Fail> {
-    let Played { problem, game, .. } = played(&rt, TENS_BEGUN, LAST_CARD);
-    let text = write_game_sheet(rt.alloc(), &problem, &game)?;
-    let heading = text.as_slice().get(..121).expect(&rt, "a heading");
+fn writes_how_much_was_played_already(rt: HostRuntime) {
+    let (text, _) = sheet(&rt, TENS_BEGUN, LAST_CARD, Trouble::Never);
+    let bytes = text.as_slice();
+    assert!(rt; bytes.len() > 121);
+    let (heading, rest) = bytes.split_at(121);
     assert!(rt; LAST_CARD_SHEET.as_bytes().starts_with(heading));
-    let line = text.as_slice().get(121..194).expect(&rt, "a line");
-    assert_eq!(rt; line, BEGUN_LINE.as_bytes());
-    Ok(())
+    assert!(rt; rest.starts_with(BEGUN_LINE.as_bytes()));
+    assert!(rt;
+        LAST_CARD_SHEET
+            .as_bytes()
+            .ends_with(&rest[BEGUN_LINE.len()..])
+    );
 }
 
 #[test]
-fn writes_the_sheet_of_a_game_that_the_play_decides(rt: HostRuntime) -> Result<(), Fail> {
-    has_sheet(&rt, CLOSE, PAIRED, PEGGED_OUT_SHEET)
+fn writes_the_sheet_of_a_game_that_the_play_decides(rt: HostRuntime) {
+    has_sheet(&rt, CLOSE, PAIRED, PEGGED_OUT_SHEET);
 }
 
 #[test]
-fn writes_the_sheet_of_an_open_deal(rt: HostRuntime) -> Result<(), Fail> {
-    has_sheet(&rt, STOP_FAR, NO_ACTS, OPEN_SHEET)
+fn writes_the_sheet_of_an_open_deal(rt: HostRuntime) {
+    has_sheet(&rt, STOP_FAR, NO_ACTS, OPEN_SHEET);
 }
 
 #[test]
-fn writes_the_sheet_of_a_goal_that_is_reached(rt: HostRuntime) -> Result<(), Fail> {
-    has_sheet(&rt, NEAR, OPPONENT_LEADS_TO_NOTHING, REACHED_SHEET)
+fn writes_the_sheet_of_a_goal_that_is_reached(rt: HostRuntime) {
+    has_sheet(&rt, NEAR, OPPONENT_LEADS_TO_NOTHING, REACHED_SHEET);
 }
 
 #[test]
-fn writes_the_acts_before_a_refusal(rt: HostRuntime) -> Result<(), Fail> {
-    let Played { problem, game, .. } = played(&rt, TENS, PAST_31);
-    let refused = write_game_sheet(rt.alloc(), &problem, &game);
-    assert!(rt; matches!(refused, Err(BoardFault::Game(GameFault::DoesNotFit(4)))));
-    let acts = write_acts(rt.alloc(), &problem, &game)?;
-    assert_eq!(rt; acts.as_slice(), ACTS_BEFORE_A_KING.as_bytes());
-    let Played { problem, game, .. } = played(&rt, TENS, TAKES_THE_LEAD);
-    let none = write_acts(rt.alloc(), &problem, &game)?;
-    assert!(rt; none.is_empty());
-    Ok(())
+fn writes_no_hand_after_the_goal(rt: HostRuntime) {
+    has_sheet(&rt, TWELVE, OWNER_LEADS, HOLES_SHEET);
 }
 
-// The first allocation is the only one.
+// The acts before the refused one, also if it is part of the opening.
 #[test]
-fn allocates_once(rt: HostRuntime) {
-    let Played { problem, game, .. } = played(&rt, TENS, LAST_CARD);
-    let first = Refusing::after(rt.alloc(), 0);
-    let refused = write_game_sheet(&first, &problem, &game);
-    assert!(rt; matches!(refused, Err(BoardFault::NoMemory)));
-    let other = Refusing::after(rt.alloc(), 0);
-    let refused = write_acts(&other, &problem, &game);
-    assert!(rt; matches!(refused, Err(BoardFault::NoMemory)));
-    let second = Refusing::after(rt.alloc(), 1);
-    assert!(rt; write_game_sheet(&second, &problem, &game).is_ok());
-    assert!(rt; !second.has_refused());
+fn writes_the_acts_before_a_refusal(rt: HostRuntime) {
+    for (problem, game, fault, wanted) in [
+        (TENS, PAST_31, GameFault::DoesNotFit(4), ACTS_BEFORE_A_KING),
+        (TENS, TAKES_THE_LEAD, GameFault::NotTurn(1), ""),
+        (
+            BEGUN,
+            DIAMOND_FIRST,
+            GameFault::NotAsPlayed(2),
+            " 1 pone   2C       2   0    0\n",
+        ),
+    ] {
+        let Played { problem, game, .. } = played(&rt, problem, game);
+        assert_eq!(rt; replay(&problem, &game).err(), Some(fault));
+        let mut sink = Counted::new(Tray::new(rt.alloc(), 7, Trouble::Never));
+        let mut page = Printer {
+            sink: &mut sink,
+            is_cut: false,
+        };
+        put_acts_before(&mut page, &problem, &game, fault);
+        assert_eq!(rt;
+            sink.into_inner().into_bytes().as_slice(),
+            wanted.as_bytes()
+        );
+    }
+}
+
+// Nothing is written after a call that failed.
+#[test]
+fn a_failed_write_leaves_a_front(rt: HostRuntime) {
+    for call in 1..40u64 {
+        let trouble = Trouble::At(call, ErrorKind::Other);
+        let (text, status) = sheet(&rt, TENS, LAST_CARD, trouble);
+        assert_eq!(rt; status, Status::Fault);
+        assert!(rt; LAST_CARD_SHEET.as_bytes().starts_with(text.as_slice()));
+        assert!(rt; text.len() < LAST_CARD_SHEET.len());
+    }
 }

@@ -62,9 +62,9 @@ fn lists_a_double_run(rt: HostRuntime) {
     let expected: [Counted; 5] = [
         (Kind::Fifteen, 2, &[b"5H", b"KC"]),
         (Kind::Fifteen, 2, &[b"5S", b"KC"]),
+        (Kind::Pair, 2, &[b"5H", b"5S"]),
         (Kind::Run, 3, &[b"3C", b"4D", b"5H"]),
         (Kind::Run, 3, &[b"3C", b"4D", b"5S"]),
-        (Kind::Pair, 2, &[b"5H", b"5S"]),
     ];
     has(&rt, &crib_combinations(&cards, card(&rt, b"KC")), &expected);
 }

@@ -2,8 +2,8 @@
 ghost use Rattle.std.specs.Prelude.{◌≡◌, ◌⊎◌, ◌+◌, ◌≤◌, ◌∷◌, ◌++◌, [], IsFalse, IsTrue};
 ghost use Rattle.crib_cards.specs.Cards.{IsRank};
 ghost use Rattle.crib_show.specs.Private.Extremes.{most_suit_points, plain_crib, ranks_from, cards_in_suit};
-ghost use Rattle.crib_show.specs.Private.Totals.{NoneGive, SomeGive, card_gives, ranks_give, sought_points};
-ghost use Rattle.crib_show.specs.Private.Totals.{throw_gives};
+ghost use Rattle.crib_show.specs.Private.Totals.{NoneScores, SomeScores, card_scores, ranks_score, target_points};
+ghost use Rattle.crib_show.specs.Private.Totals.{throw_scores};
 ghost use Rattle.crib_show.specs.Show.{crib_points, plain_of_ranks};
 ghost use Rattle.crib_show.specs.Worst.{ArePlain, HasDeal, IsGreatestCrib, IsGreatestTotal};
 
@@ -15,23 +15,23 @@ use crib_cards::{Card, Rank, Suit};
 
 /// The points that the search makes as great as possible.
 #[derive(Clone, Copy)]
-pub enum Sought {
+pub enum Target {
     /// Those of the crib.
     Crib,
     /// Those of the crib, and the most that suits add to the opponent's hand of these ranks.
     CribAndHand([Rank; 4]),
 }
 
-// The opponent's throws, and the points that are searched for among them. `spare` is the most points that suits add to
-// the hand.
+// The opponent's throws, and the points to make as great as possible among them. `suit_bonus` is the most points that
+// suits add to the hand.
 #[derive(Drop)]
 struct Throws<'a> {
     worst: &'a WorstShow,
     plain: &'a PlainCribs,
-    sought: &'a Sought,
-    spare: u8,
+    aim: &'a Target,
+    suit_bonus: u8,
     ghost points: { ArePlain worst.now.starter worst.now.own_throw plain.now },
-    ghost range: { spare ≤ 6 },
+    ghost range: { suit_bonus ≤ 6 },
 }
 
 impl WorstShow {
@@ -51,7 +51,7 @@ impl WorstShow {
         ensures { IsGreatestCrib self.now result }
     {
         know_set(self.unseen);
-        self.most_sought(plain, &Sought::Crib, 0, self.high_crib(plain))
+        self.most_points(plain, &Target::Crib, 0, self.high_crib(plain))
     }
 
     // The same as [`WorstShow::most_total`]. `crib` is the points of the greatest crib.
@@ -64,27 +64,27 @@ impl WorstShow {
         know_set(self.unseen);
         know_set(self.fixed);
         let hand = self.ranks_hand();
-        let sought = Sought::CribAndHand(hand.ranks);
-        hand.plain + self.most_sought(plain, &sought, hand.suits, crib + hand.suits)
+        let aim = Target::CribAndHand(hand.ranks);
+        hand.plain + self.most_points(plain, &aim, hand.suits, crib + hand.suits)
     }
 
-    // The greatest number up to `bound` for which some throw scores at least this many of these points, or 0. `spare`
-    // is the most points that suits add to the hand.
-    fn most_sought(&self, plain: &PlainCribs, sought: &Sought, spare: u8, bound: u8) -> u8
+    // The greatest number up to `bound` for which some throw scores at least this many of these points, or 0.
+    // `suit_bonus` is the most points that suits add to the hand.
+    fn most_points(&self, plain: &PlainCribs, aim: &Target, suit_bonus: u8, bound: u8) -> u8
         requires plain { ArePlain self.now.starter self.now.own_throw plain.now }
-        requires range { spare ≤ 6 }
-        ensures some { (result ≡ 0) ⊎ SomeGive self.now sought.now spare result }
-        ensures all { (result ≡ bound) ⊎ NoneGive self.now sought.now spare (result + 1) }
+        requires range { suit_bonus ≤ 6 }
+        ensures some { (result ≡ 0) ⊎ SomeScores self.now aim.now suit_bonus result }
+        ensures all { (result ≡ bound) ⊎ NoneScores self.now aim.now suit_bonus (result + 1) }
         ensures range { result ≤ bound }
     {
         let throws = Throws {
             worst: self,
             plain,
-            sought,
-            spare,
+            aim,
+            suit_bonus,
         };
         let mut most = bound;
-        while most > 0 && !throws.some_give(most) {
+        while most > 0 && !throws.any_throw_scores(most) {
             most -= 1;
         }
         most
@@ -104,14 +104,14 @@ impl WorstShow {
 }
 
 impl Throws<'_> {
-    // Whether some throw of two ranks gives at least `enough` points.
-    fn some_give(&self, enough: u8) -> bool
-        ensures some { IsTrue result → SomeGive self.now.worst.now self.now.sought.now self.now.spare enough }
-        ensures none { IsFalse result → NoneGive self.now.worst.now self.now.sought.now self.now.spare enough }
+    // Whether some throw of two ranks gives at least `wanted` points.
+    fn any_throw_scores(&self, wanted: u8) -> bool
+        ensures some { IsTrue result → SomeScores self.now.worst.now self.now.aim.now self.now.suit_bonus wanted }
+        ensures none { IsFalse result → NoneScores self.now.worst.now self.now.aim.now self.now.suit_bonus wanted }
     {
         for first in 1..14 {
             for second in first..14 {
-                if self.ranks_give(enough, rank_numbered(first), rank_numbered(second)) {
+                if self.ranks_score(wanted, rank_numbered(first), rank_numbered(second)) {
                     return true;
                 }
             }
@@ -119,52 +119,52 @@ impl Throws<'_> {
         false
     }
 
-    // Whether some throw of these two ranks gives at least `enough` points. A bound is tried first: the points of the
-    // ranks, the most that suits add to the crib, and `spare`.
-    fn ranks_give(&self, enough: u8, first: Rank, second: Rank) -> bool
+    // Whether some throw of these two ranks gives at least `wanted` points. A bound is tried first: the points of the
+    // ranks, the most that suits add to the crib, and `suit_bonus`.
+    fn ranks_score(&self, wanted: u8, first: Rank, second: Rank) -> bool
         requires { IsRank first × IsRank second }
-        ensures { result ≡ ranks_give self.now.worst.now self.now.sought.now self.now.spare enough first second }
+        ensures { result ≡ ranks_score self.now.worst.now self.now.aim.now self.now.suit_bonus wanted first second }
     {
         let points = self.plain.of(first, second);
-        if points + MOST_OF_SUITS + self.spare < enough {
+        if points + MOST_OF_SUITS + self.suit_bonus < wanted {
             return false;
         }
-        enough <= points + self.worst.most_crib_suits(first, second) + self.spare
+        wanted <= points + self.worst.most_crib_suits(first, second) + self.suit_bonus
             && self.worst.has_room(first, second)
-            && (self.card_gives(enough, Card::of(first, Suit::Clubs), second)
-                || self.card_gives(enough, Card::of(first, Suit::Diamonds), second)
-                || self.card_gives(enough, Card::of(first, Suit::Hearts), second)
-                || self.card_gives(enough, Card::of(first, Suit::Spades), second))
+            && (self.card_scores(wanted, Card::of(first, Suit::Clubs), second)
+                || self.card_scores(wanted, Card::of(first, Suit::Diamonds), second)
+                || self.card_scores(wanted, Card::of(first, Suit::Hearts), second)
+                || self.card_scores(wanted, Card::of(first, Suit::Spades), second))
     }
 
-    // Whether this card may be thrown with one of the rank, and some such throw gives at least `enough` points.
-    fn card_gives(&self, enough: u8, first: Card, rank: Rank) -> bool
-        ensures { result ≡ card_gives self.now.worst.now self.now.sought.now enough first rank }
+    // Whether this card may be thrown with one of the rank, and some such throw gives at least `wanted` points.
+    fn card_scores(&self, wanted: u8, first: Card, rank: Rank) -> bool
+        ensures { result ≡ card_scores self.now.worst.now self.now.aim.now wanted first rank }
     {
         self.worst.is_free(first)
-            && (self.throw_gives(enough, first, Card::of(rank, Suit::Clubs))
-                || self.throw_gives(enough, first, Card::of(rank, Suit::Diamonds))
-                || self.throw_gives(enough, first, Card::of(rank, Suit::Hearts))
-                || self.throw_gives(enough, first, Card::of(rank, Suit::Spades)))
+            && (self.throw_scores(wanted, first, Card::of(rank, Suit::Clubs))
+                || self.throw_scores(wanted, first, Card::of(rank, Suit::Diamonds))
+                || self.throw_scores(wanted, first, Card::of(rank, Suit::Hearts))
+                || self.throw_scores(wanted, first, Card::of(rank, Suit::Spades)))
     }
 
-    // Whether the second card may be thrown with the first, and this throw gives at least `enough` points.
-    fn throw_gives(&self, enough: u8, first: Card, second: Card) -> bool
-        ensures { result ≡ throw_gives self.now.worst.now self.now.sought.now enough first second }
+    // Whether the second card may be thrown with the first, and this throw gives at least `wanted` points.
+    fn throw_scores(&self, wanted: u8, first: Card, second: Card) -> bool
+        ensures { result ≡ throw_scores self.now.worst.now self.now.aim.now wanted first second }
     {
         self.worst.is_free(second)
             && first.number() != second.number()
-            && enough <= self.sought_points(first, second)
+            && wanted <= self.target_points(first, second)
     }
 
     // The points to make as great as possible, with these two cards thrown.
-    fn sought_points(&self, first: Card, second: Card) -> u8
-        ensures { result ≡ sought_points self.now.worst.now self.now.sought.now first second }
+    fn target_points(&self, first: Card, second: Card) -> u8
+        ensures { result ≡ target_points self.now.worst.now self.now.aim.now first second }
     {
         let crib = self.worst.crib_of_throw(self.plain, first, second);
-        match self.sought {
-            Sought::Crib => crib,
-            Sought::CribAndHand(ranks) => {
+        match self.aim {
+            Target::Crib => crib,
+            Target::CribAndHand(ranks) => {
                 // The opponent can't hold the two thrown cards.
                 let show = WorstShow {
                     unseen: self.worst.unseen.without(first).without(second),

@@ -103,9 +103,9 @@ fn a_fault_has_words(rt: HostRuntime) -> Result<(), Fail> {
     Ok(())
 }
 
-// The input is read again for the words. If memory for its plan is refused then, there are none.
+// Where the input is refused, its words are whole, whichever allocation fails.
 #[test]
-fn words_without_memory_are_left_out(rt: HostRuntime) -> Result<(), Fail> {
+fn words_need_no_memory(rt: HostRuntime) -> Result<(), Fail> {
     let input = joined_with(rt.alloc(), &[THIRTEEN, TWOS], 10, "0 play 2X 1")?;
     let plenty = outcome_with_words(rt.alloc(), rt.alloc(), Job::Check, input.as_bytes());
     assert!(rt; plenty.words.len() > 0);
@@ -114,11 +114,13 @@ fn words_without_memory_are_left_out(rt: HostRuntime) -> Result<(), Fail> {
         let written = outcome_with_words(rt.alloc(), &heap, Job::Check, input.as_bytes());
         if written.status == Status::Refused {
             assert_eq!(rt; written.text.as_slice(), plenty.text.as_slice());
-            if !heap.has_refused() {
-                assert_eq!(rt; written.words.as_slice(), plenty.words.as_slice());
-                return Ok(());
-            }
-            assert_eq!(rt; written.words.len(), 0);
+            assert_eq!(rt; written.words.as_slice(), plenty.words.as_slice());
+        } else {
+            written.is(&rt, "fault 11\n", Status::Fault, "no memory");
+            written.says(&rt, "cribplan: out of memory\n", "no memory");
+        }
+        if !heap.has_refused() {
+            return Ok(());
         }
     }
     panic!(rt; "a run that never ends to grow")

@@ -1,5 +1,5 @@
 //! Runs over inputs in memory, and what they write.
-use crate::run::{run, run_with_words};
+use crate::{run, run_with_words};
 use crib_answer::Job;
 use crib_run::Status;
 use crib_text::Counted;
@@ -113,7 +113,7 @@ impl Written {
     }
 }
 
-/// Asserts that a run over some sections writes this text, with this status.
+/// Asserts that a run over some sections writes this text, with this status, without a device for words and with one.
 pub(crate) fn writes(
     rt: &(impl Abort + AllocGlobal),
     job: Job,
@@ -122,6 +122,8 @@ pub(crate) fn writes(
     status: Status,
 ) {
     let input = joined(rt.alloc(), sections).expect(rt, "memory");
-    let written = outcome_with_words(rt.alloc(), rt.alloc(), job, input.as_bytes());
-    written.is(rt, wanted, status, input.as_str());
+    let alone = outcome_of(rt.alloc(), rt.alloc(), job, input.as_bytes());
+    alone.is(rt, wanted, status, input.as_str());
+    let with_words = outcome_with_words(rt.alloc(), rt.alloc(), job, input.as_bytes());
+    with_words.is(rt, wanted, status, input.as_str());
 }

@@ -1,7 +1,7 @@
 //! Devices that fail or are interrupted.
-use crate::job::SheetJob;
 use crate::tests::runs::{outcome, written_of};
 use crib_run::Status;
+use crib_sheet::SheetJob;
 use example_texts::games::LAST_CARD;
 use example_texts::joined;
 use example_texts::plans::LOOK;

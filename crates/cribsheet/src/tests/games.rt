@@ -1,7 +1,7 @@
 //! The sheets of games.
-use crate::job::SheetJob;
 use crate::tests::runs::{refuses, written_of};
 use crib_run::Status;
+use crib_sheet::SheetJob;
 use example_texts::changes::CHANGED_GAMES;
 use example_texts::games::{LAST_CARD, NO_TEN_PLAYED, PAIRED};
 use example_texts::plans::TWOS;

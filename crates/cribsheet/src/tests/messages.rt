@@ -1,7 +1,7 @@
 //! The words beside a sheet.
-use crate::job::SheetJob;
 use crate::tests::runs::{outcome, outcome_of};
 use crib_run::Status;
+use crib_sheet::SheetJob;
 use example_texts::games::{LAST_CARD, OWNER_LEADS};
 use example_texts::plans::TWOS;
 use example_texts::problems::{TENS, THIRTEEN};
@@ -63,7 +63,7 @@ fn a_refused_act_has_the_acts_before_it(rt: HostRuntime) -> Result<(), Fail> {
     Ok(())
 }
 
-// Without memory for the acts the message stands alone.
+// Without memory for the acts the message is alone.
 #[test]
 fn acts_without_memory_are_left_out(rt: HostRuntime) -> Result<(), Fail> {
     let input = joined_with(rt.alloc(), &[TENS, LAST_CARD], 18, "own 9C")?;

@@ -1,7 +1,7 @@
 //! The sheets of plans.
-use crate::job::SheetJob;
 use crate::tests::runs::{refuses, written_of};
 use crib_run::Status;
+use crib_sheet::SheetJob;
 use example_texts::changes::CHANGED_PLANS;
 use example_texts::plans::{LOOK, NO_PLAN, TWOS};
 use example_texts::problems::{BEGUN, THIRTEEN, TWELVE};

@@ -1,7 +1,7 @@
 //! Runs over inputs in memory, and what they write.
-use crate::job::SheetJob;
-use crate::run::run_with_words;
+use crate::run_with_words;
 use crib_run::Status;
+use crib_sheet::SheetJob;
 use crib_text::Counted;
 use example_texts::{joined, joined_with};
 use failing_devices::{Feed, Tray, Trouble};

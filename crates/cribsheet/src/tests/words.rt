@@ -1,11 +1,16 @@
 //! The words of the command line.
-use crate::command::{job_of, job_without_words};
-use crate::job::SheetJob;
+use crate::command::program;
+use clap::Error;
 use clap::error::ErrorKind;
+use crib_command::command_of;
+use crib_sheet::SheetJob;
 use std::alloc::Global;
-use std::io;
-use std::io::ErrorKind as Cause;
 use std::test::Fail;
+
+// The job that the words name.
+fn job_of(alloc: Global, words: &[&str]) -> Result<SheetJob, Error> {
+    command_of(alloc, &program(), words)
+}
 
 // The job that the words name, or the kind of the refusal.
 fn job_of_words(alloc: Global, words: &[&str]) -> Result<SheetJob, ErrorKind> {
@@ -46,18 +51,4 @@ fn tells_what_each_command_does(rt: HostRuntime) -> Result<(), Fail> {
         assert!(rt; help.contains(part), "no {part}");
     }
     Ok(())
-}
-
-// The kind of the refusal where the system passes no words.
-fn kind_without_words(alloc: Global, cause: Cause) -> Option<ErrorKind> {
-    let read = job_without_words(alloc, &io::Error::from(cause));
-    read.err().map(|error| error.kind())
-}
-
-#[test]
-fn reads_no_words_that_are_no_text(rt: HostRuntime) {
-    let no_text = kind_without_words(rt.alloc(), Cause::InvalidData);
-    assert_eq!(rt; no_text, Some(ErrorKind::MissingRequiredArgument));
-    let no_memory = kind_without_words(rt.alloc(), Cause::OutOfMemory);
-    assert_eq!(rt; no_memory, Some(ErrorKind::OutOfMemory));
 }

@@ -18,7 +18,7 @@ returns-in-Some c =
     let third : c.add-in-Some.new.self.text.items ≡ second ++ excerpt =
     c.add-in-Some.ensures.items ∙ ap (λ (xs : List ℕ). second ++ xs) c.as_slice-in-Some.ensures.value in
     record {
-      place = c.of_line-place.result;
+      place = c.new-scene.result.place;
       sentence = sentence;
       excerpt = excerpt;
       is = said start first second c.add-in-Some.new.self.text.items sentence excerpt c.add_sentence.ensures.items
@@ -26,7 +26,7 @@ returns-in-Some c =
           ∙ ap (λ (xs : List ℕ). xs ++ (sentence ++ line_feed ∷ excerpt)) c.headed-message.ensures.items;
       plain = filter_passes is_plain c.as_slice.result.now;
       shows = shows_line c.args.input.now c.in-Some.line.now excerpt line
-          (sym c.line_at.ensures ∙ ap (option_map (λ (b : Bor (List ℕ)). b.now)) c.in-Some.is) c.excerpt_of.ensures;
+          (sym c.new-scene.ensures ∙ ap (option_map (λ (b : Bor (List ℕ)). b.now)) c.in-Some.is) c.excerpt_of.ensures;
     }
 
 pub returns-in_default : goal.returns-in_default
@@ -35,12 +35,12 @@ returns-in_default c =
     let sentence = filter is_plain c.as_slice.result.now in
     let first = c.add_sentence.new.self.text.items in
     record {
-      place = c.of_line-place.result;
+      place = c.new-scene.result.place;
       sentence = sentence;
       excerpt = [];
       is = said_alone start first c.add.new.self.text.items sentence c.add_sentence.ensures.items c.add.ensures.items
           ∙ ap (λ (xs : List ℕ). xs ++ (sentence ++ line_feed ∷ [])) c.headed-message.ensures.items;
       plain = filter_passes is_plain c.as_slice.result.now;
       shows = shows_none c.args.input.now [] c.args.refusal.now.line
-          (sym c.line_at.ensures ∙ ap (option_map (λ (b : Bor (List ℕ)). b.now)) c.in_default.is) refl;
+          (sym c.new-scene.ensures ∙ ap (option_map (λ (b : Bor (List ℕ)). b.now)) c.in_default.is) refl;
     }

@@ -6,6 +6,9 @@ use Rattle.crib_message.proofs.saying.say.Goals as goal
 pub returns : goal.returns
 returns g c =
     let text = c.as_slice.result.now in
-    let part = sent_part (λ stopped. stopped.sent) c.put-sent.result _ _ text c.put-sent.ensures.all c.put-sent.ensures.part in
-    let M : List ℕ → Type 0 = λ bytes. IsMessage c.args.program.now c.args.input.now c.args.reason.now bytes in
-    (text, part.0, subst M (sym c.as_slice.ensures.text) c.message_of-message.ensures, part.1)
+    let sent = c.put-sent.ensures in
+    let M : List ℕ → Type 0 = λ bytes. IsMessage c.args.program.now c.args.input.now c.args.reason.now bytes in (
+      text,
+      subst M (sym c.as_slice.ensures.text) c.message_of-message.ensures,
+      sent_part (λ stopped. stopped.sent) c.put-sent.result _ _ text _ sent.all sent.part sent.cut sent.failed,
+    )

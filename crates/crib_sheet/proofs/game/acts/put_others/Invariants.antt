@@ -1,10 +1,8 @@
-use Rattle.std.proofs.Common.{◌*◌, flat_map, take}
-use Rattle.crib_text.specs.Private.Writing.{Appended}
+use Rattle.std.proofs.Common.{take, flat_map}
 use Rattle.crib_sheet.specs.GameText.{next_reason}
+use Rattle.crib_sheet.specs.Private.Prints.{Prints}
 use Rattle.crib_sheet.proofs.game.acts.put_others.Given as goal
 
--- what is written so far, and that there is room for the rest
+-- what is put so far
 abbrev pub invariant-loop-reason : goal.invariant-loop-reason
-invariant-loop-reason g l = record {
-  written : Appended l.initial.text l.text (flat_map next_reason (take l.reason-index l.reasons)) (18 * l.reason-index);
-}
+invariant-loop-reason g l = Prints (flat_map (next_reason) (take l.reason-index l.reasons)) (g.P.Page.stand l.initial.page) (g.P.Page.stand l.page)

@@ -1,10 +1,8 @@
-use Rattle.std.proofs.Common.{◌*◌, flat_map, take}
-use Rattle.crib_text.specs.Private.Writing.{Appended}
+use Rattle.std.proofs.Common.{take, flat_map}
 use Rattle.crib_sheet.specs.PlanHead.{turn_line}
+use Rattle.crib_sheet.specs.Private.Prints.{Prints}
 use Rattle.crib_sheet.proofs.plan.head.put_turns.Given as goal
 
--- the turns so far are written, and there is room for the others
+-- what is put so far
 abbrev pub invariant-loop-act : goal.invariant-loop-act
-invariant-loop-act g l = record {
-  written : Appended l.initial.text l.text (flat_map (turn_line l.dealer) (take l.act-index l.acts)) (12 * l.act-index);
-}
+invariant-loop-act g l = Prints (flat_map (turn_line l.dealer) (take l.act-index l.acts)) (g.P.Page.stand l.initial.page) (g.P.Page.stand l.page)

@@ -1,5 +1,5 @@
 use Rattle.std.proofs.Common.{◌≡◌, ◌≤◌, length}
-use Rattle.crib_sheet.specs.Private.Spots.{AreLow, AreSized, HaveWays}
+use Rattle.crib_sheet.specs.Private.Spots.{AreLow, AreSized, is_first_apart}
 use Rattle.crib_sheet.proofs.plan.spots.break_rows.Given as goal
 
 abbrev pub invariant-loop-place : goal.invariant-loop-place
@@ -8,7 +8,7 @@ invariant-loop-place l =
     × (length l.spots ≡ length l.nodes)
     × AreLow l.spots
     × AreSized l.place l.nodes l.spots
-    × HaveWays l.nodes l.spots
+    × (is_first_apart l.spots ≡ is_first_apart l.initial.spots)
 
 abbrev pub decreases-loop-place : goal.decreases-loop-place
 decreases-loop-place l = l.place

@@ -1,0 +1,5 @@
+pub mod ClapApp
+mod WordExamples
+pub mod WordLemmas
+pub mod CommandLemmas
+pub mod NamedCommands

@@ -1,0 +1,20 @@
+-- What the command-line parser found in the words.
+use Rattle.std.specs.Prelude.{◌≡◌, List, Some, None, Result, codes, MatchResult, ◌⊎◌}
+use Rattle.clap.specs.Values.{kind_of}
+use Rattle.clap.specs.Words.{Text, one_text}
+use Rattle.clap.specs.declared.error.Error.{Error}
+use Rattle.clap.specs.declared.error.kind.ErrorKind.TheVariants.{OutOfMemory}
+use Rattle.clap.specs.declared.parser.matches.Found.{Found}
+use Rattle.crib_command.specs.Command.{IsCommandWords, words_refusal}
+
+-- the words name a command, and the parser found its name as the value of `command`
+pub record HasCommand (names words : List Text) (found : Found) : Type 0 where
+  pub name : Text
+  pub named : IsCommandWords names words name
+  pub read : one_text found (codes "command") ≡ Some name
+
+-- if a result is an error, the words are refused with the same kind, or an allocation failed. If it is not an error,
+-- the words are not refused
+abbrev pub IsRefusedFor : {T : Type 0} → List Text → List Text → Result T Error → Type 0
+IsRefusedFor names words r = MatchResult r (λ _. words_refusal names words ≡ None)
+    (λ error. (kind_of error ≡ OutOfMemory) ⊎ (words_refusal names words ≡ Some (kind_of error)))

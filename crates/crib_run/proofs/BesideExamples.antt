@@ -1,0 +1,61 @@
+-- Worked examples of what is written beside a reply.
+use Rattle.std.proofs.Common.{◌≡◌, arith, refl, ap, inl, inr, ℕ, List, [], codes, Some, Ok, Err}
+use Rattle.std.specs.Fmt.{digits}
+use Rattle.crib_text.specs.declared.fault.TextCause.TheVariants.{TooLong}
+use Rattle.crib_input.specs.declared.reason.FaultCause.TheVariants.{NoMemory, WriteFailed}
+use Rattle.crib_input.specs.declared.reason.Reason.{Reason}
+use Rattle.crib_input.specs.declared.reason.Reason.TheVariants.{Fault}
+use Rattle.crib_run.specs.declared.status.Status.TheVariants as statuses
+use Rattle.crib_run.specs.Beside.{Explains, IsReason, Writes, input_of}
+use Rattle.crib_run.specs.Reply.{Reply}
+
+abbrev holds_reply : Reply
+holds_reply = record { output = codes "holds\n"; status = statuses.Yes }
+
+abbrev memory_reply : Reply
+memory_reply = record { output = codes "fault 11\n"; status = statuses.Fault }
+
+pub an_input_that_was_read : input_of (Ok (codes "problem 1\n")) ≡ codes "problem 1\n"
+an_input_that_was_read = refl
+
+pub an_input_that_was_not_read : input_of (Err TooLong) ≡ []
+an_input_that_was_not_read = refl
+
+-- ---- the reason
+pub of_a_fault : IsReason memory_reply statuses.Fault (Fault NoMemory)
+unfolding digits
+of_a_fault = inl (refl, refl)
+
+-- the answer was not written whole: the status isn't that of the reply
+pub of_a_failed_writer : IsReason holds_reply statuses.Fault (Fault WriteFailed)
+of_a_failed_writer = inr ((λ same. absurd cc), refl)
+
+pub no_failed_writer : IsReason holds_reply statuses.Yes (Fault WriteFailed) → ⊥
+no_failed_writer is = elim is [
+  | inl same ↦ let both = same.1 in let status : statuses.Yes ≡ statuses.Fault = ap (λ (reply : Reply). reply.status) both in absurd cc
+  | inr failed ↦ failed.0 refl
+]
+
+-- ---- what is written
+abbrev says : Reason → List ℕ → Type 0
+says reason text = text ≡ codes "why\n"
+
+pub nothing_beside_an_answer : Explains says holds_reply statuses.Yes (Some (codes "a")) (Some (codes "a")) ⊥
+nothing_beside_an_answer = refl
+
+pub no_words_beside_an_answer : Explains says holds_reply statuses.Yes (Some []) (Some (codes "a")) (Unit {0}) → ⊥
+no_words_beside_an_answer written = absurd cc
+
+pub a_fault_is_explained : Explains says memory_reply statuses.Fault (Some []) (Some (codes "why\n")) ⊥
+unfolding digits
+a_fault_is_explained = (Fault NoMemory, inl (refl, refl), (codes "why\n", refl, inl refl))
+
+-- a fault isn't left unexplained
+pub no_silent_fault : (reason : Reason) → Writes (says reason) (Some []) (Some []) ⊥ → ⊥
+no_silent_fault reason written = elim written.2 [
+  | inl whole ↦ let none = whole in let is = written.1 in absurd cc
+  | inr front ↦ front.3
+]
+
+pub cut_by_a_failure : (reason : Reason) → Writes (says reason) (Some []) (Some (codes "wh")) (Unit {0})
+cut_by_a_failure reason = (codes "why\n", refl, inr (2, omega arith, refl, tt))

@@ -1,0 +1,32 @@
+-- What is delivered: an answer, or the reason why there is none, and the words beside it.
+use Rattle.std.proofs.Common.{◌≡◌, ◌⊎◌, inl, inr, List, ℕ, [], Option, Result, Ok, Err}
+use Rattle.std.specs.Io.KnownBytes.{Appends}
+use Rattle.crib_input.specs.declared.reason.Reason.{Reason}
+use Rattle.crib_run.specs.declared.status.Status.{Status}
+use Rattle.crib_run.specs.declared.status.Status.TheVariants.{Yes, No, Refused, Fault}
+use Rattle.crib_run.specs.Beside.{Explains}
+use Rattle.crib_run.specs.Reply.{IsOutcome, Reply, outcome_reply, reason_reply}
+
+-- ---- outcomes
+
+pub outcome_made : {A : Type 0} (reply : A → Reply) (may : Reply → Type 0) (r : Result A Reason) → IsOutcome reply may r → may (outcome_reply reply r)
+outcome_made reply may (Ok answer) is = is.1
+outcome_made reply may (Err reason) is = is
+
+-- the same outcome of another question
+pub outcome_map : {A : Type 0} (reply : A → Reply) (may other : Reply → Type 0) → ((r : Reply) → may r → other r) → (r : Result A Reason)
+    → IsOutcome reply may r → IsOutcome reply other r
+outcome_map reply may other f (Ok answer) is = (is.0, f (reply answer) is.1)
+outcome_map reply may other f (Err reason) is = f (reason_reply reason) is
+
+-- ---- the words
+
+-- beside yes and no nothing is written
+pub silent : (says : Reason → List ℕ → Type 0) (reply : Reply) (ended : Status) (old new : Option (List ℕ)) (failed : Type 0)
+    → Explains says reply ended old new failed → (ended ≡ Yes) ⊎ (ended ≡ No) → Appends old new []
+silent says reply Yes old new failed nothing quiet = nothing
+silent says reply No old new failed nothing quiet = nothing
+silent says reply Refused old new failed said (inl is) = cc
+silent says reply Refused old new failed said (inr is) = cc
+silent says reply Fault old new failed said (inl is) = cc
+silent says reply Fault old new failed said (inr is) = cc

@@ -1,0 +1,122 @@
+-- Bytes put on a page, one after another.
+use Rattle.std.proofs.Common.{◌≡◌, ℕ, zero, suc, ◌+◌, ◌<◌, ◌∙◌, Bool, true, false, List, [], ◌∷◌, ◌++◌, length, take, flat_map, get_or}
+use Rattle.std.proofs.Common.{◌⊎◌, ◌-◌, ◌≤◌, Ok, Err, codes, decimal, inl, inr, refl, ap, sym, subst, append_assoc, arith, rules}
+use Rattle.std.specs.Io.KnownBytes.{Appends}
+use Rattle.std.proofs.KnownBytes.{Appends-nil}
+use Rattle.std.proofs.lemmas.List.{take-replicate}
+use Rattle.crib_text.specs.Device.{HasFailed}
+use Rattle.crib_text.specs.Spelling.{space}
+use Rattle.crib_board.specs.Board.{right_in}
+use Rattle.crib_run.specs.declared.status.Status.{Status}
+use Rattle.crib_run.specs.declared.status.Status.TheVariants.{Fault}
+use Rattle.crib_run.specs.Run.{Sends}
+use Rattle.crib_sheet.specs.Private.Puts.{TakesAll, FailsWithin, Puts}
+use Rattle.crib_sheet.specs.Private.Prints.{Stand, Changes, Prints}
+use Rattle.crib_sheet.proofs.PutLemmas.{fails_sooner, fails_later, takes_both}
+
+not_both : {X : Type 0} (x : Bool) → x ≡ true → x ≡ false → X
+not_both x is isnt = let e : true ≡ false = sym is ∙ isnt in absurd cc
+
+changes_both : (a b : List ℕ) (x y z : Bool) (s t u : Stand) → s.is_cut ≡ x → t.is_cut ≡ y → u.is_cut ≡ z → Changes x y a s t → Changes y z b t u
+    → Changes x z (a ++ b) s u
+changes_both a b true true z s t u before between after first next = next ∙ first
+changes_both a b true false z s t u before between after first next =
+    not_both s.is_cut before (sym (ap (λ (p : Stand). p.is_cut) first) ∙ between)
+changes_both a b false true true s t u before between after first next =
+    subst (λ (p : Stand). FailsWithin (a ++ b) s.contents p.contents s.faults p.faults) (sym next)
+    (fails_sooner a b s.contents t.contents s.faults t.faults first)
+changes_both a b false true false s t u before between after first next =
+    not_both t.is_cut between (sym (ap (λ (p : Stand). p.is_cut) next) ∙ after)
+changes_both a b false false true s t u before between after first next = fails_later a b _ _ _ _ _ _ first next
+changes_both a b false false false s t u before between after first next = takes_both a b _ _ _ _ _ _ first next
+
+-- bytes, and then more bytes
+pub more : {a b : List ℕ} {s t u : Stand} → Prints a s t → Prints b t u → Prints (a ++ b) s u
+more {a} {b} {s} {t} {u} first next = record {
+  same = next.same ∙ first.same;
+  put = changes_both a b s.is_cut t.is_cut u.is_cut s t u refl refl refl first.put next.put;
+}
+
+changes_nothing : (x : Bool) (s : Stand) → Changes x x [] s s
+changes_nothing true s = refl
+changes_nothing false s = record { whole = Appends-nil s.contents; counted = λ small. omega arith }
+
+pub nothing : (s : Stand) → Prints [] s s
+nothing s = record { same = refl; put = changes_nothing s.is_cut s }
+
+-- the same bytes, said in another way
+pub as_text : {a b : List ℕ} {s t : Stand} → Prints a s t → a ≡ b → Prints b s t
+as_text {s = s} {t = t} prints same = subst (λ (bytes : List ℕ). Prints bytes s t) same prints
+
+next_piece : {X : Type 0} (f : X → List ℕ) (xs : List X) (i : ℕ) (d : X) → i < length xs
+    → flat_map f (take i xs) ++ f (get_or xs i d) ≡ flat_map f (take (i + 1) xs)
+next_piece f [] i d below = absurd (omega arith)
+next_piece f (x ∷ xs) zero d below = grind (rules)
+next_piece f (x ∷ xs) (suc i) d below =
+    let e : suc i + 1 ≡ suc (i + 1) = omega arith in
+    append_assoc (f x) (flat_map f (take i xs)) (f (get_or xs i d)) ∙ ap (λ (rest : List ℕ). f x ++ rest) (next_piece f xs i d (omega arith))
+    ∙ ap (λ (n : ℕ). flat_map f (take n (x ∷ xs))) (sym e)
+
+-- the pieces of a list up to a place, and then the next one
+pub piece_at : {X : Type 0} (f : X → List ℕ) (xs : List X) (i : ℕ) (d : X) {s t u : Stand} → i < length xs
+    → Prints (flat_map f (take i xs)) s t → Prints (f (get_or xs i d)) t u → Prints (flat_map f (take (i + 1) xs)) s u
+piece_at f xs i d below first next = as_text (more first next) (next_piece f xs i d below)
+
+pub piece : {X : Type 0} (f : X → List ℕ) (xs : List X) (i : ℕ) (x : X) {s t u : Stand} → i < length xs → x ≡ get_or xs i x
+    → Prints (flat_map f (take i xs)) s t → Prints (f x) t u → Prints (flat_map f (take (i + 1) xs)) s u
+piece f xs i x below is first next = piece_at f xs i x below first (as_text next (ap f is))
+
+pub none_left : {X : Type 0} (xs : List X) → length xs ≡ 0 → xs ≡ []
+none_left [] none = refl
+none_left (x ∷ xs) none = absurd (omega (arith, none))
+
+-- what is printed on a page that was whole is sent: all of it if the page is not cut, and otherwise a proper beginning
+whole : {bytes : List ℕ} {s t : Stand} → Prints bytes s t → s.is_cut ≡ false → t.is_cut ≡ false
+    → TakesAll bytes s.contents t.contents s.faults t.faults
+whole {bytes} {s} {t} prints before after =
+    subst (λ (x : Bool). Changes false x bytes s t) after (subst (λ (x : Bool). Changes x t.is_cut bytes s t) before prints.put)
+
+front : {bytes : List ℕ} {s t : Stand} → Prints bytes s t → s.is_cut ≡ false → t.is_cut ≡ true
+    → FailsWithin bytes s.contents t.contents s.faults t.faults
+front {bytes} {s} {t} prints before after =
+    subst (λ (x : Bool). Changes false x bytes s t) after (subst (λ (x : Bool). Changes x t.is_cut bytes s t) before prints.put)
+
+pub puts_whole : {T E : Type 0} {bytes : List ℕ} {s t : Stand} (value : T) → Prints bytes s t → s.is_cut ≡ false → t.is_cut ≡ false
+    → Puts {T = T} {E = E} bytes s.contents t.contents s.faults t.faults (Ok value)
+puts_whole value prints before after = record { put = whole prints before after }
+
+pub puts_front : {T E : Type 0} {bytes : List ℕ} {s t : Stand} (error : E) → Prints bytes s t → s.is_cut ≡ false → t.is_cut ≡ true
+    → Puts {T = T} {E = E} bytes s.contents t.contents s.faults t.faults (Err error)
+puts_front error prints before after = record { put = front prints before after }
+
+pub sent_all : {bytes : List ℕ} {s t : Stand} (status : Status) → Prints bytes s t → s.is_cut ≡ false → t.is_cut ≡ false
+    → Sends (record { output = bytes; status = status }) s.contents t.contents (HasFailed s.faults t.faults) status
+sent_all status prints before after = inl ((whole prints before after).whole, refl)
+
+pub sent_front : {bytes : List ℕ} {s t : Stand} (status : Status) → Prints bytes s t → s.is_cut ≡ false → t.is_cut ≡ true
+    → Sends (record { output = bytes; status = status }) s.contents t.contents (HasFailed s.faults t.faults) Fault
+sent_front status prints before after =
+    let part = front prints before after in inr (part.sent, part.less, part.part, refl, part.failed)
+
+-- all of it is written, or a proper beginning if the device failed
+abbrev pub Written : List ℕ → Stand → Stand → Type 0
+Written bytes s t =
+    Appends s.contents t.contents bytes
+    ⊎ ((sent : ℕ) × (sent < length bytes) × Appends s.contents t.contents (take sent bytes) × HasFailed s.faults t.faults)
+
+written_if : (x : Bool) (bytes : List ℕ) (s t : Stand) → Changes false x bytes s t → Written bytes s t
+written_if true bytes s t put = inr (put.sent, put.less, put.part, put.failed)
+written_if false bytes s t put = inl put.whole
+
+pub written : {bytes : List ℕ} {s t : Stand} → Prints bytes s t → s.is_cut ≡ false → Written bytes s t
+written {bytes} {s} {t} prints before =
+    written_if t.is_cut bytes s t (subst (λ (x : Bool). Changes x t.is_cut bytes s t) before prints.put)
+
+-- a number in columns of at most this width
+pub column : (width number blanks : ℕ) (digits : List ℕ) → width ≤ 3 → digits ≡ decimal number → blanks ≡ width - length digits
+    → take blanks (codes "   ") ++ digits ≡ right_in width number
+unfolding right_in
+column width number blanks digits narrow is blank =
+    ap (λ (k : ℕ). take k (codes "   ") ++ digits) blank
+    ∙ ap (λ (bytes : List ℕ). take (width - length bytes) (codes "   ") ++ bytes) is
+    ∙ ap (λ (blank : List ℕ). blank ++ decimal number) (take-replicate (width - length (decimal number)) 3 space (omega arith))

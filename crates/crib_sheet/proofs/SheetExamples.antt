@@ -1,0 +1,78 @@
+-- Worked examples of the jobs, and of what a sheet means.
+use Rattle.std.proofs.Common.{◌≡◌, ◌⊎◌, ℕ, true, false, List, [], ◌∷◌, ◌++◌, Ok, Err, codes, refl}
+use Rattle.std.specs.Fmt.{digits}
+use Rattle.crib_check.specs.declared.verdict.Verdict.TheVariants.{Holds, Fails}
+use Rattle.crib_check.specs.Sure.{Ends}
+use Rattle.crib_check.proofs.SureExamples.{at_29, ace_or_two, ace_or_two_is_sure, ace_or_two_goes_on}
+use Rattle.crib_game.specs.declared.section.game.Game.{Game}
+use Rattle.crib_game.specs.declared.following.ending.Ending.TheVariants.{Short}
+use Rattle.crib_input.specs.Spelled.{SpellsPlan}
+use Rattle.crib_input.specs.declared.sections.Sections.TheVariants.{Question, Played}
+use Rattle.crib_run.specs.declared.status.Status.TheVariants.{Yes, No, Refused, Fault}
+use Rattle.crib_answer.proofs.Examples.{nothing_is_no_plan}
+use Rattle.crib_sheet.specs.declared.answer.job.SheetJob.TheVariants.{Plan, Game as GameJob}
+use Rattle.crib_sheet.specs.Job.{job_called, sections_of}
+use Rattle.crib_sheet.specs.Sheet.{game_reply, verdict_status}
+use Rattle.crib_sheet.specs.Meaning.{GameMeans, PlanMeans}
+use Rattle.crib_sheet.specs.PlanHead.{sure_text}
+use Rattle.crib_sheet.specs.PlanPage.{page_text}
+use Rattle.crib_sheet.specs.PlanSheet.{sheet_with}
+use Rattle.crib_sheet.proofs.PlanPlays.{sure_is_reached}
+use Rattle.crib_sheet.proofs.PlanSheetRows.{plans_have_sheets}
+
+-- ---- the jobs
+plan_is_called : job_called (codes "plan") ≡ Ok Plan
+plan_is_called = refl
+
+game_is_called : job_called (codes "game") ≡ Ok GameJob
+game_is_called = refl
+
+check_is_no_sheet : job_called (codes "check") ≡ Err (record {})
+check_is_no_sheet = refl
+
+plan_reads_a_question : sections_of Plan ≡ Question
+plan_reads_a_question = refl
+
+game_reads_what_was_played : sections_of GameJob ≡ Played
+game_reads_what_was_played = refl
+
+-- ---- the status
+sure_is_yes : verdict_status Holds ≡ Yes
+sure_is_yes = refl
+
+unsure_is_no : (game : Game) → verdict_status (Fails Short game) ≡ No
+unsure_is_no game = refl
+
+a_game_is_yes : game_reply (codes "a") ≡ record { output = codes "a"; status = Yes }
+a_game_is_yes = refl
+
+-- ---- what a sheet means. `Ends` is assumed here
+a_sure_plan : (input : List ℕ) → SpellsPlan input at_29 ace_or_two → Ends at_29 →
+    PlanMeans input (sure_text at_29 ++ page_text true (sheet_with (λ node. false) ace_or_two)) Yes
+a_sure_plan input spelled ends = record {
+  sure = record { problem = at_29; plan = ace_or_two; spelled = spelled; sure = ace_or_two_is_sure; goes_on = ace_or_two_goes_on; ends = ends };
+  sheet = sheet_with (λ node. false) ace_or_two;
+  valid = plans_have_sheets (λ node. false) ace_or_two spelled.plan_is;
+  printed = refl;
+  reaches = (sure_is_reached (λ node. false) at_29 ace_or_two spelled.plan_is).0 ace_or_two_is_sure;
+}
+
+no_yes_of_nothing : (text : List ℕ) → PlanMeans [] text Yes → ⊥
+no_yes_of_nothing text means = nothing_is_no_plan means.sure.problem means.sure.plan means.sure.spelled
+
+no_no_of_nothing : (text : List ℕ) → PlanMeans [] text No → ⊥
+no_no_of_nothing text means = nothing_is_no_plan means.problem means.plan means.spelled
+
+nothing_is_refused : (text : List ℕ) → PlanMeans [] text Refused
+nothing_is_refused text = nothing_is_no_plan
+
+plan_without_memory : (input : List ℕ) → PlanMeans input (codes "fault 11\n") Fault
+unfolding digits
+plan_without_memory input = refl
+
+game_without_memory : (input : List ℕ) → GameMeans input (codes "fault 11\n") Fault
+unfolding digits
+game_without_memory input = refl
+
+a_game_is_never_no : (input text : List ℕ) → GameMeans input text No → ⊥
+a_game_is_never_no input text means = means

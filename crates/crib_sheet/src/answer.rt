@@ -1,0 +1,64 @@
+//! The answers of the second program: a sheet, or the reason why there is none.
+ghost use Rattle.std.specs.Prelude.{◌≤◌, length};
+ghost use Rattle.crib_run.specs.Reply.{IsOutcome};
+ghost use Rattle.crib_sheet.specs.Sheet.{SheetMakes, sheet_reply};
+
+mod beside;
+mod game;
+mod job;
+mod plan;
+mod played;
+
+use crate::game::send_game_sheet;
+use crate::plan::send_plan_sheet;
+pub use beside::SheetAsked;
+use crib_input::Reason;
+use crib_run::{Sendable, Status};
+use crib_text::{MAX_INPUT, Sink};
+pub use game::GameSheet;
+pub use job::{NAMES, SheetJob};
+pub use plan::PlanSheet;
+use std::alloc::Allocator;
+
+/// A sheet, as its parts.
+#[derive(Drop)]
+pub enum Sheet<A: Allocator> {
+    /// The sheet of a plan.
+    Plan(PlanSheet<A>),
+    /// The sheet of a game.
+    Game(GameSheet),
+}
+
+impl<A: Allocator> Sendable for Sheet<A> {
+    ghost reply = { λ sheet. sheet_reply sheet };
+
+    fn send<W: Sink>(&self, sink: &mut W) -> Status {
+        match self {
+            Sheet::Plan(sheet) => send_plan_sheet(
+                sink,
+                &sheet.problem,
+                &sheet.plan,
+                &sheet.verdict,
+                &sheet.outline,
+                sheet.status,
+            ),
+            Sheet::Game(sheet) => send_game_sheet(sink, &sheet.problem, &sheet.game, &sheet.report),
+        }
+    }
+}
+
+/// Returns the sheet that a job makes of an input, with the status `Yes` or `No`, or the reason why there is none: the
+/// refusal of the input, or an allocation that failed.
+pub fn sheet_of<A: Allocator + Copy>(
+    alloc: A,
+    job: SheetJob,
+    input: &[u8],
+) -> Result<Sheet<A>, Reason>
+    requires { length input.now ≤ MAX_INPUT }
+    ensures { IsOutcome sheet_reply (SheetMakes job input.now) result }
+{
+    match job {
+        SheetJob::Plan => Ok(Sheet::Plan(plan::plan_sheet(alloc, input)?)),
+        SheetJob::Game => Ok(Sheet::Game(played::game_sheet(input)?)),
+    }
+}

@@ -1,0 +1,49 @@
+//! The sheets that the program can make.
+ghost use Rattle.std.specs.Prelude.{◌≡◌};
+ghost use Rattle.crib_sheet.specs.Job.{job_called, sections_of};
+
+use crib_answer::UnknownJob;
+use crib_input::Sections;
+use std::str::FromStr;
+
+/// What the program does with its input. Each command of the command line names one job (docs/GUIDE.md, "Sheets").
+#[derive(Clone, Copy, Debug, PartialEq, Eq)]
+pub enum SheetJob {
+    /// `plan`: reads a problem and a plan, and prints the plan in words.
+    Plan,
+    /// `game`: reads a problem and a game, and prints the game with a reason for each point.
+    Game,
+}
+
+const PLAN: &str = "plan";
+
+const GAME: &str = "game";
+
+/// The names of the jobs, in the order in which the help text lists them.
+pub static NAMES: [&str; 2] = [PLAN, GAME];
+
+impl SheetJob {
+    /// Returns the sections that the input of the job has to have.
+    pub fn sections(self) -> Sections
+        ensures { result ≡ sections_of self }
+    {
+        match self {
+            SheetJob::Plan => Sections::Question,
+            SheetJob::Game => Sections::Played,
+        }
+    }
+}
+
+impl FromStr for SheetJob {
+    type Err = UnknownJob;
+
+    ghost from_str_gives = { λ text r. r ≡ job_called text };
+
+    fn from_str(text: &str) -> Result<SheetJob, UnknownJob> {
+        match text {
+            PLAN => Ok(SheetJob::Plan),
+            GAME => Ok(SheetJob::Game),
+            _ => Err(UnknownJob),
+        }
+    }
+}

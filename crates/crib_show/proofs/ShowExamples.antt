@@ -1,0 +1,329 @@
+-- Worked examples of each part of a show: choices, fifteens, pairs and runs, rows and outcomes, and what agrees with the ranks that were shown. A card of
+-- rank r is 4 * (r - 1), and 1, 2, 3 more for diamonds, hearts and spades.
+use Rattle.std.proofs.Common.{arith, ◌≡◌, refl, ap, true, false, [], ◌∷◌, ◌+◌, List, ℕ, codes, Some, None}
+use Rattle.std.specs.Prelude.{length, map, replicate, slice_index_or, ◌<◌, ◌≤◌}
+use Rattle.std.specs.List.{range_with_len}
+use Rattle.std.proofs.lemmas.Bool.{both_ways}
+use Rattle.crib_cards.specs.Sets.{rank_counts, set_where}
+use Rattle.crib_cards.specs.Deals.{unseen_from}
+use Rattle.crib_cards.specs.declared.sides.Dealt.{Dealt}
+use Rattle.crib_cards.specs.declared.sides.Side.TheVariants.{Owner, Opponent}
+use Rattle.crib_show.specs.Extremes.{AreKept, AreKeptIn, HasCards, IfKept}
+use Rattle.crib_show.specs.Laws.{AreSameCards, IsHand, IsSameDeal, is_possible}
+use Rattle.crib_show.specs.Outcome.{counted_scores, hold_of, no_row, outcome_from, outcome_of, row_of, rows_from, show_order}
+use Rattle.crib_show.specs.Places.{AreFour, below, many, place_among}
+use Rattle.crib_show.specs.Show.{are_of_suit, choices, crib_flush, fifteen_points, hand_flush, is_fifteen, is_full_run, is_pair, is_prolonged}
+use Rattle.crib_show.specs.Show.{crib_points, hand_points, jack_points, pair_points, plain_of_ranks, plain_points, run_points, with_and_without}
+use Rattle.crib_show.specs.Words.{outcome_word, show_word}
+use Rattle.crib_show.specs.Worst.{AgreesInShow, CanFail, IsFailure, IsFirstFailure, IsFirstFailureOrNone, hidden_crib}
+use Rattle.crib_show.specs.Worst.{hidden_hand, hidden_total, plain_at, plain_with, with_dealt}
+use Rattle.crib_show.specs.Worst.{IsGreatestCrib, IsGreatestHand, IsGreatestTotal, IsLeastCrib}
+use Rattle.crib_show.specs.declared.worst.extremes.Extremes.{Extremes}
+use Rattle.crib_show.specs.declared.deals.Full.{Full}
+use Rattle.crib_show.specs.declared.deals.WorstShow.{WorstShow}
+use Rattle.crib_show.specs.declared.show.outcomes.CountedHand.{CountedHand}
+use Rattle.crib_show.specs.declared.show.outcomes.Outcome.TheVariants.{Reached, Lost, Short}
+
+-- ---- the ranks 7 8 9 7 6, the last of which is the starter's
+pub all_choices_of_two : choices (7 ∷ 8 ∷ []) ≡ (7 ∷ 8 ∷ []) ∷ (7 ∷ []) ∷ (8 ∷ []) ∷ [] ∷ []
+all_choices_of_two = refl
+
+pub with_a_seven_and_without : with_and_without 7 ((8 ∷ []) ∷ [] ∷ []) ≡ (7 ∷ 8 ∷ []) ∷ (7 ∷ []) ∷ (8 ∷ []) ∷ [] ∷ []
+with_a_seven_and_without = refl
+
+pub fifteens : map is_fifteen ((7 ∷ 8 ∷ []) ∷ (7 ∷ 7 ∷ []) ∷ (8 ∷ 8 ∷ []) ∷ (5 ∷ 13 ∷ []) ∷ (1 ∷ 1 ∷ 13 ∷ 3 ∷ []) ∷ [])
+    ≡ true ∷ false ∷ false ∷ true ∷ true ∷ []
+fifteens = refl
+
+pub pairs : map is_pair ((7 ∷ 7 ∷ []) ∷ (7 ∷ 8 ∷ []) ∷ (7 ∷ 7 ∷ 7 ∷ []) ∷ (7 ∷ []) ∷ []) ≡ true ∷ false ∷ false ∷ false ∷ []
+pairs = refl
+
+-- 7 8 9 is prolonged by a six and by a ten, and not by an ace or another nine
+pub prolonged : map (λ rank. is_prolonged (3 ∷ rank ∷ 7 ∷ []) (7 ∷ 8 ∷ 9 ∷ [])) (1 ∷ 5 ∷ 6 ∷ 9 ∷ 10 ∷ 11 ∷ [])
+    ≡ false ∷ false ∷ true ∷ false ∷ true ∷ false ∷ []
+prolonged = refl
+
+pub full_runs : map (is_full_run (7 ∷ 8 ∷ 9 ∷ 7 ∷ 6 ∷ [])) ((7 ∷ 8 ∷ 9 ∷ 6 ∷ []) ∷ (7 ∷ 8 ∷ 9 ∷ []) ∷ (8 ∷ 9 ∷ []) ∷ (6 ∷ 7 ∷ 7 ∷ 8 ∷ 9 ∷ []) ∷ [])
+    ≡ true ∷ false ∷ false ∷ false ∷ []
+full_runs = refl
+
+-- 7 8, 8 7 and 9 6 are fifteen; there is one pair, and two runs of four
+pub points_of_ranks : fifteen_points (7 ∷ 8 ∷ 9 ∷ 7 ∷ 6 ∷ []) ∷ pair_points (7 ∷ 8 ∷ 9 ∷ 7 ∷ 6 ∷ []) ∷ run_points (7 ∷ 8 ∷ 9 ∷ 7 ∷ 6 ∷ []) ∷
+    plain_of_ranks (7 ∷ 8 ∷ 9 ∷ 7 ∷ 6 ∷ []) ∷ [] ≡ 6 ∷ 2 ∷ 8 ∷ 16 ∷ []
+points_of_ranks = refl
+
+pub points_of_cards : plain_points (24 ∷ 28 ∷ 32 ∷ 25 ∷ 20 ∷ []) ≡ 16
+points_of_cards = refl
+
+-- ---- suits
+pub of_clubs : map (are_of_suit 4) ([] ∷ (8 ∷ 48 ∷ []) ∷ (8 ∷ 9 ∷ []) ∷ (9 ∷ 8 ∷ []) ∷ []) ≡ true ∷ true ∷ false ∷ false ∷ []
+of_clubs = refl
+
+pub flushes : map (hand_flush (4 ∷ 12 ∷ 20 ∷ 28 ∷ [])) (36 ∷ 37 ∷ []) ∷ map (crib_flush (4 ∷ 12 ∷ 20 ∷ 28 ∷ [])) (36 ∷ 37 ∷ []) ∷ []
+    ≡ (5 ∷ 4 ∷ []) ∷ (5 ∷ 0 ∷ []) ∷ []
+flushes = refl
+
+-- a jack of the starter's suit counts, wherever it is; a queen doesn't, and a jack of another suit doesn't
+pub jacks : map (λ card. jack_points (0 ∷ card ∷ 6 ∷ []) 8) (40 ∷ 41 ∷ 44 ∷ 36 ∷ []) ≡ 1 ∷ 0 ∷ 0 ∷ 0 ∷ []
+jacks = refl
+
+pub jacks_and_a_spade : map (λ card. jack_points (card ∷ 4 ∷ []) 11) (40 ∷ 42 ∷ 43 ∷ 47 ∷ []) ≡ 0 ∷ 0 ∷ 1 ∷ 0 ∷ []
+jacks_and_a_spade = refl
+
+pub of_spades : map (are_of_suit 7) ((3 ∷ 11 ∷ []) ∷ (2 ∷ 11 ∷ []) ∷ []) ≡ true ∷ false ∷ []
+of_spades = refl
+
+-- ---- the show of TC 9C 2C 8C and 4S 6S against TD KD KH QS and 5H 7D, with 3H: 9 for the pone, 2 for the dealer, 9 for the crib
+abbrev full : Full
+full = record {
+  dealer = Opponent;
+  scores = record { owner = 2; opponent = 4 };
+  target = 121;
+  starter = 10;
+  own_hold = 36 ∷ 32 ∷ 4 ∷ 28 ∷ [];
+  own_throw = 15 ∷ 23 ∷ [];
+  opp = record { hold = 37 ∷ 49 ∷ 50 ∷ 47 ∷ []; throw = 18 ∷ 25 ∷ [] };
+  stop = false;
+}
+
+abbrev counted : List CountedHand
+counted = record { crib = false; side = Owner; points = 9 } ∷ record { crib = false; side = Opponent; points = 2 } ∷
+    record { crib = true; side = Opponent; points = 9 } ∷ []
+
+pub holds_of_sides : map (hold_of full) (Owner ∷ Opponent ∷ []) ≡ (36 ∷ 32 ∷ 4 ∷ 28 ∷ []) ∷ (37 ∷ 49 ∷ 50 ∷ 47 ∷ []) ∷ []
+holds_of_sides = refl
+
+pub pone_dealer_crib : show_order full ≡ counted
+unfolding hand_points crib_points
+pone_dealer_crib = refl
+
+pub pone_is_the_opponent : map (λ (hand : CountedHand). hand.side) (show_order (record full { dealer = Owner })) ≡ Opponent ∷ Owner ∷ Owner ∷ []
+pone_is_the_opponent = refl
+
+pub scores_with_a_hand : counted_scores (record { owner = 2; opponent = 115 }) (record { crib = false; side = Opponent; points = 9 })
+    ≡ record { owner = 2; opponent = 121 }
+scores_with_a_hand = refl
+
+pub row_of_a_crib : row_of (record { crib = true; side = Opponent; points = 9 }) (record { owner = 2; opponent = 13 })
+    ≡ record { crib = true; side = Opponent; points = 9; scores = record { owner = 2; opponent = 13 } }
+row_of_a_crib = refl
+
+-- the dealer's hand decides, so the crib isn't counted
+pub rows_to_the_end : rows_from 121 (record { owner = 2; opponent = 119 }) counted ≡
+    record { crib = false; side = Owner; points = 9; scores = record { owner = 11; opponent = 119 } }
+    ∷ record { crib = false; side = Opponent; points = 2; scores = record { owner = 11; opponent = 121 } } ∷ []
+rows_to_the_end = refl
+
+pub no_row_after_the_end : rows_from 11 (record { owner = 11; opponent = 0 }) counted ≡ []
+no_row_after_the_end = refl
+
+-- the owner reaches 11 first, and 12 not at all, whatever the crib brings to the opponent at 110
+pub outcomes_by_target : map (λ target. outcome_from (record full { target = target }) (record { owner = 2; opponent = 110 }) counted) (11 ∷ 12 ∷ [])
+    ≡ Reached ∷ Lost ∷ []
+outcomes_by_target = refl
+
+pub outcome_without_hands : outcome_from full (record { owner = 2; opponent = 120 }) [] ∷
+    outcome_from (record full { stop = true }) (record { owner = 2; opponent = 120 }) [] ∷ []
+    ≡ Short ∷ Reached ∷ []
+outcome_without_hands = refl
+
+pub words_of_hands : map show_word (true ∷ false ∷ []) ≡ codes "crib" ∷ codes "hand" ∷ []
+words_of_hands = refl
+
+pub words_of_outcomes : map outcome_word (None ∷ Some Reached ∷ Some Lost ∷ Some Short ∷ [])
+    ≡ codes "open" ∷ codes "reached" ∷ codes "lost" ∷ codes "short" ∷ []
+words_of_outcomes = refl
+
+-- ---- numbers of points, hands and deals
+pub possible_points : map is_possible (0 ∷ 18 ∷ 19 ∷ 24 ∷ 25 ∷ 26 ∷ 27 ∷ 28 ∷ 29 ∷ 30 ∷ [])
+    ≡ true ∷ true ∷ false ∷ true ∷ false ∷ false ∷ false ∷ true ∷ true ∷ false ∷ []
+possible_points = refl
+
+pub five_are_no_hand : IsHand (0 ∷ 1 ∷ 2 ∷ 3 ∷ 4 ∷ []) 5 → ⊥
+five_are_no_hand is = (let four = is.four in absurd (omega (arith, four)))
+
+pub starter_is_not_held : IsHand (0 ∷ 1 ∷ 2 ∷ 3 ∷ []) 3 → ⊥
+starter_is_not_held is = absurd (both_ways false refl is.distinct)
+
+pub same_cards_in_another_order : AreSameCards (3 ∷ 4 ∷ 3 ∷ []) (3 ∷ 4 ∷ []) → ⊥
+same_cards_in_another_order are = (let threes = are 3 in absurd (omega (arith, threes)))
+
+pub another_throw : (hold : List ℕ) → IsSameDeal (record { hold = hold; throw = 3 ∷ 4 ∷ [] }) (record { hold = hold; throw = 3 ∷ 5 ∷ [] }) → ⊥
+another_throw hold is = (let fives = is.throw 5 in absurd (omega (arith, fives)))
+
+pub another_hold : (throw : List ℕ) → IsSameDeal (record { hold = 3 ∷ 4 ∷ []; throw = throw }) (record { hold = 3 ∷ 5 ∷ []; throw = throw }) → ⊥
+another_hold throw is = (let fives = is.hold 5 in absurd (omega (arith, fives)))
+
+-- ---- places among the choices of ranks
+pub sums_below : map (below (λ n. n + 1)) (0 ∷ 1 ∷ 4 ∷ []) ≡ 0 ∷ 1 ∷ 10 ∷ []
+sums_below = refl
+
+pub choices_of_ranks : map (many 2) (0 ∷ 1 ∷ 2 ∷ 3 ∷ []) ∷ map (many 0) (0 ∷ 1 ∷ []) ∷ [] ≡ (1 ∷ 2 ∷ 3 ∷ 4 ∷ []) ∷ (1 ∷ 0 ∷ []) ∷ []
+choices_of_ranks = refl
+
+-- two cards of three ranks: 2 0 0, 1 1 0, 1 0 1, 0 2 0, 0 1 1, 0 0 2
+pub places_of_two : map (place_among 2) ((2 ∷ 0 ∷ 0 ∷ []) ∷ (1 ∷ 1 ∷ 0 ∷ []) ∷ (1 ∷ 0 ∷ 1 ∷ []) ∷ (0 ∷ 2 ∷ 0 ∷ []) ∷ (0 ∷ 1 ∷ 1 ∷ []) ∷ (0 ∷ 0 ∷ 2 ∷ []) ∷ [])
+    ≡ 0 ∷ 1 ∷ 2 ∷ 3 ∷ 4 ∷ 5 ∷ []
+places_of_two = refl
+
+pub ranks_of_four : AreFour (rank_counts (1 ∷ 13 ∷ 1 ∷ 5 ∷ []))
+ranks_of_four = record { four = refl; thirteen = refl }
+
+pub ranks_of_three : AreFour (rank_counts (1 ∷ 13 ∷ 1 ∷ [])) → ⊥
+ranks_of_three are = (let four = are.four in absurd (omega (arith, four)))
+
+pub four_of_one_rank_alone : AreFour (4 ∷ []) → ⊥
+four_of_one_rank_alone are = (let thirteen = are.thirteen in absurd (omega (arith, thirteen)))
+
+-- ---- four aces were shown: AC is fixed
+abbrev worst : WorstShow
+worst = record {
+  dealer = Opponent;
+  scores = record { owner = 3; opponent = 93 };
+  target = 121;
+  starter = 49;
+  own_hold = 4 ∷ 5 ∷ 6 ∷ 7 ∷ [];
+  own_throw = 12 ∷ 21 ∷ [];
+  ranks = rank_counts (replicate 4 1);
+  unseen = unseen_from (49 ∷ 4 ∷ 5 ∷ 6 ∷ 7 ∷ 12 ∷ 21 ∷ []);
+  fixed = 0 ∷ [];
+  stop = true;
+}
+
+abbrev fives : Dealt
+fives = record { hold = 0 ∷ 1 ∷ 2 ∷ 3 ∷ []; throw = 16 ∷ 17 ∷ [] }
+
+-- with KD the crib 4C 6D 5C 5D counts 8 for four fifteens, 2 for its pair and 6 for two runs
+pub points_of_aces_and_fives : hidden_hand worst fives ∷ hidden_crib worst fives ∷ hidden_total worst fives ∷ [] ≡ 12 ∷ 16 ∷ 28 ∷ []
+unfolding hand_points crib_points
+points_of_aces_and_fives = refl
+
+pub whole_deal : with_dealt worst fives ≡ record {
+  dealer = Opponent;
+  scores = record { owner = 3; opponent = 93 };
+  target = 121;
+  starter = 49;
+  own_hold = 4 ∷ 5 ∷ 6 ∷ 7 ∷ [];
+  own_throw = 12 ∷ 21 ∷ [];
+  opp = fives;
+  stop = true;
+}
+whole_deal = refl
+
+pub plain_points_by_throw : plain_with 49 (12 ∷ 21 ∷ []) 5 5 ∷ plain_with 49 (12 ∷ 21 ∷ []) 5 1 ∷ [] ≡ 16 ∷ 9 ∷ []
+plain_points_by_throw = refl
+
+pub places_in_a_table : plain_at (range_with_len 0 169) 1 1 ∷ plain_at (range_with_len 0 169) 2 3 ∷ plain_at (range_with_len 0 169) 13 13 ∷ []
+    ≡ 0 ∷ 15 ∷ 168 ∷ []
+places_in_a_table = refl
+
+pub three_aces_do_not_agree : AgreesInShow worst (record fives { hold = 0 ∷ 1 ∷ 2 ∷ 8 ∷ [] }) → ⊥
+three_aces_do_not_agree agrees = (let aces = ap first_count agrees.ranks_held in absurd (omega (arith, aces)))
+  where
+    first_count : List ℕ → ℕ
+    first_count [] = 0
+    first_count (count ∷ counts) = count
+
+pub fixed_ace_is_held : AgreesInShow (record worst { fixed = 4 ∷ [] }) fives → ⊥
+fixed_ace_is_held agrees = absurd (both_ways false refl agrees.fixed_held)
+
+pub starter_is_not_dealt : AgreesInShow worst (record fives { throw = 49 ∷ 16 ∷ [] }) → ⊥
+unfolding set_where
+starter_is_not_dealt agrees = absurd (both_ways false refl agrees.deal.hidden_before)
+
+pub no_failure_without_agreement : (AgreesInShow worst fives → ⊥) → IsFailure worst fives → ⊥
+no_failure_without_agreement none is = none is.agrees
+
+pub first_failure_in_pack_order : IsFirstFailure worst (record fives { throw = 17 ∷ 16 ∷ [] }) → ⊥
+first_failure_in_pack_order is = absurd (both_ways false refl is.in_order)
+
+pub first_failure_fails : (IsFailure worst fives → ⊥) → IsFirstFailure worst fives → ⊥
+first_failure_fails none is = none is.failure
+
+pub a_failure_is_a_deal : ((dealt : Dealt) → IsFailure worst dealt → ⊥) → CanFail worst → ⊥
+a_failure_is_a_deal none can = none can.0 can.1
+
+-- ---- points that are kept: 255 represents none
+pub nothing_kept : IfKept 255 (λ points. ⊥)
+nothing_kept kept = absurd (kept refl)
+
+pub wrong_points_kept : IfKept 254 (λ points. points ≡ 3) → ⊥
+wrong_points_kept right = (let points = right (λ e. absurd (omega (arith, e))) in absurd (omega (arith, points)))
+
+pub cards_of_a_show : HasCards 49 (12 ∷ 21 ∷ []) worst.unseen (0 ∷ []) worst
+cards_of_a_show = record { starter_is = refl; throw_is = refl; unseen_is = refl; fixed_is = refl; are_four = record { four = refl; thirteen = refl } }
+
+pub another_starter : (throw unseen fixed : List ℕ) → HasCards 48 throw unseen fixed worst → ⊥
+another_starter throw unseen fixed has = (let card = has.starter_is in absurd (omega (arith, card)))
+
+pub nothing_thrown : (unseen fixed : List ℕ) → HasCards 49 [] unseen fixed worst → ⊥
+nothing_thrown unseen fixed has = (let cards = has.throw_is in absurd cc)
+
+pub nothing_fixed : (throw unseen : List ℕ) → HasCards 49 throw unseen [] worst → ⊥
+nothing_fixed throw unseen has = (let cards = has.fixed_is in absurd cc)
+
+pub three_ranks_shown : (throw unseen fixed : List ℕ) → HasCards 49 throw unseen fixed (record worst { ranks = rank_counts (replicate 3 1) }) → ⊥
+three_ranks_shown throw unseen fixed has = (let four = has.are_four.four in absurd (omega (arith, four)))
+
+-- ---- the first failure: with fives thrown the opponent reaches 121, and 5C 5D come before 5C 5H
+abbrev other_fives : Dealt
+other_fives = record { hold = 0 ∷ 1 ∷ 2 ∷ 3 ∷ []; throw = 16 ∷ 18 ∷ [] }
+
+fives_fail : IsFailure worst fives
+unfolding set_where outcome_of hand_points crib_points
+fives_fail = record {
+  agrees = record { deal = record { held = refl; thrown = refl; distinct = refl; hidden_before = refl }; ranks_held = refl; fixed_held = refl };
+  fails = λ (e : Lost ≡ Reached). absurd cc;
+}
+
+pub later_fives_are_not_first : IsFirstFailure worst other_fives → ⊥
+unfolding set_where
+later_fives_are_not_first is = absurd (both_ways true (is.first fives fives_fail) refl)
+
+pub reached_is_no_failure : (dealt : Dealt) → outcome_of (with_dealt worst dealt) ≡ Reached → IsFailure worst dealt → ⊥
+reached_is_no_failure dealt reached is = is.fails reached
+
+pub row_of_nothing : no_row ≡ record { crib = false; side = Owner; points = 0; scores = record { owner = 0; opponent = 0 } }
+row_of_nothing = refl
+
+-- what is kept at the place of four ranks is right for them
+pub kept_at_its_place : (throw unseen fixed : List ℕ) (all : List Extremes) (worst : WorstShow) (none : Extremes) → AreKeptIn 49 throw unseen fixed all →
+    HasCards 49 throw unseen fixed worst → place_among 4 worst.ranks < length all → AreKept worst (slice_index_or all (place_among 4 worst.ranks) none)
+kept_at_its_place throw unseen fixed all worst none kept = kept worst none
+
+pub hand_is_kept_right : (kept : Extremes) → AreKept worst kept → IfKept kept.greatest_hand (IsGreatestHand worst)
+hand_is_kept_right kept are = are.greatest_hand
+
+pub cribs_are_kept_right : (kept : Extremes) → AreKept worst kept →
+    IfKept kept.least_crib (IsLeastCrib worst) × IfKept kept.greatest_crib (IsGreatestCrib worst) × IfKept kept.greatest_total (IsGreatestTotal worst)
+cribs_are_kept_right kept are = (are.least_crib, are.greatest_crib, are.greatest_total)
+
+-- the first failure, or none where each deal reaches the goal
+pub later_fives_or_none : IsFirstFailureOrNone worst (Some other_fives) → ⊥
+later_fives_or_none is = later_fives_are_not_first is
+
+pub none_where_fives_fail : IsFirstFailureOrNone worst None → ⊥
+none_where_fives_fail never = fives_fail.fails (never fives fives_fail.agrees)
+
+-- with 5C 5D thrown the hand makes 12 and the crib 16, so that no greatest points are fewer, and no least crib is more
+pub greatest_hand_is_12 : IsGreatestHand worst 11 → ⊥
+unfolding hand_points
+greatest_hand_is_12 is = (let most : 12 ≤ 11 = is.all fives fives_fail.agrees in absurd (omega (arith, most)))
+
+pub least_crib_is_16 : IsLeastCrib worst 17 → ⊥
+unfolding crib_points
+least_crib_is_16 is = (let least : 17 ≤ 16 = is.all fives fives_fail.agrees in absurd (omega (arith, least)))
+
+pub greatest_crib_is_16 : IsGreatestCrib worst 15 → ⊥
+unfolding crib_points
+greatest_crib_is_16 is = (let most : 16 ≤ 15 = is.all fives fives_fail.agrees in absurd (omega (arith, most)))
+
+pub greatest_total_is_28 : IsGreatestTotal worst 27 → ⊥
+unfolding hand_points crib_points
+greatest_total_is_28 is = (let most : 28 ≤ 27 = is.all fives fives_fail.agrees in absurd (omega (arith, most)))
+
+-- the first card and the last one are the jack of the starter's suit
+pub jack_at_each_end : hand_points (40 ∷ 13 ∷ 22 ∷ 31 ∷ []) 4 ∷ crib_points (40 ∷ 13 ∷ 22 ∷ 31 ∷ []) 4 ∷ crib_points (13 ∷ 22 ∷ 31 ∷ 40 ∷ []) 4 ∷ []
+    ≡ 1 ∷ 1 ∷ 1 ∷ []
+unfolding hand_points crib_points
+jack_at_each_end = refl

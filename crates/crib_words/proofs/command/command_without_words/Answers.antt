@@ -1,6 +1,0 @@
-use Rattle.crib_words.specs.Command.{commands_of}
-use Rattle.crib_words.proofs.CommandLemmas.{none_missing}
-use Rattle.crib_words.proofs.command.command_without_words.Goals as goal
-
-pub returns-clause-missing : goal.returns-clause-missing
-returns-clause-missing g c = none_missing _ (commands_of c.args.program.now) c.command_of.result c.command_of.ensures.named c.command_of.ensures.refused

@@ -1,4 +1,0 @@
-pub mod Status
-pub mod Command
-pub mod Beside
-pub mod Private

@@ -1,2 +1,0 @@
--- Definitions that only private functions cite. No public contract rests on them.
-pub mod Ended

@@ -96,7 +96,7 @@ fn plays_are_shared_in_place(rt: HostRuntime) {
 #[test]
 fn a_shared_look_has_a_paragraph(rt: HostRuntime) {
     has_paragraphs(&rt, SHARED, 6, &[3]);
-    has_paragraphs(&rt, SHARED_CARD, 7, &[4]);
+    has_paragraphs(&rt, SHARED_CARD, 7, &[3]);
 }
 
 #[test]

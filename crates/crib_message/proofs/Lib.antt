@@ -1,3 +1,3 @@
 mod LineLemmas
 mod MessageLemmas
-mod MessageExamples
+pub mod MessageExamples

@@ -1,18 +1,20 @@
 -- Worked examples of messages: the line that is shown, its number and its mark, and the words before it.
-use Rattle.std.proofs.Common.{arith, ◌≡◌, refl, true, false, ℕ, List, [], ◌∷◌, ◌++◌, codes, map, Some, None, inl, inr}
-use Rattle.std.specs.Prelude.{flat_map}
+use Rattle.std.proofs.Common.{arith, ◌≡◌, ◌⊎◌, ◌∙◌, refl, sym, ap, subst, true, false, ℕ, List, [], ◌∷◌, ◌++◌, codes, length, map, Some, None, inl, inr}
+use Rattle.std.specs.Prelude.{flat_map, replicate}
 use Rattle.std.specs.List.{All, list_all}
 use Rattle.std.specs.Fmt.{digits}
-use Rattle.std.proofs.lemmas.Bool.{and_parts}
-use Rattle.std.proofs.lemmas.List.Elements.{All-nil, All-cons}
+use Rattle.std.proofs.lemmas.Bool.{and_parts, both_ways}
+use Rattle.std.proofs.lemmas.List.Elements.{All-nil, All-cons, All-head}
 use Rattle.crib_text.specs.Words.{lines_of}
 use Rattle.crib_text.specs.declared.fault.TextCause.TheVariants.{BadCard}
 use Rattle.crib_input.specs.declared.refusal.Cause.TheVariants.{Text}
 use Rattle.crib_input.specs.declared.reason.FaultCause.TheVariants.{NoMemory}
 use Rattle.crib_input.specs.declared.reason.Reason.TheVariants.{Refused, Fault}
+use Rattle.crib_message.specs.declared.scene.Place.{Place}
 use Rattle.crib_message.specs.declared.scene.Section.TheVariants.{Problem, Plan, Game, After}
 use Rattle.crib_message.specs.Message.{IsExcerpt, IsFaultMessage, IsMark, IsMessage, IsRefusalMessage, Says}
-use Rattle.crib_message.specs.Message.{heading, is_plain, numbered_line, shown_byte, shown_line}
+use Rattle.crib_message.specs.Message.{blanks, carets, dots, heading, hex_digit, is_plain, mark_line, marks_below, numbered_line, place_words}
+use Rattle.crib_message.specs.Message.{section_words, shown_byte, shown_line}
 
 -- ---- the lines of an input
 abbrev two_lines : List ℕ
@@ -108,7 +110,11 @@ pub without_a_line : heading (codes "cribplan") 0 (record { section = Problem; n
 without_a_line = refl
 
 -- ---- whole messages
-all_plain : (bytes : List ℕ) → list_all is_plain bytes ≡ true → All (λ byte. is_plain byte ≡ true) bytes
+-- the place of a line of a game
+abbrev pub in_a_game : ℕ → Place
+in_a_game number = record { section = Game; number = number }
+
+pub all_plain : (bytes : List ℕ) → list_all is_plain bytes ≡ true → All (λ byte. is_plain byte ≡ true) bytes
 all_plain [] all = All-nil (λ byte. is_plain byte ≡ true)
 all_plain (byte ∷ bytes) all =
     let parts = and_parts (is_plain byte) (list_all is_plain bytes) all in
@@ -153,3 +159,155 @@ of_a_fault = (codes "cribplan: out of memory\n", no_memory, inl refl)
 pub of_a_failing_device : {failed : Type 0} → failed →
     Says (codes "cribplan") (codes "problem 1\n") (Fault NoMemory) (Some (codes "a")) (Some (codes "acribplan: out")) failed
 of_a_failing_device fails = (codes "cribplan: out of memory\n", no_memory, inr (13, omega arith, refl, fails))
+
+pub of_a_device_that_fails_late : {failed : Type 0} → failed →
+    Says (codes "cribplan") (codes "problem 1\n") (Fault NoMemory) (Some (codes "a")) (Some (codes "acribplan: out of memory")) failed
+of_a_device_that_fails_late fails = (codes "cribplan: out of memory\n", no_memory, inr (23, omega arith, refl, fails))
+
+-- ---- the parts of an excerpt
+pub hexadecimal_digits : map hex_digit (0 ∷ 9 ∷ 10 ∷ 15 ∷ []) ≡ codes "09af"
+hexadecimal_digits = refl
+
+pub three_dots : map dots ([] ∷ codes "a" ∷ codes "ab" ∷ []) ≡ [] ∷ codes "..." ∷ codes "..." ∷ []
+three_dots = refl
+
+pub marks_below_bytes : map (marks_below 94) (31 ∷ 32 ∷ 126 ∷ 127 ∷ []) ≡ codes "^^^^" ∷ codes "^" ∷ codes "^" ∷ codes "^^^^" ∷ []
+marks_below_bytes = refl
+
+pub blanks_below_bytes : blanks (codes "a" ++ 9 ∷ codes "ab") ≡ replicate 7 32
+blanks_below_bytes = refl
+
+pub carets_below_bytes : map carets ([] ∷ codes "a" ∷ (codes "a" ++ 9 ∷ codes "aab") ∷ []) ≡ codes "^" ∷ codes "^" ∷ codes "^^^^^^^^" ∷ []
+carets_below_bytes = refl
+
+-- below the bar of a line of two digits is a bar, then three blanks for the dots, five for `a` and a tab, and the carets
+pub mark_behind_dots : mark_line 12 (codes "0") (codes "a" ++ 9 ∷ []) (codes "bab") ≡ codes "     | " ++ (replicate 8 32 ++ codes "^^^\n")
+unfolding digits
+mark_behind_dots = refl
+
+pub mark_of_line_9 : mark_line 9 (codes "b") [] [] ≡ codes "    |    ^\n"
+unfolding digits
+mark_of_line_9 = refl
+
+pub dots_for_one_byte : shown_line 8 (codes "b") (codes "a") (codes "b") ≡ codes "  8 | ...a...\n"
+unfolding digits
+dots_for_one_byte = refl
+
+pub last_line_cut_short : numbered_line (codes "ab\ncd") 2 ≡ Some (codes "cd")
+unfolding lines_of
+last_line_cut_short = refl
+
+pub sheets_without_a_line : heading (codes "cribsheet") 0 (record { section = After; number = 0 }) ≡ codes "cribsheet: "
+sheets_without_a_line = refl
+
+pub words_of_sections : map (section_words 12) (Problem ∷ Plan ∷ Game ∷ After ∷ [])
+    ≡ [] ∷ codes ", line 12 of the plan" ∷ codes ", line 12 of the game" ∷ [] ∷ []
+unfolding digits
+words_of_sections = refl
+
+pub words_of_a_place : place_words (record { section = Game; number = 7 }) ≡ codes ", line 7 of the game"
+unfolding digits
+words_of_a_place = refl
+
+-- ---- marks, excerpts and messages that are none
+abbrev byte_of : List ℕ → ℕ
+byte_of [] = 0
+byte_of (byte ∷ bytes) = byte
+
+pub no_mark : IsMark 12 [] (codes "own") [] → ⊥
+no_mark is = (let mark = is.is in cc)
+
+pub mark_of_another_line : (mark : List ℕ) (is : IsMark 12 [] (codes "own") mark) → is.left ≡ codes "x" → ⊥
+mark_of_another_line mark is e =
+    (let byte : 111 ≡ 120 = ap byte_of (is.cut ∙ ap (λ left. left ++ (is.meant ++ is.right)) e) in absurd (omega (arith, byte)))
+
+-- a line of 105 bytes, of which the first two and the last three are left out
+abbrev long_line : List ℕ
+long_line = codes "ab" ++ (replicate 100 120 ++ codes "cde")
+
+pub a_hundred_bytes : IsExcerpt 8 long_line (codes "  8 | ..." ++ (replicate 100 120 ++ codes "...\n"))
+unfolding digits
+a_hundred_bytes = record {
+  before = codes "ab";
+  shown = replicate 100 120;
+  after = codes "cde";
+  mark = [];
+  cut = refl;
+  wide = refl;
+  is = refl;
+  marks = inl refl;
+}
+
+-- the same with a mark below the last byte that is shown
+pub mark_behind_99_bytes : IsExcerpt 8 long_line
+    (codes "  8 | ..." ++ (replicate 100 120 ++ codes "...\n") ++ (codes "    | " ++ (replicate 102 32 ++ codes "^\n")))
+unfolding digits
+mark_behind_99_bytes = record {
+  before = codes "ab";
+  shown = replicate 100 120;
+  after = codes "cde";
+  mark = codes "    | " ++ (replicate 102 32 ++ codes "^\n");
+  cut = refl;
+  wide = refl;
+  is = refl;
+  marks = inr (record { left = replicate 99 120; meant = codes "x"; right = []; cut = refl; is = refl });
+}
+
+pub no_excerpt : (line : List ℕ) → IsExcerpt 8 line [] → ⊥
+no_excerpt line is = (let excerpt = is.is in cc)
+
+pub excerpt_of_another_line : (excerpt : List ℕ) (is : IsExcerpt 8 (codes "own") excerpt) → is.before ≡ codes "x" → ⊥
+excerpt_of_another_line excerpt is e =
+    (let byte : 111 ≡ 120 = ap byte_of (is.cut ∙ ap (λ before. before ++ (is.shown ++ is.after)) e) in absurd (omega (arith, byte)))
+
+pub two_bytes_of_three : (excerpt : List ℕ) (is : IsExcerpt 8 (codes "own") excerpt) → is.shown ≡ codes "ow" → ⊥
+two_bytes_of_three excerpt is e = (let wide : 2 ≡ 3 = sym (ap length e) ∙ is.wide in absurd (omega (arith, wide)))
+
+pub more_than_a_hundred_bytes : (excerpt : List ℕ) (is : IsExcerpt 8 (replicate 101 120) excerpt) → is.shown ≡ replicate 101 120 → ⊥
+more_than_a_hundred_bytes excerpt is e = (let wide : 101 ≡ 100 = sym (ap length e) ∙ is.wide in absurd (omega (arith, wide)))
+
+pub another_mark : (excerpt : List ℕ) (is : IsExcerpt 8 (codes "own") excerpt) → is.mark ≡ codes "x" → ⊥
+another_mark excerpt is e = by is.marks
+  where
+    by : (is.mark ≡ []) ⊎ IsMark 8 is.before is.shown is.mark → ⊥
+    by (inl none) = (let byte : 120 ≡ 0 = ap byte_of (sym e ∙ none) in absurd (omega (arith, byte)))
+    by (inr mark) = (let byte : 120 ≡ 32 = ap byte_of (sym e ∙ mark.is) in absurd (omega (arith, byte)))
+
+pub no_message_of_a_refusal : (input : List ℕ) → IsRefusalMessage (codes "cribplan") input 2 [] → ⊥
+no_message_of_a_refusal input is = (let text = is.is in cc)
+
+pub tab_in_a_sentence : (program input text : List ℕ) (line : ℕ) (is : IsRefusalMessage program input line text) → is.sentence ≡ 9 ∷ [] → ⊥
+tab_in_a_sentence program input text line is e =
+    absurd (both_ways false refl (All-head (λ byte. is_plain byte ≡ true) 9 [] (subst (All (λ byte. is_plain byte ≡ true)) e is.plain)))
+
+-- the input has no line 9, and its line 2 is shown
+pub excerpt_of_no_line : (program text : List ℕ) (is : IsRefusalMessage program two_lines 9 text) → is.excerpt ≡ codes "x" → ⊥
+unfolding lines_of
+excerpt_of_no_line program text is e = (let none : codes "x" ≡ [] = sym e ∙ is.shows in cc)
+
+pub line_without_an_excerpt : (program text : List ℕ) (is : IsRefusalMessage program two_lines 2 text) → is.excerpt ≡ [] → ⊥
+unfolding lines_of
+line_without_an_excerpt program text is e = (let excerpt = sym e ∙ is.shows.is in cc)
+
+pub no_message_of_a_fault : (input : List ℕ) → IsMessage (codes "cribplan") input (Fault NoMemory) [] → ⊥
+no_message_of_a_fault input is = (let text = is.is in cc)
+
+pub tab_in_the_sentence_of_a_fault : (program text : List ℕ) (is : IsFaultMessage program text) → is.sentence ≡ 9 ∷ [] → ⊥
+tab_in_the_sentence_of_a_fault program text is e =
+    absurd (both_ways false refl (All-head (λ byte. is_plain byte ≡ true) 9 [] (subst (All (λ byte. is_plain byte ≡ true)) e is.plain)))
+
+pub no_message_of_a_bad_card : (input : List ℕ) → IsMessage (codes "cribplan") input (Refused (record { line = 2; cause = Text BadCard })) [] → ⊥
+no_message_of_a_bad_card input is = (let text = is.is in cc)
+
+-- a device that had an `a` has more afterwards, and not another letter
+pub nothing_said : {failed : Type 0} → (failed → ⊥) → Says (codes "cribplan") [] (Fault NoMemory) (Some (codes "a")) (Some (codes "b")) failed → ⊥
+nothing_said fine (text, is, inl all) = (let byte : 98 ≡ 97 = ap byte_of all in absurd (omega (arith, byte)))
+nothing_said fine (text, is, inr (sent, below, some, fails)) = fine fails
+
+pub another_text : (text : List ℕ) → {failed : Type 0} → ((text : List ℕ) → IsMessage (codes "cribplan") [] (Fault NoMemory) text → ⊥) →
+    Says (codes "cribplan") [] (Fault NoMemory) (Some []) (Some text) failed → ⊥
+another_text text none says = none says.0 says.1
+
+pub another_letter : {failed : Type 0} → failed → Says (codes "cribplan") [] (Fault NoMemory) (Some (codes "a")) (Some (codes "b")) failed → ⊥
+another_letter fails (text, is, inl all) = (let byte : 98 ≡ 97 = ap byte_of all in absurd (omega (arith, byte)))
+another_letter fails (text, is, inr (sent, below, some, failing)) = (let byte : 98 ≡ 97 = ap byte_of some in absurd (omega (arith, byte)))

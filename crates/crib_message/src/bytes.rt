@@ -1,16 +1,8 @@
 //! Bytes that no text has.
-use crate::explained::{Explained, Wanted, said};
-use crate::hints::Hint;
+use crate::explained::{Explained, said};
 use crate::scene::{Mark, Scene};
-use crate::sentence::Typed;
-use crib_input::Cause;
+use crate::sentence::{Sentence, Typed, tell};
 use crib_text::TextCause;
-
-const BAD_BYTE: Cause = Cause::Text(TextCause::BadByte);
-
-const UNIX_ENDS: &str = "A line ends with LF alone: save the file with Unix line ends.";
-
-const NOT_ASCII: &str = "Write plain ASCII letters, digits and signs.";
 
 /// Explains a line with a byte that is neither LF nor 32 to 126. Returns nothing if there is no such byte.
 pub(crate) fn bad_byte(scene: &Scene<'_>) -> Option<Explained> {
@@ -18,16 +10,17 @@ pub(crate) fn bad_byte(scene: &Scene<'_>) -> Option<Explained> {
     let from = line.iter().position(|byte| !matches!(*byte, 32..=126))?;
     let rest = line.get(from..)?;
     let bytes = character(rest)?;
-    let mark = Some(Mark::of(from, bytes.len()));
     let file = file_hint(scene);
-    let hint = Some(Hint::Text(file.unwrap_or(byte_hint(rest))));
-    let name = match (file, rest) {
-        (None, [b'\r']) => "a Windows line end (CR)",
-        (None, [b'\r', ..]) => "a carriage return (CR)",
-        (None, [b'\t', ..]) => "a tab",
-        _ => return Some(said(Typed(bytes), mark, BAD_BYTE, Wanted::Nothing, hint)),
+    let found = match (file, rest) {
+        (None, [b'\r']) => Sentence::of("a Windows line end (CR)"),
+        (None, [b'\r', ..]) => Sentence::of("a carriage return (CR)"),
+        (None, [b'\t', ..]) => Sentence::of("a tab"),
+        _ => Sentence::of(Typed(bytes)),
     };
-    Some(said(name, mark, BAD_BYTE, Wanted::Nothing, hint))
+    let mark = Some(Mark::of(from, bytes.len()));
+    let hint = tell(file.unwrap_or(byte_hint(rest)));
+    let text = format_args!("{found} is {}", TextCause::BadByte);
+    Some(said(text, mark, hint))
 }
 
 // Returns the bytes of the first character: one byte, or those of a sign in UTF-8.
@@ -44,22 +37,21 @@ fn character(rest: &[u8]) -> Option<&[u8]> {
 // file has.
 fn file_hint(scene: &Scene<'_>) -> Option<&'static str> {
     let is_control = |byte: &&u8| matches!(**byte, 0..=8 | 14..=26 | 28..=31);
-    match scene.text() {
-        [0xEF, 0xBB, 0xBF, ..] if scene.number == 1 => {
+    let controls = scene.input.iter().take(512).filter(is_control).count();
+    match (scene.number, scene.text()) {
+        (1, [0xEF, 0xBB, 0xBF, ..]) => {
             Some("Save the file as plain ASCII, without a byte-order mark.")
         }
-        [0xFF, 0xFE, ..] | [0xFE, 0xFF, ..] | [b'p', 0, ..] | [0, b'p', ..] if scene.number == 1 =>
-            { Some("Save the file as plain ASCII, not as UTF-16.") }
-        _ if scene.input.iter().take(512).filter(is_control).count() >= 3 => {
-            Some("The input is no text.")
+        (1, [0xFF, 0xFE, ..] | [0xFE, 0xFF, ..] | [b'p', 0, ..] | [0, b'p', ..]) => {
+            Some("Save the file as plain ASCII, not as UTF-16.")
         }
-        _ => None,
+        _ => (controls >= 3).then_some("The input is no text."),
     }
 }
 
 fn byte_hint(rest: &[u8]) -> &'static str {
     match rest {
-        [b'\r', ..] => UNIX_ENDS,
+        [b'\r', ..] => "A line ends with LF alone: save the file with Unix line ends.",
         [b'\t', ..] => "Write a blank in place of the tab.",
         [0x1B, ..] => "Remove the colour codes of a terminal.",
         [0..=31 | 127, ..] => "Remove this control character.",
@@ -72,6 +64,6 @@ fn byte_hint(rest: &[u8]) -> &'static str {
         [0xF0, 0x9F, 0x82 | 0x83, ..] => {
             "Write a card as two letters, its rank and its suit: TS."
         }
-        _ => NOT_ASCII,
+        _ => "Write plain ASCII letters, digits and signs.",
     }
 }

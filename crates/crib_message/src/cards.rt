@@ -1,8 +1,8 @@
 //! Words that should be cards.
-use crate::hints::Hint;
-use crate::sentence::Named;
+use crate::sentence::{Hint, named, tell};
 use crate::spelling::bare;
 use crib_cards::{Card, read_card};
+use crib_text::read_number;
 
 const TEN: &str = "Write ten as T: ";
 
@@ -14,19 +14,24 @@ const NO_SIGN: &str = "Write no other sign at a card: ";
 
 const NO_SUIT: &str = "Write the suit behind the rank, as in ";
 
+const NO_RANK: &str = "Write the rank in front of the suit, as in ";
+
+const RANK_FIRST: &str = "Write the rank in front of the suit: ";
+
+const CAPITALS: &str = "Write a card in capital letters: ";
+
 /// Returns the hint for a word that should be a card, if it is like one.
-pub(crate) fn card_hint(word: &[u8]) -> Option<Hint> {
-    if read_card(word).is_some() {
-        return None;
-    }
-    let hint = match word {
-        [rank, suit] => meant("Write a card in capital letters: ", *rank, *suit),
-        _ => None,
+pub(crate) fn card_hint(word: &[u8]) -> Hint {
+    let hint = match (word, bare(word)) {
+        _ if read_card(word).is_some() => return None,
+        ([letter], _) => meant(NO_SUIT, *letter, b'S').or(meant(NO_RANK, b'T', *letter)),
+        (b"10", _) => meant(TEN, b'T', b'S'),
+        ([first, last], _) => meant(CAPITALS, *first, *last).or(meant(RANK_FIRST, *last, *first)),
+        (_, [rank, suit]) => meant(NO_SIGN, *rank, *suit),
+        ([rank, sign, suit], _) if !sign.is_ascii_alphanumeric() => meant(NO_SIGN, *rank, *suit),
+        _ => apart(word),
     };
-    hint.or(bare_card(word))
-        .or(ranked(word))
-        .or(lone(word))
-        .or(apart(word))
+    hint.or(ranked(word))
 }
 
 /// Returns the card of a rank and a suit, in small letters or in capitals.
@@ -35,20 +40,13 @@ pub(crate) fn card_meant(rank: u8, suit: u8) -> Option<Card> {
 }
 
 // Returns a hint that ends with the card of a rank and a suit.
-fn meant(text: &'static str, rank: u8, suit: u8) -> Option<Hint> {
-    Some(Hint::Card(text, Named::of(card_meant(rank, suit)?)))
-}
-
-// A card with signs around it.
-fn bare_card(word: &[u8]) -> Option<Hint> {
-    match bare(word) {
-        [rank, suit] if word.len() > 2 => meant(NO_SIGN, *rank, *suit),
-        _ => None,
-    }
+fn meant(text: &str, rank: u8, suit: u8) -> Hint {
+    let card = named(card_meant(rank, suit)?);
+    tell(format_args!("{text}{card}."))
 }
 
 // The ranks that people write as numbers: 0, 1 and 10 to 14. A letter O or l may represent a digit.
-fn ranked(word: &[u8]) -> Option<Hint> {
+fn ranked(word: &[u8]) -> Hint {
     match word {
         [b'1' | b'I' | b'l', b'0' | b'O' | b'o', suit]
         | [suit, b'1', b'0']
@@ -70,41 +68,27 @@ pub(crate) fn is_like_card(word: &[u8]) -> bool {
     }
 }
 
-// A rank or a suit alone, the suit in front of the rank, and a sign between the two.
-fn lone(word: &[u8]) -> Option<Hint> {
-    match word {
-        [letter] => meant(NO_SUIT, *letter, b'S').or(meant(
-            "Write the rank in front of the suit, as in ",
-            b'T',
-            *letter,
-        )),
-        [b'1', b'0'] => meant(TEN, b'T', b'S'),
-        [suit, rank] => meant("Write the rank in front of the suit: ", *rank, *suit),
-        [rank, sign, suit] if !sign.is_ascii_alphanumeric() => meant(NO_SIGN, *rank, *suit),
-        _ => None,
-    }
-}
-
 /// Returns the hint for a rank that is written as a number, with no suit.
-pub(crate) fn suitless(word: &[u8]) -> Option<Hint> {
-    match word {
-        b"10" => meant(NO_SUIT, b'T', b'S'),
-        b"1" | b"14" => meant(NO_SUIT, b'A', b'S'),
-        b"11" => meant(NO_SUIT, b'J', b'S'),
-        b"12" => meant(NO_SUIT, b'Q', b'S'),
-        b"13" => meant(NO_SUIT, b'K', b'S'),
-        _ => None,
-    }
+pub(crate) fn suitless(word: &[u8]) -> Hint {
+    let rank = match read_number(word)? {
+        1 | 14 => b'A',
+        10 => b'T',
+        11 => b'J',
+        12 => b'Q',
+        13 => b'K',
+        _ => return None,
+    };
+    meant(NO_SUIT, rank, b'S')
 }
 
 // Two cards or more, with no blank or one other sign between two.
-fn apart(word: &[u8]) -> Option<Hint> {
+fn apart(word: &[u8]) -> Hint {
     let (first, second) = match word {
-        [rank, suit, sign, next, other, ..] if !sign.is_ascii_alphanumeric() => {
-            (card_meant(*rank, *suit)?, card_meant(*next, *other)?)
-        }
-        [rank, suit, next, other, ..] => (card_meant(*rank, *suit)?, card_meant(*next, *other)?),
+        [a, b, sign, c, d, ..] if !sign.is_ascii_alphanumeric() => ((*a, *b), (*c, *d)),
+        [a, b, c, d, ..] => ((*a, *b), (*c, *d)),
         _ => return None,
     };
-    Some(Hint::Apart(Named::of(first), Named::of(second)))
+    let first = named(card_meant(first.0, first.1)?);
+    let second = named(card_meant(second.0, second.1)?);
+    tell(format_args!("Write a blank between two cards: {first} {second}."))
 }

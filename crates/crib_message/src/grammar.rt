@@ -1,4 +1,12 @@
 //! The grammar as one table: the lines of each section, and the words of each line (docs/FORMATS.md, "Grammar").
+use crate::grammar::Row::{
+    Act, Acts, Dealer, End, Game, Goal, Hold, Node, Nodes, Plan, Played, Problem, Score, Starter,
+    Throw,
+};
+use crate::grammar::Slot::{
+    Actor, Aim, Branch, Card, Count, Extra, Holes, Keyword, Kind, Many, Move, Own, Points, Side,
+    Stated, Target, Version,
+};
 use crate::scene::{Place, Section};
 
 /// A line of a section, by its keyword.
@@ -59,57 +67,59 @@ pub(crate) enum Slot {
     Actor,
     /// A card or `go`.
     Move,
+    /// Nothing: the line is over there.
+    Extra,
 }
 
+// The lines with keywords.
+const KEYWORDS: [Row; 12] = [
+    Problem, Dealer, Score, Starter, Hold, Throw, Goal, Played, Plan, Nodes, Game, Acts,
+];
+
 impl Row {
-    /// Returns the line that is at this place.
+    /// Returns the line that is at this place. The last one of a section may be there many times.
     pub(crate) fn at(place: Place) -> Row {
-        match (place.section, place.number) {
-            (Section::Problem, 0 | 1) => Row::Problem,
-            (Section::Problem, 2) => Row::Dealer,
-            (Section::Problem, 3) => Row::Score,
-            (Section::Problem, 4) => Row::Starter,
-            (Section::Problem, 5) | (Section::Game, 2) => Row::Hold,
-            (Section::Problem, 6) | (Section::Game, 3) => Row::Throw,
-            (Section::Problem, 7) => Row::Goal,
-            (Section::Problem, 8) => Row::Played,
-            (Section::Plan, 0 | 1) => Row::Plan,
-            (Section::Plan, 2) => Row::Nodes,
-            (Section::Plan, _) => Row::Node,
-            (Section::Game, 0 | 1) => Row::Game,
-            (Section::Game, 4) => Row::Acts,
-            (Section::Problem | Section::Game, _) => Row::Act,
-            (Section::After, _) => Row::End,
-        }
+        let rows: &[Row] = match place.section {
+            Section::Problem => &[
+                Problem, Dealer, Score, Starter, Hold, Throw, Goal, Played, Act,
+            ],
+            Section::Plan => &[Plan, Nodes, Node],
+            Section::Game => &[Game, Hold, Throw, Acts, Act],
+            Section::After => &[End],
+        };
+        let index = place.number.saturating_sub(1) as usize;
+        let last = rows.len().saturating_sub(1);
+        rows.get(index.min(last)).copied().unwrap_or(End)
     }
 
     /// Returns what is at the word with this index, from 0, of a line with this second word.
-    pub(crate) fn slot(self, second: &[u8], index: usize) -> Option<Slot> {
-        match (self, index) {
-            (Row::Act, 0) => Some(Slot::Actor),
-            (Row::Act, 1) => Some(Slot::Move),
-            (Row::Node, 0) => Some(Slot::Own),
-            (Row::Node, 1) => Some(Slot::Kind),
-            (Row::Node, _) if second == b"see".as_slice() => Some(Slot::Branch),
-            (Row::Node, 2) if second == b"play".as_slice() => Some(Slot::Stated),
-            (Row::Node, 3) if second == b"play".as_slice() => Some(Slot::Target),
-            (Row::Act | Row::Node | Row::End, _) => None,
-            (_, 0) => Some(Slot::Keyword),
-            (Row::Problem | Row::Plan | Row::Game, 1) => Some(Slot::Version),
-            (Row::Dealer, 1) => Some(Slot::Side),
-            (Row::Score, 1 | 2) => Some(Slot::Points),
-            (Row::Starter, 1) | (Row::Throw, 1 | 2) | (Row::Hold, 1..=4) => Some(Slot::Card),
-            (Row::Goal, 1) => Some(Slot::Aim),
-            (Row::Goal, 2) if second == b"holes".as_slice() => Some(Slot::Holes),
-            (Row::Played | Row::Acts, 1) => Some(Slot::Count),
-            (Row::Nodes, 1) => Some(Slot::Many),
-            _ => None,
-        }
+    pub(crate) fn slot(self, second: &[u8], index: usize) -> Slot {
+        let slots: &[Slot] = match (self, second) {
+            (Problem | Plan | Game, _) => &[Keyword, Version],
+            (Dealer, _) => &[Keyword, Side],
+            (Score, _) => &[Keyword, Points, Points],
+            (Starter, _) => &[Keyword, Card],
+            (Hold, _) => &[Keyword, Card, Card, Card, Card],
+            (Throw, _) => &[Keyword, Card, Card],
+            (Goal, b"holes") => &[Keyword, Aim, Holes],
+            (Goal, _) => &[Keyword, Aim],
+            (Played | Acts, _) => &[Keyword, Count],
+            (Nodes, _) => &[Keyword, Many],
+            (Node, b"play") => &[Own, Kind, Stated, Target],
+            (Node, b"see") if index > 1 => return Branch,
+            (Node, _) => &[Own, Kind],
+            (Act, _) => &[Actor, Move],
+            (End, _) => &[],
+        };
+        slots.get(index).copied().unwrap_or(Extra)
     }
 
     /// Returns the first word of the line, or none if it is no keyword.
     pub(crate) fn keyword(self) -> &'static str {
-        self.form().0
+        match self {
+            Node | Act | End => "",
+            _ => self.pattern(false).split(' ').next().unwrap_or(""),
+        }
     }
 
     /// Returns the line with this keyword.
@@ -121,54 +131,28 @@ impl Row {
 
     /// Whether cards are behind the keyword.
     pub(crate) fn has_cards(self) -> bool {
-        matches!(self, Row::Starter | Row::Hold | Row::Throw)
+        matches!(self, Starter | Hold | Throw)
     }
 
     /// Returns what the line may be. Only a problem of version 2 has the goal `stop`.
     pub(crate) fn pattern(self, second: bool) -> &'static str {
         match self {
-            Row::Goal if second => "goal win, goal holes N or goal stop",
-            _ => self.form().1,
-        }
-    }
-
-    // The keyword of the line, and what the line may be.
-    fn form(self) -> (&'static str, &'static str) {
-        match self {
-            Row::Problem => ("problem", "problem 1 or problem 2"),
-            Row::Dealer => ("dealer", "dealer owner or dealer opponent"),
-            Row::Score => (
-                "score",
-                "score and two numbers from 0 to 120, the owner's and the opponent's",
-            ),
-            Row::Starter => ("starter", "starter and a card"),
-            Row::Hold => ("hold", "hold and four cards"),
-            Row::Throw => ("throw", "throw and two cards"),
-            Row::Goal => ("goal", "goal win or goal holes N"),
-            Row::Played => ("played", "played and the number of turns that follow"),
-            Row::Plan => ("plan", "plan 1"),
-            Row::Nodes => ("nodes", "nodes and the number of nodes that follow"),
-            Row::Node => ("", "a node, such as 0 play 2C end or 0 see A2:1"),
-            Row::Game => ("game", "game 1"),
-            Row::Acts => ("acts", "acts and the number of acts that follow"),
-            Row::Act => ("", "own or opp, and then a card or go"),
-            Row::End => ("", "the end of the input"),
+            Problem => "problem 1 or problem 2",
+            Dealer => "dealer owner or dealer opponent",
+            Score => "score and two numbers from 0 to 120, the owner's and the opponent's",
+            Starter => "starter and a card",
+            Hold => "hold and four cards",
+            Throw => "throw and two cards",
+            Goal if second => "goal win, goal holes N or goal stop",
+            Goal => "goal win or goal holes N",
+            Played => "played and the number of turns that follow",
+            Plan => "plan 1",
+            Nodes => "nodes and the number of nodes that follow",
+            Node => "a node, such as 0 play 2C end or 0 see A2:1",
+            Game => "game 1",
+            Acts => "acts and the number of acts that follow",
+            Act => "own or opp, and then a card or go",
+            End => "the end of the input",
         }
     }
 }
-
-// The lines with keywords.
-const KEYWORDS: [Row; 12] = [
-    Row::Problem,
-    Row::Dealer,
-    Row::Score,
-    Row::Starter,
-    Row::Hold,
-    Row::Throw,
-    Row::Goal,
-    Row::Played,
-    Row::Plan,
-    Row::Nodes,
-    Row::Game,
-    Row::Acts,
-];

@@ -12,7 +12,6 @@ use crate::sentence::Sentence;
 use arrayvec::ArrayVec;
 use crib_input::{FaultCause, Reason, Refusal, Sections};
 use itoa::Buffer;
-use std::fmt::Write;
 
 /// A message of at most 1,500 bytes: lines of text.
 #[derive(Drop)]
@@ -121,7 +120,7 @@ fn refusal_message(program: &[u8], sections: Sections, input: &[u8], refusal: &R
     let scene = Scene::new(sections, input, refusal.line);
     let Explained { sentence, mark } = explain(&scene, refusal.cause);
     let mut message = headed(program, refusal.line, scene.place);
-    message.add_sentence(sentence.as_slice());
+    message.add_sentence(sentence.0.as_str().as_bytes());
     message.add(b"\n");
     if let Some(line) = scene.line {
         message.add(excerpt_of(refusal.line, line, mark).as_slice());
@@ -146,10 +145,8 @@ fn fault_message(program: &[u8], cause: FaultCause) -> Message
     requires { length program.now ≤ 20 }
     ensures { IsFaultMessage program.now result.text.items }
 {
-    let mut sentence = Sentence::new();
-    let _whole = write!(sentence, "{cause}");
     let mut message = Message::of_program(program);
-    message.add_sentence(sentence.as_slice());
+    message.add_sentence(Sentence::of(cause).0.as_str().as_bytes());
     message.add(b"\n");
     message
 }

@@ -52,8 +52,7 @@ pub(crate) struct Word<'a> {
 impl<'a> Word<'a> {
     /// Returns the first word of a line.
     pub(crate) fn of(bytes: &'a [u8]) -> Word<'a> {
-        let index = 0;
-        let from = 0;
+        let (index, from) = (0, 0);
         Word { bytes, index, from }
     }
 
@@ -71,12 +70,8 @@ impl<'a> Word<'a> {
     pub(crate) fn target(&self) -> Option<Word<'a>> {
         let start = self.letters().len().saturating_add(1);
         let bytes = self.bytes.get(start..)?;
-        let from = self.from.saturating_add(start);
-        Some(Word {
-            bytes,
-            from,
-            ..*self
-        })
+        let (index, from) = (self.index, self.from.saturating_add(start));
+        Some(Word { bytes, index, from })
     }
 }
 
@@ -97,56 +92,37 @@ pub(crate) struct Place {
     pub(crate) number: u32,
 }
 
-impl Place {
-    // Returns the place of a line. The lines before it are valid, so their counts state how long a section is.
-    fn of_line(sections: Sections, input: &[u8], line: u32) -> Place {
-        let wanted = match sections {
-            Sections::Problem => [Section::Problem, Section::After, Section::After],
-            Sections::Question => [Section::Problem, Section::Plan, Section::After],
-            Sections::Played => [Section::Problem, Section::Game, Section::After],
-            Sections::PlayedUnder => [Section::Problem, Section::Plan, Section::Game],
+// Returns the place of a line. The lines before it are valid, so their counts state how long a section is.
+fn place_of(sections: Sections, input: &[u8], line: u32) -> Place {
+    let mut number = line;
+    for section in [Section::Problem, Section::Plan, Section::Game] {
+        let before = line.saturating_sub(number);
+        let count = |head: u32| head.saturating_add(count_at(input, before.saturating_add(head)));
+        let len = match (section, sections) {
+            (Section::Problem, _) => problem_len(input),
+            (Section::Plan, Sections::Question | Sections::PlayedUnder) => count(2),
+            (Section::Game, Sections::Played | Sections::PlayedUnder) => count(4),
+            _ => 0,
         };
-        let mut before = 0u32;
-        for section in wanted {
-            let end = before.saturating_add(section_len(section, input, before));
-            if line <= end {
-                let number = line.saturating_sub(before);
-                return Place { section, number };
-            }
-            before = end;
+        if number <= len {
+            return Place { section, number };
         }
-        Place {
-            section: Section::After,
-            number: line.saturating_sub(before),
-        }
+        number = number.saturating_sub(len);
     }
-}
-
-// Returns the number of lines of a section after so many lines: those that are always there, and those that it counts.
-fn section_len(section: Section, input: &[u8], before: u32) -> u32 {
-    let head = match section {
-        Section::Problem if !is_second(input) => return 7,
-        Section::Problem => 8,
-        Section::Plan => 2,
-        Section::Game => 4,
-        Section::After => return 0,
-    };
-    count_at(input, before.saturating_add(head)).saturating_add(head)
+    let section = Section::After;
+    Place { section, number }
 }
 
 /// Returns the number of lines of the problem.
 pub(crate) fn problem_len(input: &[u8]) -> u32 {
-    section_len(Section::Problem, input, 0)
-}
-
-fn is_second(input: &[u8]) -> bool {
-    input.starts_with(b"problem 2\n")
+    let counted = count_at(input, 8).saturating_add(8);
+    let is_second = input.starts_with(b"problem 2\n");
+    if is_second { counted } else { 7 }
 }
 
 /// Returns the number that is the second word of a line, or 0 if there is none.
 pub(crate) fn count_at(input: &[u8], line: u32) -> u32 {
-    let line = line_at(input, line).unwrap_or(b"");
-    read_number(word_in(line, 1)).unwrap_or(0)
+    read_number(word_in(line_at(input, line).unwrap_or(b""), 1)).unwrap_or(0)
 }
 
 /// A line that is refused, or the place of one that is missing.
@@ -169,7 +145,7 @@ impl<'a> Scene<'a> {
     pub(crate) fn new(sections: Sections, input: &'a [u8], number: u32) -> Scene<'a>
         ensures { option_map (λ line. line.now) result.line ≡ numbered_line input.now number }
     {
-        let place = Place::of_line(sections, input, number);
+        let place = place_of(sections, input, number);
         Scene {
             sections,
             input,
@@ -195,8 +171,8 @@ impl<'a> Scene<'a> {
         self.text().split(|byte| *byte == b' ').count()
     }
 
-    /// Returns what the grammar has at this word, if it has a word there.
-    pub(crate) fn slot(&self, index: usize) -> Option<Slot> {
+    /// Returns what the grammar has at this word.
+    pub(crate) fn slot(&self, index: usize) -> Slot {
         self.row.slot(self.word(1), index)
     }
 
@@ -207,12 +183,7 @@ impl<'a> Scene<'a> {
 
     /// Whether the input begins with a problem of version 2.
     pub(crate) fn is_second(&self) -> bool {
-        is_second(self.input)
-    }
-
-    /// Whether the grammar has turns of an opening, nodes or acts here, up to the number that was announced.
-    pub(crate) fn is_counted(&self) -> bool {
-        matches!(self.row, Row::Act | Row::Node)
+        problem_len(self.input) > 7
     }
 
     /// Returns the number of lines before the section.
@@ -230,13 +201,8 @@ impl<'a> Scene<'a> {
         count_at(self.input, self.before().saturating_add(2))
     }
 
-    /// Returns the owner's holes at the first lead.
-    pub(crate) fn score(&self) -> u32 {
-        count_at(self.input, 3)
-    }
-
     /// Returns the holes that the owner is short of 121.
     pub(crate) fn holes_left(&self) -> u32 {
-        121u32.saturating_sub(self.score())
+        121u32.saturating_sub(count_at(self.input, 3))
     }
 }

@@ -1,31 +1,26 @@
 //! Words that differ a little from an expected one, and mistyped numbers.
-use crate::hints::Hint;
+use crate::sentence::{Hint, tell};
 use crib_text::read_number;
 
 /// Returns the hint for a word that should be one of these, if it is like one.
-pub(crate) fn word_hint(word: &[u8], choices: &[&'static str]) -> Option<Hint> {
-    for choice in choices {
-        let wanted = choice.as_bytes();
-        if wanted.is_empty() || word == wanted {
-            continue;
+pub(crate) fn word_hint(word: &[u8], choices: &[&'static str]) -> Hint {
+    choices.iter().find_map(|choice| choice_hint(word, choice))
+}
+
+fn choice_hint(word: &[u8], choice: &str) -> Hint {
+    let wanted = choice.as_bytes();
+    let hint = match word {
+        _ if word == wanted => return None,
+        _ if is_word(word, wanted) => "Write small letters: ",
+        _ if is_with_zeros(word, wanted) => "Write the letter o, not a zero: ",
+        _ if is_word(bare(word), wanted) => "Write no other sign at the word ",
+        _ if is_joined(word, wanted) => "Write a blank behind the word ",
+        _ if is_near(word, wanted) => {
+            return tell(format_args!("Did you mean {choice}?"));
         }
-        if is_word(word, wanted) {
-            return Some(Hint::Word("Write small letters: ", choice));
-        }
-        if is_with_zeros(word, wanted) {
-            return Some(Hint::Word("Write the letter o, not a zero: ", choice));
-        }
-        if is_word(bare(word), wanted) {
-            return Some(Hint::Word("Write no other sign at the word ", choice));
-        }
-        if is_joined(word, wanted) {
-            return Some(Hint::Word("Write a blank behind the word ", choice));
-        }
-        if is_near(word, wanted) {
-            return Some(Hint::Misspelt(choice));
-        }
-    }
-    None
+        _ => return None,
+    };
+    tell(format_args!("{hint}{choice}."))
 }
 
 /// Whether a word is this one, in small or capital letters.
@@ -42,49 +37,44 @@ fn is_with_zeros(word: &[u8], wanted: &[u8]) -> bool {
 
 /// Returns a word without the signs around it that are neither letters nor digits.
 pub(crate) fn bare(word: &[u8]) -> &[u8] {
-    let mut rest = word;
-    for _ in 0..word.len() {
-        match rest {
-            [first, tail @ ..] if !first.is_ascii_alphanumeric() => rest = tail,
-            [front @ .., last] if !last.is_ascii_alphanumeric() => rest = front,
-            _ => return rest,
-        }
-    }
-    rest
+    let from = word
+        .iter()
+        .position(u8::is_ascii_alphanumeric)
+        .unwrap_or(word.len());
+    let last = word
+        .iter()
+        .rposition(u8::is_ascii_alphanumeric)
+        .unwrap_or(0);
+    word.get(from..=last).unwrap_or(b"")
 }
 
 // Whether a word begins with this one, and something other than a small letter follows at once.
 fn is_joined(word: &[u8], wanted: &[u8]) -> bool {
-    match word.strip_prefix(wanted) {
-        Some([next, ..]) => !next.is_ascii_lowercase(),
-        _ => false,
-    }
+    matches!(word.strip_prefix(wanted), Some([next, ..]) if !next.is_ascii_lowercase())
 }
 
 // Whether one letter is missing, wrong or too many, or two neighbours are in the wrong order.
 fn is_near(word: &[u8], wanted: &[u8]) -> bool {
+    let pairs = word.iter().zip(wanted.iter());
+    let same = pairs.take_while(|(byte, letter)| *byte == *letter).count();
     if wanted.len() < 3 || word.len() < 2 {
         return false;
     }
-    let mut left = word;
-    let mut right = wanted;
-    for _ in 0..word.len() {
-        match (left, right) {
-            ([a, rest @ ..], [b, others @ ..]) if a == b => (left, right) = (rest, others),
-            ([rest @ .., a], [others @ .., b]) if a == b => (left, right) = (rest, others),
-            _ => break,
-        }
-    }
-    match (left, right) {
-        ([], [_]) | ([_], []) | ([_], [_]) => true,
-        ([a, b], [c, d]) => a == d && b == c,
+    match (
+        word.get(same..).unwrap_or(b""),
+        wanted.get(same..).unwrap_or(b""),
+    ) {
+        ([_, rest @ ..], [_, others @ ..]) if rest == others => true,
+        ([_, rest @ ..], others) if rest == others => true,
+        (rest, [_, others @ ..]) if rest == others => true,
+        ([a, b, rest @ ..], [c, d, others @ ..]) => a == d && b == c && rest == others,
         _ => false,
     }
 }
 
 /// Returns the hint for a word that should be a number.
-pub(crate) fn number_hint(word: &[u8]) -> Option<Hint> {
-    let text = match word {
+pub(crate) fn number_hint(word: &[u8]) -> Hint {
+    tell(match word {
         [] => return None,
         [b'+' | b'-', b'0'..=b'9', ..] => "Write a number without a sign.",
         [b'0', _, ..] if are_digits(word) => "Write a number without a zero in front.",
@@ -95,8 +85,7 @@ pub(crate) fn number_hint(word: &[u8]) -> Option<Hint> {
             "Write 0 and 1 as digits, not as letters."
         }
         _ => "Write a number in digits alone.",
-    };
-    Some(Hint::Text(text))
+    })
 }
 
 fn are_digits(word: &[u8]) -> bool {
@@ -108,16 +97,14 @@ fn is_like_digit(byte: u8) -> bool {
     matches!(byte, b'0'..=b'9' | b'O' | b'o' | b'l' | b'I' | b'i')
 }
 
-/// Returns the hint for two numbers with one sign between them in place of a blank, as `109-110`.
-pub(crate) fn two_numbers_hint(word: &[u8]) -> Option<Hint> {
-    let at = word.iter().position(|byte| !byte.is_ascii_digit())?;
-    let sign = word.get(at).copied()?;
-    let back = word.get(at.saturating_add(1)..)?;
-    if at == 0 || !are_digits(back) || sign.is_ascii_alphanumeric() {
+/// Returns the hint for numbers with one sign between two in place of a blank, as `109-110`.
+pub(crate) fn two_numbers_hint(word: &[u8]) -> Hint {
+    let sign = *word.iter().find(|byte| !byte.is_ascii_digit())?;
+    if sign.is_ascii_alphanumeric() || !word.split(|byte| *byte == sign).all(are_digits) {
         return None;
     }
-    Some(Hint::Text(match sign {
+    tell(match sign {
         b'.' => "Write whole numbers, with a blank between two.",
         _ => "Write a blank between two numbers.",
-    }))
+    })
 }

@@ -1,305 +1,214 @@
-//! Why an act may not be the next one, in a few parts that openings and games share.
+//! Why an act may not be the next one, in an opening or in a game.
 use crate::explained::Explained;
 use crate::grammar::Row;
 use crate::scene::{Mark, Scene, line_at};
-use crate::sentence::{Cards, GoOf, Held, Moved, Named, Sentence, The, Typed};
+use crate::sentence::{Held, Sentence, Typed, go_of, moved, named, the};
 use crate::state::State;
 use crate::strays::add_stray;
-use crib_cards::{Act, Card, Dealt, Move, Side};
-use crib_game::GameFault;
-use crib_problem::ProblemCause;
-use std::fmt::Write;
-use thiserror::Error;
+use crib_cards::{Card, Dealt, GAME_HOLE, Move, Scores};
+use crib_game::GameFault as Fault;
+use crib_input::Cause;
+use crib_input::Cause::{Game, Problem};
+use crib_problem::ProblemCause as Rule;
 
-/// A part of a reason.
-#[derive(Clone, Copy, Debug, Error)]
-enum Part {
-    #[error("{0}")]
-    Text(&'static str),
-    #[error("{0} said go already (line {1}), and each side says go once a count; ")]
-    SaidGo(The, u32),
-    #[error("{0} has no card left, and such a go isn't written; ")]
-    NoCardLeft(The),
-    #[error("neither side could play after line {0}, so the count begins again; ")]
-    NeitherPlays(u32),
-    #[error("it is {0}'s turn, and the count is {1}")]
-    Turn(The, u8),
-    #[error("; it is {0}'s turn")]
-    OnlyTurn(The),
-    #[error("; they hold {0}")]
-    TheyHold(Held),
-    #[error("; none of their cards fits ({0}), so {1} is missing before this line")]
-    NoneFits(Cards, GoOf),
-    #[error("{0} {1} (line {2})")]
-    IsAt(Named, &'static str, u32),
-    #[error("{0} is in the opponent's throw")]
-    InTheirThrow(Named),
-    #[error("{0} holds {1}")]
-    Holds(The, Named),
-    #[error("{0} stands twice in this line")]
-    Twice(Named),
-    #[error("{0} still holds {1}")]
-    StillHolds(The, Cards),
-    #[error("{0} counts {1}, the count is {2}, and {3} is left to 31")]
-    TooHigh(Named, u8, u8, u8),
-    #[error("; {0} holds {1}")]
-    HoldsCards(The, Held),
-    #[error("; {0} holds no card that fits, so {1} is missing before this line")]
-    HoldsNone(The, GoOf),
-    #[error("; {0} may be missing before this line")]
-    GoMissing(GoOf),
-    #[error("; {0} would pass the turn to {1}")]
-    GoPasses(GoOf, The),
-    #[error("the count is {0}, so every card fits")]
-    AllFit(u8),
-    #[error("the count is {0}, so a card fits if it counts {1} or less")]
-    SomeFit(u8, u8),
-    #[error("the opponent said go at a count of {0} (line {1}), so each of their cards counts {2} or more")]
-    Told(u8, u32, u8),
-    #[error("with {0} ")]
-    With(Moved),
-    #[error("{0} reached hole {1}")]
-    Reached(The, u8),
-    #[error(" (line {0})")]
-    AtLine(u32),
-    #[error(", and the owner plays {0}")]
-    OwnerPlays(Named),
-}
+const ALL_TURNS: &str = "a game begins with all turns of the opening, and here ";
 
-const NOTHING: Part = Part::Text("");
-
-const LEAVE_OUT: Part = Part::Text("; leave this line out");
-
-const IN_THROW: &str = "is in the owner's throw";
-
-const ALL_TURNS: &str = "a game begins with all turns of the opening, and here";
-
-const AT_31: &str = "the count was 31, where nobody says go, and begins again; ";
-
-const CARD_MISSING: &str = "; a card of theirs is missing before this line";
-
-const CARD_OR_GO_MISSING: &str = "; a card of theirs or \"opp go\" is missing before this line";
-
-const GO_FROM_22: &str = "; a go is said at a count of 22 or more";
-
-const OPENING_STOPS: &str = "; an opening stops before such a turn";
-
-type Parts = (Part, Part, Part);
-
-// The side and the move in the line of an act.
-const SIDE_WORD: Mark = Mark { from: 0, to: 3 };
-
-const MOVE_WORD: Mark = Mark { from: 4, to: 6 };
-
-/// Returns the explanation of a turn of an opening that is refused for this cause.
-pub(crate) fn explain_turn(scene: &Scene<'_>, cause: ProblemCause) -> Option<Explained> {
-    let (mut state, act) = State::before(scene)?;
-    let act = act?;
-    let side = The(act.side);
-    let moved = Moved::of(&act.what);
-    let (first, second, third) = match (cause, act.what) {
-        (ProblemCause::NotTurn, _) => not_turn(&state, &act),
-        (ProblemCause::SameCard, Move::Card(card)) => same_card(&state, act.side, card),
-        (ProblemCause::NotHeld, Move::Card(card)) => not_held(&state, act.side, card),
-        (ProblemCause::DoesNotFit, Move::Card(card)) => too_high(&state, act.side, card),
-        (ProblemCause::MustPlay, _) => must_play(&state, act.side),
-        (ProblemCause::NoDeal, Move::Card(_)) => (told(&state), NOTHING, NOTHING),
-        (ProblemCause::NoDeal, Move::Go) => (closed(&state), left(&state), Part::Text(GO_FROM_22)),
-        _ => {
-            state.take(&act);
-            (Part::With(moved), ended(&state), Part::Text(OPENING_STOPS))
-        }
-    };
-    let mut sentence = Sentence::new();
-    let (_full, mark) = match cause {
-        ProblemCause::NotTurn => (write!(sentence, "{side} is {cause}: "), SIDE_WORD),
-        ProblemCause::DoesNotFit | ProblemCause::AlreadyOver => {
-            (write!(sentence, "{cause}: "), MOVE_WORD)
-        }
-        _ => (write!(sentence, "{moved} is {cause}: "), MOVE_WORD),
-    };
-    let _full = write!(sentence, "{first}{second}{third}");
-    let mark = Some(mark);
-    Some(Explained { sentence, mark })
-}
-
-/// Returns the explanation of a game that is refused for this fault.
-pub(crate) fn explain_fault(scene: &Scene<'_>, fault: GameFault) -> Option<Explained> {
-    let (state, act) = State::before(scene)?;
-    let mut sentence = Sentence::new();
-    let _full = write!(sentence, "{fault}: ");
-    let act = match fault {
-        GameFault::NotUnseen(place) => return seen(sentence, scene, &state, place),
-        GameFault::NotAsPlayed(place) => return as_played(sentence, scene, place),
-        _ => act?,
-    };
-    let (first, second, third) = match (fault, act.what) {
-        (GameFault::NotTurn(_), _) => not_turn(&state, &act),
-        (GameFault::MustPlay(_), _) => must_play(&state, act.side),
-        (GameFault::NotHeld(_), Move::Card(card)) => not_held(&state, act.side, card),
-        (GameFault::DoesNotFit(_), Move::Card(card)) => too_high(&state, act.side, card),
-        (GameFault::Strays(_), Move::Card(card)) => {
-            let _full = add_stray(&mut sentence, scene.input, state.acts());
-            (Part::OwnerPlays(Named::of(card)), NOTHING, NOTHING)
-        }
-        _ => (ended(&state), Part::AtLine(state.last_line()), NOTHING),
-    };
-    let _full = write!(sentence, "{first}{second}{third}");
-    let mark = match fault {
-        GameFault::NotTurn(_) => Some(SIDE_WORD),
-        GameFault::AfterEnd(_) => None,
-        _ => Some(MOVE_WORD),
+/// Returns the explanation of a turn of an opening, or of a line of a game, that is refused for a cause.
+pub(crate) fn explain_turn(scene: &Scene<'_>, cause: Cause) -> Option<Explained> {
+    let state = State::before(scene, usize::from(cause == Problem(Rule::AlreadyOver)))?;
+    let mut sentence = Sentence::of("");
+    let (side, moved) = (the(state.act.side), moved(&state.act.what));
+    match cause {
+        Problem(Rule::NotTurn) => sentence.add(format_args!("{side} is {cause}: ")),
+        Problem(Rule::AlreadyOver) => sentence.add(format_args!("{cause}: with {moved} ")),
+        Problem(Rule::DoesNotFit) | Game(_) => sentence.add(format_args!("{cause}: ")),
+        _ => sentence.add(format_args!("{moved} is {cause}: ")),
+    }
+    add_reason(&mut sentence, &state, scene, cause)?;
+    let mark = match cause {
+        Game(Fault::AfterEnd(_)) => None,
+        Game(Fault::NotAsPlayed(_)) if scene.row == Row::Acts => None,
+        Game(Fault::NotAsPlayed(_)) => Some(Mark::of(0, 6)),
+        Game(Fault::NotUnseen(place @ 5..)) => Some(Mark::of(3 * usize::from(place) - 9, 2)),
+        Game(Fault::NotUnseen(place)) => Some(Mark::of(3 * usize::from(place) + 2, 2)),
+        Game(Fault::NotTurn(_)) | Problem(Rule::NotTurn) => Some(Mark::of(0, 3)),
+        _ => Some(Mark::of(4, 2)),
     };
     Some(Explained { sentence, mark })
 }
 
-// Why it isn't the turn of the act's side.
-fn not_turn(state: &State, act: &Act) -> Parts {
-    let mover = act.side.other();
-    let (why, missing) = match (act.what, state.go_of(act.side)) {
-        (Move::Go, Some(line)) => (Part::SaidGo(The(act.side), line), LEAVE_OUT),
-        (Move::Go, None) if state.has_no_card(act.side) => {
-            (Part::NoCardLeft(The(act.side)), LEAVE_OUT)
+// Appends why an act may not be the next one.
+fn add_reason(to: &mut Sentence, state: &State, scene: &Scene<'_>, cause: Cause) -> Option<()> {
+    match (cause, state.act.what) {
+        (Problem(Rule::NotTurn) | Game(Fault::NotTurn(_)), _) => add_not_turn(to, state),
+        (Problem(Rule::DoesNotFit) | Game(Fault::DoesNotFit(_)), Move::Card(card)) => {
+            add_too_high(to, state, card);
         }
-        _ => (closed(state), missing(state, mover, &act.what)),
-    };
-    (why, Part::Turn(The(mover), state.count()), missing)
+        (Problem(Rule::NotHeld | Rule::SameCard) | Game(Fault::NotHeld(_)), Move::Card(card)) => {
+            add_not_held(to, state, card);
+        }
+        (Problem(Rule::NoDeal), Move::Card(_)) => {
+            let (count, line) = state.told;
+            let least = 32u8.saturating_sub(count);
+            to.add(format_args!("the opponent said go at a count of {count} (line {line}), "));
+            to.add(format_args!("so each of their cards counts {least} or more"));
+        }
+        (Problem(Rule::MustPlay | Rule::NoDeal) | Game(Fault::MustPlay(_)), _) => add_go(to, state),
+        (Problem(Rule::AlreadyOver) | Game(Fault::AfterEnd(_)), _) => add_end(to, state, cause),
+        (Game(Fault::NotUnseen(place)), _) => add_seen(to, state, place)?,
+        (Game(Fault::NotAsPlayed(place)), _) => {
+            let line = u32::from(place).saturating_add(8);
+            let turn = Typed(line_at(scene.input, line)?);
+            match scene.row {
+                Row::Acts => to.add(format_args!("{ALL_TURNS}{turn} (line {line}) is missing")),
+                _ => to.add(format_args!("the opening has {turn} (line {line}) there")),
+            }
+        }
+        (Game(Fault::Strays(_)), what) => {
+            add_stray(to, scene.input, state.acts.as_slice());
+            to.add(format_args!(", and the owner plays {}", moved(&what)));
+        }
+        _ => return None,
+    }
+    Some(())
 }
 
-// What is missing before an act, at the turn of the other side.
-fn missing(state: &State, mover: Side, what: &Move) -> Part {
-    match (state.held(mover), what) {
-        (Some(held), _) if held.has_fitting() => Part::TheyHold(held),
-        (Some(held), _) => Part::NoneFits(held.cards, GoOf(mover)),
-        (None, Move::Go) => NOTHING,
-        (None, Move::Card(_)) if state.count() < 22 => Part::Text(CARD_MISSING),
-        (None, Move::Card(_)) => Part::Text(CARD_OR_GO_MISSING),
+// Appends why it isn't the turn of the act's side.
+fn add_not_turn(to: &mut Sentence, state: &State) {
+    let (side, mover) = (the(state.act.side), the(state.act.side.other()));
+    let is_go = state.act.what == Move::Go;
+    let is_idle = is_go && state.round.cards_left(state.act.side) == 0;
+    let said = state.line_of(&Move::Go).filter(|line| *line > state.closed);
+    match said {
+        Some(line) if is_go => to.add(format_args!(
+            "{side} said go already (line {line}), and each side says go once a count; "
+        )),
+        _ if is_idle => to.add(format_args!(
+            "{side} has no card left, and such a go isn't written; "
+        )),
+        _ => add_closed(to, state),
+    }
+    let (go, count) = (go_of(state.act.side.other()), state.round.count());
+    to.add(format_args!("it is {mover}'s turn, and the count is {count}"));
+    match state.held(state.act.side.other()) {
+        _ if is_idle || is_go && said.is_some() => to.add("; leave this line out"),
+        Some(held) if held.has_fitting() => to.add(format_args!("; they hold {held}")),
+        Some(Held { cards, .. }) => to.add(format_args!(
+            "; none of their cards fits ({cards}), so {go} is missing before this line"
+        )),
+        None if is_go => {}
+        None if count < 22 => to.add("; a card of theirs is missing before this line"),
+        None => to.add("; a card of theirs or \"opp go\" is missing before this line"),
     }
 }
 
-// How the count before this one ended, if no card has been played since.
-fn closed(state: &State) -> Part {
-    match state.just_closed() {
-        Some(31) => Part::Text(AT_31),
-        Some(_) => Part::NeitherPlays(state.last_line()),
-        None => NOTHING,
+// Appends how the count before this one ended, if no card has been played since.
+fn add_closed(to: &mut Sentence, state: &State) {
+    let line = state.line;
+    match state.reached {
+        _ if state.closed < line => {}
+        31 => to.add("the count was 31, where nobody says go, and begins again; "),
+        _ => to.add(format_args!(
+            "neither side could play after line {line}, so the count begins again; "
+        )),
     }
 }
 
-// The count, and which cards fit.
-fn left(state: &State) -> Part {
-    match state.left() {
-        10.. => Part::AllFit(state.count()),
-        left => Part::SomeFit(state.count(), left),
+// Appends which cards fit, instead of a go.
+fn add_go(to: &mut Sentence, state: &State) {
+    add_closed(to, state);
+    let (side, count) = (the(state.act.side), state.round.count());
+    to.add(format_args!("the count is {count}, so "));
+    match 31u8.saturating_sub(count) {
+        10.. => to.add("every card fits"),
+        left => to.add(format_args!("a card fits if it counts {left} or less")),
+    }
+    match state.held(state.act.side) {
+        Some(held) => to.add(format_args!("; {side} holds {held}")),
+        None => to.add("; a go is said at a count of 22 or more"),
     }
 }
 
-// Where a card of the opponent is that the owner knows.
-fn same_card(state: &State, side: Side, card: Card) -> Parts {
-    let place = place_of(state, side, card).unwrap_or(NOTHING);
-    match side.other() {
-        other if state.is_turn_of(other) => (place, Part::OnlyTurn(The(other)), NOTHING),
-        _ => (place, NOTHING, NOTHING),
+// Appends what fits, instead of a card that is too high.
+fn add_too_high(to: &mut Sentence, state: &State, card: Card) {
+    let (name, value, count) = (named(card), card.rank().value(), state.round.count());
+    let left = 31u8.saturating_sub(count);
+    to.add(format_args!("{name} counts {value}, the count is {count}, and {left} is left to 31; "));
+    let (side, other) = (the(state.act.side), the(state.act.side.other()));
+    let (go, is_alone) = (
+        go_of(state.act.side),
+        state.round.cards_left(state.act.side.other()) == 0,
+    );
+    match state.held(state.act.side) {
+        Some(held) if held.has_fitting() => to.add(format_args!("{side} holds {held}")),
+        Some(_) => to.add(format_args!(
+            "{side} holds no card that fits, so {go} is missing before this line"
+        )),
+        None if is_alone => to.add(format_args!("{go} may be missing before this line")),
+        None => to.add(format_args!("{go} would pass the turn to {other}")),
     }
 }
 
-// Where a card is that its side doesn't hold, and what the side still holds.
-fn not_held(state: &State, side: Side, card: Card) -> Parts {
-    let still = match state.held(side) {
-        Some(held) => Part::StillHolds(The(side), held.cards),
-        None => NOTHING,
-    };
-    match place_of(state, side, card) {
-        None => (still, NOTHING, NOTHING),
-        Some(place) => (place, Part::Text("; "), still),
+// Returns where a card is that the lines above name, and the number of its line.
+fn place_of(state: &State, card: Card) -> Option<(&'static str, u32)> {
+    let problem = &state.problem;
+    match state.line_of(&Move::Card(card)) {
+        Some(line) => Some(("was played", line)),
+        _ if problem.starter() == card => Some(("is the starter", 4)),
+        _ if problem.hold().contains(&card) => Some(("is in the owner's hold", 5)),
+        _ if problem.thrown().contains(&card) => Some(("is in the owner's throw", 6)),
+        None => None,
     }
 }
 
-// Where a card is that a side doesn't hold, if this is known.
-fn place_of(state: &State, side: Side, card: Card) -> Option<Part> {
-    let name = Named::of(card);
-    if let Some(line) = state.played_at(card) {
-        return Some(Part::IsAt(name, "was played", line));
+// Appends where a card is that the act's side doesn't hold, and what this side holds or whose turn it is.
+fn add_not_held(to: &mut Sentence, state: &State, card: Card) {
+    let (side, other) = (the(state.act.side), the(state.act.side.other()));
+    let name = named(card);
+    let is_held = state.dealt.is_some_and(|dealt| dealt.hold.contains(&card));
+    let is_thrown = state.dealt.is_some_and(|dealt| dealt.throw.contains(&card));
+    let mut joint = "; ";
+    match place_of(state, card) {
+        Some((_, 5)) => to.add(format_args!("the owner holds {name}")),
+        Some((at, line)) => to.add(format_args!("{name} {at} (line {line})")),
+        None if is_held => to.add(format_args!("the opponent holds {name}")),
+        None if is_thrown => to.add(format_args!("{name} is in the opponent's throw")),
+        None => joint = "",
     }
-    match &state.dealt {
-        _ if state.problem.starter() == card => Some(Part::IsAt(name, "is the starter", 4)),
-        _ if state.problem.thrown().contains(&card) => Some(Part::IsAt(name, IN_THROW, 6)),
-        Some(dealt) if dealt.throw.contains(&card) => Some(Part::InTheirThrow(name)),
-        _ if state.is_held(side.other(), card) => Some(Part::Holds(The(side.other()), name)),
-        _ => None,
-    }
-}
-
-// What fits, instead of a card that is too high.
-fn too_high(state: &State, side: Side, card: Card) -> Parts {
-    let value = card.rank().value();
-    let high = Part::TooHigh(Named::of(card), value, state.count(), state.left());
-    let instead = match state.held(side) {
-        Some(held) if held.has_fitting() => Part::HoldsCards(The(side), held),
-        Some(_) => Part::HoldsNone(The(side), GoOf(side)),
-        None if state.is_turn_after_go(side) => Part::GoMissing(GoOf(side)),
-        None => Part::GoPasses(GoOf(side), The(side.other())),
-    };
-    (high, instead, NOTHING)
-}
-
-// The cards that fit, instead of a go.
-fn must_play(state: &State, side: Side) -> Parts {
-    let instead = match state.held(side) {
-        Some(held) => Part::HoldsCards(The(side), held),
-        None => NOTHING,
-    };
-    (closed(state), left(state), instead)
-}
-
-// Why the opponent can't have shown a card.
-fn told(state: &State) -> Part {
-    match state.told {
-        Some((line, count)) => Part::Told(count, line, 32u8.saturating_sub(count)),
-        None => NOTHING,
+    let is_turn = state.round.next().asks(state.act.side.other());
+    match state.held(state.act.side) {
+        Some(Held { cards, .. }) => to.add(format_args!("{joint}{side} still holds {cards}")),
+        None if is_turn => to.add(format_args!("{joint}it is {other}'s turn")),
+        None => {}
     }
 }
 
-// How the deal ended.
-fn ended(state: &State) -> Part {
-    match state.winner() {
-        Some((side, hole)) => Part::Reached(The(side), hole),
-        None => Part::Text("all eight cards are played"),
-    }
-}
-
-// Explains a card of the opponent that is before, in the line of `hold` or `throw`.
-fn seen(mut sentence: Sentence, scene: &Scene<'_>, state: &State, place: u8) -> Option<Explained> {
+// Appends where a card of the opponent is before, from its place among the six.
+fn add_seen(to: &mut Sentence, state: &State, place: u8) -> Option<()> {
     let Dealt { hold, throw } = state.dealt?;
-    let index = usize::from(place).checked_sub(1)?;
-    let (card, from) = match index {
-        0..=3 => (*hold.get(index)?, 5 + 3 * index),
-        _ => (*throw.get(index - 4)?, 6 + 3 * (index - 4)),
-    };
-    let name = Named::of(card);
-    let hold_line = scene.before().saturating_add(2);
-    let part = match index {
-        _ if state.problem.starter() == card => Part::IsAt(name, "is the starter", 4),
-        _ if state.problem.hold().contains(&card) => Part::IsAt(name, "is in the owner's hold", 5),
-        _ if state.problem.thrown().contains(&card) => Part::IsAt(name, IN_THROW, 6),
-        4.. if hold.contains(&card) => Part::IsAt(name, "is in the opponent's hold", hold_line),
-        _ => Part::Twice(name),
-    };
-    let _full = write!(sentence, "{part}");
-    let mark = Some(Mark::of(from, 2));
-    Some(Explained { sentence, mark })
+    let mut cards = hold.iter().chain(throw.iter());
+    let card = *cards.nth(usize::from(place).checked_sub(1)?)?;
+    let (name, line) = (named(card), state.line.saturating_sub(2));
+    let is_held = place > 4 && hold.contains(&card);
+    match place_of(state, card) {
+        Some((at, line)) => to.add(format_args!("{name} {at} (line {line})")),
+        None if is_held => to.add(format_args!("{name} is in the opponent's hold (line {line})")),
+        None => to.add(format_args!("{name} stands twice in this line")),
+    }
+    Some(())
 }
 
-// Explains an act that is another than the opening's, or that is missing.
-fn as_played(mut sentence: Sentence, scene: &Scene<'_>, place: u8) -> Option<Explained> {
-    let line = u32::from(place).saturating_add(8);
-    let turn = Typed(line_at(scene.input, line)?);
-    if scene.row != Row::Acts {
-        let _full = write!(sentence, "the opening has {turn} (line {line}) there");
-        let mark = Some(Mark::of(0, 6));
-        return Some(Explained { sentence, mark });
+// Appends how the deal ended.
+fn add_end(to: &mut Sentence, state: &State, cause: Cause) {
+    let target = state.problem.target();
+    let Scores { owner, opponent } = state.round.scores();
+    match (owner >= target, opponent >= GAME_HOLE) {
+        (true, _) => to.add(format_args!("the owner reached hole {target}")),
+        (_, true) => to.add(format_args!("the opponent reached hole {GAME_HOLE}")),
+        _ => to.add("all eight cards are played"),
     }
-    let _full = write!(sentence, "{ALL_TURNS} {turn} (line {line}) is missing");
-    let mark = None;
-    Some(Explained { sentence, mark })
+    match cause {
+        Game(_) => to.add(format_args!(" (line {})", state.line)),
+        _ => to.add("; an opening stops before such a turn"),
+    }
 }

@@ -75,7 +75,7 @@ pub(crate) fn are_explained(rt: &(impl Abort + AllocGlobal), sections: Sections,
         let refusal = refused(rt, sections, input);
         let scene = Scene::new(sections, input.as_bytes(), refusal.line);
         let explained = explain(&scene, refusal.cause);
-        let said = std::str::from_utf8(explained.sentence.as_slice());
+        let said = std::str::from_utf8(explained.sentence.0.as_str().as_bytes());
         assert_eq!(rt; said, Ok(row.words.as_str()), "of {input}");
     }
 }

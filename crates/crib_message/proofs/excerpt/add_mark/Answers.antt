@@ -1,4 +1,4 @@
-use Rattle.std.proofs.Common.{◌≡◌, ◌∙◌, ◌++◌, ◌∷◌, ℕ, List, [], codes, decimal, refl, ap}
+use Rattle.std.proofs.Common.{◌∙◌, ◌++◌, ◌∷◌, ℕ, List, [], codes, decimal, refl, ap}
 use Rattle.crib_text.specs.Spelling.{line_feed}
 use Rattle.crib_message.specs.Message.{blanks, carets, dots, mark_line}
 use Rattle.crib_message.proofs.MessageLemmas.{seven_added}

@@ -8,12 +8,12 @@ use Rattle.crib_message.proofs.message.fault_message.Goals as goal
 
 pub returns : goal.returns
 returns c =
-    let sentence = filter is_plain c.as_slice.result.now in
+    let sentence = filter is_plain c.as_bytes.result.now in
     let start = c.of_program-message.result.text.items in
     record {
       sentence = sentence;
       is = said_alone start c.add_sentence.new.self.text.items c.add.new.self.text.items sentence c.add_sentence.ensures.items
           c.add.ensures.items
           ∙ rw c.of_program-message.ensures (append_assoc c.args.program.now (codes ": ") (sentence ++ line_feed ∷ []));
-      plain = filter_passes is_plain c.as_slice.result.now;
+      plain = filter_passes is_plain c.as_bytes.result.now;
     }

@@ -1,17 +1,22 @@
 -- Worked examples of the acts before a refused one, and of when they are shown.
-use Rattle.std.proofs.Common.{◌≡◌, refl, ℕ, List, [], ◌∷◌, ◌++◌, Some, None, Ok, codes, map}
+use Rattle.std.proofs.Common.{◌≡◌, ◌∙◌, refl, ap, inl, ℕ, List, [], ◌∷◌, ◌++◌, Some, None, Ok, Err, codes, map}
 use Rattle.std.specs.Fmt.{digits}
 use Rattle.crib_cards.specs.declared.sides.Side.TheVariants.{Owner, Opponent}
+use Rattle.crib_text.specs.Words.{lines_of}
 use Rattle.crib_text.specs.declared.fault.TextCause.TheVariants.{BadCard}
 use Rattle.crib_problem.specs.declared.problem.Version.TheVariants.{Two}
 use Rattle.crib_problem.proofs.ExampleProblems.{plays, says_go, level, level_deal}
 use Rattle.crib_game.specs.declared.fault.GameFault.TheVariants.{NotUnseen, NotHeld, DoesNotFit, MustPlay, NotTurn, AfterEnd, Strays, NotAsPlayed}
 use Rattle.crib_game.proofs.ExampleGames.{game_with}
 use Rattle.crib_input.specs.declared.reason.FaultCause.TheVariants.{NoMemory}
+use Rattle.crib_input.specs.declared.reason.Reason.{Reason}
 use Rattle.crib_input.specs.declared.reason.Reason.TheVariants.{Refused, Fault}
 use Rattle.crib_input.specs.declared.refusal.Cause.TheVariants as causes
+use Rattle.crib_input.proofs.InputReaders.{read_played}
 use Rattle.crib_board.specs.Board.{right_in}
-use Rattle.crib_sheet.specs.Acts.{AreShown, ShownIn, acts_before, game_fault_in, text_before}
+use Rattle.crib_message.specs.Message.{IsMessage}
+use Rattle.crib_message.proofs.MessageExamples.{all_plain, in_a_game}
+use Rattle.crib_sheet.specs.Acts.{AreShown, IsSaid, ShownIn, acts_before, game_fault_in, text_before}
 use Rattle.crib_sheet.specs.GameText.{act_line, act_lines, act_text, points_text, reason_text, score_text}
 
 -- the second king is out of turn, so the lines are those of the two acts before it
@@ -72,3 +77,55 @@ no_acts_beside_a_card input acts shown = shown
 acts_beside_an_act : (acts : List ℕ) → ShownIn (Ok (level, game_with level_deal (plays Opponent 37 ∷ []), 8)) (NotTurn 1) acts → acts ≡ []
 unfolding act_lines
 acts_beside_an_act acts shown = shown
+
+-- one byte is too much where no act is shown
+one_byte_beside_no_game : ShownIn (Err (record { line = 1; number = 3 })) (NotTurn 1) (codes "a") → ⊥
+one_byte_beside_no_game shown = (let none = shown in cc)
+
+nothing_beside_no_game : ShownIn (Err (record { line = 1; number = 3 })) (NotTurn 1) []
+nothing_beside_no_game = refl
+
+one_byte_beside_a_fault : (input : List ℕ) → AreShown input (Fault NoMemory) (codes "a") → ⊥
+one_byte_beside_a_fault input shown = (let none = shown in cc)
+
+-- own 2C, and own 2D out of turn
+abbrev out_of_turn : List ℕ
+out_of_turn =
+    codes "problem 1\ndealer opponent\nscore 0 0\nstarter KD\nhold 2C 2D 2H 2S\nthrow 4C 6D\ngoal holes 13\n"
+    ++ codes "game 1\nhold AC AD AH AS\nthrow 3C 3D\nacts 2\nown 2C\nown 2D\n"
+
+abbrev line_13 : Reason
+line_13 = Refused (record { line = 13; cause = causes.Game (NotTurn 2) })
+
+acts_before_the_second : AreShown out_of_turn line_13 (codes " 1 pone   2C       2   0    0\n")
+unfolding digits right_in read_played reason_text points_text score_text act_text act_line act_lines
+acts_before_the_second = refl
+
+-- ---- what is written beside a reply: the message, and then the acts
+said_of_an_act : AreShown out_of_turn line_13 (codes " 1 pone   2C       2   0    0\n") → IsSaid out_of_turn line_13
+    (codes "cribsheet: line 13, line 6 of the game: not your turn\n  13 | own 2D\n" ++ codes " 1 pone   2C       2   0    0\n")
+unfolding digits lines_of
+said_of_an_act shown = (
+  codes "cribsheet: line 13, line 6 of the game: not your turn\n  13 | own 2D\n",
+  codes " 1 pone   2C       2   0    0\n",
+  record {
+    place = in_a_game 6;
+    sentence = codes "not your turn";
+    excerpt = codes "  13 | own 2D\n";
+    is = refl;
+    plain = all_plain (codes "not your turn") refl;
+    shows = record { before = []; shown = codes "own 2D"; after = []; mark = []; cut = refl; wide = refl; is = refl; marks = inl refl };
+  },
+  shown,
+  refl,
+)
+
+nothing_said : (input : List ℕ) → IsSaid input (Fault NoMemory) [] → ⊥
+nothing_said input (message, acts, is, shown, same) = (let text = same ∙ ap (λ bytes. bytes ++ acts) is.is in cc)
+
+no_message_to_say : (input text : List ℕ) (reason : Reason) → ((message : List ℕ) → IsMessage (codes "cribsheet") input reason message → ⊥) →
+    IsSaid input reason text → ⊥
+no_message_to_say input text reason none said = none said.0 said.2
+
+no_acts_to_show : (input text : List ℕ) (reason : Reason) → ((acts : List ℕ) → AreShown input reason acts → ⊥) → IsSaid input reason text → ⊥
+no_acts_to_show input text reason none said = none said.1 said.3

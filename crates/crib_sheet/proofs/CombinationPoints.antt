@@ -4,7 +4,7 @@ use Rattle.std.proofs.Common.{refl, sym, ap, ◌∙◌, arith, zero-add}
 use Rattle.std.specs.List.{list_any}
 use Rattle.std.proofs.lemmas.List.Sums.{sum_by-append, sum_by-cons}
 use Rattle.crib_cards.specs.Cards.{rank_of, suit_of, jack}
-use Rattle.crib_show.specs.Show.{choices, is_fifteen, is_pair, are_of_suit, hand_flush, crib_flush, jack_points, plain_points}
+use Rattle.crib_show.specs.Show.{choices, is_fifteen, is_pair, are_of_suit, hand_flush, crib_flush, hand_points, crib_points, jack_points, plain_points}
 use Rattle.crib_show.proofs.Choices.{sum_by-choices}
 use Rattle.crib_show.proofs.ReorderedLists.{Reordered, behind, front, both, same_order}
 use Rattle.crib_show.proofs.RankLaw.{plain_of_ranks-reordered}
@@ -13,7 +13,7 @@ use Rattle.crib_sheet.specs.declared.game.combination.Kind.{Kind}
 use Rattle.crib_sheet.specs.declared.game.combination.Kind.TheVariants.{Fifteen, Pair, Run, Flush, Jack}
 use Rattle.crib_sheet.specs.declared.game.combination.Combination.{Combination}
 use Rattle.crib_sheet.specs.GameShow.{combination, worth, points_of, counts_as, combinations_of, plain_combinations, flush_in_hand, flush_in_crib}
-use Rattle.crib_sheet.specs.GameShow.{jack_among}
+use Rattle.crib_sheet.specs.GameShow.{jack_among, hand_combinations, crib_combinations}
 
 -- those of some choices that are of a kind, each as a combination
 abbrev pub passing : Kind → List ℕ → List (List ℕ) → List Combination
@@ -93,7 +93,7 @@ plain_sum_of cards starter =
     ∙ plain_of_ranks-reordered (map rank_of (cards ++ starter ∷ [])) (map rank_of (starter ∷ cards))
     (map-reordered rank_of (cards ++ starter ∷ []) (starter ∷ cards) (starter_first cards starter))
 
-pub hand_flush_sum : (cards : List ℕ) (starter : ℕ) → length cards ≡ 4 → sum_by points_of (flush_in_hand cards starter) ≡ hand_flush cards starter
+hand_flush_sum : (cards : List ℕ) (starter : ℕ) → length cards ≡ 4 → sum_by points_of (flush_in_hand cards starter) ≡ hand_flush cards starter
 hand_flush_sum [] starter four = refl
 hand_flush_sum (a ∷ []) starter four = absurd (omega (arith, four))
 hand_flush_sum (a ∷ b ∷ []) starter four = absurd (omega (arith, four))
@@ -109,7 +109,7 @@ hand_flush_sum (a ∷ b ∷ c ∷ d ∷ []) starter four =
     either false false = refl
 hand_flush_sum (a ∷ b ∷ c ∷ d ∷ e ∷ more) starter four = absurd (omega (arith, four))
 
-pub crib_flush_sum : (cards : List ℕ) (starter : ℕ) → length cards ≡ 4 → sum_by points_of (flush_in_crib cards starter) ≡ crib_flush cards starter
+crib_flush_sum : (cards : List ℕ) (starter : ℕ) → length cards ≡ 4 → sum_by points_of (flush_in_crib cards starter) ≡ crib_flush cards starter
 crib_flush_sum [] starter four = absurd (omega (arith, four))
 crib_flush_sum (a ∷ []) starter four = absurd (omega (arith, four))
 crib_flush_sum (a ∷ b ∷ []) starter four = absurd (omega (arith, four))
@@ -132,10 +132,18 @@ jack_sum (card ∷ cards) starter = either (eqb (rank_of card) jack && eqb (suit
     either false rest = rest
 
 -- what is listed part after part adds up to the points of the parts
-pub listed_sum : (cards : List ℕ) (starter : ℕ) (flush : List Combination) {points : ℕ} {found flushed made : List Combination} →
+listed_sum : (cards : List ℕ) (starter : ℕ) (flush : List Combination) {points : ℕ} {found flushed made : List Combination} →
     made ≡ flushed ++ jack_among cards starter → flushed ≡ found ++ flush → found ≡ plain_combinations (cards ++ starter ∷ []) →
     sum_by points_of flush ≡ points → sum_by points_of made ≡ plain_points (starter ∷ cards) + points + jack_points cards starter
 listed_sum cards starter flush {found = found} {flushed = flushed} last next first is =
     let plain = ap (sum_by points_of) first ∙ plain_sum_of cards starter in
     let both = ap (sum_by points_of) next ∙ sum_by-append points_of found flush ∙ (λ i. plain i + is i) in
     ap (sum_by points_of) last ∙ sum_by-append points_of flushed (jack_among cards starter) ∙ (λ i. both i + jack_sum cards starter i)
+
+pub hand_sum : (cards : List ℕ) (starter : ℕ) → length cards ≡ 4 → sum_by points_of (hand_combinations cards starter) ≡ hand_points cards starter
+unfolding hand_combinations hand_points
+hand_sum cards starter four = listed_sum cards starter (flush_in_hand cards starter) refl refl refl (hand_flush_sum cards starter four)
+
+pub crib_sum : (cards : List ℕ) (starter : ℕ) → length cards ≡ 4 → sum_by points_of (crib_combinations cards starter) ≡ crib_points cards starter
+unfolding crib_combinations crib_points
+crib_sum cards starter four = listed_sum cards starter (flush_in_crib cards starter) refl refl refl (crib_flush_sum cards starter four)

@@ -20,7 +20,6 @@ use Rattle.crib_play.specs.Points.{are_alike, most_last_cards}
 use Rattle.crib_play.specs.Filled.{filled_record, with_silent_gos}
 use Rattle.crib_play.specs.History.{moves_of}
 use Rattle.crib_play.specs.Legal.{letters_of}
-use Rattle.crib_show.specs.Show.{hand_points, crib_points}
 use Rattle.crib_show.specs.Outcome.{hand_of_side, crib_of, row_of, rows_from, show_of, show_order}
 use Rattle.crib_show.specs.declared.deals.Full.{Full}
 use Rattle.crib_show.specs.declared.show.outcomes.ShowRow.{ShowRow}
@@ -34,10 +33,10 @@ use Rattle.crib_sheet.specs.declared.game.reason.PlayReason.{PlayReason}
 use Rattle.crib_sheet.specs.declared.game.reason.PlayReason.TheVariants.{Fifteen, ThirtyOne, Alike, Run, Go, LastCard}
 use Rattle.crib_sheet.specs.GameLaws.{HandsAddUpLaw, ReasonsAddUpLaw}
 use Rattle.crib_sheet.specs.GamePlay.{act_reasons, card_reasons_at, reason_if, reasons_added, silent_gos_close}
-use Rattle.crib_sheet.specs.GameShow.{crib_combinations, flush_in_crib, flush_in_hand, hand_combinations, points_of}
+use Rattle.crib_sheet.specs.GameShow.{points_of}
 use Rattle.crib_sheet.specs.GameShowLaws.{AllDiffer}
 use Rattle.crib_sheet.specs.GameText.{counted_combinations}
-use Rattle.crib_sheet.proofs.CombinationPoints.{crib_flush_sum, hand_flush_sum, listed_sum}
+use Rattle.crib_sheet.proofs.CombinationPoints.{crib_sum, hand_sum}
 use Rattle.crib_sheet.proofs.DifferentCombinations.{all_both, all_every, all_weaker, differ_both}
 use Rattle.crib_sheet.proofs.PlayWalks.{reported}
 use Rattle.crib_sheet.proofs.ReasonsAdded.{gos_after, not_closed, pile_after_go, points_of_game}
@@ -125,14 +124,6 @@ reasons_add_up problem game report e = (
 )
 
 -- ---- the show
-
-hand_sum : (cards : List ℕ) (starter : ℕ) → length cards ≡ 4 → sum_by points_of (hand_combinations cards starter) ≡ hand_points cards starter
-unfolding hand_combinations hand_points
-hand_sum cards starter four = listed_sum cards starter (flush_in_hand cards starter) refl refl refl (hand_flush_sum cards starter four)
-
-crib_sum : (cards : List ℕ) (starter : ℕ) → length cards ≡ 4 → sum_by points_of (crib_combinations cards starter) ≡ crib_points cards starter
-unfolding crib_combinations crib_points
-crib_sum cards starter four = listed_sum cards starter (flush_in_crib cards starter) refl refl refl (crib_flush_sum cards starter four)
 
 row_and_more : (P : ShowRow → Type 0) (decided : Bool) (row : ShowRow) (rows : List ShowRow) → P row → AllByRecursion P rows
     → AllByRecursion P (cond decided [] (row ∷ rows))

@@ -3,7 +3,7 @@
 use Rattle.std.specs.Prelude.{◌≡◌, ℕ, List, [], ◌∷◌, false, refl, sum_by}
 use Rattle.crib_sheet.specs.declared.game.combination.Kind.TheVariants.{Fifteen, Pair, Run, Flush, Jack}
 use Rattle.crib_sheet.specs.declared.game.combination.Combination.{Combination}
-use Rattle.crib_sheet.specs.GameShow.{combination, points_of, counts_as, combinations_of, flush_in_hand, hand_combinations, crib_combinations}
+use Rattle.crib_sheet.specs.GameShow.{combination, points_of, counts_as, combinations_of, flush_in_crib, flush_in_hand, hand_combinations, crib_combinations}
 
 abbrev fifteen : List ℕ → Combination
 fifteen cards = combination Fifteen cards
@@ -81,6 +81,28 @@ pub clubs_with_their_jack : crib_combinations (4 ∷ 12 ∷ 20 ∷ 40 ∷ []) 16
     ∷ combination Run (12 ∷ 20 ∷ 16 ∷ []) ∷ combination Flush (4 ∷ 12 ∷ 20 ∷ 40 ∷ 16 ∷ []) ∷ combination Jack (40 ∷ []) ∷ []
 unfolding crib_combinations combinations_of
 clubs_with_their_jack = refl
+
+-- JC 4D 6H 8S with 2C, with the jack first and last
+pub jack_first : hand_combinations (40 ∷ 13 ∷ 22 ∷ 31 ∷ []) 4 ∷ crib_combinations (40 ∷ 13 ∷ 22 ∷ 31 ∷ []) 4 ∷ []
+    ≡ (combination Jack (40 ∷ []) ∷ []) ∷ (combination Jack (40 ∷ []) ∷ []) ∷ []
+unfolding hand_combinations crib_combinations combinations_of
+jack_first = refl
+
+pub jack_last : hand_combinations (13 ∷ 22 ∷ 31 ∷ 40 ∷ []) 4 ∷ crib_combinations (13 ∷ 22 ∷ 31 ∷ 40 ∷ []) 4 ∷ []
+    ≡ (combination Jack (40 ∷ []) ∷ []) ∷ (combination Jack (40 ∷ []) ∷ []) ∷ []
+unfolding hand_combinations crib_combinations combinations_of
+jack_last = refl
+
+-- 2D 2C 6H 8S with KD: the cards of a pair are in the order of the hand
+pub pair_in_its_order : hand_combinations (5 ∷ 4 ∷ 22 ∷ 31 ∷ []) 49 ∷ crib_combinations (5 ∷ 4 ∷ 22 ∷ 31 ∷ []) 49 ∷ [] ≡ (pair 5 4 ∷ []) ∷ (pair 5 4 ∷ []) ∷ []
+unfolding hand_combinations crib_combinations combinations_of
+pair_in_its_order = refl
+
+-- and so are those of a flush: 4C 2C 8C 6C
+pub flushes_in_their_order : flush_in_hand (12 ∷ 4 ∷ 28 ∷ 20 ∷ []) 36 ∷ flush_in_hand (12 ∷ 4 ∷ 28 ∷ 20 ∷ []) 37 ∷ flush_in_crib (12 ∷ 4 ∷ 28 ∷ 20 ∷ []) 36 ∷ []
+    ≡ (combination Flush (12 ∷ 4 ∷ 28 ∷ 20 ∷ 36 ∷ []) ∷ []) ∷ (combination Flush (12 ∷ 4 ∷ 28 ∷ 20 ∷ []) ∷ []) ∷
+    (combination Flush (12 ∷ 4 ∷ 28 ∷ 20 ∷ 36 ∷ []) ∷ []) ∷ []
+flushes_in_their_order = refl
 
 -- QC KD AH 2S with 8C
 pub nothing : hand_combinations (44 ∷ 49 ∷ 2 ∷ 7 ∷ []) 28 ≡ []

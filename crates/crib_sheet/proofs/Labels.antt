@@ -1,9 +1,10 @@
 -- The labels of lines, as they are put together.
 use Rattle.std.proofs.Common.{◌≡◌, ℕ, zero, suc, ◌+◌, ◌-◌, max, ◌<◌, ◌≤◌, ◌∙◌, Bool, true, false, List, [], ◌∷◌, ◌++◌, Some, None, length, map}
-use Rattle.std.proofs.Common.{take, drop, get_or, replicate, refl, ap, sym, inl, inr, arith}
+use Rattle.std.proofs.Common.{take, drop, get_or, replicate, refl, ap, sym, inl, inr, arith, codes}
 use Rattle.std.specs.List.{list_any, join_with_byte}
 use Rattle.std.proofs.lemmas.Bool.{cases_Bool}
-use Rattle.std.proofs.lemmas.List.{append-nil, take-replicate, drop_more}
+use Rattle.std.proofs.lemmas.Grind.{flat_map-append}
+use Rattle.std.proofs.lemmas.List.{append-nil, length-drop, length-take, take-replicate, drop_more}
 use Rattle.std.proofs.Math.Seq.{drop-nil}
 use Rattle.crib_text.specs.Spelling.{space}
 use Rattle.crib_plan.specs.declared.plan.Next.{Next}
@@ -37,6 +38,34 @@ pub column_from : (width : ℕ) (set : List Bool) (written : List ℕ) → writt
     written ++ take (width - length written) (replicate 28 space) ≡ label_column width set
 column_from width set written is narrow =
     ap (λ (bytes : List ℕ). bytes ++ take (width - length bytes) (replicate 28 space)) is ∙ column_is width set narrow
+
+-- the length of a label
+pub label_size : (set : List Bool) (written : List ℕ) → written ≡ spaced_label set → length written - 1 ≡ length (label set)
+label_size set written is =
+    ap (λ (bytes : List ℕ). length bytes - 1) is ∙ sym (length-drop 1 (spaced_label set)) ∙ ap (λ (bytes : List ℕ). length bytes) (sym (label_is set))
+
+-- the word for a go, after those for the ranks
+go_there : (set : List Bool) (d is : Bool) → length set ≡ 14 → get_or set 13 d ≡ is → go_words (drop 13 set) ≡ go_words (is ∷ drop 14 set)
+go_there set d is long go = ap go_words (drop_more set 13 d (omega arith) ∙ ap (λ (b : Bool). b ∷ drop 14 set) go)
+
+pub with_go : (set : List Bool) (d : Bool) (written : List ℕ) → length set ≡ 14 → get_or set 13 d ≡ true → written ≡ spaced (rank_words 0 0 (take 13 set)) →
+    written ++ codes " go" ≡ spaced_label set
+unfolding spaced_label
+with_go set d written long go is =
+    let words : List (List ℕ) = rank_words 0 0 (take 13 set) in
+    ap (λ (bytes : List ℕ). bytes ++ codes " go") is ∙ sym (flat_map-append (λ (word : List ℕ). space ∷ word) words (codes "go" ∷ []))
+    ∙ ap (λ (gos : List (List ℕ)). spaced (words ++ gos)) (sym (go_there set d true long go))
+
+pub without_go : (set : List Bool) (d : Bool) (written : List ℕ) → length set ≡ 14 → get_or set 13 d ≡ false →
+    written ≡ spaced (rank_words 0 0 (take 13 set)) → written ≡ spaced_label set
+unfolding spaced_label
+without_go set d written long go is =
+    let words : List (List ℕ) = rank_words 0 0 (take 13 set) in
+    is ∙ ap spaced (sym (append-nil words)) ∙ ap (λ (gos : List (List ℕ)). spaced (words ++ gos)) (sym (go_there set d false long go))
+
+-- the ranks of a set
+pub thirteen : (set : List Bool) → length set ≡ 14 → length (take 13 set) ≡ 13
+thirteen set long = omega (arith, length-take 13 set, long)
 
 -- one more letter
 pub ranks_in : (ranks : List Bool) (i before : ℕ) (d : Bool) → i < length ranks → get_or ranks i d ≡ true →
@@ -93,6 +122,13 @@ pub width_new : (all : List Next) (i node : ℕ) (d : Next) → i < length all �
 unfolding width_at
 width_new all i node d inside some = ap label_width (line_new (apart_in []) [] all i node d inside some)
 
+-- the width with one more line
+pub wider : (all : List Next) (i node width now size : ℕ) (d : Next) → i < length all → new_node (take i all) (get_or all i d) ≡ Some node →
+    size ≡ length (label (map (leads_to node) all)) → now ≡ max width size → max width (width_at all i) ≡ width_at all 0 →
+    max now (width_at all (i + 1)) ≡ width_at all 0
+wider all i node width now size d inside some long is so_far =
+    let e = width_new all i node d inside some in omega (arith, e, long, is, so_far)
+
 letters_past : (ranks : List Bool) (i : ℕ) → length ranks ≤ i → drop i ranks ≡ []
 letters_past [] i past = drop-nil i
 letters_past (holds ∷ ranks) zero past = absurd (omega arith)
@@ -111,7 +147,3 @@ branches_past (branch ∷ all) (suc i) past = branches_past all i (omega arith)
 pub width_end : (all : List Next) (i : ℕ) → length all ≤ i → width_at all i ≡ 0
 unfolding width_at
 width_end all i past = ap (λ (branches : List Next). label_width (lines_to (apart_in []) [] all i branches)) (branches_past all i past)
-
-pub ruleset columns = (label_is, column_is)
-
-pub ruleset widths = (width_none, width_new)

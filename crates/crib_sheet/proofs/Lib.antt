@@ -3,9 +3,13 @@ mod GameTextExamples
 mod HeadingExamples
 mod PlanHeadExamples
 mod SheetExamples
+mod MeaningExamples
+mod PlanPlayExamples
+mod WordExamples
 mod ActsExamples
 pub mod ChosenCombinations
 pub mod CombinationPoints
+pub mod CountedCards
 pub mod DifferentCombinations
 pub mod GameLawProofs
 pub mod GamePlayExamples
@@ -34,7 +38,6 @@ pub mod SheetSizes
 pub mod Labels
 pub mod PlanRows
 pub mod Printing
-pub mod PutLemmas
 pub mod PutRows
 pub mod MadeSheets
 pub mod SheetMeanings

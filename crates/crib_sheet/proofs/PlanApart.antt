@@ -137,10 +137,7 @@ module _ (spots : List Spot) (plan : List Node) (long : length spots ≡ length 
             refl broken.large,
       )
 
-pub outline_apart : (flags : List Bool) (spots seen : List Spot) (plan nodes : List Node) → flags ≡ map (λ spot. spot.is_apart) seen → seen ≡ spots →
-    nodes ≡ plan → length spots ≡ length nodes → ArePlan nodes → AreSized 1 nodes spots → is_first_apart spots ≡ false →
-    OnlyLargeAreApart (apart_in flags) plan
-outline_apart flags spots seen plan nodes is same known long are sized first =
-    let equal : map (λ spot. spot.is_apart) spots ≡ flags = ap (map (λ (s : Spot). s.is_apart)) (sym same) ∙ sym is in
-    subst (λ p. OnlyLargeAreApart (apart_in flags) p) known
-    (subst (λ fs. OnlyLargeAreApart (apart_in fs) nodes) equal (only_large spots nodes long are.1 sized first))
+pub outline_apart : (spots : List Spot) (plan nodes : List Node) → nodes ≡ plan → length spots ≡ length nodes → ArePlan nodes →
+    AreSized 1 nodes spots → is_first_apart spots ≡ false → OnlyLargeAreApart (apart_in (map (λ spot. spot.is_apart) spots)) plan
+outline_apart spots plan nodes known long are sized first =
+    subst (λ p. OnlyLargeAreApart (apart_in (map (λ (s : Spot). s.is_apart) spots)) p) known (only_large spots nodes long are.1 sized first)

@@ -1,6 +1,6 @@
 -- The rows of a sheet fit in few levels and few cards.
 use Rattle.std.proofs.Common.{◌≡◌, ℕ, zero, suc, ◌+◌, ◌<◌, ◌≤◌, Bool, false, List, [], ◌∷◌, length, map, filter, take, drop, slice_get}
-use Rattle.std.proofs.Common.{Some, refl, sym, ap, subst, ◌∙◌, arith, inl, inr}
+use Rattle.std.proofs.Common.{Some, option_map, unwrap_or, refl, sym, ap, subst, ◌∙◌, arith, inl, inr}
 use Rattle.std.specs.List.{list_any, AllByRecursion}
 use Rattle.std.proofs.lemmas.Bool.{cases_Bool, cases_eq, ne_eqb, eq-eqb}
 use Rattle.std.proofs.lemmas.Option.{slice_get_within}
@@ -179,6 +179,12 @@ pub apart_same : (spots : List Spot) (i : ℕ) → i < length spots → apart_in
 apart_same [] i within = absurd (omega arith)
 apart_same (spot ∷ spots) zero within = refl
 apart_same (spot ∷ spots) (suc i) within = apart_same spots i (omega arith)
+
+pub apart_is : (spots : List Spot) (i : ℕ) →
+    apart_in (map (λ spot. spot.is_apart) spots) i ≡ unwrap_or (option_map (λ (spot : Spot). spot.is_apart) (slice_get spots i)) false
+apart_is [] i = refl
+apart_is (spot ∷ spots) zero = refl
+apart_is (spot ∷ spots) (suc i) = apart_is spots i
 
 each_below : (spots : List Spot) (branches : List Next) (bound : ℕ) → most_levels spots branches < bound →
     AllByRecursion (λ next. levels_at spots next < bound) branches

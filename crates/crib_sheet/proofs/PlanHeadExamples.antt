@@ -54,10 +54,10 @@ how_to_read =
     ++ codes "At \"look\", go on in the line of what they show\nnext: a rank, or a go, even after yours. At \"see [n]\", go on in paragraph [n].\n"
     ++ codes "At the end of a row, or if there is no line, "
 
-if_sure : List ℕ
+unfoldable pub if_sure : List ℕ
 if_sure = codes "nothing is left to decide, or\nyour goal is reached: then play as you like.\n"
 
-otherwise : List ℕ
+unfoldable pub otherwise : List ℕ
 otherwise = codes "the plan states nothing more.\n"
 
 page_without_a_card : page_text true (record { first = Over; paragraphs = [] }) ≡ codes "No card is needed.\n" ++ how_to_read ++ if_sure
@@ -75,11 +75,11 @@ page_of_a_card = refl
 
 -- ---- why a plan is stuck
 
-kings : List Act
+unfoldable pub kings : List Act
 kings = plays Owner 0 ∷ plays Opponent 48 ∷ []
 
 -- the plan leads an ace, and has a line for a two alone
-one_line : List Node
+unfoldable pub one_line : List Node
 one_line = Play 0 (To 1) ∷ See (End ∷ To 2 ∷ End ∷ End ∷ End ∷ End ∷ End ∷ End ∷ End ∷ End ∷ End ∷ End ∷ End ∷ End ∷ []) ∷ Play 4 End ∷ []
 
 no_line_for_a_king : stuck_text close_to_lost one_line kings ≡ codes "They show K, and node 1 has no line for it.\n"

@@ -100,25 +100,20 @@ short_page apart plan is levels cards lines =
       mul-le-mul_left 76 few,
     )
 
-pub outline_narrow : (flags : List Bool) (spots seen : List Spot) (plan nodes : List Node) → flags ≡ map (λ spot. spot.is_apart) seen → seen ≡ spots →
-    nodes ≡ plan → length spots ≡ length nodes → ArePlan nodes → AreLow spots → AreSized 1 nodes spots →
-    longest_line 0 (sheet_text (sheet_with (apart_in flags) plan)) ≤ 78
-outline_narrow flags spots seen plan nodes is same known long are low sized =
+pub outline_narrow : (spots : List Spot) (plan nodes : List Node) → nodes ≡ plan → length spots ≡ length nodes → ArePlan nodes → AreLow spots →
+    AreSized 1 nodes spots → longest_line 0 (sheet_text (sheet_with (apart_in (map (λ spot. spot.is_apart) spots)) plan)) ≤ 78
+outline_narrow spots plan nodes known long are low sized =
     let apart : ℕ → Bool = apart_in (map (λ (s : Spot). s.is_apart) spots) in
     let fits = outline_fits spots nodes long low sized in
     let sheet = sheet_with apart nodes in
     let narrow : longest_line 0 (sheet_text sheet) ≤ 78 = omega (arith, narrow_text sheet (plans_have_sheets apart nodes are), fits.0, fits.1) in
-    let equal : map (λ spot. spot.is_apart) spots ≡ flags = ap (map (λ (s : Spot). s.is_apart)) (sym same) ∙ sym is in
-    subst (λ p. longest_line 0 (sheet_text (sheet_with (apart_in flags) p)) ≤ 78) known
-    (subst (λ fs. longest_line 0 (sheet_text (sheet_with (apart_in fs) nodes)) ≤ 78) equal narrow)
+    subst (λ p. longest_line 0 (sheet_text (sheet_with apart p)) ≤ 78) known narrow
 
-pub outline_text : (flags : List Bool) (spots seen : List Spot) (plan nodes : List Node) → flags ≡ map (λ spot. spot.is_apart) seen → seen ≡ spots →
-    nodes ≡ plan → length spots ≡ length nodes → ArePlan nodes → AreLow spots → AreSized 1 nodes spots →
-    length (sheet_text (sheet_with (apart_in flags) plan)) ≤ 76 * (plan_branches plan + length plan + 1)
-outline_text flags spots seen plan nodes is same known long are low sized =
+pub outline_text : (spots : List Spot) (plan nodes : List Node) → nodes ≡ plan → length spots ≡ length nodes → ArePlan nodes → AreLow spots →
+    AreSized 1 nodes spots →
+    length (sheet_text (sheet_with (apart_in (map (λ spot. spot.is_apart) spots)) plan)) ≤ 76 * (plan_branches plan + length plan + 1)
+outline_text spots plan nodes known long are low sized =
     let apart : ℕ → Bool = apart_in (map (λ (s : Spot). s.is_apart) spots) in
     let fits = outline_fits spots nodes long low sized in
     let short = short_page apart nodes are fits.0 fits.1 (outline_lines spots nodes long are low sized) in
-    let equal : map (λ spot. spot.is_apart) spots ≡ flags = ap (map (λ (s : Spot). s.is_apart)) (sym same) ∙ sym is in
-    subst (λ p. length (sheet_text (sheet_with (apart_in flags) p)) ≤ 76 * (plan_branches p + length p + 1)) known
-    (subst (λ fs. length (sheet_text (sheet_with (apart_in fs) nodes)) ≤ 76 * (plan_branches nodes + length nodes + 1)) equal short)
+    subst (λ p. length (sheet_text (sheet_with apart p)) ≤ 76 * (plan_branches p + length p + 1)) known short

@@ -13,9 +13,9 @@ use Rattle.crib_plan.specs.Spelling.{leads_to}
 use Rattle.crib_sheet.specs.PlanSheet.{Row, Paragraph, Over, Plays, Looks, Named, NoLine, Line, row_named, row_to, lines_to, row_of, rows_from, with_row}
 use Rattle.crib_sheet.specs.PlanSheet.{sheet_with}
 use Rattle.crib_sheet.specs.PlanOutline.{apart_in}
-use Rattle.crib_sheet.specs.PlanText.{sheet_text, before_rest}
+use Rattle.crib_sheet.specs.PlanText.{sheet_text, before_rest, paragraph_text}
 use Rattle.crib_sheet.specs.PlanPage.{legend_text, page_text}
-use Rattle.crib_sheet.specs.Private.Pages.{node_row, place_row, lines_at, first_text, numbered_text, paragraphs_text, new_node}
+use Rattle.crib_sheet.specs.Private.Pages.{node_row, place_row, lines_at, first_text, paragraphs_text, new_node}
 use Rattle.crib_sheet.proofs.Labels.{line_none, line_new}
 use Rattle.crib_sheet.proofs.PlanSheets.{stands, node_fits}
 
@@ -134,8 +134,8 @@ paragraphs_at flags plan i d inside =
     split ∙ ap (λ (r : Row). record { number = i; row = r } ∷ later) (sym here)
 
 pub paragraph_more : (flags : List Bool) (plan : List Node) (i : ℕ) → i < length plan → apart_in flags i ≡ true →
-    paragraphs_text flags plan i ≡ numbered_text flags plan i ++ paragraphs_text flags plan (i + 1)
-unfolding paragraphs_text numbered_text
+    paragraphs_text flags plan i ≡ paragraph_text (record { number = i; row = node_row flags plan i }) ++ paragraphs_text flags plan (i + 1)
+unfolding paragraphs_text
 paragraph_more flags plan i inside is = rw (paragraphs_at flags plan i (Play 0 End) inside, is) refl
 
 pub paragraph_none : (flags : List Bool) (plan : List Node) (i : ℕ) → i < length plan → apart_in flags i ≡ false →

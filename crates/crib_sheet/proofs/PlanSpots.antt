@@ -1,5 +1,5 @@
 -- What is known of the nodes of a plan stays right while nodes before them are settled.
-use Rattle.std.proofs.Common.{◌≡◌, ◌≢◌, ℕ, zero, suc, ◌+◌, ◌<◌, ◌≤◌, max, Bool, true, false, Option, List, [], ◌∷◌, ◌++◌, length, slice_get, set}
+use Rattle.std.proofs.Common.{◌≡◌, ◌≢◌, ℕ, zero, suc, ◌+◌, ◌<◌, ◌≤◌, max, Bool, true, false, Option, List, [], ◌∷◌, ◌++◌, length, replicate, slice_get, set}
 use Rattle.std.proofs.Common.{Some, None, option_map, unwrap_or, refl, sym, ap, subst, ◌∙◌, arith, inl, inr, zero-add}
 use Rattle.std.specs.List.{AllByRecursion}
 use Rattle.std.proofs.lemmas.Bool.{cases_eq, true≢false}
@@ -174,10 +174,6 @@ sized_later place other nodes spots less are = record {
 
 -- ---- the first node
 
-pub first_push : (spots : List Spot) (spot : Spot) → is_first_apart spots ≡ false → spot.is_apart ≡ false → is_first_apart (spots ++ spot ∷ []) ≡ false
-first_push [] spot first inline = inline
-first_push (other ∷ spots) spot first inline = first
-
 pub first_set : (spots : List Spot) (i : ℕ) (spot : Spot) → 0 < i → is_first_apart (set spots i spot) ≡ is_first_apart spots
 first_set [] i spot later = refl
 first_set (other ∷ spots) zero spot later = absurd (omega arith)
@@ -185,18 +181,18 @@ first_set (other ∷ spots) (suc i) spot later = refl
 
 -- ---- spots of which nothing is known
 
-number_push : (field : Spot → ℕ) (spots : List Spot) (spot : Spot) → ((j : ℕ) → unwrap_or (option_map field (slice_get spots j)) 0 ≤ 4) →
-    field spot ≤ 4 → (j : ℕ) → unwrap_or (option_map field (slice_get (spots ++ spot ∷ []) j)) 0 ≤ 4
-number_push field [] spot all here zero = here
-number_push field [] spot all here (suc j) = omega arith
-number_push field (first ∷ spots) spot all here zero = all zero
-number_push field (first ∷ spots) spot all here (suc j) = number_push field spots spot (λ k. all (suc k)) here j
+number_same : (field : Spot → ℕ) (count : ℕ) (spot : Spot) → field spot ≤ 4 → (j : ℕ) →
+    unwrap_or (option_map field (slice_get (replicate count spot) j)) 0 ≤ 4
+number_same field zero spot few j = omega arith
+number_same field (suc count) spot few zero = few
+number_same field (suc count) spot few (suc j) = number_same field count spot few j
 
-pub low_none : AreLow []
-low_none = record { levels = at_levels [] (λ j. omega arith); cards = at_cards [] (λ j. omega arith) }
-
-pub low_push : (spots : List Spot) (spot : Spot) → AreLow spots → spot.levels ≤ 4 → spot.cards ≤ 4 → AreLow (spots ++ spot ∷ [])
-low_push spots spot low levels cards = record {
-  levels = at_levels (spots ++ spot ∷ []) (number_push (λ (s : Spot). s.levels) spots spot (λ j. low.levels (To j)) levels);
-  cards = at_cards (spots ++ spot ∷ []) (number_push (λ (s : Spot). s.cards) spots spot (λ j. low.cards (To j)) cards);
+pub low_unknown : (count : ℕ) (spot : Spot) → spot.levels ≤ 4 → spot.cards ≤ 4 → AreLow (replicate count spot)
+low_unknown count spot levels cards = record {
+  levels = at_levels (replicate count spot) (number_same (λ (s : Spot). s.levels) count spot levels);
+  cards = at_cards (replicate count spot) (number_same (λ (s : Spot). s.cards) count spot cards);
 }
+
+pub first_unknown : (count : ℕ) (spot : Spot) → spot.is_apart ≡ false → is_first_apart (replicate count spot) ≡ false
+first_unknown zero spot inline = refl
+first_unknown (suc count) spot inline = inline

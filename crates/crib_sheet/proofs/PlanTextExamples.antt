@@ -115,7 +115,7 @@ cards_after_a_look : most_cards 0 (Plays heart (look ((codes "A", Plays deuce Ov
 cards_after_a_look = refl
 
 -- a sheet whose paragraph is larger than its first row
-paragraph_of_size : Row → Sheet
+unfoldable pub paragraph_of_size : Row → Sheet
 paragraph_of_size row = record { first = Plays heart (Named 1); paragraphs = record { number = 1; row = row } ∷ [] }
 
 lines_of_a_paragraph : sheet_lines (paragraph_of_size (look ((codes "2", Over) ∷ (codes "3", look ((codes "g", Over) ∷ [])) ∷ []))) ≡ 3

@@ -1,5 +1,6 @@
 -- How often the nodes of a plan are led to, counted node by node and letter by letter.
 use Rattle.std.proofs.Common.{◌≡◌, ◌≢◌, ℕ, zero, suc, ◌+◌, ◌<◌, ◌≤◌, min, cond, eqb, Bool, true, false, not, ◌&&◌, ◌||◌, List, [], ◌∷◌, ◌++◌, length, take, set}
+use Rattle.std.proofs.Common.{replicate}
 use Rattle.std.proofs.Common.{get_or, Some, None, unwrap_or, refl, sym, ap, ◌∙◌, arith, inl, inr}
 use Rattle.std.specs.List.{list_any, count_by}
 use Rattle.std.proofs.lemmas.Bool.{cases_Bool, cases_eq, cases_lt, eqb-true, eq-eqb, ne_eqb}
@@ -13,7 +14,11 @@ use Rattle.crib_plan.specs.declared.plan.Node.{Node}
 use Rattle.crib_plan.specs.Spelling.{leads_to}
 use Rattle.crib_sheet.specs.PlanBranches.{node_leads}
 use Rattle.crib_sheet.specs.Private.Pages.{new_node}
-use Rattle.crib_sheet.specs.Private.Ways.{ways_in, one_more, leads_anew, AreNone, AreCounted}
+use Rattle.crib_sheet.specs.Private.Ways.{ways_in, one_more}
+
+-- whether a place is a node, and none of the places before it is the same
+abbrev leads_anew : ℕ → List Next → Next → Bool
+leads_anew node before place = leads_to node place && not (list_any (leads_to node) before)
 
 -- ---- one entry is written
 
@@ -151,16 +156,7 @@ all_nodes now nodes place number past is = is ∙ ap (λ some. min 2 (count_by (
 
 -- ---- entries before anything is counted
 
-pub none_push : (ways : List ℕ) (way : ℕ) → AreNone ways → way ≡ 0 → AreNone (ways ++ way ∷ [])
-none_push ways way are is = record { none = along ways are.none }
-  where
-    along : (some : List ℕ) → ((node : ℕ) → node < length some → ways_in some node ≡ 0) → (node : ℕ) → node < length (some ++ way ∷ []) →
-        ways_in (some ++ way ∷ []) node ≡ 0
-    along [] all zero within = is
-    along [] all (suc node) within = absurd (omega arith)
-    along (first ∷ some) all zero within = all zero (omega arith)
-    along (first ∷ some) all (suc node) within = along some (λ n less. all (suc n) (omega arith)) node (omega arith)
-
-pub counted_from : (nodes : List Node) (old new : List ℕ) → length old ≡ length nodes → AreNone old →
-    ((node : ℕ) → ways_in old node ≡ 0 → ways_in new node ≡ min 2 (count_by (node_leads node) nodes)) → AreCounted nodes new
-counted_from nodes old new long none all = record { counted = λ node within. all node (none.none node (omega (arith, long, within))) }
+pub none_yet : (count node : ℕ) → node < count → ways_in (replicate count 0) node ≡ 0
+none_yet zero node within = absurd (omega arith)
+none_yet (suc count) zero within = refl
+none_yet (suc count) (suc node) within = none_yet count node (omega arith)

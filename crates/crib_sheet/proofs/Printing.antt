@@ -1,18 +1,44 @@
 -- Bytes put on a page, one after another.
-use Rattle.std.proofs.Common.{◌≡◌, ℕ, zero, suc, ◌+◌, ◌<◌, ◌∙◌, Bool, true, false, List, [], ◌∷◌, ◌++◌, length, take, flat_map, get_or}
-use Rattle.std.proofs.Common.{◌⊎◌, ◌-◌, ◌≤◌, Ok, Err, codes, decimal, inl, inr, refl, ap, sym, subst, append_assoc, arith, rules}
+use Rattle.std.proofs.Common.{◌≡◌, ℕ, zero, suc, ◌+◌, ◌<◌, ◌∙◌, Bool, true, false, List, [], ◌∷◌, ◌++◌, length, take, flat_map, get_or, Option}
+use Rattle.std.proofs.Common.{◌⊎◌, ◌-◌, ◌≤◌, codes, decimal, inl, inr, refl, ap, sym, subst, append_assoc, length-append, arith, rules}
 use Rattle.std.specs.Io.KnownBytes.{Appends}
-use Rattle.std.proofs.KnownBytes.{Appends-nil}
-use Rattle.std.proofs.lemmas.List.{take-replicate}
+use Rattle.std.proofs.KnownBytes.{Appends-nil, Appends-trans}
+use Rattle.std.proofs.lemmas.List.{append-nil, take-append-le, take-replicate}
+use Rattle.std.proofs.Math.Seq.{take-append-add}
 use Rattle.crib_text.specs.Device.{HasFailed}
 use Rattle.crib_text.specs.Spelling.{space}
 use Rattle.crib_board.specs.Board.{right_in}
 use Rattle.crib_run.specs.declared.status.Status.{Status}
 use Rattle.crib_run.specs.declared.status.Status.TheVariants.{Fault}
 use Rattle.crib_run.specs.Run.{Sends}
-use Rattle.crib_sheet.specs.Private.Puts.{TakesAll, FailsWithin, Puts}
-use Rattle.crib_sheet.specs.Private.Prints.{Stand, Changes, Prints}
-use Rattle.crib_sheet.proofs.PutLemmas.{fails_sooner, fails_later, takes_both}
+use Rattle.crib_sheet.specs.Private.Prints.{Stand, TakesAll, FailsWithin, Changes, Prints}
+
+-- a proper beginning of some bytes is one of them and more
+fails_sooner : (a b : List ℕ) (s t : Option (List ℕ)) (n m : ℕ) → FailsWithin a s t n m → FailsWithin (a ++ b) s t n m
+fails_sooner a b s t n m fails =
+    let less = fails.less in
+    record {
+      sent = fails.sent;
+      less = omega (arith, length-append a b);
+      part = subst (Appends s t) (sym (take-append-le fails.sent a b (omega arith))) fails.part;
+      failed = fails.failed;
+    }
+
+fails_later : (a b : List ℕ) (s t u : Option (List ℕ)) (n m k : ℕ) → TakesAll a s t n m → FailsWithin b t u m k → FailsWithin (a ++ b) s u n k
+fails_later a b s t u n m k takes fails =
+    let less = fails.less in
+    record {
+      sent = length a + fails.sent;
+      less = omega (arith, length-append a b);
+      part = subst (Appends s u) (sym (take-append-add a b fails.sent)) (Appends-trans s t u _ _ takes.whole fails.part);
+      failed = λ small. let more = fails.failed small in let before = takes.counted (omega arith) in omega arith;
+    }
+
+takes_both : (a b : List ℕ) (s t u : Option (List ℕ)) (n m k : ℕ) → TakesAll a s t n m → TakesAll b t u m k → TakesAll (a ++ b) s u n k
+takes_both a b s t u n m k first next = record {
+  whole = Appends-trans s t u _ _ first.whole next.whole;
+  counted = λ small. let more = next.counted small in let before = first.counted (omega arith) in omega arith;
+}
 
 not_both : {X : Type 0} (x : Bool) → x ≡ true → x ≡ false → X
 not_both x is isnt = let e : true ≡ false = sym is ∙ isnt in absurd cc
@@ -81,14 +107,6 @@ front : {bytes : List ℕ} {s t : Stand} → Prints bytes s t → s.is_cut ≡ f
 front {bytes} {s} {t} prints before after =
     subst (λ (x : Bool). Changes false x bytes s t) after (subst (λ (x : Bool). Changes x t.is_cut bytes s t) before prints.put)
 
-pub puts_whole : {T E : Type 0} {bytes : List ℕ} {s t : Stand} (value : T) → Prints bytes s t → s.is_cut ≡ false → t.is_cut ≡ false
-    → Puts {T = T} {E = E} bytes s.contents t.contents s.faults t.faults (Ok value)
-puts_whole value prints before after = record { put = whole prints before after }
-
-pub puts_front : {T E : Type 0} {bytes : List ℕ} {s t : Stand} (error : E) → Prints bytes s t → s.is_cut ≡ false → t.is_cut ≡ true
-    → Puts {T = T} {E = E} bytes s.contents t.contents s.faults t.faults (Err error)
-puts_front error prints before after = record { put = front prints before after }
-
 pub sent_all : {bytes : List ℕ} {s t : Stand} (status : Status) → Prints bytes s t → s.is_cut ≡ false → t.is_cut ≡ false
     → Sends (record { output = bytes; status = status }) s.contents t.contents (HasFailed s.faults t.faults) status
 sent_all status prints before after = inl ((whole prints before after).whole, refl)
@@ -111,6 +129,31 @@ written_if false bytes s t put = inl put.whole
 pub written : {bytes : List ℕ} {s t : Stand} → Prints bytes s t → s.is_cut ≡ false → Written bytes s t
 written {bytes} {s} {t} prints before =
     written_if t.is_cut bytes s t (subst (λ (x : Bool). Changes x t.is_cut bytes s t) before prints.put)
+
+-- ---- loops
+
+-- some bytes of a whole are printed, and others are left
+pub record SoFar (left whole : List ℕ) (s t : Stand) : Type 0 where
+  pub done : List ℕ
+  pub same : done ++ left ≡ whole
+  pub put : Prints done s t
+
+pub so_far_none : (whole : List ℕ) (s : Stand) → SoFar whole whole s s
+so_far_none whole s = record { done = []; same = refl; put = nothing s }
+
+pub so_far_more : {left rest piece whole : List ℕ} {s t u : Stand} → piece ++ rest ≡ left → SoFar left whole s t → Prints piece t u → SoFar rest whole s u
+so_far_more {left} {rest} {piece} {whole} same so_far prints = record {
+  done = so_far.done ++ piece;
+  same = append_assoc so_far.done piece rest ∙ ap (λ (bytes : List ℕ). so_far.done ++ bytes) same ∙ so_far.same;
+  put = more so_far.put prints;
+}
+
+pub so_far_skip : {left rest whole : List ℕ} {s t : Stand} → rest ≡ left → SoFar left whole s t → SoFar rest whole s t
+so_far_skip {left} {rest} {whole} {s} {t} same so_far = subst (λ (bytes : List ℕ). SoFar bytes whole s t) (sym same) so_far
+
+pub so_far_done : {left whole : List ℕ} {s t : Stand} → left ≡ [] → SoFar left whole s t → Prints whole s t
+so_far_done {left} {whole} none so_far =
+    as_text so_far.put (sym (append-nil so_far.done) ∙ ap (λ (bytes : List ℕ). so_far.done ++ bytes) (sym none) ∙ so_far.same)
 
 -- a number in columns of at most this width
 pub column : (width number blanks : ℕ) (digits : List ℕ) → width ≤ 3 → digits ≡ decimal number → blanks ≡ width - length digits

@@ -1,25 +1,31 @@
 -- The rows and lines of a sheet, put on a device.
-use Rattle.std.proofs.Common.{◌≡◌, ℕ, zero, suc, ◌+◌, ◌-◌, max, ◌<◌, ◌≤◌, ◌∙◌, Bool, true, false, List, [], ◌∷◌, ◌++◌, Some, None, length, map, filter}
-use Rattle.std.proofs.Common.{drop, take, get_or, codes, decimal, inl, inr, refl, ap, sym, subst, append_assoc, arith}
+use Rattle.std.proofs.Common.{◌≡◌, ℕ, zero, suc, ◌+◌, ◌-◌, ◌*◌, max, ◌<◌, ◌≤◌, ◌∙◌, Bool, true, false, List, [], ◌∷◌, ◌++◌, Some, None, length, map, filter}
+use Rattle.std.proofs.Common.{drop, take, replicate, get_or, codes, decimal, inl, inr, refl, ap, sym, subst, append_assoc, arith}
 use Rattle.std.specs.List.{AllByRecursion, flat_map, list_any}
 use Rattle.std.proofs.lemmas.Bool.{cases_Bool}
 use Rattle.std.proofs.Math.Seq.{drop-nil}
 use Rattle.crib_cards.specs.CardText.{card_text}
+use Rattle.crib_text.specs.Spelling.{space}
 use Rattle.crib_plan.specs.declared.plan.Next.{Next}
 use Rattle.crib_plan.specs.declared.plan.Next.TheVariants.{End, To}
 use Rattle.crib_plan.specs.declared.plan.Node.{Node}
 use Rattle.crib_plan.specs.declared.plan.Node.TheVariants.{Play, See}
 use Rattle.crib_plan.specs.Nodes.{IsLater, IsNode, ArePlan}
 use Rattle.crib_plan.specs.Spelling.{leads_to}
-use Rattle.crib_sheet.specs.PlanSheet.{Paragraph, Named, lines_to, rows_from, Over}
+use Rattle.crib_sheet.specs.PlanSheet.{Paragraph, Named, lines_to, rows_from, sheet_with, Over}
 use Rattle.crib_sheet.specs.PlanOutline.{apart_in}
-use Rattle.crib_sheet.specs.PlanText.{row_text, lines_text, before_rest, indent, label, label_column, label_width, paragraph_text}
-use Rattle.crib_sheet.specs.PlanPage.{end_of_row, legend_text, no_card}
-use Rattle.crib_sheet.specs.Private.Pages.{first_text, IsDeep, place_row, node_row, lines_at, line_front, width_at, new_node, numbered_text, paragraphs_text}
-use Rattle.crib_sheet.proofs.Labels.{branches_past}
-use Rattle.crib_sheet.proofs.PlanRows.{place_end, place_apart, place_node, node_play, node_see, node_at, no_line, new_line, lines_end_at, room}
+use Rattle.crib_sheet.specs.PlanText.{row_text, lines_text, before_rest, indent, label, label_width, paragraph_text}
+use Rattle.crib_sheet.specs.PlanPage.{end_of_row, legend_text, no_card, page_text}
+use Rattle.crib_sheet.specs.Private.Pages.{first_text, IsDeep, place_row, node_row, lines_at, line_front, spaced_label, width_at, new_node}
+use Rattle.crib_sheet.specs.Private.Pages.{paragraphs_text}
+use Rattle.crib_sheet.proofs.Labels.{branches_past, column_from}
+use Rattle.crib_sheet.proofs.PlanRows.{place_end, place_apart, place_node, node_play, node_see, node_at, no_line, new_line, lines_end_at, page_is, room}
 
 -- ---- places
+
+-- a node of a plan, as it is read
+pub seen : (plan nodes : List Node) (i : ℕ) (d node : Node) → nodes ≡ plan → get_or nodes i d ≡ node → get_or plan i d ≡ node
+seen plan nodes i d node same is = sym (ap (λ (ns : List Node). get_or ns i d) same) ∙ is
 
 pub row_of_end : (flags : List Bool) (plan : List Node) (level : ℕ) (place : Next) → place ≡ End →
     codes "\n" ≡ row_text level (place_row flags plan place)
@@ -83,26 +89,6 @@ pub later_see : (plan : List Node) (i : ℕ) (branches : List Next) (d : Node) �
 later_see plan i branches d are inside is =
     let fits : IsNode i (length plan) (See branches) = subst (IsNode i (length plan)) is (node_at plan i d are inside) in fits
 
-branch_there : (place count : ℕ) (branches : List Next) (i : ℕ) (d : Next) → AllByRecursion (IsLater place count) branches → i < length branches →
-    IsLater place count (get_or branches i d)
-branch_there place count [] i d all inside = absurd (omega arith)
-branch_there place count (branch ∷ branches) zero d all inside = all.0
-branch_there place count (branch ∷ branches) (suc i) d all inside = branch_there place count branches i d all.1 (omega arith)
-
-begun : (all : List Next) (branch : Next) (node : ℕ) → new_node all branch ≡ Some node → branch ≡ To node
-begun all End node is = absurd cc
-begun all (To other) node is =
-    elim (cases_Bool (list_any (leads_to other) all)) [
-      | inl e ↦ (let h : None ≡ Some node = (rw e at is) in absurd cc)
-      | inr e ↦ (let h : Some other ≡ Some node = (rw e at is) in let same : other ≡ node = cc in ap To same)
-    ]
-
--- the node of a line is later than that of its look
-pub later_line : (place count : ℕ) (branches : List Next) (i node : ℕ) (d : Next) → AllByRecursion (IsLater place count) branches → i < length branches →
-    new_node (take i branches) (get_or branches i d) ≡ Some node → IsLater place count (To node)
-later_line place count branches i node d all inside some =
-    subst (IsLater place count) (begun (take i branches) (get_or branches i d) node some) (branch_there place count branches i d all inside)
-
 -- ---- lines
 
 nodes_past : (plan : List Node) (i : ℕ) → length plan ≤ i → drop i plan ≡ []
@@ -136,8 +122,9 @@ no_more_paragraphs flags plan i past =
     (nodes_past plan i past)
 
 pub numbered_is : (flags : List Bool) (plan : List Node) (node : ℕ) →
-    (codes "\n[" ++ (decimal node ++ codes "] ")) ++ row_text 0 (node_row flags plan node) ≡ numbered_text flags plan node
-unfolding numbered_text paragraph_text
+    ((codes "\n[" ++ decimal node) ++ codes "] ") ++ row_text 0 (node_row flags plan node)
+    ≡ paragraph_text (record { number = node; row = node_row flags plan node })
+unfolding paragraph_text
 numbered_is flags plan node = simp append_assoc
 
 -- ---- the first row
@@ -168,26 +155,43 @@ first_of_some sure flags [] are some = absurd (omega arith)
 first_of_some sure flags (node ∷ plan) are some =
     ap (λ (none : List ℕ). none ++ row_text 0 (place_row flags (node ∷ plan) (To 0))) (sym (some_needed sure flags (node ∷ plan) are some))
 
--- ---- the pieces of a line, of a name and of a look
+-- ---- the pieces of a page, of a name and of the front of a line
 
-pub legend_is : (sure : Bool) →
+-- how to read a sheet, up to what the end of a row means
+abbrev pub legend : List ℕ
+legend =
     codes "\nPlay a row in order, one card at each of your turns. If none of your cards\nfits, say go and stay there. At \"look\", go on in the line of "
-    ++ codes "what they show\nnext: a rank, or a go, even after yours. At \"see [n]\", go on in paragraph [n].\n" ++ end_of_row sure
-    ≡ legend_text sure
+    ++ codes "what they show\nnext: a rank, or a go, even after yours. At \"see [n]\", go on in paragraph [n].\n"
+
+legend_is : (sure : Bool) → legend ++ end_of_row sure ≡ legend_text sure
 unfolding legend_text
 legend_is sure = refl
 
-pub front_is : (level width : ℕ) (set : List Bool) → indent level ++ (label_column width set ++ codes " : ") ≡ line_front level width set
-unfolding line_front
-front_is level width set = sym (append_assoc (indent level) (label_column width set) (codes " : "))
+pub page_from : (sure : Bool) (flags : List Bool) (plan : List Node) (end : List ℕ) → end ≡ end_of_row sure →
+    ((first_text sure flags plan ++ paragraphs_text flags plan 0) ++ legend) ++ end ≡ page_text sure (sheet_with (apart_in flags) plan)
+page_from sure flags plan end is =
+    let first = first_text sure flags plan in
+    let rest = paragraphs_text flags plan 0 in
+    append_assoc (first ++ rest) legend end ∙ ap (λ (bytes : List ℕ). (first ++ rest) ++ bytes) (ap (λ (bytes : List ℕ). legend ++ bytes) is ∙ legend_is sure)
+    ∙ append_assoc first rest (legend_text sure) ∙ sym (page_is sure flags plan)
 
-pub name_is : (node : ℕ) → codes "see [" ++ (decimal node ++ codes "]\n") ≡ row_text 0 (Named node)
+pub name_is : (node : ℕ) → (codes "see [" ++ decimal node) ++ codes "]\n" ≡ row_text 0 (Named node)
 name_is node = refl
 
-pub name_front : (node : ℕ) → codes "\n[" ++ (decimal node ++ codes "] ") ≡ codes "\n[" ++ (decimal node ++ codes "] ")
-name_front node = refl
+-- the blanks of one level more
+pub indent_more : (level : ℕ) → indent level ++ codes "    " ≡ indent (level + 1)
+indent_more zero = refl
+indent_more (suc level) =
+    let e : 4 * (suc level + 1) ≡ suc (suc (suc (suc (4 * (level + 1))))) = omega arith in
+    let f : 4 * suc level ≡ suc (suc (suc (suc (4 * level)))) = omega arith in
+    ap (λ (k : ℕ). replicate k space ++ codes "    ") f ∙ ap (λ (rest : List ℕ). codes "    " ++ rest) (indent_more level)
+    ∙ ap (λ (k : ℕ). replicate k space) (sym e)
 
-pub look_is : (flags : List Bool) (plan : List Node) (level width : ℕ) (branches : List Next) → width ≡ width_at branches 0 →
-    codes "look:\n" ++ lines_text (level + 1) width (lines_at flags plan branches 0)
-    ≡ codes "look:\n" ++ lines_text (level + 1) (width_at branches 0) (lines_at flags plan branches 0)
-look_is flags plan level width branches is = ap (λ (k : ℕ). codes "look:\n" ++ lines_text (level + 1) k (lines_at flags plan branches 0)) is
+pub front_is : (level width blanks : ℕ) (set : List Bool) (written : List ℕ) → written ≡ drop 1 (spaced_label set) → width ≤ 28 →
+    blanks ≡ width - length written →
+    ((indent level ++ written) ++ take blanks (replicate 28 space)) ++ codes " : " ≡ line_front level width set
+unfolding line_front
+front_is level width blanks set written is narrow blank =
+    ap (λ (bytes : List ℕ). bytes ++ codes " : ") (append_assoc (indent level) written (take blanks (replicate 28 space))
+    ∙ ap (λ (k : ℕ). indent level ++ (written ++ take k (replicate 28 space))) blank
+    ∙ ap (λ (bytes : List ℕ). indent level ++ bytes) (column_from width set written is narrow))

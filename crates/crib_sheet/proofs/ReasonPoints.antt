@@ -51,7 +51,7 @@ points_of_run cards either =
       | inr three ↦ points_if (leb 3 cards) (Run cards) ∙ cond-true (leb 3 cards) cards 0 (le-leb 3 cards three)
     ]
 
-three_cards : (cards : List ℕ) → is_run cards ≡ true → 3 ≤ length cards
+pub three_cards : (cards : List ℕ) → is_run cards ≡ true → 3 ≤ length cards
 three_cards cards is = grind (arith, nat_tests)
 
 -- a run at the end of a pile has three cards or more

@@ -9,7 +9,7 @@ use Rattle.crib_game.specs.declared.following.ending.Ending.TheVariants.{Short}
 use Rattle.crib_input.specs.Spelled.{SpellsPlan}
 use Rattle.crib_input.specs.declared.sections.Sections.TheVariants.{Question, Played}
 use Rattle.crib_run.specs.declared.status.Status.TheVariants.{Yes, No, Refused, Fault}
-use Rattle.crib_answer.proofs.Examples.{nothing_is_no_plan}
+use Rattle.crib_input.proofs.EmptyExamples.{no_plan_in_nothing}
 use Rattle.crib_sheet.specs.declared.answer.job.SheetJob.TheVariants.{Plan, Game as GameJob}
 use Rattle.crib_sheet.specs.Job.{job_called, sections_of}
 use Rattle.crib_sheet.specs.Sheet.{game_reply, verdict_status}
@@ -29,6 +29,9 @@ game_is_called = refl
 
 check_is_no_sheet : job_called (codes "check") ≡ Err (record {})
 check_is_no_sheet = refl
+
+letter_twice_is_no_sheet : job_called (codes "pplan") ≡ Err (record {})
+letter_twice_is_no_sheet = refl
 
 plan_reads_a_question : sections_of Plan ≡ Question
 plan_reads_a_question = refl
@@ -58,13 +61,13 @@ a_sure_plan input spelled ends = record {
 }
 
 no_yes_of_nothing : (text : List ℕ) → PlanMeans [] text Yes → ⊥
-no_yes_of_nothing text means = nothing_is_no_plan means.sure.problem means.sure.plan means.sure.spelled
+no_yes_of_nothing text means = no_plan_in_nothing means.sure.problem means.sure.plan means.sure.spelled
 
 no_no_of_nothing : (text : List ℕ) → PlanMeans [] text No → ⊥
-no_no_of_nothing text means = nothing_is_no_plan means.problem means.plan means.spelled
+no_no_of_nothing text means = no_plan_in_nothing means.problem means.plan means.spelled
 
 nothing_is_refused : (text : List ℕ) → PlanMeans [] text Refused
-nothing_is_refused text = nothing_is_no_plan
+nothing_is_refused text = no_plan_in_nothing
 
 plan_without_memory : (input : List ℕ) → PlanMeans input (codes "fault 11\n") Fault
 unfolding digits

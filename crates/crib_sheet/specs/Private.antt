@@ -2,7 +2,6 @@
 pub mod Chosen
 pub mod Pages
 pub mod PlayWalk
-pub mod Puts
 pub mod Prints
 pub mod Spots
 pub mod Ways

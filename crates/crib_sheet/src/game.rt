@@ -9,7 +9,7 @@ mod reasons;
 mod shows;
 mod text;
 
-pub(crate) use before::put_acts_before;
+pub(crate) use before::put_before;
 pub use combination::{Combination, Kind};
 pub use laws::{combination_law, game_sheet_law, points_law};
 pub use reason::PlayReason;

@@ -1,5 +1,5 @@
 //! A page: what bytes are put on piece by piece.
-ghost use Rattle.std.specs.Prelude.{◌≡◌, ◌≤◌, length, decimal};
+ghost use Rattle.std.specs.Prelude.{◌≤◌, length, decimal};
 ghost use Rattle.crib_board.specs.Board.{right_in};
 ghost use Rattle.crib_input.specs.Input.{most_bytes};
 ghost use Rattle.crib_problem.specs.Spelling.{move_word};
@@ -39,15 +39,21 @@ impl<W: Sink> Page for Printer<'_, W> {
     } };
 
     fn put(&mut self, bytes: &[u8]) {
-        if self.is_cut {
-            return;
-        }
-        match put(self.sink, bytes) {
-            Ok(()) => (),
-            Err(_) => self.is_cut = true,
+        if !self.is_cut {
+            self.is_cut = matches!(put(self.sink, bytes), Err(_));
         }
     }
 }
+
+// Puts pieces one after another. A piece is a text, bytes in brackets, or a function with its arguments after the page.
+macro_rules! puts {
+    ($page:ident:) => {};
+    ($page:ident: $text:literal $($more:tt)*) => {{ $page.put($text); puts!($page: $($more)*); }};
+    ($page:ident: [$bytes:expr] $($more:tt)*) => {{ $page.put($bytes); puts!($page: $($more)*); }};
+    ($page:ident: $put:ident($($with:expr),*) $($more:tt)*) => {{ $put($page $(, $with)*); puts!($page: $($more)*); }};
+}
+
+pub(crate) use puts;
 
 /// Puts the decimal digits of a number.
 pub(crate) fn put_small<P: Page>(page: &mut P, number: u8)
@@ -70,16 +76,14 @@ pub(crate) fn put_right<P: Page>(page: &mut P, width: usize, number: u8)
 {
     let mut buffer = Buffer::new();
     let digits = buffer.format(number).as_bytes();
-    page.put(&b"   "[..width.saturating_sub(digits.len())]);
-    page.put(digits);
+    puts!(page: [&b"   "[..width.saturating_sub(digits.len())]] [digits]);
 }
 
 /// Puts a card after a space.
 pub(crate) fn put_card<P: Page>(page: &mut P, card: Card)
     ensures { Prints (spaced_card card) (P.stand page.old) (P.stand page.new) }
 {
-    page.put(b" ");
-    page.put(&card_text(card));
+    puts!(page: b" " [&card_text(card)]);
 }
 
 /// Puts cards, each after a space.

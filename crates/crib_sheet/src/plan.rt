@@ -5,7 +5,6 @@ mod laws;
 mod now;
 mod outline;
 mod page;
-mod pieces;
 mod rows;
 mod spots;
 mod stuck;

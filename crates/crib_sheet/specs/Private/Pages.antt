@@ -58,10 +58,6 @@ unfoldable pub first_text : Bool → List Bool → List Node → List ℕ
 first_text sure flags plan =
     no_card sure (place_row flags plan (plan_start plan)) ++ row_text 0 (place_row flags plan (plan_start plan))
 
--- the paragraph of a node
-unfoldable pub numbered_text : List Bool → List Node → ℕ → List ℕ
-numbered_text flags plan node = paragraph_text (record { number = node; row = node_row flags plan node })
-
 -- the paragraphs from a node on
 unfoldable pub paragraphs_text : List Bool → List Node → ℕ → List ℕ
 paragraphs_text flags plan from =

@@ -1,6 +1,19 @@
 -- Bytes that are put on a page piece by piece.
-use Rattle.std.specs.Prelude.{◌≡◌, ℕ, Bool, true, false, List, Option}
-use Rattle.crib_sheet.specs.Private.Puts.{TakesAll, FailsWithin}
+use Rattle.std.specs.Prelude.{◌≡◌, ℕ, ◌<◌, Bool, true, false, List, Option, length, take}
+use Rattle.std.specs.Io.KnownBytes.{Appends}
+use Rattle.crib_text.specs.Device.{HasFailed, HasNotFallen}
+
+-- a device took all of some bytes
+pub record TakesAll (bytes : List ℕ) (old new : Option (List ℕ)) (before after : ℕ) : Type 0 where
+  pub whole : Appends old new bytes
+  pub counted : HasNotFallen before after
+
+-- a device failed after a proper beginning of some bytes
+pub record FailsWithin (bytes : List ℕ) (old new : Option (List ℕ)) (before after : ℕ) : Type 0 where
+  pub sent : ℕ
+  pub less : sent < length bytes
+  pub part : Appends old new (take sent bytes)
+  pub failed : HasFailed before after
 
 -- the state of a page: its device, the bytes there, if they are known, its failed calls, and whether the page is cut
 pub record Stand : Type 0 where

@@ -1,10 +1,7 @@
 -- How often the nodes of a plan are led to, while that is counted.
-use Rattle.std.specs.Prelude.{◌≡◌, ℕ, ◌+◌, ◌<◌, min, Bool, true, false, not, ◌&&◌, List, length, slice_get}
+use Rattle.std.specs.Prelude.{◌≡◌, ℕ, ◌+◌, ◌<◌, min, Bool, true, false, List, length, slice_get}
 use Rattle.std.specs.Prelude.{unwrap_or, count_by}
-use Rattle.std.specs.List.{list_any}
-use Rattle.crib_plan.specs.declared.plan.Next.{Next}
 use Rattle.crib_plan.specs.declared.plan.Node.{Node}
-use Rattle.crib_plan.specs.Spelling.{leads_to}
 use Rattle.crib_sheet.specs.PlanBranches.{node_leads}
 
 -- the number of nodes that lead to a node, at most 2
@@ -15,14 +12,6 @@ ways_in ways node = unwrap_or (slice_get ways node) 2
 abbrev pub one_more : ℕ → Bool → ℕ
 one_more count true = min 2 (count + 1)
 one_more count false = count
-
--- whether a place is a node, and none of the places before it is the same
-abbrev pub leads_anew : ℕ → List Next → Next → Bool
-leads_anew node before place = leads_to node place && not (list_any (leads_to node) before)
-
--- no node is led to yet
-pub record AreNone (ways : List ℕ) : Type 0 where
-  pub none : (node : ℕ) → node < length ways → ways_in ways node ≡ 0
 
 -- the number of nodes of a plan that lead to a node, at most 2
 abbrev pub ways_to : List Node → ℕ → ℕ

@@ -1,13 +1,12 @@
 //! The words beside a sheet: why there is none, and how far a refused game was accepted.
-ghost use Rattle.std.specs.Prelude.{◌≡◌, ◌≤◌, ℕ, List, length};
+ghost use Rattle.std.specs.Prelude.{◌≤◌, ℕ, List, length};
 ghost use Rattle.crib_input.specs.Input.{most_bytes};
-ghost use Rattle.crib_sheet.specs.Acts.{AreShown, IsSaid, game_fault_in};
+ghost use Rattle.crib_sheet.specs.Acts.{AreShown, IsSaid};
 ghost use Rattle.crib_sheet.specs.Private.Prints.{Prints};
 
-use crate::game::put_acts_before;
+use crate::game::put_before;
 use crate::page::{Page, Printer};
-use crib_game::GameFault;
-use crib_input::{Cause, Reason, Refusal, Sections, played_of};
+use crib_input::{Cause, Reason, Sections, played_of};
 use crib_message::message_of;
 use crib_run::Explain;
 use crib_text::{MAX_INPUT, Sink};
@@ -44,24 +43,10 @@ fn put_acts_beside<P: Page>(page: &mut P, input: &[u8], reason: &Reason)
     ensures { (acts : List ℕ) × AreShown input.now reason.now acts
         × Prints acts (P.stand page.old) (P.stand page.new) }
 {
-    if let Some(fault) = game_fault(reason) {
-        if let Ok(played) = played_of(input) {
-            put_acts_before(page, &played.problem, &played.game, fault);
-        }
-    }
-}
-
-// The refusal of a game, if this is the reason.
-fn game_fault(reason: &Reason) -> Option<GameFault>
-    ensures { result ≡ game_fault_in reason.now }
-{
-    match reason {
-        Reason::Refused(
-            Refusal {
-                cause: Cause::Game(fault),
-                ..
-            },
-        ) => Some(*fault),
-        _ => None,
+    if let Reason::Refused(refusal) = reason
+        && let Cause::Game(fault) = refusal.cause
+        && let Ok(played) = played_of(input)
+    {
+        put_before(page, &played.problem, &played.game, fault);
     }
 }

@@ -15,12 +15,8 @@ pub enum SheetJob {
     Game,
 }
 
-const PLAN: &str = "plan";
-
-const GAME: &str = "game";
-
 /// The names of the jobs, in the order in which the help text lists them.
-pub static NAMES: [&str; 2] = [PLAN, GAME];
+pub static NAMES: [&str; 2] = ["plan", "game"];
 
 impl SheetJob {
     /// Returns the sections that the input of the job has to have.
@@ -41,8 +37,8 @@ impl FromStr for SheetJob {
 
     fn from_str(text: &str) -> Result<SheetJob, UnknownJob> {
         match text {
-            PLAN => Ok(SheetJob::Plan),
-            GAME => Ok(SheetJob::Game),
+            "plan" => Ok(SheetJob::Plan),
+            "game" => Ok(SheetJob::Game),
             _ => Err(UnknownJob),
         }
     }

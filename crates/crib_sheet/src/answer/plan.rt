@@ -1,6 +1,5 @@
 //! The sheet of a plan as an answer.
 ghost use Rattle.std.specs.Prelude.{◌≡◌, ◌≤◌, length};
-ghost use Rattle.crib_input.specs.Input.{most_bytes};
 ghost use Rattle.crib_run.specs.Reply.{IsOutcome};
 ghost use Rattle.crib_sheet.specs.Sheet.{SheetMakes, parts_reply, verdict_status};
 

@@ -1,5 +1,5 @@
 //! The sheet of the game that an input spells.
-ghost use Rattle.std.specs.Prelude.{◌≡◌, ◌≤◌, length};
+ghost use Rattle.std.specs.Prelude.{◌≤◌, length};
 ghost use Rattle.crib_run.specs.Reply.{IsOutcome};
 ghost use Rattle.crib_sheet.specs.Sheet.{SheetMakes, game_parts_reply};
 
@@ -22,9 +22,6 @@ pub(crate) fn game_sheet(input: &[u8]) -> Result<GameSheet, Reason>
             game: played.game,
             report,
         }),
-        Err(fault) => {
-            let refusal = Refusal::of_game(fault, played.first, &played.game);
-            Err(Reason::Refused(refusal))
-        }
+        Err(fault) => Err(Reason::Refused(Refusal::of_game(fault, played.first, &played.game))),
     }
 }

@@ -2,14 +2,14 @@
 ghost use Rattle.std.specs.Prelude.{◌≡◌, ◌+◌, ◌≤◌, length, map, flat_map};
 ghost use Rattle.crib_board.specs.Board.{left_in};
 ghost use Rattle.crib_sheet.specs.Heading.{role_word};
-ghost use Rattle.crib_sheet.specs.GameText.{act_line, act_lines, act_text, alike_word, last_after, next_reason};
-ghost use Rattle.crib_sheet.specs.GameText.{points_text, reason_text, reason_word, run_word, score_text, taker_text};
+ghost use Rattle.crib_sheet.specs.GameText.{act_lines, act_text, last_after, next_reason};
+ghost use Rattle.crib_sheet.specs.GameText.{points_text, reason_text, reason_word, run_word};
 ghost use Rattle.crib_sheet.specs.Private.Prints.{Prints};
 
 use super::reason::PlayReason;
 use super::reasons::PlayReasons;
-use crate::page::{Page, put_move, put_right, put_role, put_small};
-use crib_cards::{Move, Scores, Side};
+use crate::page::{Page, put_move, put_right, put_role, put_small, puts};
+use crib_cards::{Move, Side};
 use crib_game::Row;
 
 /// Puts a line for each act with its reasons. The numbers begin at `number`, and `last` is the side that played the
@@ -34,8 +34,8 @@ pub(crate) fn put_acts<P: Page>(
         return;
     };
     let last = last_after(row.act.side, row.act.what, last);
-    put_act_line(page, dealer, number, last, row, why.as_slice());
-    put_acts(page, dealer, number + 1, last, others, more);
+    puts!(page: put_act(dealer, number, row) put_points(dealer, last, row, why.as_slice()) b"\n"
+        put_acts(dealer, number + 1, last, others, more));
 }
 
 // The side that played the last card after an act.
@@ -48,34 +48,12 @@ fn last_after(side: Side, what: Move, last: Side) -> Side
     }
 }
 
-// Puts the line of an act. `last` is the side that played the last card, which may be this one.
-fn put_act_line<P: Page>(
-    page: &mut P,
-    dealer: Side,
-    number: u8,
-    last: Side,
-    row: &Row,
-    reasons: &[PlayReason],
-)
-    ensures { Prints (act_line dealer number last row.now reasons.now) (P.stand page.old) (P.stand page.new) }
-{
-    put_act(page, dealer, number, row);
-    put_points(page, dealer, last, row, reasons);
-    page.put(b"\n");
-}
-
 // Puts the columns of an act.
 fn put_act<P: Page>(page: &mut P, dealer: Side, number: u8, row: &Row)
     ensures { Prints (act_text dealer number row.now) (P.stand page.old) (P.stand page.new) }
 {
-    put_right(page, 2, number);
-    page.put(b" ");
-    put_role_column(page, dealer, row.act.side);
-    page.put(b" ");
-    put_move(page, row.act.what);
-    page.put(b"      ");
-    put_right(page, 2, row.count);
-    put_scores(page, row.scores);
+    puts!(page: put_right(2, number) b" " put_role_column(dealer, row.act.side) b" " put_move(row.act.what)
+        b"      " put_right(2, row.count) b" " put_right(3, row.scores.owner) b"  " put_right(3, row.scores.opponent));
 }
 
 // Puts a side's word, left-aligned in six columns.
@@ -85,29 +63,18 @@ fn put_role_column<P: Page>(page: &mut P, dealer: Side, side: Side)
     page.put(if dealer == side { b"dealer" } else { b"pone  " });
 }
 
-// Puts both scores in columns.
-fn put_scores<P: Page>(page: &mut P, scores: Scores)
-    ensures { Prints (score_text scores) (P.stand page.old) (P.stand page.new) }
-{
-    page.put(b" ");
-    put_right(page, 3, scores.owner);
-    page.put(b"  ");
-    put_right(page, 3, scores.opponent);
-}
-
-// Puts the points of an act and the reasons for them, if there are any.
+// Puts the points of an act and the reasons for them, if there are any, and of a go whose they are.
 fn put_points<P: Page>(page: &mut P, dealer: Side, last: Side, row: &Row, reasons: &[PlayReason])
     ensures { Prints (points_text dealer last row.now reasons.now) (P.stand page.old) (P.stand page.new) }
 {
     let Some((reason, others)) = reasons.split_first() else {
         return;
     };
-    page.put(b"  ");
-    put_small(page, row.points);
-    page.put(b": ");
-    put_reason(page, *reason);
-    put_others(page, others);
-    put_taker(page, dealer, last, row.act.what);
+    puts!(page: b"  " put_small(row.points) b": " put_reason(*reason) put_others(others));
+    match row.act.what {
+        Move::Card(_) => (),
+        Move::Go => puts!(page: b" (to the " put_role(dealer, last) b")"),
+    }
 }
 
 // Puts more reasons, each after a comma.
@@ -115,29 +82,7 @@ fn put_others<P: Page>(page: &mut P, reasons: &[PlayReason])
     ensures { Prints (flat_map next_reason reasons.now) (P.stand page.old) (P.stand page.new) }
 {
     for reason in reasons {
-        put_next(page, *reason);
-    }
-}
-
-// Puts a reason after a comma.
-fn put_next<P: Page>(page: &mut P, reason: PlayReason)
-    ensures { Prints (next_reason reason) (P.stand page.old) (P.stand page.new) }
-{
-    page.put(b", ");
-    put_reason(page, reason);
-}
-
-// Puts whose the points of a move are, if they are not the mover's.
-fn put_taker<P: Page>(page: &mut P, dealer: Side, last: Side, what: Move)
-    ensures { Prints (taker_text dealer last what) (P.stand page.old) (P.stand page.new) }
-{
-    match what {
-        Move::Card(_) => (),
-        Move::Go => {
-            page.put(b" (to the ");
-            put_role(page, dealer, last);
-            page.put(b")");
-        }
+        puts!(page: b", " put_reason(*reason));
     }
 }
 
@@ -145,9 +90,7 @@ fn put_taker<P: Page>(page: &mut P, dealer: Side, last: Side, what: Move)
 fn put_reason<P: Page>(page: &mut P, reason: PlayReason)
     ensures { Prints (reason_text reason) (P.stand page.old) (P.stand page.new) }
 {
-    page.put(reason_word(reason));
-    page.put(b" ");
-    put_small(page, reason.points());
+    puts!(page: [reason_word(reason)] b" " put_small(reason.points()));
 }
 
 fn reason_word(reason: PlayReason) -> &'static [u8]
@@ -157,21 +100,12 @@ fn reason_word(reason: PlayReason) -> &'static [u8]
     match reason {
         PlayReason::Fifteen => b"fifteen",
         PlayReason::ThirtyOne => b"thirty-one",
-        PlayReason::Alike(cards) => alike_word(cards),
+        PlayReason::Alike(2) => b"pair",
+        PlayReason::Alike(3) => b"three alike",
+        PlayReason::Alike(_) => b"four alike",
         PlayReason::Run(cards) => run_word(usize::from(cards)),
         PlayReason::Go => b"go",
         PlayReason::LastCard => b"last card",
-    }
-}
-
-fn alike_word(cards: u8) -> &'static [u8]
-    ensures value { result.now ≡ alike_word cards }
-    ensures short { length result.now ≤ 12 }
-{
-    match cards {
-        2 => b"pair",
-        3 => b"three alike",
-        _ => b"four alike",
     }
 }
 

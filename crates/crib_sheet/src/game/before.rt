@@ -11,12 +11,7 @@ use crib_problem::Problem;
 
 /// Puts the lines of the acts before the one that `fault` refuses, by its place, also if that act is part of the
 /// opening. It needs no memory.
-pub(crate) fn put_acts_before<P: Page>(
-    page: &mut P,
-    problem: &Problem,
-    game: &Game,
-    fault: GameFault,
-)
+pub(crate) fn put_before<P: Page>(page: &mut P, problem: &Problem, game: &Game, fault: GameFault)
     ensures { Prints (text_before problem.now game.now fault) (P.stand page.old) (P.stand page.new) }
 {
     let lead = problem.at_lead();
@@ -30,16 +25,8 @@ pub(crate) fn put_acts_before<P: Page>(
 fn acts_before(fault: GameFault) -> usize
     ensures { result ≡ acts_before fault }
 {
-    match fault {
-        GameFault::NotUnseen(_) => 0,
-        GameFault::NotHeld(act)
-        | GameFault::DoesNotFit(act)
-        | GameFault::MustPlay(act)
-        | GameFault::NotTurn(act)
-        | GameFault::AfterEnd(act)
-        | GameFault::Strays(act)
-        | GameFault::NotAsPlayed(act) => usize::from(act.saturating_sub(1)),
-    }
+    // In a section that begins at line 0, act 1 is on line 4.
+    fault.line(0, 255).saturating_sub(4) as usize
 }
 
 // The game with its first acts alone.

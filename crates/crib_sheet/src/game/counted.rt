@@ -1,15 +1,15 @@
 //! The lines of the show.
 ghost use Rattle.std.specs.Prelude.{◌≡◌, ◌≤◌, length, flat_map};
 ghost use Rattle.crib_sheet.specs.GameText.{combination_line, combination_lines, counted_cards};
-ghost use Rattle.crib_sheet.specs.GameText.{counted_combinations, counted_name, counted_points, counted_text};
+ghost use Rattle.crib_sheet.specs.GameText.{counted_combinations, counted_text};
 ghost use Rattle.crib_sheet.specs.GameText.{kind_word};
 ghost use Rattle.crib_sheet.specs.Private.Prints.{Prints};
 
 use super::acts::run_word;
 use super::combination::{Combination, Kind};
-use super::shows::{Combinations, crib_combinations, hand_combinations};
+use super::shows::counted_combinations;
 use crate::heading::put_how_many;
-use crate::page::{Page, put_card, put_cards, put_role, put_small};
+use crate::page::{Page, put_card, put_cards, put_role, put_small, puts};
 use crib_cards::{Card, Dealt, Side};
 use crib_problem::Problem;
 use crib_show::ShowRow;
@@ -23,13 +23,18 @@ pub(crate) fn put_show<P: Page>(page: &mut P, problem: &Problem, dealt: &Dealt, 
     }
 }
 
-// Puts the lines of a counted hand or of the crib.
+// Puts the lines of a counted hand or of the crib: whose it is, its cards, the starter, its points, both scores after
+// it, and what counts in it.
 fn put_counted<P: Page>(page: &mut P, problem: &Problem, dealt: &Dealt, row: &ShowRow)
     ensures { Prints (counted_text problem.now dealt.now row.now) (P.stand page.old) (P.stand page.new) }
 {
-    put_name(page, problem, &counted_cards(problem, dealt, row), row);
-    put_points(page, row);
-    put_combinations(page, counted_combinations(problem, dealt, row).as_slice());
+    let cards = counted_cards(problem, dealt, row);
+    puts!(page: b"\nThe " put_role(problem.dealer(), row.side) b"'s " [row.word()] b":" put_cards(&cards)
+        b" with" put_card(problem.starter()));
+    puts!(page: b", " put_how_many(row.points, b"point") b" (you " put_small(row.scores.owner)
+        b", they " put_small(row.scores.opponent) b")\n");
+    let found = counted_combinations(row.crib, &cards, problem.starter());
+    put_combinations(page, found.as_slice());
 }
 
 // The cards of a hand or of the crib.
@@ -47,45 +52,6 @@ fn counted_cards(problem: &Problem, dealt: &Dealt, row: &ShowRow) -> [Card; 4]
     }
 }
 
-// What counts in a hand or in the crib.
-fn counted_combinations(problem: &Problem, dealt: &Dealt, row: &ShowRow) -> Combinations
-    ensures { result.items ≡ counted_combinations problem.now dealt.now row.now }
-{
-    let cards = counted_cards(problem, dealt, row);
-    if row.crib {
-        crib_combinations(&cards, problem.starter())
-    } else {
-        hand_combinations(&cards, problem.starter())
-    }
-}
-
-// Puts whose hand or crib it is, its cards, and the starter.
-fn put_name<P: Page>(page: &mut P, problem: &Problem, cards: &[Card; 4], row: &ShowRow)
-    ensures { Prints (counted_name problem.now cards.now row.now) (P.stand page.old) (P.stand page.new) }
-{
-    page.put(b"\nThe ");
-    put_role(page, problem.dealer(), row.side);
-    page.put(b"'s ");
-    page.put(row.word());
-    page.put(b":");
-    put_cards(page, cards);
-    page.put(b" with");
-    put_card(page, problem.starter());
-}
-
-// Puts the points of a hand or of the crib, and both scores after it.
-fn put_points<P: Page>(page: &mut P, row: &ShowRow)
-    ensures { Prints (counted_points row.now) (P.stand page.old) (P.stand page.new) }
-{
-    page.put(b", ");
-    put_how_many(page, row.points, b"point");
-    page.put(b" (you ");
-    put_small(page, row.scores.owner);
-    page.put(b", they ");
-    put_small(page, row.scores.opponent);
-    page.put(b")\n");
-}
-
 // Puts a line for each combination, or one that says that there is none.
 fn put_combinations<P: Page>(page: &mut P, found: &[Combination])
     ensures { Prints (combination_lines found.now) (P.stand page.old) (P.stand page.new) }
@@ -101,21 +67,9 @@ fn put_each<P: Page>(page: &mut P, found: &[Combination])
     ensures { Prints (flat_map combination_line found.now) (P.stand page.old) (P.stand page.new) }
 {
     for made in found {
-        put_combination(page, made);
+        puts!(page: b"  " [kind_word(made.kind, made.cards.len())] b" " put_small(made.points()) b":"
+            put_cards(made.cards.as_slice()) b"\n");
     }
-}
-
-// Puts the line of a combination.
-fn put_combination<P: Page>(page: &mut P, made: &Combination)
-    ensures { Prints (combination_line made.now) (P.stand page.old) (P.stand page.new) }
-{
-    page.put(b"  ");
-    page.put(kind_word(made.kind, made.cards.len()));
-    page.put(b" ");
-    put_small(page, made.points());
-    page.put(b":");
-    put_cards(page, made.cards.as_slice());
-    page.put(b"\n");
 }
 
 fn kind_word(kind: Kind, cards: usize) -> &'static [u8]

@@ -36,13 +36,10 @@ impl PlayReason {
         ensures { result ≡ reason_points self }
     {
         match self {
-            PlayReason::Fifteen | PlayReason::ThirtyOne => 2,
-            PlayReason::Alike(cards) => match cards {
-                0 | 1 => 0,
-                2 => 2,
-                3 => 6,
-                _ => 12,
-            },
+            PlayReason::Fifteen | PlayReason::ThirtyOne | PlayReason::Alike(2) => 2,
+            PlayReason::Alike(0 | 1) => 0,
+            PlayReason::Alike(3) => 6,
+            PlayReason::Alike(_) => 12,
             PlayReason::Run(cards) => cards,
             PlayReason::Go | PlayReason::LastCard => 1,
         }

@@ -1,13 +1,11 @@
 //! The reasons of the points in the play of a game.
-ghost use Rattle.std.specs.Prelude.{◌≡◌, ◌+◌, ◌<◌, ◌≤◌, ◌++◌, length, map, nat_le, Ok};
-ghost use Rattle.crib_cards.specs.Runs.{is_run};
-ghost use Rattle.crib_play.specs.Points.{are_alike, most_last_cards};
+ghost use Rattle.std.specs.Prelude.{◌≡◌, ◌+◌, ◌<◌, ◌≤◌, ◌++◌, length, map, Ok};
 ghost use Rattle.crib_problem.specs.Setup.{Setup};
 ghost use Rattle.crib_game.specs.declared.section.game.Game.{Game};
 ghost use Rattle.crib_game.specs.declared.replaying.report.Row.{Row};
 ghost use Rattle.crib_game.specs.Replay.{replay_result};
 ghost use Rattle.crib_sheet.specs.GamePlay.{card_reasons_at, game_reasons, reason_if, reasons_points};
-ghost use Rattle.crib_sheet.specs.Private.PlayWalk.{cards_with, move_pile, move_reasons, row_pile, row_reasons};
+ghost use Rattle.crib_sheet.specs.Private.PlayWalk.{cards_with, row_pile, row_reasons};
 
 use super::reason::PlayReason;
 use arrayvec::ArrayVec;
@@ -57,31 +55,17 @@ impl PlaySoFar {
         ensures pile { self.new.pile.items ≡ row_pile self.old row.now }
         ensures cards { self.new.cards ≡ cards_with self.old.cards row.now.act.what }
     {
-        let mut reasons = self.make(row.act.what, row.count);
+        let mut reasons = PlayReasons::new();
+        if let Move::Card(card) = row.act.what {
+            self.pile.push(card.rank());
+            reasons = card_reasons(self.cards, row.count, self.pile.as_slice());
+            self.cards += 1;
+            if row.count == 31 {
+                self.pile.clear();
+            }
+        }
         if u16::from(row.points) > points_of(&reasons) {
             reasons.push(PlayReason::Go);
-            self.pile.clear();
-        }
-        reasons
-    }
-
-    // Makes a move, and returns why it counts points. For a card, `count` is the count with it. A close below 31 is
-    // left to the caller.
-    fn make(&mut self, what: Move, count: u8) -> PlayReasons
-        requires pile { length self.old.pile.items < 32 }
-        requires cards { self.old.cards < 32 }
-        ensures reasons { result.items ≡ move_reasons self.old what count }
-        ensures few { length result.items ≤ 5 }
-        ensures pile { self.new.pile.items ≡ move_pile self.old what count }
-        ensures cards { self.new.cards ≡ cards_with self.old.cards what }
-    {
-        let Move::Card(card) = what else {
-            return PlayReasons::new();
-        };
-        self.pile.push(card.rank());
-        let reasons = card_reasons(self.cards, count, self.pile.as_slice());
-        self.cards += 1;
-        if count == 31 {
             self.pile.clear();
         }
         reasons

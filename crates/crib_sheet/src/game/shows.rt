@@ -1,18 +1,18 @@
 //! What counts in a hand and in the crib, with its cards.
-ghost use Rattle.std.specs.Prelude.{◌≡◌, ◌+◌, ◌^◌, ◌≤◌, ◌==◌, ◌&&◌, [], ◌∷◌, ◌++◌, length, map, sum_by};
+ghost use Rattle.std.specs.Prelude.{◌≡◌, ◌+◌, ◌^◌, ◌≤◌, ◌==◌, ◌&&◌, [], ◌∷◌, ◌++◌, length, map, sum_by, if◌then◌else◌};
 ghost use Rattle.crib_cards.specs.Cards.{jack, rank_of, suit_of};
-ghost use Rattle.crib_cards.specs.Sets.{are_distinct};
 ghost use Rattle.crib_cards.specs.Runs.{greatest_rank, is_run, least_rank};
 ghost use Rattle.crib_show.specs.Show as show;
 ghost use Rattle.crib_show.specs.Show.{are_of_suit, is_fifteen, is_full_run, is_pair, is_prolonged};
-ghost use Rattle.crib_sheet.specs.GameShow.{combinations_of, counts_as, crib_combinations, flush_in_crib};
-ghost use Rattle.crib_sheet.specs.GameShow.{flush_in_hand, hand_combinations, jack_among, plain_combinations};
+ghost use Rattle.crib_sheet.specs.GameShow.{counts_as, crib_combinations, flush_in_crib};
+ghost use Rattle.crib_sheet.specs.GameShow.{flush_in_hand, hand_combinations, jack_among};
 ghost use Rattle.crib_sheet.specs.GameShow.{points_of};
 ghost use Rattle.crib_sheet.specs.Private.Chosen.{combinations_from};
 
 use crate::game::combination::{Combination, Kind};
 use arrayvec::ArrayVec;
 use crib_cards::{Card, Rank};
+use crib_play::longest_run;
 
 /// The list of what counts in a hand or a crib. It has room for 32 choices of each kind, a flush and the jack.
 pub type Combinations = ArrayVec<Combination, 98>;
@@ -24,41 +24,36 @@ const JACK: u8 = 11;
 ///
 /// The list has the fifteens first, then the pairs, the runs, the flush, and the jack of the starter's suit. The flush
 /// is of all five cards, or of the four in the hand. The points of the list add up to those of the hand.
-#[tactic(auto, unfolding(crate::specs::GameShow::hand_combinations))]
 pub fn hand_combinations(cards: &[Card; 4], starter: Card) -> Combinations
     ensures listed { result.items ≡ hand_combinations cards.now starter }
     ensures points { sum_by points_of result.items ≡ show.hand_points cards.now starter }
 {
-    let mut found = plain_combinations(cards, starter);
-    put_flush_in_hand(cards, starter, &mut found);
-    put_jack(cards, starter, &mut found);
-    found
+    counted_combinations(false, cards, starter)
 }
 
 /// Returns what counts in a crib: its four cards, counted with the starter.
 ///
 /// The list is that of a hand, but its flush is of all five cards. The points of the list add up to those of the crib.
-#[tactic(auto, unfolding(crate::specs::GameShow::crib_combinations))]
 pub fn crib_combinations(cards: &[Card; 4], starter: Card) -> Combinations
     ensures listed { result.items ≡ crib_combinations cards.now starter }
     ensures points { sum_by points_of result.items ≡ show.crib_points cards.now starter }
 {
-    let mut found = plain_combinations(cards, starter);
-    put_flush_in_crib(cards, starter, &mut found);
-    put_jack(cards, starter, &mut found);
-    found
+    counted_combinations(true, cards, starter)
 }
 
-// Returns the fifteens, pairs and runs among the five cards.
-fn plain_combinations(cards: &[Card; 4], starter: Card) -> Combinations
-    ensures listed { result.items ≡ plain_combinations (cards.now ++ starter ∷ []) }
-    ensures range { length result.items ≤ 96 }
+/// Returns what counts in a crib or in a hand.
+pub(crate) fn counted_combinations(crib: bool, cards: &[Card; 4], starter: Card) -> Combinations
+    ensures { result.items
+        ≡ (if crib then crib_combinations cards.now starter else hand_combinations cards.now starter) }
 {
     let all = with_starter(cards, starter);
+    let ranks = ranks_of(&all);
     let mut found = ArrayVec::new();
-    put_combinations(Kind::Fifteen, &all, &mut found);
-    put_combinations(Kind::Pair, &all, &mut found);
-    put_combinations(Kind::Run, &all, &mut found);
+    put_choices(Kind::Fifteen, ranks.as_slice(), &[], &all, &mut found);
+    put_choices(Kind::Pair, ranks.as_slice(), &[], &all, &mut found);
+    put_choices(Kind::Run, ranks.as_slice(), &[], &all, &mut found);
+    put_flush(crib, cards, starter, &mut found);
+    put_jack(cards, starter, &mut found);
     found
 }
 
@@ -67,17 +62,6 @@ fn with_starter(cards: &[Card; 4], starter: Card) -> [Card; 5]
 {
     let [first, second, third, fourth] = *cards;
     [first, second, third, fourth, starter]
-}
-
-// Appends the combinations of a kind among the five cards.
-#[tactic(auto, using(crate::proofs::ChosenCombinations::from_none))]
-fn put_combinations(kind: Kind, all: &[Card; 5], found: &mut Combinations)
-    requires { length found.old.items ≤ 66 }
-    ensures listed { found.new.items ≡ found.old.items ++ combinations_of kind all.now }
-    ensures range { length found.new.items ≤ length found.old.items + 32 }
-{
-    let ranks = ranks_of(all);
-    put_choices(kind, ranks.as_slice(), &[], all, found);
 }
 
 // Appends the combinations of a kind that have the cards in `taken`, and some of those in `left`.
@@ -90,10 +74,8 @@ fn put_choices(kind: Kind, all: &[Rank], taken: &[Card], left: &[Card], found: &
 {
     let [card, others @ ..] = left else {
         if counts_as(kind, all, ranks_of(taken).as_slice()) {
-            found.push(Combination {
-                kind,
-                cards: list_of(taken),
-            });
+            let cards = list_of(taken);
+            found.push(Combination { kind, cards });
         }
         return;
     };
@@ -147,7 +129,7 @@ fn is_fifteen(ranks: &[Rank]) -> bool
 fn is_pair(ranks: &[Rank]) -> bool
     ensures { result ≡ is_pair ranks.now }
 {
-    ranks.len() == 2 && !are_distinct(ranks)
+    ranks.len() == 2 && ranks[0] == ranks[1]
 }
 
 // Whether some of all the ranks are a run that none of all the ranks prolongs.
@@ -162,8 +144,7 @@ fn is_full_run(all: &[Rank], ranks: &[Rank]) -> bool
 fn is_run(ranks: &[Rank]) -> bool
     ensures { result ≡ is_run ranks.now }
 {
-    let apart = greatest_rank(ranks).saturating_sub(least_rank(ranks));
-    ranks.len() >= 3 && are_distinct(ranks) && usize::from(apart) == ranks.len() - 1
+    longest_run(ranks) == ranks.len().max(3)
 }
 
 // Whether one of all the ranks is just below the least or just above the greatest of some ranks.
@@ -178,9 +159,7 @@ fn is_prolonged(all: &[Rank], ranks: &[Rank]) -> bool
 fn greatest_rank(ranks: &[Rank]) -> u8
     ensures { result ≡ greatest_rank ranks.now }
 {
-    ranks
-        .iter()
-        .fold(0, |greatest, rank| rank.number().max(greatest))
+    ranks.iter().fold(0, |most, rank| rank.number().max(most))
 }
 
 fn least_rank(ranks: &[Rank]) -> u8
@@ -191,51 +170,20 @@ fn least_rank(ranks: &[Rank]) -> u8
         .fold(13, |least, rank| rank.number().min(least))
 }
 
-// Whether all ranks are different.
-fn are_distinct(ranks: &[Rank]) -> bool
-    ensures { result ≡ are_distinct ranks.now }
-{
-    match ranks.split_first() {
-        None => true,
-        Some((first, others)) => !others.contains(first) && are_distinct(others),
-    }
-}
-
-// Appends the flush in a hand: all five cards, or the four in the hand.
-fn put_flush_in_hand(cards: &[Card; 4], starter: Card, found: &mut Combinations)
+// Appends the flush in a hand: all five cards, or the four in the hand. A crib has only the first.
+fn put_flush(crib: bool, hand: &[Card; 4], starter: Card, found: &mut Combinations)
     requires { length found.old.items ≤ 96 }
-    ensures listed { found.new.items ≡ found.old.items ++ flush_in_hand cards.now starter }
+    ensures listed { found.new.items
+        ≡ found.old.items ++ (if crib then flush_in_crib hand.now starter else flush_in_hand hand.now starter) }
     ensures range { length found.new.items ≤ 97 }
 {
-    let hand = cards.as_slice();
-    let first = hand[0];
-    if !are_of_suit(first, &hand[1..]) {
+    let (kind, mut cards) = (Kind::Flush, list_of(hand));
+    if are_of_suit(starter, hand) {
+        cards.push(starter);
+    } else if crib || !are_of_suit(hand[0], hand) {
         return;
     }
-    let mut flush = list_of(hand);
-    if are_suited(starter, first) {
-        flush.push(starter);
-    }
-    found.push(Combination {
-        kind: Kind::Flush,
-        cards: flush,
-    });
-}
-
-// Appends the flush in a crib: all five cards.
-fn put_flush_in_crib(cards: &[Card; 4], starter: Card, found: &mut Combinations)
-    requires { length found.old.items ≤ 96 }
-    ensures listed { found.new.items ≡ found.old.items ++ flush_in_crib cards.now starter }
-    ensures range { length found.new.items ≤ 97 }
-{
-    if are_of_suit(starter, cards) {
-        let mut flush = list_of(cards);
-        flush.push(starter);
-        found.push(Combination {
-            kind: Kind::Flush,
-            cards: flush,
-        });
-    }
+    found.push(Combination { kind, cards });
 }
 
 // Appends the first jack of the starter's suit.
@@ -243,16 +191,12 @@ fn put_jack(cards: &[Card], starter: Card, found: &mut Combinations)
     requires { length found.old.items ≤ 97 }
     ensures { found.new.items ≡ found.old.items ++ jack_among cards.now starter }
 {
-    let [card, others @ ..] = cards else {
-        return;
-    };
-    if is_jack_with(*card, starter) {
-        found.push(Combination {
-            kind: Kind::Jack,
-            cards: list_of(&[*card]),
-        });
-    } else {
-        put_jack(others, starter, found);
+    if let [card, others @ ..] = cards {
+        if !is_jack_with(*card, starter) {
+            return put_jack(others, starter, found);
+        }
+        let (kind, cards) = (Kind::Jack, list_of(&[*card]));
+        found.push(Combination { kind, cards });
     }
 }
 

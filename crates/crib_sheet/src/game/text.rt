@@ -4,7 +4,6 @@ ghost use Rattle.crib_text.specs.Device.{HasFailed};
 ghost use Rattle.crib_game.specs.Replay.{replay_result};
 ghost use Rattle.crib_run.specs.Run.{Sends};
 ghost use Rattle.crib_sheet.specs.GamePlay.{game_reasons};
-ghost use Rattle.crib_sheet.specs.GameText.{dealt_line};
 ghost use Rattle.crib_sheet.specs.GameText.{outcome_text, over_text, reached_line, rows_text, sheet_of};
 ghost use Rattle.crib_sheet.specs.Private.Prints.{Prints};
 
@@ -12,8 +11,8 @@ use super::acts::put_acts;
 use super::counted::put_show;
 use super::reasons::reasons_of;
 use crate::heading::put_heading;
-use crate::page::{Page, Printer, put_cards, put_role};
-use crib_cards::{Dealt, Side};
+use crate::page::{Page, Printer, put_cards, put_role, puts};
+use crib_cards::Side;
 use crib_game::{Game, Report};
 use crib_problem::{Goal, Problem};
 use crib_run::Status;
@@ -52,12 +51,12 @@ pub(crate) fn put_sheet<P: Page>(page: &mut P, problem: &Problem, game: &Game, r
     ensures { Prints (sheet_of problem.now game.now.opp report.now (game_reasons problem.now game.now))
         (P.stand page.old) (P.stand page.new) }
 {
-    put_heading(page, problem);
-    put_dealt(page, problem.dealer(), &game.opp);
-    page.put(b"\n # side   card count you they  points\n");
+    let dealer = problem.dealer();
+    puts!(page: put_heading(problem) b"The " put_role(dealer, Side::Opponent) b" holds" put_cards(&game.opp.hold)
+        b" and threw" put_cards(&game.opp.throw) b".\n" b"\n # side   card count you they  points\n");
     put_rows(page, problem, game, report);
     put_show(page, problem, &game.opp, report.show.as_slice());
-    put_outcome(page, problem.dealer(), problem.goal(), report.over);
+    put_outcome(page, dealer, problem.goal(), report.over);
 }
 
 /// Puts the lines of the acts of a report with their reasons.
@@ -68,27 +67,7 @@ pub(super) fn put_rows<P: Page>(page: &mut P, problem: &Problem, game: &Game, re
 {
     let reasons = reasons_of(report);
     let dealer = problem.dealer();
-    put_acts(
-        page,
-        dealer,
-        1,
-        dealer.other(),
-        report.rows.as_slice(),
-        reasons.as_slice(),
-    );
-}
-
-// Puts the line of the opponent's cards in a deal of this dealer.
-fn put_dealt<P: Page>(page: &mut P, dealer: Side, dealt: &Dealt)
-    ensures { Prints (dealt_line dealer dealt.now) (P.stand page.old) (P.stand page.new) }
-{
-    page.put(b"The ");
-    put_role(page, dealer, Side::Opponent);
-    page.put(b" holds");
-    put_cards(page, &dealt.hold);
-    page.put(b" and threw");
-    put_cards(page, &dealt.throw);
-    page.put(b".\n");
+    puts!(page: put_acts(dealer, 1, dealer.other(), report.rows.as_slice(), reasons.as_slice()));
 }
 
 // Puts the line of the outcome, after an empty line.
@@ -107,11 +86,8 @@ fn put_over<P: Page>(page: &mut P, dealer: Side, goal: Goal, outcome: Outcome)
 {
     match outcome {
         Outcome::Reached => put_reached(page, dealer, goal),
-        Outcome::Lost => {
-            page.put(b"\nThe deal is over: the ");
-            put_role(page, dealer, Side::Opponent);
-            page.put(b" wins.\n");
-        }
+        Outcome::Lost =>
+            puts!(page: b"\nThe deal is over: the " put_role(dealer, Side::Opponent) b" wins.\n"),
         Outcome::Short => page.put(b"\nThe deal is over: you fall short of your goal.\n"),
     }
 }
@@ -122,13 +98,10 @@ fn put_reached<P: Page>(page: &mut P, dealer: Side, goal: Goal)
 {
     match goal {
         Goal::Win => page.put(b"\nThe deal is over: you win.\n"),
-        Goal::Holes(_) => {
-            page.put(b"\nYou have reached your goal; the deal isn't counted further.\n");
-        }
-        Goal::Stop => {
-            page.put(b"\nThe deal is over: you keep the ");
-            put_role(page, dealer, Side::Opponent);
-            page.put(b" from winning.\n");
-        }
+        Goal::Holes(_) =>
+            puts!(page: b"\nYou have reached your goal; the deal isn't counted further.\n"),
+        Goal::Stop =>
+            puts!(page: b"\nThe deal is over: you keep the " put_role(dealer, Side::Opponent)
+            b" from winning.\n"),
     }
 }

@@ -1,49 +1,26 @@
 //! The head of a plan's sheet: the position, and whether the plan is sure.
-ghost use Rattle.std.specs.Prelude.{◌≡◌, ◌≤◌, length, flat_map};
+ghost use Rattle.std.specs.Prelude.{◌≡◌, ◌≤◌, length};
 ghost use Rattle.crib_sheet.specs.GameText.{game_sheet_text};
 ghost use Rattle.crib_sheet.specs.PlanHead.{failing_line, failing_text, game_lines, head_text, sure_text};
-ghost use Rattle.crib_sheet.specs.PlanHead.{turn_line, turn_lines, why_text};
+ghost use Rattle.crib_sheet.specs.PlanHead.{turn_lines, why_text};
 ghost use Rattle.crib_sheet.specs.Private.Prints.{Prints};
-ghost use Rattle.crib_sheet.specs.Private.Puts.{Puts};
 
 use crate::game::put_sheet;
 use crate::heading::put_heading;
-use crate::page::{Page, Printer, put_move, put_role};
+use crate::page::{Page, put_move, put_role};
 use crate::plan::now::put_now;
-use crate::plan::pieces::Cut;
 use crate::plan::stuck::put_stuck;
 use crib_cards::{Act, Side};
 use crib_check::Verdict;
 use crib_game::{Ending, Game, replay};
 use crib_plan::Plan;
 use crib_problem::Problem;
-use crib_text::Sink;
 use std::alloc::Allocator;
 
 /// Puts the head of the sheet of a plan, by the verdict on it. For a plan that is sure this is the position, the turns
 /// that were played already and what they led to, and that the plan is sure. For any other plan it is why the plan is
 /// not sure, and the sheet of the first game in which it fails.
-pub(crate) fn put_head<A: Allocator, W: Sink>(
-    sink: &mut W,
-    problem: &Problem,
-    plan: &Plan<A>,
-    verdict: &Verdict,
-) -> Result<(), Cut>
-    ensures { Puts (head_text problem.now plan.now verdict.now) (W.contents sink.old) (W.contents sink.new)
-        (W.faults sink.old) (W.faults sink.new) result }
-{
-    let mut page = Printer {
-        sink,
-        is_cut: false,
-    };
-    put_verdict(&mut page, problem, plan, verdict);
-    let Printer { sink, is_cut } = page;
-    // The proof reads what the device holds from this use of it.
-    let _ = &*sink;
-    if is_cut { Err(Cut) } else { Ok(()) }
-}
-
-fn put_verdict<A: Allocator, P: Page>(
+pub(crate) fn put_head<A: Allocator, P: Page>(
     page: &mut P,
     problem: &Problem,
     plan: &Plan<A>,
@@ -114,19 +91,12 @@ fn put_turns<P: Page>(page: &mut P, dealer: Side, acts: &[Act])
     ensures { Prints (turn_lines dealer acts.now) (P.stand page.old) (P.stand page.new) }
 {
     for act in acts {
-        put_turn(page, dealer, act);
+        page.put(b"  ");
+        put_role(page, dealer, act.side);
+        page.put(b" ");
+        put_move(page, act.what);
+        page.put(b"\n");
     }
-}
-
-// Puts the line of a turn.
-fn put_turn<P: Page>(page: &mut P, dealer: Side, act: &Act)
-    ensures { Prints (turn_line dealer act.now) (P.stand page.old) (P.stand page.new) }
-{
-    page.put(b"  ");
-    put_role(page, dealer, act.side);
-    page.put(b" ");
-    put_move(page, act.what);
-    page.put(b"\n");
 }
 
 // Returns why a plan is not sure.

@@ -1,9 +1,9 @@
 //! The labels of the lines below a look.
-ghost use Rattle.std.specs.Prelude.{◌≡◌, ◌≤◌, ◌<◌, ◌+◌, ◌*◌, ◌++◌, length, map, max, take, drop};
+ghost use Rattle.std.specs.Prelude.{◌≡◌, ◌≤◌, ◌<◌, ◌+◌, ◌*◌, ◌++◌, length, map, drop};
 ghost use Rattle.std.specs.List.{list_any};
 ghost use Rattle.arrayvec.specs.ArrayVec.{array_vec_len};
 ghost use Rattle.crib_plan.specs.Spelling.{leads_to};
-ghost use Rattle.crib_sheet.specs.PlanText.{range_words, rank_words, label};
+ghost use Rattle.crib_sheet.specs.PlanText.{range_words};
 ghost use Rattle.crib_sheet.specs.PlanText as spec;
 ghost use Rattle.crib_sheet.specs.Private.Pages.{spaced, spaced_label, width_at};
 ghost use Rattle.crib_sheet.specs.Private.Pages as pages;
@@ -27,44 +27,22 @@ pub(crate) fn label_after_space(set: &[bool; 14]) -> SpacedLabel
     ensures len { array_vec_len result ≡ length result.items }
 {
     let mut text = SpacedLabel::new();
-    add_ranks(&mut text, &set[..13]);
+    let ranks = &set[..13];
+    // The neighbouring ranks of the set just before a place.
+    let mut before = 0;
+    for place in 0..13 {
+        if ranks[place] {
+            before += 1;
+        } else {
+            add_range(&mut text, place, before);
+            before = 0;
+        }
+    }
+    add_range(&mut text, 13, before);
     if set[13] {
         add(&mut text, b" go");
     }
     text
-}
-
-// Adds the words of a set of ranks to an empty text.
-fn add_ranks(text: &mut SpacedLabel, ranks: &[bool])
-    requires empty { array_vec_len text.old ≡ 0 }
-    requires thirteen { length ranks.now ≡ 13 }
-    ensures items { text.new.items ≡ spaced (rank_words 0 0 ranks.now) }
-    ensures len { array_vec_len text.new ≤ 26 }
-{
-    let mut before = 0;
-    for place in 0..13 {
-        before = add_rank(text, ranks, place, before);
-    }
-    add_range(text, 13, before);
-}
-
-// Takes one more rank, after some neighbouring ranks before it. Returns how many neighbouring ranks there are then, and
-// adds the words of those before it if it isn't in the set.
-fn add_rank(text: &mut SpacedLabel, ranks: &[bool], place: usize, before: usize) -> usize
-    requires thirteen { length ranks.now ≡ 13 }
-    requires place { place < 13 }
-    requires within { before ≤ place }
-    requires room { array_vec_len text.old + 2 * before ≤ 2 * place }
-    ensures items { text.new.items ++ spaced (rank_words (place + 1) result (drop (place + 1) ranks.now))
-        ≡ text.old.items ++ spaced (rank_words place before (drop place ranks.now)) }
-    ensures within { result ≤ place + 1 }
-    ensures room { array_vec_len text.new + 2 * result ≤ 2 * (place + 1) }
-{
-    if ranks[place] {
-        return before + 1;
-    }
-    add_range(text, place, before);
-    0
 }
 
 // Adds the words of neighbouring ranks, by the place behind the last one and their number.
@@ -75,22 +53,15 @@ fn add_range(text: &mut SpacedLabel, place: usize, before: usize)
     ensures items { text.new.items ≡ text.old.items ++ spaced (range_words place before) }
     ensures len { array_vec_len text.new ≤ array_vec_len text.old + 2 * before }
 {
+    if before == 0 {
+        return;
+    }
+    let first = letter_byte(place - before);
+    let last = letter_byte(place - 1);
     match before {
-        0 => {}
-        1 => add(text, &[b' ', letter_byte(place - 1)]),
-        2 => add(
-            text,
-            &[b' ', letter_byte(place - 2), b' ', letter_byte(place - 1)],
-        ),
-        _ => add(
-            text,
-            &[
-                b' ',
-                letter_byte(place - before),
-                b'-',
-                letter_byte(place - 1),
-            ],
-        ),
+        1 => add(text, &[b' ', last]),
+        2 => add(text, &[b' ', first, b' ', last]),
+        _ => add(text, &[b' ', first, b'-', last]),
     }
 }
 
@@ -128,32 +99,12 @@ pub(crate) fn width_of(branches: &[Next; 14]) -> usize
 {
     let mut width = 0;
     for place in 0..14 {
-        width = wider(width, branches, place);
+        if let Some(node) = new_node(&branches[..place], branches[place]) {
+            let label = label_after_space(&letters_to(node, branches));
+            width = width.max(label.len().saturating_sub(1));
+        }
     }
     width
-}
-
-// Returns a width, or the length of the label of the line that begins with the letter at this place, if that is longer.
-#[tactic(auto, using(crate::proofs::Labels::widths))]
-fn wider(width: usize, branches: &[Next; 14], place: usize) -> usize
-    requires place { place < 14 }
-    requires narrow { width ≤ WIDEST }
-    ensures width { max width (width_at branches.now place) ≡ max result (width_at branches.now (place + 1)) }
-    ensures narrow { result ≤ WIDEST }
-{
-    match new_node(&branches[..place], branches[place]) {
-        Some(node) => width.max(label_len(&letters_to(node, branches))),
-        None => width,
-    }
-}
-
-// The length of the label of a set of letters.
-#[tactic(auto, using(crate::proofs::Labels::columns))]
-fn label_len(set: &[bool; 14]) -> usize
-    ensures len { result ≡ length (label set.now) }
-    ensures narrow { result ≤ WIDEST }
-{
-    without_first(label_after_space(set).as_slice()).len()
 }
 
 /// Returns, for each of the fourteen letters, whether it leads to the node.
@@ -162,7 +113,7 @@ pub(crate) fn letters_to(node: u16, branches: &[Next; 14]) -> [bool; 14]
 {
     let mut set = [false; 14];
     for place in 0..14 {
-        set[place] = leads_to(node, branches[place]);
+        set[place] = branches[place] == Next::To(node);
     }
     set
 }
@@ -187,15 +138,5 @@ pub(crate) fn new_node(before: &[Next], branch: Next) -> Option<u16>
 fn is_led_to(node: u16, branches: &[Next]) -> bool
     ensures { result ≡ list_any (leads_to node) branches.now }
 {
-    branches.iter().any(|branch| leads_to(node, *branch))
-}
-
-// Whether a branch leads to the node.
-fn leads_to(node: u16, branch: Next) -> bool
-    ensures { result ≡ leads_to node branch }
-{
-    match branch {
-        Next::End => false,
-        Next::To(other) => other == node,
-    }
+    branches.iter().any(|branch| *branch == Next::To(node))
 }

@@ -1,5 +1,5 @@
 //! Which nodes of a plan have paragraphs of their own.
-ghost use Rattle.std.specs.Prelude.{◌≡◌, ◌+◌, ◌*◌, ◌≤◌, length, map, IfOk};
+ghost use Rattle.std.specs.Prelude.{◌≡◌, ◌+◌, ◌*◌, ◌≤◌, length, IfOk};
 ghost use Rattle.crib_sheet.specs.PlanBranches.{plan_branches};
 ghost use Rattle.crib_sheet.specs.PlanOutline.{OnlyLargeAreApart, apart_in};
 ghost use Rattle.crib_sheet.specs.PlanSheet.{sheet_with};
@@ -18,15 +18,15 @@ use std::marker::Model;
 /// have one too, though no row names it.
 #[derive(Drop)]
 pub struct Outline<A: Allocator = Global> {
-    pub(crate) flags: Vec<bool, A>,
+    spots: Vec<Spot, A>,
 }
 
 impl<A: Allocator> Model for Outline<A> {
-    ghost use Rattle.std.specs.Prelude.{List, Bool};
+    ghost use Rattle.std.specs.Prelude.{List, Bool, map};
 
     ghost Value = { List Bool };
 
-    ghost view = { λ outline. outline.flags.items };
+    ghost view = { λ outline. map (λ spot. spot.is_apart) outline.spots.items };
 }
 
 impl<A: Allocator + Copy> Outline<A> {
@@ -49,37 +49,19 @@ impl<A: Allocator + Copy> Outline<A> {
             ≤ 76 * (plan_branches plan.now + length plan.now + 1)) }
     {
         let spots = spots_of(alloc, plan.nodes())?;
-        let flags = flags_of(alloc, spots.as_slice())?;
-        Ok(Outline { flags })
+        Ok(Outline { spots })
     }
 }
 
 impl<A: Allocator> Outline<A> {
-    // The entries, one for each node.
-    pub(crate) fn flags(&self) -> &[bool]
-        ensures { result.now ≡ self.now }
+    /// Whether a node has a paragraph of its own.
+    #[tactic(auto, using(crate::proofs::PlanFits::apart_is))]
+    pub(crate) fn is_apart(&self, node: u16) -> bool
+        ensures { result ≡ apart_in self.now node }
     {
-        self.flags.as_slice()
-    }
-}
-
-// For each node, whether it has a paragraph of its own.
-fn flags_of<A: Allocator>(alloc: A, spots: &[Spot]) -> Result<Vec<bool, A>, AllocError>
-    ensures { IfOk result (λ flags. flags.items ≡ map (λ spot. spot.is_apart) spots.now) }
-{
-    let mut flags = Vec::with_capacity(alloc, spots.len())?;
-    for spot in spots {
-        flags.push(spot.is_apart)?;
-    }
-    Ok(flags)
-}
-
-/// Whether a node has a paragraph of its own.
-pub(crate) fn is_apart(flags: &[bool], node: u16) -> bool
-    ensures { result ≡ apart_in flags.now node }
-{
-    match flags.get(node as usize) {
-        Some(flag) => *flag,
-        None => false,
+        match self.spots.get(node as usize) {
+            Some(spot) => spot.is_apart,
+            None => false,
+        }
     }
 }

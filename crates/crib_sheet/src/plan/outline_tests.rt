@@ -1,5 +1,5 @@
 //! The nodes that have paragraphs, of whole plans.
-use crate::plan::outline::{Outline, is_apart};
+use crate::plan::outline::Outline;
 use crate::plan::tests::{DEEP, SHARED, THREE_EIGHTS, plan};
 use refusing_alloc::Refusing;
 use std::alloc::AllocError;
@@ -78,10 +78,9 @@ nodes 6
 fn has_paragraphs(rt: &(impl Abort + AllocGlobal), text: &str, count: u16, numbers: &[u16]) {
     let plan = plan(rt, text);
     let outline = Outline::of(rt.alloc(), &plan).expect(rt, "memory");
-    assert_eq!(rt; outline.flags().len(), count as usize);
     for node in 0..count {
         assert_eq!(rt;
-            is_apart(outline.flags(), node),
+            outline.is_apart(node),
             numbers.contains(&node),
             "node {node}"
         );
@@ -123,11 +122,11 @@ fn what_nothing_leads_to_has_no_paragraph(rt: HostRuntime) {
 #[test]
 fn says_that_memory_ran_out(rt: HostRuntime) {
     let plan = plan(&rt, THREE_EIGHTS);
-    for served in 0..3 {
+    for served in 0..2 {
         let refusing = Refusing::after(rt.alloc(), served);
         assert!(rt; matches!(Outline::of(&refusing, &plan), Err(AllocError)));
     }
-    let enough = Refusing::after(rt.alloc(), 3);
+    let enough = Refusing::after(rt.alloc(), 2);
     assert!(rt; Outline::of(&enough, &plan).is_ok());
     assert!(rt; !enough.has_refused());
 }

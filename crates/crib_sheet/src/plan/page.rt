@@ -1,18 +1,17 @@
 //! The page of a plan, written to a device.
-ghost use Rattle.std.specs.Prelude.{◌≡◌, ◌≤◌, ◌<◌, ◌+◌, ◌++◌, length, codes, decimal};
+ghost use Rattle.std.specs.Prelude.{◌≡◌, ◌++◌};
 ghost use Rattle.crib_text.specs.Device.{HasFailed};
-ghost use Rattle.crib_plan.specs.Nodes.{ArePlan};
 ghost use Rattle.crib_run.specs.Run.{Sends};
 ghost use Rattle.crib_sheet.specs.PlanHead.{head_text};
 ghost use Rattle.crib_sheet.specs.PlanOutline.{apart_in};
-ghost use Rattle.crib_sheet.specs.PlanPage.{end_of_row, is_sure, legend_text, no_card, page_text};
-ghost use Rattle.crib_sheet.specs.PlanSheet.{Over, sheet_with};
-ghost use Rattle.crib_sheet.specs.Private.Pages.{first_text, numbered_text, paragraphs_text};
-ghost use Rattle.crib_sheet.specs.Private.Puts.{Puts, PutsFront};
+ghost use Rattle.crib_sheet.specs.PlanPage.{is_sure, page_text};
+ghost use Rattle.crib_sheet.specs.PlanSheet.{sheet_with};
+ghost use Rattle.crib_sheet.specs.Private.Pages.{first_text, paragraphs_text};
+ghost use Rattle.crib_sheet.specs.Private.Prints.{Prints};
 
+use crate::page::{Page, Printer, put_number};
 use crate::plan::head::put_head;
-use crate::plan::outline::{Outline, is_apart};
-use crate::plan::pieces::{Cut, put_bytes, put_number};
+use crate::plan::outline::Outline;
 use crate::plan::rows::Walk;
 use crib_check::Verdict;
 use crib_plan::{Next, Plan};
@@ -54,14 +53,16 @@ pub fn send_plan_sheet<A: Allocator, B: Allocator, W: Sink>(
       status = status;
     }) (W.contents sink.old) (W.contents sink.new) (HasFailed (W.faults sink.old) (W.faults sink.new)) result }
 {
-    let walk = Walk {
-        nodes: plan.nodes(),
-        flags: outline.flags(),
+    let mut page = Printer {
+        sink,
+        is_cut: false,
     };
-    match put_page(sink, problem, plan, verdict, &walk, is_sure(status)) {
-        Ok(()) => status,
-        Err(_) => Status::Fault,
-    }
+    put_head(&mut page, problem, plan, verdict);
+    put_page(&mut page, &Walk { plan, outline }, is_sure(status));
+    let Printer { sink, is_cut } = page;
+    // The proof reads what the device holds from this use of it.
+    let _ = &*sink;
+    if is_cut { Status::Fault } else { status }
 }
 
 // Whether the status of a sheet says that the plan is sure.
@@ -71,108 +72,42 @@ fn is_sure(status: Status) -> bool
     matches!(status, Status::Yes)
 }
 
-fn put_page<A: Allocator, W: Sink>(
-    sink: &mut W,
-    problem: &Problem,
-    plan: &Plan<A>,
-    verdict: &Verdict,
-    walk: &Walk<'_>,
-    sure: bool,
-) -> Result<(), Cut>
-    requires { ArePlan walk.now.nodes.now }
-    ensures { Puts (head_text problem.now plan.now verdict.now
-        ++ page_text sure (sheet_with (apart_in walk.now.flags.now) walk.now.nodes.now)) (W.contents sink.old)
-        (W.contents sink.new) (W.faults sink.old) (W.faults sink.new) result }
+// Puts the sheet of a plan, and how to read it.
+fn put_page<A: Allocator, B: Allocator, P: Page>(page: &mut P, walk: &Walk<'_, A, B>, sure: bool)
+    ensures { Prints (page_text sure (sheet_with (apart_in walk.now.outline.now) walk.now.plan.now))
+        (P.stand page.old) (P.stand page.new) }
 {
-    put_head(sink, problem, plan, verdict)?;
-    put_first(sink, walk, sure)?;
-    put_paragraphs(sink, walk)?;
-    put_legend(sink, sure)
-}
-
-fn put_legend<W: Sink>(sink: &mut W, sure: bool) -> Result<(), Cut>
-    ensures { Puts (legend_text sure) (W.contents sink.old) (W.contents sink.new) (W.faults sink.old)
-        (W.faults sink.new) result }
-{
-    put_bytes(sink, LEGEND)?;
-    put_bytes(sink, end_of_row(sure))
-}
-
-// Returns what the end of a row means.
-fn end_of_row(sure: bool) -> &'static [u8]
-    ensures text { result.now ≡ end_of_row sure }
-    ensures short { length result.now ≤ 120 }
-{
-    if sure { END_IF_SURE } else { END_OTHERWISE }
+    put_first(page, walk, sure);
+    put_paragraphs(page, walk);
+    page.put(LEGEND);
+    page.put(if sure { END_IF_SURE } else { END_OTHERWISE });
 }
 
 // Puts the row at which the plan starts.
-fn put_first<W: Sink>(sink: &mut W, walk: &Walk<'_>, sure: bool) -> Result<(), Cut>
-    requires { ArePlan walk.now.nodes.now }
-    ensures { Puts (first_text sure walk.now.flags.now walk.now.nodes.now) (W.contents sink.old) (W.contents sink.new)
-        (W.faults sink.old) (W.faults sink.new) result }
+fn put_first<A: Allocator, B: Allocator, P: Page>(page: &mut P, walk: &Walk<'_, A, B>, sure: bool)
+    ensures { Prints (first_text sure walk.now.outline.now walk.now.plan.now) (P.stand page.old) (P.stand page.new) }
 {
-    if walk.nodes.len() == 0 {
-        return put_bytes(sink, no_card(sure));
-    }
-    walk.put_row(sink, 0, Next::To(0))
-}
-
-// Returns the row of a plan without nodes.
-fn no_card(sure: bool) -> &'static [u8]
-    ensures text { result.now ≡ no_card sure Over ++ codes "\n" }
-    ensures short { length result.now ≤ 25 }
-{
-    if sure {
-        b"No card is needed.\n"
+    if walk.plan.nodes().len() != 0 {
+        walk.put_row(page, 0, Next::To(0));
+    } else if sure {
+        page.put(b"No card is needed.\n");
     } else {
-        b"The plan states no card.\n"
+        page.put(b"The plan states no card.\n");
     }
 }
 
-// Puts the paragraphs of the nodes that have one.
-fn put_paragraphs<W: Sink>(sink: &mut W, walk: &Walk<'_>) -> Result<(), Cut>
-    requires { ArePlan walk.now.nodes.now }
-    ensures { Puts (paragraphs_text walk.now.flags.now walk.now.nodes.now 0) (W.contents sink.old) (W.contents sink.new)
-        (W.faults sink.old) (W.faults sink.new) result }
+// Puts the paragraphs of the nodes that have one, each after an empty line and its number.
+fn put_paragraphs<A: Allocator, B: Allocator, P: Page>(page: &mut P, walk: &Walk<'_, A, B>)
+    ensures { Prints (paragraphs_text walk.now.outline.now walk.now.plan.now 0) (P.stand page.old)
+        (P.stand page.new) }
 {
-    for place in 0..walk.nodes.len() {
-        put_paragraph_at(sink, walk, place as u16)?;
+    for place in 0..walk.plan.nodes().len() {
+        let node = place as u16;
+        if walk.outline.is_apart(node) {
+            page.put(b"\n[");
+            put_number(page, node);
+            page.put(b"] ");
+            walk.put_node(page, 0, node);
+        }
     }
-    Ok(())
-}
-
-// Puts the paragraph of a node, if it has one.
-fn put_paragraph_at<W: Sink>(sink: &mut W, walk: &Walk<'_>, node: u16) -> Result<(), Cut>
-    requires plan { ArePlan walk.now.nodes.now }
-    requires there { node < length walk.now.nodes.now }
-    ensures { PutsFront (paragraphs_text walk.now.flags.now walk.now.nodes.now node) (paragraphs_text
-        walk.now.flags.now walk.now.nodes.now (node + 1)) (W.contents sink.old) (W.contents sink.new)
-        (W.faults sink.old) (W.faults sink.new) result }
-{
-    if is_apart(walk.flags, node) {
-        return put_paragraph(sink, walk, node);
-    }
-    Ok(())
-}
-
-// Puts the paragraph of a node.
-fn put_paragraph<W: Sink>(sink: &mut W, walk: &Walk<'_>, node: u16) -> Result<(), Cut>
-    requires plan { ArePlan walk.now.nodes.now }
-    requires there { node < length walk.now.nodes.now }
-    ensures { Puts (numbered_text walk.now.flags.now walk.now.nodes.now node) (W.contents sink.old)
-        (W.contents sink.new) (W.faults sink.old) (W.faults sink.new) result }
-{
-    put_name(sink, node)?;
-    walk.put_node(sink, 0, node)
-}
-
-// Puts an empty line, and the number of a paragraph.
-fn put_name<W: Sink>(sink: &mut W, node: u16) -> Result<(), Cut>
-    ensures { Puts (codes "\n[" ++ (decimal node ++ codes "] ")) (W.contents sink.old) (W.contents sink.new)
-        (W.faults sink.old) (W.faults sink.new) result }
-{
-    put_bytes(sink, b"\n[")?;
-    put_number(sink, node)?;
-    put_bytes(sink, b"] ")
 }

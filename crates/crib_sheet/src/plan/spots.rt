@@ -1,10 +1,9 @@
 //! What is known of the nodes of a plan while paragraphs are chosen.
 ghost use Rattle.std.specs.Prelude.{◌≡◌, ◌≤◌, true, false, length, IfOk};
 ghost use Rattle.crib_plan.specs.Nodes.{ArePlan};
-ghost use Rattle.crib_sheet.specs.Private.Spots.{AreLow, AreSized, IsBroken, IsWhole};
-ghost use Rattle.crib_sheet.specs.Private.Spots.{is_first_apart, node_cards, node_levels};
+ghost use Rattle.crib_sheet.specs.Private.Spots.{AreLow, AreSized, IsBroken, IsWhole, cards_at, is_first_apart};
+ghost use Rattle.crib_sheet.specs.Private.Spots.{levels_at, node_cards, node_levels};
 ghost use Rattle.crib_sheet.specs.Private.Spots as spec;
-ghost use Rattle.crib_sheet.specs.Private.Ways.{AreCounted};
 
 use crate::plan::ways::ways_of;
 use crib_plan::{Next, Node};
@@ -25,7 +24,15 @@ pub(crate) struct Spot {
     cards: u8,
 }
 
+// What is known at first. It is also what is known of the end.
+const UNKNOWN: Spot = Spot {
+    is_apart: false,
+    levels: 0,
+    cards: 0,
+};
+
 /// Returns what is known of each node of a plan. Fails if an allocation fails.
+#[tactic(auto, using(crate::proofs::PlanSpots::low_unknown, crate::proofs::PlanSpots::first_unknown, crate::proofs::PlanSpots::none_sized))]
 pub(crate) fn spots_of<A: Allocator + Copy>(
     alloc: A,
     nodes: &[Node],
@@ -37,47 +44,15 @@ pub(crate) fn spots_of<A: Allocator + Copy>(
     ensures first { IfOk result (λ spots. is_first_apart spots.items ≡ false) }
 {
     let ways = ways_of(alloc, nodes)?;
-    let mut spots = new_spots(alloc, nodes.len())?;
-    break_rows(&mut spots, ways.as_slice(), nodes);
-    Ok(spots)
-}
-
-// Entries of nodes of which nothing is known yet.
-#[tactic(auto, using(crate::proofs::PlanSpots::low_none, crate::proofs::PlanSpots::low_push, crate::proofs::PlanSpots::first_push))]
-fn new_spots<A: Allocator>(alloc: A, count: usize) -> Result<Vec<Spot, A>, AllocError>
-    ensures length { IfOk result (λ spots. length spots.items ≡ count) }
-    ensures low { IfOk result (λ spots. AreLow spots.items) }
-    ensures first { IfOk result (λ spots. is_first_apart spots.items ≡ false) }
-{
-    let mut spots = Vec::with_capacity(alloc, count)?;
-    for _place in 0..count {
-        spots.push(Spot {
-            is_apart: false,
-            levels: 0,
-            cards: 0,
-        })?;
-    }
-    Ok(spots)
-}
-
-// Gives paragraphs to the nodes whose rows are too large, from the last node on.
-fn break_rows(spots: &mut [Spot], ways: &[u8], nodes: &[Node])
-    requires plan { ArePlan nodes.now }
-    requires length { length spots.old ≡ length nodes.now }
-    requires low { AreLow spots.old }
-    requires ways { length ways.now ≡ length nodes.now }
-    requires counted { AreCounted nodes.now ways.now }
-    ensures length { length spots.new ≡ length spots.old }
-    ensures low { AreLow spots.new }
-    ensures sized { AreSized 1 nodes.now spots.new }
-    ensures first { is_first_apart spots.new ≡ is_first_apart spots.old }
-{
+    let mut spots = vec![in alloc; UNKNOWN; nodes.len()]?;
+    // A node leads only to later ones, so the last is settled first.
     let mut place = nodes.len();
     while place > 1 {
         place -= 1;
-        let spot = settled(spots, ways[place], &nodes[place]);
+        let spot = settled(spots.as_slice(), ways[place], &nodes[place]);
         spots[place] = spot;
     }
+    Ok(spots)
 }
 
 // What is known of a node to which so many ways lead, from the nodes after it.
@@ -87,41 +62,33 @@ fn settled(spots: &[Spot], ways: u8, node: &Node) -> Spot
     ensures whole { result.is_apart ≡ false → IsWhole spots.now result.levels result.cards ways node.now }
     ensures broken { result.is_apart ≡ true → IsBroken spots.now result.levels result.cards ways node.now }
 {
-    let levels = levels_of(spots, node);
-    let cards = cards_of(spots, node);
-    if levels > DEEPEST || cards > LONGEST || (levels > 0 && ways > 1) {
+    let spot = in_place(spots, node);
+    if spot.levels > DEEPEST || spot.cards > LONGEST || (spot.levels > 0 && ways > 1) {
         return Spot {
             is_apart: true,
-            levels: 0,
-            cards: 0,
+            ..UNKNOWN
         };
     }
-    Spot {
-        is_apart: false,
-        levels,
-        cards,
-    }
+    spot
 }
 
-// The levels of lines in the row of a node.
-fn levels_of(spots: &[Spot], node: &Node) -> u8
+// What is known of a node if it has no paragraph.
+fn in_place(spots: &[Spot], node: &Node) -> Spot
     requires { AreLow spots.now }
-    ensures { result ≡ node_levels spots.now node.now }
+    ensures inline { result.is_apart ≡ false }
+    ensures levels { result.levels ≡ node_levels spots.now node.now }
+    ensures cards { result.cards ≡ node_cards spots.now node.now }
 {
     match node {
-        Node::Play { card: _, next } => levels_at(spots, *next),
-        Node::See { next } => most_levels(spots, next) + 1,
-    }
-}
-
-// The cards with which the row of a node begins.
-fn cards_of(spots: &[Spot], node: &Node) -> u8
-    requires { AreLow spots.now }
-    ensures { result ≡ node_cards spots.now node.now }
-{
-    match node {
-        Node::Play { card: _, next } => cards_at(spots, *next) + 1,
-        Node::See { next: _ } => 0,
+        Node::Play { card: _, next } => Spot {
+            is_apart: false,
+            levels: spot_at(spots, *next).levels,
+            cards: spot_at(spots, *next).cards + 1,
+        },
+        Node::See { next } => Spot {
+            levels: most_levels(spots, next) + 1,
+            ..UNKNOWN
+        },
     }
 }
 
@@ -133,32 +100,22 @@ fn most_levels(spots: &[Spot], places: &[Next]) -> u8
 {
     match places {
         [] => 0,
-        [first, others @ ..] => levels_at(spots, *first).max(most_levels(spots, others)),
+        [first, others @ ..] => spot_at(spots, *first)
+            .levels
+            .max(most_levels(spots, others)),
     }
 }
 
-// The levels of lines with which a row goes on at a place.
-fn levels_at(spots: &[Spot], place: Next) -> u8
-    ensures { result ≡ spec.levels_at spots.now place }
+// What is known of a place.
+fn spot_at(spots: &[Spot], place: Next) -> Spot
+    ensures levels { result.levels ≡ levels_at spots.now place }
+    ensures cards { result.cards ≡ cards_at spots.now place }
 {
     match place {
-        Next::End => 0,
+        Next::End => UNKNOWN,
         Next::To(node) => match spots.get(node as usize) {
-            Some(spot) => spot.levels,
-            None => 0,
-        },
-    }
-}
-
-// The cards with which a row goes on at a place.
-fn cards_at(spots: &[Spot], place: Next) -> u8
-    ensures { result ≡ spec.cards_at spots.now place }
-{
-    match place {
-        Next::End => 0,
-        Next::To(node) => match spots.get(node as usize) {
-            Some(spot) => spot.cards,
-            None => 0,
+            Some(spot) => *spot,
+            None => UNKNOWN,
         },
     }
 }

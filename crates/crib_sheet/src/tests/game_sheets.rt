@@ -1,5 +1,5 @@
 //! Whole sheets of games.
-use crate::game::put_acts_before;
+use crate::game::put_before;
 use crate::page::Printer;
 use crate::tests::{played, sheet};
 use crib_game::{GameFault, replay};
@@ -198,7 +198,7 @@ fn writes_the_acts_before_a_refusal(rt: HostRuntime) {
             sink: &mut sink,
             is_cut: false,
         };
-        put_acts_before(&mut page, &problem, &game, fault);
+        put_before(&mut page, &problem, &game, fault);
         assert_eq!(rt;
             sink.into_inner().into_bytes().as_slice(),
             wanted.as_bytes()

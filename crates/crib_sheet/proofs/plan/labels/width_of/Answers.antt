@@ -1,6 +1,34 @@
-use Rattle.std.proofs.Common.{arith}
-use Rattle.crib_sheet.proofs.Labels.{width_end}
+use Rattle.std.proofs.Common.{◌≡◌, ℕ, ◌-◌, ◌<◌, ◌∙◌, length, map, max, ap, arith, rules, sym}
+use Rattle.crib_plan.specs.Spelling.{leads_to}
+use Rattle.crib_sheet.specs.PlanText.{label}
+use Rattle.crib_sheet.specs.Private.Pages.{spaced_label}
+use Rattle.crib_sheet.proofs.Labels.{label_size, wider, width_none, width_end}
 use Rattle.crib_sheet.proofs.plan.labels.width_of.Goals as goal
+use Rattle.crib_sheet.proofs.plan.labels.width_of.Goals.{in-Some, in_default}
+
+pub loop-place-preserved : goal.loop-place-preserved
+loop-place-preserved c =
+    let all = c.args.branches.now in
+    let inside : c.loop-place.place < length all = omega (arith, c.told-branches, c.loop-place-test.true) in
+    elim c.match-new_node.branch [
+      | in-Some w ↦
+          (let written = w.label_after_space-label.result.items in
+          let size : w.saturating_sub.result ≡ length (label (map (leads_to w.in-Some.node) all)) =
+          w.saturating_sub.ensures ∙ ap (λ (k : ℕ). k - 1) (w.len.ensures.value ∙ w.label_after_space-label.ensures.len)
+          ∙ label_size (map (leads_to w.in-Some.node) all) written (w.label_after_space-label.ensures.items ∙ ap spaced_label w.letters_to.ensures)
+          in
+          let greatest : w.max-width.result ≡ max c.loop-place.width w.saturating_sub.result = search rules in
+          rw w.width-is (record {
+            width = wider all c.loop-place.place w.in-Some.node c.loop-place.width w.max-width.result w.saturating_sub.result _ inside
+                (sym c.new_node.ensures ∙ w.in-Some.is) size greatest c.loop-place.invariant.width;
+            narrow = omega (arith, greatest, c.loop-place.invariant.narrow, w.saturating_sub.ensures, w.len.ensures.value, w.len.ensures.fits);
+          }))
+      | in_default w ↦ rw w.width-is (record {
+        width = ap (λ (n : ℕ). max c.loop-place.width n)
+            (sym (width_none all c.loop-place.place _ inside (sym c.new_node.ensures ∙ w.in_default.is))) ∙ c.loop-place.invariant.width;
+        narrow = c.loop-place.invariant.narrow;
+      })
+    ]
 
 pub returns-clause-width : goal.returns-clause-width
 returns-clause-width c =

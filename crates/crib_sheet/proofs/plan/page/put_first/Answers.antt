@@ -1,11 +1,24 @@
-use Rattle.std.proofs.Common.{◌∙◌, arith}
-use Rattle.crib_sheet.proofs.PutLemmas.{put_as}
+use Rattle.std.proofs.Common.{◌≡◌, ◌∙◌, ◌++◌, Bool, List, ap, sym, arith, codes, length}
+use Rattle.crib_plan.specs.declared.plan.Node.{Node}
+use Rattle.crib_sheet.specs.PlanPage.{no_card}
+use Rattle.crib_sheet.specs.PlanSheet.{Over}
+use Rattle.crib_sheet.proofs.Printing.{as_text}
 use Rattle.crib_sheet.proofs.PutRows.{first_of_none, first_of_some}
 use Rattle.crib_sheet.proofs.plan.page.put_first.Goals as goal
 
-pub returns-then-walk-eq0 : goal.returns-then-walk-eq0
-returns-then-walk-eq0 g c = put_as _ _ _ _ _ _ _
-    (c.no_card.ensures.text ∙ first_of_none c.args.sure c.args.walk.now.flags.now c.args.walk.now.nodes.now (omega arith)) c.put_bytes.ensures
+pub returns-then-nodes-ne0 : goal.returns-then-nodes-ne0
+returns-then-nodes-ne0 g c =
+    let same = ap (λ (nodes : List Node). length nodes) c.nodes.ensures.nodes in
+    as_text c.put_row.ensures (first_of_some c.args.sure c.args.walk.now.outline.now c.args.walk.now.plan.now c.nodes.ensures.sound (omega (arith, same)))
 
-pub returns : goal.returns
-returns g c = put_as _ _ _ _ _ _ _ (first_of_some c.args.sure c.args.walk.now.flags.now c.args.walk.now.nodes.now c.requires (omega arith)) c.put_row.ensures
+pub returns-then-sure : goal.returns-then-sure
+returns-then-sure g c =
+    let same = ap (λ (nodes : List Node). length nodes) c.nodes.ensures.nodes in
+    as_text c.put.ensures (ap (λ (sure : Bool). no_card sure Over ++ codes "\n") (sym c.if-sure.true)
+    ∙ first_of_none c.args.sure c.args.walk.now.outline.now c.args.walk.now.plan.now (omega (arith, same)))
+
+pub returns-else-sure : goal.returns-else-sure
+returns-else-sure g c =
+    let same = ap (λ (nodes : List Node). length nodes) c.nodes.ensures.nodes in
+    as_text c.put-else-sure.ensures (ap (λ (sure : Bool). no_card sure Over ++ codes "\n") (sym c.if-sure.false)
+    ∙ first_of_none c.args.sure c.args.walk.now.outline.now c.args.walk.now.plan.now (omega (arith, same)))

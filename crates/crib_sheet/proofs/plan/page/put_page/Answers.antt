@@ -1,31 +1,17 @@
-use Rattle.std.proofs.Common.{ℕ, List, ◌++◌, sym, ap}
-use Rattle.crib_sheet.specs.PlanHead.{head_text}
-use Rattle.crib_sheet.proofs.PutLemmas.{put_as, put_cut, put_more}
-use Rattle.crib_sheet.proofs.PlanRows.{page_is}
+use Rattle.std.proofs.Common.{◌≡◌, refl}
+use Rattle.crib_sheet.specs.PlanPage.{end_of_row}
+use Rattle.crib_sheet.proofs.Printing.{as_text, more}
+use Rattle.crib_sheet.proofs.PutRows.{page_from}
 use Rattle.crib_sheet.proofs.plan.page.put_page.Goals as goal
-
-pub returns-in_err-put_head : goal.returns-in_err-put_head
-returns-in_err-put_head g c = put_cut _ _ _ _ _ _ _ _ c.from_residual.result c.from_residual.ensures.1 c.in_err-put_head.ensures
-
-pub returns-in_err-put_first : goal.returns-in_err-put_first
-returns-in_err-put_first g c =
-    put_as _ _ _ _ _ _ _ (ap (λ (bytes : List ℕ). head_text c.args.problem.now c.args.plan.now c.args.verdict.now ++ bytes)
-    (sym (page_is c.args.sure c.args.walk.now.flags.now c.args.walk.now.nodes.now)))
-    (put_more _ _ _ _ _ _ _ _ _ _ c.in_ok-put_head.ensures
-    (put_cut _ _ _ _ _ _ _ _ c.from_residual-in_err-put_first.result c.from_residual-in_err-put_first.ensures.1 c.in_err-put_first.ensures))
-
-pub returns-in_err-put_paragraphs : goal.returns-in_err-put_paragraphs
-returns-in_err-put_paragraphs g c =
-    put_as _ _ _ _ _ _ _ (ap (λ (bytes : List ℕ). head_text c.args.problem.now c.args.plan.now c.args.verdict.now ++ bytes)
-    (sym (page_is c.args.sure c.args.walk.now.flags.now c.args.walk.now.nodes.now)))
-    (put_more _ _ _ _ _ _ _ _ _ _ c.in_ok-put_head.ensures
-    (put_more _ _ _ _ _ _ _ _ _ _ c.in_ok-put_first.ensures
-    (put_cut _ _ _ _ _ _ _ _ c.from_residual-in_err-put_paragraphs.result c.from_residual-in_err-put_paragraphs.ensures.1
-    c.in_err-put_paragraphs.ensures)))
+use Rattle.crib_sheet.proofs.plan.page.put_page.Goals.{then-sure, else-sure}
 
 pub returns : goal.returns
 returns g c =
-    put_as _ _ _ _ _ _ _ (ap (λ (bytes : List ℕ). head_text c.args.problem.now c.args.plan.now c.args.verdict.now ++ bytes)
-    (sym (page_is c.args.sure c.args.walk.now.flags.now c.args.walk.now.nodes.now)))
-    (put_more _ _ _ _ _ _ _ _ _ _ c.in_ok-put_head.ensures
-    (put_more _ _ _ _ _ _ _ _ _ _ c.in_ok-put_first.ensures (put_more _ _ _ _ _ _ _ _ _ _ c.in_ok-put_paragraphs.ensures c.put_legend.ensures)))
+    let end : c.if-sure.put.now ≡ end_of_row c.args.sure =
+    elim c.if-sure.branch [
+      | then-sure w ↦ rw (w.put-is, w.if-sure.true) refl
+      | else-sure w ↦ rw (w.put-is, w.if-sure.false) refl
+    ]
+    in
+    as_text (more (more (more c.put_first.ensures c.put_paragraphs.ensures) c.put.ensures) c.put-2.ensures)
+    (page_from c.args.sure c.args.walk.now.outline.now c.args.walk.now.plan.now c.if-sure.put.now end)

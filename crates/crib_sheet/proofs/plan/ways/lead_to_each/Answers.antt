@@ -1,16 +1,43 @@
-use Rattle.std.proofs.Common.{◌∙◌, arith}
+use Rattle.std.proofs.Common.{◌≡◌, ◌+◌, ◌<◌, ◌∙◌, length, min, get_or, take, set, sym, arith, rules}
+use Rattle.std.proofs.lemmas.List.{length-set}
 use Rattle.crib_sheet.specs.Private.Ways.{ways_in}
-use Rattle.crib_sheet.proofs.PlanWays.{next_letter, all_letters}
+use Rattle.crib_sheet.proofs.PlanWays.{next_letter, all_letters, one_way, no_entry, no_way}
 use Rattle.crib_sheet.proofs.plan.ways.lead_to_each.Goals as goal
+use Rattle.crib_sheet.proofs.plan.ways.lead_to_each.Goals.{in-Some+then-node-ways, in-Some+else-node-ways, in_default}
 
 pub loop-letter-preserved : goal.loop-letter-preserved
-loop-letter-preserved c = (
-  c.lead_to.ensures.length ∙ c.loop-letter.invariant.0,
-  λ number.
-      c.lead_to.ensures.ways number
-      ∙ next_letter (ways_in c.args.ways.now number) (ways_in c.loop-letter.ways number) c.args.places.now c.loop-letter.letter number
-      (omega (arith, c.loop-letter-test.true)) (c.loop-letter.invariant.1 number),
-)
+loop-letter-preserved c =
+    let inv = c.loop-letter.invariant in
+    let ways = c.loop-letter.ways in
+    let places = c.args.places.now in
+    let letter = c.loop-letter.letter in
+    elim c.match-new_node.branch [
+      | in-Some+then-node-ways w ↦
+          (let found = sym c.new_node.ensures ∙ w.in-Some.is in
+          let counted : w.min.result ≡ min 2 (get_or ways w.in-Some.node 0 + 1) = search rules in
+          rw w.ways-is (
+            length-set ways w.in-Some.node w.min.result ∙ inv.0,
+            λ number.
+                one_way ways (take letter places) _ w.in-Some.node w.min.result 0 w.if-node-ways.true found counted number
+                ∙ next_letter (ways_in c.args.ways.now number) (ways_in ways number) places letter number c.loop-letter-test.true (inv.1 number),
+          ))
+      | in-Some+else-node-ways w ↦
+          (let found = sym c.new_node.ensures ∙ w.in-Some.is in
+          rw w.ways-is (
+            inv.0,
+            λ number.
+                no_entry ways (take letter places) _ w.in-Some.node (omega (arith, w.if-node-ways.false)) found number
+                ∙ next_letter (ways_in c.args.ways.now number) (ways_in ways number) places letter number c.loop-letter-test.true (inv.1 number),
+          ))
+      | in_default w ↦
+          (let none = sym c.new_node.ensures ∙ w.in_default.is in
+          rw w.ways-is (
+            inv.0,
+            λ number.
+                no_way ways (take letter places) _ none number
+                ∙ next_letter (ways_in c.args.ways.now number) (ways_in ways number) places letter number c.loop-letter-test.true (inv.1 number),
+          ))
+    ]
 
 pub returns-clause-ways : goal.returns-clause-ways
 returns-clause-ways c number =

@@ -6,18 +6,15 @@ use Rattle.crib_sheet.proofs.plan.outline.Outline.of.Goals as goal
 
 pub returns-clause-apart : goal.returns-clause-apart
 returns-clause-apart g c =
-    outline_apart c.in_ok-flags.flags.items c.in_ok-spots.spots.items c.as_slice.result.now c.args.plan.now c.nodes.result.now
-    c.in_ok-flags.ensures c.as_slice.ensures.value c.nodes.ensures.nodes c.in_ok-spots.ensures.length
+    outline_apart c.in_ok-spots.spots.items c.args.plan.now c.nodes.result.now c.nodes.ensures.nodes c.in_ok-spots.ensures.length
     (subst ArePlan (sym c.nodes.ensures.nodes) c.nodes.ensures.sound) c.in_ok-spots.ensures.sized c.in_ok-spots.ensures.first
 
 pub returns-clause-narrow : goal.returns-clause-narrow
 returns-clause-narrow g c =
-    outline_narrow c.in_ok-flags.flags.items c.in_ok-spots.spots.items c.as_slice.result.now c.args.plan.now c.nodes.result.now
-    c.in_ok-flags.ensures c.as_slice.ensures.value c.nodes.ensures.nodes c.in_ok-spots.ensures.length
+    outline_narrow c.in_ok-spots.spots.items c.args.plan.now c.nodes.result.now c.nodes.ensures.nodes c.in_ok-spots.ensures.length
     (subst ArePlan (sym c.nodes.ensures.nodes) c.nodes.ensures.sound) c.in_ok-spots.ensures.low c.in_ok-spots.ensures.sized
 
 pub returns-clause-size : goal.returns-clause-size
 returns-clause-size g c =
-    outline_text c.in_ok-flags.flags.items c.in_ok-spots.spots.items c.as_slice.result.now c.args.plan.now c.nodes.result.now
-    c.in_ok-flags.ensures c.as_slice.ensures.value c.nodes.ensures.nodes c.in_ok-spots.ensures.length
+    outline_text c.in_ok-spots.spots.items c.args.plan.now c.nodes.result.now c.nodes.ensures.nodes c.in_ok-spots.ensures.length
     (subst ArePlan (sym c.nodes.ensures.nodes) c.nodes.ensures.sound) c.in_ok-spots.ensures.low c.in_ok-spots.ensures.sized

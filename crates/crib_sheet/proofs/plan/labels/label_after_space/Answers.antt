@@ -1,0 +1,58 @@
+use Rattle.std.proofs.Common.{◌≡◌, ◌∙◌, ◌+◌, ◌<◌, ◌++◌, ◌∷◌, List, ℕ, Bool, drop, take, length, ap, sym, append_assoc, arith}
+use Rattle.std.proofs.lemmas.Grind.{flat_map-append}
+use Rattle.crib_text.specs.Spelling.{space}
+use Rattle.crib_sheet.specs.PlanText.{range_words, rank_words}
+use Rattle.crib_sheet.specs.Private.Pages.{spaced}
+use Rattle.crib_sheet.proofs.Labels.{ranks_in, ranks_out, ranks_end, thirteen, with_go, without_go}
+use Rattle.crib_sheet.proofs.plan.labels.label_after_space.Goals as goal
+use Rattle.crib_sheet.proofs.plan.labels.label_after_space.Goals.{then-ranks-place, else-ranks-place}
+
+pub loop-place-preserved : goal.loop-place-preserved
+loop-place-preserved c =
+    let place : ℕ = c.loop-place.place in
+    let before : ℕ = c.loop-place.before in
+    let ranks : List Bool = take 13 c.args.set.now in
+    let inside : place < length ranks = omega (arith, thirteen c.args.set.now c.told-set, c.loop-place-test.true) in
+    elim c.if-ranks-place.branch [
+      | then-ranks-place w ↦ rw (w.text-is, w.before-is) (record {
+        items = ap (λ (words : List (List ℕ)). c.loop-place.text.items ++ spaced words)
+            (sym (ranks_in ranks place before _ inside w.if-ranks-place.true)) ∙ c.loop-place.invariant.items;
+        within = omega (arith, c.loop-place.invariant.within);
+        len = omega (arith, c.loop-place.invariant.len);
+      })
+      | else-ranks-place w ↦
+          (let words : List (List ℕ) = range_words place before in
+          let rest : List (List ℕ) = rank_words (place + 1) 0 (drop (place + 1) ranks) in
+          rw (w.text-is, w.before-is) (record {
+            items = ap (λ (items : List ℕ). items ++ spaced rest) w.add_range.ensures.items
+                ∙ append_assoc c.loop-place.text.items (spaced words) (spaced rest)
+                ∙ ap (λ (more : List ℕ). c.loop-place.text.items ++ more) (sym (flat_map-append (λ (word : List ℕ). space ∷ word) words rest))
+                ∙ ap (λ (all : List (List ℕ)). c.loop-place.text.items ++ spaced all)
+                (sym (ranks_out ranks place before _ inside w.if-ranks-place.false))
+                ∙ c.loop-place.invariant.items;
+            within = omega arith;
+            len = omega (arith, w.add_range.ensures.len, c.loop-place.invariant.len);
+          }))
+    ]
+
+pub returns-then-set-offset13-clause-items : goal.returns-then-set-offset13-clause-items
+returns-then-set-offset13-clause-items c =
+    let ranks : List Bool = take 13 c.args.set.now in
+    let words : c.add_range-2.new.text.items ≡ spaced (rank_words 0 0 ranks) =
+    c.add_range-2.ensures.items
+    ∙ ap (λ (words : List (List ℕ)). c.loop-place.text.items ++ spaced words)
+    (sym (ranks_end ranks c.loop-place.place c.loop-place.before (omega arith) (thirteen c.args.set.now c.told-set)))
+    ∙ c.loop-place.invariant.items
+    in
+    c.add.ensures.items ∙ with_go c.args.set.now _ c.add_range-2.new.text.items c.told-set c.if-set-offset13.true words
+
+pub returns-else-set-offset13-clause-items : goal.returns-else-set-offset13-clause-items
+returns-else-set-offset13-clause-items c =
+    let ranks : List Bool = take 13 c.args.set.now in
+    let words : c.add_range-2.new.text.items ≡ spaced (rank_words 0 0 ranks) =
+    c.add_range-2.ensures.items
+    ∙ ap (λ (words : List (List ℕ)). c.loop-place.text.items ++ spaced words)
+    (sym (ranks_end ranks c.loop-place.place c.loop-place.before (omega arith) (thirteen c.args.set.now c.told-set)))
+    ∙ c.loop-place.invariant.items
+    in
+    without_go c.args.set.now _ c.add_range-2.new.text.items c.told-set c.if-set-offset13.false words

@@ -1,4 +1,5 @@
-//! Tests of the words of a program that reads any name, and of the status of words that name no command.
+//! Tests of the words of a program that reads any name, of the tip for a slip, and of the status of words that name no
+//! command.
 ghost use Rattle.std.specs.Prelude.{◌≡◌, [], ◌∷◌, Ok, codes, length};
 ghost use Rattle.crib_command.specs.Command.{commands_of};
 
@@ -8,6 +9,7 @@ use crib_run::Status;
 use std::alloc::Global;
 use std::io;
 use std::str::FromStr;
+use std::test::Fail;
 
 // A command by the length of its name, so that every name is read.
 #[derive(Clone, Copy, Debug, PartialEq, Eq)]
@@ -71,6 +73,38 @@ fn reads_the_words(rt: HostRuntime) {
         letters_of(alloc, &["cards"]),
         Err(ErrorKind::MissingRequiredArgument)
     );
+}
+
+// Only a slip of the name of a command gets a tip. It has one letter too many, one too few or a wrong one, or two that
+// are swapped.
+#[test]
+fn has_a_tip_for_a_slip(rt: HostRuntime) -> Result<(), Fail> {
+    let alloc = rt.alloc();
+    for (word, tip) in [
+        ("dael", Some("deal")),
+        ("dea", Some("deal")),
+        ("PEGS", Some("peg")),
+        ("pog", Some("peg")),
+        ("deeel", None),
+        ("hand", None),
+        ("peg.txt", None),
+        ("", None),
+    ] {
+        for words in [["cards", word, "--"], ["cards", "--", word]] {
+            let refusal = command_of::<Letters, &str>(alloc, &program(), &words).expect_err(
+                &rt,
+                "a refusal",
+            );
+            let text = format!(in alloc; "{refusal}")?;
+            assert!(rt; text.contains("[possible values: deal, peg]"));
+            let wanted = match tip {
+                Some(name) => format!(in alloc; "tip: a similar value exists: '{name}'")?,
+                None => format!(in alloc; "[possible values: deal, peg]\n\nUsage: cards")?,
+            };
+            assert!(rt; text.contains(wanted.as_str()), "{text}");
+        }
+    }
+    Ok(())
 }
 
 #[test]

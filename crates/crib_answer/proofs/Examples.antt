@@ -31,6 +31,7 @@ use Rattle.crib_answer.specs.Input.{board_of_input, ending_of_input, report_of_i
 use Rattle.crib_answer.specs.Laws.{IsAccepted, outcome_with}
 use Rattle.crib_input.specs.Input.{most_bytes, problem_of_input, question_of_input}
 use Rattle.crib_input.specs.Spelled.{SpellsProblem, SpellsPlan}
+use Rattle.crib_input.proofs.EmptyExamples.{no_plan_in_nothing, no_problem_in_nothing}
 use Rattle.crib_check.specs.Failing.{IsFirstFailing}
 use Rattle.crib_answer.specs.Meaning.{HasFailingPlan, HasSurePlan, HasSomePlan, IsSolvedBy, HasNoPlan}
 use Rattle.crib_answer.specs.Meaning.{CheckMeans, SolveMeans, StatusMeans, holds_line, fails_line, none_line}
@@ -39,8 +40,8 @@ use Rattle.crib_answer.specs.Meaning.{CheckMeans, SolveMeans, StatusMeans, holds
 pub names_in_order : job_names ≡ codes "check" ∷ codes "solve" ∷ codes "replay" ∷ codes "board" ∷ codes "follow" ∷ []
 names_in_order = refl
 
-pub jobs_by_name : map job_called (codes "check" ∷ codes "solve" ∷ codes "replay" ∷ codes "board" ∷ codes "follow" ∷ codes "Check" ∷ [])
-    ≡ Ok Check ∷ Ok Solve ∷ Ok Replay ∷ Ok Board ∷ Ok Follow ∷ Err (record {}) ∷ []
+pub jobs_by_name : map job_called (codes "check" ∷ codes "solve" ∷ codes "replay" ∷ codes "board" ∷ codes "follow" ∷ codes "Check" ∷ codes "ssolve" ∷ [])
+    ≡ Ok Check ∷ Ok Solve ∷ Ok Replay ∷ Ok Board ∷ Ok Follow ∷ Err (record {}) ∷ Err (record {}) ∷ []
 jobs_by_name = refl
 
 pub sections_by_job : map sections_of all_jobs ≡ sections.Question ∷ sections.Problem ∷ sections.Played ∷ sections.Played ∷ sections.PlayedUnder ∷ []
@@ -119,15 +120,6 @@ pub problem_and_plan : SpellsPlan (the_problem ++ the_plan) at_29 ace_or_two
 unfolding problem_text problem_lines plan_text plan_lines digits
 problem_and_plan = record { problem_is = at_29_is_a_setup; plan_is = are_a_plan; text = refl }
 
--- an empty input spells no problem
-pub nothing_is_no_problem : (problem : Setup) → SpellsProblem [] problem → ⊥
-unfolding problem_text problem_lines
-nothing_is_no_problem problem is = (let text = is.text in cc)
-
-pub nothing_is_no_plan : (problem : Setup) (plan : List Node) → SpellsPlan [] problem plan → ⊥
-unfolding problem_text problem_lines
-nothing_is_no_plan problem plan is = (let text = is.text in cc)
-
 -- ---- check. `Ends` is assumed here. check_law states it
 pub a_sure_plan_holds : Ends at_29 → CheckMeans (the_problem ++ the_plan) (codes "holds\n") Yes
 a_sure_plan_holds ends = (
@@ -158,10 +150,10 @@ pub no_yes_without_a_sure_plan : (input : List ℕ) → (HasSurePlan input → �
 no_yes_without_a_sure_plan input none means = none means.0
 
 pub nothing_has_no_sure_plan : HasSurePlan [] → ⊥
-nothing_has_no_sure_plan is = nothing_is_no_plan is.problem is.plan is.spelled
+nothing_has_no_sure_plan is = no_plan_in_nothing is.problem is.plan is.spelled
 
 pub nothing_has_no_failing_plan : (result : Ending) (text : List ℕ) → HasFailingPlan [] result text → ⊥
-nothing_has_no_failing_plan result text is = nothing_is_no_plan is.problem is.plan is.spelled
+nothing_has_no_failing_plan result text is = no_plan_in_nothing is.problem is.plan is.spelled
 
 pub no_failing_plan_without_a_first_game : (input text : List ℕ) →
     ((problem : Setup) (plan : List Node) (game : Game) → IsFirstFailing problem plan game ending.Short → ⊥) →
@@ -169,7 +161,7 @@ pub no_failing_plan_without_a_first_game : (input text : List ℕ) →
 no_failing_plan_without_a_first_game input text none is = none is.problem is.plan is.game is.first
 
 pub no_problem_is_refused : (text : List ℕ) → CheckMeans [] text Refused
-no_problem_is_refused text = nothing_is_no_plan
+no_problem_is_refused text = no_plan_in_nothing
 
 pub want_of_memory : (input : List ℕ) → CheckMeans input (codes "fault 11\n") Fault
 unfolding digits
@@ -199,10 +191,10 @@ none_only_without_a_plan input some means = some means.0
 
 -- an empty input is no problem, with or without a plan
 pub nothing_has_no_plan : HasNoPlan [] → ⊥
-nothing_has_no_plan is = nothing_is_no_problem is.problem is.spelled
+nothing_has_no_plan is = no_problem_in_nothing is.problem is.spelled
 
 pub nothing_has_some_plan : HasSomePlan [] → ⊥
-nothing_has_some_plan is = nothing_is_no_problem is.problem is.spelled
+nothing_has_some_plan is = no_problem_in_nothing is.problem is.spelled
 
 pub some_plan_is_sure : (input : List ℕ) → ((problem : Setup) → IsWinnable problem → ⊥) → HasSomePlan input → ⊥
 some_plan_is_sure input none is = none is.problem is.some
@@ -215,7 +207,7 @@ pub none_is_written : (input : List ℕ) → SolveMeans input [] No → ⊥
 none_is_written input means = (let text = means.1 in cc)
 
 pub no_problem_to_solve_is_refused : (text : List ℕ) → SolveMeans [] text Refused
-no_problem_to_solve_is_refused text = nothing_is_no_problem
+no_problem_to_solve_is_refused text = no_problem_in_nothing
 
 pub want_of_memory_to_solve : (input : List ℕ) → SolveMeans input (codes "fault 11\n") Fault
 unfolding digits
@@ -244,7 +236,7 @@ pub check_means_a_plan : (input : List ℕ) → (HasSurePlan input → ⊥) → 
 check_means_a_plan input none means = none means.0
 
 pub nothing_is_not_solved : (text : List ℕ) → StatusMeans Solve [] (record { output = text; status = Yes }) → ⊥
-nothing_is_not_solved text means = nothing_is_no_problem means.problem means.spelled
+nothing_is_not_solved text means = no_problem_in_nothing means.problem means.spelled
 
 pub replay_means_nothing : (text : List ℕ) → StatusMeans Replay [] (record { output = text; status = No })
 replay_means_nothing text = tt

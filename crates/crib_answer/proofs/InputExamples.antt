@@ -1,12 +1,11 @@
 -- Worked examples of what the jobs read in an input, and of when they may ask for memory.
-use Rattle.std.proofs.Common.{arith, ◌≡◌, ◌∙◌, refl, sym, ap, subst, inl, inr, false, ℕ, List, [], ◌∷◌, ◌++◌, codes, length, map, Result, Ok, Err}
+use Rattle.std.proofs.Common.{arith, ◌≡◌, ◌∙◌, refl, sym, ap, subst, inl, inr, false, ℕ, List, [], ◌∷◌, ◌++◌, codes, length, map, Ok, Err}
 use Rattle.std.proofs.lemmas.Bool.{both_ways}
 use Rattle.std.specs.Fmt.{digits}
-use Rattle.crib_text.specs.Refusals.{Refusal}
 use Rattle.crib_text.specs.Reading.{◌>>=◌}
 use Rattle.crib_board.specs.Board.{board_of, right_in, row_line, row_lines, score_columns, track_line, track_lines}
 use Rattle.crib_game.specs.declared.following.ending.Ending.TheVariants as ending
-use Rattle.crib_input.proofs.InputReaders.{read_count, read_played, read_played_under, read_problem, read_question}
+use Rattle.crib_input.proofs.InputReaders.{read_count, read_played, read_played_under, read_problem, read_question, refused}
 use Rattle.crib_run.specs.declared.status.Status.TheVariants.{Yes, No, Refused, Fault}
 use Rattle.crib_run.specs.Reply.{Reply}
 use Rattle.crib_answer.specs.declared.job.Job.TheVariants.{Replay, Check, Solve, Board, Follow}
@@ -35,9 +34,6 @@ plan_section = codes "plan 1\nnodes 1\n0 play 2C end\n"
 
 abbrev game_section : List ℕ → List ℕ
 game_section act = codes "game 1\nhold AC AD AH AS\nthrow 3C 3D\nacts 1\n" ++ act ++ codes "\n"
-
-abbrev refused : {A : Type 0} → ℕ → ℕ → Result A Refusal
-refused line number = Err (record { line = line; number = number })
 
 -- ---- a game is judged against its problem and its plan, and refused at the line of its act
 pub card_not_held : (report_of_input (problem_section ++ game_section (codes "own KC")) >>= λ report. Ok (length report.rows.items)) ≡ refused 12 41
@@ -124,6 +120,14 @@ pub board_of_nothing : Answers Board [] cut_short_at_1
 unfolding read_played board_of_input digits
 board_of_nothing = refl
 
+pub check_of_a_bad_node : Answers Check (problem_section ++ codes "plan 1\nnodes 1\nx\n") (record { output = codes "refused line 10: 4\n"; status = Refused })
+unfolding read_question digits
+check_of_a_bad_node = refl
+
+pub solve_of_a_problem_and_a_plan : Answers Solve (problem_section ++ plan_section) (record { output = codes "refused line 8: 8\n"; status = Refused })
+unfolding read_problem digits
+solve_of_a_problem_and_a_plan = refl
+
 pub follow_to_an_open_end : Answers Follow (problem_section ++ plan_section ++ game_section (codes "own 2C")) (record { output = codes "open\n"; status = No })
 unfolding read_played_under ending_of_input
 follow_to_an_open_end = refl
@@ -172,11 +176,11 @@ pub names_of_jobs : map name_of (Replay ∷ Follow ∷ Check ∷ Solve ∷ Board
 names_of_jobs = refl
 
 -- ---- a refused input spells nothing, whatever the text is
-pub refused_check : (input text : List ℕ) → CheckMeans input text Refused → (problem : Setup) (plan : List Node) → SpellsPlan input problem plan → ⊥
-refused_check input text means problem plan is = means problem plan is
+pub refused_check : (input text : List ℕ) → CheckMeans input text Refused ≡ ((problem : Setup) (plan : List Node) → SpellsPlan input problem plan → ⊥)
+refused_check input text = refl
 
-pub refused_solve : (input text : List ℕ) → SolveMeans input text Refused → (problem : Setup) → SpellsProblem input problem → ⊥
-refused_solve input text means problem is = means problem is
+pub refused_solve : (input text : List ℕ) → SolveMeans input text Refused ≡ ((problem : Setup) → SpellsProblem input problem → ⊥)
+refused_solve input text = refl
 
 abbrev two_acts : Game
 two_acts = record {

@@ -3,8 +3,9 @@ pub mod RightReplies
 pub mod Replies
 pub mod AnswerMeanings
 pub mod CutShortInputs
-pub mod Examples
+mod Examples
 mod ReplyExamples
 pub mod JudgedInputs
 pub mod Agreement
 mod InputExamples
+mod MeaningExamples

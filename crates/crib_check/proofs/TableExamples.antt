@@ -6,7 +6,10 @@ use Rattle.crib_cards.specs.declared.sides.Side.TheVariants.{Owner, Opponent}
 use Rattle.crib_cards.specs.declared.letters.Letter.TheVariants.{Seen}
 use Rattle.crib_cards.specs.declared.moves.Move.TheVariants as move
 use Rattle.crib_play.specs.History.{Own, Theirs}
+use Rattle.crib_cards.specs.Deals.{unseen_from}
+use Rattle.crib_show.specs.Extremes.{AreKeptIn}
 use Rattle.crib_show.specs.Show.{hand_points}
+use Rattle.crib_show.specs.Worst.{AreOwnPoints}
 use Rattle.crib_plan.specs.declared.plan.Next.TheVariants.{End, To}
 use Rattle.crib_problem.proofs.ExampleProblems.{after_tens}
 use Rattle.crib_know.specs.Knowledge.{knowledge_after, sight_of}
@@ -33,6 +36,10 @@ pub hidden_cards_of_the_show : (show_after_tens.ranks ≡ rank_counts (10 ∷ []
 unfolding set_where
 hidden_cards_of_the_show = (refl, refl, refl, refl)
 
+pub ace_of_clubs_is_unseen : has show_after_tens.unseen 0 ≡ true
+unfolding set_where
+ace_of_clubs_is_unseen = refl
+
 pub goal_of_the_show : (show_after_tens.target ≡ 121) × (show_after_tens.stop ≡ false) × (show_after_tens.dealer ≡ Opponent)
 goal_of_the_show = (refl, refl, refl)
 
@@ -42,6 +49,9 @@ no_shown = record { ranks_seen = []; opponent_left = 4; least = 1 }
 -- ---- indices of a position table: below the length of the list
 pub last_index : IsInside 3 (record { sight = 2; shown = no_shown; place = End })
 last_index = (omega arith, omega arith)
+
+pub index_of_32_bits : IsInside 4294967296 (record { sight = 4294967295; shown = no_shown; place = End })
+index_of_32_bits = (omega arith, omega arith)
 
 pub index_past_the_last : IsInside 3 (record { sight = 3; shown = no_shown; place = End }) → ⊥
 index_past_the_last is = (let below = is.0 in absurd (omega (arith, below)))
@@ -84,3 +94,12 @@ shows_are_kept_right shows wrong are = wrong are.0
 pub own_hand_is_kept_right : (kept : ExtremesByRanks) → AreExtremesOf after_tens kept → kept.own.hand ≡ 8 → ⊥
 unfolding hand_points
 own_hand_is_kept_right kept are eight = (let hand : 8 ≡ 9 = sym eight ∙ are.own.hand in absurd (omega (arith, hand)))
+
+-- of the cards of this problem: 4S 6S are thrown, and TD is fixed
+pub kept_for_these_cards : (shows : ExtremesByRanks) → AreExtremesOf after_tens shows →
+    AreKeptIn 10 (15 ∷ 23 ∷ []) (unseen_from (10 ∷ 36 ∷ 32 ∷ 4 ∷ 28 ∷ 15 ∷ 23 ∷ [])) (37 ∷ []) shows.kept
+unfolding set_where
+kept_for_these_cards shows are = are.kept
+
+pub own_cards_of_the_problem : (shows : ExtremesByRanks) → AreExtremesOf after_tens shows → AreOwnPoints 10 (36 ∷ 32 ∷ 4 ∷ 28 ∷ []) (15 ∷ 23 ∷ []) shows.own
+own_cards_of_the_problem shows are = are.own

@@ -26,7 +26,7 @@ use Rattle.crib_input.specs.declared.reason.Reason.TheVariants as reasons
 use Rattle.crib_input.specs.declared.reason.FaultCause.TheVariants as faults
 use Rattle.crib_text.specs.Reading.{all_lines}
 use Rattle.crib_input.specs.Input.{input_lines}
-use Rattle.crib_input.proofs.InputReaders.{read_count, read_lines, read_played, read_played_under, read_problem, read_question}
+use Rattle.crib_input.proofs.InputReaders.{read_count, read_lines, read_played, read_played_under, read_problem, read_question, refused}
 use Rattle.crib_input.specs.Refusals.{IsForPlan, ReadsAs, input_cause_number, refusal_of}
 use Rattle.crib_input.specs.Spelled.{SpellsGame, SpellsPlan, SpellsPlannedGame, SpellsProblem}
 
@@ -45,10 +45,6 @@ the_plan = Play 5 End ∷ []
 
 abbrev the_game : Game
 the_game = record { opp = aces; acts = record { items = plays Owner 4 ∷ [] } }
-
--- a refusal at a line
-abbrev refused : {A : Type 0} → ℕ → ℕ → Result A Refusal
-refused line number = Err (record { line = line; number = number })
 
 -- ---- what inputs are read as: each section, and refusal 8 for a line after the last one
 pub a_problem : read_problem problem_section ≡ Ok after_two
@@ -193,6 +189,9 @@ no_refusal_without_memory is = absurd (is.1 refl)
 pub no_memory_for_a_set : IsForPlan bad_set_9 (reasons.Fault faults.NoMemory) → ⊥
 no_memory_for_a_set is = (let same : 31 ≡ 11 = is.1 in absurd (omega (arith, same)))
 
+pub no_other_fault_for_a_plan : IsForPlan no_memory (reasons.Fault faults.TooLarge) → ⊥
+no_other_fault_for_a_plan is = (let same : faults.TooLarge ≡ faults.NoMemory = is.0 in absurd cc)
+
 -- ---- what an input spells: the texts one after the other, of a valid problem, a valid plan and a valid game
 pub spells_a_problem : IsSetup after_two → SpellsProblem problem_section after_two
 unfolding problem_text problem_lines digits
@@ -210,23 +209,6 @@ pub spells_a_planned_game : IsSetup after_two → ArePlan the_plan → IsGame th
     SpellsPlannedGame (problem_section ++ plan_section ++ game_section) after_two the_plan the_game
 unfolding problem_text problem_lines plan_text plan_lines game_text game_lines digits
 spells_a_planned_game problem plan game = record { problem_is = problem; plan_is = plan; game_is = game; text = refl }
-
--- an empty input spells none of them
-pub no_problem_in_nothing : (problem : Setup) → SpellsProblem [] problem → ⊥
-unfolding problem_text problem_lines
-no_problem_in_nothing problem is = (let text = is.text in cc)
-
-pub no_plan_in_nothing : (problem : Setup) (plan : List Node) → SpellsPlan [] problem plan → ⊥
-unfolding problem_text problem_lines
-no_plan_in_nothing problem plan is = (let text = is.text in cc)
-
-pub no_game_in_nothing : (problem : Setup) (game : Game) → SpellsGame [] problem game → ⊥
-unfolding problem_text problem_lines
-no_game_in_nothing problem game is = (let text = is.text in cc)
-
-pub no_planned_game_in_nothing : (problem : Setup) (plan : List Node) (game : Game) → SpellsPlannedGame [] problem plan game → ⊥
-unfolding problem_text problem_lines
-no_planned_game_in_nothing problem plan game is = (let text = is.text in cc)
 
 -- a problem with the owner at 121, a plan whose only node leads to itself, and a game with one card thrown are not valid
 abbrev past_the_end : Setup

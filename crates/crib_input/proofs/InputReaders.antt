@@ -1,5 +1,5 @@
 -- What worked examples of several crates share: what inputs are read as, with all that reading unfolds.
-use Rattle.std.specs.Prelude.{ℕ, List, Result, Ok}
+use Rattle.std.specs.Prelude.{ℕ, List, Result, Ok, Err}
 use Rattle.std.specs.Fmt.{digits}
 use Rattle.crib_cards.specs.CardText.{card_read}
 use Rattle.crib_cards.specs.Sets.{set_where}
@@ -22,6 +22,10 @@ use Rattle.crib_input.specs.Input.{input_lines, problem_alone_at, problem_of_inp
 use Rattle.crib_input.specs.Input.{played_under_at, played_under_of_input}
 use Rattle.crib_input.specs.Input as inputs
 use Rattle.crib_input.specs.Memory.{count_behind, count_of_input}
+
+-- a refusal at a line
+abbrev pub refused : {A : Type 0} → ℕ → ℕ → Result A Refusal
+refused line number = Err (record { line = line; number = number })
 
 unfoldable pub read_lines : List ℕ → Result (List (List ℕ)) Refusal
 unfolding input_lines text_check all_lines lines_of

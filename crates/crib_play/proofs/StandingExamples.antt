@@ -41,6 +41,10 @@ table_at_30 = record {
 pub on_the_table : standing_after level_start to_30 ≡ table_at_30
 on_the_table = refl
 
+-- A 7 7: the second seven makes fifteen and a pair, which takes the owner to the target
+pub nobody_is_asked : (standing_after (record level_start { target = 65 }) (reverse (Seen 1 ∷ Seen 7 ∷ Seen 7 ∷ []))).asked ≡ turns.Over
+nobody_is_asked = refl
+
 pub seats_at_30 : seat_after level_start Owner to_30 ∷ seat_after level_start Opponent to_30 ∷ [] ≡ seat 2 ∷ record { left = 3; may_be_asked = false } ∷ []
 seats_at_30 = refl
 
@@ -122,6 +126,17 @@ fair_without_cards = record {
   opponent_four = omega arith;
   owner_seat = λ heard. absurd (both_ways false refl heard);
   opponent_seat = λ heard. absurd (both_ways false refl heard);
+}
+
+pub fair_with_one_card_each : IsFair (record first_table { owner = seat 1; opponent = seat 1 })
+fair_with_one_card_each = record {
+  room = omega arith;
+  owner_score = omega arith;
+  opponent_score = omega arith;
+  owner_four = omega arith;
+  opponent_four = omega arith;
+  owner_seat = λ heard. omega arith;
+  opponent_seat = λ heard. omega arith;
 }
 
 pub nine_cards : IsFair (record first_table { pile = 13 ∷ [] }) → ⊥

@@ -1,13 +1,13 @@
 -- Worked examples of openings, held against the rules: tens and small clubs lead. Both scores are 0 unless an example says otherwise. A card is a number below
 -- 52: 36 is TC, 37 is TD, 32 is 9C.
-use Rattle.std.specs.Prelude.{◌≡◌, refl, [], ◌∷◌, ℕ, List, Option, Some, None, reverse}
+use Rattle.std.specs.Prelude.{◌≡◌, refl, true, false, [], ◌∷◌, ℕ, List, Option, Some, None, map, reverse}
 use Rattle.crib_cards.specs.Sets.{set_where}
 use Rattle.crib_cards.specs.declared.sides.Side.TheVariants.{Owner, Opponent}
 use Rattle.crib_cards.specs.declared.moves.Act.{Act}
 use Rattle.crib_cards.specs.declared.moves.Move.TheVariants.{Card, Go}
 use Rattle.crib_play.specs.declared.turns.Turn.TheVariants as turns
 use Rattle.crib_problem.specs.Played.{AreAllowed, OpeningBasis, act_refusal, asked_by, cards_by, cards_played, count_by_acts, least_by, move_refusal}
-use Rattle.crib_problem.specs.Played.{cards_with, own_left_by, seen_by}
+use Rattle.crib_problem.specs.Played.{cards_with, own_left_by, seen_by, shows_seen, turn_refusal}
 
 -- the owner holds TC 9C 2C 8C and threw 4S 6S; the starter is 3H, the opponent deals and is at the given score, and the goal is to win
 abbrev basis_at : ℕ → OpeningBasis
@@ -256,3 +256,15 @@ pub first_card_again : act_refusal (record {
 }) (reverse (theirs 37 ∷ own 4 ∷ [])) (theirs 37) ≡ Some 20
 unfolding set_where
 first_card_again = refl
+
+-- only a card of the opponent can be one that was seen
+pub seen_cards_shown : map (shows_seen (4 ∷ 10 ∷ 36 ∷ []) Opponent) (Card 4 ∷ Card 10 ∷ Card 36 ∷ Card 5 ∷ Go ∷ []) ∷
+    map (shows_seen (4 ∷ 10 ∷ 36 ∷ []) Owner) (Card 4 ∷ Go ∷ []) ∷ []
+    ≡ (true ∷ true ∷ true ∷ false ∷ false ∷ []) ∷ (false ∷ false ∷ []) ∷ []
+seen_cards_shown = refl
+
+-- the refusal of an act: a card that was seen, the other side's turn, and then the move
+pub refusals_in_order : turn_refusal (36 ∷ []) turns.Owner 29 (4 ∷ []) 1 (theirs 36) ∷ turn_refusal (36 ∷ []) turns.Owner 29 (4 ∷ []) 1 (theirs 37) ∷
+    turn_refusal (36 ∷ []) turns.Owner 29 (4 ∷ []) 1 (own 36) ∷ turn_refusal (36 ∷ []) turns.Owner 29 (4 ∷ []) 1 (own 4) ∷
+    turn_refusal (36 ∷ []) turns.Over 29 (4 ∷ []) 1 (own 4) ∷ [] ≡ Some 20 ∷ Some 44 ∷ Some 41 ∷ None ∷ Some 44 ∷ []
+refusals_in_order = refl

@@ -1,6 +1,6 @@
 -- Worked examples of problems: goals, conditions, hidden deals, and games that begin with the opening.
 use Rattle.std.proofs.Common.{arith, ◌≡◌, refl, ap, subst, true, false, [], ◌∷◌, ◌++◌, List, ℕ, length, codes}
-use Rattle.std.specs.Prelude.{replicate, IsFalse}
+use Rattle.std.specs.Prelude.{map, replicate, IsFalse}
 use Rattle.std.specs.Fmt.{digits}
 use Rattle.std.specs.List.{AllByRecursion}
 use Rattle.std.proofs.lemmas.Bool.{both_ways}
@@ -19,6 +19,7 @@ use Rattle.crib_problem.specs.Laws.{IsHonest}
 use Rattle.crib_problem.specs.declared.problem.Goal.TheVariants.{Win, Holes, Stop}
 use Rattle.crib_problem.specs.declared.problem.Version.TheVariants.{One, Two}
 use Rattle.crib_problem.specs.Setup.{Setup, IsSetup, IsGoal, CanSay, IsMove, IsDealOf, BeginsAsPlayed, setup_by, target_of, known_cards, start_of}
+use Rattle.crib_problem.specs.Setup.{at_lead, fixed_cards, goal_hole, hands_of, is_stop, opening_basis_of, played_back}
 use Rattle.crib_problem.specs.Spelling.{problem_text, problem_lines}
 use Rattle.crib_problem.proofs.ExampleProblems.{plays, says_go, level, four_twos, after_two, aces}
 
@@ -207,3 +208,53 @@ IsGoing played = IsFalse (is_done (start_of three_holes) (letters_of (with_silen
 
 pub done_by_silent_gos : (dealt : Dealt) (acts : List Act) (is : IsHonest three_holes dealt acts) → is.played ≡ to_the_pair → ⊥
 done_by_silent_gos dealt acts is e = absurd (both_ways true (subst IsGoing e is.going) refl)
+
+-- ---- more conditions: cards of the pack, a goal and an opening that the version has, and turns that are allowed
+pub starter_past_the_pack : IsSetup (record midway { starter = 52 }) → ⊥
+starter_past_the_pack is = (let card = is.cards.0 in absurd (omega (arith, card)))
+
+pub throw_past_the_pack : IsSetup (record midway { thrown = 12 ∷ 52 ∷ [] }) → ⊥
+throw_past_the_pack is = (let card = is.cards.1.1.1.1.1.1.0 in absurd (omega (arith, card)))
+
+pub stop_of_version_1 : IsSetup (record midway { version = One; goal = Stop }) → ⊥
+stop_of_version_1 is = absurd (both_ways true is.of_version.0 refl)
+
+pub turn_past_the_pack : IsSetup (record midway { played = plays Opponent 52 ∷ [] }) → ⊥
+turn_past_the_pack is = (let card = is.moves.0 in absurd (omega (arith, card)))
+
+-- the owner deals, so the opponent leads
+pub dealer_leads : IsSetup (record midway { played = plays Owner 4 ∷ [] }) → ⊥
+unfolding set_where
+dealer_leads is = (let refused = is.allowed.1 in cc)
+
+pub win_in_version_1 : CanSay One Win []
+win_in_version_1 = (refl, refl)
+
+pub go_is_a_move : IsMove Go
+go_is_a_move = tt
+
+pub goals_to_stop : map is_stop (Win ∷ Holes 3 ∷ Stop ∷ []) ≡ false ∷ false ∷ true ∷ []
+goals_to_stop = refl
+
+pub holes_of_goals : map (goal_hole 61) (Win ∷ Holes 12 ∷ Stop ∷ []) ≡ 121 ∷ 73 ∷ 121 ∷ []
+holes_of_goals = refl
+
+pub start_of_midway : start_of midway ≡ record { dealer = Owner; scores = record { owner = 61; opponent = 70 }; target = 73 }
+start_of_midway = refl
+
+pub holds_in_a_deal : hands_of midway aces ≡ record { owner = 4 ∷ 5 ∷ 6 ∷ 7 ∷ []; opponent = 0 ∷ 1 ∷ 2 ∷ 3 ∷ [] }
+holds_in_a_deal = refl
+
+pub basis_of_midway : opening_basis_of midway
+    ≡ record { start = start_of midway; hold = 4 ∷ 5 ∷ 6 ∷ 7 ∷ []; known = 49 ∷ 4 ∷ 5 ∷ 6 ∷ 7 ∷ 12 ∷ 21 ∷ [] }
+basis_of_midway = refl
+
+pub lead_of_after_two : at_lead after_two ≡ record four_twos { version = Two }
+lead_of_after_two = refl
+
+pub opening_from_behind : played_back after_two ≡ plays Opponent 0 ∷ plays Owner 4 ∷ []
+opening_from_behind = refl
+
+-- only the opponent's cards of the opening are fixed
+pub fixed_after_two : fixed_cards after_two ≡ 0 ∷ []
+fixed_after_two = refl

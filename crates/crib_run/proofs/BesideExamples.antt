@@ -1,8 +1,9 @@
 -- Worked examples of what is written beside a reply.
-use Rattle.std.proofs.Common.{◌≡◌, arith, refl, ap, inl, inr, ℕ, List, [], codes, Some, Ok, Err}
+use Rattle.std.proofs.Common.{◌≡◌, ◌∙◌, arith, refl, ap, inl, inr, zero, suc, take, ℕ, List, [], codes, Some, Ok, Err}
+use Rattle.std.specs.Prelude.{slice_index}
 use Rattle.std.specs.Fmt.{digits}
 use Rattle.crib_text.specs.declared.fault.TextCause.TheVariants.{TooLong}
-use Rattle.crib_input.specs.declared.reason.FaultCause.TheVariants.{NoMemory, WriteFailed}
+use Rattle.crib_input.specs.declared.reason.FaultCause.TheVariants.{NoMemory, TooLarge, WriteFailed}
 use Rattle.crib_input.specs.declared.reason.Reason.{Reason}
 use Rattle.crib_input.specs.declared.reason.Reason.TheVariants.{Fault}
 use Rattle.crib_run.specs.declared.status.Status.TheVariants as statuses
@@ -59,3 +60,42 @@ no_silent_fault reason written = elim written.2 [
 
 pub cut_by_a_failure : (reason : Reason) → Writes (says reason) (Some []) (Some (codes "wh")) (Unit {0})
 cut_by_a_failure reason = (codes "why\n", refl, inr (2, omega arith, refl, tt))
+
+pub cut_before_the_last_byte : (reason : Reason) → Writes (says reason) (Some []) (Some (codes "why")) (Unit {0})
+cut_before_the_last_byte reason = (codes "why\n", refl, inr (3, omega arith, refl, tt))
+
+-- ---- reasons that are none: another status, another number, and another fault than that of the writer
+pub another_status : IsReason memory_reply statuses.Yes (Fault NoMemory) → ⊥
+another_status (inl same) = (let status : statuses.Yes ≡ statuses.Fault = same.0 in absurd cc)
+another_status (inr failed) = (let reason = failed.1 in absurd cc)
+
+pub another_number : IsReason memory_reply statuses.Fault (Fault TooLarge) → ⊥
+unfolding digits
+another_number (inl same) = (let digit : 49 ≡ 53 = ap (λ (reply : Reply). slice_index reply.output 6) same.1 in absurd (omega (arith, digit)))
+another_number (inr failed) = absurd (failed.0 refl)
+
+pub another_fault : IsReason holds_reply statuses.Fault (Fault NoMemory) → ⊥
+another_fault (inl same) = (let status : statuses.Fault ≡ statuses.Yes = same.0 in absurd cc)
+another_fault (inr failed) = (let reason = failed.1 in absurd cc)
+
+-- ---- nothing else is written
+pub nothing_beside_a_no : Explains says holds_reply statuses.No (Some (codes "a")) (Some (codes "a")) ⊥
+nothing_beside_a_no = refl
+
+pub no_words_beside_a_no : Explains says holds_reply statuses.No (Some []) (Some (codes "a")) (Unit {0}) → ⊥
+no_words_beside_a_no written = absurd cc
+
+pub no_fault_without_a_reason : ((reason : Reason) → IsReason holds_reply statuses.Fault reason → ⊥) →
+    Explains says holds_reply statuses.Fault (Some []) (Some (codes "why\n")) ⊥ → ⊥
+no_fault_without_a_reason none written = none written.0 written.1
+
+pub no_text_to_write : Writes (λ text. ⊥) (Some []) (Some []) (Unit {0}) → ⊥
+no_text_to_write written = written.1
+
+pub another_text : Writes (λ text. text ≡ codes "why\n") (Some []) (Some (codes "x")) (Unit {0}) → ⊥
+another_text (text, is, inl whole) = (let byte : 120 ≡ 119 = ap (λ bytes. slice_index bytes 0) (whole ∙ is) in absurd (omega (arith, byte)))
+another_text (text, is, inr cut) = no cut.0 (cut.2 ∙ ap (take cut.0) is)
+  where
+    no : (sent : ℕ) → codes "x" ≡ take sent (codes "why\n") → ⊥
+    no zero e = absurd cc
+    no (suc sent) e = (let byte : 120 ≡ 119 = ap (λ bytes. slice_index bytes 0) e in absurd (omega (arith, byte)))

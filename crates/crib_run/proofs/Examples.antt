@@ -1,5 +1,6 @@
 -- Worked examples of replies, of the statuses, and of what a run reads and sends.
-use Rattle.std.proofs.Common.{arith, ◌≡◌, ◌<◌, refl, ap, subst, inl, inr, zero, suc, take, ℕ, List, [], ◌∷◌, codes, length, map, Option, Some, None, Ok, Err}
+use Rattle.std.specs.Prelude.{map, take}
+use Rattle.std.proofs.Common.{arith, ◌≡◌, ◌∙◌, ◌<◌, refl, ap, subst, inl, inr, zero, suc, ℕ, List, [], ◌∷◌, codes, length, Option, Some, None, Ok, Err}
 use Rattle.std.specs.Fmt.{digits}
 use Rattle.crib_text.specs.declared.fault.TextCause.TheVariants as causes
 use Rattle.crib_input.specs.declared.refusal.Refusal.{Refusal}
@@ -11,7 +12,7 @@ use Rattle.crib_input.specs.declared.reason.Reason.TheVariants as reasons
 use Rattle.crib_input.specs.Refusals.{fault_number}
 use Rattle.crib_run.specs.declared.status.Status.{Status}
 use Rattle.crib_run.specs.declared.status.Status.TheVariants.{Yes, No, Refused, Fault}
-use Rattle.crib_run.specs.Reply.{Reply, fault_line, fault_reply, outcome_reply, reason_reply, refusal_reply, reply_of}
+use Rattle.crib_run.specs.Reply.{IsAnswer, IsOutcome, Reply, fault_line, fault_reply, outcome_reply, reason_reply, refusal_reply, reply_of}
 use Rattle.crib_run.specs.Run.{AnswersRead, Delivers, IsRead, RunMeans, Sends, unread_reply}
 use Rattle.crib_run.specs.Status.{code_of}
 use Rattle.crib_run.specs.Text.{text_bytes}
@@ -84,7 +85,7 @@ unfolding digits
 memory_for_the_input = refl
 
 -- the input is all that the device has
-pub whole_input : (failed : Type 0) → IsRead (Some (codes "bab")) failed (Ok (codes "bab"))
+pub whole_input : (failed : Type 0) → IsRead (Some (codes "caba")) failed (Ok (codes "caba"))
 whole_input failed = refl
 
 pub no_half_input : (failed : Type 0) → IsRead (Some (codes "ab")) failed (Ok (codes "a")) → ⊥
@@ -178,7 +179,7 @@ unfolding digits
 other_unread_inputs = refl
 
 -- ---- an input that was read is answered
-pub answered : AnswersRead (λ input reply. input ≡ codes "bab") (Ok (codes "bab")) holds_reply
+pub answered : AnswersRead (λ input reply. input ≡ codes "caba") (Ok (codes "caba")) holds_reply
 answered = refl
 
 pub not_answered : AnswersRead (λ input reply. ⊥) (Ok (codes "ab")) holds_reply → ⊥
@@ -223,7 +224,7 @@ whole_is_no_cut (inr cut) = no cut.0 cut.1 cut.2
     no (suc (suc (suc (suc (suc (suc more)))))) less e = absurd (omega (arith, less))
 
 -- ---- what a run guarantees
-pub run_to_its_end : RunMeans (λ input reply. input ≡ codes "bab") (codes "bab") (Some (codes "a")) (Some (codes "aholds\n")) ⊥ Yes
+pub run_to_its_end : RunMeans (λ input reply. input ≡ codes "caba") (codes "caba") (Some (codes "a")) (Some (codes "aholds\n")) ⊥ Yes
 run_to_its_end = inl (holds_reply, refl, refl, refl)
 
 pub run_that_failed : RunMeans (λ input reply. ⊥) (codes "ab") (Some []) (Some (codes "ho")) (Unit {0}) Fault
@@ -236,6 +237,44 @@ no_failed_run_without_failure (inr failed) = failed.1
 pub failed_run_is_a_fault : RunMeans (λ input reply. ⊥) (codes "ab") (Some []) (Some []) (Unit {0}) Yes → ⊥
 failed_run_is_a_fault (inl whole) = whole.1
 failed_run_is_a_fault (inr failed) = (let fault : Yes ≡ Fault = failed.0 in absurd cc)
+
+pub run_with_another_status : RunMeans (λ input reply. reply ≡ holds_reply) [] (Some []) (Some (codes "holds\n")) ⊥ No → ⊥
+run_with_another_status (inl whole) = (let status : No ≡ Yes = whole.3 ∙ ap (λ (reply : Reply). reply.status) whole.1 in absurd cc)
+run_with_another_status (inr failed) = failed.1
+
+pub run_without_its_text : RunMeans (λ input reply. reply ≡ holds_reply) [] (Some []) (Some []) ⊥ Yes → ⊥
+run_without_its_text (inl whole) = (let text : [] ≡ codes "holds\n" = whole.2 ∙ ap (λ (reply : Reply). reply.output) whole.1 in absurd cc)
+run_without_its_text (inr failed) = failed.1
+
+-- ---- an answer is a yes or a no, and an outcome is an answer that the question may have, or a reason that it may have
+pub yes_and_no : IsAnswer Yes × IsAnswer No
+yes_and_no = (inl refl, inr refl)
+
+pub refused_is_no_answer : IsAnswer Refused → ⊥
+refused_is_no_answer (inl yes_) = absurd cc
+refused_is_no_answer (inr no_) = absurd cc
+
+pub fault_is_no_answer : IsAnswer Fault → ⊥
+fault_is_no_answer (inl yes_) = absurd cc
+fault_is_no_answer (inr no_) = absurd cc
+
+abbrev itself : Reply → Reply
+itself reply = reply
+
+pub holds_is_an_outcome : IsOutcome itself (λ reply. reply ≡ holds_reply) (Ok holds_reply)
+holds_is_an_outcome = (inl refl, refl)
+
+pub fault_is_an_outcome : IsOutcome itself (λ reply. reply ≡ fault_reply 11) (Err (reasons.Fault NoMemory))
+fault_is_an_outcome = refl
+
+pub refused_is_no_outcome : IsOutcome itself (λ reply. Unit {0}) (Ok (record { output = []; status = Refused })) → ⊥
+refused_is_no_outcome is = refused_is_no_answer is.0
+
+pub answer_that_may_not_be : IsOutcome itself (λ reply. ⊥) (Ok holds_reply) → ⊥
+answer_that_may_not_be is = is.1
+
+pub reason_that_may_not_be : IsOutcome itself (λ reply. ⊥) (Err (reasons.Fault NoMemory)) → ⊥
+reason_that_may_not_be is = is
 
 -- ---- a refused input has the line and the number of its refusal
 abbrev a_blank_line : Refusal

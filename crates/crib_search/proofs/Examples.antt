@@ -2,9 +2,13 @@
 use Rattle.std.specs.Prelude.{◌≡◌, refl, [], ◌∷◌, List, map, true, false}
 use Rattle.crib_plan.specs.declared.plan.Next.TheVariants.{End, To}
 use Rattle.crib_plan.specs.declared.plan.Node.TheVariants.{Play, See}
+use Rattle.crib_problem.specs.Setup.{Setup}
+use Rattle.crib_plan.specs.declared.plan.Node.{Node}
+use Rattle.crib_check.specs.Sure.{IsSure}
 use Rattle.crib_search.specs.Finder.{one_of_each_rank}
-use Rattle.crib_search.specs.Trees.{Tree, Finish, Plays, Sees, branches_of, is_play, joined_tree, trees_with, trees_after_walk}
-use Rattle.crib_search.specs.Trees.{is_finish, nodes_for, number_of, place_of_tree, plan_of_tree, trees_of}
+use Rattle.crib_search.specs.Trees.{Tree, Finish, NoBranch, Plays, Sees, branches_of, is_play, joined_tree, trees_with, trees_after_walk}
+use Rattle.crib_search.specs.Winnable.{IsWinnable}
+use Rattle.crib_search.specs.Trees.{is_finish, nodes_for, number_of, place_of_tree, plan_of_tree, same_tree, trees_of}
 
 -- branches that are the end, except those of the ace, the two and the go
 abbrev after : Tree → Tree → Tree → List Tree
@@ -114,3 +118,16 @@ node_of_a_play = refl
 -- 3C 2D 3D 4C 2C 3H: of each rank the first card
 pub first_of_each_rank : one_of_each_rank (8 ∷ 5 ∷ 9 ∷ 12 ∷ 4 ∷ 10 ∷ []) ≡ 8 ∷ 5 ∷ 12 ∷ []
 first_of_each_rank = refl
+
+-- plays of another card, and plays that go on otherwise, are other trees
+pub other_cards : map (same_tree diamonds) (clubs ∷ diamonds ∷ hearts ∷ []) ≡ false ∷ true ∷ false ∷ []
+other_cards = refl
+
+pub other_next_cards : map (same_tree (Plays 4 diamonds)) (clubs ∷ Plays 4 diamonds ∷ Plays 4 clubs ∷ Plays 5 diamonds ∷ []) ≡ false ∷ true ∷ false ∷ false ∷ []
+other_next_cards = refl
+
+pub looks_without_branches : map (same_tree (Sees NoBranch)) (Sees NoBranch ∷ look ∷ Finish ∷ []) ≡ true ∷ false ∷ false ∷ []
+looks_without_branches = refl
+
+pub no_plan_to_win_with : (problem : Setup) → ((plan : List Node) → IsSure problem plan → ⊥) → IsWinnable problem → ⊥
+no_plan_to_win_with problem none is = none is.plan is.sure

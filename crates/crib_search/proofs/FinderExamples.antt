@@ -3,8 +3,9 @@
 use Rattle.std.proofs.Common.{arith, ◌≡◌, refl, inl, inr, ℕ, ◌<◌, ◌==◌, length, true, false, List, [], ◌∷◌, ◌++◌, Option, Some, None, ltb, map, replicate}
 use Rattle.std.specs.List.{AllZip, list_all}
 use Rattle.std.proofs.lemmas.Bool.{and_parts, ltb-true}
-use Rattle.std.specs.Prelude.{if◌then◌else◌, MatchOption}
+use Rattle.std.specs.Prelude.{◌⊎◌, if◌then◌else◌, MatchOption}
 use Rattle.crib_cards.specs.Sets.{set_where}
+use Rattle.crib_cards.specs.declared.letters.Letter.{Letter}
 use Rattle.crib_cards.specs.declared.letters.Letter.TheVariants.{Seen, Go}
 use Rattle.crib_cards.specs.declared.moves.Move.TheVariants as move
 use Rattle.crib_play.specs.declared.turns.Turn.TheVariants as turns
@@ -82,6 +83,10 @@ ranks_and_then_a_go = refl
 -- after TC and a ten of the opponent, each of his other cards fits
 pub others_at_20 : options level (Theirs (Seen 10) ∷ Own (move.Card 36) ∷ []) ≡ 32 ∷ 4 ∷ 28 ∷ []
 others_at_20 = refl
+
+-- after his own TC, which no other rank of the hold is, he tries the other three
+pub others_at_10 : options level (Own (move.Card 36) ∷ []) ≡ 32 ∷ 4 ∷ 28 ∷ []
+others_at_10 = refl
 
 -- at 29, after a go, only 2C fits
 pub two_at_29 : options level (Theirs Go ∷ Own (move.Card 32) ∷ Theirs (Seen 10) ∷ Own (move.Card 36) ∷ []) ≡ 4 ∷ []
@@ -191,6 +196,12 @@ end_where_reached reached (inr is) = is.0 reached
 pub none_where_not_reached : ¬ IsReachedBehind level [] → FindsFor turns.Over given level [] (Some Finish) → ⊥
 none_where_not_reached not_reached (inl is) = not_reached is.0
 none_where_not_reached not_reached (inr is) = (let end = is.1 in cc)
+
+pub none_is_found_where_not_reached : ¬ IsReachedBehind level [] → FindsFor turns.Over given level [] None
+none_is_found_where_not_reached not_reached = inr (not_reached, refl)
+
+pub end_is_found_where_reached : IsReachedBehind level [] → FindsFor turns.Over given level [] (Some Finish)
+end_is_found_where_reached reached = inl (reached, refl)
 
 -- at the first lead, some deal does not have the outcome Reached
 pub not_reached_at_the_start : IsReachedBehind level [] → ⊥
@@ -303,3 +314,21 @@ second_card_after_a_lack finds lacks is = (None, lacks, (Some Finish, is, refl))
 pub owner_is_asked : (finds : Found) (history : List Event) (found : Option Tree) → FindsFor turns.Owner finds level history found →
     OwnerFinds finds history (options level history) found
 owner_is_asked finds history found is = is
+
+-- ---- each step at any history
+pub step_of_the_opponent : (finds : Found) (history : List Event) (found : Option Tree) → FindsFor turns.Opponent finds level history found
+    ≡ ((LacksBranch finds level history × (found ≡ None))
+    ⊎ ((branches : List Tree) × AllZip (BranchFinds finds level history) letters branches × (found ≡ Some (joined_tree branches))))
+step_of_the_opponent finds history found = refl
+
+pub step_of_nobody : (finds : Found) (history : List Event) (found : Option Tree) → FindsFor turns.Over finds level history found
+    ≡ ((IsReachedBehind level history × (found ≡ Some Finish)) ⊎ (¬ IsReachedBehind level history × (found ≡ None)))
+step_of_nobody finds history found = refl
+
+pub branch_that_is_lacking : (finds : Found) (history : List Event) → LacksBranch finds level history
+    ≡ ((letter : Letter) × CanShow level history letter × finds (Theirs letter ∷ history) None)
+branch_that_is_lacking finds history = refl
+
+pub branch_that_is_found : (finds : Found) (history : List Event) (tree : Tree) → BranchFinds finds level history Go tree
+    ≡ ((CanShow level history Go × finds (Theirs Go ∷ history) (Some tree)) ⊎ (¬ CanShow level history Go × (tree ≡ Finish)))
+branch_that_is_found finds history tree = refl

@@ -1,24 +1,26 @@
 -- Worked examples of each part of a show: choices, fifteens, pairs and runs, rows and outcomes, and what agrees with the ranks that were shown. A card of
 -- rank r is 4 * (r - 1), and 1, 2, 3 more for diamonds, hearts and spades.
-use Rattle.std.proofs.Common.{arith, ◌≡◌, refl, ap, true, false, [], ◌∷◌, ◌+◌, List, ℕ, codes, Some, None}
-use Rattle.std.specs.Prelude.{length, map, replicate, slice_index_or, ◌<◌, ◌≤◌}
+use Rattle.std.proofs.Common.{arith, ◌≡◌, ◌∙◌, refl, sym, ap, subst, true, false, [], ◌∷◌, ◌+◌, List, ℕ, codes, Some, None}
+use Rattle.std.specs.Prelude.{IfSome, length, map, replicate, slice_index_or, ◌<◌, ◌≤◌}
 use Rattle.std.specs.List.{range_with_len}
 use Rattle.std.proofs.lemmas.Bool.{both_ways}
 use Rattle.crib_cards.specs.Sets.{rank_counts, set_where}
 use Rattle.crib_cards.specs.Deals.{unseen_from}
 use Rattle.crib_cards.specs.declared.sides.Dealt.{Dealt}
 use Rattle.crib_cards.specs.declared.sides.Side.TheVariants.{Owner, Opponent}
-use Rattle.crib_show.specs.Extremes.{AreKept, AreKeptIn, HasCards, IfKept}
+use Rattle.crib_show.specs.Extremes.{AreExtremes, AreExtremesFor, AreKept, AreKeptIn, HasCards, IfKept}
 use Rattle.crib_show.specs.Laws.{AreSameCards, IsHand, IsSameDeal, is_possible}
 use Rattle.crib_show.specs.Outcome.{counted_scores, hold_of, no_row, outcome_from, outcome_of, row_of, rows_from, show_order}
 use Rattle.crib_show.specs.Places.{AreFour, below, many, place_among}
 use Rattle.crib_show.specs.Show.{are_of_suit, choices, crib_flush, fifteen_points, hand_flush, is_fifteen, is_full_run, is_pair, is_prolonged}
 use Rattle.crib_show.specs.Show.{crib_points, hand_points, jack_points, pair_points, plain_of_ranks, plain_points, run_points, with_and_without}
 use Rattle.crib_show.specs.Words.{outcome_word, show_word}
-use Rattle.crib_show.specs.Worst.{AgreesInShow, CanFail, IsFailure, IsFirstFailure, IsFirstFailureOrNone, hidden_crib}
+use Rattle.crib_show.specs.Worst.{AgreesInShow, ArePlain, AreOwnPoints, CanFail, HasDeal, IsFailure, IsFirstFailure, IsFirstFailureOrNone, hidden_crib}
 use Rattle.crib_show.specs.Worst.{hidden_hand, hidden_total, plain_at, plain_with, with_dealt}
 use Rattle.crib_show.specs.Worst.{IsGreatestCrib, IsGreatestHand, IsGreatestTotal, IsLeastCrib}
 use Rattle.crib_show.specs.declared.worst.extremes.Extremes.{Extremes}
+use Rattle.crib_show.specs.declared.worst.extremes.ExtremesByRanks.{ExtremesByRanks}
+use Rattle.crib_show.specs.declared.deals.OwnPoints.{OwnPoints}
 use Rattle.crib_show.specs.declared.deals.Full.{Full}
 use Rattle.crib_show.specs.declared.deals.WorstShow.{WorstShow}
 use Rattle.crib_show.specs.declared.show.outcomes.CountedHand.{CountedHand}
@@ -327,3 +329,51 @@ pub jack_at_each_end : hand_points (40 ∷ 13 ∷ 22 ∷ 31 ∷ []) 4 ∷ crib_p
     ≡ 1 ∷ 1 ∷ 1 ∷ []
 unfolding hand_points crib_points
 jack_at_each_end = refl
+
+-- ---- the points of the owner's cards: four twos with KD make 12, and a crib 4C 6D QC 8C makes none
+pub own_hand_makes_12 : (throw : List ℕ) (own : OwnPoints) → AreOwnPoints 49 (4 ∷ 5 ∷ 6 ∷ 7 ∷ []) throw own → own.hand ≡ 11 → ⊥
+unfolding hand_points
+own_hand_makes_12 throw own are eleven = (let hand : 11 ≡ 12 = sym eleven ∙ are.hand in absurd (omega (arith, hand)))
+
+pub some_crib_makes_none : (hold : List ℕ) (own : OwnPoints) → AreOwnPoints 49 hold (12 ∷ 21 ∷ []) own → own.crib ≡ 1 → ⊥
+unfolding crib_points
+some_crib_makes_none hold own are one = (let bound : own.crib ≤ 0 = are.crib (44 ∷ 28 ∷ []) in absurd (omega (arith, bound, one)))
+
+pub kept_points_of_the_crib : (hold points : List ℕ) (own : OwnPoints) → AreOwnPoints 49 hold (12 ∷ 21 ∷ []) own → own.plain ≡ Some points →
+    ArePlain 49 (12 ∷ 21 ∷ []) points
+kept_points_of_the_crib hold points own are some = subst (λ plain. IfSome plain (ArePlain 49 (12 ∷ 21 ∷ []))) some are.plain
+
+pub two_fives_make_16 : (points : List ℕ) → ArePlain 49 (12 ∷ 21 ∷ []) points → plain_at points 5 5 ≡ 15 → ⊥
+two_fives_make_16 points are fifteen =
+    (let plain : 15 ≡ 16 = sym fifteen ∙ are.each 5 5 (omega arith, omega arith) (omega arith, omega arith) in absurd (omega (arith, plain)))
+
+pub no_crib_makes_97 : (throw points : List ℕ) → ArePlain 49 throw points → plain_at points 1 1 ≡ 97 → ⊥
+no_crib_makes_97 throw points are many = (let few = are.few 1 1 (omega arith, omega arith) (omega arith, omega arith) in absurd (omega (arith, few, many)))
+
+-- ---- greatest and least points are those of some deal that agrees
+pub some_deal_has_the_greatest_hand : ((dealt : Dealt) → AgreesInShow worst dealt → hidden_hand worst dealt ≡ 30 → ⊥) → IsGreatestHand worst 30 → ⊥
+some_deal_has_the_greatest_hand none is = none is.some.0 is.some.1 is.some.2
+
+pub some_deal_has_the_least_crib : ((dealt : Dealt) → AgreesInShow worst dealt → hidden_crib worst dealt ≡ 0 → ⊥) → IsLeastCrib worst 0 → ⊥
+some_deal_has_the_least_crib none is = none is.some.0 is.some.1 is.some.2
+
+pub some_deal_has_the_greatest_crib : ((dealt : Dealt) → AgreesInShow worst dealt → hidden_crib worst dealt ≡ 30 → ⊥) → IsGreatestCrib worst 30 → ⊥
+some_deal_has_the_greatest_crib none is = none is.some.0 is.some.1 is.some.2
+
+pub some_deal_has_the_greatest_total : ((dealt : Dealt) → AgreesInShow worst dealt → hidden_total worst dealt ≡ 60 → ⊥) → IsGreatestTotal worst 60 → ⊥
+some_deal_has_the_greatest_total none is = none is.some.0 is.some.1 is.some.2
+
+pub no_deal_to_agree : ((dealt : Dealt) → AgreesInShow worst dealt → ⊥) → HasDeal worst → ⊥
+no_deal_to_agree none has = none has.0 has.1
+
+pub nothing_unseen : (throw fixed : List ℕ) → HasCards 49 throw [] fixed worst → ⊥
+unfolding set_where
+nothing_unseen throw fixed has = (let cards = has.unseen_is in absurd cc)
+
+pub kept_for_a_show : (shows : ExtremesByRanks) →
+    AreExtremesFor worst shows ≡ AreExtremes 49 (4 ∷ 5 ∷ 6 ∷ 7 ∷ []) (12 ∷ 21 ∷ []) worst.unseen (0 ∷ []) shows
+kept_for_a_show shows = refl
+
+pub kept_parts : (shows : ExtremesByRanks) (unseen : List ℕ) → AreExtremes 49 (4 ∷ 5 ∷ 6 ∷ 7 ∷ []) (12 ∷ 21 ∷ []) unseen (0 ∷ []) shows →
+    AreOwnPoints 49 (4 ∷ 5 ∷ 6 ∷ 7 ∷ []) (12 ∷ 21 ∷ []) shows.own × AreKeptIn 49 (12 ∷ 21 ∷ []) unseen (0 ∷ []) shows.kept
+kept_parts shows unseen are = (are.own, are.kept)

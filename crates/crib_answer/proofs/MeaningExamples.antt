@@ -1,0 +1,118 @@
+-- Worked examples of right replies and of what they guarantee, clause by clause.
+use Rattle.std.proofs.Common.{arith, ◌≡◌, refl, ap, inl, inr, ℕ, List, [], codes, Option, Some, None, Ok}
+use Rattle.std.specs.Prelude.{slice_index}
+use Rattle.std.specs.Fmt.{digits}
+use Rattle.crib_problem.specs.Setup.{Setup}
+use Rattle.crib_plan.specs.declared.plan.Node.{Node}
+use Rattle.crib_plan.specs.Nodes.{most_nodes}
+use Rattle.crib_plan.specs.Spelling.{plan_lines, plan_text}
+use Rattle.crib_check.specs.declared.verdict.Verdict.{Verdict}
+use Rattle.crib_check.specs.declared.verdict.Verdict.TheVariants.{Holds, Fails}
+use Rattle.crib_check.specs.Sure.{Ends, GoesOn, IsSure}
+use Rattle.crib_check.specs.Verdicts.{IsRight}
+use Rattle.crib_search.specs.Finder.{ExceedsLimit, IsFound}
+use Rattle.crib_search.specs.Winnable.{IsWinnable}
+use Rattle.crib_input.specs.Spelled.{SpellsPlan, SpellsProblem}
+use Rattle.crib_run.specs.declared.status.Status.TheVariants.{Yes, No, Fault}
+use Rattle.crib_run.specs.Reply.{Reply}
+use Rattle.crib_answer.specs.declared.job.Job.TheVariants.{Follow, Board, Solve}
+use Rattle.crib_answer.specs.Answer.{AnswersCheck, AnswersProblem, AnswersSolve}
+use Rattle.crib_answer.specs.Meaning.{CheckMeans, HasNoPlan, HasSomePlan, HasSurePlan, IsSolvedBy, SolveMeans, StatusMeans}
+
+-- ---- right replies of `check`: the verdict is right, and the reply is that of the verdict
+pub holds_for_a_sure_plan : (problem : Setup) (plan : List Node) → IsSure problem plan →
+    AnswersCheck (Ok (problem, plan)) (record { output = codes "holds\n"; status = Yes })
+holds_for_a_sure_plan problem plan sure = (Holds, sure, refl)
+
+pub verdict_is_right : (problem : Setup) (plan : List Node) (reply : Reply) → ((verdict : Verdict) → IsRight problem plan verdict → ⊥) →
+    AnswersCheck (Ok (problem, plan)) reply → ⊥
+verdict_is_right problem plan reply none (verdict, right, same) = none verdict right
+
+pub verdict_is_written : (problem : Setup) (plan : List Node) → AnswersCheck (Ok (problem, plan)) (record { output = []; status = Yes }) → ⊥
+verdict_is_written problem plan (Holds, right, same) = (let text = ap (λ (reply : Reply). reply.output) same in cc)
+verdict_is_written problem plan (Fails result game, right, same) = (let text = ap (λ (reply : Reply). reply.output) same in cc)
+
+-- ---- right replies of `solve`: what was found, or that it is too large
+pub none_is_written : (problem : Setup) → IsFound problem None → (ExceedsLimit problem most_nodes → ⊥) →
+    AnswersProblem problem (record { output = codes "none\n"; status = No })
+none_is_written problem found few = inl (None, found, few, refl)
+
+pub too_large_is_written : (problem : Setup) → ExceedsLimit problem most_nodes → AnswersProblem problem (record { output = codes "fault 50\n"; status = Fault })
+unfolding digits
+too_large_is_written problem many = inr (many, refl)
+
+pub something_is_found : (problem : Setup) (reply : Reply) → ((plan : Option (List Node)) → IsFound problem plan → ⊥) →
+    (ExceedsLimit problem most_nodes → ⊥) → AnswersProblem problem reply → ⊥
+something_is_found problem reply none few (inl found) = none found.0 found.1
+something_is_found problem reply none few (inr large) = few large.0
+
+pub nothing_is_written : (problem : Setup) → AnswersProblem problem (record { output = []; status = Yes }) → ⊥
+unfolding plan_text plan_lines
+nothing_is_written problem (inl (None, found, few, same)) = (let text = ap (λ (reply : Reply). reply.output) same in cc)
+nothing_is_written problem (inl (Some plan, found, few, same)) = (let text = ap (λ (reply : Reply). reply.output) same in cc)
+nothing_is_written problem (inr large) = (let text = ap (λ (reply : Reply). reply.output) large.1 in cc)
+
+pub solved_by_its_problem : (problem : Setup) (reply : Reply) → AnswersSolve (Ok problem) reply ≡ AnswersProblem problem reply
+solved_by_its_problem problem reply = refl
+
+-- ---- a sure plan is sure, goes on and ends
+pub sure_plan_is_sure : (input : List ℕ) → ((problem : Setup) (plan : List Node) → IsSure problem plan → ⊥) → HasSurePlan input → ⊥
+sure_plan_is_sure input none has = none has.problem has.plan has.sure
+
+pub sure_plan_goes_on : (input : List ℕ) → ((problem : Setup) (plan : List Node) → GoesOn problem plan → ⊥) → HasSurePlan input → ⊥
+sure_plan_goes_on input none has = none has.problem has.plan has.goes_on
+
+pub play_of_a_sure_plan_ends : (input : List ℕ) → ((problem : Setup) → Ends problem → ⊥) → HasSurePlan input → ⊥
+play_of_a_sure_plan_ends input none has = none has.problem has.ends
+
+pub sure_plan_is_spelled : (input : List ℕ) → ((problem : Setup) (plan : List Node) → SpellsPlan input problem plan → ⊥) → HasSurePlan input → ⊥
+sure_plan_is_spelled input none has = none has.problem has.plan has.spelled
+
+pub found_plan_is_sure : (input text : List ℕ) → ((problem : Setup) (plan : List Node) → IsSure problem plan → ⊥) → IsSolvedBy input text → ⊥
+found_plan_is_sure input text none is = none is.problem is.plan is.sure
+
+pub found_plan_goes_on : (input text : List ℕ) → ((problem : Setup) (plan : List Node) → GoesOn problem plan → ⊥) → IsSolvedBy input text → ⊥
+found_plan_goes_on input text none is = none is.problem is.plan is.goes_on
+
+pub play_of_a_found_plan_ends : (input text : List ℕ) → ((problem : Setup) → Ends problem → ⊥) → IsSolvedBy input text → ⊥
+play_of_a_found_plan_ends input text none is = none is.problem is.ends
+
+pub problem_of_a_found_plan : (input text : List ℕ) → ((problem : Setup) → SpellsProblem input problem → ⊥) → IsSolvedBy input text → ⊥
+problem_of_a_found_plan input text none is = none is.problem is.spelled
+
+-- ---- no plan, and some plan
+pub no_plan_is_sure : (input : List ℕ) → ((problem : Setup) → IsWinnable problem) → HasNoPlan input → ⊥
+no_plan_is_sure input all has = has.none (all has.problem)
+
+pub problem_without_a_plan : (input : List ℕ) → ((problem : Setup) → SpellsProblem input problem → ⊥) → HasNoPlan input → ⊥
+problem_without_a_plan input none has = none has.problem has.spelled
+
+pub problem_with_some_plan : (input : List ℕ) → ((problem : Setup) → SpellsProblem input problem → ⊥) → HasSomePlan input → ⊥
+problem_with_some_plan input none has = none has.problem has.spelled
+
+-- ---- what `solve` guarantees
+pub solved_by_its_text : (input text : List ℕ) → SolveMeans input text Yes ≡ IsSolvedBy input text
+solved_by_its_text input text = refl
+
+pub too_large_for_some_plan : (input : List ℕ) → HasSomePlan input → SolveMeans input (codes "fault 50\n") Fault
+unfolding digits
+too_large_for_some_plan input has = inr (has, refl)
+
+pub too_large_without_a_plan : (input : List ℕ) → (HasSomePlan input → ⊥) → SolveMeans input (codes "fault 50\n") Fault → ⊥
+unfolding digits
+too_large_without_a_plan input none (inl text) = (let digit : 53 ≡ 49 = ap (λ bytes. slice_index bytes 6) text in absurd (omega (arith, digit)))
+too_large_without_a_plan input none (inr has) = none has.0
+
+pub doubled_byte_of_a_fault : (input : List ℕ) → SolveMeans input (codes "ffault 50\n") Fault → ⊥
+doubled_byte_of_a_fault input (inl text) = (let byte : 102 ≡ 97 = ap (λ bytes. slice_index bytes 1) text in absurd (omega (arith, byte)))
+doubled_byte_of_a_fault input (inr has) = (let byte : 102 ≡ 97 = ap (λ bytes. slice_index bytes 1) has.1 in absurd (omega (arith, byte)))
+
+pub doubled_byte_of_holds : (input : List ℕ) → CheckMeans input (codes "hholds\n") Yes → ⊥
+doubled_byte_of_holds input means = (let byte : 104 ≡ 111 = ap (λ bytes. slice_index bytes 1) means.1 in absurd (omega (arith, byte)))
+
+pub status_of_solve : (input text : List ℕ) → StatusMeans Solve input (record { output = text; status = Yes }) ≡ SolveMeans input text Yes
+status_of_solve input text = refl
+
+pub follow_and_board_mean_nothing : (text : List ℕ) →
+    StatusMeans Follow [] (record { output = text; status = Yes }) × StatusMeans Board [] (record { output = text; status = Yes })
+follow_and_board_mean_nothing text = (tt, tt)

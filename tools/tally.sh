@@ -7,9 +7,7 @@ room=$(mktemp -d) || exit 1
 said=$room/said
 trap 'rm -rf "$room"' EXIT
 
-pass() {
-    passed=$((passed + 1))
-}
+pass() { passed=$((passed + 1)); }
 
 # fail WHAT: what differs is in $said.
 fail() {
@@ -24,9 +22,7 @@ fail() {
 add() {
     local more_passed more_failed
     read -r more_passed more_failed < <(tail -n 1 "$1" | sed -n 's/^\([0-9]*\) passed, \([0-9]*\) failed$/\1 \2/p')
-    if [ -z "${more_failed:-}" ] || { [ "$2" -ne 0 ] && [ "$more_failed" -eq 0 ]; }; then
-        more_failed=1
-    fi
+    { [ -n "${more_failed:-}" ] && [ "$2" -eq 0 ]; } || [ "${more_failed:-0}" -gt 0 ] || more_failed=1
     passed=$((passed + ${more_passed:-0}))
     failed=$((failed + more_failed))
 }

@@ -1,45 +1,78 @@
-"""The definitions of the repository, where they are, and what each of them rests on.
+"""What the scripts read of the repository: its pages; and its definitions, where they are, and what each rests on.
 
-It reads the folders `specs` and `src` of each crate: definitions with their lines, the types and traits of Rust with
-their fields, views and invariants, and the clauses of functions. A name of a file means what the `use` and `ghost use`
-lines of the file say, or a definition of the same file. Comments, blank lines and imports don't count as lines of a
-definition, and what the library of the toolchain defines counts for nothing.
+Of a page it reads sections, tables, quotes and names in backticks. Of each crate it reads the folders `specs` and
+`src`: definitions with their lines, the types and traits of Rust with their fields, views and invariants, and the
+clauses of functions. A name of a file means what the `use` and `ghost use` lines of the file say, or a definition of
+the same file. Comments, blank lines and imports don't count as lines of a definition, and what the library of the
+toolchain defines counts for nothing. `tell` ends a script.
 """
 
-from __future__ import annotations
-
 import re
+from collections import defaultdict, namedtuple
 from collections.abc import Callable, Iterable, Iterator
-from dataclasses import dataclass
-from itertools import takewhile
+from functools import cache
+from itertools import accumulate, takewhile
 from pathlib import Path
-from typing import NamedTuple, TypeVar
+from typing import TypeVar
 
 T = TypeVar("T")
 ROOT = Path(__file__).resolve().parent.parent
 CRATES = ROOT / "crates"
+PATTERNS = ("*.md", "docs/*.md", "docs/*.1", "*/README.md", "crates/*/README.md", "bench/*/README.md")
+PAGES = {str(path.relative_to(ROOT)): path.read_text() for one in PATTERNS for path in sorted(ROOT.glob(one))}
 THEOREM = ("crib_answer", "answer_to")  # the call that the headline is about: its crate and name
 NAME = re.compile(r"(?<![\w.])[^\W\d][\w'-]*(?:\.[\w'-]+)?|>>=|←")
 IMPORT = re.compile(
     r"^ *(?:pub )?(?:ghost )?use (?:Rattle\.(\w+)\.(specs|proofs)\.)?([\w.]+?)(?:\.\{([^}]*)\}| as (\w+))?;?$", re.M
 )
+ITEM = re.compile(  # a type or a view of Rust: to its semicolon, or to the brace that closes it
+    r"^((?:(?:pub(?:\(\w+\))? )?(?:struct|enum|trait) (\w+)|impl.* Model for (\w+))(?:.*[;}] *$|(?s:.*?)^\}.*$))", re.M
+)
 
 
-class Import(NamedTuple):
-    """An import of antt: crate, `specs` or `proofs`, place, the names with those that they get, and an alias."""
+def tell(tried: int, faults: Iterable[str]) -> int:
+    """Prints the faults, a line for each, and then the last line. Answers the exit status, 1 where something failed."""
+    failed = [*faults]
+    print(*failed, f"{max(tried - len(failed), 0)} passed, {len(failed)} failed", sep="\n")
+    return 1 if failed else 0
 
-    crate: str
-    kind: str
-    place: str
-    names: dict[str, str]
-    alias: str
+
+def section(text: str, head: str) -> str:
+    """The part of a page below a heading, up to the next heading of its kind."""
+    end = rf"(?=^{head.split()[0]} (?![^\n]*  )|\Z)"
+    found = re.search(rf"^{re.escape(head)}(?!\w)[^\n]*\n(.*?){end}", text, re.M | re.S)
+    return found[1] if found else ""
+
+
+def rows(text: str) -> list[list[str]]:
+    """The cells of each row of the tables in a text. A table's first row is its head."""
+    lines = re.findall(r"^\|(?!-)(.*)\|$", text, re.M)
+    return [[cell.strip() for cell in re.split(r"(?<!\\)\|", line)] for line in lines]
+
+
+def fenced(text: str) -> list[str]:
+    """The fenced quotes of a page."""
+    return re.findall(r"^```[^\n]*\n(.*?)^```$", text, re.M | re.S)
+
+
+def quoted(text: str) -> list[str]:
+    """The texts in backticks."""
+    return re.findall(r"`([^`]+)`", text)
+
+
+Import = namedtuple("Import", "crate kind place names alias")  # the kind is `specs` or `proofs`
 
 
 def imports_of(text: str) -> Iterator[Import]:
-    """The imports of a text. One without names has an alias, if only the last part of its place."""
+    """The imports of a text, with the names that they get. One without names has an alias, if only its last part."""
     for crate, kind, place, names, alias in IMPORT.findall(text):
         pairs = [(name.strip().replace("◌", "").split(" as ") * 2)[:2] for name in names.split(",") if name.strip()]
         yield Import(crate, kind, place, dict(pairs), alias or place.split(".")[-1])
+
+
+def without_remarks(text: str, mark: str = "--") -> str:
+    """A text without its comments. What looks like one within a text in quotes stays."""
+    return re.sub(rf'("(?:[^"\\\n]|\\.)*")|{mark}.*', lambda found: found[1] or "", text)
 
 
 def code_lines(lines: list[str]) -> list[str]:
@@ -47,24 +80,23 @@ def code_lines(lines: list[str]) -> list[str]:
     return [line for line in lines if not re.match(r"\s*($|--|//|#\[|(ghost )?use |(pub )?mod )", line)]
 
 
-def comment_of(lines: list[str]) -> str:
-    """What the comment above a definition says, as one line. The comment above the imports is the file's."""
-    last = max((n for n, line in enumerate(lines) if re.match(r"\s*(ghost )?use ", line)), default=-1)
-    said = takewhile(lambda line: line.startswith("--"), lines[last + 1 :])
-    return " ".join(line.removeprefix("--").strip() for line in said if not line.startswith("-- ----"))
-
-
 class Block:
     """A definition, a type with its view, or the head of a function: its file, its name, its lines, the names in them,
     its text with comments, and of a definition what its comment says."""
 
     def __init__(self, path: Path, name: str, lines: list[str]) -> None:
-        self.path, self.name, self.text, self.comment = path, name, lines, comment_of(lines)
-        self.lines = code_lines(lines)
+        self.path, self.name, self.text, self.lines = path, name, lines, code_lines(lines)
         aside = r'"[^"]*"|//.*|--.*'  # texts and remarks, and in Rust the names of variants
         aside += r"|^    \w+(?=[,(])" if path.suffix == ".rt" else ""
         words = NAME.findall("\n".join(re.sub(aside, "", line) for line in self.lines))
         self.words = {part for word in words for part in (word, word.split(".")[0])}
+
+    @property
+    def comment(self) -> str:
+        """What the comment above says, as one line. The comment above the imports is the file's."""
+        last = max((n for n, line in enumerate(self.text) if re.match(r"\s*(ghost )?use ", line)), default=-1)
+        said = takewhile(lambda line: line.startswith("--"), self.text[last + 1 :])
+        return " ".join(line.removeprefix("--").strip() for line in said if not line.startswith("-- ----"))
 
 
 def place_of(path: Path) -> tuple[str, str]:
@@ -88,11 +120,6 @@ def code_files(crate: str = "*") -> list[Path]:
     return [path for path in sorted(CRATES.glob(f"{crate}/src/**/*.rt")) if path.parent.name != "tests"]
 
 
-def words_in(found: Iterable[Iterable[str]]) -> set[str]:
-    """The words of all parts that a pattern found."""
-    return {word for parts in found for part in parts for word in re.findall(r"\w+", part)}
-
-
 def reached(roots: Iterable[T], below: Callable[[T], Iterable[T]]) -> list[T]:
     """Some roots, and all that is below them."""
     found = dict.fromkeys(roots)
@@ -107,9 +134,9 @@ def reached(roots: Iterable[T], below: Callable[[T], Iterable[T]]) -> list[T]:
 def exported(crate: str) -> set[str]:
     """The names that the `lib.rt` of a crate exports; of a program those that its files declare as `pub`."""
     library = CRATES / crate / "src/lib.rt"
-    head = r"^pub use (?:\w+::)+(?:\{([^}]*)\}|(\w+));|^pub \w+ (\w+)"
-    paths = [library] if library.is_file() else code_files(crate)
-    return words_in(found for path in paths for found in re.findall(head, path.read_text(), re.M))
+    text = "\n".join(path.read_text() for path in ([library] if library.is_file() else code_files(crate)))
+    found = re.findall(r"^pub use (?:\w+::)+(\{[^}]*\}|\w+);|^pub \w+ (\w+)", text, re.M)
+    return {*re.findall(r"\w+", " ".join(map(" ".join, found)))}
 
 
 def paragraphs(text: str) -> list[str]:
@@ -119,14 +146,13 @@ def paragraphs(text: str) -> list[str]:
 
 def declared_names(block: str) -> list[str]:
     """The names that a declaration of antt declares: its own, those of a `mutual` block, and the variants of a type."""
-    aside = re.compile(r" *(--|(pub )?(use|mod) |infix)")
-    code = "\n".join(line for line in block.splitlines() if not aside.match(line))
-    record = re.match(r"\n*(?:pub )?record (\w+)", code)
+    code = re.sub(r"^ *(?:--|(?:pub )?(?:use|mod) |infix).*\n?", "", block, flags=re.M)
+    if record := re.match(r"\n*(?:pub )?record (\w+)", code):
+        return [record[1]]
     head = r"^ *(?:abbrev |unfoldable )?pub (?:data )?([^\s:(]+)"
     head += r"|^(?:abbrev |unfoldable |data )?([^\s:(]+)(?: [({].*[)}])* :"
     head += r"|^ +(\w+) :" if re.search(r"^ *(pub )?data ", code, re.M) else ""
-    names = [record.groups()] if record else re.findall(head, code, re.M)
-    return [name.replace("◌", "") for found in names for name in found if name]
+    return ["".join(found).replace("◌", "") for found in re.findall(head, code, re.M)]
 
 
 def spec_blocks(path: Path) -> Iterator[tuple[str, Block]]:
@@ -137,48 +163,24 @@ def spec_blocks(path: Path) -> Iterator[tuple[str, Block]]:
         yield from ((name, block) for name in names)
 
 
-def item_lines(lines: list[str], start: int) -> list[str]:
-    """The lines of an item of Rust: to the brace that closes it, or to its semicolon."""
-    if lines[start].rstrip().endswith((";", "}")):
-        return lines[start : start + 1]
-    end = next(n for n in range(start, len(lines)) if lines[n].startswith("}"))
-    return lines[start : end + 1]
-
-
 def type_blocks(path: Path) -> list[tuple[str, Block]]:
     """The structs, enums and traits that a file of src declares, with their views and invariants."""
-    lines = path.read_text().splitlines()
-    found: dict[str, list[str]] = {}
-    for pattern in (r"(?:pub(?:\(\w+\))? )?(?:struct|enum|trait) (\w+)", r"impl.* Model for (\w+)"):
-        for n, line in enumerate(lines):
-            declared = re.match(pattern, line)
-            if declared and (declared[1] in found or "impl" not in pattern):
-                found[declared[1]] = found.get(declared[1], []) + item_lines(lines, n)
-    return [(name, Block(path, name, body)) for name, body in found.items()]
+    items = ITEM.findall(path.read_text())
+    views = {viewed: text for text, _, viewed in items}
+    texts = {name: f"{text}\n{views.get(name, '')}" for text, name, _ in items if name}
+    return [(name, Block(path, name, text.splitlines())) for name, text in texts.items()]
 
 
-@dataclass
-class Function:
+class Function(namedtuple("Function", "path name owner is_pub within lines body")):
     """A function of src, or a ghost member: its name, the type or trait that it belongs to, whether it is `pub`, what
     block it is in (`impl`, `trait` or `for`), and the lines of its head and of its body."""
 
-    path: Path
-    name: str
-    owner: str
-    is_pub: bool
-    within: str
-    lines: list[str]
-    body: list[str]
-
-    def head(self, clauses: list[str] | None = None) -> Block:
+    def head(self, *clauses: str) -> Block:
         """The head as a block: all of it, or its types and the clauses of some names."""
-        if clauses is None:
-            return Block(self.path, self.name, self.lines)
         is_chosen, chosen = True, []
         for line in self.lines:
-            if re.match(r"\s*(requires|ensures)\b", line):
-                clause = re.match(r"\s*ensures (\w*)", line)
-                is_chosen = bool(clause and clause[1] in clauses)
+            if clauses and (clause := re.match(r"\s*(?:requires|ensures (\w*))", line)):
+                is_chosen = clause[1] in clauses
             chosen += [line] * is_chosen
         return Block(self.path, self.name, chosen)
 
@@ -186,9 +188,8 @@ class Function:
 def head_and_body(lines: list[str], start: int) -> tuple[list[str], list[str]]:
     """The lines of a function's head, to its body or to the semicolon that ends it; and those of its body."""
     margin = re.match(" *", lines[start])[0]
-    depth = 0
-    for n, line in enumerate(lines[start:], start):
-        depth += line.count("{") - line.count("}")
+    depths = accumulate(line.count("{") - line.count("}") for line in lines[start:])
+    for n, (line, depth) in enumerate(zip(lines[start:], depths), start):
         if re.match(rf"{margin}\S", line) and line.endswith(("{", "}")):
             end = lines.index(margin + "}", n) if line.endswith("{") else n
             return lines[start : n + (line.strip() not in ("{", "{}"))], lines[n + 1 : end]
@@ -202,18 +203,15 @@ def functions_of(path: Path) -> Iterator[Function]:
     lines = path.read_text().splitlines()
     owner = within = ""
     for n, line in enumerate(lines):
-        block = re.match(r"(?:pub )?(impl|trait)\b(.*)", line)
         if line == "}":
             owner = within = ""
-        if block:
+        elif block := re.match(r"(?:pub )?(impl|trait)\b(.*)", line):
             words = re.sub(r"<[^<>]*>", "", re.sub(r"<[^<>]*>", "", block[2])).split(" where ")[0]
             owner, within = re.findall(r"\w+", words.split(":")[0])[-1], "for" if " for " in words else block[1]
-        ghost = re.match(r"    ghost (\w+) = ", line)
-        if ghost:
+        elif ghost := re.match(r"    ghost (\w+) = ", line):
             end = next(m for m in range(n, len(lines)) if lines[m].endswith("};"))
             yield Function(path, ghost[1], owner, False, within, lines[n : end + 1], [])
-        found = re.match(r"\s*(pub )?(?:pub\(\w+\) )?(?:const )?fn (\w+)", line)
-        if found:
+        elif found := re.match(r"\s*(pub )?(?:pub\(\w+\) )?(?:const )?fn (\w+)", line):
             yield Function(path, found[2], owner, bool(found[1]), within, *head_and_body(lines, n))
 
 
@@ -231,45 +229,33 @@ class Source:
     """All definitions of the repository, and what the names of each file mean."""
 
     def __init__(self) -> None:
-        self.specs: dict[tuple[str, str, str], Block] = {}  # by crate, module and name
-        self.types: dict[tuple[str, str], Block] = {}  # by crate and name
-        self.meanings_of: dict[Path, dict[str, Block]] = {}
+        self.specs: dict[tuple[str, str], dict[str, Block]] = defaultdict(dict)  # by crate and module, and by name
+        self.types: dict[str, dict[str, Block]] = defaultdict(dict)  # by crate, and by name
         self.instead: dict[str, Block] = {}  # what is read in place of a definition of that name: a law says the same
         for path in sorted(CRATES.glob("*/specs/**/*.antt")):
-            self.specs.update({(*place_of(path), name): block for name, block in spec_blocks(path)})
+            self.specs[place_of(path)].update(spec_blocks(path))
         for path in code_files():
-            self.types.update({(place_of(path)[0], name): block for name, block in type_blocks(path)})
+            self.types[place_of(path)[0]].update(type_blocks(path))
 
     def function(self, crate: str, name: str) -> Function:
         """The function of that name in a crate."""
         return next(one for path in code_files(crate) for one in functions_of(path) if one.name == name)
 
-    def of_theorem(self) -> list[Block]:
-        """The clause that is the theorem, and all that it rests on."""
-        clause = self.function(*THEOREM).head(["means"])
-        return [clause, *self.reached_from([clause])]
-
-    def of_module(self, crate: str, module: str) -> dict[str, Block]:
-        """The definitions of a module, by their names."""
-        return {name: block for (its, of, name), block in self.specs.items() if (its, of) == (crate, module)}
-
+    @cache
     def meanings(self, path: Path) -> dict[str, Block]:
         """The blocks that the names of a file mean."""
-        if path not in self.meanings_of:
-            (crate, module), text = place_of(path), path.read_text()
-            found = self.of_module(crate, module) if path.suffix == ".antt" else self.rust_types(crate, text)
-            for one in imports_of(text):
-                if one.kind == "specs":
-                    self.add_import(found, one)
-            self.meanings_of[path] = found
-        return self.meanings_of[path]
+        (crate, module), text = place_of(path), path.read_text()
+        found = dict(self.specs[crate, module] if path.suffix == ".antt" else self.rust_types(crate, text))
+        for one in (one for one in imports_of(text) if one.kind == "specs"):
+            self.add_import(found, one)
+        return found
 
     def rust_types(self, crate: str, text: str) -> dict[str, Block]:
         """The types that the names of a file of src may be: those it imports, else its crate's, else any crate's."""
-        found = {name: block for (_, name), block in self.types.items()}
-        found.update({name: block for (its, name), block in self.types.items() if its == crate})
+        found = {name: block for its in (*self.types.values(), self.types[crate]) for name, block in its.items()}
         for its, names in re.findall(r"^use (\w+)::([^;]*);", text, re.M):
-            found.update({n: self.types[its, n] for n in re.findall(r"\w+", names) if (its, n) in self.types})
+            imported = {*re.findall(r"\w+", names)}
+            found |= {name: block for name, block in self.types.get(its, {}).items() if name in imported}
         return found
 
     def add_import(self, found: dict[str, Block], one: Import) -> None:
@@ -280,11 +266,11 @@ class Source:
             if not (CRATES / one.crate).is_dir() or place.startswith("contracts."):
                 found.pop(used, None)
             elif place.startswith("declared."):
-                found[used] = self.types[one.crate, last]
+                found[used] = self.types[one.crate][last]
             elif one.names:
-                found[used] = self.specs[one.crate, place, name]
+                found[used] = self.specs[one.crate, place][name]
             else:
-                found.update({f"{used}.{its}": block for its, block in self.of_module(one.crate, place).items()})
+                found |= {f"{used}.{its}": block for its, block in self.specs[one.crate, place].items()}
 
     def cited(self, block: Block) -> list[Block]:
         """The definitions and the types that a block names."""

@@ -93,6 +93,25 @@ ask() {
     esac
 }
 
+# find_kept FILE COMMAND: whether cribplan-many keeps an answer to that file which isn't older; its file is in $kept.
+find_kept() {
+    local status
+    for status in 0 1 2; do
+        kept=$1.$2.$status
+        [ ! -s "$kept" ] || [ "$1" -nt "$kept" ] || return 0
+    done
+    return 1
+}
+
+# take_lanes [N]: the word behind -j, which is how many processes run at once; in $lanes.
+take_lanes() {
+    if ! [[ ${1-} =~ ^[1-9][0-9]{0,3}$ ]]; then
+        say "-j needs a number of processes, 1 to 9999${1+, and not \"$1\"}"
+        exit 2
+    fi
+    lanes=$1
+}
+
 # is_refused [NUMBER]: whether the last answer is a refusal, with that number where it is given.
 is_refused() {
     [ "$status" -eq 2 ] && { [ $# -eq 0 ] || [ "${answer[0]##*: }" = "$1" ]; }
@@ -118,6 +137,10 @@ meant='
     function meant(word,    capital, small) {
         capital = toupper(word)
         sub(/^10/, "T", capital)
+        sub(/\342\231\243/, "C", capital)
+        sub(/\342\231\246/, "D", capital)
+        sub(/\342\231\245/, "H", capital)
+        sub(/\342\231\240/, "S", capital)
         if (capital ~ /^[A23456789TJQK][CDHS]$/) return capital
         small = tolower(word)
         return small ~ ("^(problem|dealer|owner|opponent|score|starter|hold|throw|goal|win|holes|stop|played|own|opp|go|" \
@@ -142,19 +165,25 @@ write_problem() {
     printf '%s\n' "problem 2" "${facts[@]}" "$1" "played $((${#turns[@]} + $# - 1))" "${turns[@]}" "${@:2}"
 }
 
+# write_last_turn GOAL TURN: the problem with that goal, and the plan that makes this turn of the owner and nothing else.
+# A go needs no node.
+write_last_turn() {
+    write_problem "$1"
+    case $2 in
+    'own go') printf '%s\n' "plan 1" "nodes 0" ;;
+    *) printf '%s\n' "plan 1" "nodes 1" "0 play ${2#own } end" ;;
+    esac
+}
+
 # is_sure GOAL [TURN]: whether a plan is sure for that goal, once that turn is made: 0 if so, with its length in $nodes,
 # 1 if not, and 2 if the turn is refused. A turn of the owner that ends the deal leaves no problem behind. Then the plan
-# that makes it and nothing else is checked, and if it holds, $nodes is empty; a go needs no node.
+# that makes it and nothing else is checked, and if it holds, $nodes is empty.
 is_sure() {
     ask solve < <(write_problem "$@")
     nodes=${answer[1]-}
     nodes=${nodes#nodes }
     if [[ ${2-} == own* ]] && is_refused 24; then
-        case $2 in
-        'own go') set -- "$1" "nodes 0" ;;
-        *) set -- "$1" "nodes 1" "0 play ${2#own } end" ;;
-        esac
-        ask check < <(write_problem "$1" && printf '%s\n' "plan 1" "${@:2}")
+        ask check < <(write_last_turn "$@")
         nodes=
     fi
     return "$status"

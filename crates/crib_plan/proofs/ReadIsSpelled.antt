@@ -1,5 +1,5 @@
 -- If a line is read as a node, it is the spelling of that node.
-use Rattle.std.proofs.Common.{◌≡◌, ℕ, ◌^◌, ◌<◌, ◌≤◌, eqb, List, [], ◌∷◌, Ok, Err, codes, decimal, refl, sym, ap, subst, ◌∙◌}
+use Rattle.std.proofs.Common.{◌≡◌, ℕ, ◌^◌, ◌<◌, eqb, List, [], ◌∷◌, Ok, Err, codes, decimal, refl, sym, ap, subst, ◌∙◌}
 use Rattle.std.proofs.Common.{inl, inr}
 use Rattle.std.specs.Prelude.{bytes_eq}
 use Rattle.std.proofs.lemmas.Bool.{cases_Bool, eqb-true}
@@ -30,29 +30,26 @@ abbrev IsLineOf : ℕ → ℕ → List (List ℕ) → Node → Type 0
 IsLineOf place count words node = (words ≡ node_line place node) × (place < 2 ^ 32) × IsNode place count node
 
 -- a play line that was read is that of its node
-play_found : (place count : ℕ) (words : List (List ℕ)) (node : Node) → play_in place count words ≡ Ok node → (kind : List ℕ) → (rest : List (List ℕ)) →
-    (own : List ℕ) → words ≡ own ∷ kind ∷ rest → kind ≡ codes "play" → IsLineOf place count words node
+play_found : (place count : ℕ) (own kind : List ℕ) (words : List (List ℕ)) (node : Node) → kind ≡ codes "play" →
+    play_in place count (own ∷ kind ∷ words) ≡ Ok node → IsLineOf place count (own ∷ kind ∷ words) node
 unfolding play_in
-play_found place count [] node e kind rest own parts is = absurd cc
-play_found place count (w0 ∷ []) node e kind rest own parts is = absurd cc
-play_found place count (w0 ∷ w1 ∷ []) node e kind rest own parts is = absurd cc
-play_found place count (w0 ∷ w1 ∷ w2 ∷ []) node e kind rest own parts is = absurd cc
-play_found place count (w0 ∷ w1 ∷ w2 ∷ w3 ∷ []) node e kind rest own parts is =
-    let a = bind_ok (own_number_in place w0) _ node e in
-    let b = bind_ok (or_refused bad_card (card_read w2)) _ node a.2 in
-    let d = bind_ok (next_in place count w3) _ node b.2 in
-    let o = own_found place w0 a.0 a.1 in
-    let k : w1 ≡ codes "play" = (let h : w1 ≡ kind = cc in h ∙ is) in
-    let c = card_read_is w2 b.0 (or_ok bad_card (card_read w2) b.0 b.1) in
-    let n = next_found place count w3 d.0 d.1 in
-    subst (λ (v : Node). IsLineOf place count (w0 ∷ w1 ∷ w2 ∷ w3 ∷ []) v) (ok_is (Play b.0 d.0) node d.2) (
-      ap (λ (w : List ℕ). w ∷ w1 ∷ w2 ∷ w3 ∷ []) o.0 ∙ ap (λ (w : List ℕ). decimal place ∷ w ∷ w2 ∷ w3 ∷ []) k
-          ∙ ap (λ (w : List ℕ). decimal place ∷ codes "play" ∷ w ∷ w3 ∷ []) c.0
+play_found place count own kind [] node is e = absurd cc
+play_found place count own kind (card ∷ []) node is e = absurd cc
+play_found place count own kind (card ∷ next ∷ []) node is e =
+    let a = bind_ok (own_number_in place own) _ node e in
+    let b = bind_ok (or_refused bad_card (card_read card)) _ node a.2 in
+    let d = bind_ok (next_in place count next) _ node b.2 in
+    let o = own_found place own a.0 a.1 in
+    let c = card_read_is card b.0 (or_ok bad_card (card_read card) b.0 b.1) in
+    let n = next_found place count next d.0 d.1 in
+    subst (λ (v : Node). IsLineOf place count (own ∷ kind ∷ card ∷ next ∷ []) v) (ok_is (Play b.0 d.0) node d.2) (
+      ap (λ (w : List ℕ). w ∷ kind ∷ card ∷ next ∷ []) o.0 ∙ ap (λ (w : List ℕ). decimal place ∷ w ∷ card ∷ next ∷ []) is
+          ∙ ap (λ (w : List ℕ). decimal place ∷ codes "play" ∷ w ∷ next ∷ []) c.0
           ∙ ap (λ (w : List ℕ). decimal place ∷ codes "play" ∷ card_text b.0 ∷ w ∷ []) n.0,
       o.1,
       (c.1, n.1),
     )
-play_found place count (w0 ∷ w1 ∷ w2 ∷ w3 ∷ w4 ∷ words) node e kind rest own parts is = absurd cc
+play_found place count own kind (card ∷ next ∷ other ∷ words) node is e = absurd cc
 
 -- a see line that was read is that of its node
 see_found : (place count : ℕ) (own kind : List ℕ) (words : List (List ℕ)) (node : Node) → kind ≡ codes "see" →
@@ -78,7 +75,7 @@ node_found place count (own ∷ kind ∷ words) node e =
     elim (cases_Bool (bytes_eq kind (codes "play"))) [
       | inl plays ↦
           let h : node_from place count (own ∷ kind ∷ words) ≡ play_in place count (own ∷ kind ∷ words) = rw plays refl in
-          play_found place count (own ∷ kind ∷ words) node (sym h ∙ e) kind words own refl ((bytes_eq-Decides kind (codes "play")).0 plays)
+          play_found place count own kind words node ((bytes_eq-Decides kind (codes "play")).0 plays) (sym h ∙ e)
       | inr other ↦
           elim (cases_Bool (bytes_eq kind (codes "see"))) [
             | inl sees ↦

@@ -1,80 +1,156 @@
 -- The branches of a see line as the code keeps them, and as their letters and nodes.
-use Rattle.std.proofs.Common.{◌≡◌, ℕ, zero, suc, ◌+◌, ◌<◌, ◌≤◌, Bool, true, false, not, cond, eqb, ◌||◌, List, [], ◌∷◌, ◌++◌, length, get_or, Some, None, Ok}
+use Rattle.std.proofs.Common.{◌≡◌, ℕ, zero, suc, ◌+◌, ◌<◌, ◌≤◌, Bool, true, false, not, cond, eqb, ◌||◌, List, [], ◌∷◌, ◌++◌, length, map, get_or, take}
 use Rattle.std.proofs.Common.{refl, sym, ap, subst, ◌∙◌, arith, inl, inr}
-use Rattle.std.specs.Prelude.{position, nat_lt, replicate}
-use Rattle.std.specs.List.{list_any, position_or_len}
-use Rattle.std.proofs.lemmas.Bool.{cases_Bool, and_parts, not-true, or_left, or_right}
-use Rattle.std.proofs.lemmas.List.Folds.{list_any-append}
-use Rattle.std.proofs.lemmas.List.Quantifiers.{position-Some}
+use Rattle.std.specs.Prelude.{replicate}
+use Rattle.std.specs.List.{position_or_len, AllByRecursion}
+use Rattle.std.proofs.lemmas.Bool.{cases_Bool, cases_eq, cases_lt, eqb-true, eq-eqb, ne_eqb, and_parts, or_left, or_right, or_parts}
+use Rattle.std.proofs.lemmas.List.{get_or_past, ext_get_or, length-map, map-append}
+use Rattle.std.proofs.lemmas.List.Folds.{list_any_at}
+use Rattle.std.proofs.Math.ListN.{get_or-map}
 use Rattle.crib_cards.specs.Sets.{has}
 use Rattle.crib_plan.specs.declared.plan.Next.{Next}
 use Rattle.crib_plan.specs.declared.plan.Next.TheVariants.{End, To}
-use Rattle.crib_plan.specs.Spelling.{letter_bytes, leads_to}
-use Rattle.crib_plan.specs.Reading.{is_end, are_free, led_by, Branches, no_branches, Letters, letters_in}
-use Rattle.crib_plan.specs.SeeLaws.{Branch, AreInOrder, first_number, has_letter, has_node, IsBehindLast, IsNextSet}
-use Rattle.crib_plan.proofs.BranchReadIsSpelled.{chosen, length-led, AreLetters, letters_found, end_leads_not}
-use Rattle.crib_plan.proofs.LeadsTo.{leads}
-use Rattle.crib_plan.proofs.SeeSets.{chosen_in_order, number_of_first, where_leads, leads_led, free_all}
+use Rattle.crib_plan.specs.Nodes.{IsLater}
+use Rattle.crib_plan.specs.Spelling.{letter_bytes, leads_to, letters_to, nodes_of}
+use Rattle.crib_plan.specs.Reading.{is_end, are_free, led_by, Branches, no_branches, Letters}
+use Rattle.crib_plan.specs.SeeLaws.{Branch, AreInOrder, letter_number, first_number, has_letter, has_node, IsBehindLast, IsNextSet}
+use Rattle.crib_plan.proofs.LeadsTo.{leads, leads_in, has_nodes}
+use Rattle.crib_plan.proofs.SeeSets.{chosen, chosen_in_order, place_of, has_chosen, letters_chosen, number_of_first, free_at}
 
 -- ---- nodes
 
-some_held : (holding : List Bool) → position_or_len (λ holds. holds) holding < length holding → list_any (λ holds. holds) holding ≡ true
-some_held [] some = absurd (omega arith)
-some_held (true ∷ holding) some = refl
-some_held (false ∷ holding) some = some_held holding (omega arith)
-
--- a set with a letter adds its node
-leads_after : (node other : ℕ) (holding : List Bool) (nexts : List Next) → are_free holding nexts ≡ true → length holding ≡ length nexts
-    → leads (led_by node holding nexts) other
-    ≡ (leads nexts other || (cond (list_any (λ holds. holds) holding) (eqb node other) false || false))
-leads_after node other [] [] free long = refl
-leads_after node other [] (next ∷ nexts) free long = absurd (omega arith)
-leads_after node other (holds ∷ holding) [] free long = absurd (omega arith)
-leads_after node other (true ∷ holding) (next ∷ nexts) free long =
-    let parts = and_parts (is_end next) (are_free holding nexts) free in
-    rw (end_leads_not next other parts.0, leads_after node other holding nexts parts.1 (omega arith))
-    (here (eqb node other) (leads nexts other) (list_any (λ (h : Bool). h) holding))
-  where
-    here : (same led more : Bool) → (same || (led || (cond more same false || false))) ≡ (led || (same || false))
-    here true true more = refl
-    here true false more = refl
-    here false true more = refl
-    here false false true = refl
-    here false false false = refl
-leads_after node other (false ∷ holding) (next ∷ nexts) free long =
-    let rest = leads_after node other holding nexts free (omega arith) in
-    elim (cases_Bool (leads_to other next)) [
-      | inl e ↦ rw e refl
-      | inr e ↦ rw e rest
+no_new : (before : List ℕ) (node : ℕ) (nexts : List Next) → nodes_of before (To node ∷ nexts) ≡ [] → (has before node ≡ true) × (nodes_of before nexts ≡ [])
+no_new before node nexts none =
+    elim (cases_Bool (has before node)) [
+      | inl e ↦ (e, let h : nodes_of before nexts ≡ [] = rw e at none in h)
+      | inr e ↦ (let h : node ∷ nodes_of (node ∷ before) nexts ≡ [] = rw e at none in absurd cc)
     ]
+
+-- where no branch has a new node, none has one after a set has led to a node that was there before
+no_more : (node : ℕ) (before : List ℕ) (holding : List Bool) (nexts : List Next) → length holding ≡ length nexts → nodes_of before nexts ≡ []
+    → nodes_of (node ∷ before) (led_by node holding nexts) ≡ []
+no_more node before [] [] long none = refl
+no_more node before [] (next ∷ nexts) long none = absurd (omega arith)
+no_more node before (holds ∷ holding) [] long none = refl
+no_more node before (true ∷ holding) (End ∷ nexts) long none = rw (eq-eqb node node refl) (no_more node before holding nexts (omega arith) none)
+no_more node before (true ∷ holding) (To other ∷ nexts) long none =
+    rw (eq-eqb node node refl) (no_more node before holding nexts (omega arith) (no_new before other nexts none).1)
+no_more node before (false ∷ holding) (End ∷ nexts) long none = no_more node before holding nexts (omega arith) none
+no_more node before (false ∷ holding) (To other ∷ nexts) long none =
+    let old = no_new before other nexts none in
+    rw (or_right (eqb node other) (has before other) old.0) (no_more node before holding nexts (omega arith) old.1)
+
+first_later : (holding : List Bool) → position_or_len (λ holds. holds) (false ∷ holding) + 1 ≡ suc (position_or_len (λ holds. holds) holding + 1)
+first_later holding = omega arith
+
+-- a new node is last among the nodes, if no branch from the place of its first letter on has a new node
+nodes_led : (node : ℕ) (before : List ℕ) (holding : List Bool) (nexts : List Next) (least : ℕ) → length holding ≡ length nexts
+    → are_free holding nexts ≡ true → leads nexts node ≡ false → has before node ≡ false
+    → least ≤ position_or_len (λ holds. holds) holding → position_or_len (λ holds. holds) holding < length holding
+    → nodes_of before (take least nexts) ≡ nodes_of before nexts
+    → (nodes_of before (led_by node holding nexts) ≡ nodes_of before nexts ++ node ∷ [])
+    × (nodes_of before (take (position_or_len (λ holds. holds) holding + 1) (led_by node holding nexts)) ≡ nodes_of before nexts ++ node ∷ [])
+nodes_led node before [] nexts least long free fresh new low some same = absurd (omega arith)
+nodes_led node before (holds ∷ holding) [] least long free fresh new low some same = absurd (omega arith)
+nodes_led node before (true ∷ holding) (To other ∷ nexts) least long free fresh new low some same = absurd cc
+nodes_led node before (true ∷ holding) (End ∷ nexts) (suc least) long free fresh new low some same = absurd (omega arith)
+nodes_led node before (true ∷ holding) (End ∷ nexts) zero long free fresh new low some same =
+    let one = ap (λ (ns : List ℕ). ns ++ node ∷ []) same in
+    (rw new (ap (λ (ns : List ℕ). node ∷ ns) (no_more node before holding nexts (omega arith) (sym same)) ∙ one), rw new one)
+nodes_led node before (false ∷ holding) (End ∷ nexts) zero long free fresh new low some same =
+    let rest = nodes_led node before holding nexts zero (omega arith) free fresh new (omega arith) (omega arith) same in
+    (rest.0, rw (first_later holding) rest.1)
+nodes_led node before (false ∷ holding) (End ∷ nexts) (suc least) long free fresh new low some same =
+    let rest = nodes_led node before holding nexts least (omega arith) free fresh new (omega arith) (omega arith) same in
+    (rest.0, rw (first_later holding) rest.1)
+nodes_led node before (false ∷ holding) (To other ∷ nexts) zero long free fresh new low some same =
+    let apart = or_parts (eqb other node) (leads nexts node) fresh in
+    let old = no_new before other nexts (sym same) in
+    let rest = nodes_led node before holding nexts zero (omega arith) free apart.1 new (omega arith) (omega arith) (sym old.1) in
+    (rw old.0 rest.0, rw (first_later holding, old.0) rest.1)
+nodes_led node before (false ∷ holding) (To other ∷ nexts) (suc least) long free fresh new low some same =
+    let apart = or_parts (eqb other node) (leads nexts node) fresh in
+    elim (cases_Bool (has before other)) [
+      | inl e ↦
+          let left : nodes_of before (take least nexts) ≡ nodes_of before nexts = rw e at same in
+          let rest = nodes_led node before holding nexts least (omega arith) free apart.1 new (omega arith) (omega arith) left in
+          (rw e rest.0, rw (first_later holding, e) rest.1)
+      | inr e ↦
+          let both : other ∷ nodes_of (other ∷ before) (take least nexts) ≡ other ∷ nodes_of (other ∷ before) nexts = rw e at same in
+          let left : nodes_of (other ∷ before) (take least nexts) ≡ nodes_of (other ∷ before) nexts = cc in
+          let not_it : has (other ∷ before) node ≡ false = rw (apart.0, new) refl in
+          let rest = nodes_led node (other ∷ before) holding nexts least (omega arith) free apart.1 not_it (omega arith) (omega arith) left in
+          (rw e (ap (λ (ns : List ℕ). other ∷ ns) rest.0), rw (first_later holding, e) (ap (λ (ns : List ℕ). other ∷ ns) rest.1))
+    ]
+
+-- ---- letters
+
+end_leads_not : (next : Next) (node : ℕ) → is_end next ≡ true → leads_to node next ≡ false
+end_leads_not End node e = refl
+end_leads_not (To other) node e = absurd cc
+
+letters_kept : (other node : ℕ) → eqb node other ≡ false → (letters : List ℕ) (holding : List Bool) (nexts : List Next) → are_free holding nexts ≡ true →
+    letters_to other letters (led_by node holding nexts) ≡ letters_to other letters nexts
+letters_kept other node differs [] holding nexts free = refl
+letters_kept other node differs (letter ∷ letters) [] nexts free = refl
+letters_kept other node differs (letter ∷ letters) (holds ∷ holding) [] free = refl
+letters_kept other node differs (letter ∷ letters) (true ∷ holding) (next ∷ nexts) free =
+    let parts = and_parts (is_end next) (are_free holding nexts) free in
+    rw (differs, end_leads_not next other parts.0) (letters_kept other node differs letters holding nexts parts.1)
+letters_kept other node differs (letter ∷ letters) (false ∷ holding) (next ∷ nexts) free =
+    ap (λ (ls : List ℕ). cond (leads_to other next) (letter ∷ ls) ls) (letters_kept other node differs letters holding nexts free)
+
+letters_new : (node : ℕ) (letters : List ℕ) (holding : List Bool) (nexts : List Next) → leads nexts node ≡ false → length holding ≡ length nexts →
+    letters_to node letters (led_by node holding nexts) ≡ chosen holding letters
+letters_new node [] [] nexts fresh long = refl
+letters_new node [] (holds ∷ holding) nexts fresh long = refl
+letters_new node (letter ∷ letters) [] [] fresh long = refl
+letters_new node (letter ∷ letters) [] (next ∷ nexts) fresh long = absurd (omega arith)
+letters_new node (letter ∷ letters) (holds ∷ holding) [] fresh long = absurd (omega arith)
+letters_new node (letter ∷ letters) (true ∷ holding) (next ∷ nexts) fresh long =
+    let rest = letters_new node letters holding nexts (or_parts (leads_to node next) (leads nexts node) fresh).1 (omega arith) in
+    rw (eq-eqb node node refl) (ap (λ (ls : List ℕ). letter ∷ ls) rest)
+letters_new node (letter ∷ letters) (false ∷ holding) (next ∷ nexts) fresh long =
+    let apart = or_parts (leads_to node next) (leads nexts node) fresh in
+    rw apart.0 (letters_new node letters holding nexts apart.1 (omega arith))
+
+all_led : (place count node : ℕ) → IsLater place count (To node) → (holding : List Bool) (nexts : List Next) → AllByRecursion (IsLater place count) nexts →
+    AllByRecursion (IsLater place count) (led_by node holding nexts)
+all_led place count node later [] nexts all = all
+all_led place count node later (holds ∷ holding) [] all = tt
+all_led place count node later (true ∷ holding) (next ∷ nexts) all = (later, all_led place count node later holding nexts all.1)
+all_led place count node later (false ∷ holding) (next ∷ nexts) all = (all.0, all_led place count node later holding nexts all.1)
+
+all_ends : (place count k : ℕ) → AllByRecursion (IsLater place count) (replicate k End)
+all_ends place count zero = tt
+all_ends place count (suc k) = (tt, all_ends place count k)
 
 -- ---- the branches so far
 
+abbrev pub branch_at : List Next → ℕ → Branch
+branch_at nexts node = record { set = letters_to node letter_bytes nexts; node = node }
+
+-- the branches of a node, in the order of their first letters
+abbrev pub branches_of : List Next → List Branch
+branches_of nexts = map (branch_at nexts) (nodes_of [] nexts)
+
+map_agree : (f g : ℕ → Branch) (nodes : List ℕ) → ((node : ℕ) → has nodes node ≡ true → f node ≡ g node) → map f nodes ≡ map g nodes
+map_agree f g [] same = refl
+map_agree f g (node ∷ nodes) same =
+    let here : f node ≡ g node = same node (or_left (eqb node node) (has nodes node) (eq-eqb node node refl)) in
+    let rest = map_agree f g nodes (λ other h. same other (or_right (eqb node other) (has nodes other) h)) in
+    ap (λ (branch : Branch). branch ∷ map f nodes) here ∙ ap (λ (branches : List Branch). g node ∷ branches) rest
+
 -- what the code keeps represents the branches that were read
-pub record Stand (earlier : List Branch) (before : Branches) : Type 0 where
+pub record Stand (place count : ℕ) (earlier : List Branch) (before : Branches) : Type 0 where
   pub long : length before.nexts ≡ 14
-  pub letters : (letter : ℕ) → is_end (where_leads letter_bytes before.nexts letter) ≡ not (has_letter earlier letter)
-  pub nodes : (node : ℕ) → leads before.nexts node ≡ has_node earlier node
-  pub low : (number : ℕ) → before.least ≤ number → IsBehindLast earlier number
-  pub high : (number : ℕ) → IsBehindLast earlier number → before.least ≤ number
+  pub later : AllByRecursion (IsLater place count) before.nexts
+  pub low : nodes_of [] (take before.least before.nexts) ≡ nodes_of [] before.nexts
+  pub are : earlier ≡ branches_of before.nexts
+  pub behind : (number : ℕ) → (before.least ≤ number → IsBehindLast earlier number) × (IsBehindLast earlier number → before.least ≤ number)
 
-where_ends : (letter : ℕ) → (letters : List ℕ) (count : ℕ) → is_end (where_leads letters (replicate count End) letter) ≡ true
-where_ends letter [] count = refl
-where_ends letter (first ∷ letters) zero = refl
-where_ends letter (first ∷ letters) (suc count) =
-    elim (cases_Bool (eqb first letter)) [
-      | inl same ↦ rw same refl
-      | inr differs ↦ rw differs (where_ends letter letters count)
-    ]
-
-pub none_stand : Stand [] no_branches
-none_stand = record {
-  long = refl;
-  letters = λ letter. where_ends letter letter_bytes 14;
-  nodes = λ node. refl;
-  low = λ number h. tt;
-  high = λ number h. omega arith;
-}
+pub none_stand : (place count : ℕ) → Stand place count [] no_branches
+none_stand place count = record { long = refl; later = all_ends place count 14; low = refl; are = refl; behind = λ number. (λ h. tt, λ h. omega arith) }
 
 behind_last : (earlier : List Branch) (branch : Branch) (number : ℕ) → first_number branch.set < number → IsBehindLast (earlier ++ branch ∷ []) number
 behind_last [] branch number h = h
@@ -86,87 +162,141 @@ is_behind [] branch number h = h
 is_behind (one ∷ []) branch number h = h
 is_behind (one ∷ next ∷ earlier) branch number h = is_behind (next ∷ earlier) branch number h
 
--- the first letter of a set that was read, by its byte and by its place
-pub first_is : (before : Branches) (set : List ℕ) (letters : Letters) → AreLetters before set letters
-    → (first_number set ≡ letters.first) × (position_or_len (λ holds. holds) letters.set < length letters.set)
+-- bytes that were read as the letters of the next branch
+pub record AreLetters (before : Branches) (bytes : List ℕ) (letters : Letters) : Type 0 where
+  pub bytes_are : bytes ≡ chosen letters.set letter_bytes
+  pub long : length letters.set ≡ 14
+  pub first_is : position_or_len (λ holds. holds) letters.set ≡ letters.first
+  pub some : letters.first < length letters.set
+  pub behind : before.least ≤ letters.first
+  pub free : are_free letters.set before.nexts ≡ true
+
+first_is : (before : Branches) (set : List ℕ) (letters : Letters) → AreLetters before set letters → first_number set ≡ letters.first
 first_is before set letters are =
-    let p = position-Some (λ (holds : Bool). holds) letters.set letters.first false are.first_is in
-    let at = held letters.set letters.first are.first_is in
-    let some : position_or_len (λ (h : Bool). h) letters.set < length letters.set = omega (arith, p.0, at) in
-    let number = number_of_first letters.set letter_bytes refl are.long some in
-    (ap (λ (bytes : List ℕ). first_number bytes) are.bytes_are ∙ number ∙ at, some)
-  where
-    held : (holding : List Bool) (first : ℕ) → position (λ holds. holds) holding ≡ Some first → position_or_len (λ holds. holds) holding ≡ first
-    held holding first e =
-        elim (cases_Bool (nat_lt (position_or_len (λ (b : Bool). b) holding) (length holding))) [
-          | inl less ↦ (let h : position (λ (b : Bool). b) holding ≡ Some (position_or_len (λ (b : Bool). b) holding) = rw less refl in cc)
-          | inr more ↦ (let h : position (λ (b : Bool). b) holding ≡ None = rw more refl in absurd cc)
-        ]
+    ap (λ (bytes : List ℕ). first_number bytes) are.bytes_are
+    ∙ number_of_first letters.set letter_bytes refl are.long (omega (arith, are.first_is, are.some)) ∙ are.first_is
+
+pub length-led : (node : ℕ) (holding : List Bool) (nexts : List Next) → length (led_by node holding nexts) ≡ length nexts
+length-led node [] nexts = refl
+length-led node (holds ∷ holding) [] = refl
+length-led node (holds ∷ holding) (next ∷ nexts) = ap suc (length-led node holding nexts)
 
 -- one more branch was read
-pub one_more : (earlier : List Branch) (before : Branches) (branch : Branch) (letters : Letters) → Stand earlier before → AreLetters before branch.set letters
-    → Stand (earlier ++ branch ∷ []) (record { nexts = led_by branch.node letters.set before.nexts; least = letters.first + 1 })
-one_more earlier before branch letters stand are =
-    let at = first_is before branch.set letters are in
-    let after : List Next = led_by branch.node letters.set before.nexts in
+pub one_more : (place count : ℕ) (earlier : List Branch) (before : Branches) (branch : Branch) (letters : Letters) → Stand place count earlier before
+    → AreLetters before branch.set letters → IsLater place count (To branch.node) → leads before.nexts branch.node ≡ false
+    → Stand place count (earlier ++ branch ∷ []) (record { nexts = led_by branch.node letters.set before.nexts; least = letters.first + 1 })
+one_more place count earlier before branch letters stand are later fresh =
+    let nexts : List Next = before.nexts in
+    let node : ℕ = branch.node in
+    let after : List Next = led_by node letters.set nexts in
+    let long : length letters.set ≡ length nexts = are.long ∙ sym stand.long in
+    let nodes = nodes_led node [] letters.set nexts before.least long are.free fresh refl (omega (arith, are.first_is, are.behind))
+    (omega (arith, are.first_is, are.some)) stand.low in
+    let kept : map (branch_at after) (nodes_of [] nexts) ≡ branches_of nexts = map_agree _ _ (nodes_of [] nexts) (λ other e.
+    elim (cases_Bool (eqb node other)) [
+      | inl same ↦ (let there = sym (has_nodes nexts other) ∙ e in let gone : leads nexts other ≡ false = ap (leads nexts) (sym (eqb-true node other same))
+          ∙ fresh in absurd cc)
+      | inr differs ↦ ap (λ (ls : List ℕ). record { set = ls; node = other }) (letters_kept other node differs letter_bytes letters.set nexts are.free)
+    ]) in
+    let new : branch_at after node ≡ branch =
+    ap (λ (ls : List ℕ). record { set = ls; node = node }) (letters_new node letter_bytes letters.set nexts fresh long ∙ sym are.bytes_are) in
+    let number = first_is before branch.set letters are in
     record {
-      long = length-led branch.node letters.set before.nexts ∙ stand.long;
-      letters = λ letter.
-          let led = leads_led branch.node letter letter_bytes letters.set before.nexts refl stand.long in
-          let more = list_any-append (λ (b : Branch). has b.set letter) earlier (branch ∷ []) in
-          let bytes : has (chosen letters.set letter_bytes) letter ≡ has branch.set letter = ap (λ (s : List ℕ). has s letter) (sym are.bytes_are) in
-          elim (cases_Bool (has branch.set letter)) [
-            | inl there ↦
-                let chose : has (chosen letters.set letter_bytes) letter ≡ true = bytes ∙ there in
-                let moved : where_leads letter_bytes after letter ≡ To branch.node =
-                led ∙ ap (λ (b : Bool). cond b (To branch.node) (where_leads letter_bytes before.nexts letter)) chose in
-                ap is_end moved ∙ ap not (sym (more ∙ or_right (has_letter earlier letter) (has branch.set letter || false)
-                (or_left (has branch.set letter) false there)))
-            | inr gone ↦
-                let chose : has (chosen letters.set letter_bytes) letter ≡ false = bytes ∙ gone in
-                let stays : where_leads letter_bytes after letter ≡ where_leads letter_bytes before.nexts letter =
-                led ∙ ap (λ (b : Bool). cond b (To branch.node) (where_leads letter_bytes before.nexts letter)) chose in
-                let same : has_letter (earlier ++ branch ∷ []) letter ≡ has_letter earlier letter =
-                more ∙ ap (λ (b : Bool). has_letter earlier letter || (b || false)) gone ∙ or_nothing (has_letter earlier letter) in
-                ap is_end stays ∙ stand.letters letter ∙ ap not (sym same)
-          ];
-      nodes = λ node.
-          leads_after branch.node node letters.set before.nexts are.free (are.long ∙ sym stand.long) ∙ rw (some_held letters.set at.1) refl
-          ∙ ap (λ (b : Bool). b || (eqb branch.node node || false)) (stand.nodes node)
-          ∙ sym (list_any-append (λ (b : Branch). eqb b.node node) earlier (branch ∷ []));
-      low = λ number h. behind_last earlier branch number (omega (arith, at.0, h));
-      high = λ number h. (let less = is_behind earlier branch number h in omega (arith, at.0, less));
+      long = length-led node letters.set nexts ∙ stand.long;
+      later = all_led place count node later letters.set nexts stand.later;
+      low = ap (λ (k : ℕ). nodes_of [] (take (k + 1) after)) (sym are.first_is) ∙ nodes.1 ∙ sym nodes.0;
+      are = ap (λ (bs : List Branch). bs ++ branch ∷ []) (stand.are ∙ sym kept)
+          ∙ ap (λ (b : Branch). map (branch_at after) (nodes_of [] nexts) ++ b ∷ []) (sym new)
+          ∙ sym (map-append (branch_at after) (nodes_of [] nexts) (node ∷ [])) ∙ ap (map (branch_at after)) (sym nodes.0);
+      behind = λ first. (
+        λ h. behind_last earlier branch first (omega (arith, number, h)),
+        λ h. let less = is_behind earlier branch first h in omega (arith, number, less),
+      );
     }
+
+-- ---- the letters and the nodes of branches
+
+pub has_node_at : (nexts : List Next) (nodes : List ℕ) (node : ℕ) → has_node (map (branch_at nexts) nodes) node ≡ has nodes node
+has_node_at nexts [] node = refl
+has_node_at nexts (other ∷ nodes) node = ap (λ (b : Bool). eqb other node || b) (has_node_at nexts nodes node)
+
+pub node_stands : (place count : ℕ) (earlier : List Branch) (before : Branches) (node : ℕ) → Stand place count earlier before
+    → leads before.nexts node ≡ has_node earlier node
+node_stands place count earlier before node stand =
+    sym (ap (λ (bs : List Branch). has_node bs node) stand.are ∙ has_node_at before.nexts (nodes_of [] before.nexts) node ∙ has_nodes before.nexts node)
+
+-- where a letter leads
+abbrev pub where_to : List Branch → ℕ → Next
+where_to [] letter = End
+where_to (branch ∷ branches) letter = cond (has branch.set letter) (To branch.node) (where_to branches letter)
+
+pub has_where : (branches : List Branch) (letter : ℕ) → has_letter branches letter ≡ not (is_end (where_to branches letter))
+has_where [] letter = refl
+has_where (branch ∷ branches) letter =
+    elim (cases_Bool (has branch.set letter)) [
+      | inl e ↦ rw e refl
+      | inr e ↦ rw e (has_where branches letter)
+    ]
+
+pub letter_at : (nexts : List Next) (letter node : ℕ) → length nexts ≡ 14
+    → has (letters_to node letter_bytes nexts) letter ≡ leads_to node (get_or nexts (letter_number letter) End)
+letter_at nexts letter node long =
+    ap (λ (ls : List ℕ). has ls letter) (letters_chosen node letter_bytes nexts)
+    ∙ has_chosen (map (leads_to node) nexts) letter_bytes letter refl (length-map nexts (leads_to node) ∙ long)
+    ∙ get_or-map (leads_to node) nexts (letter_number letter) End
+
+-- where a letter leads by the branches of some nodes
+pub where_among : (nexts : List Next) (letter : ℕ) (to : Next) (nodes : List ℕ)
+    → ((node : ℕ) → has (letters_to node letter_bytes nexts) letter ≡ leads_to node to)
+    → where_to (map (branch_at nexts) nodes) letter ≡ cond (leads_in nodes to) to End
+where_among nexts letter End [] each = refl
+where_among nexts letter (To to) [] each = refl
+where_among nexts letter End (node ∷ nodes) each = rw (each node) (where_among nexts letter End nodes each)
+where_among nexts letter (To to) (node ∷ nodes) each =
+    elim (cases_eq to node) [
+      | inl is ↦ rw (each node, eq-eqb to node is, eq-eqb node to (sym is)) (ap To (sym is))
+      | inr differs ↦ rw (each node, ne_eqb to node differs, ne_eqb node to (λ e. differs (sym e))) (where_among nexts letter (To to) nodes each)
+    ]
+
+pub where_is : (nexts : List Next) (letter : ℕ) → length nexts ≡ 14 → where_to (branches_of nexts) letter ≡ get_or nexts (letter_number letter) End
+where_is nexts letter long =
+    where_among nexts letter (get_or nexts (letter_number letter) End) (nodes_of [] nexts) (λ node. letter_at nexts letter node long)
+    ∙ whole (get_or nexts (letter_number letter) End) refl
   where
-    or_nothing : (a : Bool) → (a || (false || false)) ≡ a
-    or_nothing true = refl
-    or_nothing false = refl
+    whole : (to : Next) → get_or nexts (letter_number letter) End ≡ to → cond (leads_in (nodes_of [] nexts) to) to End ≡ to
+    whole End is = refl
+    whole (To node) is = ap (λ (b : Bool). cond b (To node) End) (has_nodes nexts node ∙ elim (cases_lt (letter_number letter) (length nexts)) [
+      | inl inside ↦ list_any_at (leads_to node) nexts (letter_number letter) End inside (ap (leads_to node) is ∙ eq-eqb node node refl)
+      | inr past ↦ (let none = get_or_past nexts (letter_number letter) End past in absurd cc)
+    ])
+
+pub letter_stands : (place count : ℕ) (earlier : List Branch) (before : Branches) (letter : ℕ) → Stand place count earlier before
+    → has_letter earlier letter ≡ not (is_end (get_or before.nexts (letter_number letter) End))
+letter_stands place count earlier before letter stand =
+    ap (λ (bs : List Branch). has_letter bs letter) stand.are ∙ has_where (branches_of before.nexts) letter
+    ∙ ap (λ (to : Next). not (is_end to)) (where_is before.nexts letter stand.long)
+
+-- branches that have the same letters and nodes are the same
+pub same_nexts : (nexts other : List Next) → length nexts ≡ 14 → length other ≡ 14 → branches_of nexts ≡ branches_of other → nexts ≡ other
+same_nexts nexts other long long2 same = ext_get_or End nexts other (long ∙ sym long2) (λ place inside.
+    let letter : ℕ = get_or letter_bytes place 0 in
+    let at : letter_number letter ≡ place = place_of letter_bytes place refl (omega (arith, long, inside)) in
+    ap (λ (k : ℕ). get_or nexts k End) (sym at) ∙ sym (where_is nexts letter long) ∙ ap (λ (bs : List Branch). where_to bs letter) same
+    ∙ where_is other letter long2 ∙ ap (λ (k : ℕ). get_or other k End) at)
 
 -- ---- the letters of the next branch
 
-pub next_set_found : (earlier : List Branch) (before : Branches) (set : List ℕ) (letters : Letters) → Stand earlier before
-    → letters_in before set ≡ Ok letters → IsNextSet earlier set
-next_set_found earlier before set letters stand e =
-    let are = letters_found before set letters e in
-    let at = first_is before set letters are in
-    record {
-      some = some_bytes set (λ none. empty_first letters set none are at.1);
-      in_order = subst (λ (bytes : List ℕ). AreInOrder bytes letter_bytes) (sym are.bytes_are) (chosen_in_order letters.set letter_bytes);
-      once = λ letter there.
-          let free = free_all letter letter_bytes letters.set before.nexts refl are.free (ap (λ (s : List ℕ). has s letter) (sym are.bytes_are) ∙ there) in
-          not-true (has_letter earlier letter) (sym (stand.letters letter) ∙ free);
-      behind = stand.low (first_number set) (omega (arith, at.0, are.behind));
-    }
-  where
-    some_bytes : (set : List ℕ) → (set ≡ [] → ⊥) → 0 < length set
-    some_bytes [] some = absurd (some refl)
-    some_bytes (byte ∷ set) some = omega arith
+pub some_bytes : (set : List ℕ) → first_number set < 14 → 0 < length set
+some_bytes [] less = absurd (omega (arith, less))
+some_bytes (byte ∷ set) less = omega arith
 
-    empty_first : (letters : Letters) (set : List ℕ) → set ≡ [] → AreLetters before set letters →
-        position_or_len (λ holds. holds) letters.set < length letters.set → ⊥
-    empty_first letters set none are some =
-        let same : chosen letters.set letter_bytes ≡ [] = sym are.bytes_are ∙ none in
-        let number = number_of_first letters.set letter_bytes refl are.long some in
-        let first : position_or_len (λ (letter : ℕ). eqb letter (get_or (chosen letters.set letter_bytes) 0 0)) letter_bytes ≡ 14 =
-        ap (λ (l : List ℕ). position_or_len (λ (letter : ℕ). eqb letter (get_or l 0 0)) letter_bytes) same in
-        omega (arith, number, first, some, are.long)
+pub next_set_found : (place count : ℕ) (earlier : List Branch) (before : Branches) (set : List ℕ) (letters : Letters) → Stand place count earlier before
+    → AreLetters before set letters → IsNextSet earlier set
+next_set_found place count earlier before set letters stand are = record {
+  some = some_bytes set (omega (arith, first_is before set letters are, are.some, are.long));
+  in_order = subst (λ (bytes : List ℕ). AreInOrder bytes letter_bytes) (sym are.bytes_are) (chosen_in_order letters.set letter_bytes);
+  once = λ letter there.
+      let held = sym (has_chosen letters.set letter_bytes letter refl are.long) ∙ ap (λ (s : List ℕ). has s letter) (sym are.bytes_are) ∙ there in
+      letter_stands place count earlier before letter stand ∙ ap not (free_at letters.set before.nexts (letter_number letter) are.free held);
+  behind = (stand.behind (first_number set)).0 (omega (arith, first_is before set letters are, are.behind));
+}

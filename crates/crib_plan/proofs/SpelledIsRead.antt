@@ -1,5 +1,5 @@
 -- The line of a node is read as this node.
-use Rattle.std.proofs.Common.{◌≡◌, ℕ, ◌^◌, ◌<◌, ◌≤◌, [], ◌∷◌, Ok, decimal, refl}
+use Rattle.std.proofs.Common.{◌≡◌, ℕ, ◌^◌, ◌<◌, ◌≤◌, Ok, decimal, refl}
 use Rattle.std.proofs.lemmas.Bool.{eq-eqb}
 use Rattle.crib_cards.proofs.CardReadLemmas.{card_read-card_text}
 use Rattle.crib_text.proofs.ReadingLemmas.{number_spelled}
@@ -8,7 +8,8 @@ use Rattle.crib_plan.specs.declared.plan.Node.TheVariants.{Play, See}
 use Rattle.crib_plan.specs.Nodes.{IsNode}
 use Rattle.crib_plan.specs.Spelling.{node_line}
 use Rattle.crib_plan.specs.Reading.{own_number_in, play_in, see_in, node_from}
-use Rattle.crib_plan.proofs.BranchSpelledIsRead.{next_spelled, line_spelled}
+use Rattle.crib_plan.proofs.BranchSpelledIsRead.{next_spelled}
+use Rattle.crib_plan.proofs.LineSpelledIsRead.{line_spelled}
 
 own_spelled : (place : ℕ) → place < 2 ^ 32 → own_number_in place (decimal place) ≡ Ok tt
 unfolding own_number_in

@@ -1,11 +1,14 @@
 -- The text that the code writes is the spelling, and no line is longer than the room that was made.
-use Rattle.std.proofs.Common.{◌≡◌, ℕ, zero, suc, ◌+◌, ◌*◌, ◌<◌, ◌≤◌, Bool, true, false, not, cond, eqb, List, [], ◌∷◌, ◌++◌, length, map, get_or, take, drop}
+use Rattle.std.proofs.Common.{◌≡◌, ℕ, zero, suc, ◌+◌, ◌*◌, ◌<◌, ◌≤◌, Bool, true, false, cond, eqb, List, [], ◌∷◌, ◌++◌, length, map, get_or, take, drop}
 use Rattle.std.proofs.Common.{codes, decimal, refl, sym, ap, subst, ◌∙◌, append_assoc, arith, inl, inr}
 use Rattle.std.proofs.lemmas.Grind.{flat_map-append}
-use Rattle.std.specs.List.{flat_map, AllByRecursion}
-use Rattle.std.proofs.lemmas.Bool.{cases_Bool, cases_eq, eq-eqb, ne_eqb, and_parts, not-true, or_left, or_right}
+use Rattle.std.specs.List.{flat_map, count_by, AllByRecursion}
+use Rattle.std.proofs.lemmas.Bool.{cases_Bool, cases_eq, eq-eqb, ne_eqb, or_left, or_right}
 use Rattle.std.proofs.lemmas.List.{append-nil, length-append, take_more, drop_more}
+use Rattle.std.proofs.Math.Bool.{and-false}
+use Rattle.std.proofs.lemmas.List.Sums.{sum_by-cons, count_by-le-length}
 use Rattle.crib_cards.specs.Sets.{has, are_distinct}
+use Rattle.crib_cards.proofs.Members.{distinct_parts}
 use Rattle.crib_text.specs.Spelling.{space, line_bytes, line_text, lines_text}
 use Rattle.crib_text.proofs.RoomLemmas.{five_digits}
 use Rattle.crib_plan.specs.declared.plan.Next.{Next}
@@ -16,8 +19,7 @@ use Rattle.crib_plan.specs.Nodes.{most_nodes, IsLater, IsNode, AreNodes, ArePlan
 use Rattle.crib_plan.specs.Spelling.{letter_bytes, colon, leads_to, letters_to, branch_word, nodes_of, node_line}
 use Rattle.crib_plan.specs.Private.Spelling.{seen_after, spaced_branch, branches_text}
 use Rattle.crib_plan.specs.Spelling.{node_lines}
-use Rattle.crib_plan.proofs.BranchReadIsSpelled.{nodes_in}
-use Rattle.crib_plan.proofs.LeadsTo.{leads, nodes_of-append, has-seen_after}
+use Rattle.crib_plan.proofs.LeadsTo.{leads, leads_in, nodes_of-append, seen_after-append, has-seen_after, has-nodes_of, has_nodes}
 use Rattle.crib_plan.proofs.WordLemmas.{later_small}
 
 -- the letters that are still to be written: the next one if it leads to the node, and those behind it
@@ -32,16 +34,6 @@ letters_next node (letter ∷ letters) (To other ∷ nexts) zero false is inside
 letters_next node (letter ∷ letters) (next ∷ nexts) (suc i) b is inside inside2 =
     let k : suc i + 1 ≡ suc (i + 1) = omega arith in
     rw k (letters_next node letters nexts i b is (omega arith) (omega arith))
-
--- the nodes that are still to be written, after some branches
-seen_after-append : (before : List ℕ) (xs ys : List Next) → seen_after before (xs ++ ys) ≡ seen_after (seen_after before xs) ys
-seen_after-append before [] ys = refl
-seen_after-append before (End ∷ xs) ys = seen_after-append before xs ys
-seen_after-append before (To node ∷ xs) ys =
-    elim (cases_Bool (has before node)) [
-      | inl e ↦ rw e (seen_after-append before xs ys)
-      | inr e ↦ rw e (seen_after-append (node ∷ before) xs ys)
-    ]
 
 -- the branches that are still to be written: that of the next letter, unless an earlier one has its node, and those behind it
 pub branches_next : (nexts : List Next) (i : ℕ) → i < length nexts → branches_text nexts i
@@ -93,85 +85,47 @@ total_letters : List ℕ → List ℕ → List Next → ℕ
 total_letters [] letters nexts = 0
 total_letters (node ∷ nodes) letters nexts = length (letters_to node letters nexts) + total_letters nodes letters nexts
 
-hits : List ℕ → Next → ℕ
-hits [] next = 0
-hits (node ∷ nodes) next = cond (leads_to node next) 1 0 + hits nodes next
-
-total_none : (nodes letters : List ℕ) → total_letters nodes letters [] ≡ 0
-unfolding total_letters
-total_none [] letters = refl
-total_none (node ∷ nodes) [] = omega (arith, total_none nodes [])
-total_none (node ∷ nodes) (letter ∷ letters) = omega (arith, total_none nodes (letter ∷ letters))
-
-total_empty : (nodes : List ℕ) (nexts : List Next) → total_letters nodes [] nexts ≡ 0
-unfolding total_letters
-total_empty [] nexts = refl
-total_empty (node ∷ nodes) nexts = omega (arith, total_empty nodes nexts)
-
-total_cons : (nodes : List ℕ) (letter : ℕ) (letters : List ℕ) (next : Next) (nexts : List Next) → total_letters nodes (letter ∷ letters) (next ∷ nexts)
-    ≡ hits nodes next + total_letters nodes letters nexts
-unfolding total_letters hits
-total_cons [] letter letters next nexts = refl
-total_cons (node ∷ nodes) letter letters next nexts =
-    let rest = total_cons nodes letter letters next nexts in
+few_letters : (node : ℕ) (letters : List ℕ) (nexts : List Next) → length (letters_to node letters nexts) ≤ count_by (leads_to node) nexts
+few_letters node [] nexts = omega arith
+few_letters node (letter ∷ letters) [] = omega arith
+few_letters node (letter ∷ letters) (next ∷ nexts) =
+    let rest = few_letters node letters nexts in
+    let more = sum_by-cons (λ (n : Next). cond {A = ℕ} (leads_to node n) 1 0) next nexts in
+    let here : length (letters_to node (letter ∷ letters) (next ∷ nexts)) ≡ cond {A = ℕ} (leads_to node next) 1 0 + length (letters_to node letters nexts) =
     elim (cases_Bool (leads_to node next)) [
       | inl e ↦ rw e (omega arith)
       | inr e ↦ rw e (omega arith)
-    ]
+    ] in
+    omega (arith, rest, more, here)
 
-hits_end : (nodes : List ℕ) → hits nodes End ≡ 0
-unfolding hits
-hits_end [] = refl
-hits_end (node ∷ nodes) = omega (arith, hits_end nodes)
-
-hits_none : (nodes : List ℕ) (node : ℕ) → has nodes node ≡ false → hits nodes (To node) ≡ 0
-unfolding hits
-hits_none [] node none = refl
-hits_none (other ∷ nodes) node none =
+one_apart : (node : ℕ) (nodes : List ℕ) (next : Next) → has nodes node ≡ false
+    → cond {A = ℕ} (leads_to node next) 1 0 + cond {A = ℕ} (leads_in nodes next) 1 0 ≤ cond {A = ℕ} (leads_in (node ∷ nodes) next) 1 0
+one_apart node nodes End new = omega arith
+one_apart node nodes (To other) new =
     elim (cases_eq other node) [
-      | inl is ↦ (let f : has (other ∷ nodes) node ≡ true = or_left (eqb other node) (has nodes node) (eq-eqb other node is) in absurd cc)
-      | inr differs ↦
-          let f : eqb other node ≡ false = ne_eqb other node differs in
-          let g : eqb node other ≡ false = ne_eqb node other (λ e. differs (sym e)) in
-          let rest : has nodes node ≡ false = rw f at none in
-          rw g (omega (arith, hits_none nodes node rest))
+      | inl is ↦ (let h : has nodes other ≡ false = ap (has nodes) is ∙ new in rw (eq-eqb other node is, eq-eqb node other (sym is), h) (omega arith))
+      | inr differs ↦ rw (ne_eqb other node differs, ne_eqb node other (λ e. differs (sym e))) (omega arith)
     ]
 
-hits_one : (nodes : List ℕ) (next : Next) → are_distinct nodes ≡ true → hits nodes next ≤ 1
-unfolding hits
-hits_one nodes End distinct = omega (arith, hits_end nodes)
-hits_one [] (To node) distinct = omega arith
-hits_one (other ∷ nodes) (To node) distinct =
-    let parts = and_parts (not (has nodes other)) (are_distinct nodes) distinct in
-    elim (cases_eq node other) [
-      | inl is ↦
-          let none : has nodes node ≡ false = ap (has nodes) is ∙ not-true _ parts.0 in
-          let f : eqb node other ≡ true = eq-eqb node other is in
-          rw f (omega (arith, hits_none nodes node none))
-      | inr differs ↦
-          let f : eqb node other ≡ false = ne_eqb node other differs in
-          let rest = hits_one nodes (To node) parts.1 in
-          rw f (omega arith)
-    ]
+-- branches that lead to different nodes are different branches
+all_apart : (node : ℕ) (nodes : List ℕ) (nexts : List Next) → has nodes node ≡ false
+    → count_by (leads_to node) nexts + count_by (leads_in nodes) nexts ≤ count_by (leads_in (node ∷ nodes)) nexts
+all_apart node nodes [] new = omega arith
+all_apart node nodes (next ∷ nexts) new = omega (
+  arith,
+  one_apart node nodes next new,
+  all_apart node nodes nexts new,
+  sum_by-cons (λ (n : Next). cond {A = ℕ} (leads_to node n) 1 0) next nexts,
+  sum_by-cons (λ (n : Next). cond {A = ℕ} (leads_in nodes n) 1 0) next nexts,
+  sum_by-cons (λ (n : Next). cond {A = ℕ} (leads_in (node ∷ nodes) n) 1 0) next nexts,
+)
 
-total_small : (nodes letters : List ℕ) (nexts : List Next) → are_distinct nodes ≡ true → total_letters nodes letters nexts ≤ length nexts
-total_small nodes letters [] distinct = omega (arith, total_none nodes letters)
-total_small nodes [] (next ∷ nexts) distinct = omega (arith, total_empty nodes (next ∷ nexts))
-total_small nodes (letter ∷ letters) (next ∷ nexts) distinct =
-    omega (arith, total_cons nodes letter letters next nexts, hits_one nodes next distinct, total_small nodes letters nexts distinct)
-
-old_nodes : (before : List ℕ) (nexts : List Next) (node : ℕ) → has before node ≡ true → has (nodes_of before nexts) node ≡ false
-old_nodes before [] node e = refl
-old_nodes before (End ∷ nexts) node e = old_nodes before nexts node e
-old_nodes before (To other ∷ nexts) node e =
-    elim (cases_Bool (has before other)) [
-      | inl h ↦ rw h (old_nodes before nexts node e)
-      | inr h ↦
-          elim (cases_eq other node) [
-            | inl is ↦ (let f : has before node ≡ false = ap (has before) (sym is) ∙ h in absurd cc)
-            | inr differs ↦ rw (h, ne_eqb other node differs) (old_nodes (other ∷ before) nexts node (or_right (eqb other node) (has before node) e))
-          ]
-    ]
+total_small : (nodes letters : List ℕ) (nexts : List Next) → are_distinct nodes ≡ true → total_letters nodes letters nexts ≤ count_by (leads_in nodes) nexts
+unfolding total_letters
+total_small [] letters nexts distinct = omega arith
+total_small (node ∷ nodes) letters nexts distinct =
+    let parts = distinct_parts node nodes distinct in
+    omega (arith, few_letters node letters nexts, all_apart node nodes nexts parts.0, total_small nodes letters nexts parts.1)
 
 distinct_nodes : (before : List ℕ) (nexts : List Next) → are_distinct (nodes_of before nexts) ≡ true
 distinct_nodes before [] = refl
@@ -180,7 +134,8 @@ distinct_nodes before (To node ∷ nexts) =
     elim (cases_Bool (has before node)) [
       | inl h ↦ rw h (distinct_nodes before nexts)
       | inr h ↦
-          let none = old_nodes (node ∷ before) nexts node (or_left (eqb node node) (has before node) (eq-eqb node node refl)) in
+          let none : has (nodes_of (node ∷ before) nexts) node ≡ false =
+          has-nodes_of (node ∷ before) nexts node ∙ rw (eq-eqb node node refl) (and-false (leads nexts node)) in
           rw (h, none) (distinct_nodes (node ∷ before) nexts)
     ]
 
@@ -209,8 +164,9 @@ words_len all (node ∷ nodes) small =
 pub branches_len : (place count : ℕ) (nexts : List Next) → AllByRecursion (IsLater place count) nexts → length nexts ≡ 14 → count ≤ 65535 →
     length (branches_text nexts 0) ≤ 112
 branches_len place count nexts later long few =
-    let words = words_len nexts (nodes_of [] nexts) (λ node h. later_small place count few nexts later node (nodes_in [] nexts node h)) in
-    omega (arith, total_small (nodes_of [] nexts) letter_bytes nexts (distinct_nodes [] nexts), few_nodes [] nexts)
+    let words = words_len nexts (nodes_of [] nexts) (λ node h. later_small place count few nexts later node (sym (has_nodes nexts node) ∙ h)) in
+    let letters = total_small (nodes_of [] nexts) letter_bytes nexts (distinct_nodes [] nexts) in
+    omega (arith, words, letters, count_by-le-length (leads_in (nodes_of [] nexts)) nexts, few_nodes [] nexts)
 
 -- the text of a line is the pieces that the code writes
 spaced_words : (all : List Next) (word : List ℕ) (nodes : List ℕ) → line_bytes (word ∷ map (branch_word all) nodes) ≡ word ++ flat_map (spaced_branch all) nodes

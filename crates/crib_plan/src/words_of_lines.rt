@@ -1,5 +1,5 @@
 //! Reading the lines of a plan, one by one.
-ghost use Rattle.std.specs.Prelude.{◌≡◌, ◌≤◌, ◌<◌, length, drop};
+ghost use Rattle.std.specs.Prelude.{◌≤◌, ◌<◌, length};
 ghost use Rattle.crib_text.specs.Lines.{line_of};
 ghost use Rattle.crib_text.specs.Reading.{Gives};
 ghost use Rattle.crib_plan.specs.Refusals.{plan_cause_number};

@@ -1,4 +1,4 @@
-use Rattle.std.proofs.Common.{◌≡◌, ◌∙◌, true, false, append_assoc, length, sym, ap, arith}
+use Rattle.std.proofs.Common.{◌∙◌, true, false, append_assoc, length, sym, ap, arith}
 use Rattle.std.proofs.lemmas.Grind.{common_steps}
 use Rattle.crib_plan.proofs.WrittenIsSpelled.{branch_next, branches_next}
 use Rattle.crib_plan.proofs.writing.append_branches.Goals as goal

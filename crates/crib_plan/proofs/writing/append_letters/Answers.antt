@@ -1,4 +1,4 @@
-use Rattle.std.proofs.Common.{◌≡◌, ◌∙◌, append_assoc, true, false, length, get_or, ap, arith, rules}
+use Rattle.std.proofs.Common.{◌≡◌, append_assoc, true, length, get_or, ap, arith, rules}
 use Rattle.std.proofs.lemmas.Grind.{common_steps}
 use Rattle.crib_plan.specs.declared.plan.Next.TheVariants.{End}
 use Rattle.crib_plan.specs.Spelling.{letter_bytes, leads_to}

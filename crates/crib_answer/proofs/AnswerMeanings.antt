@@ -50,7 +50,7 @@ check_means input (Err refusal) reply asked is = subst (Checks input) (sym is) (
 abbrev Solves : List ℕ → Reply → Type 0
 Solves input reply = SolveMeans input reply.output reply.status
 
-found_means : (input : List ℕ) (problem : Setup) (found : Option (List Node)) → SpellsProblem input problem → IsFound problem found
+pub found_means : (input : List ℕ) (problem : Setup) (found : Option (List Node)) → SpellsProblem input problem → IsFound problem found
     → Solves input (found_reply found)
 found_means input problem (Some plan) spelled found =
     let sure = sure_law problem plan spelled.problem_is found in

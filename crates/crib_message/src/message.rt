@@ -1,5 +1,5 @@
 //! The message of a refusal or a fault, as it is written to standard error.
-ghost use Rattle.std.specs.Prelude.{◌≡◌, ◌≤◌, ◌+◌, ◌++◌, [], ◌∷◌, length, codes, decimal};
+ghost use Rattle.std.specs.Prelude.{◌≡◌, ◌≤◌, ◌+◌, ◌++◌, length, codes, decimal};
 ghost use Rattle.std.specs.List.{filter};
 ghost use Rattle.arrayvec.specs.ArrayVec.{array_vec_len};
 ghost use Rattle.crib_message.specs.Message.{IsMessage, IsRefusalMessage, IsFaultMessage};

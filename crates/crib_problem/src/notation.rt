@@ -11,7 +11,7 @@ ghost use Rattle.crib_text.specs.Reading.{Gives};
 ghost use Rattle.crib_text.specs.Spelling.{line_text};
 ghost use Rattle.crib_text.specs.Private.Writing.{Appended};
 ghost use Rattle.crib_problem.specs.Reading.{act_in, actor_in, acts_count_in, card_in, most_acts, move_in, side_called};
-ghost use Rattle.crib_problem.specs.Spelling.{act_line, actor_word, acts_lines};
+ghost use Rattle.crib_problem.specs.Spelling.{act_line, acts_lines};
 ghost use Rattle.crib_problem.specs.Private.Spelling.{spaced_card};
 
 use crib_cards::{Act, Card, Move, Side, card_text, read_card};

@@ -1,5 +1,5 @@
 //! A game act by act: the round, and the cards that each side has left.
-ghost use Rattle.std.specs.Prelude.{◌≡◌, ◌≢◌, ◌≤◌, List, [], ◌∷◌};
+ghost use Rattle.std.specs.Prelude.{◌≡◌, ◌≢◌, List, [], ◌∷◌};
 ghost use Rattle.crib_cards.specs.Letters.{letter_of};
 ghost use Rattle.crib_cards.specs.Sets.{set_of};
 ghost use Rattle.crib_cards.specs.Start.{Start};

@@ -1,7 +1,7 @@
 //! Readers and writers of std as devices.
 ghost use Rattle.std.specs.Prelude.{◌≡◌};
 ghost use Rattle.std.specs.IoError.{error_kind};
-ghost use Rattle.crib_text.specs.Device.{CountsFailure, glitch_for, next_count};
+ghost use Rattle.crib_text.specs.Device.{CountsFailure, glitch_for};
 ghost use Rattle.crib_text.specs.Private.Device.{noted_as};
 
 use super::device::{Glitch, Sink, Source};

@@ -2,7 +2,7 @@
 #![tactic(auto, using(crate::proofs::LoopFacts::known_bytes))]
 
 ghost use Rattle.std.specs.Prelude.{◌≡◌, ◌≤◌, ◌<◌, length, take, vec_len, IfOk, OnOk, IfErr, OnErr, IfSome};
-ghost use Rattle.std.specs.Io.KnownBytes.{Appends, Consumes, IsAtEnd};
+ghost use Rattle.std.specs.Io.KnownBytes.{Appends, IsAtEnd};
 ghost use Rattle.crib_text.specs.Device.{HasFailed, HasNotFallen};
 ghost use Rattle.crib_text.specs.Transfer.{IsReadingFault};
 

@@ -20,7 +20,7 @@ pub struct Lines<'a> {
 }
 
 impl<'a> Lines<'a> {
-    ghost use Rattle.std.specs.Prelude.{ℕ, List, [], IfOk, OnOk, OnErr};
+    ghost use Rattle.std.specs.Prelude.{IfOk, OnErr};
     ghost use Rattle.crib_text.specs.Refusals.{text_refusal};
     ghost use Rattle.crib_text.specs.Reading.{Gives, Reads, all_lines, line_at, end_at};
     ghost use Rattle.crib_text.specs.Spelling.{line_text};

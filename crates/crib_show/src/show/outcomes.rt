@@ -1,7 +1,7 @@
 //! The order of the show, and the outcome of a deal.
-ghost use Rattle.std.specs.Prelude.{◌≡◌, ◌≤◌, ◌++◌};
-ghost use Rattle.crib_cards.specs.Sides.{are_decided, other_side, score_with, scores_with};
-ghost use Rattle.crib_show.specs.Outcome.{counted_scores, crib_of, hand_of_side, hold_of, no_row, outcome_at};
+ghost use Rattle.std.specs.Prelude.{◌≡◌};
+ghost use Rattle.crib_cards.specs.Sides.{are_decided};
+ghost use Rattle.crib_show.specs.Outcome.{crib_of, hand_of_side, no_row, outcome_at};
 ghost use Rattle.crib_show.specs.Outcome.{outcome_of, show_of, show_order};
 
 use crate::deals::Full;

@@ -1,7 +1,7 @@
 //! The least crib of the hidden deals that agree, and a bound on the greatest.
 ghost use Rattle.std.specs.Prelude.{◌≡◌, ℕ, ◌+◌, ◌≤◌, List, ◌∷◌, ◌++◌, IsTrue, map, min};
 ghost use Rattle.crib_cards.specs.Cards.{IsRank, rank_of};
-ghost use Rattle.crib_show.specs.Private.Extremes.{crib_suit_points, crib_with, has_room, is_free};
+ghost use Rattle.crib_show.specs.Private.Extremes.{crib_with, has_room, is_free};
 ghost use Rattle.crib_show.specs.Private.Extremes.{least_of_ranks, least_suits, least_suits_with, may_throw_flush};
 ghost use Rattle.crib_show.specs.Private.Extremes.{may_throw_jack, most_crib_suits};
 ghost use Rattle.crib_show.specs.Private.Extremes.{plain_crib, thrown_suits};

@@ -3,7 +3,7 @@ ghost use Rattle.std.specs.Prelude.{◌≡◌, ℕ, ◌+◌, ◌*◌, ◌<◌, �
 ghost use Rattle.crib_show.specs.Private.Places.{HasRightPoints, IsPlace};
 ghost use Rattle.crib_show.specs.Places.{below, many, place_among};
 ghost use Rattle.crib_show.specs.Extremes.{AreKept, AreExtremes, AreExtremesFor};
-ghost use Rattle.crib_show.specs.Worst.{AreOwnPoints, HasDeal, IsGreatestCrib, IsGreatestHand, IsGreatestTotal};
+ghost use Rattle.crib_show.specs.Worst.{HasDeal, IsGreatestCrib, IsGreatestHand, IsGreatestTotal};
 ghost use Rattle.crib_show.specs.Worst.{IsLeastCrib};
 
 use crate::deals::{OwnPoints, WorstShow};

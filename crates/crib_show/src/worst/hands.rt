@@ -4,7 +4,7 @@ ghost use Rattle.std.specs.List.{list_all};
 ghost use Rattle.crib_cards.specs.Cards.{IsRank, rank_of, suit_number};
 ghost use Rattle.crib_cards.specs.Sets.{IsCardSet, are_distinct, has};
 ghost use Rattle.crib_show.specs.Private.Extremes.{may_be_hold, may_have_jack, most_suit_points, ranks_from};
-ghost use Rattle.crib_show.specs.Private.Extremes.{suit_points, cards_in_suit, suited_points};
+ghost use Rattle.crib_show.specs.Private.Extremes.{cards_in_suit, suited_points};
 ghost use Rattle.crib_show.specs.Show.{plain_of_ranks};
 ghost use Rattle.crib_show.specs.Worst.{HasDeal, IsGreatestHand};
 

@@ -5,7 +5,7 @@ ghost use Rattle.std.proofs.Props.{props};
 ghost use Rattle.crib_cards.specs.Sets.{IsCardSet, count_rank, has};
 ghost use Rattle.crib_show.specs.Private.Listing.{IsFirstPassingOrNone, first_hold};
 ghost use Rattle.crib_show.specs.Private.Listing.{first_throw};
-ghost use Rattle.crib_show.specs.Private.Listing.{may_accept, may_hold, passes, try_hold, try_throw};
+ghost use Rattle.crib_show.specs.Private.Listing.{may_accept, may_hold, passes, try_hold};
 ghost use Rattle.crib_show.specs.Show.{crib_points, hand_points};
 ghost use Rattle.crib_show.specs.Worst.{ArePlain, hidden_hand};
 

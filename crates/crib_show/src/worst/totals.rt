@@ -1,10 +1,10 @@
 //! The greatest crib, and the greatest sum of the opponent's hand and the crib of one hidden deal.
 ghost use Rattle.std.specs.Prelude.{◌≡◌, ◌⊎◌, ◌+◌, ◌≤◌, ◌∷◌, ◌++◌, [], IsFalse, IsTrue};
 ghost use Rattle.crib_cards.specs.Cards.{IsRank};
-ghost use Rattle.crib_show.specs.Private.Extremes.{most_suit_points, plain_crib, ranks_from, cards_in_suit};
+ghost use Rattle.crib_show.specs.Private.Extremes.{most_suit_points};
 ghost use Rattle.crib_show.specs.Private.Totals.{NoneScores, SomeScores, card_scores, ranks_score, target_points};
 ghost use Rattle.crib_show.specs.Private.Totals.{throw_scores};
-ghost use Rattle.crib_show.specs.Show.{crib_points, plain_of_ranks};
+ghost use Rattle.crib_show.specs.Show.{crib_points};
 ghost use Rattle.crib_show.specs.Worst.{ArePlain, HasDeal, IsGreatestCrib, IsGreatestTotal};
 
 use crate::deals::{PlainCribs, WorstShow};

@@ -27,7 +27,7 @@ use Rattle.crib_game.specs.Followed.{IsRecordUnder, ending_with}
 use Rattle.crib_game.specs.Private.Judging.{full_at}
 use Rattle.crib_game.specs.Private.Tracing.{ending_at}
 use Rattle.crib_check.specs.declared.keys.Key.{Key}
-use Rattle.crib_check.specs.Failing.{IsFailingEnding, is_suited}
+use Rattle.crib_check.specs.Failing.{IsFailingEnding, IsFailing, is_suited}
 use Rattle.crib_check.specs.Private.Histories.{history_of_game}
 use Rattle.crib_check.specs.Private.Positions.{StandsAt, IsFirstFrom, IsStuckAt, IsFirstShortfall}
 use Rattle.crib_check.specs.Private.Suits.{acts_in_suits}
@@ -37,7 +37,7 @@ use Rattle.crib_check.proofs.WalkConclusions.{stuck_ends, over_ends, leaf_first}
 use Rattle.crib_check.proofs.AgreeingInSuitOrder.{Suited}
 use Rattle.crib_check.proofs.RecordsFromOpening.{acts_later, suited_turns, suited_legal, suited_shows, suited_acts}
 
-failed_outcome : (o : Outcome) → (o ≡ outcome.Reached → ⊥) → IsFailingEnding (ending_with o)
+pub failed_outcome : (o : Outcome) → (o ≡ outcome.Reached → ⊥) → IsFailingEnding (ending_with o)
 failed_outcome outcome.Reached not_reached = absurd (not_reached refl)
 failed_outcome outcome.Lost not_reached = inr (inl refl)
 failed_outcome outcome.Short not_reached = inr (inr refl)
@@ -80,11 +80,21 @@ module _ (problem : Setup) (plan : List Node) (key : Key) (later : List Event) (
     follows = follows_from plan problem.played (pone_of start) played (rw (suited_shows problem setup game.opp agrees.0 later plays) stands.follows);
   }
 
-  history_is : history_of_game game ≡ history
+  pub history_is : history_of_game game ≡ history
   history_is = ap (map event_of) acts ∙ in_suits.seen
 
   record_under : IsRecordUnder problem plan game (record_of problem game)
   record_under = subst (λ (xs : List Act). IsRecordUnder problem plan game (filled_moves start (moves_of xs))) (sym acts) of_game
+
+  -- the game fails if its deal fails here
+  pub fails_here : (result : Ending) → ending_at problem game.opp key.know.round key.know.own_left (stated_card plan key.place) ≡ result →
+      IsFailingEnding result → IsFailing problem plan game result
+  fails_here result e failure = record {
+    played = record_of problem game;
+    of_game = record_under;
+    ending_is = sym (record_ends problem plan key history stands game history_is record_under) ∙ e;
+    failure = failure;
+  }
 
   -- the game is the first failing one, if its deal is the first of those that fail here
   named : (result : Ending) → ending_at problem game.opp key.know.round key.know.own_left (stated_card plan key.place) ≡ result → IsFailingEnding result →
@@ -94,12 +104,8 @@ module _ (problem : Setup) (plan : List Node) (key : Key) (later : List Event) (
       is_before (deal_numbers other) (deal_numbers game.opp) ≡ false) →
       IsFirstFrom problem plan history game result
   named result e failure order least =
-      leaf_first problem plan key history stands game result (record {
-        played = record_of problem game;
-        of_game = record_under;
-        ending_is = sym (record_ends problem plan key history stands game history_is record_under) ∙ e;
-        failure = failure;
-      }) history_is order (ap (is_suited problem game.opp.hold) acts ∙ in_suits.suits) least
+      leaf_first problem plan key history stands game result (fails_here result e failure) history_is order
+      (ap (is_suited problem game.opp.hold) acts ∙ in_suits.suits) least
 
 -- the same for a game that has a deal
 module _ (problem : Setup) (plan : List Node) (key : Key) (later : List Event) (stands : StandsAt problem plan key (later ++ played_events problem))

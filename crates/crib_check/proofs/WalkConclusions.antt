@@ -21,6 +21,7 @@ use Rattle.crib_play.specs.Standing.{Standing}
 use Rattle.crib_play.specs.History.{Event, Own, Theirs}
 use Rattle.crib_play.proofs.CardLemmas.{none_passes}
 use Rattle.crib_show.specs.Outcome.{outcome_of}
+use Rattle.crib_show.specs.declared.show.outcomes.Outcome.TheVariants.{Reached}
 use Rattle.crib_problem.specs.Setup.{Setup}
 use Rattle.crib_plan.specs.declared.plan.Node.{Node}
 use Rattle.crib_plan.specs.Places.{stated_card}
@@ -112,16 +113,25 @@ module _ (problem : Setup) (plan : List Node) (key : Key) (history : List Event)
   pub over_ends : table.asked ≡ turns.Over → (dealt : Dealt) → ending_here dealt ≡ ending_with (outcome_of (full_at problem dealt table))
   over_ends over = ends_as turns.Over (is_stuck_at table key.know.own_left stated) over refl
 
-  over_holds : table.asked ≡ turns.Over → AllReach problem history table → HoldsFrom problem plan history
-  over_holds over all game result failing ext =
+  -- a failing game that goes on from here has a deal that does not reach the goal
+  pub over_misses : table.asked ≡ turns.Over → (game : Game) (result : Ending) → IsFailing problem plan game result →
+      Extends history (history_of_game game) →
+      AgreesWith problem history game.opp × (outcome_of (full_at problem game.opp table) ≡ Reached → ⊥)
+  over_misses over game result failing ext =
       elim (stops_or_goes game result failing ext) [
-        | inl here ↦ reached_is_none (subst IsFailingEnding (over_ends over game.opp ∙ ap ending_with (all game.opp here.agrees)) here.fails)
-        | inr next ↦ still next.event (sym over ∙ may_asked next.event next.may)
+        | inl here ↦ (
+          here.agrees,
+          λ reached. reached_is_none (subst IsFailingEnding (over_ends over game.opp ∙ ap ending_with reached) here.fails),
+        )
+        | inr next ↦ absurd (still next.event (sym over ∙ may_asked next.event next.may))
       ]
     where
       still : (event : Event) → turns.Over ≡ side_of event → ⊥
       still (Own turn) e = absurd cc
       still (Theirs letter) e = absurd cc
+
+  over_holds : table.asked ≡ turns.Over → AllReach problem history table → HoldsFrom problem plan history
+  over_holds over all game result failing ext = let missed = over_misses over game result failing ext in missed.1 (all game.opp missed.0)
 
   -- ---- the owner is asked and stuck
   pub stuck_ends : IsStuckAt plan key → (dealt : Dealt) → ending_here dealt ≡ ending.Stuck
@@ -181,7 +191,7 @@ module _ (problem : Setup) (plan : List Node) (key : Key) (history : List Event)
   own_event move.Go may (Own move.Go) come is = refl
   own_event move.Go may (Theirs letter) come is = let e = sym may.0.0 ∙ may_asked (Theirs letter) come in absurd cc
 
-  own_goes_on : (what : Move) → MayTakeAt plan key what → (game : Game) (result : Ending) → IsFailing problem plan game result →
+  pub own_goes_on : (what : Move) → MayTakeAt plan key what → (game : Game) (result : Ending) → IsFailing problem plan game result →
       Extends history (history_of_game game) → Extends (Own what ∷ history) (history_of_game game)
   own_goes_on what may game result failing ext =
       let next = goes_on game result (own_open what may game.opp) failing ext in
@@ -201,7 +211,7 @@ module _ (problem : Setup) (plan : List Node) (key : Key) (history : List Event)
   }
 
   -- ---- the opponent shows a letter
-  record NextLetter (game : Game) : Type 0 where
+  pub record NextLetter (game : Game) : Type 0 where
     pub letter : Letter
     pub can : CanShow problem history letter
     pub extends : Extends (Theirs letter ∷ history) (history_of_game game)
@@ -216,7 +226,7 @@ module _ (problem : Setup) (plan : List Node) (key : Key) (history : List Event)
   next_letter game (Own turn) e may ext = absurd cc
   next_letter game (Theirs letter) e may ext = record { letter = letter; can = may; extends = ext }
 
-  theirs_goes_on : table.asked ≡ turns.Opponent → (game : Game) (result : Ending) → IsFailing problem plan game result →
+  pub theirs_goes_on : table.asked ≡ turns.Opponent → (game : Game) (result : Ending) → IsFailing problem plan game result →
       Extends history (history_of_game game) → NextLetter game
   theirs_goes_on asked game result failing ext =
       let next = goes_on game result (theirs_open asked game.opp) failing ext in

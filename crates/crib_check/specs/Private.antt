@@ -1,4 +1,5 @@
 -- Definitions that only private functions cite. No public contract rests on them.
+pub mod Demands
 pub mod Found
 pub mod Histories
 pub mod Numbers

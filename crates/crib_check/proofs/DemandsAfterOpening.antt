@@ -1,0 +1,67 @@
+-- The deals that beat a plan are open, and what the games after the opening demand of those with some ranks.
+use Rattle.std.proofs.Common.{◌≡◌, ◌↔◌, ℕ, ◌≤◌, Bool, true, false, ◌&&◌, List, [], map, refl, sym, ap, ◌∙◌}
+use Rattle.std.proofs.lemmas.Bool.{both_ways}
+use Rattle.crib_cards.specs.Cards.{rank_of}
+use Rattle.crib_cards.specs.Sets.{rank_counts}
+use Rattle.crib_cards.specs.declared.sides.Dealt.{Dealt}
+use Rattle.crib_problem.specs.Setup.{Setup, IsSetup}
+use Rattle.crib_plan.specs.declared.plan.Node.{Node}
+use Rattle.crib_know.specs.Knowledge.{played_events}
+use Rattle.crib_know.proofs.AgreeingIsPassing.{passes_from}
+use Rattle.crib_know.proofs.PassingIsAgreeing.{agrees_passes}
+use Rattle.crib_check.specs.declared.beaten.demands.Demand.{Demand}
+use Rattle.crib_check.specs.declared.beaten.plays.Plays.{Plays}
+use Rattle.crib_check.specs.Beaten.{ArePlays, Beats, Decides, IsOpen, is_met, meets, passes_opening}
+use Rattle.crib_check.specs.Private.Demands.{BeatsFrom, IsDemandFrom, IsJoined, passes_counts}
+use Rattle.crib_check.specs.Private.Positions.{StandsAt}
+use Rattle.crib_check.proofs.BeatingDeals.{beats_agrees, few_crib, few_hand}
+use Rattle.crib_check.proofs.ExtendedGames.{failing_begins}
+use Rattle.crib_check.proofs.PositionHistories.{stands_at_start}
+
+-- ---- deals that beat a plan
+module _ (problem : Setup) (plan : List Node) (dealt : Dealt) where
+  beats_from : Beats problem plan dealt → BeatsFrom problem plan (played_events problem) dealt
+  beats_from beats = record { beats = beats; extends = failing_begins problem plan beats.game beats.result beats.failing }
+
+  -- are open
+  pub beats_open : IsSetup problem → Beats problem plan dealt → IsOpen problem dealt
+  beats_open setup beats = beats_agrees problem plan setup (played_events problem) dealt (beats_from beats)
+
+-- ---- what the games after the opening demand of the holds with some ranks, as the code has them
+module _ {A : Type 0} {problem : Setup} {plan : List Node} {plays : Plays A} (are : ArePlays problem plan plays) where
+  stands_open : StandsAt problem plan plays.start (played_events problem)
+  stands_open = stands_at_start problem plan plays.start.know plays.start.place [] refl are.knows are.place
+
+  pub stands_as : StandsAt plays.problem.now plays.plan.now plays.start (played_events problem)
+  stands_as = rw (are.same_problem, are.same_plan) stands_open
+
+  module _ {counts : List ℕ} where
+    -- a hold with these counts passes the test after the opening if they do
+    pub hold_passes : (hold : List ℕ) → rank_counts (map rank_of hold) ≡ counts →
+        passes_opening problem hold ≡ passes_counts plays.start.know.least plays.start.know.ranks_seen counts
+    hold_passes hold is = λ i. passes_counts ((sym are.knows.knowledge i).least) ((sym are.knows.knowledge i).ranks_seen) (is i)
+
+    pub none_open : passes_counts plays.start.know.least plays.start.know.ranks_seen counts ≡ false → (dealt : Dealt) → IsOpen problem dealt →
+        rank_counts (map rank_of dealt.hold) ≡ counts → ⊥
+    none_open none dealt agrees is =
+        both_ways _ (hold_passes dealt.hold is ∙ none)
+        (passes_from _ _ dealt.hold (agrees_passes problem are.knows.setup dealt agrees.0 (played_events problem) agrees))
+
+    -- a demand that is joined to one that each deal meets
+    pub decided_as : {old new : Demand} → ((hand crib : ℕ) → hand ≤ 102 → crib ≤ 102 → is_met old hand crib ≡ true) →
+        IsJoined (IsDemandFrom plays.problem.now plays.plan.now plays.start counts) old new → Decides problem plan counts new
+    decided_as {old} {new} all joined = record {
+      met = λ dealt agrees same met beats.
+          both_ways _ ((told dealt agrees same).1 (beats_from problem plan dealt beats)) (sym (same_met dealt agrees) ∙ met);
+      missed = λ dealt agrees same missed. ((told dealt agrees same).0 (sym (same_met dealt agrees) ∙ missed)).beats;
+    }
+      where
+        told : (dealt : Dealt) → IsOpen problem dealt → rank_counts (map rank_of dealt.hold) ≡ counts →
+            (meets problem joined.more dealt ≡ false) ↔ BeatsFrom problem plan (played_events problem) dealt
+        told = (rw (are.same_problem, are.same_plan) at joined.kind) (played_events problem) stands_open
+
+        same_met : (dealt : Dealt) → IsOpen problem dealt → meets problem new dealt ≡ meets problem joined.more dealt
+        same_met dealt agrees =
+            let hand = few_hand problem are.knows.setup dealt agrees.0 in
+            let crib = few_crib problem are.knows.setup dealt agrees.0 in
+            joined.joins _ _ hand crib ∙ ap (λ (b : Bool). b && meets problem joined.more dealt) (all _ _ hand crib)

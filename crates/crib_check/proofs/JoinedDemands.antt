@@ -1,0 +1,128 @@
+-- Demands that are joined at the places of choices.
+use Rattle.std.proofs.Common.{◌≡◌, ℕ, ◌+◌, ◌*◌, ◌<◌, ◌≤◌, Bool, true, false, cond, leb, ◌&&◌, List, [], ◌∷◌, ◌++◌}
+use Rattle.std.proofs.Common.{filter, get_or, length, set, take}
+use Rattle.std.proofs.Common.{refl, ap, ◌∙◌, inl, inr, arith}
+use Rattle.std.proofs.lemmas.Bool.{cases_Bool}
+use Rattle.std.proofs.lemmas.Bool.Decides.{nat_tests}
+use Rattle.std.proofs.lemmas.List.{append-nil, get_or-set_same, get_or-set_other, take_more_set}
+use Rattle.std.proofs.lemmas.List.Elements.{filter_more}
+use Rattle.crib_cards.specs.Sets.{has}
+use Rattle.crib_cards.proofs.SetFacts.{has-filter}
+use Rattle.crib_cards.proofs.SetLemmas.{has_push}
+use Rattle.crib_check.specs.declared.beaten.demands.Demand.{Demand}
+use Rattle.crib_check.specs.Beaten.{counts_of, demand_of, is_met}
+use Rattle.crib_check.specs.Private.Demands.{AreJoined, IsJoined}
+
+-- ---- two demands, and the one that all deals meet
+abbrev pub both : Demand → Demand → Demand
+both one other = record {
+  hand = cond (leb one.hand other.hand) one.hand other.hand;
+  total = cond (leb one.total other.total) one.total other.total;
+  crib = cond (leb one.crib other.crib) other.crib one.crib;
+}
+
+pub met_both : (one other : Demand) (hand crib : ℕ) → is_met (both one other) hand crib ≡ (is_met one hand crib && is_met other hand crib)
+met_both one other hand crib = grind (arith, nat_tests)
+
+abbrev pub no_demand : Demand
+no_demand = record { hand = 102; total = 204; crib = 0 }
+
+pub met_by_any : (hand crib : ℕ) → hand ≤ 102 → crib ≤ 102 → is_met no_demand hand crib ≡ true
+met_by_any hand crib few also = grind (arith, nat_tests, few, also)
+
+-- ---- demands joined at some places
+-- nothing is joined
+unjoined : {Kind : Demand → Type 0} {old new : Demand} → Kind no_demand → new ≡ old → IsJoined Kind old new
+unjoined {old = old} kind same = record {
+  more = no_demand;
+  kind = kind;
+  joins = λ hand crib few also. grind (arith, nat_tests, ap (λ (demand : Demand). is_met demand hand crib) same, few, also);
+}
+
+module _ {choices : List (List ℕ)} {places : List ℕ} where
+  pub joined_none : {Kind : List ℕ → Demand → Type 0} (old : List Demand) → ((counts : List ℕ) → Kind counts no_demand) →
+      AreJoined Kind choices places old old
+  joined_none old all = record { here = λ place h. unjoined (all _) refl; elsewhere = λ place h. refl }
+
+  pub joined_as : {Kind Also : List ℕ → Demand → Type 0} {old new : List Demand} →
+      ((counts : List ℕ) (demand : Demand) → Kind counts demand → Also counts demand) →
+      AreJoined Kind choices places old new → AreJoined Also choices places old new
+  joined_as also are = record {
+    here = λ place h. let is = are.here place h in record { more = is.more; kind = also _ _ is.kind; joins = is.joins };
+    elsewhere = are.elsewhere;
+  }
+
+  pub joined_both : {One Other Both : List ℕ → Demand → Type 0} {old mid new : List Demand} →
+      ((counts : List ℕ) (one other : Demand) → One counts one → Other counts other → Both counts (both one other)) →
+      AreJoined One choices places old mid → AreJoined Other choices places mid new → AreJoined Both choices places old new
+  joined_both {old = old} two first second = record {
+    here = λ place h. let one = first.here place h in let other = second.here place h in record {
+      more = both one.more other.more;
+      kind = two _ _ _ one.kind other.kind;
+      joins = λ hand crib few also.
+          grind (arith, nat_tests, one.joins hand crib few also, other.joins hand crib few also, met_both one.more other.more hand crib);
+    };
+    elsewhere = λ place h. second.elsewhere place h ∙ first.elsewhere place h;
+  }
+
+  -- at those that pass a test, where the others have nothing to join
+  pub joined_kept : {Kind Also : List ℕ → Demand → Type 0} {old new : List Demand} (test : List ℕ → Bool) →
+      ((counts : List ℕ) (demand : Demand) → test counts ≡ true → Kind counts demand → Also counts demand) →
+      ((counts : List ℕ) → test counts ≡ false → Also counts no_demand) →
+      AreJoined Kind choices (filter (λ place. test (counts_of choices place)) places) old new → AreJoined Also choices places old new
+  joined_kept test some none are = record {
+    here = λ place h. elim (cases_Bool (test (counts_of choices place))) [
+      | inl passed ↦
+          let is = are.here place (has-filter _ places place ∙ (λ i. h i && passed i)) in
+          record { more = is.more; kind = some _ _ passed is.kind; joins = is.joins }
+      | inr failed ↦ unjoined (none _ failed) (are.elsewhere place (has-filter _ places place ∙ (λ i. h i && failed i)))
+    ];
+    elsewhere = λ place h. are.elsewhere place (has-filter _ places place ∙ ap (λ (b : Bool). b && test (counts_of choices place)) h);
+  }
+
+-- ---- places kept in a walk over some places
+module _ (test : ℕ → Bool) (places : List ℕ) (i count : ℕ) (kept : List ℕ) (inside : i < length places)
+    (so_far : take count kept ≡ filter test (take i places)) where
+  abbrev place : ℕ
+  place = get_or places i 0
+
+  pub none_kept : test place ≡ false → take count kept ≡ filter test (take (i + 1) places)
+  none_kept fails = grind (arith, so_far, append-nil (filter test (take i places)), filter_more test places i 0 inside, fails)
+
+  pub one_kept : count < length kept → test place ≡ true → take (count + 1) (set kept count place) ≡ filter test (take (i + 1) places)
+  one_kept room passes = grind (arith, so_far, take_more_set kept count place room, filter_more test places i 0 inside, passes)
+
+-- room for the places that are left after a turn, and for those after the turns that follow
+pub room_after : {many before after room : ℕ} (few : ℕ) → many * before ≤ room → after < before → few ≤ many →
+    (few * after + many ≤ room) × (few * after ≤ room)
+room_after few enough falls fewer = (grind (arith, enough, falls, fewer), grind (arith, enough, falls, fewer))
+
+-- ---- a demand joined at one more place
+pub one_more_place : {demand : Demand} {seen : List ℕ} {place : ℕ} {old mid : List Demand} {choices : List (List ℕ)} (joined : Demand) → place < length mid →
+    ((hand crib : ℕ) → is_met joined hand crib ≡ (is_met (demand_of mid place) hand crib && is_met demand hand crib)) →
+    AreJoined (λ _ more. more ≡ demand) choices seen old mid → AreJoined (λ _ more. more ≡ demand) choices (seen ++ place ∷ []) old (set mid place joined)
+one_more_place {demand} {seen} {place} {old} {mid} joined small join are = record {
+  here = λ other h. record {
+    more = demand;
+    kind = refl;
+    joins = λ hand crib few also.
+        after (λ d. is_met d hand crib) other h (λ there. let is = are.here other there in rw is.kind at (is.joins hand crib few also)) (join hand crib);
+  };
+  elsewhere = λ other h. grind (arith, nat_tests, has_push seen place other, h, are.elsewhere other, get_or-set_other mid place other joined);
+}
+  where
+    after : (met : Demand → Bool) (other : ℕ) → has (seen ++ place ∷ []) other ≡ true →
+        (has seen other ≡ true → met (demand_of mid other) ≡ (met (demand_of old other) && met demand)) →
+        met joined ≡ (met (demand_of mid place) && met demand) → met (demand_of (set mid place joined) other) ≡ (met (demand_of old other) && met demand)
+    after met other h was with_it = grind (
+      arith,
+      nat_tests,
+      h,
+      was,
+      with_it,
+      has_push seen place other,
+      are.elsewhere other,
+      get_or-set_same mid place joined,
+      get_or-set_other mid place other joined,
+      small,
+    )

@@ -1,0 +1,84 @@
+use Rattle.std.proofs.Common.{rules, refl, ◌≡◌, ◌*◌, ◌≤◌, ◌<◌, length, take, sym, arith}
+use Rattle.std.specs.List.{All}
+use Rattle.std.proofs.lemmas.Bool.{both_ways}
+use Rattle.std.proofs.lemmas.List.{length-take}
+use Rattle.std.proofs.lemmas.List.Elements.{All-filter}
+use Rattle.crib_check.proofs.BeatingDeals.{beats_agrees}
+use Rattle.crib_check.proofs.DemandsByTurns.{all_below, goes_on, next_below, none_below, none_demand, over_demand, own_demand}
+use Rattle.crib_know.specs.Private.Ahead.{turns_ahead}
+use Rattle.crib_check.specs.Private.Demands.{may_show}
+use Rattle.crib_check.proofs.DemandsByTurns.{stuck_demand, theirs_not_shown, theirs_shown}
+use Rattle.crib_check.proofs.JoinedDemands.{both, joined_as, joined_both, joined_kept, joined_none, met_both}
+use Rattle.crib_check.proofs.JoinedDemands.{room_after}
+use Rattle.crib_check.proofs.beaten.plays.Plays.+demand.Goals as goal
+
+-- ---- the deal is done
+pub join_from-returns-in-Over : goal.join_from-returns-in-Over
+join_from-returns-in-Over g t c = joined_as (λ counts demand is. rw is (over_demand _ (sym c.in-Over.ensures) c.demand_at_end.ensures)) (c.join.ensures _)
+
+-- ---- the owner's turn
+pub join_by_own-returns-in_default : goal.join_by_own-returns-in_default
+join_by_own-returns-in_default g t c = joined_as (λ counts demand is. rw is (stuck_demand _ c.in_default.ensures c.impossible.ensures.none)) (c.join.ensures _)
+
+pub join_by_own-join_from-requires : goal.join_by_own-join_from-requires
+join_by_own-join_from-requires g t c κs within =
+    let next = goes_on c.requires.here (rw c.copy-next.ensures at c.go_by_own.ensures c.args.self.now.problem.now) in
+    search (rules, next.0, next.1, (room_after (length c.args.places.now) c.requires.room next.1 (omega arith)).1)
+
+pub join_by_own-returns : goal.join_by_own-returns
+join_by_own-returns g t c =
+    joined_as (λ counts demand. own_demand demand c.requires.asked c.in-Some.ensures
+    (rw c.copy-next.ensures at c.go_by_own.ensures c.args.self.now.problem.now)) c.join_from.ensures
+
+-- ---- a letter of the opponent
+pub join_after-returns-then-not-can_show-clause-joined : goal.join_after-returns-then-not-can_show-clause-joined
+join_after-returns-then-not-can_show-clause-joined g t c = joined_none _ (λ counts. none_demand (λ history stands dealt same beats.
+    both_ways c.can_show.result c.if-not-can_show.true
+    ((c.can_show.ensures.exact _ history stands.knows).1 (dealt, beats_agrees _ _ stands.knows.setup _ dealt beats))))
+
+pub join_after-go_by_theirs-requires : goal.join_after-go_by_theirs-requires
+join_after-go_by_theirs-requires g t c = rw c.copy-next.ensures (c.can_show.ensures.shown c.if-not-can_show.false)
+
+pub join_after-split_at_mut-left-requires : goal.join_after-split_at_mut-left-requires
+join_after-split_at_mut-left-requires g t c =
+    let next = goes_on c.requires.here (rw c.copy-next.ensures at c.go_by_theirs.ensures c.args.self.now.problem.now) in
+    omega (arith, (room_after 0 c.requires.room next.1 (omega arith)).0)
+
+pub join_after-join_from-requires : goal.join_after-join_from-requires
+join_after-join_from-requires g t c κs within =
+    let next = goes_on c.requires.here (rw c.copy-next.ensures at c.go_by_theirs.ensures c.args.self.now.problem.now) in
+    let left = take c.keep_places-count.result c.keep_places-count.new.left in
+    let small : All (λ place. place < 1820) left = rw c.keep_places-count.ensures.kept (All-filter _ (λ place. place < 1820) _ c.requires.places) in
+    let few : length left ≤ length c.args.places.now =
+    omega (arith, length-take c.keep_places-count.result c.keep_places-count.new.left, c.keep_places-count.ensures.few) in
+    let room : length left * turns_ahead c.go_by_theirs.new.key.know ≤ length c.split_at_mut-left.result.1.now =
+    omega (arith, (room_after (length left) c.requires.room next.1 few).0, c.split_at_mut-left.ensures.back_len) in
+    search (rules, next.0, next.1, small, room)
+
+pub join_after-returns-then-count-gt0-clause-joined : goal.join_after-returns-then-count-gt0-clause-joined
+join_after-returns-then-count-gt0-clause-joined g t c =
+    let goes = rw c.copy-next.ensures at c.go_by_theirs.ensures c.args.self.now.problem.now in
+    joined_kept (may_show c.args.key.now.know c.go_by_theirs.new.key.know c.args.letter.now)
+    (λ counts demand. theirs_shown demand goes) (λ counts. theirs_not_shown goes) (rw c.keep_places-count.ensures.kept at c.join_from.ensures)
+
+pub join_after-returns-else-count-gt0-clause-joined : goal.join_after-returns-else-count-gt0-clause-joined
+join_after-returns-else-count-gt0-clause-joined g t c =
+    let goes = rw c.copy-next.ensures at c.go_by_theirs.ensures c.args.self.now.problem.now in
+    let zero : c.keep_places-count.result ≡ 0 = omega (arith, c.if-count-gt0.false) in
+    joined_kept (may_show c.args.key.now.know c.go_by_theirs.new.key.know c.args.letter.now)
+    (λ counts demand. theirs_shown demand goes) (λ counts. theirs_not_shown goes)
+    (rw (← rw zero at c.keep_places-count.ensures.kept) (record { here = λ place h. absurd cc; elsewhere = λ place h. refl }))
+
+-- ---- each letter of the opponent
+pub join_by_theirs-loop-place-init : goal.join_by_theirs-loop-place-init
+join_by_theirs-loop-place-init g t c = record { joined = joined_none _ (λ counts. none_below); room = search rules }
+
+pub join_by_theirs-loop-place-preserved : goal.join_by_theirs-loop-place-preserved
+join_by_theirs-loop-place-preserved g t c = record {
+  joined = joined_both (λ counts one other. next_below one other (both one other) c.at-letter.ensures.place c.at-letter.ensures.valid (met_both one other))
+      c.loop-place.invariant.joined c.join_after.ensures.joined;
+  room = search rules;
+}
+
+pub join_by_theirs-returns : goal.join_by_theirs-returns
+join_by_theirs-returns g t c = joined_as (λ counts demand. all_below demand c.requires.asked c.loop-place-test.false) c.loop-place.invariant.joined

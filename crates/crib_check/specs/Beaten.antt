@@ -1,0 +1,85 @@
+-- Deals that beat a plan, and what a deal must count in the show so that it does not. The opening is the visible turns
+-- that the problem lists as played.
+use Rattle.std.specs.Prelude.{◌≡◌, ℕ, ◌+◌, ◌≤◌, nat_le, Bool, ◌&&◌, List, [], ◌++◌, map, get_or}
+use Rattle.std.specs.Prelude.{IsTrue, IsFalse}
+use Rattle.crib_cards.specs.Cards.{rank_of}
+use Rattle.crib_cards.specs.Sets.{rank_counts}
+use Rattle.crib_cards.specs.declared.sides.Side.{Side}
+use Rattle.crib_cards.specs.declared.sides.Scores.{Scores}
+use Rattle.crib_cards.specs.declared.sides.Dealt.{Dealt}
+use Rattle.crib_show.specs.Show.{hand_points, crib_points}
+use Rattle.crib_show.specs.declared.deals.Full.{Full}
+use Rattle.crib_problem.specs.Setup.{Setup}
+use Rattle.crib_plan.specs.declared.plan.Node.{Node}
+use Rattle.crib_plan.specs.Places.{plan_start}
+use Rattle.crib_know.specs.Knowledge.{least_value, played_events, their_ranks}
+use Rattle.crib_know.specs.Hidden.{AgreesWith, KnowsAfter, passes}
+use Rattle.crib_game.specs.declared.section.game.Game.{Game}
+use Rattle.crib_game.specs.declared.following.ending.Ending.{Ending}
+use Rattle.crib_check.specs.declared.beaten.demands.Demand.{Demand}
+use Rattle.crib_check.specs.declared.beaten.plays.Plays.{Plays}
+use Rattle.crib_check.specs.Failing.{IsFailing}
+
+-- an open deal: one that agrees with the opening
+abbrev pub IsOpen : Setup → Dealt → Type 0
+IsOpen problem dealt = AgreesWith problem (played_events problem) dealt
+
+-- a deal beats a plan: it is the deal of some failing game
+pub record Beats (problem : Setup) (plan : List Node) (dealt : Dealt) : Type 0 where
+  pub game : Game
+  pub result : Ending
+  pub failing : IsFailing problem plan game result
+  pub of_deal : game.opp ≡ dealt
+
+-- whether a hand of the opponent and a crib of so many points meet a demand
+abbrev pub is_met : Demand → ℕ → ℕ → Bool
+is_met demand hand crib = nat_le hand demand.hand && (nat_le (hand + crib) demand.total && nat_le demand.crib crib)
+
+-- a show: its dealer, the scores before it, the target, whether the goal is `stop`, and the points of the owner's hand.
+-- The opponent's hand and the crib have at most 102 points each
+pub record IsShowAt
+    (dealer : Side) (scores : Scores) (target : ℕ) (is_to_stop : Bool) (own_hand : ℕ) (full : Full) : Type 0 where
+  pub dealer_is : full.dealer ≡ dealer
+  pub scores_are : full.scores ≡ scores
+  pub target_is : full.target ≡ target
+  pub stop_is : full.stop ≡ is_to_stop
+  pub own_hand_is : hand_points full.own_hold full.starter ≡ own_hand
+  pub few_hand : hand_points full.opp.hold full.starter ≤ 102
+  pub few_crib : crib_points (full.own_throw ++ full.opp.throw) full.starter ≤ 102
+
+-- whether a deal of a problem meets a demand
+abbrev pub meets : Setup → Demand → Dealt → Bool
+meets problem demand dealt =
+    is_met demand (hand_points dealt.hold problem.starter)
+    (crib_points (problem.thrown ++ dealt.throw) problem.starter)
+
+-- a demand decides which deals beat a plan, among the open deals whose hold has so many cards of each rank: those that
+-- meet it do not beat the plan, and the others do
+pub record Decides (problem : Setup) (plan : List Node) (counts : List ℕ) (demand : Demand) : Type 0 where
+  pub met : (dealt : Dealt) → IsOpen problem dealt → rank_counts (map rank_of dealt.hold) ≡ counts →
+      IsTrue (meets problem demand dealt) → ¬ Beats problem plan dealt
+  pub missed : (dealt : Dealt) → IsOpen problem dealt → rank_counts (map rank_of dealt.hold) ≡ counts →
+      IsFalse (meets problem demand dealt) → Beats problem plan dealt
+
+-- whether a hold passes the test of what the owner knows after the opening. That of each open deal does
+abbrev pub passes_opening : Setup → List ℕ → Bool
+passes_opening problem hold =
+    passes (least_value problem (played_events problem)) (rank_counts (their_ranks (played_events problem))) hold
+
+-- how many cards of each rank the choice at a place has
+abbrev pub counts_of : List (List ℕ) → ℕ → List ℕ
+counts_of choices place = get_or choices place []
+
+-- the demand at a place
+abbrev pub demand_of : List Demand → ℕ → Demand
+demand_of demands place = get_or demands place (record { hand = 0; total = 0; crib = 0 })
+
+-- the games of a problem that follow a plan, as the code has them: with the position after the opening and the points
+-- of the owner's hand
+pub record ArePlays {A : Type 0} (problem : Setup) (plan : List Node) (plays : Plays A) : Type 0 where
+  pub same_problem : plays.problem.now ≡ problem
+  pub same_plan : plays.plan.now ≡ plan
+  pub knows : KnowsAfter plays.start.know problem (played_events problem)
+  pub place : plays.start.place ≡ plan_start plan
+  pub points : plays.own_hand ≡ hand_points problem.hold problem.starter
+  pub few : plays.own_hand ≤ 102

@@ -1,0 +1,81 @@
+-- What the opponent's hand and the crib must count so that no game from a position on fails.
+use Rattle.std.specs.Prelude.{◌≡◌, ℕ, ◌≤◌, nat_lt, Bool, true, ◌&&◌, List, ◌∷◌, map, ◌↔◌, IsTrue, IsFalse}
+use Rattle.std.specs.List.{list_all}
+use Rattle.crib_cards.specs.Cards.{rank_of, ranks}
+use Rattle.crib_cards.specs.Sets.{count_at, has, rank_counts}
+use Rattle.crib_cards.specs.declared.letters.Letter.{Letter}
+use Rattle.crib_cards.specs.declared.letters.Letter.TheVariants.{Seen, Go}
+use Rattle.crib_cards.specs.declared.sides.Dealt.{Dealt}
+use Rattle.crib_play.specs.History.{Event, Theirs}
+use Rattle.crib_show.specs.Show.{hand_points}
+use Rattle.crib_problem.specs.Setup.{Setup}
+use Rattle.crib_plan.specs.declared.plan.Node.{Node}
+use Rattle.crib_know.specs.Knowledge.{Knowledge}
+use Rattle.crib_know.specs.Hidden.{AgreesWith, passes_rank}
+use Rattle.crib_check.specs.declared.beaten.demands.Demand.{Demand}
+use Rattle.crib_check.specs.declared.keys.Key.{Key}
+use Rattle.crib_check.specs.Beaten.{Beats, counts_of, demand_of, is_met, meets}
+use Rattle.crib_check.specs.Private.Histories.{Extends, history_of_game}
+use Rattle.crib_check.specs.Private.Positions.{StandsAt}
+
+-- the points of the owner's hand, at most 102
+abbrev pub IsOwnHand : Setup → ℕ → Type 0
+IsOwnHand problem points = (points ≡ hand_points problem.hold problem.starter) × (points ≤ 102)
+
+-- a position is one after some history of the problem
+abbrev pub IsAfterSome : Setup → List Node → Key → Type 0
+IsAfterSome problem plan key = (history : List Event) × StandsAt problem plan key history
+
+-- a failing game with this deal goes on from a history
+pub record BeatsFrom (problem : Setup) (plan : List Node) (history : List Event) (dealt : Dealt) : Type 0 where
+  pub beats : Beats problem plan dealt
+  pub extends : Extends history (history_of_game beats.game)
+
+-- a demand decides which deals are beaten after each history that a position represents. Of the deals that agree with
+-- the history and whose hold has these counts of ranks, those that miss it are, and the others are not
+abbrev pub IsDemandAt : Setup → List Node → Key → List ℕ → (List Event → Dealt → Type 0) → Demand → Type 0
+IsDemandAt problem plan key counts IsBeaten demand =
+    (history : List Event) → StandsAt problem plan key history → (dealt : Dealt) → AgreesWith problem history dealt →
+    rank_counts (map rank_of dealt.hold) ≡ counts → IsFalse (meets problem demand dealt) ↔ IsBeaten history dealt
+
+-- the same for the games that go on from there
+abbrev pub IsDemandFrom : Setup → List Node → Key → List ℕ → Demand → Type 0
+IsDemandFrom problem plan key counts = IsDemandAt problem plan key counts (BeatsFrom problem plan)
+
+-- and for those of them that go on with a letter
+abbrev pub IsDemandAfter : Setup → List Node → Key → List ℕ → Letter → Demand → Type 0
+IsDemandAfter problem plan key counts letter =
+    IsDemandAt problem plan key counts (λ history. BeatsFrom problem plan (Theirs letter ∷ history))
+
+-- whether a hold with these counts has a card left that shows a letter. Any hold may show a go
+abbrev pub has_left : List ℕ → List ℕ → Letter → Bool
+has_left seen counts (Seen rank) = nat_lt (count_at seen rank) (count_at counts rank)
+has_left seen counts Go = true
+
+-- whether a hold with these counts passes the test of a knowledge
+abbrev pub passes_counts : ℕ → List ℕ → List ℕ → Bool
+passes_counts least seen counts = list_all (passes_rank least seen counts) ranks
+
+-- whether a hold with these counts passes the test of the knowledge after a letter. After a card it does, if it had the
+-- card left
+abbrev pub passes_after : Knowledge → List ℕ → Letter → Bool
+passes_after know counts (Seen rank) = true
+passes_after know counts Go = passes_counts know.least know.ranks_seen counts
+
+-- whether a hold with these counts may show a letter: it has a card left for it, and passes the test after it
+abbrev pub may_show : Knowledge → Knowledge → Letter → List ℕ → Bool
+may_show before after letter counts = has_left before.ranks_seen counts letter && passes_after after counts letter
+
+-- a demand of a kind is joined to another. Hands and cribs have at most 102 points each
+pub record IsJoined (Kind : Demand → Type 0) (old new : Demand) : Type 0 where
+  pub more : Demand
+  pub kind : Kind more
+  pub joins : (hand crib : ℕ) → hand ≤ 102 → crib ≤ 102 →
+      is_met new hand crib ≡ (is_met old hand crib && is_met more hand crib)
+
+-- at some places a demand is joined that is of a kind for the counts there. At the others the demand is as it was
+pub record AreJoined
+    (Kind : List ℕ → Demand → Type 0) (choices : List (List ℕ)) (places : List ℕ) (old new : List Demand) : Type 0 where
+  pub here : (place : ℕ) → IsTrue (has places place) →
+      IsJoined (Kind (counts_of choices place)) (demand_of old place) (demand_of new place)
+  pub elsewhere : (place : ℕ) → IsFalse (has places place) → demand_of new place ≡ demand_of old place

@@ -1,0 +1,81 @@
+-- Lists without repetition, and exact counts of deals.
+use Rattle.std.proofs.Common.{◌≡◌, ◌⊎◌, ◌↔◌, ℕ, ◌+◌, ◌<◌, ◌≤◌, Bool, true, false, cond, List, [], ◌∷◌, ◌++◌, length, refl, ◌∙◌, inl, inr, arith}
+use Rattle.std.proofs.Common.{length-append}
+use Rattle.std.specs.List.{All}
+use Rattle.std.proofs.lemmas.Bool.{both_ways}
+use Rattle.std.proofs.lemmas.List.Elements.{All-head, All-tail}
+use Rattle.crib_cards.specs.Deals.{is_in_pack_order}
+use Rattle.crib_cards.specs.declared.sides.Dealt.{Dealt}
+use Rattle.crib_beaten.specs.Exact.{IsIn, AreDifferent, AreExactly}
+
+-- ---- members
+pub in_append : {X : Type 0} (x : X) (xs ys : List X) → IsIn x (xs ++ ys) ↔ (IsIn x xs ⊎ IsIn x ys)
+in_append x [] ys = grind arith
+in_append x (y ∷ xs) ys = grind (arith, in_append x xs ys)
+
+pub in_all : {X : Type 0} (P : X → Type 0) (x : X) (xs : List X) → All P xs → IsIn x xs → P x
+in_all P x [] all h = absurd h
+in_all P x (y ∷ xs) all h = let first = All-head P y xs all in grind (arith, h, first, in_all P x xs (All-tail P y xs all))
+
+-- ---- lists without repetition
+different_append : {X : Type 0} (xs ys : List X) → AreDifferent xs → AreDifferent ys → ((x : X) → IsIn x xs → IsIn x ys → ⊥) → AreDifferent (xs ++ ys)
+different_append [] ys one other apart = other
+different_append (x ∷ xs) ys one other apart = grind (arith, one, apart, in_append, different_append xs ys)
+
+-- a list without one of its members
+without : {X : Type 0} (x : X) (xs : List X) → IsIn x xs →
+    (rest : List X) × (length xs ≡ length rest + 1) × ((y : X) → IsIn y xs → (x ≡ y) ⊎ IsIn y rest)
+without x [] h = absurd h
+without x (y ∷ xs) (inl e) = (xs, omega arith, λ z h. grind (arith, e, h))
+without x (y ∷ xs) (inr h) = let below = without x xs h in (y ∷ below.0, omega (arith, below.1), λ z h. grind (arith, h, below.2 z))
+
+no_fewer : {X : Type 0} (xs ys : List X) → AreDifferent xs → ((x : X) → IsIn x xs → IsIn x ys) → length xs ≤ length ys
+no_fewer [] ys apart within = omega arith
+no_fewer (x ∷ xs) ys apart within =
+    let left = without x ys (within x (inl refl)) in
+    let fewer = no_fewer xs left.0 apart.1 (λ y h. grind (arith, h, left.2 y (within y (inr h)), apart.0)) in
+    omega (arith, left.1, fewer)
+
+-- ---- exact counts
+pub exactly_one : {Has : Dealt → Type 0} {one other : ℕ} → AreExactly Has one → AreExactly Has other → one ≡ other
+exactly_one first second =
+    let less = no_fewer first.deals second.deals first.different (λ dealt h. (second.each dealt).1 ((first.each dealt).0 h)) in
+    let more = no_fewer second.deals first.deals second.different (λ dealt h. (first.each dealt).1 ((second.each dealt).0 h)) in
+    omega (arith, less, more, first.counted, second.counted)
+
+pub exactly_none : {Has : Dealt → Type 0} → ((dealt : Dealt) → is_in_pack_order dealt ≡ true → Has dealt → ⊥) → AreExactly Has 0
+exactly_none none = record { deals = []; different = tt; each = λ dealt. (λ h. absurd h, λ has. none dealt has.0 has.1); counted = refl }
+
+pub exactly_zero : {Has : Dealt → Type 0} → AreExactly Has 0 → (dealt : Dealt) → is_in_pack_order dealt ≡ true → Has dealt → ⊥
+exactly_zero exact dealt order has =
+    absurd (omega (arith, exact.counted, (without dealt exact.deals ((exact.each dealt).1 (order, has))).1))
+
+pub exactly_some : {Has : Dealt → Type 0} {count : ℕ} → 0 < count → AreExactly Has count → (dealt : Dealt) × (is_in_pack_order dealt ≡ true) × Has dealt
+exactly_some some exact = let one = first exact.deals (rw exact.counted some) in let has = (exact.each one.0).0 one.1 in (one.0, has.0, has.1)
+  where
+    first : (deals : List Dealt) → 0 < length deals → (dealt : Dealt) × IsIn dealt deals
+    first [] some = absurd (omega (arith, some))
+    first (dealt ∷ deals) some = (dealt, inl refl)
+
+-- the deals of a property that says the same
+pub exactly_same : {Has Also : Dealt → Type 0} {count : ℕ} → ((dealt : Dealt) → is_in_pack_order dealt ≡ true → Has dealt → Also dealt) →
+    ((dealt : Dealt) → is_in_pack_order dealt ≡ true → Also dealt → Has dealt) → AreExactly Has count → AreExactly Also count
+exactly_same to from exact =
+    record { deals = exact.deals; different = exact.different; each = λ dealt. grind (arith, exact.each dealt, to dealt, from dealt); counted = exact.counted }
+
+-- the deals of one of two properties, of which no deal has both
+pub exactly_either : {One Other Has : Dealt → Type 0} {count more : ℕ} → ((dealt : Dealt) → Has dealt → One dealt ⊎ Other dealt) →
+    ((dealt : Dealt) → One dealt → Has dealt) → ((dealt : Dealt) → Other dealt → Has dealt) → ((dealt : Dealt) → One dealt → Other dealt → ⊥) →
+    AreExactly One count → AreExactly Other more → AreExactly Has (count + more)
+exactly_either parts one_has other_has apart one other = record {
+  deals = one.deals ++ other.deals;
+  different = different_append one.deals other.deals one.different other.different
+      (λ dealt left right. apart dealt ((one.each dealt).0 left).1 ((other.each dealt).0 right).1);
+  each = λ dealt. grind (arith, in_append dealt one.deals other.deals, one.each dealt, other.each dealt, parts dealt, one_has dealt, other_has dealt);
+  counted = length-append one.deals other.deals ∙ (λ i. one.counted i + other.counted i);
+}
+
+-- one deal, if a test passes
+pub exactly_deal : (deal : Dealt) (passes : Bool) → is_in_pack_order deal ≡ true → AreExactly (λ dealt. (deal ≡ dealt) × (passes ≡ true)) (cond passes 1 0)
+exactly_deal deal true order = record { deals = deal ∷ []; different = (λ none. none, tt); each = λ dealt. grind (arith, order); counted = refl }
+exactly_deal deal false order = exactly_none (λ dealt _ has. both_ways false refl has.1)

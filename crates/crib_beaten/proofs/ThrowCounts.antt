@@ -1,0 +1,95 @@
+-- How many throws of the cards that a hold leaves make a crib below a limit, counted by inclusion and exclusion.
+use Rattle.std.proofs.Common.{◌≡◌, ℕ, ◌+◌, ◌*◌, ◌≤◌, min, max, Bool, false, not, ◌&&◌, eqb, ltb, sum_by, List, [], ◌∷◌, ◌++◌, slice_index}
+use Rattle.std.proofs.Common.{refl, sym, ap, ◌∙◌, arith}
+use Rattle.std.proofs.Math.Nat.{min_comm, max_comm}
+use Rattle.std.proofs.lemmas.Bool.Decides.{nat_tests}
+use Rattle.std.proofs.lemmas.List.{get_or_past}
+use Rattle.std.proofs.lemmas.List.Sums.{sum_by-cons}
+use Rattle.crib_cards.specs.Sets.{set_without_all}
+use Rattle.crib_cards.proofs.LowestCard.{in_set}
+use Rattle.crib_cards.proofs.Members.{all_cards}
+use Rattle.crib_cards.proofs.SetCounts.{count_append, count_cons}
+use Rattle.crib_cards.proofs.SetLemmas.{eqb_turned}
+use Rattle.crib_cards.proofs.SetFacts.{set_of-rising}
+use Rattle.crib_know.proofs.CardLists.{count_sum, none_counted, one_if}
+use Rattle.crib_know.proofs.DealLists.{count_rest}
+use Rattle.crib_show.proofs.RankLaw.{reordered_from_times}
+use Rattle.crib_show.proofs.ReorderedLists.{Reordered, nothing, behind, front, both, count_by-reordered}
+use Rattle.crib_check.specs.declared.beaten.demands.Demand.{Demand}
+use Rattle.crib_check.specs.Beaten.{is_met}
+use Rattle.crib_beaten.specs.Private.Throws.{AreFew, IsHeld, is_missing, are_two, crib_with, is_below, partners, passing_throws, throws_with}
+
+module _ (test : List ℕ → Bool) (turned : (a b : ℕ) → test (a ∷ b ∷ []) ≡ test (b ∷ a ∷ [])) (alone : (a : ℕ) → test (a ∷ a ∷ []) ≡ false) where
+  abbrev with : ℕ → ℕ → Bool
+  with card other = test (card ∷ other ∷ [])
+
+  throws-reordered : (xs ys : List ℕ) → Reordered xs ys → passing_throws test xs ≡ passing_throws test ys
+  throws-reordered xs ys nothing = refl
+  throws-reordered xs ys (behind x us vs r) = λ i. count_by-reordered (with x) us vs r i + throws-reordered us vs r i
+  throws-reordered xs ys (front x y us) = omega (arith, count_cons (with x) y us, count_cons (with y) x us, ap one_if (turned x y))
+  throws-reordered xs ys (both us vs ws r s) = throws-reordered us vs r ∙ throws-reordered vs ws s
+
+  one_more : (card : ℕ) (cards others : List ℕ) → throws_with test cards (card ∷ others) ≡ partners test card cards + throws_with test cards others
+  one_more card [] others = refl
+  one_more card (next ∷ cards) others =
+      let both = sum_by-cons (λ c. partners test c (card ∷ others)) next cards in
+      let rest = sum_by-cons (λ c. partners test c others) next cards in
+      omega (arith, both, rest, ap one_if (turned next card), one_more card cards others, count_cons (with card) next cards, count_cons (with next) card others)
+
+  joined : (hold left : List ℕ) →
+      passing_throws test left + throws_with test hold (hold ++ left) ≡ passing_throws test (hold ++ left) + passing_throws test hold
+  joined [] left = refl
+  joined (card ∷ hold) left =
+      let rest = sum_by-cons (λ c. partners test c (card ∷ hold ++ left)) card hold in
+      omega (arith, rest, joined hold left, one_more card hold (hold ++ left), none_counted _ (alone card), count_cons (with card) card (hold ++ left))
+
+  -- a throw of two cards of a hold is counted with each of the two
+  pub throws_left : (unseen hold : List ℕ) → IsHeld unseen hold →
+      passing_throws test (set_without_all unseen hold) + throws_with test hold unseen ≡ passing_throws test unseen + passing_throws test hold
+  throws_left unseen hold held =
+      let left : List ℕ = set_without_all unseen hold in
+      let set = sym (set_of-rising hold held.rising (all_cards hold (λ card h. in_set unseen card held.set (held.among card h)))) in
+      let all = reordered_from_times unseen (hold ++ left)
+      (λ n. count_rest (λ x. eqb x n) hold unseen set held.set held.among ∙ sym (count_append (λ x. eqb x n) hold left)) in
+      (λ i. passing_throws test left + sum_by (λ card. count_by-reordered (with card) unseen (hold ++ left) all i) hold)
+      ∙ joined hold left ∙ ap (λ (n : ℕ). n + passing_throws test hold) (sym (throws-reordered unseen (hold ++ left) all))
+
+-- if each throw passes as many of two tests as of two others, so do all together
+pub throws_sum : (f g h : List ℕ → Bool) → ((throw : List ℕ) → one_if (f throw) ≡ one_if (g throw) + one_if (h throw)) → (cards : List ℕ) →
+    passing_throws f cards ≡ passing_throws g cards + passing_throws h cards
+throws_sum f g h each [] = refl
+throws_sum f g h each (card ∷ cards) =
+    let first = count_sum (λ o. f (card ∷ o ∷ [])) (λ o. g (card ∷ o ∷ [])) (λ o. h (card ∷ o ∷ [])) cards (λ o. each (card ∷ o ∷ [])) in
+    omega (arith, first, throws_sum f g h each cards)
+
+pub left_below : (points : List ℕ) (limit : ℕ) (unseen hold : List ℕ) → IsHeld unseen hold →
+    passing_throws (is_below points limit) (set_without_all unseen hold) + throws_with (is_below points limit) hold unseen
+    ≡ passing_throws (is_below points limit) unseen + passing_throws (is_below points limit) hold
+left_below points limit unseen hold held = throws_left (is_below points limit)
+    (λ a b i. not (eqb_turned a b i) && ltb (slice_index points (52 * min_comm a b i + max_comm a b i)) limit) (λ a. grind (arith, nat_tests)) unseen hold held
+
+pub none_left : (points unseen hold : List ℕ) → 0 ≡ passing_throws (is_below points 0) (set_without_all unseen hold)
+none_left points unseen hold =
+    omega (arith, throws_sum (is_below points 0) (is_below points 0) (is_below points 0) (λ throw. grind (arith, nat_tests)) (set_without_all unseen hold))
+
+-- whether a throw of two different cards meets a demand on the crib alone
+abbrev pub is_met_with : List ℕ → Demand → List ℕ → Bool
+is_met_with points demand throw = are_two throw && is_met demand 0 (crib_with points throw)
+
+module _ (points : List ℕ) (demand : Demand) (unseen hold : List ℕ) where
+  abbrev left : (List ℕ → Bool) → ℕ
+  left test = passing_throws test (set_without_all unseen hold)
+
+  pub met_below : AreFew points → left (is_below points (min demand.total 102 + 1))
+      ≡ left (is_below points (min demand.crib (min demand.total 102 + 1))) + left (is_met_with points demand)
+  met_below few =
+      throws_sum (is_below points (min demand.total 102 + 1)) (is_below points (min demand.crib (min demand.total 102 + 1))) (is_met_with points demand)
+      (λ throw. grind (arith, nat_tests, most throw)) (set_without_all unseen hold)
+    where
+      most : (throw : List ℕ) → crib_with points throw ≤ 102
+      most throw = let place = 52 * min (slice_index throw 0) (slice_index throw 1) + max (slice_index throw 0) (slice_index throw 1) in
+          grind (arith, few place 0, get_or_past points place 0)
+
+  pub met_or_missed : IsHeld unseen hold → 820 ≡ left (is_missing points demand) + left (is_met_with points demand)
+  met_or_missed held = sym held.left
+      ∙ throws_sum are_two (is_missing points demand) (is_met_with points demand) (λ throw. grind (arith, nat_tests)) (set_without_all unseen hold)

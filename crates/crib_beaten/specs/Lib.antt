@@ -1,0 +1,5 @@
+pub mod Exact
+pub mod Tally
+pub mod Terms
+pub mod Laws
+pub mod Private

@@ -1,0 +1,15 @@
+//! How many deals beat a plan, and how many of each choice of four ranks.
+#![tactic(auto)]
+
+mod holds;
+mod laws;
+mod rows;
+mod tally;
+mod throws;
+
+pub use laws::tally_law;
+pub use rows::{Row, Rows, Slot, Term, rows_of};
+pub use tally::{RanksTally, Tally, tally_of};
+
+#[cfg(test)]
+mod tests;

@@ -1,6 +1,7 @@
 -- Histories that differ only in the suits of the owner's cards.
-use Rattle.std.proofs.Common.{◌≡◌, ℕ, ◌+◌, ◌≤◌, Bool, true, false, not, ◌&&◌, ◌||◌, cond, eqb, List, [], ◌∷◌, ◌++◌, map, count_by, refl}
+use Rattle.std.proofs.Common.{◌≡◌, ℕ, ◌+◌, ◌≤◌, Bool, true, not, ◌&&◌, ◌||◌, cond, eqb, List, [], ◌∷◌, ◌++◌, map, count_by, refl}
 use Rattle.std.proofs.Common.{sym, ap, ◌∙◌, arith}
+use Rattle.std.proofs.lemmas.Bool.Decides.{nat_tests}
 use Rattle.std.proofs.lemmas.Bool.{and_parts, eqb-true, eq-eqb, not-true}
 use Rattle.crib_cards.specs.Cards.{rank_of}
 use Rattle.crib_cards.specs.Sets.{has, are_distinct, count_rank}
@@ -112,10 +113,7 @@ module _ (problem : Setup) where
         omega (arith, less, more, before)
       where
         free_without : (here there : Bool) → not (here || there) ≡ (not there && not here)
-        free_without true true = refl
-        free_without true false = refl
-        free_without false true = refl
-        free_without false false = refl
+        free_without here there = grind (arith, nat_tests)
     left_whole (event ∷ history) led = left_whole history led.0
 
   module _ (setup : IsSetup problem) (one other : List Event) (alike : AreAlike one other) (led_one : IsLed problem one) (led_other : IsLed problem other) where
@@ -152,22 +150,14 @@ module _ (problem : Setup) where
     asked_alike = ap (λ (letters : List Letter). asked_after (start_of problem) (filled_record (start_of problem) letters)) (letters_alike one other alike)
 
     might_alike : (letter : Letter) → Might problem one letter → Might problem other letter
-    might_alike (Seen rank) might =
-        let fit = might.fits in
-        let high = might.high in
-        let count = count_alike one other alike in
-        let least = least_alike one other alike in
-        record {
-          is = might.is;
-          asked = sym asked_alike ∙ might.asked;
-          fits = omega (arith, fit, count);
-          high = omega (arith, high, least);
-          free = rw (theirs_alike one other alike) at might.free;
-        }
-    might_alike Go might =
-        let high = might.high in
-        let count = count_alike one other alike in
-        record { asked = sym asked_alike ∙ might.asked; high = omega (arith, high, count) }
+    might_alike (Seen rank) might = record {
+      is = might.is;
+      asked = sym asked_alike ∙ might.asked;
+      fits = omega (arith, might.fits, count_alike one other alike);
+      high = omega (arith, might.high, least_alike one other alike);
+      free = rw (theirs_alike one other alike) at might.free;
+    }
+    might_alike Go might = record { asked = sym asked_alike ∙ might.asked; high = omega (arith, might.high, count_alike one other alike) }
 
     pub show_alike : BeginsAfter problem other → (letter : Letter) → CanShow problem one letter → CanShow problem other letter
     show_alike begun letter can = shows problem setup other led_other begun letter (might_alike letter (can_might problem setup one letter can))

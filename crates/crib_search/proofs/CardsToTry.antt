@@ -191,7 +191,4 @@ has_at (first ∷ cards) zero card within is = or_left (eqb first card) (has car
 has_at (first ∷ cards) (suc index) card within is = or_right (eqb first card) (has cards card) (has_at cards index card (omega (arith, within)) is)
 
 pub front_whole : (know : Knowledge) (hold cards : List ℕ) (index len : ℕ) → AreChosen know hold index len cards → index ≤ 4 → length (take len cards) ≡ len
-front_whole know hold cards index len chosen few =
-    let a = chosen.0 in
-    let b = chosen.1 in
-    length-take-le len cards (omega (arith, a, b, few))
+front_whole know hold cards index len chosen few = length-take-le len cards (omega (arith, chosen.0, chosen.1, few))

@@ -1,10 +1,11 @@
 -- The answer for a knowledge, put together from the answers after each turn.
-use Rattle.std.proofs.Common.{◌≡◌, ◌⊎◌, ◌↔◌, ℕ, zero, suc, ◌+◌, ◌<◌, ◌≤◌, Bool, true, false, cond, List, [], ◌∷◌, ◌++◌, length}
-use Rattle.std.proofs.Common.{Option, Some, None, slice_get, refl, sym, ap, subst, ◌∙◌, inl, inr, arith}
+use Rattle.std.proofs.Common.{◌≡◌, ◌⊎◌, ◌↔◌, ℕ, zero, suc, ◌+◌, ◌<◌, ◌≤◌, Bool, true, false, cond, List, [], ◌∷◌, ◌++◌, length, drop, get_or}
+use Rattle.std.proofs.Common.{Option, Some, None, slice_get, refl, sym, ap, ◌∙◌, inl, inr, arith}
 use Rattle.std.specs.Prelude.{Result, Ok, Err, IfOk, OnOk, OnErr}
 use Rattle.std.specs.Bool.{then_some}
 use Rattle.std.specs.List.{AllZip}
 use Rattle.std.proofs.lemmas.Bool.{both_ways, cases_Bool}
+use Rattle.std.proofs.lemmas.List.{drop_more}
 use Rattle.crib_cards.specs.declared.letters.Letter.{Letter}
 use Rattle.crib_cards.specs.declared.moves.Move.TheVariants as move
 use Rattle.crib_play.specs.declared.turns.Turn.{Turn}
@@ -14,62 +15,33 @@ use Rattle.crib_problem.specs.Setup.{Setup}
 use Rattle.crib_know.specs.Knowledge.{Knowledge, asked_now}
 use Rattle.crib_know.specs.Hidden.{CanShow, IsKnown, KnowsAfter}
 use Rattle.crib_know.proofs.OwnCalls.{moved}
-use Rattle.crib_know.proofs.RecordTurns.{possible_led}
 use Rattle.crib_check.specs.Shows.{IsReachedBehind}
 use Rattle.crib_search.specs.declared.nodes.DraftPlace.{DraftPlace}
 use Rattle.crib_search.specs.declared.nodes.DraftPlace.TheVariants.{End, At}
 use Rattle.crib_search.specs.declared.nodes.DraftNode.{DraftNode}
 use Rattle.crib_search.specs.declared.nodes.DraftNode.TheVariants.{Play}
+use Rattle.crib_search.specs.declared.search.Search.{Search}
 use Rattle.crib_search.specs.Trees.{Tree, Finish, Plays, joined_tree}
 use Rattle.crib_search.specs.Private.Nodes.{IsEarlier, IsMore, Names, NamesFound}
-use Rattle.crib_search.specs.Finder.{Found, FindsFor, OwnerFinds, Tries, BranchFinds, Finds, letters, options}
-use Rattle.crib_search.specs.Private.Ahead.{turns_ahead}
-use Rattle.crib_search.specs.Private.Search.{AreAnswers, Drafts, IsHere, IsAnswer, IsBranch, IsLater}
+use Rattle.crib_search.specs.Finder.{Found, FindsFor, Tries, BranchFinds, Finds, letters, options}
+use Rattle.crib_know.specs.Private.Ahead.{turns_ahead}
+use Rattle.crib_search.specs.Private.Search.{AreAnswers, IsAfter, IsAnswer, IsBranch, IsHere, IsLater, Tells}
 use Rattle.crib_know.specs.contracts.know.KnowPartialEq.TheImpl as knows_compared
-use Rattle.crib_search.proofs.TurnsAhead.{turn_falls}
+use Rattle.crib_know.proofs.TurnsAhead.{know_falls}
 use Rattle.crib_know.proofs.Equality.{same_knows}
 use Rattle.crib_search.proofs.JoinedTrees.{draft_place_earlier}
 use Rattle.crib_search.proofs.KeptNodes.{names_more}
 
 -- what is known after a visible turn, whatever came before it
-abbrev pub Steps : Setup → Knowledge → Event → Knowledge → Type 0
-Steps problem know event next =
-    (history : List Event) → KnowsAfter know problem history → KnowsAfter next problem (event ∷ history)
+abbrev Steps : Setup → Knowledge → Event → Knowledge → Type 0
+Steps problem know event next = (history : List Event) → KnowsAfter know problem history → KnowsAfter next problem (event ∷ history)
 
--- what a turn leads to from a copy of a knowledge, it leads to from the knowledge
-pub steps_from : (know copy next : Knowledge) (event : Event) → copy ≡ know → ((problem : Setup) → Steps problem copy event next) →
-    (problem : Setup) → Steps problem know event next
-steps_from know copy next event same steps = λ problem history knows. steps problem history (moved copy know problem history same knows)
-
--- ---- a search that is further
-pub later_trans : (one two three : Drafts) → IsLater one two → IsLater two three → IsLater one three
-later_trans one two three first second = record {
-  same = second.same ∙ first.same;
-  more = λ place draft_node there. second.more place draft_node (first.more place draft_node there);
-}
-
--- what is said of the problem before is said of it after
-pub at_later : (before after : Drafts) → IsLater before after → (P : Setup → Type 0) → P before.problem → P after.problem
-at_later before after later P holds = subst P (sym later.same) holds
-
-named_later : (before after : Drafts) → IsLater before after → (tree : Option Tree) (found : Option DraftPlace) →
-    NamesFound before.draft_nodes tree found → NamesFound after.draft_nodes tree found
-named_later before after later None found names = names
-named_later before after later (Some tree) found names = (names.0, names.1, names_more before.draft_nodes after.draft_nodes later.more tree names.0 names.2)
-
-pub answer_later : (before after : Drafts) → IsLater before after → (know : Knowledge) (found : Option DraftPlace) → IsAnswer before know found →
-    IsAnswer after know found
-answer_later before after later know found answer =
-    at_later before after later (λ problem. IsAnswer (record { problem = problem; draft_nodes = after.draft_nodes }) know found)
-    (λ history more knows less. let old = answer history more knows less in (old.0, named_later before after later old.0 found old.1, old.2))
-
-pub answers_more : (problem : Setup) (before after : List DraftNode) → IsMore before after → (answers : Knowledge → Option (Option DraftPlace)) →
-    AreAnswers (record { problem = problem; draft_nodes = before }) answers → AreAnswers (record { problem = problem; draft_nodes = after }) answers
-answers_more problem before after more answers are = record {
-  each = λ know found here there.
-      answer_later (record { problem = problem; draft_nodes = before }) (record { problem = problem; draft_nodes = after })
-      (record { same = refl; more = more }) know found (are.each know found here there);
-}
+-- after a turn of a knowledge that is here, the next one is here, and fewer turns may be next
+pub goes_on : (know copy next : Knowledge) (event : Event) → copy ≡ know → ((problem : Setup) → Steps problem copy event next) →
+    (problem : Setup) → IsHere problem know → IsHere problem next × (turns_ahead next < turns_ahead know)
+goes_on know copy next event same steps problem here =
+    let after = steps problem here.0 (moved copy know problem here.0 same here.1) in
+    ((event ∷ here.0, after), know_falls know next problem event here.0 here.1 after)
 
 -- ---- what an answer names
 pub none_named : (draft_nodes : List DraftNode) (tree : Option Tree) → NamesFound draft_nodes tree None → tree ≡ None
@@ -81,221 +53,210 @@ pub some_named : (draft_nodes : List DraftNode) (tree : Option Tree) (draft_plac
 some_named draft_nodes None draft_place names = absurd cc
 some_named draft_nodes (Some tree) draft_place names = let same : draft_place ≡ names.0 = cc (names.1) in (tree, refl, rw same names.2)
 
--- ---- one turn further
-know_falls : (know next : Knowledge) (problem : Setup) (event : Event) (history : List Event) → KnowsAfter know problem history →
-    KnowsAfter next problem (event ∷ history) → turns_ahead next < turns_ahead know
-know_falls know next problem event history before after =
-    let falls = turn_falls problem before.setup event history (possible_led problem after.setup (event ∷ history) after.possible) in
-    let a : turns_ahead know ≡ _ = ap turns_ahead before.knowledge in
-    let b : turns_ahead next ≡ _ = ap turns_ahead after.knowledge in
-    omega (arith, falls, a, b)
+-- the place of an answer is kept
+pub answer_earlier : (problem : Setup) (draft_nodes : List DraftNode) (know : Knowledge) (says : ℕ → List Event → Option Tree → Type 0)
+    (draft_place : DraftPlace) → IsHere problem know → Tells problem draft_nodes know (Some draft_place) says →
+    IsEarlier (length draft_nodes) draft_place
+answer_earlier problem draft_nodes know says draft_place here told =
+    let found = told.each here.0 (turns_ahead know) here.1 (omega arith) in
+    let named = some_named draft_nodes found.0 draft_place found.1 in
+    draft_place_earlier draft_nodes named.0 draft_place named.2
 
--- after a turn of a knowledge that is here, the next one is here, and fewer turns may be next
-pub goes_on : (know copy next : Knowledge) (event : Event) → copy ≡ know → ((problem : Setup) → Steps problem copy event next) →
-    (problem : Setup) → IsHere problem know → IsHere problem next × (turns_ahead next < turns_ahead know)
-goes_on know copy next event same steps problem here =
-    let after = steps_from know copy next event same steps problem here.0 here.1 in
-    ((event ∷ here.0, after), know_falls know next problem event here.0 here.1 after)
+-- ---- more nodes are kept
+answers_more : (problem : Setup) (before after : List DraftNode) → IsMore before after → (answers : Knowledge → Option (Option DraftPlace)) →
+    AreAnswers problem before answers → AreAnswers problem after answers
+answers_more problem before after more answers are = record {
+  each = λ know found here there. record {
+    each = λ history further knows less.
+        let old = (are.each know found here there).each history further knows less in (old.0, named_more old.0 found old.1, old.2);
+  };
+}
+  where
+    named_more : (tree : Option Tree) (place : Option DraftPlace) → NamesFound before tree place → NamesFound after tree place
+    named_more None place names = names
+    named_more (Some tree) place names = (names.0, names.1, names_more before after more tree names.0 names.2)
 
--- for each history that the knowledge belongs to, what is found after a turn, and the answer names it
-abbrev AnswersAfter : Drafts → Knowledge → Event → Option DraftPlace → Type 0
-AnswersAfter drafts know event found =
-    (history : List Event) (more : ℕ) → KnowsAfter know drafts.problem history → turns_ahead know ≤ more →
-    (tree : Option Tree) × NamesFound drafts.draft_nodes tree found × Finds more drafts.problem (event ∷ history) tree
+module _ {A : Type 0} (problem : Setup) (one two : Search A) (first : IsLater problem one two) where
+  pub later_trans : (three : Search A) → IsLater problem two three → IsLater problem one three
+  later_trans three second = record { good = second.good; more = λ place draft_node there. second.more place draft_node (first.more place draft_node there) }
 
-answer_after : (drafts : Drafts) (know next : Knowledge) (event : Event) (found : Option DraftPlace) → Steps drafts.problem know event next →
-    IsAnswer drafts next found → AnswersAfter drafts know event found
-answer_after drafts know next event found step answer history more knows less =
-    let falls = know_falls know next drafts.problem event history knows (step history knows) in
-    answer (event ∷ history) more (step history knows) (omega (arith, less, falls))
-
--- none is found after the turn if the answer is none; otherwise a tree is found, and the answer names it
-none_after : (drafts : Drafts) (know : Knowledge) (event : Event) → AnswersAfter drafts know event None →
-    (history : List Event) (more : ℕ) → KnowsAfter know drafts.problem history → turns_ahead know ≤ more → Finds more drafts.problem (event ∷ history) None
-none_after drafts know event after history more knows less =
-    let found = after history more knows less in
-    rw (none_named drafts.draft_nodes found.0 found.1) at found.2
-
-some_after : (drafts : Drafts) (know : Knowledge) (event : Event) (draft_place : DraftPlace) → AnswersAfter drafts know event (Some draft_place) →
-    (history : List Event) (more : ℕ) → KnowsAfter know drafts.problem history → turns_ahead know ≤ more →
-    (tree : Tree) × Names drafts.draft_nodes tree draft_place × Finds more drafts.problem (event ∷ history) (Some tree)
-some_after drafts know event draft_place after history more knows less =
-    let found = after history more knows less in
-    let named = some_named drafts.draft_nodes found.0 draft_place found.1 in
-    (named.0, named.2, rw named.1 at found.2)
+  -- the same search, with more nodes
+  pub later_nodes : (after : List DraftNode) → IsMore two.nodes after →
+      IsLater problem one (record { shows = two.shows; nodes = after; table = two.table })
+  later_nodes after more =
+      later_trans (record { shows = two.shows; nodes = after; table = two.table }) (record {
+        good = record { shows = first.good.shows; answers = answers_more problem two.nodes after more _ first.good.answers };
+        more = more;
+      })
 
 -- ---- who is asked
--- an answer is right if it is for each history that the knowledge belongs to, by who is asked
-answer_for : (drafts : Drafts) (know : Knowledge) (found : Option DraftPlace) (turn : Turn) → know.round.asked ≡ turn →
-    ((history : List Event) (more : ℕ) → KnowsAfter know drafts.problem history → turns_ahead know ≤ more → (tree : Option Tree)
-    × NamesFound drafts.draft_nodes tree found
-    × FindsFor turn (λ further after. Finds more drafts.problem further after) drafts.problem history tree) → IsAnswer drafts know found
-answer_for drafts know found turn asked each history zero knows less = absurd (omega (arith, less))
-answer_for drafts know found turn asked each history (suc more) knows less =
-    let here = each history more knows (omega (arith, less)) in
-    let now : asked_now drafts.problem history ≡ turn = sym (ap (λ (k : Knowledge). k.round.asked) knows.knowledge) ∙ asked in
-    (here.0, here.1, rw now here.2)
+-- an answer is right if it names what is found by who is asked
+answer_for : (problem : Setup) (draft_nodes : List DraftNode) (know : Knowledge) (found : Option DraftPlace) (turn : Turn) → know.round.asked ≡ turn →
+    (says : ℕ → List Event → Option Tree → Type 0) →
+    ((history : List Event) (more : ℕ) (tree : Option Tree) → KnowsAfter know problem history → NamesFound draft_nodes tree found → says more history tree →
+    FindsFor turn (λ further after. Finds more problem further after) problem history tree) →
+    Tells problem draft_nodes know found says → IsAnswer problem draft_nodes know found
+answer_for problem draft_nodes know found turn asked says step told = record {
+  each = λ history more knows less.
+      let here = told.each history more knows less in
+      let now : asked_now problem history ≡ turn = sym (ap (λ (k : Knowledge). k.round.asked) knows.knowledge) ∙ asked in
+      (here.0, here.1, rw now (step history more here.0 knows here.1 here.2));
+}
 
 -- the same as `IsAnswer`, if the owner tries these cards in their order
-abbrev pub IsTried : Drafts → Knowledge → List ℕ → Option DraftPlace → Type 0
-IsTried drafts know cards found =
-    (history : List Event) (more : ℕ) → KnowsAfter know drafts.problem history → turns_ahead know ≤ more →
-    (tree : Option Tree) × NamesFound drafts.draft_nodes tree found
-    × Tries (λ further after. Finds more drafts.problem further after) history cards tree
+abbrev pub IsTried : Setup → List DraftNode → Knowledge → List ℕ → Option DraftPlace → Type 0
+IsTried problem draft_nodes know cards found =
+    Tells problem draft_nodes know found (λ more history tree. Tries (λ further after. Finds more problem further after) history cards tree)
 
-module _ (drafts : Drafts) (know : Knowledge) where
+module _ (problem : Setup) (draft_nodes : List DraftNode) (know : Knowledge) where
+  -- ---- one turn further
+  pub after_turn : (next : Knowledge) (event : Event) → Steps problem know event next → (found : Option DraftPlace) →
+      IsAnswer problem draft_nodes next found → IsAfter problem draft_nodes know event found
+  after_turn next event on found answer = record { each = each }
+    where
+      each : (history : List Event) (more : ℕ) → KnowsAfter know problem history → turns_ahead know ≤ more →
+          (tree : Option Tree) × NamesFound draft_nodes tree found × Finds more problem (event ∷ history) tree
+      each history zero knows less = absurd (omega (arith, less, know_falls know next problem event history knows (on history knows)))
+      each history (suc more) knows less =
+          answer.each (event ∷ history) more (on history knows) (omega (arith, less, know_falls know next problem event history knows (on history knows)))
+
   -- ---- the deal is done
   pub over_found : know.round.asked ≡ turns.Over → (reached : Bool) →
-      ((history : List Event) → KnowsAfter know drafts.problem history → (reached ≡ true) ↔ IsReachedBehind drafts.problem history) →
-      IsAnswer drafts know (then_some reached End)
-  over_found over true each = answer_for drafts know (Some End) turns.Over over
-      (λ history more knows less. (Some Finish, (End, refl, refl), inl ((each history knows).0 refl, refl)))
-  over_found over false each = answer_for drafts know None turns.Over over
-      (λ history more knows less. (None, refl, inr (λ all. both_ways false refl ((each history knows).1 all), refl)))
+      ((history : List Event) → KnowsAfter know problem history → (reached ≡ true) ↔ IsReachedBehind problem history) →
+      IsAnswer problem draft_nodes know (then_some reached End)
+  over_found over true each =
+      answer_for problem draft_nodes know (Some End) turns.Over over (λ more history tree. tree ≡ Some Finish)
+      (λ history more tree knows names same. inl ((each history knows).0 refl, same))
+      (record { each = λ history more knows less. (Some Finish, (End, refl, refl), refl) })
+  over_found over false each =
+      answer_for problem draft_nodes know None turns.Over over (λ more history tree. tree ≡ None)
+      (λ history more tree knows names same. inr (λ all. both_ways false refl ((each history knows).1 all), same))
+      (record { each = λ history more knows less. (None, refl, refl) })
 
   -- ---- the owner
-  module _ (asked : know.round.asked ≡ turns.Owner) where
-    pub own_go : (next : Knowledge) (found : Option DraftPlace) →
-        ((history : List Event) → KnowsAfter know drafts.problem history → options drafts.problem history ≡ []) →
-        Steps drafts.problem know (Own move.Go) next → IsAnswer drafts next found → IsAnswer drafts know found
-    own_go next found none step answer =
-        answer_for drafts know found turns.Owner asked
-        (λ history more knows less.
-        let after = answer_after drafts know next (Own move.Go) found step answer history more knows less in
-        (after.0, after.1, rw (none history knows) after.2))
+  module _ (asked : know.round.asked ≡ turns.Owner) (found : Option DraftPlace) where
+    pub own_go : ((history : List Event) → KnowsAfter know problem history → options problem history ≡ []) →
+        IsAfter problem draft_nodes know (Own move.Go) found → IsAnswer problem draft_nodes know found
+    own_go none = answer_for problem draft_nodes know found turns.Owner asked _ (λ history more tree knows names finds. rw (none history knows) finds)
 
-    pub own_tried : (found : Option DraftPlace) (cards : List ℕ) → 0 < length cards →
-        ((history : List Event) → KnowsAfter know drafts.problem history → cards ≡ options drafts.problem history) → IsTried drafts know cards found →
-        IsAnswer drafts know found
-    own_tried found cards some same tried =
-        answer_for drafts know found turns.Owner asked
-        (λ history more knows less.
-        let after = tried history more knows less in
-        (after.0, after.1, rw (← same history knows) (owner_of (λ further tree. Finds more drafts.problem further tree) history after.0 cards some after.2)))
-      where
-        owner_of : (find : Found) (history : List Event) (found : Option Tree) (cards : List ℕ) → 0 < length cards → Tries find history cards found →
-            OwnerFinds find history cards found
-        owner_of find history found [] some tries = absurd (omega (arith, some))
-        owner_of find history found (card ∷ others) some tries = tries
+    pub own_tried : (cards : List ℕ) → 0 < length cards → ((history : List Event) → KnowsAfter know problem history → cards ≡ options problem history) →
+        IsTried problem draft_nodes know cards found → IsAnswer problem draft_nodes know found
+    own_tried [] some same = absurd (omega (arith, some))
+    own_tried (card ∷ others) some same =
+        answer_for problem draft_nodes know found turns.Owner asked _ (λ history more tree knows names tries. rw (← same history knows) tries)
 
-  module _ (card : ℕ) (others : List ℕ) (next : Knowledge) (step : Steps drafts.problem know (Own (move.Card card)) next) where
-    pub tried_some : (draft_place : DraftPlace) (place : ℕ) → IsAnswer drafts next (Some draft_place) →
-        slice_get drafts.draft_nodes place ≡ Some (Play card draft_place) → IsTried drafts know (card ∷ others) (Some (At place))
-    tried_some draft_place place answer there history more knows less =
-        let after = some_after drafts know (Own (move.Card card)) draft_place
-        (answer_after drafts know next (Own (move.Card card)) (Some draft_place) step answer) history more knows less in (
-          Some (Plays card after.0),
-          (At place, refl, (place, draft_place, refl, there, after.1)),
-          (Some after.0, after.2, refl),
-        )
+  pub tried_none : IsTried problem draft_nodes know [] None
+  tried_none = record { each = λ history more knows less. (None, refl, refl) }
 
-    pub tried_next : (found : Option DraftPlace) → IsAnswer drafts next None → IsTried drafts know others found → IsTried drafts know (card ∷ others) found
-    tried_next found answer tried history more knows less =
-        let after = none_after drafts know (Own (move.Card card)) (answer_after drafts know next (Own (move.Card card)) None step answer)
-        history more knows less in
-        let later = tried history more knows less in
-        (later.0, later.1, (None, after, later.2))
+  module _ (cards : List ℕ) (index card : ℕ) (within : index < length cards) (is : card ≡ get_or cards index card) (before : List DraftNode) where
+    pub tried_some : IsMore before draft_nodes → (next : DraftPlace) (place : ℕ) → IsAfter problem before know (Own (move.Card card)) (Some next) →
+        slice_get draft_nodes place ≡ Some (Play card next) → IsTried problem draft_nodes know (drop index cards) (Some (At place))
+    tried_some more next place told there = rw (drop_more cards index card within, ← is) (record {
+      each = λ history further knows less.
+          let after = told.each history further knows less in
+          let named = some_named before after.0 next after.1 in (
+            Some (Plays card named.0),
+            (At place, refl, (place, next, refl, there, names_more before draft_nodes more named.0 next named.2)),
+            (Some named.0, rw named.1 at after.2, refl),
+          );
+    })
 
-  pub tried_none : IsTried drafts know [] None
-  tried_none history more knows less = (None, refl, refl)
+    pub tried_next : (found : Option DraftPlace) → IsAfter problem before know (Own (move.Card card)) None →
+        IsTried problem draft_nodes know (drop (index + 1) cards) found → IsTried problem draft_nodes know (drop index cards) found
+    tried_next found told tried = rw (drop_more cards index card within, ← is) (record {
+      each = λ history more knows less.
+          let after = told.each history more knows less in
+          let later = tried.each history more knows less in
+          (later.0, later.1, (None, rw (none_named before after.0 after.1) at after.2, later.2));
+    })
 
   -- ---- the opponent
-  module _ (letter : Letter) where
-    pub branch_end : (can : Bool) → can ≡ false →
-        ((history : List Event) → KnowsAfter know drafts.problem history → (can ≡ true) ↔ CanShow drafts.problem history letter) →
-        IsBranch drafts know letter (Some End)
-    branch_end can e exact history more knows less = (Finish, refl, inr (λ shown. both_ways can e ((exact history knows).1 shown), refl))
+  -- some branch is lacking
+  pub theirs_none : know.round.asked ≡ turns.Opponent → (letter : Letter) → IsBranch problem draft_nodes know letter None →
+      IsAnswer problem draft_nodes know None
+  theirs_none asked letter =
+      answer_for problem draft_nodes know None turns.Opponent asked _
+      (λ history more tree knows names branch.
+      let none = none_named draft_nodes tree names in
+      inl (elim branch [ inl found ↦ (letter, found.0, rw none at found.1) | inr not ↦ absurd (cc (none, not.1)) ], none))
 
-    module _ (next : Knowledge) (can : (history : List Event) → KnowsAfter know drafts.problem history → CanShow drafts.problem history letter)
-        (step : Steps drafts.problem know (Theirs letter) next) where
-      pub branch_after : (found : Option DraftPlace) → IsAnswer drafts next found → IsBranch drafts know letter found
-      branch_after None answer = λ history more knows less. (
-        can history knows,
-        none_after drafts know (Theirs letter) (answer_after drafts know next (Theirs letter) None step answer) history more knows less,
-      )
-      branch_after (Some draft_place) answer = λ history more knows less.
-          let after = some_after drafts know (Theirs letter) draft_place
-          (answer_after drafts know next (Theirs letter) (Some draft_place) step answer) history more knows less in
-          (after.0, after.1, inl (can history knows, after.2))
+  module _ (letter : Letter) (can : Bool)
+      (exact : (history : List Event) → KnowsAfter know problem history → (can ≡ true) ↔ CanShow problem history letter) where
+    pub branch_end : can ≡ false → IsBranch problem draft_nodes know letter (Some End)
+    branch_end e = record {
+      each = λ history more knows less. (Some Finish, (End, refl, refl), inr (λ shown. both_ways can e ((exact history knows).1 shown), refl));
+    }
+
+    pub branch_after : can ≡ true → (found : Option DraftPlace) → IsAfter problem draft_nodes know (Theirs letter) found →
+        IsBranch problem draft_nodes know letter found
+    branch_after e found told = record {
+      each = λ history more knows less.
+          let after = told.each history more knows less in (after.0, after.1, inl ((exact history knows).0 e, after.2));
+    }
 
 -- the branches of some letters are named, in the order of the letters
-abbrev pub AreBranches : Drafts → Knowledge → List Letter → List DraftPlace → Type 0
-AreBranches drafts know shown draft_places =
-    (history : List Event) (more : ℕ) → KnowsAfter know drafts.problem history → turns_ahead know ≤ more →
-    (trees : List Tree) × AllZip (Names drafts.draft_nodes) trees draft_places
-    × AllZip (BranchFinds (λ further after. Finds more drafts.problem further after) drafts.problem history) shown trees
-
-branches_later : (before after : Drafts) → IsLater before after → (know : Knowledge) (shown : List Letter) (draft_places : List DraftPlace) →
-    AreBranches before know shown draft_places → AreBranches after know shown draft_places
-branches_later before after later know shown draft_places branches =
-    at_later before after later (λ problem. AreBranches (record { problem = problem; draft_nodes = after.draft_nodes }) know shown draft_places)
-    (λ history more knows less. let old = branches history more knows less in (old.0, all_later old.0 draft_places old.1, old.2))
-  where
-    all_later : (trees : List Tree) (draft_places : List DraftPlace) → AllZip (Names before.draft_nodes) trees draft_places →
-        AllZip (Names after.draft_nodes) trees draft_places
-    all_later [] [] all = tt
-    all_later (tree ∷ trees) (draft_place ∷ draft_places) all =
-        (names_more before.draft_nodes after.draft_nodes later.more tree draft_place all.0, all_later trees draft_places all.1)
-    all_later trees draft_places all = absurd all
+abbrev pub AreBranches : Setup → List DraftNode → Knowledge → List Letter → List DraftPlace → Type 0
+AreBranches problem draft_nodes know shown draft_places =
+    (history : List Event) (more : ℕ) → KnowsAfter know problem history → turns_ahead know ≤ more →
+    (trees : List Tree) × AllZip (Names draft_nodes) trees draft_places
+    × AllZip (BranchFinds (λ further after. Finds more problem further after) problem history) shown trees
 
 -- one branch more
-pub branches_more : (before after : Drafts) → IsLater before after → (know : Knowledge) (letter : Letter) (shown : List Letter)
-    (draft_places : List DraftPlace) (next : DraftPlace) → AreBranches before know shown draft_places → IsBranch after know letter (Some next) →
-    AreBranches after know (shown ++ letter ∷ []) (draft_places ++ next ∷ [])
-branches_more before after later know letter shown draft_places next branches branch history more knows less =
-    let old = branches_later before after later know shown draft_places branches history more knows less in
-    let here = branch history more knows less in (
-      old.0 ++ here.0 ∷ [],
-      zip_push (Names after.draft_nodes) old.0 draft_places here.0 next old.1 here.1,
-      zip_push (BranchFinds (λ further tree. Finds more after.problem further tree) after.problem history) shown old.0 letter here.0 old.2 here.2,
+pub branches_more : (problem : Setup) (before after : List DraftNode) → IsMore before after → (know : Knowledge) (letter : Letter) (shown : List Letter)
+    (draft_places : List DraftPlace) (next : DraftPlace) → AreBranches problem before know shown draft_places →
+    IsBranch problem after know letter (Some next) → AreBranches problem after know (shown ++ letter ∷ []) (draft_places ++ next ∷ [])
+branches_more problem before after later know letter shown draft_places next branches branch history more knows less =
+    let old = branches history more knows less in
+    let here = branch.each history more knows less in
+    let named = some_named after here.0 next here.1 in (
+      old.0 ++ named.0 ∷ [],
+      zip_push (Names before) (Names after) (names_more before after later) old.0 draft_places named.0 next old.1 named.2,
+      zip_push (BranchFinds (finds more) problem history) (BranchFinds (finds more) problem history) (λ other tree is. is) shown old.0 letter named.0 old.2
+          (elim here.2 [ inl found ↦ inl (found.0, rw named.1 at found.1) | inr not ↦ inr (not.0, cc (named.1, not.1)) ]),
     )
   where
-    zip_push : {X Y : Type 0} (R : X → Y → Type 0) (xs : List X) (ys : List Y) (x : X) (y : Y) → AllZip R xs ys → R x y → AllZip R (xs ++ x ∷ []) (ys ++ y ∷ [])
-    zip_push R [] [] x y all last = (last, tt)
-    zip_push R (a ∷ xs) (b ∷ ys) x y all last = (all.0, zip_push R xs ys x y all.1 last)
-    zip_push R xs ys x y all last = absurd all
+    finds : ℕ → Found
+    finds bound further tree = Finds bound problem further tree
 
-module _ (drafts : Drafts) (know : Knowledge) where
-  -- some branch is lacking
-  pub theirs_none : know.round.asked ≡ turns.Opponent → (letter : Letter) → IsBranch drafts know letter None → IsAnswer drafts know None
-  theirs_none asked letter branch =
-      answer_for drafts know None turns.Opponent asked
-      (λ history more knows less. let here = branch history more knows less in (None, refl, inl ((letter, here.0, here.1), refl)))
+    zip_push : {X Y : Type 0} (P R : X → Y → Type 0) → ((x : X) (y : Y) → P x y → R x y) → (xs : List X) (ys : List Y) (x : X) (y : Y) → AllZip P xs ys →
+        R x y → AllZip R (xs ++ x ∷ []) (ys ++ y ∷ [])
+    zip_push P R map [] [] x y all last = (last, tt)
+    zip_push P R map (a ∷ xs) (b ∷ ys) x y all last = (map a b all.0, zip_push P R map xs ys x y all.1 last)
+    zip_push P R map xs ys x y all last = absurd all
 
-  module _ (draft_places now : List DraftPlace) (same : now ≡ draft_places) (branches : AreBranches drafts know letters draft_places) where
-    -- the branches name trees, one for each letter
-    pub branches_named : IsHere drafts.problem know → (trees : List Tree) × AllZip (Names drafts.draft_nodes) trees now
-    branches_named here =
-        let all = branches here.0 (turns_ahead know) here.1 (omega arith) in
-        (all.0, rw same all.1)
+module _ (problem : Setup) (draft_nodes : List DraftNode) (know : Knowledge) (draft_places now : List DraftPlace) (same : now ≡ draft_places)
+    (branches : AreBranches problem draft_nodes know letters draft_places) where
+  -- the branches name trees, one for each letter
+  pub branches_named : IsHere problem know → (trees : List Tree) × AllZip (Names draft_nodes) trees now
+  branches_named here =
+      let all = branches here.0 (turns_ahead know) here.1 (omega arith) in
+      (all.0, rw same all.1)
 
-    pub theirs_some : (after : List DraftNode) (draft_place : DraftPlace) → know.round.asked ≡ turns.Opponent →
-        ((trees : List Tree) → AllZip (Names drafts.draft_nodes) trees now → Names after (joined_tree trees) draft_place) →
-        IsAnswer (record { problem = drafts.problem; draft_nodes = after }) know (Some draft_place)
-    theirs_some after draft_place asked names =
-        answer_for (record { problem = drafts.problem; draft_nodes = after }) know (Some draft_place) turns.Opponent asked
-        (λ history more knows less.
-        let all = branches history more knows less in
-        (Some (joined_tree all.0), (draft_place, refl, names all.0 (rw same all.1)), inr (all.0, all.2, refl)))
+  pub theirs_some : (after : List DraftNode) (draft_place : DraftPlace) → know.round.asked ≡ turns.Opponent →
+      ((trees : List Tree) → AllZip (Names draft_nodes) trees now → Names after (joined_tree trees) draft_place) →
+      IsAnswer problem after know (Some draft_place)
+  theirs_some after draft_place asked names =
+      answer_for problem after know (Some draft_place) turns.Opponent asked
+      (λ more history tree. (trees : List Tree) × AllZip (BranchFinds (λ further other. Finds more problem further other) problem history) letters trees
+      × (tree ≡ Some (joined_tree trees)))
+      (λ history more tree knows names found. inr found) (record {
+        each = λ history more knows less.
+            let all = branches history more knows less in
+            (Some (joined_tree all.0), (draft_place, refl, names all.0 (rw same all.1)), (all.0, all.2, refl));
+      })
 
 -- ---- answers
 pub ok_map : {T E : Type 0} (result : Result T E) (P Q : T → Type 0) → ((value : T) → P value → Q value) → IfOk result P → IfOk result Q
 ok_map (Ok value) P Q step ok = step value ok
 ok_map (Err error) P Q step ok = tt
 
--- the place of an answer is kept
-pub answer_earlier : (drafts : Drafts) (know : Knowledge) (draft_place : DraftPlace) → IsHere drafts.problem know →
-    IsAnswer drafts know (Some draft_place) → IsEarlier (length drafts.draft_nodes) draft_place
-answer_earlier drafts know draft_place here answer =
-    let found = answer here.0 (turns_ahead know + 1) here.1 (omega arith) in
-    let named = some_named drafts.draft_nodes found.0 draft_place found.1 in
-    draft_place_earlier drafts.draft_nodes named.0 draft_place named.2
-
 -- ---- the table
-pub answers_kept : (drafts : Drafts) (know copy : Knowledge) (found : Option DraftPlace) (before after : Knowledge → Option (Option DraftPlace)) →
-    copy ≡ know → IsHere drafts.problem know → IsAnswer drafts know found → AreAnswers drafts before → ((other : Knowledge) →
-    (after other ≡ before other) ⊎ ((knows_compared.ghosts.eq copy other ≡ true) × (after other ≡ Some found))) → AreAnswers drafts after
-answers_kept drafts know copy found before after same here answer answers kept = record {
+pub answers_kept : (problem : Setup) (draft_nodes : List DraftNode) (know copy : Knowledge) (found : Option DraftPlace)
+    (before after : Knowledge → Option (Option DraftPlace)) → copy ≡ know → IsHere problem know → IsAnswer problem draft_nodes know found →
+    AreAnswers problem draft_nodes before →
+    ((other : Knowledge) → (after other ≡ before other) ⊎ ((knows_compared.ghosts.eq copy other ≡ true) × (after other ≡ Some found))) →
+    AreAnswers problem draft_nodes after
+answers_kept problem draft_nodes know copy found before after same here answer answers kept = record {
   each = λ other draft_place there is.
       elim (kept other) [
         | inl old ↦ answers.each other draft_place there (sym old ∙ is)
@@ -305,8 +266,8 @@ answers_kept drafts know copy found before after same here answer answers kept =
       ];
 }
   where
-    known : (k : Knowledge) → IsHere drafts.problem k → IsKnown k
-    known k there = record { problem = drafts.problem; history = there.0; knows = there.1 }
+    known : (k : Knowledge) → IsHere problem k → IsKnown k
+    known k there = record { problem = problem; history = there.0; knows = there.1 }
 
 -- a put changes the table only at its key, and a refused put does not change it
 pub kept_by : {T E : Type 0} (result : Result T E) (old new : Knowledge → Option (Option DraftPlace)) (know : Knowledge) (found : Option DraftPlace)

@@ -1,9 +1,9 @@
 -- The nodes of the plan that is found are a plan, if there are not too many.
-use Rattle.std.proofs.Common.{◌≡◌, ℕ, zero, suc, ◌≤◌, Bool, not, ◌&&◌, List, [], ◌∷◌, length, Some, None, refl, ap, ◌∙◌}
+use Rattle.std.proofs.Common.{◌≡◌, ℕ, zero, suc, ◌≤◌, not, ◌&&◌, List, [], ◌∷◌, length, Some, None, refl, ap, ◌∙◌}
 use Rattle.std.proofs.Common.{inl, inr}
 use Rattle.std.specs.List.{AllByRecursion, AllZip, filter, list_all}
+use Rattle.std.proofs.lemmas.List.Elements.{All-filter, All-from_recursion, recursion_from_All}
 use Rattle.std.proofs.lemmas.Bool.{cases_Bool}
-use Rattle.crib_cards.specs.Cards.{IsCard}
 use Rattle.crib_cards.specs.Sets.{has}
 use Rattle.crib_cards.specs.declared.letters.Letter.{Letter}
 use Rattle.crib_cards.specs.declared.moves.Move.TheVariants as move
@@ -17,6 +17,7 @@ use Rattle.crib_plan.specs.Nodes.{ArePlan, most_nodes}
 use Rattle.crib_know.specs.Knowledge.{asked_now, played_events}
 use Rattle.crib_search.specs.Trees.{Tree, Finish, Plays, Sees, Branches, NoBranch, Branch, branches_of, trees_of, same_tree, is_finish, is_play}
 use Rattle.crib_search.specs.Trees.{joined_tree_from, joined_tree, trees_with, trees_after_walk, trees_after_walks, plan_of_tree}
+use Rattle.crib_search.specs.Private.Nodes.{IsWhole, AreWhole}
 use Rattle.crib_search.specs.Finder.{BranchFinds, Finds, FindsFor, Found, IsFound, OwnerFinds, letters, options}
 use Rattle.crib_search.proofs.FoundBySide.{finds_of_tree, opponent_some, tries_some}
 use Rattle.crib_search.proofs.NumberedNodes.{AreFine, IsFine, are_nodes, plan_count}
@@ -24,17 +25,7 @@ use Rattle.crib_search.proofs.Options.{option_is}
 use Rattle.crib_search.proofs.TreeWalks.{is_in, walk_closed}
 
 -- ---- trees whose plays are cards and whose looks have fourteen branches
-abbrev mutual
-  IsWhole : Tree → Type 0
-  IsWhole Finish = Unit {0}
-  IsWhole (Plays card next) = IsCard card × IsWhole next
-  IsWhole (Sees branches) = (length (trees_of branches) ≡ 14) × AreWhole branches
-
-  AreWhole : Branches → Type 0
-  AreWhole NoBranch = Unit {0}
-  AreWhole (Branch tree branches) = IsWhole tree × AreWhole branches
-
-abbrev AllWhole : List Tree → Type 0
+abbrev pub AllWhole : List Tree → Type 0
 AllWhole trees = AllByRecursion IsWhole trees
 
 -- ---- a tree that joins others
@@ -46,15 +37,6 @@ branches_count : (trees : List Tree) → length (trees_of (branches_of trees)) �
 branches_count [] = refl
 branches_count (tree ∷ trees) = ap suc (branches_count trees)
 
-filter_whole : (test : Tree → Bool) (trees : List Tree) → AllWhole trees → AllWhole (filter test trees)
-filter_whole test [] all = tt
-filter_whole test (tree ∷ trees) all =
-    let rest = filter_whole test trees all.1 in
-    elim (cases_Bool (test tree)) [
-      | inl kept ↦ rw kept (all.0, rest)
-      | inr left ↦ rw left rest
-    ]
-
 joined_from_whole : (all some : List Tree) → AllWhole all → length all ≡ 14 → AllWhole some → IsWhole (joined_tree_from all some)
 joined_from_whole all [] are count some_are = tt
 joined_from_whole all (tree ∷ trees) are count some_are =
@@ -64,8 +46,10 @@ joined_from_whole all (tree ∷ trees) are count some_are =
       | inr apart ↦ rw apart (branches_count all ∙ count, branches_whole all are)
     ]
 
-joined_whole : (trees : List Tree) → AllWhole trees → length trees ≡ 14 → IsWhole (joined_tree trees)
-joined_whole trees all count = joined_from_whole trees (filter (λ tree. not (is_finish tree)) trees) all count (filter_whole _ trees all)
+pub joined_whole : (trees : List Tree) → AllWhole trees → length trees ≡ 14 → IsWhole (joined_tree trees)
+joined_whole trees all count =
+    joined_from_whole trees (filter (λ tree. not (is_finish tree)) trees) all count
+    (recursion_from_All IsWhole _ (All-filter (λ tree. not (is_finish tree)) IsWhole trees (All-from_recursion IsWhole trees all)))
 
 -- ---- what is found
 module _ (problem : Setup) (setup : IsSetup problem) where
@@ -126,7 +110,7 @@ mutual
   walks_fine (Branch tree branches) before whole fine = walks_fine branches (trees_after_walk tree before) whole.1 (walk_fine tree before whole.0 fine)
 
 -- ---- the plan
-tree_plan : (tree : Tree) → IsWhole tree → length (plan_of_tree tree) ≤ most_nodes → ArePlan (plan_of_tree tree)
+pub tree_plan : (tree : Tree) → IsWhole tree → length (plan_of_tree tree) ≤ most_nodes → ArePlan (plan_of_tree tree)
 tree_plan tree whole few =
     let all = trees_after_walk tree [] in
     let closed = walk_closed tree in

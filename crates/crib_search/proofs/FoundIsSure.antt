@@ -1,8 +1,9 @@
 -- A plan that represents the tree that is found is sure.
-use Rattle.std.proofs.Common.{◌≡◌, ℕ, Bool, true, false, not, ◌&&◌, List, [], ◌∷◌, ◌++◌, map, Some, refl, sym, ap, ◌∙◌, inl, inr}
+use Rattle.std.proofs.Common.{arith, ◌≡◌, ℕ, Bool, true, false, not, ◌&&◌, List, [], ◌∷◌, ◌++◌, map, Some, refl, sym, ap, ◌∙◌, inl, inr}
 use Rattle.std.specs.List.{list_any}
 use Rattle.std.proofs.lemmas.List.{map-append}
-use Rattle.std.proofs.lemmas.Bool.{cases_Bool, and_parts, and_from, both_ways, not-true}
+use Rattle.std.proofs.lemmas.Bool.{and_from}
+use Rattle.std.proofs.lemmas.Bool.Decides.{nat_tests}
 use Rattle.crib_cards.specs.Sets.{has}
 use Rattle.crib_cards.specs.Sides.{same_side}
 use Rattle.crib_cards.specs.Start.{Start, pone_of, Hands}
@@ -45,6 +46,10 @@ use Rattle.crib_search.proofs.Trees.{some_same}
 use Rattle.crib_know.proofs.PassingIsAgreeing.{theirs_asked}
 use Rattle.crib_search.proofs.FoundBySide.{finds_of_tree, for_asked, tries_some, branch_found, opponent_some}
 use Rattle.crib_cards.proofs.Members.{has_here, any_found}
+
+-- a place is not stuck, if it states a card that may be played where the owner is asked and a card fits
+free_if : (done who any playable : Bool) → (done ≡ false → who ≡ true → any ≡ true → playable ≡ true) → (not done && who && any && not playable) ≡ false
+free_if done who any playable states = grind (arith, nat_tests)
 
 module _ (problem : Setup) (setup : IsSetup problem) (plan : List Node) where
   -- after a history, the place of the plan will do for the tree that is found
@@ -211,20 +216,12 @@ module _ (problem : Setup) (setup : IsSetup problem) (plan : List Node) where
 
       unstuck : is_stuck plan problem.played start hands played ≡ false
       unstuck =
-          elim (cases_Bool (is_stuck plan problem.played start hands played)) [
-            | inr e ↦ e
-            | inl stuck ↦
-                let done : Bool = is_done start (letters_of played) in
-                let owner : Bool = same_side (mover (pone_of start) (letters_of played)) Owner in
-                let some : Bool = list_any (fits played) (cards_left hands Owner played) in
-                let plays : Bool = is_playable hands played (stated_card plan (place_of plan problem.played (pone_of start) played)) in
-                let last = and_parts (not done && owner && some) (not plays) stuck in
-                let both = and_parts (not done && owner) some last.0 in
-                let first = and_parts (not done) owner both.0 in
-                let found = any_found (fits played) (cards_left hands Owner played) both.1 in
-                absurd (both_ways plays (not-true plays last.1)
-                (playable found.0 (not-true done first.0) (same_is (mover (pone_of start) (letters_of played)) Owner first.1) found.1 found.2))
-          ]
+          free_if (is_done start (letters_of played)) (same_side (mover (pone_of start) (letters_of played)) Owner)
+          (list_any (fits played) (cards_left hands Owner played))
+          (is_playable hands played (stated_card plan (place_of plan problem.played (pone_of start) played)))
+          (λ going mine any.
+          let found = any_found (fits played) (cards_left hands Owner played) any in
+          playable found.0 going (same_is (mover (pone_of start) (letters_of played)) Owner mine) found.1 found.2)
 
     pub sure_from : IsSure problem plan
     sure_from = record { never_stuck = unstuck; reached = reached }

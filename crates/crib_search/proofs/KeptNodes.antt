@@ -1,13 +1,14 @@
 -- The kept nodes, and the trees that they represent.
-use Rattle.std.proofs.Common.{◌≡◌, ◌⊎◌, ℕ, zero, suc, Bool, true, false, cond, List, [], ◌∷◌, ◌++◌, length, Some, slice_get, refl, sym, ap, subst, ◌∙◌, inl}
-use Rattle.std.proofs.Common.{inr, get_or, arith}
-use Rattle.std.specs.List.{AllByRecursion, IsDistinct, position}
+use Rattle.std.proofs.Common.{◌≡◌, ◌⊎◌, ℕ, zero, suc, ◌<◌, Bool, true, false, cond, List, [], ◌∷◌, ◌++◌, length, Some, slice_get, refl, sym, ap, subst, ◌∙◌}
+use Rattle.std.proofs.Common.{inl, inr, get_or, arith}
+use Rattle.std.specs.List.{IsDistinct, position}
 use Rattle.std.proofs.Common.{◌&&◌, eqb}
 use Rattle.std.specs.Bool.{Decides}
 use Rattle.std.proofs.lemmas.Bool.Decides.{Decides-and, Decides-eqb, Decides-like, same_from_decides}
-use Rattle.std.proofs.lemmas.Bool.{both_ways}
+use Rattle.std.proofs.lemmas.Bool.{both_ways, cases_order}
+use Rattle.std.proofs.lemmas.Map.Keys.{apart_from_distinct}
 use Rattle.std.proofs.lemmas.List.Quantifiers.{position-Some}
-use Rattle.std.proofs.lemmas.Option.{slice_get-get_or}
+use Rattle.std.proofs.lemmas.Option.{get_or_from_slice_get, slice_get-get_or, slice_get_within}
 use Rattle.crib_search.specs.declared.nodes.DraftPlace.{DraftPlace}
 use Rattle.crib_search.specs.declared.nodes.DraftPlace.TheVariants.{At}
 use Rattle.crib_search.specs.declared.nodes.DraftNode.{DraftNode}
@@ -23,28 +24,22 @@ abbrev pub IsAdded : List DraftNode → DraftNode → List DraftNode → Type 0
 IsAdded before draft_node after = (after ≡ before) ⊎ (after ≡ before ++ draft_node ∷ [])
 
 -- ---- places
-all_at : (P : DraftNode → Type 0) (draft_nodes : List DraftNode) (place : ℕ) (draft_node : DraftNode) → AllByRecursion P draft_nodes →
-    slice_get draft_nodes place ≡ Some draft_node → P draft_node
-all_at P [] place draft_node all e = absurd cc
-all_at P (first ∷ draft_nodes) zero draft_node all e = let same : first ≡ draft_node = cc in subst P same all.0
-all_at P (first ∷ draft_nodes) (suc place) draft_node all e = all_at P draft_nodes place draft_node all.1 e
-
 -- each node is there once if the nodes are distinct
 once_of : (draft_nodes : List DraftNode) → IsDistinct compared.ghosts.eq draft_nodes → (place other : ℕ) (draft_node : DraftNode) →
-    slice_get draft_nodes place ≡ Some draft_node →
-    slice_get draft_nodes other ≡ Some draft_node → place ≡ other
-unfolding IsDistinct
-once_of [] distinct place other draft_node e f = absurd cc
-once_of (first ∷ draft_nodes) distinct zero zero draft_node e f = refl
-once_of (first ∷ draft_nodes) distinct zero (suc other) draft_node e f =
-    let same : first ≡ draft_node = cc in
-    absurd (both_ways (compared.ghosts.eq first draft_node) (all_at (λ y. compared.ghosts.eq first y ≡ false) draft_nodes other draft_node distinct.0 f)
-    ((same_draft_nodes first draft_node).1 same))
-once_of (first ∷ draft_nodes) distinct (suc place) zero draft_node e f =
-    let same : first ≡ draft_node = cc in
-    absurd (both_ways (compared.ghosts.eq first draft_node) (all_at (λ y. compared.ghosts.eq first y ≡ false) draft_nodes place draft_node distinct.0 e)
-    ((same_draft_nodes first draft_node).1 same))
-once_of (first ∷ draft_nodes) distinct (suc place) (suc other) draft_node e f = ap suc (once_of draft_nodes distinct.1 place other draft_node e f)
+    slice_get draft_nodes place ≡ Some draft_node → slice_get draft_nodes other ≡ Some draft_node → place ≡ other
+once_of draft_nodes distinct place other draft_node e f =
+    elim (cases_order place other) [
+      | inl same ↦ same
+      | inr (inl before) ↦ absurd (apart place other before e f)
+      | inr (inr after) ↦ absurd (apart other place after f e)
+    ]
+  where
+    apart : (one two : ℕ) → one < two → slice_get draft_nodes one ≡ Some draft_node → slice_get draft_nodes two ≡ Some draft_node → ⊥
+    apart one two before a b =
+        let first = get_or_from_slice_get draft_nodes one draft_node draft_node a in
+        let second = get_or_from_slice_get draft_nodes two draft_node draft_node b in
+        let differ = apart_from_distinct compared.ghosts.eq draft_nodes one two draft_node distinct before (slice_get_within draft_nodes two draft_node b) in
+        both_ways (compared.ghosts.eq draft_node draft_node) (rw (first, second) at differ) ((same_draft_nodes draft_node draft_node).1 refl)
 
 -- a node of a list with one more
 push_get : (draft_nodes : List DraftNode) (new : DraftNode) (place : ℕ) (draft_node : DraftNode) → slice_get (draft_nodes ++ new ∷ []) place ≡ Some draft_node →

@@ -3,6 +3,7 @@ use Rattle.std.proofs.Common.{arith, ◌≡◌, refl, sym, ap, ◌∙◌, subst,
 use Rattle.std.proofs.Common.{List, [], ◌∷◌, ◌++◌}
 use Rattle.std.specs.Prelude.{IsTrue, IsFalse}
 use Rattle.std.specs.List.{list_any}
+use Rattle.std.proofs.lemmas.Bool.Decides.{nat_tests}
 use Rattle.std.proofs.lemmas.Bool.{both_ways, eqb-true, eq-eqb, and_parts, not-true, or_cases, or_left, or_right}
 use Rattle.std.proofs.lemmas.Option.{same_Some}
 use Rattle.crib_cards.specs.Sets.{has, are_distinct}
@@ -48,8 +49,7 @@ record Held (lead : ℕ) (dealt : Dealt) : Type 0 where
   unseen : has (unseen_of before_the_lead) last ≡ true
 
 fewer : (a b c d : Bool) → not (a || (b || (c || d))) ≡ true → (a || (b || (c || false))) ≡ false
-fewer false false false d e = refl
-fewer a b c d e = absurd (both_ways false refl e)
+fewer a b c d e = grind (arith, nat_tests)
 
 held : (lead : ℕ) → has leads lead ≡ true → (dealt : Dealt) → IsDealOf (after_lead lead) dealt → Held lead dealt
 held lead is dealt deal =
@@ -102,10 +102,6 @@ reached_is : (outcome : Outcome) → is_reached outcome ≡ true → outcome ≡
 reached_is Reached h = refl
 reached_is outcome h = absurd (both_ways false refl h)
 
-not_both : (b : Bool) → not b ≡ true → b ≡ true → ⊥
-not_both true e h = both_ways false refl e
-not_both false e h = both_ways false refl h
-
 module _ (lead : ℕ) (is : has leads lead ≡ true) (dealt : Dealt) (deal : IsDealOf (after_lead lead) dealt) where
   abbrev problem : Setup
   problem = after_lead lead
@@ -146,14 +142,14 @@ module _ (lead : ℕ) (is : has leads lead ≡ true) (dealt : Dealt) (deal : IsD
       let parts = has-filter_parts (λ other. not (has (cards_of (to_first lead)) other)) dealt.hold card h in
       elim (or_cases (eqb last card) (has (4 ∷ 12 ∷ lead ∷ []) card) (one_of_four card parts.0)) [
         | inl same ↦ eqb-true last card same
-        | inr shown ↦ absurd (not_both (has (cards_of (to_first lead)) card) parts.1
+        | inr shown ↦ absurd (both_ways (has (cards_of (to_first lead)) card) (not-true (has (cards_of (to_first lead)) card) parts.1)
             (all_has (has (cards_of (to_first lead))) (4 ∷ 12 ∷ lead ∷ []) card (all_shown lead is) shown))
       ]
 
   no_card_left : has (tens lead) last ≡ true → (card : ℕ) → has (cards_left (hands_of problem dealt) Opponent (Go ∷ to_last lead last)) card ≡ true → ⊥
   no_card_left ten card h =
       let parts = has-filter_parts (λ other. not (has (cards_of (Go ∷ to_last lead last)) other)) dealt.hold card h in
-      not_both (has (cards_of (Go ∷ to_last lead last)) card) parts.1
+      both_ways (has (cards_of (Go ∷ to_last lead last)) card) (not-true (has (cards_of (Go ∷ to_last lead last)) card) parts.1)
       (all_has (has (cards_of (Go ∷ to_last lead last))) (last ∷ 4 ∷ 12 ∷ lead ∷ []) card (four_shown lead last is ten) (one_of_four card parts.0))
 
   may_not_go : has (tens lead) last ≡ true →
@@ -200,33 +196,30 @@ module _ (lead : ℕ) (is : has leads lead ≡ true) (dealt : Dealt) (deal : IsD
       let earlier = left_visible (is_visible Opponent (letter_of turn) (letters_of past)) lead (act_by Opponent turn past) (acts_of Opponent past) on in
       further turn past (course past legal.0 follows.0 earlier) legal.1 follows on
 
-  is_free : (played : List Move) → goes_on lead played ≡ true → IsFalse (is_stuck plan problem.played (start_of problem) (hands_of problem dealt) played)
-  is_free played h =
+  goes : (played : List Move) → goes_on lead played ≡ true →
+      IsFalse (is_stuck plan problem.played (start_of problem) (hands_of problem dealt) played) × IsFalse (is_done_for problem played)
+  goes played h =
       let stuck = is_stuck plan problem.played (start_of problem) (hands_of problem dealt) played in
-      not-true stuck (and_parts (not stuck) (not (is_done_for problem played)) h).0
-
-  not_done : (played : List Move) → goes_on lead played ≡ true → IsFalse (is_done_for problem played)
-  not_done played h =
-      let stuck = is_stuck plan problem.played (start_of problem) (hands_of problem dealt) played in
-      not-true (is_done_for problem played) (and_parts (not stuck) (not (is_done_for problem played)) h).1
+      let parts = and_parts (not stuck) (not (is_done_for problem played)) h in
+      (not-true stuck parts.0, not-true (is_done_for problem played) parts.1)
 
   not_stuck : (played : List Move) → left_after lead (acts_of Opponent played) ≡ Some [] → Courses played →
       IsFalse (is_stuck plan problem.played (start_of problem) (hands_of problem dealt) played)
-  not_stuck played over (the_lead ten) = is_free played (on_at_lead lead is)
-  not_stuck played over (the_first ten) = is_free played (on_at_first lead is)
-  not_stuck played over (the_last ten) = is_free played (on_at_last lead last is ten)
-  not_stuck played over (at_30 ten) = is_free played (on_at_30 lead last is ten)
-  not_stuck played over (the_close ten) = is_free played (on_at_close lead last is ten)
+  not_stuck played over (the_lead ten) = (goes played (on_at_lead lead is)).0
+  not_stuck played over (the_first ten) = (goes played (on_at_first lead is)).0
+  not_stuck played over (the_last ten) = (goes played (on_at_last lead last is ten)).0
+  not_stuck played over (at_30 ten) = (goes played (on_at_30 lead last is ten)).0
+  not_stuck played over (the_close ten) = (goes played (on_at_close lead last is ten)).0
   not_stuck played over (the_end ten) =
       not-true (is_stuck plan problem.played (start_of problem) (hands_of problem dealt) played) (free_at_end lead last is ten)
   not_stuck played over course = absurd (both_ways false refl (ap is_over over))
 
   done_well : (played : List Move) → Courses played → IsTrue (is_done_for problem played) → outcome_of (full_of problem dealt played) ≡ Reached
-  done_well played (the_lead ten) done = absurd (both_ways (is_done_for problem played) (not_done played (on_at_lead lead is)) done)
-  done_well played (the_first ten) done = absurd (both_ways (is_done_for problem played) (not_done played (on_at_first lead is)) done)
-  done_well played (the_last ten) done = absurd (both_ways (is_done_for problem played) (not_done played (on_at_last lead last is ten)) done)
-  done_well played (at_30 ten) done = absurd (both_ways (is_done_for problem played) (not_done played (on_at_30 lead last is ten)) done)
-  done_well played (the_close ten) done = absurd (both_ways (is_done_for problem played) (not_done played (on_at_close lead last is ten)) done)
+  done_well played (the_lead ten) done = absurd (both_ways (is_done_for problem played) (goes played (on_at_lead lead is)).1 done)
+  done_well played (the_first ten) done = absurd (both_ways (is_done_for problem played) (goes played (on_at_first lead is)).1 done)
+  done_well played (the_last ten) done = absurd (both_ways (is_done_for problem played) (goes played (on_at_last lead last is ten)).1 done)
+  done_well played (at_30 ten) done = absurd (both_ways (is_done_for problem played) (goes played (on_at_30 lead last is ten)).1 done)
+  done_well played (the_close ten) done = absurd (both_ways (is_done_for problem played) (goes played (on_at_close lead last is ten)).1 done)
   done_well played (the_end ten) done =
       outcome_of-reordered (full_of problem dealt played) dealt (with_last lead last dealt) (record { hold = hidden.order; throw = same_order dealt.throw })
       ∙ reached_is (outcome_of (full_of problem (with_last lead last dealt) played)) (wins dealt lead last is ten)

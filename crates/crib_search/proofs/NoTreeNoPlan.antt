@@ -2,7 +2,7 @@
 use Rattle.std.proofs.Common.{◌≡◌, ℕ, zero, suc, ◌+◌, true, false, List, [], ◌∷◌, Option, Some, None, refl, sym, ap, ◌∙◌, inl, inr}
 use Rattle.std.specs.List.{list_any}
 use Rattle.std.proofs.lemmas.Bool.{cases_Bool, and_parts, both_ways, leb-true}
-use Rattle.crib_cards.specs.Cards.{card_value}
+use Rattle.crib_cards.specs.Cards.{card_value, rank_of}
 use Rattle.crib_cards.specs.Sets.{has}
 use Rattle.crib_cards.specs.Sides.{same_side}
 use Rattle.crib_cards.specs.Start.{Start, pone_of, Hands}
@@ -42,13 +42,13 @@ use Rattle.crib_know.proofs.OpeningLawProofs.{played_led}
 use Rattle.crib_check.specs.Sure.{IsFollowed, IsSure}
 use Rattle.crib_check.specs.Shows.{full_behind}
 use Rattle.crib_search.specs.Finder.{Found, options, OwnerFinds, Tries, Finds}
-use Rattle.crib_check.specs.Private.Histories.{place_by, FollowsBy}
+use Rattle.crib_check.specs.Private.Histories.{place_by, IsStatedEvent, FollowsBy}
 use Rattle.crib_check.proofs.PlaceByHistory.{follows_at_start, place_history, follows_from}
 use Rattle.crib_check.proofs.RecordsFromOpening.{begun_plays}
 use Rattle.crib_search.proofs.Options.{IsOption, option_is, option_from, no_option, option_left, left_option}
 use Rattle.crib_search.proofs.RecordHistories.{letters_past, left_of, fits_past, led_by_record}
 use Rattle.crib_search.proofs.FoundBySide.{for_turn, tries_there, opponent_none}
-use Rattle.crib_search.proofs.AlikeHistories.{AreAlike, alike_more, letters_alike, asked_alike, theirs_alike, least_alike, option_alike, show_alike}
+use Rattle.crib_search.proofs.AlikeHistories.{AreAlike, sight_of, alike_more, letters_alike, asked_alike, theirs_alike, least_alike, option_alike, show_alike}
 use Rattle.crib_cards.proofs.Members.{has_here, any_from}
 use Rattle.crib_check.proofs.VerdictAtStart.{not_stuck}
 use Rattle.crib_search.proofs.CardsToTry.{none_left_fits}
@@ -156,55 +156,64 @@ module _ (problem : Setup) (setup : IsSetup problem) (plan : List Node) (sure : 
   )
 
   -- ---- a tree is found after each history that is alike to one that follows the plan
-  module _ (more : ℕ) (later : (one other : List Event) → Finds more problem one None → IsLed problem one → IsLed problem other → BeginsAfter problem one →
-      BeginsAfter problem other → AreAlike one other → FollowsBy plan problem.played other → ⊥)
-      (one other : List Event) (finds : Finds (suc more) problem one None) (led_one : IsLed problem one) (led_other : IsLed problem other)
-      (begun_one : BeginsAfter problem one) (begun_other : BeginsAfter problem other) (alike : AreAlike one other)
-      (follows : FollowsBy plan problem.played other) where
+  record AreTwins (one other : List Event) : Type 0 where
+    led : IsLed problem one
+    led_other : IsLed problem other
+    begun : BeginsAfter problem one
+    begun_other : BeginsAfter problem other
+    alike : AreAlike one other
+    follows : FollowsBy plan problem.played other
+
+  twins_more : (one other : List Event) → AreTwins one other → (event twin : Event) → sight_of event ≡ sight_of twin → know.MayCome problem one event →
+      know.MayCome problem other twin → IsStatedEvent plan (place_by plan problem.played other) twin → AreTwins (event ∷ one) (twin ∷ other)
+  twins_more one other twins event twin same may may_other stated = record {
+    led = (twins.led, may);
+    led_other = (twins.led_other, may_other);
+    begun = begin_more problem event one twins.begun;
+    begun_other = begin_more problem twin other twins.begun_other;
+    alike = alike_more event twin one other same twins.alike;
+    follows = (twins.follows, λ late. stated);
+  }
+
+  module _ (more : ℕ) (later : (one other : List Event) → Finds more problem one None → AreTwins one other → ⊥)
+      (one other : List Event) (finds : Finds (suc more) problem one None) (twins : AreTwins one other) where
     abbrev find : Found
     find = λ further after. Finds more problem further after
 
     asked_other : (turn : Turn) → asked_now problem one ≡ turn → asked_now problem other ≡ turn
-    asked_other turn e = sym (asked_alike problem setup one other alike led_one led_other) ∙ e
+    asked_other turn e = sym (asked_alike problem setup one other twins.alike twins.led twins.led_other) ∙ e
+
+    option_other : (card : ℕ) → IsOption problem other card → (twin : ℕ) × IsOption problem one twin × (rank_of twin ≡ rank_of card)
+    option_other = option_alike problem setup other one (sym twins.alike) twins.led_other twins.led
 
     reached : asked_now problem one ≡ turns.Over → (dealt : Dealt) → AgreesWith problem one dealt → outcome_of (full_behind problem one dealt) ≡ Reached
     reached over dealt agrees =
-        let passes = rw (theirs_alike one other alike, least_alike problem one other alike) at (agrees_passes problem setup dealt agrees.0 one agrees) in
-        let some = begun_plays problem setup dealt agrees.0 other begun_other (passing_plays problem setup dealt agrees.0 other led_other passes) in
-        ap (λ (letters : List Letter). outcome_of (full_with problem dealt (scores_after start (filled_record start letters)))) (letters_alike one other alike)
-        ∙ reached_here dealt agrees.0 other some.plays some.begins follows (asked_other turns.Over over)
+        let passes = rw (theirs_alike one other twins.alike, least_alike problem one other twins.alike) at
+        (agrees_passes problem setup dealt agrees.0 one agrees) in
+        let some = begun_plays problem setup dealt agrees.0 other twins.begun_other (passing_plays problem setup dealt agrees.0 other twins.led_other passes) in
+        ap (λ (letters : List Letter). outcome_of (full_with problem dealt (scores_after start (filled_record start letters))))
+        (letters_alike one other twins.alike)
+        ∙ reached_here dealt agrees.0 other some.plays some.begins twins.follows (asked_other turns.Over over)
 
     goes : asked_now problem one ≡ turns.Owner → options problem one ≡ [] → Finds more problem (Own move.Go ∷ one) None → ⊥
     goes asked none found =
         later (Own move.Go ∷ one) (Own move.Go ∷ other) found
-        (led_one, go_may one asked (no_option problem one none)) (
-          led_other,
-          go_may other (asked_other turns.Owner asked)
-              (λ card is. let twin = option_alike problem setup other one (sym alike) led_other led_one card is in
-              no_option problem one none twin.0 twin.1),
-        )
-        (begin_more problem (Own move.Go) one begun_one)
-        (begin_more problem (Own move.Go) other begun_other)
-        (alike_more (Own move.Go) (Own move.Go) one other refl alike)
-        (follows, λ late. tt)
+        (twins_more one other twins (Own move.Go) (Own move.Go) refl (go_may one asked (no_option problem one none))
+        (go_may other (asked_other turns.Owner asked) (λ card is. let twin = option_other card is in no_option problem one none twin.0 twin.1)) tt)
 
     tries : asked_now problem one ≡ turns.Owner → (card : ℕ) → IsOption problem one card → Tries find one (options problem one) None → ⊥
     tries asked card is tried =
-        let mine = option_alike problem setup one other alike led_one led_other card is in
-        let stated = stated_at other led_other begun_other follows (asked_other turns.Owner asked) mine.0 mine.1 in
-        let option = option_left problem other stated.0 stated.2.1 stated.2.2 in
-        let twin = option_alike problem setup other one (sym alike) led_other led_one stated.0 option in
+        let mine = option_alike problem setup one other twins.alike twins.led twins.led_other card is in
+        let stated = stated_at other twins.led_other twins.begun_other twins.follows (asked_other turns.Owner asked) mine.0 mine.1 in
+        let twin = option_other stated.0 (option_left problem other stated.0 stated.2.1 stated.2.2) in
         let first = option_from problem one twin.0 twin.1 in
         let fit = option_is problem one first.first first.among in
+        let same : rank_of first.first ≡ rank_of stated.0 = first.same ∙ twin.2 in
         tries_there find one (options problem one) None first.first tried first.among
         (λ after found e.
         later (Own (move.Card first.first) ∷ one) (Own (move.Card stated.0) ∷ other) (rw e at found)
-        (led_one, (asked, left_option problem one first.first setup fit, leb-true (count_after problem one + card_value first.first) 31 fit.fits))
-        (led_other, stated.2)
-        (begin_more problem (Own (move.Card first.first)) one begun_one)
-        (begin_more problem (Own (move.Card stated.0)) other begun_other)
-        (alike_more (Own (move.Card first.first)) (Own (move.Card stated.0)) one other (ap (λ (rank : ℕ). (Owner, Seen rank)) (first.same ∙ twin.2)) alike)
-        (follows, λ late. stated.1))
+        (twins_more one other twins (Own (move.Card first.first)) (Own (move.Card stated.0)) (ap (λ (rank : ℕ). (Owner, Seen rank)) same)
+        (asked, left_option problem one first.first setup fit, leb-true (count_after problem one + card_value first.first) 31 fit.fits) stated.2 stated.1))
         refl
 
     owner : asked_now problem one ≡ turns.Owner → (cards : List ℕ) → options problem one ≡ cards → OwnerFinds find one cards None → ⊥
@@ -222,23 +231,17 @@ module _ (problem : Setup) (setup : IsSetup problem) (plan : List Node) (sure : 
     by_turn turns.Opponent e =
         let lacks = opponent_none find problem one (for_turn more problem one None turns.Opponent e finds) in
         later (Theirs lacks.0 ∷ one) (Theirs lacks.0 ∷ other) lacks.2
-        (led_one, lacks.1)
-        (led_other, show_alike problem setup one other alike led_one led_other begun_other lacks.0 lacks.1)
-        (begin_more problem (Theirs lacks.0) one begun_one)
-        (begin_more problem (Theirs lacks.0) other begun_other)
-        (alike_more (Theirs lacks.0) (Theirs lacks.0) one other refl alike)
-        (follows, λ late. tt)
+        (twins_more one other twins (Theirs lacks.0) (Theirs lacks.0) refl lacks.1
+        (show_alike problem setup one other twins.alike twins.led twins.led_other twins.begun_other lacks.0 lacks.1) tt)
 
-  none_after : (more : ℕ) (one other : List Event) → Finds more problem one None → IsLed problem one → IsLed problem other → BeginsAfter problem one →
-      BeginsAfter problem other → AreAlike one other → FollowsBy plan problem.played other → ⊥
-  none_after zero one other finds led_one led_other begun_one begun_other alike follows = finds
-  none_after (suc more) one other finds led_one led_other begun_one begun_other alike follows =
-      by_turn more (none_after more) one other finds led_one led_other begun_one begun_other alike follows (asked_now problem one) refl
+  none_after : (more : ℕ) (one other : List Event) → Finds more problem one None → AreTwins one other → ⊥
+  none_after zero one other finds twins = finds
+  none_after (suc more) one other finds twins = by_turn more (none_after more) one other finds twins (asked_now problem one) refl
 
   -- so a tree is found at the start
   pub none_is_found : Finds 30 problem (played_events problem) None → ⊥
   none_is_found finds =
-      let start_led = played_led problem setup in
+      let led = played_led problem setup in
       let begun : BeginsAfter problem (played_events problem) = record { later = []; parts = refl } in
-      none_after 30 (played_events problem) (played_events problem) finds start_led start_led begun begun refl
-      (follows_at_start plan problem)
+      none_after 30 (played_events problem) (played_events problem) finds
+      (record { led = led; led_other = led; begun = begun; begun_other = begun; alike = refl; follows = follows_at_start plan problem })

@@ -2,8 +2,8 @@
 use Rattle.std.proofs.Common.{◌≡◌, ℕ, ◌+◌, ◌<◌, ◌≤◌, true, false, eqb, is_some, List, [], ◌∷◌, length, Option, Some}
 use Rattle.std.proofs.Common.{None}
 use Rattle.std.proofs.Common.{refl, sym, ◌∙◌, inl, inr, arith}
-use Rattle.std.specs.List.{AllByRecursion}
 use Rattle.std.proofs.Math.ListN.{set, length-set}
+use Rattle.std.proofs.lemmas.List.Elements.{All-from_recursion, All-weaker, recursion_from_All}
 use Rattle.std.proofs.lemmas.List.{get_or-set_same, get_or-set_other}
 use Rattle.std.proofs.lemmas.Bool.{cases_eq, cases_Bool, eq-eqb, ne_eqb}
 use Rattle.crib_search.specs.declared.nodes.DraftPlace.{DraftPlace}
@@ -98,12 +98,8 @@ pub earlier_more : (count most : ℕ) (draft_place : DraftPlace) → count ≤ m
 earlier_more count most End le earlier = tt
 earlier_more count most (At place) le earlier = omega (arith, le, earlier)
 
-all_earlier_more : (count most : ℕ) (draft_places : List DraftPlace) → count ≤ most → AllByRecursion (IsEarlier count) draft_places →
-    AllByRecursion (IsEarlier most) draft_places
-all_earlier_more count most [] le all = tt
-all_earlier_more count most (draft_place ∷ draft_places) le all =
-    (earlier_more count most draft_place le all.0, all_earlier_more count most draft_places le all.1)
-
 pub below_more : (count most : ℕ) (draft_node : DraftNode) → count ≤ most → IsBelow count draft_node → IsBelow most draft_node
 below_more count most (Play card next) le below = earlier_more count most next le below
-below_more count most (See nexts) le below = (below.0, all_earlier_more count most nexts le below.1)
+below_more count most (See nexts) le below =
+    let all = All-from_recursion (IsEarlier count) nexts below.1 in
+    (below.0, recursion_from_All (IsEarlier most) nexts (All-weaker (IsEarlier count) (IsEarlier most) (λ next. earlier_more count most next le) nexts all))

@@ -12,10 +12,10 @@ use Rattle.crib_search.specs.Trees.{Tree, trees_after_walk, plan_of_tree}
 use Rattle.crib_search.specs.Private.Nodes.{AreKept, Names, NamesFound}
 use Rattle.crib_search.specs.Private.Numbers.{AreLeft, IsWalk, Walked, nodes_of_places}
 use Rattle.crib_search.specs.Finder.{FindsTree, IsFound}
-use Rattle.crib_search.specs.Private.Ahead.{turns_ahead}
-use Rattle.crib_search.specs.Private.Search.{Drafts, IsAnswer}
+use Rattle.crib_know.specs.Private.Ahead.{turns_ahead}
+use Rattle.crib_search.specs.Private.Search.{IsAnswer}
 use Rattle.crib_play.specs.History.{Event}
-use Rattle.crib_search.proofs.TurnsAhead.{turn_falls}
+use Rattle.crib_know.proofs.TurnsAhead.{turn_falls}
 use Rattle.crib_search.proofs.TreeWalks.{walk_closed, leads_in}
 use Rattle.crib_search.proofs.NumberedNodes.{nodes_are, plan_count, same_count}
 use Rattle.crib_search.proofs.FoundBySide.{tree_of_finds}
@@ -44,29 +44,27 @@ first_ahead problem = refl
 ahead_led : (problem : Setup) → IsSetup problem → (history : List Event) → IsLed problem history → turns_ahead (knowledge_after problem history) ≤ 24
 ahead_led problem setup [] led = let e = first_ahead problem in omega (arith, e)
 ahead_led problem setup (event ∷ history) led =
-    let falls = turn_falls problem setup event history led in
-    let before = ahead_led problem setup history led.0 in
-    omega (arith, falls, before)
+    omega (arith, turn_falls problem setup event history led, ahead_led problem setup history led.0)
 
-module _ (problem : Setup) (drafts : Drafts) (same : drafts.problem ≡ problem) (start : Knowledge) (knows : KnowsAfter start problem (played_events problem))
-    (found : Option DraftPlace) (answer : IsAnswer drafts start found) where
-  tree_found : (tree : Option Tree) × NamesFound drafts.draft_nodes tree found × FindsTree problem tree
+module _ (problem : Setup) (draft_nodes : List DraftNode) (start : Knowledge) (knows : KnowsAfter start problem (played_events problem))
+    (found : Option DraftPlace) (answer : IsAnswer problem draft_nodes start found) where
+  tree_found : (tree : Option Tree) × NamesFound draft_nodes tree found × FindsTree problem tree
   tree_found =
       let most = ahead_led problem knows.setup (played_events problem) (possible_led problem knows.setup (played_events problem) knows.possible) in
       let ahead : turns_ahead start ≡ turns_ahead (knowledge_after problem (played_events problem)) = ap turns_ahead knows.knowledge in
-      let here = answer (played_events problem) 30 (rw same knows) (omega (arith, most, ahead)) in
-      (here.0, here.1, tree_of_finds problem here.0 (rw same at here.2))
+      let here = answer.each (played_events problem) 29 knows (omega (arith, most, ahead)) in
+      (here.0, here.1, tree_of_finds problem here.0 here.2)
 
   -- no plan is found
   pub none_found : found ≡ None → IsFound problem None
   none_found none =
-      let names = subst (λ f. NamesFound drafts.draft_nodes tree_found.0 f) none tree_found.1 in
-      (None, rw (none_named drafts.draft_nodes tree_found.0 names) at tree_found.2, refl)
+      let names = subst (λ f. NamesFound draft_nodes tree_found.0 f) none tree_found.1 in
+      (None, rw (none_named draft_nodes tree_found.0 names) at tree_found.2, refl)
 
   -- a plan is found
-  pub first_found : (first : DraftPlace) → found ≡ Some first → (tree : Tree) × Names drafts.draft_nodes tree first × FindsTree problem (Some tree)
+  pub first_found : (first : DraftPlace) → found ≡ Some first → (tree : Tree) × Names draft_nodes tree first × FindsTree problem (Some tree)
   first_found first some =
-      let named = some_named drafts.draft_nodes tree_found.0 first (subst (λ f. NamesFound drafts.draft_nodes tree_found.0 f) some tree_found.1) in
+      let named = some_named draft_nodes tree_found.0 first (subst (λ f. NamesFound draft_nodes tree_found.0 f) some tree_found.1) in
       (named.0, named.2, rw named.1 at tree_found.2)
 
 -- a fault that is passed on

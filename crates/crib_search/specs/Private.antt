@@ -1,5 +1,4 @@
 -- Definitions that only private functions cite. No public contract rests on them.
-pub mod Ahead
 pub mod Nodes
 pub mod Numbers
 pub mod Search

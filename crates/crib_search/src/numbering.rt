@@ -2,7 +2,7 @@
 ghost use Rattle.std.specs.Prelude.{◌≡◌, ◌<◌, ◌≤◌, [], ◌∷◌, length, map, slice_get, Some, is_some, IfOk};
 ghost use Rattle.std.specs.List.{AllByRecursion};
 ghost use Rattle.crib_search.specs.Private.Nodes.{AreKept, IsBelow, IsEarlier};
-ghost use Rattle.crib_search.specs.Private.Numbers.{AreMarks, IsWalk, IsWalkAll, IsWalkBelow, mark_of};
+ghost use Rattle.crib_search.specs.Private.Numbers.{AreMarks, IsWalk, IsWalkBelow, mark_of};
 ghost use Rattle.crib_search.specs.Private.Numbers.{next_for, node_for, nodes_of_places};
 
 use crate::nodes::{DraftNode, DraftPlace, Nodes};

@@ -2,11 +2,12 @@
 use Rattle.std.specs.Prelude.{◌≡◌, ℕ, ◌<◌, ◌==◌, Bool, true, false, List, [], ◌∷◌, length, slice_get, Option}
 use Rattle.std.specs.Prelude.{Some, None}
 use Rattle.std.specs.List.{AllByRecursion}
+use Rattle.crib_cards.specs.Cards.{IsCard}
 use Rattle.crib_search.specs.declared.nodes.DraftPlace.{DraftPlace}
 use Rattle.crib_search.specs.declared.nodes.DraftPlace.TheVariants.{End, At}
 use Rattle.crib_search.specs.declared.nodes.DraftNode.{DraftNode}
 use Rattle.crib_search.specs.declared.nodes.DraftNode.TheVariants.{Play, See}
-use Rattle.crib_search.specs.Trees.{Tree, Finish, Plays, Sees, Branches, NoBranch, Branch}
+use Rattle.crib_search.specs.Trees.{Tree, Finish, Plays, Sees, Branches, NoBranch, Branch, trees_of}
 
 -- a place is the end, or a place below a number
 abbrev pub IsEarlier : ℕ → DraftPlace → Type 0
@@ -72,3 +73,20 @@ abbrev pub is_play_at : Option DraftNode → Bool
 is_play_at None = false
 is_play_at (Some (Play card next)) = true
 is_play_at (Some (See nexts)) = false
+
+-- a tree whose plays are cards of the pack and whose looks have fourteen branches
+abbrev mutual
+  pub IsWhole : Tree → Type 0
+  IsWhole Finish = Unit {0}
+  IsWhole (Plays card next) = IsCard card × IsWhole next
+  IsWhole (Sees branches) = (length (trees_of branches) ≡ 14) × AreWhole branches
+
+  pub AreWhole : Branches → Type 0
+  AreWhole NoBranch = Unit {0}
+  AreWhole (Branch tree branches) = IsWhole tree × AreWhole branches
+
+-- a place names a tree of which a plan can be made
+pub record IsPlanned (draft_nodes : List DraftNode) (draft_place : DraftPlace) : Type 0 where
+  pub tree : Tree
+  pub names : Names draft_nodes tree draft_place
+  pub whole : IsWhole tree

@@ -1,0 +1,152 @@
+use Rattle.std.proofs.Common.{rules, ◌≡◌, ℕ, ◌+◌, ◌<◌, ◌≤◌, List, length, take, sym, ap, ◌∙◌, arith, IsTrue}
+use Rattle.std.specs.List.{AllZip}
+use Rattle.crib_cards.specs.Cards.{card_value}
+use Rattle.crib_cards.specs.Sets.{has}
+use Rattle.crib_cards.specs.declared.moves.Move.TheVariants as move
+use Rattle.crib_play.specs.Record.{count_of}
+use Rattle.crib_play.specs.History.{Own, Theirs}
+use Rattle.crib_know.specs.Private.Ahead.{turns_ahead}
+use Rattle.crib_search.specs.Trees.{Tree, joined_tree}
+use Rattle.crib_search.specs.Private.Nodes.{IsPlanned, Names}
+use Rattle.crib_search.specs.Private.Search.{IsHere}
+use Rattle.crib_search.proofs.FoundAfterTurns.{goes_on, ok_map}
+use Rattle.crib_search.proofs.CardsToTry.{has_at, none_fits}
+use Rattle.crib_search.proofs.PlannedPlaces.{left_is_card, same_nodes, more_trans, planned_end, planned_earlier, planned_more, planned_play, planned_push}
+use Rattle.crib_search.proofs.PlannedPlaces.{trees_planned, planned_joined}
+use Rattle.crib_search.proofs.tries.greedy.Greedy.+greedy.Goals as goal
+use Rattle.crib_search.proofs.tries.greedy.Greedy.+greedy.Goals.{own_place-then-lost, own_place-else-lost}
+use Rattle.crib_search.proofs.tries.greedy.Greedy.+greedy.Goals.{own_place-else-loop-card-test}
+use Rattle.crib_search.proofs.tries.greedy.Greedy.+greedy.Goals.{own_place-then-loop-card-test+in_ok-other+in_ok-other_place+then-lost-2}
+
+-- ---- the deal is done, or nothing is left to play for
+pub place_at-returns-then-is_over-clause-planned : goal.place_at-returns-then-is_over-clause-planned
+place_at-returns-then-is_over-clause-planned g t c = planned_end c.args.nodes.now
+
+pub place_at-returns-in-Over-clause-planned : goal.place_at-returns-in-Over-clause-planned
+place_at-returns-in-Over-clause-planned g t c = planned_end c.args.nodes.now
+
+pub place_after-returns-then-is_over-clause-planned : goal.place_after-returns-then-is_over-clause-planned
+place_after-returns-then-is_over-clause-planned g t c = planned_end c.args.nodes.now
+
+pub place_after-returns-then-is_over-2-clause-planned : goal.place_after-returns-then-is_over-2-clause-planned
+place_after-returns-then-is_over-2-clause-planned g t c = planned_end c.args.nodes.now
+
+pub their_place-returns-then-is_over-clause-planned : goal.their_place-returns-then-is_over-clause-planned
+their_place-returns-then-is_over-clause-planned g t c = planned_end c.loop-place.nodes
+
+pub place_with-returns-then-is_over-clause-planned : goal.place_with-returns-then-is_over-clause-planned
+place_with-returns-then-is_over-clause-planned g t c = planned_end c.place_at.new.nodes
+
+-- ---- the owner
+pub own_place-own_go-requires-clause-none : goal.own_place-own_go-requires-clause-none
+own_place-own_go-requires-clause-none g t c =
+    none_fits c.args.know.now c.copy-next.result c.args.self.now.problem.now c.requires.here.0 c.requires.here.1 c.copy-next.ensures
+    (sym (c.options-cards.ensures.cards c.requires.here.0 c.requires.here.1) ∙ ap (λ (len : ℕ). take len c.options-cards.result.0) c.if-len-eq0.true)
+
+pub own_place-place_at-requires : goal.own_place-place_at-requires
+own_place-place_at-requires g t c κs within =
+    let on = goes_on c.args.know.now c.copy-next.result c.own_go.new.self (Own move.Go) c.copy-next.ensures c.own_go.ensures
+    c.args.self.now.problem.now c.requires.here in
+    let here : IsHere c.args.self.now.problem.now c.own_go.new.self = on.0 in
+    let falls : turns_ahead c.own_go.new.self < turns_ahead c.args.know.now = on.1 in
+    search (rules, here, falls)
+
+pub own_place-loop-card-init : goal.own_place-loop-card-init
+own_place-loop-card-init g t c = record { kept = same_nodes c.args.nodes.now; planned = planned_end c.args.nodes.now }
+
+pub own_place-place_with-requires-in-loop-card : goal.own_place-place_with-requires-in-loop-card
+own_place-place_with-requires-in-loop-card g t c κs within =
+    let cards : List ℕ = take c.options-cards.result.1 c.options-cards.result.0 in
+    let playable = c.options-cards.ensures.playable c.card-item.result
+    (has_at cards c.loop-card.card-index c.card-item.result (omega (arith, c.options-cards.ensures.whole, c.loop-card-test.true)) c.card-item.is) in
+    let held : IsTrue (has c.args.know.now.own_left c.card-item.result) = playable.0 in
+    let fits : count_of c.args.know.now.round.pile + card_value c.card-item.result ≤ 31 = playable.1 in
+    search (rules, held, fits)
+
+pub own_place-loop-card-preserved : goal.own_place-loop-card-preserved
+own_place-loop-card-preserved g t c = record {
+  kept = more_trans c.args.nodes.now c.loop-card.nodes c.place_with-in-loop-card.new.nodes c.loop-card.invariant.kept c.place_with-in-loop-card.ensures.kept;
+  planned = elim c.if-lost.branch [
+    | own_place-then-lost w ↦ rw w.place-is c.in_ok-other_place.ensures.planned
+    | own_place-else-lost w ↦ rw w.place-is
+        (planned_more c.loop-card.nodes c.place_with-in-loop-card.new.nodes c.place_with-in-loop-card.ensures.kept c.loop-card.place
+        c.loop-card.invariant.planned)
+  ];
+}
+
+pub own_place-returns-clause-kept : goal.own_place-returns-clause-kept
+own_place-returns-clause-kept g t c = elim c.loop-card-test.branch [
+  | own_place-else-loop-card-test w ↦ rw w.nodes-is c.loop-card.invariant.kept
+  | own_place-then-loop-card-test+in_ok-other+in_ok-other_place+then-lost-2 w ↦ rw w.nodes-is
+      (more_trans c.args.nodes.now c.loop-card.nodes w.place_with-in-loop-card.new.nodes c.loop-card.invariant.kept
+      w.place_with-in-loop-card.ensures.kept)
+]
+
+pub own_place-returns-clause-planned : goal.own_place-returns-clause-planned
+own_place-returns-clause-planned g t c = elim c.loop-card-test.branch [
+  | own_place-else-loop-card-test w ↦ rw (w.nodes-is, w.place-is) c.loop-card.invariant.planned
+  | own_place-then-loop-card-test+in_ok-other+in_ok-other_place+then-lost-2 w ↦ rw (w.nodes-is, w.place-is) (elim w.if-lost.branch [
+    | own_place-then-lost v ↦ rw v.place-is w.in_ok-other_place.ensures.planned
+    | own_place-else-lost v ↦ rw v.place-is
+        (planned_more c.loop-card.nodes w.place_with-in-loop-card.new.nodes w.place_with-in-loop-card.ensures.kept c.loop-card.place
+        c.loop-card.invariant.planned)
+  ])
+]
+
+pub place_with-place_at-requires : goal.place_with-place_at-requires
+place_with-place_at-requires g t c κs within =
+    let on = goes_on c.args.know.now c.copy-after.result c.own_play.new.self (Own (move.Card c.args.card)) c.copy-after.ensures c.own_play.ensures
+    c.args.self.now.problem.now c.requires.here in
+    let here : IsHere c.args.self.now.problem.now c.own_play.new.self = on.0 in
+    let falls : turns_ahead c.own_play.new.self < turns_ahead c.args.know.now = on.1 in
+    search (rules, here, falls)
+
+pub place_with-place_of-requires : goal.place_with-place_of-requires
+place_with-place_of-requires g t c = planned_earlier c.place_at.new.nodes c.in_ok-next.next c.in_ok-next.ensures.planned
+
+pub place_with-returns-in_err-place-clause-kept : goal.place_with-returns-in_err-place-clause-kept
+place_with-returns-in_err-place-clause-kept g t c =
+    more_trans c.args.nodes.now c.place_at.new.nodes c.place_of.new.self c.place_at.ensures.kept c.place_of.ensures.kept
+
+pub place_with-returns-clause-kept : goal.place_with-returns-clause-kept
+place_with-returns-clause-kept g t c =
+    more_trans c.args.nodes.now c.place_at.new.nodes c.place_of.new.self c.place_at.ensures.kept c.place_of.ensures.kept
+
+pub place_with-returns-clause-planned : goal.place_with-returns-clause-planned
+place_with-returns-clause-planned g t c =
+    planned_play c.place_at.new.nodes c.place_of.new.self c.place_of.ensures.kept c.args.card
+    (left_is_card c.args.know.now c.args.self.now.problem.now c.requires.here c.args.card c.requires.held) c.in_ok-next.next
+    c.in_ok-next.ensures.planned c.in_ok-place.place c.in_ok-place.ensures.node
+
+-- ---- the opponent
+pub their_place-loop-place-preserved : goal.their_place-loop-place-preserved
+their_place-loop-place-preserved g t c = record {
+  kept = more_trans c.args.nodes.now c.loop-place.nodes c.place_after.new.nodes c.loop-place.invariant.kept c.place_after.ensures.kept;
+  count = omega (arith, c.push.ensures.len, c.loop-place.invariant.count);
+  planned = rw c.push.ensures.items
+      (planned_push c.loop-place.nodes c.place_after.new.nodes c.place_after.ensures.kept c.loop-place.nexts.items c.in_ok-next.next
+      c.loop-place.invariant.planned c.in_ok-next.ensures.planned);
+}
+
+pub their_place-join-requires-clause-named : goal.their_place-join-requires-clause-named
+their_place-join-requires-clause-named g t c =
+    let are = trees_planned c.loop-place.nodes c.loop-place.nexts.items c.loop-place.invariant.planned in
+    (are.trees, rw c.deref.ensures.0 are.names)
+
+pub their_place-returns-clause-planned : goal.their_place-returns-clause-planned
+their_place-returns-clause-planned g t c =
+    let count : length c.loop-place.nexts.items ≡ 14 = omega (arith, c.loop-place.invariant.count, c.loop-place.auto.place-end, c.loop-place-test.false) in
+    ok_map c.join.result
+    (λ place. (trees : List Tree) → AllZip (Names c.loop-place.nodes) trees c.deref.result.now → Names c.join.new.nodes (joined_tree trees) place)
+    (λ place. IsPlanned c.join.new.nodes place)
+    (λ place joined. planned_joined c.loop-place.nodes c.join.new.nodes c.deref.result.now place (rw c.deref.ensures.0 c.loop-place.invariant.planned)
+    (rw c.deref.ensures.0 count) joined)
+    c.join.ensures.joined
+
+pub place_after-place_at-requires : goal.place_after-place_at-requires
+place_after-place_at-requires g t c κs within =
+    let on = goes_on c.args.know.now c.copy-next.result c.saw.new.self (Theirs c.args.letter.now) c.copy-next.ensures c.saw.ensures
+    c.args.self.now.problem.now c.requires.here in
+    let here : IsHere c.args.self.now.problem.now c.saw.new.self = on.0 in
+    let falls : turns_ahead c.saw.new.self < turns_ahead c.args.know.now = on.1 in
+    search (rules, here, falls)

@@ -1,0 +1,223 @@
+//! A plan that few deals beat, made from the beginning on.
+ghost use Rattle.std.specs.Prelude.{◌≡◌, ◌+◌, ◌≤◌, IsTrue, IfOk};
+ghost use Rattle.crib_cards.specs.Cards.{card_value};
+ghost use Rattle.crib_cards.specs.Sets.{has};
+ghost use Rattle.crib_play.specs.Record.{count_of};
+ghost use Rattle.crib_search.specs.Private.Nodes.{IsMore, IsPlanned};
+ghost use Rattle.crib_search.specs.Private.Search.{IsHere};
+
+use crate::choices::options;
+use crate::join::join;
+use crate::nodes::{DraftNode, DraftPlace, Nodes};
+use crate::tries::tallies::Tallies;
+use crate::tries::trials::Trial;
+use arrayvec::ArrayVec;
+use crib_cards::{Card, GAME_HOLE, Letter};
+use crib_check::{Demand, NoMemory, demand_of_show};
+use crib_know::Know;
+use crib_play::Turn;
+use crib_problem::Problem;
+use crib_show::hand_points;
+use std::alloc::Allocator;
+
+/// What a plan for a problem is made with.
+#[derive(Drop)]
+pub(crate) struct Greedy<'a, A: Allocator> {
+    alloc: A,
+    problem: &'a Problem,
+    own_hand: u8,
+    tallies: Tallies<A>,
+}
+
+/// Makes a plan, and returns its first place. It fails if an allocation fails.
+pub(crate) fn make_plan<A: Allocator + Copy>(
+    alloc: A,
+    problem: &Problem,
+    nodes: &mut Nodes<A>,
+) -> Result<DraftPlace, NoMemory>
+    ensures { IfOk result (IsPlanned nodes.new) }
+{
+    let know = Know::start(problem);
+    let mut tallies = Tallies::new(alloc, problem);
+    let mut trial = Trial::new(alloc);
+    trial.add_all(&mut tallies, problem, &know)?;
+    let greedy = Greedy {
+        alloc,
+        problem,
+        own_hand: hand_points(&problem.hold(), problem.starter()),
+        tallies,
+    };
+    greedy.place_at(nodes, &know, &mut trial)
+}
+
+impl<A: Allocator + Copy> Greedy<'_, A> {
+    // The place at which the plan goes on from this knowledge.
+    #[cycle(greedy)]
+    fn place_at(
+        &self,
+        nodes: &mut Nodes<A>,
+        know: &Know,
+        trial: &mut Trial<A>,
+    ) -> Result<DraftPlace, NoMemory>
+        requires hand { self.now.own_hand ≤ 102 }
+        requires here { IsHere self.now.problem.now know.now }
+        ensures kept { IsMore nodes.old nodes.new }
+        ensures planned { IfOk result (IsPlanned nodes.new) }
+    {
+        if trial.is_over() {
+            return Ok(DraftPlace::End);
+        }
+        match know.turn() {
+            Turn::Over => {
+                trial.demand(&self.tallies, self.demand_at_end(know));
+                Ok(DraftPlace::End)
+            }
+            Turn::Owner => self.own_place(nodes, know, trial),
+            Turn::Opponent => self.their_place(nodes, know, trial),
+        }
+    }
+
+    // The same if the owner is to move. The owner says go if there is no card to try.
+    #[cycle(greedy)]
+    fn own_place(
+        &self,
+        nodes: &mut Nodes<A>,
+        know: &Know,
+        trial: &mut Trial<A>,
+    ) -> Result<DraftPlace, NoMemory>
+        requires hand { self.now.own_hand ≤ 102 }
+        requires here { IsHere self.now.problem.now know.now }
+        requires asked { know.now.round.asked ≡ Turn.Owner }
+        ensures kept { IsMore nodes.old nodes.new }
+        ensures planned { IfOk result (IsPlanned nodes.new) }
+    {
+        let (cards, len) = options(self.problem, know);
+        if len == 0 {
+            let mut next = know.copy();
+            next.own_go();
+            return self.place_at(nodes, &next, trial);
+        }
+        if len == 1 {
+            return self.place_with(nodes, know, cards[0], trial);
+        }
+        let start = trial.copy(self.alloc, 0)?;
+        let mut place = DraftPlace::End;
+        trial.give_up();
+        for card in &cards[..len] {
+            let mut other = start.copy(self.alloc, trial.lost())?;
+            let other_place = self.place_with(nodes, know, *card, &mut other)?;
+            if other.lost() < trial.lost() {
+                place = other_place;
+                trial.adopt(other);
+            }
+            if trial.lost() == start.lost() {
+                break;
+            }
+        }
+        Ok(place)
+    }
+
+    // The place at which the owner plays a card.
+    #[cycle(greedy)]
+    fn place_with(
+        &self,
+        nodes: &mut Nodes<A>,
+        know: &Know,
+        card: Card,
+        trial: &mut Trial<A>,
+    ) -> Result<DraftPlace, NoMemory>
+        requires hand { self.now.own_hand ≤ 102 }
+        requires here { IsHere self.now.problem.now know.now }
+        requires asked { know.now.round.asked ≡ Turn.Owner }
+        requires held { IsTrue (has know.now.own_left card) }
+        requires fits { count_of know.now.round.pile + card_value card ≤ 31 }
+        ensures kept { IsMore nodes.old nodes.new }
+        ensures planned { IfOk result (IsPlanned nodes.new) }
+    {
+        let mut after = know.copy();
+        after.own_play(card);
+        let next = self.place_at(nodes, &after, trial)?;
+        if trial.is_over() {
+            return Ok(DraftPlace::End);
+        }
+        let place = nodes.place_of(&DraftNode::Play { card, next })?;
+        Ok(DraftPlace::At(place))
+    }
+
+    // The same if the opponent is to move. The letters go in their order.
+    #[cycle(greedy)]
+    fn their_place(
+        &self,
+        nodes: &mut Nodes<A>,
+        know: &Know,
+        trial: &mut Trial<A>,
+    ) -> Result<DraftPlace, NoMemory>
+        requires hand { self.now.own_hand ≤ 102 }
+        requires here { IsHere self.now.problem.now know.now }
+        ensures kept { IsMore nodes.old nodes.new }
+        ensures planned { IfOk result (IsPlanned nodes.new) }
+    {
+        let mut part = Trial::new(self.alloc);
+        let mut nexts: ArrayVec<DraftPlace, 14> = ArrayVec::new();
+        for place in 0..14u8 {
+            let letter = Letter::at(place);
+            let next = self.place_after(nodes, know, &letter, trial, &mut part)?;
+            nexts.push(next);
+        }
+        if trial.is_over() {
+            return Ok(DraftPlace::End);
+        }
+        join(nodes, &nexts)
+    }
+
+    // Where the plan goes on after a letter, in the part of the trial that shows it. If no covered deal can show it,
+    // this is the end.
+    #[cycle(greedy)]
+    fn place_after(
+        &self,
+        nodes: &mut Nodes<A>,
+        know: &Know,
+        letter: &Letter,
+        trial: &mut Trial<A>,
+        part: &mut Trial<A>,
+    ) -> Result<DraftPlace, NoMemory>
+        requires hand { self.now.own_hand ≤ 102 }
+        requires here { IsHere self.now.problem.now know.now }
+        ensures kept { IsMore nodes.old nodes.new }
+        ensures planned { IfOk result (IsPlanned nodes.new) }
+    {
+        if trial.is_over() || !know.can_show(*letter) {
+            return Ok(DraftPlace::End);
+        }
+        trial.show(part, know, letter)?;
+        if part.is_over() {
+            return Ok(DraftPlace::End);
+        }
+        let mut next = know.copy();
+        next.saw(letter);
+        let place = self.place_at(nodes, &next, part)?;
+        trial.take_back(part);
+        Ok(place)
+    }
+
+    // What the show demands when the play is over, if it decides.
+    fn demand_at_end(&self, know: &Know) -> Demand
+        requires { self.now.own_hand ≤ 102 }
+    {
+        let problem = self.problem;
+        let scores = know.round().scores();
+        if scores.owner >= problem.target() {
+            return Demand::none();
+        }
+        if scores.opponent >= GAME_HOLE {
+            return Demand::impossible();
+        }
+        demand_of_show(
+            problem.dealer(),
+            scores,
+            problem.target(),
+            problem.is_to_stop(),
+            self.own_hand,
+        )
+    }
+}

@@ -1,5 +1,7 @@
 -- The combinations that are made choice by choice are those of all choices.
-use Rattle.std.proofs.Common.{◌≡◌, ℕ, Bool, true, false, cond, List, [], ◌∷◌, ◌++◌, map, filter, refl, sym, ap, ◌∙◌, append-nil}
+use Rattle.std.proofs.Common.{◌≡◌, ℕ, Bool, true, false, cond, List, [], ◌∷◌, ◌++◌, map, filter, refl, sym, ap, ◌∙◌, append-nil, append_assoc}
+use Rattle.std.proofs.lemmas.List.{map-append}
+use Rattle.std.proofs.lemmas.List.Elements.{filter-append}
 use Rattle.crib_cards.specs.Cards.{rank_of}
 use Rattle.crib_show.specs.Show.{choices}
 use Rattle.crib_sheet.specs.declared.game.combination.Kind.{Kind}
@@ -15,29 +17,14 @@ behind_none : (sets : List (List ℕ)) → behind [] sets ≡ sets
 behind_none [] = refl
 behind_none (cards ∷ sets) = ap (λ others. cards ∷ others) (behind_none sets)
 
-regrouped : (taken : List ℕ) (card : ℕ) (cards : List ℕ) → taken ++ card ∷ cards ≡ (taken ++ card ∷ []) ++ cards
-regrouped [] card cards = refl
-regrouped (first ∷ taken) card cards = ap (λ others. first ∷ others) (regrouped taken card cards)
-
 behind_one_more : (taken : List ℕ) (card : ℕ) (sets : List (List ℕ)) → behind taken (map (λ cards. card ∷ cards) sets) ≡ behind (taken ++ card ∷ []) sets
 behind_one_more taken card [] = refl
-behind_one_more taken card (cards ∷ sets) = λ i. regrouped taken card cards i ∷ behind_one_more taken card sets i
-
-behind_both : (taken : List ℕ) (sets others : List (List ℕ)) → behind taken (sets ++ others) ≡ behind taken sets ++ behind taken others
-behind_both taken [] others = refl
-behind_both taken (cards ∷ sets) others = ap (λ more. (taken ++ cards) ∷ more) (behind_both taken sets others)
+behind_one_more taken card (cards ∷ sets) = λ i. sym (append_assoc taken (card ∷ []) cards) i ∷ behind_one_more taken card sets i
 
 passing_both : (kind : Kind) (all : List ℕ) (sets others : List (List ℕ)) → passing kind all (sets ++ others) ≡ passing kind all sets ++ passing kind all others
-passing_both kind all [] others = refl
-passing_both kind all (cards ∷ sets) others = one (counts_as kind all (map rank_of cards)) (passing_both kind all sets others)
-  where
-    one : (b : Bool) → passing kind all (sets ++ others) ≡ passing kind all sets ++ passing kind all others →
-        map (combination kind) (cond b (cards ∷ filter (λ cards. counts_as kind all (map rank_of cards)) (sets ++ others))
-        (filter (λ cards. counts_as kind all (map rank_of cards)) (sets ++ others)))
-        ≡ map (combination kind) (cond b (cards ∷ filter (λ cards. counts_as kind all (map rank_of cards)) sets)
-        (filter (λ cards. counts_as kind all (map rank_of cards)) sets)) ++ passing kind all others
-    one true rest = ap (λ more. combination kind cards ∷ more) rest
-    one false rest = rest
+passing_both kind all sets others =
+    let passes = λ (cards : List ℕ). counts_as kind all (map rank_of cards) in
+    ap (map (combination kind)) (filter-append passes sets others) ∙ map-append (combination kind) (filter passes sets) (filter passes others)
 
 from_passes : (kind : Kind) (all taken left : List ℕ) → combinations_from kind all taken left ≡ passing kind all (behind taken (choices left))
 unfolding combinations_from
@@ -50,7 +37,7 @@ from_passes kind all taken (card ∷ left) =
     (λ i. from_passes kind all (taken ++ card ∷ []) left i ++ from_passes kind all taken left i)
     ∙ ap (λ sets. passing kind all sets ++ passing kind all (behind taken (choices left))) (sym (behind_one_more taken card (choices left)))
     ∙ sym (passing_both kind all (behind taken (map (λ cards. card ∷ cards) (choices left))) (behind taken (choices left)))
-    ∙ ap (passing kind all) (sym (behind_both taken (map (λ cards. card ∷ cards) (choices left)) (choices left)))
+    ∙ ap (passing kind all) (sym (map-append (λ cards. taken ++ cards) (map (λ cards. card ∷ cards) (choices left)) (choices left)))
 
 -- from no cards on they are all combinations of their kind
 pub from_none : (kind : Kind) (all : List ℕ) → combinations_from kind (map rank_of all) [] all ≡ combinations_of kind all

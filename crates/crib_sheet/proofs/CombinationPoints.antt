@@ -2,6 +2,7 @@
 use Rattle.std.proofs.Common.{◌≡◌, ℕ, ◌+◌, ◌*◌, suc, eqb, Bool, true, false, cond, ◌&&◌, ◌||◌, List, [], ◌∷◌, ◌++◌, length, map, filter, sum_by, count_by}
 use Rattle.std.proofs.Common.{refl, sym, ap, ◌∙◌, arith, zero-add}
 use Rattle.std.specs.List.{list_any}
+use Rattle.std.proofs.lemmas.List.{length-map}
 use Rattle.std.proofs.lemmas.List.Sums.{sum_by-append, sum_by-cons}
 use Rattle.crib_cards.specs.Cards.{rank_of, suit_of, jack}
 use Rattle.crib_show.specs.Show.{choices, is_fifteen, is_pair, are_of_suit, hand_flush, crib_flush, hand_points, crib_points, jack_points, plain_points}
@@ -23,10 +24,6 @@ passing kind all sets = map (combination kind) (filter (λ cards. counts_as kind
 abbrev counted : Kind → List ℕ → List ℕ → ℕ
 counted kind all ranks = cond (counts_as kind all ranks) (worth kind (length ranks)) 0
 
-same_length : (cards : List ℕ) → length (map rank_of cards) ≡ length cards
-same_length [] = refl
-same_length (card ∷ cards) = ap suc (same_length cards)
-
 passing_points : (kind : Kind) (all : List ℕ) (sets : List (List ℕ)) →
     sum_by points_of (passing kind all sets) ≡ sum_by (λ cards. counted kind all (map rank_of cards)) sets
 passing_points kind all [] = refl
@@ -40,7 +37,7 @@ passing_points kind all (cards ∷ sets) =
         ≡ (let n : ℕ = cond b (worth kind (length (map rank_of cards))) 0 in n) + sum_by (λ cards. counted kind all (map rank_of cards)) sets
     one true rest =
         sum_by-cons points_of (combination kind cards) (passing kind all sets)
-        ∙ (λ i. worth kind (sym (same_length cards) i) + rest i)
+        ∙ (λ i. worth kind (sym (length-map cards rank_of) i) + rest i)
     one false rest = rest ∙ sym (zero-add (sum_by (λ cards. counted kind all (map rank_of cards)) sets))
 
 -- the ranks of the choices are the choices of the ranks

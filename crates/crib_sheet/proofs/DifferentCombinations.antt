@@ -13,32 +13,8 @@ use Rattle.crib_sheet.specs.declared.game.combination.Combination.{Combination}
 use Rattle.crib_sheet.specs.GameShow.{combination, counts_as, combinations_of, plain_combinations, flush_in_hand, flush_in_crib}
 use Rattle.crib_sheet.specs.GameShow.{jack_among, hand_combinations, crib_combinations}
 use Rattle.crib_sheet.specs.GameShowLaws.{AllDiffer, HandListLaw, CribListLaw}
+use Rattle.crib_sheet.proofs.AllEntries.{all_both, all_every, all_filter, all_map, all_weaker}
 use Rattle.crib_sheet.proofs.CombinationPoints.{starter_first}
-
--- what holds of all entries
-pub all_every : {X : Type 0} (P : X → Type 0) → ((x : X) → P x) → (xs : List X) → AllByRecursion P xs
-all_every P holds [] = tt
-all_every P holds (x ∷ xs) = (holds x, all_every P holds xs)
-
-pub all_weaker : {X : Type 0} (P Q : X → Type 0) → ((x : X) → P x → Q x) → (xs : List X) → AllByRecursion P xs → AllByRecursion Q xs
-all_weaker P Q weaker [] all = tt
-all_weaker P Q weaker (x ∷ xs) all = (weaker x all.0, all_weaker P Q weaker xs all.1)
-
-pub all_both : {X : Type 0} (P : X → Type 0) (xs ys : List X) → AllByRecursion P xs → AllByRecursion P ys → AllByRecursion P (xs ++ ys)
-all_both P [] ys all more = more
-all_both P (x ∷ xs) ys all more = (all.0, all_both P xs ys all.1 more)
-
-pub all_map : {X Y : Type 0} (P : Y → Type 0) (f : X → Y) (xs : List X) → AllByRecursion (λ x. P (f x)) xs → AllByRecursion P (map f xs)
-all_map P f [] all = tt
-all_map P f (x ∷ xs) all = (all.0, all_map P f xs all.1)
-
-all_filter : {X : Type 0} (P : X → Type 0) (p : X → Bool) (xs : List X) → AllByRecursion P xs → AllByRecursion P (filter p xs)
-all_filter P p [] all = tt
-all_filter P p (x ∷ xs) all = one (p x) (all_filter P p xs all.1)
-  where
-    one : (b : Bool) → AllByRecursion P (filter p xs) → AllByRecursion P (cond b (x ∷ filter p xs) (filter p xs))
-    one true rest = (all.0, rest)
-    one false rest = rest
 
 -- lists whose entries differ
 differ_map : {X Y : Type 0} (f : X → Y) → ((x y : X) → f x ≡ f y → x ≡ y) → (xs : List X) → AllDiffer xs → AllDiffer (map f xs)
@@ -92,6 +68,27 @@ choices_differ (card ∷ cards) are =
     (λ set. all_weaker (λ other. (rest : List ℕ) → card ∷ rest ≢ other) (λ other. card ∷ set ≢ other) (λ other begins. begins set) (choices cards)
     (begins card cards parts.0)) (choices cards)))
 
+-- different entries, whose places are before a place
+pub record Stands {X : Type 0} (order : X → ℕ) (place : ℕ) (made : List X) : Type 0 where
+  pub before : AllByRecursion (λ one. order one < place) made
+  pub differ : AllDiffer made
+
+-- more entries, which have this place
+pub joined : {X : Type 0} (order : X → ℕ) (place : ℕ) (made more : List X) → Stands order place made → AllByRecursion (λ one. order one ≡ place) more →
+    AllDiffer more → Stands order (suc place) (made ++ more)
+joined order place made more stands at differ = record {
+  before =
+      all_both (λ one. order one < suc place) made more
+      (all_weaker (λ one. order one < place) (λ one. order one < suc place) (λ one below. omega (arith, below)) made stands.before)
+      (all_weaker (λ one. order one ≡ place) (λ one. order one < suc place) (λ one is. omega (arith, is)) more at);
+  differ =
+      differ_both made more stands.differ differ
+      (all_weaker (λ one. order one < place) (λ one. AllByRecursion (λ other. one ≢ other) more)
+      (λ one below. all_weaker (λ other. order other ≡ place) (λ other. one ≢ other)
+      (λ other is e. let same : order one ≡ order other = ap order e in absurd (omega (arith, below, is, same))) more at) made
+      stands.before);
+}
+
 -- the place of a kind in a list of combinations
 abbrev order : Kind → ℕ
 order Fifteen = 0
@@ -100,32 +97,16 @@ order Run = 2
 order Flush = 3
 order Jack = 4
 
+abbrev kind_order : Combination → ℕ
+kind_order made = order made.kind
+
 abbrev AreAt : ℕ → List Combination → Type 0
-AreAt place made = AllByRecursion (λ one. order one.kind ≡ place) made
-
--- different combinations, of kinds before a place
-record Stands (place : ℕ) (made : List Combination) : Type 0 where
-  before : AllByRecursion (λ one. order one.kind < place) made
-  differ : AllDiffer made
-
-joined : (place : ℕ) (made more : List Combination) → Stands place made → AreAt place more → AllDiffer more → Stands (suc place) (made ++ more)
-joined place made more stands at differ = record {
-  before =
-      all_both (λ one. order one.kind < suc place) made more
-      (all_weaker (λ one. order one.kind < place) (λ one. order one.kind < suc place) (λ one below. omega (arith, below)) made stands.before)
-      (all_weaker (λ one. order one.kind ≡ place) (λ one. order one.kind < suc place) (λ one is. omega (arith, is)) more at);
-  differ =
-      differ_both made more stands.differ differ
-      (all_weaker (λ one. order one.kind < place) (λ one. AllByRecursion (λ other. one ≢ other) more)
-      (λ one below. all_weaker (λ other. order other.kind ≡ place) (λ other. one ≢ other)
-      (λ other is e. let same : order one.kind ≡ order other.kind = ap (λ m. order m.kind) e in absurd (omega (arith, below, is, same))) more at) made
-      stands.before);
-}
+AreAt place made = AllByRecursion (λ one. kind_order one ≡ place) made
 
 kind_at : (kind : Kind) (all : List ℕ) → AreAt (order kind) (combinations_of kind all)
 unfolding combinations_of
 kind_at kind all =
-    all_map (λ one. order one.kind ≡ order kind) (combination kind) (filter (λ cards. counts_as kind (map rank_of all) (map rank_of cards)) (choices all))
+    all_map (λ one. kind_order one ≡ order kind) (combination kind) (filter (λ cards. counts_as kind (map rank_of all) (map rank_of cards)) (choices all))
     (all_every (λ cards. order kind ≡ order kind) (λ cards. refl)
     (filter (λ cards. counts_as kind (map rank_of all) (map rank_of cards)) (choices all)))
 
@@ -136,11 +117,11 @@ kind_differs kind all are =
     (filter (λ cards. counts_as kind (map rank_of all) (map rank_of cards)) (choices all))
     (differ_filter (λ cards. counts_as kind (map rank_of all) (map rank_of cards)) (choices all) (choices_differ all are))
 
-plain_stands : (all : List ℕ) → are_distinct all ≡ true → Stands 3 (plain_combinations all)
+plain_stands : (all : List ℕ) → are_distinct all ≡ true → Stands kind_order 3 (plain_combinations all)
 plain_stands all are =
-    joined 2 (combinations_of Fifteen all ++ combinations_of Pair all) (combinations_of Run all)
-    (joined 1 (combinations_of Fifteen all) (combinations_of Pair all)
-    (joined 0 [] (combinations_of Fifteen all) (record { before = tt; differ = tt }) (kind_at Fifteen all) (kind_differs Fifteen all are))
+    joined kind_order 2 (combinations_of Fifteen all ++ combinations_of Pair all) (combinations_of Run all)
+    (joined kind_order 1 (combinations_of Fifteen all) (combinations_of Pair all)
+    (joined kind_order 0 [] (combinations_of Fifteen all) (record { before = tt; differ = tt }) (kind_at Fifteen all) (kind_differs Fifteen all are))
     (kind_at Pair all) (kind_differs Pair all are)) (kind_at Run all) (kind_differs Run all are)
 
 -- a list of one combination of a kind, or of none
@@ -181,8 +162,8 @@ list_differs : (cards : List ℕ) (starter : ℕ) (flush : List Combination) →
 list_differs cards starter flush are alone =
     let last = jack_alone cards starter in
     let plain = plain_stands (cards ++ starter ∷ []) (all_distinct cards starter are) in
-    (joined 4 (plain_combinations (cards ++ starter ∷ []) ++ flush) (jack_among cards starter)
-    (joined 3 (plain_combinations (cards ++ starter ∷ [])) flush plain alone.0 alone.1) last.0 last.1).differ
+    (joined kind_order 4 (plain_combinations (cards ++ starter ∷ []) ++ flush) (jack_among cards starter)
+    (joined kind_order 3 (plain_combinations (cards ++ starter ∷ [])) flush plain alone.0 alone.1) last.0 last.1).differ
 
 pub hand_list_law : HandListLaw
 unfolding hand_combinations

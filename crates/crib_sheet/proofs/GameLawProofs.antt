@@ -1,9 +1,9 @@
 -- Reasons and combinations add up to the points beside them, and no act lists a reason twice.
-use Rattle.std.proofs.Common.{◌≡◌, ◌≢◌, ℕ, zero, suc, ◌+◌, ◌<◌, Bool, true, false, cond, eqb, ◌&&◌, ◌||◌, List, [], ◌∷◌, ◌++◌}
-use Rattle.std.proofs.Common.{length, map, reverse, sum_by}
-use Rattle.std.proofs.Common.{refl, sym, ap, subst, ◌∙◌, arith}
+use Rattle.std.proofs.Common.{◌≡◌, ◌≢◌, ℕ, suc, ◌<◌, Bool, true, false, cond, eqb, List, [], ◌∷◌, ◌++◌}
+use Rattle.std.proofs.Common.{length, map, sum_by}
+use Rattle.std.proofs.Common.{refl, ap, subst, ◌∙◌, arith}
 use Rattle.std.specs.List.{AllByRecursion}
-use Rattle.std.proofs.lemmas.List.{length-append, reverse-append}
+use Rattle.std.proofs.lemmas.List.{length-append}
 use Rattle.crib_cards.specs.Letters.{letter_of}
 use Rattle.crib_cards.specs.Runs.{is_run}
 use Rattle.crib_cards.specs.Start.{Start}
@@ -36,8 +36,9 @@ use Rattle.crib_sheet.specs.GamePlay.{act_reasons, card_reasons_at, reason_if, r
 use Rattle.crib_sheet.specs.GameShow.{points_of}
 use Rattle.crib_sheet.specs.GameShowLaws.{AllDiffer}
 use Rattle.crib_sheet.specs.GameText.{counted_combinations}
+use Rattle.crib_sheet.proofs.AllEntries.{all_reverse}
 use Rattle.crib_sheet.proofs.CombinationPoints.{crib_sum, hand_sum}
-use Rattle.crib_sheet.proofs.DifferentCombinations.{all_both, all_every, all_weaker, differ_both}
+use Rattle.crib_sheet.proofs.DifferentCombinations.{Stands, joined}
 use Rattle.crib_sheet.proofs.PlayWalks.{reported}
 use Rattle.crib_sheet.proofs.ReasonsAdded.{gos_after, not_closed, pile_after_go, points_of_game}
 
@@ -52,41 +53,19 @@ place (Run cards) = 3
 place LastCard = 4
 place Go = 5
 
--- different reasons, of places before a place
-record Stand (before : ℕ) (reasons : List PlayReason) : Type 0 where
-  sooner : AllByRecursion (λ reason. place reason < before) reasons
-  differ : AllDiffer reasons
-
-none_yet : Stand 0 []
-none_yet = record { sooner = tt; differ = tt }
-
 -- one more reason, at its place, or none
-with_next : (before : ℕ) (reasons : List PlayReason) (holds : Bool) (reason : PlayReason) → place reason ≡ before → Stand before reasons
-    → Stand (suc before) (reasons ++ reason_if holds reason)
-with_next before reasons true reason at stand = record {
-  sooner =
-      all_both (λ one. place one < suc before) reasons (reason ∷ [])
-      (all_weaker (λ one. place one < before) (λ one. place one < suc before) (λ one below. omega (arith, below)) reasons stand.sooner)
-      (omega (arith, at), tt);
-  differ =
-      differ_both reasons (reason ∷ []) stand.differ (tt, tt)
-      (all_weaker (λ one. place one < before) (λ one. AllByRecursion (λ other. one ≢ other) (reason ∷ []))
-      (λ one below. ((λ e. let same : place one ≡ place reason = ap place e in absurd (omega (arith, below, at, same))), tt)) reasons stand.sooner);
-}
-with_next before reasons false reason at stand = record {
-  sooner =
-      all_both (λ one. place one < suc before) reasons []
-      (all_weaker (λ one. place one < before) (λ one. place one < suc before) (λ one below. omega (arith, below)) reasons stand.sooner) tt;
-  differ = differ_both reasons [] stand.differ tt (all_every (λ one. AllByRecursion (λ other. one ≢ other) []) (λ one. tt) reasons);
-}
+with_next : (before : ℕ) (reasons : List PlayReason) (holds : Bool) (reason : PlayReason) → place reason ≡ before → Stands place before reasons
+    → Stands place (suc before) (reasons ++ reason_if holds reason)
+with_next before reasons true reason at stand = joined place before reasons (reason ∷ []) stand (at, tt) (tt, tt)
+with_next before reasons false reason at stand = joined place before reasons [] stand tt tt
 
-card_stands : (before count : ℕ) (pile : List ℕ) → Stand 5 (card_reasons_at before count pile)
+card_stands : (before count : ℕ) (pile : List ℕ) → Stands place 5 (card_reasons_at before count pile)
 card_stands before count pile =
     let alike = most_last_cards are_alike (length pile) pile in
     let run = most_last_cards is_run (length pile) pile in
     with_next 4 _ _ LastCard refl
     (with_next 3 _ _ (Run run) refl
-    (with_next 2 _ _ (Alike alike) refl (with_next 1 _ _ ThirtyOne refl (with_next 0 [] (eqb count 15) Fifteen refl none_yet))))
+    (with_next 2 _ _ (Alike alike) refl (with_next 1 _ _ ThirtyOne refl (with_next 0 [] (eqb count 15) Fifteen refl (record { before = tt; differ = tt })))))
 
 -- a go that closes the pile leaves no pile for another one to close
 go_once : (own later : Bool) → (own ≡ true → later ≡ false) → AllDiffer (reason_if own Go ++ reason_if later Go)
@@ -111,11 +90,6 @@ added_differ start letter.Go seen =
 acts_differ : (start : Start) (acts : List Act) → AllByRecursion (λ reasons. AllDiffer reasons) (act_reasons start acts)
 acts_differ start [] = tt
 acts_differ start (act ∷ before) = (added_differ start (letter_of act.what) (letters_of (moves_of before)), acts_differ start before)
-
-all_reverse : {X : Type 0} (P : X → Type 0) (xs : List X) → AllByRecursion P xs → AllByRecursion P (reverse xs)
-all_reverse P [] all = tt
-all_reverse P (x ∷ xs) all =
-    subst (λ some. AllByRecursion P some) (sym (reverse-append (x ∷ []) xs)) (all_both P (reverse xs) (x ∷ []) (all_reverse P xs all.1) (all.0, tt))
 
 pub reasons_add_up : ReasonsAddUpLaw
 reasons_add_up problem game report e = (

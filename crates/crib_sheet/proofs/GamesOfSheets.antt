@@ -1,9 +1,9 @@
 -- A game can be read back from its sheet: two games of a problem with the same sheet are equal.
-use Rattle.std.proofs.Common.{◌≡◌, ℕ, zero, suc, ◌+◌, ◌-◌, ◌<◌, ◌≤◌, List, [], ◌∷◌, ◌++◌, length, replicate, codes}
+use Rattle.std.proofs.Common.{◌≡◌, ℕ, zero, suc, ◌+◌, ◌-◌, ◌<◌, List, [], ◌∷◌, ◌++◌, length, replicate, codes}
 use Rattle.std.proofs.Common.{decimal, flat_map, reverse}
 use Rattle.std.proofs.Common.{Option, Some, None, Ok, refl, sym, ap, subst, ◌∙◌, arith, append_assoc}
 use Rattle.std.specs.List.{AllByRecursion}
-use Rattle.std.proofs.lemmas.List.{append_cancel_left, append-nil, reverse-append}
+use Rattle.std.proofs.lemmas.List.{append_cancel_left, append-nil}
 use Rattle.crib_cards.specs.Cards.{IsCard}
 use Rattle.crib_cards.specs.CardText.{card_text}
 use Rattle.crib_cards.specs.Letters.{letter_of}
@@ -39,7 +39,7 @@ use Rattle.crib_sheet.specs.GameText.{act_line, act_lines, act_text, columns_lin
 use Rattle.crib_sheet.specs.GameText.{outcome_text, points_text, rows_text, score_text, sheet_for, sheet_of}
 use Rattle.crib_sheet.specs.Heading.{heading_text, role_word, spaced_card, spaced_cards}
 use Rattle.crib_sheet.proofs.PlanTexts.{no_card, same_cards}
-use Rattle.crib_sheet.proofs.PlayWalks.{rows_from, rows_of_report}
+use Rattle.crib_sheet.proofs.PlayWalks.{each_from, forward, rows_from, rows_of_report}
 
 -- ---- cards, moves and sides
 
@@ -105,27 +105,17 @@ no_line number x rest small same =
 
 -- ---- the lines of acts
 
--- the reasons of acts after other acts
-abbrev reasons_from : Start → List Act → List Act → List (List PlayReason)
-reasons_from start before [] = []
-reasons_from start before (act ∷ acts) =
-    reasons_added start (letter_of act.what) (letters_of (moves_of before)) ∷ reasons_from start (act ∷ before) acts
+-- the reasons of an act after other acts
+abbrev reasons_after : Start → Act → List Act → List PlayReason
+reasons_after start act before = reasons_added start (letter_of act.what) (letters_of (moves_of before))
 
-reasons_forward : (start : Start) (before acts : List Act)
-    → reverse (act_reasons start (reverse acts ++ before)) ≡ reverse (act_reasons start before) ++ reasons_from start before acts
-reasons_forward start before [] = sym (append-nil (reverse (act_reasons start before)))
-reasons_forward start before (act ∷ acts) =
-    let own = reasons_added start (letter_of act.what) (letters_of (moves_of before)) in
-    ap (λ (all : List Act). reverse (act_reasons start (all ++ before))) (reverse-append (act ∷ []) acts)
-    ∙ ap (λ (all : List Act). reverse (act_reasons start all)) (append_assoc (reverse acts) (act ∷ []) before)
-    ∙ reasons_forward start (act ∷ before) acts
-    ∙ ap (λ (some : List (List PlayReason)). some ++ reasons_from start (act ∷ before) acts) (reverse-append (own ∷ []) (act_reasons start before))
-    ∙ append_assoc (reverse (act_reasons start before)) (own ∷ []) (reasons_from start (act ∷ before) acts)
+abbrev reasons_from : Start → List Act → List Act → List (List PlayReason)
+reasons_from start before acts = each_from (reasons_after start) before acts
 
 reasons_of_game : (problem : Setup) (game : Game) → game_reasons problem game ≡ reasons_from (start_of problem) [] game.acts.items
 reasons_of_game problem game =
     ap (λ (all : List Act). reverse (act_reasons (start_of problem) all)) (sym (append-nil (acts_back game)))
-    ∙ reasons_forward (start_of problem) [] game.acts.items
+    ∙ forward (reasons_after (start_of problem)) (act_reasons (start_of problem)) (λ act before. refl) [] game.acts.items
 
 -- the lines of acts after other acts
 abbrev lines_from : Side → Start → ℕ → Side → List Act → List Act → List ℕ
@@ -142,8 +132,8 @@ unfolding act_lines
 first_act dealer start number last before act act' acts acts' rest rest' is is' same =
     let row = act_row start act before in
     let row' = act_row start act' before in
-    let own = reasons_added start (letter_of act.what) (letters_of (moves_of before)) in
-    let own' = reasons_added start (letter_of act'.what) (letters_of (moves_of before)) in
+    let own = reasons_after start act before in
+    let own' = reasons_after start act' before in
     let after = last_after act.side act.what last in
     let after' = last_after act'.side act'.what last in
     let opened =
@@ -162,13 +152,13 @@ unfolding act_lines
 same_acts dealer start number last before [] [] rest rest' few few' are are' same = refl
 same_acts dealer start number last before [] (act' ∷ acts') rest rest' few few' are are' same =
     let after = last_after act'.side act'.what last in
-    let own = reasons_added start (letter_of act'.what) (letters_of (moves_of before)) in
+    let own = reasons_after start act' before in
     absurd (no_line number _ rest (omega arith)
     (sym (line_is dealer number after (act_row start act' before) own (lines_from dealer start (number + 1) after (act' ∷ before) acts') (line_feed ∷ rest'))
     ∙ sym same))
 same_acts dealer start number last before (act ∷ acts) [] rest rest' few few' are are' same =
     let after = last_after act.side act.what last in
-    let own = reasons_added start (letter_of act.what) (letters_of (moves_of before)) in
+    let own = reasons_after start act before in
     absurd (no_line number _ rest' (omega arith)
     (sym (line_is dealer number after (act_row start act before) own (lines_from dealer start (number + 1) after (act ∷ before) acts) (line_feed ∷ rest))
     ∙ same))
@@ -178,7 +168,7 @@ same_acts dealer start number last before (act ∷ acts) (act' ∷ acts') rest r
     let again = subst (λ (one : Act). lines_from dealer start number last before (act ∷ acts) ++ line_feed ∷ rest ≡ lines one ++ line_feed ∷ rest')
     (sym first) same in
     let after = last_after act.side act.what last in
-    let own = reasons_added start (letter_of act.what) (letters_of (moves_of before)) in
+    let own = reasons_after start act before in
     let line = act_line dealer number after (act_row start act before) own in
     let others =
     append_cancel_left line _ _

@@ -4,8 +4,7 @@ use Rattle.std.proofs.Common.{take, drop, get_or, replicate, refl, ap, sym, inl,
 use Rattle.std.specs.List.{list_any, join_with_byte}
 use Rattle.std.proofs.lemmas.Bool.{cases_Bool}
 use Rattle.std.proofs.lemmas.Grind.{flat_map-append}
-use Rattle.std.proofs.lemmas.List.{append-nil, length-drop, length-take, take-replicate, drop_more}
-use Rattle.std.proofs.Math.Seq.{drop-nil}
+use Rattle.std.proofs.lemmas.List.{append-nil, length-drop, length-take, take-replicate, drop_all, drop_more}
 use Rattle.crib_text.specs.Spelling.{space}
 use Rattle.crib_plan.specs.declared.plan.Next.{Next}
 use Rattle.crib_plan.specs.declared.plan.Next.TheVariants.{End, To}
@@ -28,16 +27,11 @@ pub label_is : (set : List Bool) → label set ≡ drop 1 (spaced_label set)
 unfolding label spaced_label
 label_is set = joined (rank_words 0 0 (take 13 set) ++ go_words (drop 13 set))
 
-pub column_is : (width : ℕ) (set : List Bool) → width ≤ 28 →
-    drop 1 (spaced_label set) ++ take (width - length (drop 1 (spaced_label set))) (replicate 28 space) ≡ label_column width set
-column_is width set narrow =
-    let e = sym (label_is set) in
-    rw e (ap (λ (blank : List ℕ). label set ++ blank) (take-replicate (width - length (label set)) 28 space (omega arith)))
-
 pub column_from : (width : ℕ) (set : List Bool) (written : List ℕ) → written ≡ drop 1 (spaced_label set) → width ≤ 28 →
     written ++ take (width - length written) (replicate 28 space) ≡ label_column width set
 column_from width set written is narrow =
-    ap (λ (bytes : List ℕ). bytes ++ take (width - length bytes) (replicate 28 space)) is ∙ column_is width set narrow
+    let e : written ≡ label set = is ∙ sym (label_is set) in
+    rw e (ap (λ (blank : List ℕ). label set ++ blank) (take-replicate (width - length (label set)) 28 space (omega arith)))
 
 -- the length of a label
 pub label_size : (set : List Bool) (written : List ℕ) → written ≡ spaced_label set → length written - 1 ≡ length (label set)
@@ -129,21 +123,18 @@ pub wider : (all : List Next) (i node width now size : ℕ) (d : Next) → i < l
 wider all i node width now size d inside some long is so_far =
     let e = width_new all i node d inside some in omega (arith, e, long, is, so_far)
 
-letters_past : (ranks : List Bool) (i : ℕ) → length ranks ≤ i → drop i ranks ≡ []
-letters_past [] i past = drop-nil i
-letters_past (holds ∷ ranks) zero past = absurd (omega arith)
-letters_past (holds ∷ ranks) (suc i) past = letters_past ranks i (omega arith)
-
-pub ranks_end : (ranks : List Bool) (i before : ℕ) → i ≡ 13 → length ranks ≡ 13 → rank_words i before (drop i ranks) ≡ range_words 13 before
+ranks_end : (ranks : List Bool) (i before : ℕ) → i ≡ 13 → length ranks ≡ 13 → rank_words i before (drop i ranks) ≡ range_words 13 before
 unfolding rank_words
 ranks_end ranks i before here long =
-    ap (rank_words i before) (letters_past ranks i (omega arith)) ∙ ap (λ (k : ℕ). range_words k before) here
+    ap (rank_words i before) (drop_all i ranks (omega arith)) ∙ ap (λ (k : ℕ). range_words k before) here
 
-pub branches_past : (all : List Next) (i : ℕ) → length all ≤ i → drop i all ≡ []
-branches_past [] i past = drop-nil i
-branches_past (branch ∷ all) zero past = absurd (omega arith)
-branches_past (branch ∷ all) (suc i) past = branches_past all i (omega arith)
+-- all words of ranks, behind the last place
+pub ranks_done : (set : List Bool) (i before : ℕ) (front items : List ℕ) → i ≡ 13 → length set ≡ 14 → items ≡ front ++ spaced (range_words 13 before) →
+    front ++ spaced (rank_words i before (drop i (take 13 set))) ≡ spaced (rank_words 0 0 (take 13 set)) →
+    items ≡ spaced (rank_words 0 0 (take 13 set))
+ranks_done set i before front items here long is so_far =
+    is ∙ ap (λ (words : List (List ℕ)). front ++ spaced words) (sym (ranks_end (take 13 set) i before here (thirteen set long))) ∙ so_far
 
 pub width_end : (all : List Next) (i : ℕ) → length all ≤ i → width_at all i ≡ 0
 unfolding width_at
-width_end all i past = ap (λ (branches : List Next). label_width (lines_to (apart_in []) [] all i branches)) (branches_past all i past)
+width_end all i past = ap (λ (branches : List Next). label_width (lines_to (apart_in []) [] all i branches)) (drop_all i all past)

@@ -1,12 +1,16 @@
+mod BeatenExamples
+mod TryExamples
 mod GameShowExamples
 mod GameTextExamples
 mod HeadingExamples
 mod PlanHeadExamples
+mod LossExamples
 mod SheetExamples
 mod MeaningExamples
 mod PlanPlayExamples
 mod WordExamples
 mod ActsExamples
+pub mod AllEntries
 pub mod ChosenCombinations
 pub mod CombinationPoints
 pub mod CountedCards
@@ -28,7 +32,6 @@ pub mod PlanSpots
 pub mod PlanTargets
 pub mod PlanTextExamples
 pub mod PlanTextSizes
-pub mod PlanTextWidths
 pub mod PlanTexts
 pub mod PlanWays
 pub mod PlayWalks
@@ -36,6 +39,7 @@ pub mod ReasonPoints
 pub mod ReasonsAdded
 pub mod SheetSizes
 pub mod Labels
+pub mod LossLines
 pub mod PlanRows
 pub mod Printing
 pub mod PutRows

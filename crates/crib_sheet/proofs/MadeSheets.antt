@@ -1,6 +1,7 @@
 -- What the readers and the writers of sheets return is a right reply of the job to the input.
-use Rattle.std.proofs.Common.{◌≡◌, ◌⊎◌, inl, inr, ℕ, Bool, List, ◌++◌, [], Result, Ok, Err, length, refl, sym, ap, subst, codes, false}
-use Rattle.crib_text.specs.Refusals.{Refusal}
+use Rattle.std.proofs.Common.{◌≡◌, ◌⊎◌, inl, inr, ℕ, zero, suc, Bool, List, ◌++◌, Ok, Err, length, refl, ap, codes}
+use Rattle.std.proofs.Common.{true, false, Some, IsTrue, IsFalse}
+use Rattle.crib_text.specs.Refusals.{no_memory}
 use Rattle.crib_problem.specs.Setup.{Setup}
 use Rattle.crib_plan.specs.declared.plan.Node.{Node}
 use Rattle.crib_game.specs.declared.fault.GameFault.{GameFault}
@@ -12,37 +13,47 @@ use Rattle.crib_input.specs.declared.refusal.Refusal.{Refusal as Refused}
 use Rattle.crib_input.specs.declared.reason.FaultCause.TheVariants.{NoMemory}
 use Rattle.crib_input.specs.declared.reason.Reason.{Reason}
 use Rattle.crib_input.specs.declared.reason.Reason.TheVariants as reasons
-use Rattle.crib_input.specs.Input.{played_of_input, question_of_input}
+use Rattle.crib_input.specs.Input.{played_of_input, problem_of_input, question_of_input}
 use Rattle.crib_input.specs.Refusals.{refusal_of}
 use Rattle.crib_input.proofs.Inputs.{counted}
-use Rattle.crib_run.specs.Reply.{Reply, reason_reply, refusal_reply}
+use Rattle.crib_run.specs.Reply.{IsAnswer, Reply, fault_reply, reason_reply, refusal_reply}
 use Rattle.crib_message.specs.Message.{IsMessage}
 use Rattle.crib_sheet.specs.Acts.{AreShown, IsSaid}
-use Rattle.crib_sheet.specs.declared.answer.job.SheetJob.TheVariants.{Plan, Game as GameJob}
+use Rattle.crib_sheet.specs.declared.answer.job.SheetJob.TheVariants.{Plan, Game as GameJob, Beaten, Try}
 use Rattle.crib_game.specs.declared.replaying.report.Report.{Report}
 use Rattle.crib_game.specs.Replay.{replay_result}
 use Rattle.crib_sheet.specs.GamePlay.{game_reasons}
 use Rattle.crib_sheet.specs.GameText.{sheet_of}
 use Rattle.crib_sheet.specs.Private.Prints.{Prints, Stand}
 use Rattle.crib_sheet.proofs.Printing.{Written, more, written}
-use Rattle.crib_sheet.specs.Sheet.{AnswersPlan, SheetMakes, game_reply, game_sheet_of_input, plan_reply}
+use Rattle.crib_sheet.specs.PlanLosses.{AreLossesOf}
+use Rattle.crib_sheet.specs.declared.plan.losses.Losses.{Losses}
+use Rattle.crib_plan.specs.Nodes.{ArePlan, most_nodes}
+use Rattle.crib_plan.specs.Spelling.{plan_text}
+use Rattle.crib_search.specs.Finder.{ExceedsLimit, IsFound}
+use Rattle.crib_search.specs.Winnable.{IsWinnable}
+use Rattle.crib_beaten.specs.Tally.{AreFigures}
+use Rattle.crib_beaten.specs.declared.tally.RanksTally.{RanksTally}
+use Rattle.crib_sheet.specs.Beaten.{beaten_reply, beaten_status}
+use Rattle.crib_sheet.specs.Private.Tries.{tried_status}
+use Rattle.crib_sheet.specs.Sheet.{IsToTry, SheetMakes, game_reply, game_sheet_of_input, plan_reply}
 
 -- ---- a plan
 
 pub plan_refused : (input : List ℕ) (refusal : Refused) → question_of_input input ≡ Err (refusal_of refusal)
     → SheetMakes Plan input (reason_reply (reasons.Refused refusal))
-plan_refused input refusal asked = inl (subst (λ said. AnswersPlan said (refusal_reply (refusal_of refusal))) (sym asked) refl)
+plan_refused input refusal asked = inl (rw asked refl)
 
 pub plan_without_memory : (input : List ℕ) (question : Setup × List Node) → question_of_input input ≡ Ok question
     → SheetMakes Plan input (reason_reply (reasons.Fault NoMemory))
 plan_without_memory input question asked = inr (counted input question asked, refl)
 
-pub plan_made : (input : List ℕ) (question : Setup × List Node) (verdict : Verdict) (apart : ℕ → Bool) (reply : Reply)
-    → question_of_input input ≡ Ok question → IsRight question.0 question.1 verdict → reply ≡ plan_reply question.0 question.1 verdict apart
+pub plan_made : (input : List ℕ) (question : Setup × List Node) (verdict : Verdict) (losses : Losses) (apart : ℕ → Bool) (reply : Reply)
+    → question_of_input input ≡ Ok question → IsRight question.0 question.1 verdict → AreLossesOf question.0 question.1 verdict losses
+    → reply ≡ plan_reply question.0 question.1 verdict losses apart
     → SheetMakes Plan input reply
-plan_made input question verdict apart reply asked right is =
-    let A : Result (Setup × List Node) Refusal → Type 0 = λ said. AnswersPlan said reply in
-    inl (subst A (sym asked) (verdict, apart, right, is))
+plan_made input question verdict losses apart reply asked right figures is =
+    inl (rw asked (verdict, losses, apart, right, figures, is))
 
 -- ---- a game
 
@@ -63,6 +74,46 @@ pub game_made : (input : List ℕ) (problem : Setup) (game : Game) (first : ℕ)
 unfolding game_sheet_of_input
 game_made input problem game first report asked replayed = inl (rw (asked, replayed) refl)
 
+-- ---- which deals beat a plan
+
+pub beaten_refused : (input : List ℕ) (refusal : Refused) → question_of_input input ≡ Err (refusal_of refusal)
+    → SheetMakes Beaten input (reason_reply (reasons.Refused refusal))
+beaten_refused input refusal asked = inl (rw asked refl)
+
+pub beaten_without_memory : (input : List ℕ) (question : Setup × List Node) → question_of_input input ≡ Ok question
+    → SheetMakes Beaten input (reason_reply (reasons.Fault NoMemory))
+beaten_without_memory input question asked = inr (counted input question asked, refl)
+
+pub beaten_answers : (beaten : ℕ) → IsAnswer (beaten_status beaten)
+beaten_answers zero = inl refl
+beaten_answers (suc others) = inr refl
+
+pub beaten_made : (input : List ℕ) (question : Setup × List Node) (open_deals beaten : ℕ) (rows : List RanksTally)
+    → question_of_input input ≡ Ok question → AreFigures question.0 question.1 open_deals beaten rows
+    → SheetMakes Beaten input (beaten_reply open_deals beaten rows)
+beaten_made input question open_deals beaten rows asked right =
+    inl (rw asked (open_deals, beaten, rows, right, refl))
+
+-- ---- a plan to try
+
+-- what is known of a plan to try
+pub record IsTried (problem : Setup) (plan : List Node) (sure : Bool) : Type 0 where
+  pub valid : ArePlan plan
+  pub found : IsTrue sure → IsFound problem (Some plan)
+  pub none : IsFalse sure → ¬ IsWinnable problem
+  pub small : ¬ ExceedsLimit problem most_nodes
+
+to_try : (problem : Setup) (plan : List Node) (sure : Bool) → IsTried problem plan sure
+    → IsToTry problem (record { output = plan_text plan; status = tried_status sure })
+to_try problem plan true tried = (plan, inl (tried.found refl, tried.small, refl))
+to_try problem plan false tried = (plan, inr (tried.none refl, tried.valid, refl))
+
+pub try_made : (input : List ℕ) (problem : Setup) (plan : List Node) (sure : Bool) (reply : Reply) → problem_of_input input ≡ Ok problem
+    → IsTried problem plan sure
+    → (reply ≡ record { output = plan_text plan; status = tried_status sure }) ⊎ (reply ≡ fault_reply no_memory) → SheetMakes Try input reply
+try_made input problem plan sure reply asked tried (inl is) = inl (rw (asked, is) (inl (to_try problem plan sure tried)))
+try_made input problem plan sure reply asked tried (inr want) = inr (rw asked refl, want)
+
 -- ---- beside a refusal
 
 -- the message and the acts beside it are what is said
@@ -72,4 +123,15 @@ pub said : (input : List ℕ) (reason : Reason) (message : List ℕ) {s t u : St
 said input reason message is puts (acts, shown, prints) whole =
     (prints.same, (message ++ acts, (message, acts, is, shown, refl), written (more puts prints) whole))
 
-pub ruleset made = (plan_refused, plan_without_memory, plan_made, game_refused, game_judged, game_made)
+pub ruleset made = (
+  plan_refused,
+  plan_without_memory,
+  plan_made,
+  game_refused,
+  game_judged,
+  game_made,
+  beaten_refused,
+  beaten_without_memory,
+  beaten_made,
+  beaten_answers,
+)

@@ -19,8 +19,10 @@ use Rattle.crib_answer.specs.Input.{report_of_input}
 use Rattle.crib_answer.specs.Meaning.{HasSurePlan}
 use Rattle.crib_sheet.specs.declared.answer.job.SheetJob.TheVariants.{Plan, Game as GameJob}
 use Rattle.crib_sheet.specs.GameText.{game_sheet_text}
-use Rattle.crib_sheet.specs.Meaning.{GameMeans, HasGameSheet, HasSureSheet, HasUnsurePlan, IsRefusedByReplay, PlanMeans, SheetMeans}
+use Rattle.crib_sheet.specs.Meaning.{GameMeans, HasGameSheet, HasSureSheet, HasUnsurePlan, HasUnsureSheet, IsRefusedByReplay, PlanMeans, SheetMeans}
 use Rattle.crib_sheet.specs.PlanHead.{failing_text, sure_text}
+use Rattle.crib_sheet.specs.PlanLosses.{AreLosses, AreLossesOf, losses_text}
+use Rattle.crib_sheet.specs.declared.plan.losses.Losses.{Losses}
 use Rattle.crib_sheet.specs.PlanPage.{page_text}
 use Rattle.crib_sheet.specs.PlanPlay.{ReachesGoal}
 use Rattle.crib_sheet.specs.PlanSheet.{Over, Sheet, sheet_with}
@@ -57,25 +59,33 @@ unfolding read_played game_sheet_of_input digits
 game_is_refused = refl
 
 plan_is_not_written : (problem : Setup) (plan : List Node) (reply : Reply) →
-    ((verdict : Verdict) (apart : ℕ → Bool) → reply ≡ plan_reply problem plan verdict apart → ⊥) → AnswersPlan (Ok (problem, plan)) reply → ⊥
-plan_is_not_written problem plan reply none answers = none answers.0 answers.1 answers.3
+    ((verdict : Verdict) (losses : Losses) (apart : ℕ → Bool) → reply ≡ plan_reply problem plan verdict losses apart → ⊥) →
+    AnswersPlan (Ok (problem, plan)) reply → ⊥
+plan_is_not_written problem plan reply none answers = none answers.0 answers.1 answers.2 answers.5
 
 verdict_is_not_right : (problem : Setup) (plan : List Node) (reply : Reply) → ((verdict : Verdict) → IsRight problem plan verdict → ⊥) →
     AnswersPlan (Ok (problem, plan)) reply → ⊥
-verdict_is_not_right problem plan reply none answers = none answers.0 answers.2
+verdict_is_not_right problem plan reply none answers = none answers.0 answers.3
 
-sure_plan_is_written : (problem : Setup) (plan : List Node) (apart : ℕ → Bool) → IsSure problem plan →
-    AnswersPlan (Ok (problem, plan)) (plan_reply problem plan Holds apart)
-sure_plan_is_written problem plan apart sure = (Holds, apart, sure, refl)
+losses_are_not_right : (problem : Setup) (plan : List Node) (reply : Reply) →
+    ((verdict : Verdict) (losses : Losses) → AreLossesOf problem plan verdict losses → ⊥) → AnswersPlan (Ok (problem, plan)) reply → ⊥
+losses_are_not_right problem plan reply none answers = none answers.0 answers.1 answers.4
 
-reply_of_a_sure_plan : (problem : Setup) (apart : ℕ → Bool) →
-    plan_reply problem [] Holds apart ≡ record { output = sure_text problem ++ page_text true (record { first = Over; paragraphs = [] }); status = Yes }
+sure_plan_is_written : (problem : Setup) (plan : List Node) (losses : Losses) (apart : ℕ → Bool) → IsSure problem plan →
+    AnswersPlan (Ok (problem, plan)) (plan_reply problem plan Holds losses apart)
+sure_plan_is_written problem plan losses apart sure = (Holds, losses, apart, sure, tt, refl)
+
+reply_of_a_sure_plan : (problem : Setup) (losses : Losses) (apart : ℕ → Bool) →
+    plan_reply problem [] Holds losses apart ≡ record { output = sure_text problem ++ page_text true (record { first = Over; paragraphs = [] }); status = Yes }
 unfolding sheet_with
-reply_of_a_sure_plan problem apart = refl
+reply_of_a_sure_plan problem losses apart = refl
 
-reply_of_a_failing_plan : (problem : Setup) (plan : List Node) (game : Game) (apart : ℕ → Bool) → plan_reply problem plan (Fails Short game) apart
-    ≡ record { output = failing_text problem plan Short game ++ page_text false (sheet_with apart plan); status = No }
-reply_of_a_failing_plan problem plan game apart = refl
+reply_of_a_failing_plan : (problem : Setup) (plan : List Node) (game : Game) (losses : Losses) (apart : ℕ → Bool) →
+    plan_reply problem plan (Fails Short game) losses apart ≡ record {
+      output = (losses_text losses ++ failing_text problem plan Short game) ++ page_text false (sheet_with apart plan);
+      status = No;
+    }
+reply_of_a_failing_plan problem plan game losses apart = refl
 
 refused_plan_is_written : (reply : Reply) → AnswersPlan (Err (record { line = 3; number = 21 })) reply → reply ≡ refused_reply (codes "refused line 3: 21\n")
 unfolding digits
@@ -132,6 +142,13 @@ unsure_plan_is_spelled input none has = none has.problem has.plan has.spelled
 unsure_plan_is_not_sure : (input : List ℕ) → ((problem : Setup) (plan : List Node) → IsSure problem plan) → HasUnsurePlan input → ⊥
 unsure_plan_is_not_sure input all has = has.unsure (all has.problem has.plan)
 
+figures_are_right : (input text : List ℕ) → ((problem : Setup) (plan : List Node) (losses : Losses) → AreLosses problem plan losses → ⊥) →
+    HasUnsureSheet input text → ⊥
+figures_are_right input text none has = none has.unsure.problem has.unsure.plan has.losses has.figures
+
+figures_are_printed : (input text : List ℕ) → ((losses : Losses) (rest : List ℕ) → text ≡ losses_text losses ++ rest → ⊥) → HasUnsureSheet input text → ⊥
+figures_are_printed input text none has = none has.losses has.rest has.printed
+
 game_is_spelled : (input text : List ℕ) → ((problem : Setup) (game : Game) → SpellsGame input problem game → ⊥) → HasGameSheet input text → ⊥
 game_is_spelled input text none has = none has.problem has.game has.spelled
 
@@ -149,7 +166,7 @@ line_of_replay input is = (let text = is.line in cc)
 plan_means_a_sheet : (input text : List ℕ) → PlanMeans input text Yes ≡ HasSureSheet input text
 plan_means_a_sheet input text = refl
 
-plan_means_it_is_not_sure : (input text : List ℕ) → PlanMeans input text No ≡ HasUnsurePlan input
+plan_means_it_is_not_sure : (input text : List ℕ) → PlanMeans input text No ≡ HasUnsureSheet input text
 plan_means_it_is_not_sure input text = refl
 
 refused_plan : (input text : List ℕ) → PlanMeans input text Refused ≡ ((problem : Setup) (plan : List Node) → SpellsPlan input problem plan → ⊥)

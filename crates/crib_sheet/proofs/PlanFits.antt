@@ -3,20 +3,21 @@ use Rattle.std.proofs.Common.{◌≡◌, ℕ, zero, suc, ◌+◌, ◌<◌, ◌�
 use Rattle.std.proofs.Common.{Some, option_map, unwrap_or, refl, sym, ap, subst, ◌∙◌, arith, inl, inr}
 use Rattle.std.specs.List.{list_any, AllByRecursion}
 use Rattle.std.proofs.lemmas.Bool.{cases_Bool, cases_eq, ne_eqb, eq-eqb}
-use Rattle.std.proofs.lemmas.Option.{slice_get_within}
+use Rattle.std.proofs.lemmas.Option.{slice_get-map, slice_get_within}
 use Rattle.crib_plan.specs.declared.plan.Next.{Next}
 use Rattle.crib_plan.specs.declared.plan.Next.TheVariants.{End, To}
 use Rattle.crib_plan.specs.declared.plan.Node.{Node}
 use Rattle.crib_plan.specs.declared.plan.Node.TheVariants.{Play, See}
 use Rattle.crib_plan.specs.Spelling.{leads_to}
-use Rattle.crib_sheet.specs.PlanSheet.{Row, Paragraph, Over, Named, row_named, row_to, lines_to, row_of, rows_from}
+use Rattle.crib_sheet.specs.PlanSheet.{Lines, Paragraph, Over, Named, NoLine, Line, row_named, row_to, lines_to, row_of, rows_from}
 use Rattle.crib_sheet.specs.PlanSheet.{sheet_with}
-use Rattle.crib_sheet.specs.PlanSheetSize.{level_count, levels_below}
+use Rattle.crib_sheet.specs.PlanSheetSize.{levels_below}
 use Rattle.crib_sheet.specs.PlanOutline.{apart_in}
 use Rattle.crib_sheet.specs.Private.Spots.{levels_at, cards_at, is_apart_at, most_levels, AreLow, IsWhole, AreSized}
 use Rattle.crib_sheet.specs.Private.Ways.{ways_to}
 use Rattle.crib_sheet.specs.declared.plan.spots.Spot.{Spot}
-use Rattle.crib_sheet.proofs.SheetSizes.{greatest, most_cards, most_cards_below, sheet_cards, sheet_levels}
+use Rattle.crib_sheet.proofs.AllEntries.{all_filter, all_weaker}
+use Rattle.crib_sheet.proofs.SheetSizes.{IsSmall, IsSmallSheet, most_cards_below}
 
 -- the row of a node has at most so many levels, and begins with at most so many cards
 abbrev HasSize : List Spot → ℕ → ℕ → Node → Type 0
@@ -24,16 +25,24 @@ HasSize spots levels cards (Play card next) = (levels_at spots next ≤ levels) 
 HasSize spots levels cards (See branches) =
     (0 < levels) × AllByRecursion (λ next. levels_at spots next < levels) branches
 
--- a row has at most so many levels. It begins with at most so many cards, and has lines of at most five cards
-pub record IsSmall (levels cards : ℕ) (row : Row) : Type 0 where
-  pub depth : level_count row ≤ levels
-  pub width : (before : ℕ) → before + cards ≤ 5 → most_cards before row ≤ 5
-
 small_over : (levels cards : ℕ) → IsSmall levels cards Over
 small_over levels cards = record { depth = omega arith; width = λ before few. omega arith }
 
 small_named : (levels cards number : ℕ) → IsSmall levels cards (Named number)
 small_named levels cards number = record { depth = omega arith; width = λ before few. omega arith }
+
+-- what holds of no line, and of each line before lines of which it holds, holds of the lines of a look
+lines_by : (apart : ℕ → Bool) (later : List Paragraph) (all : List Next) (known : Next → Type 0) (holds : Lines → Type 0) → holds NoLine →
+    ((number : ℕ) (others : Lines) → known (To number) → holds others → holds (Line (map (leads_to number) all) (row_to apart later (To number)) others)) →
+    (from : ℕ) (branches : List Next) → AllByRecursion known branches → holds (lines_to apart later all from branches)
+lines_by apart later all known holds none more from [] each = none
+lines_by apart later all known holds none more from (End ∷ branches) each = lines_by apart later all known holds none more (from + 1) branches each.1
+lines_by apart later all known holds none more from (To number ∷ branches) each =
+    let rest = lines_by apart later all known holds none more (from + 1) branches each.1 in
+    elim (cases_Bool (list_any (leads_to number) (take from all))) [
+      | inl e ↦ rw e rest
+      | inr e ↦ rw e (more number (lines_to apart later all (from + 1) branches) each.0 rest)
+    ]
 
 module _ (apart : ℕ → Bool) (spots : List Spot) (low : AreLow spots) where
   -- a paragraph whose node is in place is as small as is known of it, and each is small
@@ -53,40 +62,13 @@ module _ (apart : ℕ → Bool) (spots : List Spot) (low : AreLow spots) where
         | inr differs ↦ rw (ne_eqb paragraph.number number differs) (named_fits later number all.1 here)
       ]
 
-  to_fits : (later : List Paragraph) (next : Next) → AllByRecursion Fits later →
+  pub to_fits : (later : List Paragraph) (next : Next) → AllByRecursion Fits later →
       IsSmall (levels_at spots next) (cards_at spots next) (row_to apart later next)
   to_fits later End all = small_over 0 0
   to_fits later (To number) all =
       elim (cases_Bool (apart number)) [
         | inl e ↦ rw e (small_named (levels_at spots (To number)) (cards_at spots (To number)) number)
         | inr e ↦ rw e (named_fits later number all e)
-      ]
-
-  lines_deep : (later : List Paragraph) (levels : ℕ) (all : List Next) (from : ℕ) (branches : List Next) → AllByRecursion Fits later →
-      0 < levels → AllByRecursion (λ next. levels_at spots next < levels) branches →
-      levels_below (lines_to apart later all from branches) < levels
-  lines_deep later levels all from [] fit some each = omega arith
-  lines_deep later levels all from (End ∷ branches) fit some each = lines_deep later levels all (from + 1) branches fit some each.1
-  lines_deep later levels all from (To number ∷ branches) fit some each =
-      let rest = lines_deep later levels all (from + 1) branches fit some each.1 in
-      let here = (to_fits later (To number) fit).depth in
-      let below = each.0 in
-      elim (cases_Bool (list_any (leads_to number) (take from all))) [
-        | inl e ↦ rw e rest
-        | inr e ↦ rw e (omega (arith, rest, here, below))
-      ]
-
-  lines_wide : (later : List Paragraph) (all : List Next) (from : ℕ) (branches : List Next) → AllByRecursion Fits later →
-      most_cards_below (lines_to apart later all from branches) ≤ 5
-  lines_wide later all from [] fit = omega arith
-  lines_wide later all from (End ∷ branches) fit = lines_wide later all (from + 1) branches fit
-  lines_wide later all from (To number ∷ branches) fit =
-      let rest = lines_wide later all (from + 1) branches fit in
-      let few = low.cards (To number) in
-      let here = (to_fits later (To number) fit).width 0 (omega (arith, few)) in
-      elim (cases_Bool (list_any (leads_to number) (take from all))) [
-        | inl e ↦ rw e rest
-        | inr e ↦ rw e (omega (arith, rest, here))
       ]
 
   node_fits : (later : List Paragraph) (levels cards : ℕ) (node : Node) → AllByRecursion Fits later → HasSize spots levels cards node →
@@ -99,8 +81,17 @@ module _ (apart : ℕ → Bool) (spots : List Spot) (low : AreLow spots) where
         width = λ before few. row.width (before + 1) (omega (arith, few, short));
       }
   node_fits later levels cards (See branches) fit size =
-      let deep = lines_deep later levels branches 0 branches fit size.0 size.1 in
-      let wide = lines_wide later branches 0 branches fit in record {
+      let lines =
+      lines_by apart later branches (λ next. levels_at spots next < levels) (λ below. (levels_below below < levels) × (most_cards_below below ≤ 5))
+      (size.0, omega arith)
+      (λ number others less rest.
+      let row = to_fits later (To number) fit in
+      let deep = row.depth in
+      let wide = row.width 0 (omega (arith, low.cards (To number))) in
+      (omega (arith, deep, less, rest.0), omega (arith, wide, rest.1)))
+      0 branches size.1 in
+      let deep = lines.0 in
+      let wide = lines.1 in record {
         depth = omega (arith, deep);
         width = λ before few. omega (arith, few, wide);
       }
@@ -131,50 +122,6 @@ module _ (apart : ℕ → Bool) (spots : List Spot) (low : AreLow spots) where
         later,
       )
 
-  kept_small : (rows : List Paragraph) → AllByRecursion Fits rows →
-      (greatest level_count (map (λ paragraph. paragraph.row) (filter (λ paragraph. apart paragraph.number) rows)) ≤ 5)
-      × (greatest (most_cards 0) (map (λ paragraph. paragraph.row) (filter (λ paragraph. apart paragraph.number) rows)) ≤ 5)
-  kept_small [] all = (omega arith, omega arith)
-  kept_small (paragraph ∷ rows) all =
-      let rest = kept_small rows all.1 in
-      let deep = rest.0 in
-      let wide = rest.1 in
-      let depth = all.0.small.depth in
-      let width = all.0.small.width 0 (omega arith) in
-      elim (cases_Bool (apart paragraph.number)) [
-        | inl e ↦ rw e ((omega (arith, deep, depth), omega (arith, wide, width)))
-        | inr e ↦ rw e ((deep, wide))
-      ]
-
--- the rows behind node 0 fit, and so the sheet does
-rest_fits : (apart : ℕ → Bool) (spots : List Spot) (low : AreLow spots) (plan : List Node) →
-    ((i : ℕ) (node : Node) → 1 ≤ i → slice_get plan i ≡ Some node → apart i ≡ false → HasSize spots (levels_at spots (To i)) (cards_at spots (To i)) node) →
-    AllByRecursion (Fits apart spots low) (rows_from apart 1 (drop 1 plan))
-rest_fits apart spots low [] sized = tt
-rest_fits apart spots low (node ∷ nodes) sized =
-    rows_fit apart spots low 1 nodes
-    (λ i other is.
-    subst (λ k. apart k ≡ false → HasSize spots (levels_at spots (To k)) (cards_at spots (To k)) other) (omega arith)
-    (sized (suc i) other (omega arith) is))
-
-pub sheet_fits : (apart : ℕ → Bool) (spots : List Spot) (plan : List Node) → AreLow spots →
-    ((i : ℕ) (node : Node) → 1 ≤ i → slice_get plan i ≡ Some node → apart i ≡ false → HasSize spots (levels_at spots (To i)) (cards_at spots (To i)) node) →
-    (sheet_levels (sheet_with apart plan) ≤ 5) × (sheet_cards (sheet_with apart plan) ≤ 5)
-unfolding sheet_with
-sheet_fits apart spots [] low sized = (omega arith, omega arith)
-sheet_fits apart spots (node ∷ nodes) low sized =
-    let later = rest_fits apart spots low (node ∷ nodes) sized in
-    let rest = kept_small apart spots low (rows_from apart 1 nodes) later in
-    let deep = rest.0 in
-    let wide = rest.1 in
-    let first = node_fits apart spots low (rows_from apart 1 nodes) 5 5 node later (each_small apart spots low node) in
-    let depth = first.depth in
-    let width = first.width 0 (omega arith) in
-    elim (cases_Bool (apart 0)) [
-      | inl e ↦ rw e ((omega (arith, deep, depth), omega (arith, wide, width)))
-      | inr e ↦ rw e ((omega (arith, deep, depth), omega (arith, wide, width)))
-    ]
-
 pub apart_same : (spots : List Spot) (i : ℕ) → i < length spots → apart_in (map (λ spot. spot.is_apart) spots) i ≡ is_apart_at spots i
 apart_same [] i within = absurd (omega arith)
 apart_same (spot ∷ spots) zero within = refl
@@ -182,9 +129,7 @@ apart_same (spot ∷ spots) (suc i) within = apart_same spots i (omega arith)
 
 pub apart_is : (spots : List Spot) (i : ℕ) →
     apart_in (map (λ spot. spot.is_apart) spots) i ≡ unwrap_or (option_map (λ (spot : Spot). spot.is_apart) (slice_get spots i)) false
-apart_is [] i = refl
-apart_is (spot ∷ spots) zero = refl
-apart_is (spot ∷ spots) (suc i) = apart_is spots i
+apart_is spots i = ap (λ found. unwrap_or found false) (slice_get-map (λ (spot : Spot). spot.is_apart) spots i)
 
 each_below : (spots : List Spot) (branches : List Next) (bound : ℕ) → most_levels spots branches < bound →
     AllByRecursion (λ next. levels_at spots next < bound) branches
@@ -203,13 +148,30 @@ sized_apart spots plan long are i node above found inline =
     size_of spots (levels_at spots (To i)) (cards_at spots (To i)) (ways_to plan i) node
     (are.whole i node above found (sym (apart_same spots i (omega (arith, slice_get_within plan i node found))) ∙ inline))
 
+-- the rows behind node 0 fit, and so the sheet does
 pub rows_behind : (spots : List Spot) (plan : List Node) → length spots ≡ length plan → (low : AreLow spots) → AreSized 1 plan spots →
     AllByRecursion (Fits (apart_in (map (λ spot. spot.is_apart) spots)) spots low)
     (rows_from (apart_in (map (λ spot. spot.is_apart) spots)) 1 (drop 1 plan))
-rows_behind spots plan long low are = rest_fits (apart_in (map (λ spot. spot.is_apart) spots)) spots low plan (sized_apart spots plan long are)
+rows_behind spots [] long low are = tt
+rows_behind spots (node ∷ nodes) long low are =
+    let apart : ℕ → Bool = apart_in (map (λ (s : Spot). s.is_apart) spots) in
+    rows_fit apart spots low 1 nodes
+    (λ i other is.
+    subst (λ k. apart k ≡ false → HasSize spots (levels_at spots (To k)) (cards_at spots (To k)) other) (omega arith)
+    (sized_apart spots (node ∷ nodes) long are (suc i) other (omega arith) is))
 
 pub outline_fits : (spots : List Spot) (plan : List Node) → length spots ≡ length plan → AreLow spots → AreSized 1 plan spots →
-    (sheet_levels (sheet_with (apart_in (map (λ spot. spot.is_apart) spots)) plan) ≤ 5)
-    × (sheet_cards (sheet_with (apart_in (map (λ spot. spot.is_apart) spots)) plan) ≤ 5)
-outline_fits spots plan long low are =
-    sheet_fits (apart_in (map (λ spot. spot.is_apart) spots)) spots plan low (sized_apart spots plan long are)
+    IsSmallSheet (sheet_with (apart_in (map (λ spot. spot.is_apart) spots)) plan)
+unfolding sheet_with
+outline_fits spots [] long low are = (small_over 5 5, tt)
+outline_fits spots (node ∷ nodes) long low are =
+    let apart : ℕ → Bool = apart_in (map (λ (s : Spot). s.is_apart) spots) in
+    let later = rows_behind spots (node ∷ nodes) long low are in
+    let kept = λ (paragraph : Paragraph). apart paragraph.number in
+    let others = all_weaker (Fits apart spots low) (λ paragraph. IsSmall 5 5 paragraph.row) (λ paragraph fit. fit.small) (filter kept (rows_from apart 1 nodes))
+    (all_filter (Fits apart spots low) kept (rows_from apart 1 nodes) later) in
+    let first = node_fits apart spots low (rows_from apart 1 nodes) 5 5 node later (each_small apart spots low node) in
+    elim (cases_Bool (apart 0)) [
+      | inl e ↦ rw e ((small_named 5 5 0, (first, others)))
+      | inr e ↦ rw e ((first, others))
+    ]

@@ -18,20 +18,22 @@ use Rattle.crib_sheet.specs.GameText.{act_line, act_lines, act_text, dealt_line,
 use Rattle.crib_sheet.specs.PlanSheet.{Over, Plays}
 use Rattle.crib_sheet.specs.PlanText.{sheet_text}
 use Rattle.crib_sheet.specs.PlanHead.{failing_line, failing_text, head_text, sure_text, turn_line}
+use Rattle.crib_sheet.specs.PlanLosses.{losses_text}
+use Rattle.crib_sheet.specs.declared.plan.losses.Losses.{Losses}
 use Rattle.crib_sheet.specs.PlanNow.{now_line}
 use Rattle.crib_sheet.specs.PlanStuck.{stuck_text, stuck_words}
 use Rattle.crib_sheet.specs.PlanPage.{legend_text, page_text}
 
-sure_head : head_text after_tens [] Holds ≡
+sure_head : (losses : Losses) → head_text after_tens [] Holds losses ≡
     codes "You are the pone at 0, and the dealer is at 0. The starter is 3H.\nYou hold TC 9C 2C 8C and threw 4S 6S.\nYou want to win.\n"
     ++ codes "The first 2 turns were played. Scores and cards are those before them.\n  pone TC\n  dealer TD\n"
     ++ codes "You are at 0 now, and the dealer is at 2. You still hold 9C 2C 8C.\n"
     ++ codes "This plan is sure: it reaches your goal against every hand and every play.\n\n"
 unfolding digits heading_text scores_line other_score own_line goal_line opening_line sure_text turn_line now_line
-sure_head = refl
+sure_head losses = refl
 
-losing_head : head_text close_to_lost [] (Fails Lost (game_with pairing (plays Owner 0 ∷ plays Opponent 1 ∷ []))) ≡
-    codes "This plan is not sure. In this game you lose:\n\nYou are the pone at 100, and the dealer is at 119. The starter is KD.\n"
+losing_head : failing_text close_to_lost [] Lost (game_with pairing (plays Owner 0 ∷ plays Opponent 1 ∷ [])) ≡
+    codes "In this game you lose:\n\nYou are the pone at 100, and the dealer is at 119. The starter is KD.\n"
     ++ codes "You hold AC 2C 2D 2H and threw 4C 6D.\nYou want to win.\nThe dealer holds AD AH AS 2S and threw 3C 3D.\n\n"
     ++ codes " # side   card count you they  points\n 1 pone   AC       1 100  119\n 2 dealer AD       2 100  121  2: pair 2\n\n"
     ++ codes "The deal is over: the dealer wins.\n\nThe plan:\n\n"
@@ -39,10 +41,10 @@ unfolding digits right_in heading_text scores_line other_score own_line goal_lin
     score_text act_text act_line act_lines show_of outcome_of hand_points crib_points
 losing_head = refl
 
-without_a_card : failing_line Stuck ≡ codes "This plan is not sure. In this game it states no card that you can play:\n"
+without_a_card : failing_line Stuck ≡ codes "In this game it states no card that you can play:\n"
 without_a_card = refl
 
-short_of_the_goal : failing_line Short ≡ codes "This plan is not sure. In this game you fall short of your goal:\n"
+short_of_the_goal : failing_line Short ≡ codes "In this game you fall short of your goal:\n"
 short_of_the_goal = refl
 
 -- ---- pages
@@ -86,14 +88,18 @@ no_line_for_a_king : stuck_text close_to_lost one_line kings ≡ codes "They sho
 unfolding digits stuck_text stuck_words kings one_line
 no_line_for_a_king = refl
 
-stuck_head : head_text close_to_lost one_line (Fails Stuck (game_with (record pairing { hold = 1 ∷ 2 ∷ 3 ∷ 48 ∷ [] }) kings)) ≡
-    codes "This plan is not sure. In this game it states no card that you can play:\n\nYou are the pone at 100, and the dealer is at 119. "
+stuck_head : failing_text close_to_lost one_line Stuck (game_with (record pairing { hold = 1 ∷ 2 ∷ 3 ∷ 48 ∷ [] }) kings) ≡
+    codes "In this game it states no card that you can play:\n\nYou are the pone at 100, and the dealer is at 119. "
     ++ codes "The starter is KD.\nYou hold AC 2C 2D 2H and threw 4C 6D.\nYou want to win.\nThe dealer holds AD AH AS KC and threw 3C 3D.\n\n"
     ++ codes " # side   card count you they  points\n 1 pone   AC       1 100  119\n 2 dealer KC      11 100  119\n\n"
     ++ codes "The deal isn't over yet.\n\nThey show K, and node 1 has no line for it.\n\nThe plan:\n\n"
 unfolding digits right_in heading_text scores_line other_score own_line goal_line opening_line failing_text sheet_of dealt_line reason_text points_text
     score_text act_text act_line act_lines show_of outcome_of hand_points crib_points stuck_text stuck_words kings one_line
 stuck_head = refl
+
+unsure_head : (losses : Losses) → head_text close_to_lost one_line (Fails Stuck (game_with pairing [])) losses
+    ≡ losses_text losses ++ failing_text close_to_lost one_line Stuck (game_with pairing [])
+unsure_head losses = refl
 
 a_card_that_is_not_held : stuck_text close_to_lost (Play 28 End ∷ []) [] ≡ codes "Node 0 states 8C, which you don't hold.\n"
 unfolding digits stuck_text stuck_words

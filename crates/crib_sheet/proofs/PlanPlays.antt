@@ -1,7 +1,6 @@
 -- Who plays from the sheet of a plan finds what the plan states, and reaches the goal exactly if the plan is sure.
-use Rattle.std.proofs.Common.{◌≡◌, ℕ, zero, suc, ◌≤◌, nat_le, Bool, true, false, cond, not, ◌&&◌, List, [], ◌∷◌, ◌++◌, length, reverse, drop, flat_map}
-use Rattle.std.proofs.Common.{Option, None, refl, sym, ap, ◌∙◌, inl, inr, ◌⊎◌, true≢false, arith}
-use Rattle.std.specs.Prelude.{◌↔◌}
+use Rattle.std.proofs.Common.{◌≡◌, ◌↔◌, ℕ, nat_le, Bool, true, false, cond, not, ◌&&◌, List, [], ◌∷◌, ◌++◌, length, reverse, drop, flat_map}
+use Rattle.std.proofs.Common.{Option, None, refl, sym, ap, ◌∙◌, inl, inr, arith}
 use Rattle.std.proofs.lemmas.Bool.{cases_Bool, cases_lt, lt-leb, le-leb}
 use Rattle.std.proofs.lemmas.List.{append-nil, length-append, length-reverse, reverse-append, drop_all, drop-append-le}
 use Rattle.std.proofs.lemmas.Grind.{flat_map-append}
@@ -100,9 +99,6 @@ rows_more : (sheet : Sheet) (row : Row) (turns more : List Turn) →
 rows_more sheet row [] more = refl
 rows_more sheet row (turn ∷ turns) more = rows_more sheet (read_turn sheet row turn) turns more
 
-drop_none : (n : ℕ) (acts : List Act) → acts ≡ [] → drop n acts ≡ []
-drop_none n acts none = drop_all n acts (rw none (omega arith))
-
 -- a card is always visible
 card_is_visible : (pone : Side) (turn : Move) (past : List Move) → is_visible pone (letter_of turn) (letters_of past) ≡ false → turn ≡ move.Go
 card_is_visible pone (move.Card card) past unseen = absurd cc
@@ -124,7 +120,7 @@ place_step plan false side turn visible place seen = refl
 
 place_shown : (problem : Setup) (plan : List Node) (past : List Move) →
     place_after_turns plan (plan_start plan) (turns_shown problem past) ≡ place_of plan problem.played (pone_of (start_of problem)) past
-place_shown problem plan [] = ap (λ acts. place_after_turns plan (plan_start plan) (flat_map turns_of acts)) (drop_none (length problem.played) [] refl)
+place_shown problem plan [] = ap (λ acts. place_after_turns plan (plan_start plan) (flat_map turns_of acts)) (drop_all (length problem.played) [] (omega arith))
 place_shown problem plan (turn ∷ past) =
     ap (place_after_turns plan (plan_start plan)) (shown_step problem turn past)
     ∙ places_more plan (plan_start plan) (turns_shown problem past) _
@@ -138,17 +134,11 @@ finds_what_is_stated apart problem plan past are =
 
 -- ---- playing from the sheet
 
-stated_as_found : (plan : List Node) (place : Next) (found : Option ℕ) (side : Side) (turn : Move) → found ≡ stated_card plan place →
-    IsAsFound found side turn → IsAsStated plan place side turn
-stated_as_found plan place found Owner (move.Card card) same as_found = sym same ∙ as_found
-stated_as_found plan place found Owner move.Go same as_found = tt
-stated_as_found plan place found Opponent turn same as_found = tt
-
-found_as_stated : (plan : List Node) (place : Next) (found : Option ℕ) (side : Side) (turn : Move) → found ≡ stated_card plan place →
-    IsAsStated plan place side turn → IsAsFound found side turn
-found_as_stated plan place found Owner (move.Card card) same as_stated = same ∙ as_stated
-found_as_stated plan place found Owner move.Go same as_stated = tt
-found_as_stated plan place found Opponent turn same as_stated = tt
+same_turn : (plan : List Node) (place : Next) (found : Option ℕ) (side : Side) (turn : Move) → found ≡ stated_card plan place →
+    IsAsFound found side turn ↔ IsAsStated plan place side turn
+same_turn plan place found Owner (move.Card card) same = ((λ is. sym same ∙ is), λ is. same ∙ is)
+same_turn plan place found Owner move.Go same = ((λ is. tt), λ is. tt)
+same_turn plan place found Opponent turn same = ((λ is. tt), λ is. tt)
 
 module _ (apart : ℕ → Bool) (problem : Setup) (plan : List Node) (are : ArePlan plan) where
   abbrev its_sheet : Sheet
@@ -160,25 +150,18 @@ module _ (apart : ℕ → Bool) (problem : Setup) (plan : List Node) (are : AreP
   found : (past : List Move) → card_found problem its_sheet past ≡ stated_card plan (place_of plan problem.played (pone problem) past)
   found past = finds_what_is_stated apart problem plan past are
 
-  follows : (past : List Move) → PlaysFrom problem its_sheet past → follow past
-  follows [] is = tt
-  follows (turn ∷ past) is = (
-    follows past is.0,
-    λ over. stated_as_found plan _ _ (side problem past) turn (found past) (is.1 over),
-  )
-
-  plays : (past : List Move) → follow past → PlaysFrom problem its_sheet past
-  plays [] is = tt
-  plays (turn ∷ past) is = (
-    plays past is.0,
-    λ over. found_as_stated plan _ _ (side problem past) turn (found past) (is.1 over),
-  )
+  same_play : (past : List Move) → PlaysFrom problem its_sheet past ↔ follow past
+  same_play [] = ((λ is. tt), λ is. tt)
+  same_play (turn ∷ past) =
+      let before = same_play past in
+      let now = same_turn plan _ _ (side problem past) turn (found past) in
+      ((λ is. (before.0 is.0, λ over. now.0 (is.1 over))), λ is. (before.1 is.0, λ over. now.1 (is.1 over)))
 
   followed : (dealt : Dealt) (played : List Move) → IsPlayedFrom problem its_sheet dealt played → IsFollowed problem plan dealt played
-  followed dealt played is = record { deal = is.deal; legal = is.legal; begins = is.begins; follows = follows played is.from_sheet }
+  followed dealt played is = record { deal = is.deal; legal = is.legal; begins = is.begins; follows = (same_play played).0 is.from_sheet }
 
   played_from : (dealt : Dealt) (played : List Move) → IsFollowed problem plan dealt played → IsPlayedFrom problem its_sheet dealt played
-  played_from dealt played is = record { deal = is.deal; legal = is.legal; begins = is.begins; from_sheet = plays played is.follows }
+  played_from dealt played is = record { deal = is.deal; legal = is.legal; begins = is.begins; from_sheet = (same_play played).1 is.follows }
 
   -- a record is stuck if the owner has to choose a card and the place states none that can be played
   stuck_if : (dealt : Dealt) (played : List Move) →
@@ -222,7 +205,7 @@ unfolding row_after sheet_card
 nothing_found problem sheet past ended = ap card_on ended
 
 pub played_as_followed : PlayedAsFollowed
-played_as_followed apart problem plan past are = (follows apart problem plan are past, plays apart problem plan are past)
+played_as_followed apart problem plan past are = same_play apart problem plan are past
 
 reaches : (apart : ℕ → Bool) (problem : Setup) (plan : List Node) → ArePlan plan → IsSure problem plan → ReachesGoal problem (sheet_with apart plan)
 reaches apart problem plan are sure =

@@ -4,6 +4,7 @@ use Rattle.std.proofs.Common.{drop, take, get_or, slice_get, refl, ap, sym, subs
 use Rattle.std.specs.List.{AllByRecursion, list_any}
 use Rattle.std.proofs.lemmas.Bool.{cases_Bool, ne_eqb, eq-eqb}
 use Rattle.std.proofs.lemmas.List.{drop_more}
+use Rattle.std.proofs.lemmas.Option.{slice_get-get_or}
 use Rattle.crib_plan.specs.declared.plan.Next.{Next}
 use Rattle.crib_plan.specs.declared.plan.Next.TheVariants.{End, To}
 use Rattle.crib_plan.specs.declared.plan.Node.{Node}
@@ -60,21 +61,16 @@ lines_agree apart rows later place count same all from (To node ∷ branches) ar
           ∙ ap (Line (map (leads_to node) all) (row_to apart rows (To node))) rest)
     ]
 
-there : (plan : List Node) (i : ℕ) (d : Node) → i < length plan → slice_get plan i ≡ Some (get_or plan i d)
-there [] i d inside = absurd (omega arith)
-there (node ∷ plan) zero d inside = refl
-there (node ∷ plan) (suc i) d inside = there plan i d (omega arith)
-
 pub node_at : (plan : List Node) (i : ℕ) (d : Node) → ArePlan plan → i < length plan → IsNode i (length plan) (get_or plan i d)
 node_at plan i d are inside =
     subst (λ (k : ℕ). IsNode k (length plan) (get_or plan i d)) (zero-add i)
-    (node_fits 0 (length plan) plan i (get_or plan i d) are.1 (there plan i d inside))
+    (node_fits 0 (length plan) plan i (get_or plan i d) are.1 (slice_get-get_or plan i d inside))
 
 pub node_play : (flags : List Bool) (plan : List Node) (i card : ℕ) (next : Next) (d : Node) → ArePlan plan → i < length plan →
     get_or plan i d ≡ Play card next → node_row flags plan i ≡ Plays card (place_row flags plan next)
 unfolding node_row place_row
 node_play flags plan i card next d are inside is =
-    let s = stands (apart_in flags) plan i (Play card next) (there plan i d inside ∙ ap Some is) in
+    let s = stands (apart_in flags) plan i (Play card next) (slice_get-get_or plan i d inside ∙ ap Some is) in
     let fits : IsNode i (length plan) (Play card next) = subst (IsNode i (length plan)) is (node_at plan i d are inside) in
     s.here ∙ ap (Plays card) (row_agrees (apart_in flags) (rows_from (apart_in flags) 0 plan) s.later i (length plan) s.after next fits.1)
 
@@ -82,7 +78,7 @@ pub node_see : (flags : List Bool) (plan : List Node) (i : ℕ) (branches : List
     get_or plan i d ≡ See branches → node_row flags plan i ≡ Looks (lines_at flags plan branches 0)
 unfolding node_row lines_at
 node_see flags plan i branches d are inside is =
-    let s = stands (apart_in flags) plan i (See branches) (there plan i d inside ∙ ap Some is) in
+    let s = stands (apart_in flags) plan i (See branches) (slice_get-get_or plan i d inside ∙ ap Some is) in
     let fits : IsNode i (length plan) (See branches) = subst (IsNode i (length plan)) is (node_at plan i d are inside) in
     s.here
     ∙ ap Looks (lines_agree (apart_in flags) (rows_from (apart_in flags) 0 plan) s.later i (length plan) s.after branches 0 branches fits.1)

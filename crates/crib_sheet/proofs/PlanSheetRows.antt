@@ -1,5 +1,5 @@
 -- The sheet of a plan is valid.
-use Rattle.std.proofs.Common.{◌≡◌, ℕ, ◌+◌, ◌≤◌, Bool, true, eqb, ◌||◌, List, [], ◌∷◌, length, map, filter, take, refl, ap, ◌∙◌, arith, inl, inr}
+use Rattle.std.proofs.Common.{◌≡◌, ℕ, ◌+◌, ◌≤◌, Bool, true, eqb, ◌||◌, List, [], ◌∷◌, length, map, take, refl, ap, ◌∙◌, arith, inl, inr}
 use Rattle.std.specs.List.{list_any, AllByRecursion}
 use Rattle.std.proofs.lemmas.Bool.{cases_Bool, eq-eqb, or_right}
 use Rattle.std.proofs.lemmas.List.{length-map}
@@ -12,6 +12,7 @@ use Rattle.crib_plan.specs.Spelling.{leads_to}
 use Rattle.crib_plan.specs.Places.{plan_start}
 use Rattle.crib_sheet.specs.PlanSheet.{Paragraph, row_named, row_to, lines_to, row_of, rows_from, sheet_with}
 use Rattle.crib_sheet.specs.PlanTextLaws.{IsRow, AreLines, IsParagraph, PlansHaveSheets}
+use Rattle.crib_sheet.proofs.AllEntries.{all_filter}
 
 named_row : (paragraphs : List Paragraph) (number : ℕ) → AllByRecursion IsParagraph paragraphs → IsRow (row_named paragraphs number)
 named_row [] number are = tt
@@ -71,15 +72,6 @@ rows_are apart place count (node ∷ nodes) few fit are =
     let later = rows_are apart (place + 1) count nodes few (omega arith) are.1 in
     ((omega arith, row_is apart (rows_from apart (place + 1) nodes) place count node few later are.0), later)
 
-kept : (apart : ℕ → Bool) (paragraphs : List Paragraph) → AllByRecursion IsParagraph paragraphs →
-    AllByRecursion IsParagraph (filter (λ paragraph. apart paragraph.number) paragraphs)
-kept apart [] are = tt
-kept apart (paragraph ∷ paragraphs) are =
-    elim (cases_Bool (apart paragraph.number)) [
-      | inl e ↦ rw e ((are.0, kept apart paragraphs are.1))
-      | inr e ↦ rw e (kept apart paragraphs are.1)
-    ]
-
 first_is : (apart : ℕ → Bool) (plan : List Node) (rows : List Paragraph) → length plan ≤ most_nodes → AllByRecursion IsParagraph rows →
     IsRow (row_to apart rows (plan_start plan))
 first_is apart [] rows few are = tt
@@ -93,4 +85,4 @@ pub plans_have_sheets : PlansHaveSheets
 unfolding sheet_with
 plans_have_sheets apart plan is =
     let rows = rows_are apart 0 (length plan) plan is.0 (omega arith) is.1 in
-    (first_is apart plan (rows_from apart 0 plan) is.0 rows, kept apart (rows_from apart 0 plan) rows)
+    (first_is apart plan (rows_from apart 0 plan) is.0 rows, all_filter IsParagraph (λ paragraph. apart paragraph.number) (rows_from apart 0 plan) rows)

@@ -1,6 +1,6 @@
 -- A sheet states what its plan states.
 use Rattle.std.proofs.Common.{◌≡◌, ℕ, zero, suc, ◌+◌, ◌<◌, Bool, true, false, eqb, ◌||◌, List, [], ◌∷◌, length, map, filter, take, drop, slice_get}
-use Rattle.std.proofs.Common.{Option, Some, None, unwrap_or, option_map, refl, sym, ap, subst, ◌∙◌, arith, inl, inr, add-one, zero-add, true≢false}
+use Rattle.std.proofs.Common.{Option, Some, None, unwrap_or, option_map, refl, sym, ap, subst, ◌∙◌, arith, inl, inr, zero-add, true≢false}
 use Rattle.std.specs.List.{list_any, AllByRecursion}
 use Rattle.std.proofs.lemmas.Bool.{cases_Bool, cases_eq, ne_eqb, eq-eqb, or_right}
 use Rattle.std.proofs.lemmas.Option.{slice_get-map}
@@ -16,6 +16,7 @@ use Rattle.crib_plan.specs.Places.{plan_start, stated_card, branch_of, card_of_n
 use Rattle.crib_sheet.specs.PlanSheet.{Row, Paragraph, Sheet, Turn, row_named, read_on, card_on, read_card, is_for, row_for, read_letter, read_turn}
 use Rattle.crib_sheet.specs.PlanSheet.{read_turns, sheet_card, row_to, lines_to, row_of, rows_from, sheet_with, OwnCard, Shown, Over}
 use Rattle.crib_sheet.specs.PlanSheetLaws.{place_after_turn, place_after_turns, StatesTheSame}
+use Rattle.crib_sheet.proofs.PlanTargets.{any_next, rest_of}
 
 -- the row that a reader has before them at a place of the plan
 abbrev spot : List Paragraph → Next → Row
@@ -146,38 +147,18 @@ no_line apart later all letter end from (To node ∷ branches) =
       | inr e ↦ rw (e, not_for) rest
     ]
 
-any_more : (p : Next → Bool) (all : List Next) (from : ℕ) (branch : Next) (branches : List Next) → drop from all ≡ branch ∷ branches →
-    list_any p (take from all) ≡ false → p branch ≡ false → list_any p (take (suc from) all) ≡ false
-any_more p [] zero branch branches is none not = absurd cc
-any_more p [] (suc from) branch branches is none not = absurd cc
-any_more p (first ∷ all) zero branch branches is none not =
-    let same : first ≡ branch = cc in
-    let f : p first ≡ false = ap p same ∙ not in rw f refl
-any_more p (first ∷ all) (suc from) branch branches is none not =
-    elim (cases_Bool (p first)) [
-      | inl e ↦ absurd (true≢false (sym (ap (λ b. b || list_any p (take from all)) e) ∙ none))
-      | inr e ↦ rw e (any_more p all from branch branches is (rw e at none) not)
-    ]
-
-pub rest_of : (all : List Next) (from : ℕ) (branch : Next) (branches : List Next) → drop from all ≡ branch ∷ branches → drop (suc from) all ≡ branches
-rest_of [] zero branch branches is = absurd cc
-rest_of [] (suc from) branch branches is = absurd cc
-rest_of (first ∷ all) zero branch branches is = cc
-rest_of (first ∷ all) (suc from) branch branches is = rest_of all from branch branches is
-
 -- a node to which no earlier letter leads has the first line that is for its letter
 line_for : (apart : ℕ → Bool) (later : List Paragraph) (all : List Next) (letter : Letter) (node : ℕ) → branch_of all letter ≡ To node →
     (from : ℕ) (branches : List Next) → drop from all ≡ branches → list_any (leads_to node) (take from all) ≡ false →
     list_any (leads_to node) branches ≡ true → row_for (lines_to apart later all from branches) letter ≡ row_to apart later (To node)
 line_for apart later all letter node there from [] is none some = absurd cc
 line_for apart later all letter node there from (End ∷ branches) is none some =
-    let next : drop (from + 1) all ≡ branches = ap (λ k. drop k all) (add-one from) ∙ rest_of all from End branches is in
+    let next : drop (from + 1) all ≡ branches = rest_of all from End branches is in
     let still : list_any (leads_to node) (take (from + 1) all) ≡ false =
-    ap (λ k. list_any (leads_to node) (take k all)) (add-one from) ∙ any_more (leads_to node) all from End branches is none refl
-    in
+    any_next (leads_to node) all from End branches is ∙ ap (λ b. b || false) none in
     line_for apart later all letter node there (from + 1) branches next still some
 line_for apart later all letter node there from (To other ∷ branches) is none some =
-    let next : drop (from + 1) all ≡ branches = ap (λ k. drop k all) (add-one from) ∙ rest_of all from (To other) branches is in
+    let next : drop (from + 1) all ≡ branches = rest_of all from (To other) branches is in
     elim (cases_eq other node) [
       | inl e ↦
           (let new : list_any (leads_to other) (take from all) ≡ false = ap (λ k. list_any (leads_to k) (take from all)) e ∙ none in
@@ -188,8 +169,7 @@ line_for apart later all letter node there from (To other ∷ branches) is none 
       | inr differs ↦
           (let away : eqb other node ≡ false = ne_eqb other node differs in
           let still : list_any (leads_to node) (take (from + 1) all) ≡ false =
-          ap (λ k. list_any (leads_to node) (take k all)) (add-one from) ∙ any_more (leads_to node) all from (To other) branches is none away
-          in
+          any_next (leads_to node) all from (To other) branches is ∙ ap (λ b. b || eqb other node) none ∙ away in
           let more : list_any (leads_to node) branches ≡ true = sym (ap (λ b. b || list_any (leads_to node) branches) away) ∙ some in
           let rest = line_for apart later all letter node there (from + 1) branches next still more in
           let not_for : is_for (map (leads_to other) all) letter ≡ false =

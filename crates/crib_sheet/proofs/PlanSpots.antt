@@ -1,8 +1,8 @@
 -- What is known of the nodes of a plan stays right while nodes before them are settled.
-use Rattle.std.proofs.Common.{◌≡◌, ◌≢◌, ℕ, zero, suc, ◌+◌, ◌<◌, ◌≤◌, max, Bool, true, false, Option, List, [], ◌∷◌, ◌++◌, length, replicate, slice_get, set}
+use Rattle.std.proofs.Common.{◌≡◌, ◌≢◌, ℕ, zero, suc, ◌+◌, ◌<◌, ◌≤◌, max, Bool, true, false, Option, List, [], ◌∷◌, length, replicate, slice_get, set}
 use Rattle.std.proofs.Common.{Some, None, option_map, unwrap_or, refl, sym, ap, subst, ◌∙◌, arith, inl, inr, zero-add}
 use Rattle.std.specs.List.{AllByRecursion}
-use Rattle.std.proofs.lemmas.Bool.{cases_eq, true≢false}
+use Rattle.std.proofs.lemmas.Bool.{cases_eq}
 use Rattle.std.proofs.lemmas.Option.{slice_get_past}
 use Rattle.crib_plan.specs.declared.plan.Next.{Next}
 use Rattle.crib_plan.specs.declared.plan.Next.TheVariants.{End, To}
@@ -109,6 +109,12 @@ cards_in found = unwrap_or (option_map (λ spot. spot.cards) found) 0
 abbrev apart_from : Option Spot → Bool
 apart_from found = unwrap_or (option_map (λ spot. spot.is_apart) found) true
 
+-- what is known of a node by its entry
+abbrev IsSettled : List Spot → Option Spot → ℕ → Node → Type 0
+IsSettled spots found ways node =
+    (apart_from found ≡ false → IsWhole spots (levels_in found) (cards_in found) ways node)
+    × (apart_from found ≡ true → IsBroken spots (levels_in found) (cards_in found) ways node)
+
 -- one more node is settled
 pub sized_set : (place : ℕ) (nodes : List Node) (spots : List Spot) (node : Node) (spot : Spot) → AreNodes 0 (length nodes) nodes →
     place < length spots → slice_get nodes place ≡ Some node → AreSized (place + 1) nodes spots →
@@ -117,44 +123,27 @@ pub sized_set : (place : ℕ) (nodes : List Node) (spots : List Spot) (node : No
     AreSized place nodes (set spots place spot)
 sized_set place nodes spots node spot are within is old whole broken =
     let new : List Spot = set spots place spot in
-    let here : slice_get new place ≡ Some spot = get_set_same spots place spot within in
-    let fits : (i : ℕ) (other : Node) → slice_get nodes i ≡ Some other → IsNode i (length nodes) other =
-    λ i other found. subst (λ k. IsNode k (length nodes) other) (zero-add i) (node_fits 0 (length nodes) nodes i other are found) in
+    let settled : (i : ℕ) (other : Node) → place ≤ i → slice_get nodes i ≡ Some other → IsSettled new (slice_get new i) (ways_to nodes i) other =
+    λ i other above found.
+    let fits : IsNode i (length nodes) other = subst (λ k. IsNode k (length nodes) other) (zero-add i) (node_fits 0 (length nodes) nodes i other are found) in
+    let had : IsSettled spots (slice_get new i) (ways_to nodes i) other =
+    elim (cases_eq place i) [
+      | inl e ↦
+          (let at_i : slice_get new i ≡ Some spot = ap (slice_get new) (sym e) ∙ get_set_same spots place spot within in
+          let same : node ≡ other = (let f : Some node ≡ Some other = sym is ∙ ap (slice_get nodes) e ∙ found in cc) in
+          subst (λ entry. IsSettled spots entry (ways_to nodes i) other) (sym at_i)
+          (subst (λ k. IsSettled spots (Some spot) (ways_to nodes k) other) e
+          (subst (λ one. IsSettled spots (Some spot) (ways_to nodes place) one) same (whole, broken))))
+      | inr differs ↦
+          subst (λ entry. IsSettled spots entry (ways_to nodes i) other) (sym (get_set_other spots place i spot differs))
+          (old.whole i other (omega (arith, above)) found, old.broken i other (omega (arith, above)) found)
+    ] in (
+      λ inline. whole_same place (length nodes) i spots spot above _ _ (ways_to nodes i) other fits (had.0 inline),
+      λ apart. broken_same place (length nodes) i spots spot above _ _ (ways_to nodes i) other fits (had.1 apart),
+    ) in
     record {
-      whole = λ i other above found inline.
-          elim (cases_eq place i) [
-            | inl e ↦
-                (let at_i : slice_get new i ≡ Some spot = ap (slice_get new) (sym e) ∙ here in
-                let same : node ≡ other = (let f : Some node ≡ Some other = sym is ∙ ap (slice_get nodes) e ∙ found in cc) in
-                let had : IsWhole spots spot.levels spot.cards (ways_to nodes i) other =
-                subst (λ k. IsWhole spots spot.levels spot.cards (ways_to nodes k) other) e
-                (subst (λ n. IsWhole spots spot.levels spot.cards (ways_to nodes place) n) same (whole (subst (λ o. apart_from o ≡ false) at_i inline))) in
-                subst (λ o. IsWhole new (levels_in o) (cards_in o) (ways_to nodes i) other) (sym at_i)
-                (whole_same place (length nodes) i spots spot above spot.levels spot.cards (ways_to nodes i) other (fits i other found) had))
-            | inr differs ↦
-                (let at_i : slice_get new i ≡ slice_get spots i = get_set_other spots place i spot differs in
-                let had = old.whole i other (omega arith) found (subst (λ o. apart_from o ≡ false) at_i inline) in
-                subst (λ o. IsWhole new (levels_in o) (cards_in o) (ways_to nodes i) other) (sym at_i)
-                (whole_same place (length nodes) i spots spot above (levels_at spots (To i)) (cards_at spots (To i)) (ways_to nodes i) other
-                (fits i other found) had))
-          ];
-      broken = λ i other above found apart.
-          elim (cases_eq place i) [
-            | inl e ↦
-                (let at_i : slice_get new i ≡ Some spot = ap (slice_get new) (sym e) ∙ here in
-                let same : node ≡ other = (let f : Some node ≡ Some other = sym is ∙ ap (slice_get nodes) e ∙ found in cc) in
-                let had : IsBroken spots spot.levels spot.cards (ways_to nodes i) other =
-                subst (λ k. IsBroken spots spot.levels spot.cards (ways_to nodes k) other) e
-                (subst (λ n. IsBroken spots spot.levels spot.cards (ways_to nodes place) n) same (broken (subst (λ o. apart_from o ≡ true) at_i apart))) in
-                subst (λ o. IsBroken new (levels_in o) (cards_in o) (ways_to nodes i) other) (sym at_i)
-                (broken_same place (length nodes) i spots spot above spot.levels spot.cards (ways_to nodes i) other (fits i other found) had))
-            | inr differs ↦
-                (let at_i : slice_get new i ≡ slice_get spots i = get_set_other spots place i spot differs in
-                let had = old.broken i other (omega arith) found (subst (λ o. apart_from o ≡ true) at_i apart) in
-                subst (λ o. IsBroken new (levels_in o) (cards_in o) (ways_to nodes i) other) (sym at_i)
-                (broken_same place (length nodes) i spots spot above (levels_at spots (To i)) (cards_at spots (To i)) (ways_to nodes i) other
-                (fits i other found) had))
-          ];
+      whole = λ i other above found. (settled i other above found).0;
+      broken = λ i other above found. (settled i other above found).1;
     }
 
 -- before the first, nothing is settled

@@ -1,16 +1,18 @@
 -- The nodes that the nodes of a plan lead to, and how often each is led to.
-use Rattle.std.proofs.Common.{◌≡◌, ℕ, zero, suc, ◌+◌, ◌<◌, ◌≤◌, Bool, true, false, not, cond, eqb, ◌&&◌, ◌||◌, List, [], ◌∷◌, ◌++◌}
+use Rattle.std.proofs.Common.{◌≡◌, ℕ, suc, ◌+◌, ◌*◌, ◌<◌, ◌≤◌, Bool, true, false, cond, eqb, ◌||◌, List, [], ◌∷◌, ◌++◌, length, get_or}
 use Rattle.std.proofs.Common.{take, drop, flat_map, refl, sym, ap, ◌∙◌, arith, inl, inr}
-use Rattle.std.specs.List.{list_any, count_by, AllByRecursion}
-use Rattle.std.proofs.lemmas.Bool.{cases_Bool, eqb-true, ne_eqb, and_right, true≢false}
-use Rattle.std.proofs.Math.Bool.{or_assoc, or-false}
+use Rattle.std.specs.List.{list_any, count_by}
+use Rattle.std.proofs.lemmas.Bool.{cases_Bool, cases_eq, eqb-true, eq-eqb, ne_eqb, or_right, true≢false}
+use Rattle.std.proofs.Math.Nat.{add-mul}
+use Rattle.std.proofs.Math.Bool.{or-false}
+use Rattle.std.proofs.lemmas.List.{drop-drop, get_or-drop, length-drop}
+use Rattle.std.proofs.lemmas.List.Folds.{list_any_more}
 use Rattle.std.proofs.lemmas.List.Sums.{sum_by-cons}
 use Rattle.crib_cards.specs.Sets.{has}
 use Rattle.crib_plan.specs.declared.plan.Next.{Next}
 use Rattle.crib_plan.specs.declared.plan.Next.TheVariants.{End, To}
 use Rattle.crib_plan.specs.declared.plan.Node.{Node}
 use Rattle.crib_plan.specs.declared.plan.Node.TheVariants.{Play, See}
-use Rattle.crib_plan.specs.Nodes.{IsLater, IsNode, AreNodes}
 use Rattle.crib_plan.specs.Spelling.{leads_to, nodes_of}
 use Rattle.crib_sheet.specs.PlanBranches.{node_leads}
 
@@ -24,32 +26,40 @@ pub total-append : (value : ℕ → ℕ) (front back : List ℕ) → total value
 total-append value [] back = omega arith
 total-append value (number ∷ front) back = omega (arith, total-append value front back)
 
-pub total_later : (place : ℕ) (value value' : ℕ → ℕ) (numbers : List ℕ) → AllByRecursion (λ number. place < number) numbers →
-    ((number : ℕ) → place < number → value number ≡ value' number) → total value numbers ≡ total value' numbers
-total_later place value value' [] later same = refl
-total_later place value value' (number ∷ numbers) later same =
-    omega (arith, same number later.0, total_later place value value' numbers later.1 same)
-
 -- how many times a number is in a list
 abbrev pub times : ℕ → List ℕ → ℕ
 times wanted [] = 0
 times wanted (number ∷ numbers) = cond (eqb number wanted) 1 0 + times wanted numbers
 
-times-append : (wanted : ℕ) (front back : List ℕ) → times wanted (front ++ back) ≡ times wanted front + times wanted back
+pub times-append : (wanted : ℕ) (front back : List ℕ) → times wanted (front ++ back) ≡ times wanted front + times wanted back
 times-append wanted [] back = omega arith
 times-append wanted (number ∷ front) back = omega (arith, times-append wanted front back)
 
+-- one number's part in a sum, and the sum where it is worth nothing
+pub split : (value value' : ℕ → ℕ) (here : ℕ) (numbers : List ℕ) → value' here ≡ 0 → ((number : ℕ) → (number ≡ here → ⊥) → value number ≡ value' number) →
+    total value numbers ≡ times here numbers * value here + total value' numbers
+split value value' here [] none same = omega arith
+split value value' here (number ∷ numbers) none same =
+    let rest = split value value' here numbers none same in
+    elim (cases_eq number here) [
+      | inl e ↦ rw (eq-eqb number here e) (omega (arith, rest, ap value e, ap value' e, none, add-mul 1 (times here numbers) (value here)))
+      | inr differs ↦ rw (ne_eqb number here differs) (omega (arith, rest, same number differs))
+    ]
+
 -- ---- branches
 
+-- one branch further
+pub rest_of : (all : List Next) (from : ℕ) (branch : Next) (branches : List Next) → drop from all ≡ branch ∷ branches → drop (from + 1) all ≡ branches
+rest_of all from branch branches is = sym (drop-drop 1 from all) ∙ ap (drop 1) is
+
 pub any_next : (p : Next → Bool) (all : List Next) (from : ℕ) (branch : Next) (branches : List Next) → drop from all ≡ branch ∷ branches →
-    list_any p (take (suc from) all) ≡ (list_any p (take from all) || p branch)
-any_next p [] zero branch branches is = absurd cc
-any_next p [] (suc from) branch branches is = absurd cc
-any_next p (first ∷ all) zero branch branches is =
-    let same : first ≡ branch = cc in or-false (p first) ∙ ap p same
-any_next p (first ∷ all) (suc from) branch branches is =
-    ap (λ b. p first || b) (any_next p all from branch branches is)
-    ∙ sym (or_assoc (p first) (list_any p (take from all)) (p branch))
+    list_any p (take (from + 1) all) ≡ (list_any p (take from all) || p branch)
+any_next p all from branch branches is =
+    let within : from < length all = omega (arith, length-drop from all, ap length is) in
+    let at : from ≡ from + 0 = omega arith in
+    let here : get_or all from branch ≡ branch =
+    ap (λ k. get_or all k branch) at ∙ sym (get_or-drop from all 0 branch) ∙ ap (λ rest. get_or rest 0 branch) is in
+    list_any_more p all from branch within ∙ ap (λ b. list_any p (take from all) || p b) here
 
 -- a number that was seen already
 pub seen : (before : List ℕ) (node number : ℕ) → has before node ≡ true → has before number ≡ (has before number || eqb node number)
@@ -68,63 +78,43 @@ targets (Play card End) = []
 targets (Play card (To number)) = number ∷ []
 targets (See branches) = nodes_of [] branches
 
-nodes_later : (place count : ℕ) (before : List ℕ) (branches : List Next) → AllByRecursion (IsLater place count) branches →
-    AllByRecursion (λ number. place < number) (nodes_of before branches)
-nodes_later place count before [] later = tt
-nodes_later place count before (End ∷ branches) later = nodes_later place count before branches later.1
-nodes_later place count before (To node ∷ branches) later =
+none_again : (wanted : ℕ) (before : List ℕ) (branches : List Next) → has before wanted ≡ true → times wanted (nodes_of before branches) ≡ 0
+none_again wanted before [] is = refl
+none_again wanted before (End ∷ branches) is = none_again wanted before branches is
+none_again wanted before (To node ∷ branches) is =
     elim (cases_Bool (has before node)) [
-      | inl e ↦ rw e (nodes_later place count before branches later.1)
-      | inr e ↦ rw e ((later.0.0, nodes_later place count (node ∷ before) branches later.1))
+      | inl e ↦ rw e (none_again wanted before branches is)
+      | inr e ↦
+          (let rest = none_again wanted (node ∷ before) branches (or_right (eqb node wanted) (has before wanted) is) in
+          rw (e, ne_eqb node wanted (λ same. true≢false (sym is ∙ ap (has before) (sym same) ∙ e))) (omega (arith, rest)))
     ]
 
-pub targets_later : (place count : ℕ) (node : Node) → IsNode place count node → AllByRecursion (λ number. place < number) (targets node)
-targets_later place count (Play card End) is = tt
-targets_later place count (Play card (To number)) is = (is.1.0, tt)
-targets_later place count (See branches) is = nodes_later place count [] branches is.1
-
 nodes_times : (wanted : ℕ) (before : List ℕ) (branches : List Next) →
-    times wanted (nodes_of before branches) ≤ cond (list_any (leads_to wanted) branches && not (has before wanted)) 1 0
+    times wanted (nodes_of before branches) ≤ cond (list_any (leads_to wanted) branches) 1 0
 nodes_times wanted before [] = omega arith
 nodes_times wanted before (End ∷ branches) = nodes_times wanted before branches
 nodes_times wanted before (To node ∷ branches) =
-    elim (cases_Bool (has before node)) [
-      | inl e ↦
-          rw e
-          (elim (cases_Bool (has before wanted)) [
-            | inl f ↦
-                (let rest = nodes_times wanted before branches in
-                let none : ◌≡◌ {A = ℕ} (cond (list_any (leads_to wanted) branches && not (has before wanted)) 1 0) 0 =
-                ap (λ b. cond b 1 0) (and_right (list_any (leads_to wanted) branches) (not (has before wanted)) (ap not f)) in
-                omega (arith, rest, none))
-            | inr f ↦
-                (let other : eqb node wanted ≡ false = ne_eqb node wanted (λ is. true≢false (sym e ∙ ap (has before) is ∙ f)) in
-                rw other (nodes_times wanted before branches))
-          ])
-      | inr e ↦
-          rw e
-          (elim (cases_Bool (eqb node wanted)) [
-            | inl f ↦
-                (let is : node ≡ wanted = eqb-true node wanted f in
-                let rest = nodes_times wanted (node ∷ before) branches in
-                let g : has before wanted ≡ false = sym (ap (has before) is) ∙ e in
-                let none : ◌≡◌ {A = ℕ} (cond (list_any (leads_to wanted) branches && not (eqb node wanted || has before wanted)) 1 0) 0 =
-                ap (λ b. cond b 1 0) (and_right (list_any (leads_to wanted) branches) (not (eqb node wanted || has before wanted))
-                (ap (λ b. not (b || has before wanted)) f)) in
-                let fewer : times wanted (nodes_of (node ∷ before) branches) ≤ 0 = omega (arith, rest, none) in
-                rw (f, g) (omega (arith, fewer)))
-            | inr f ↦ (let rest = rw f at (nodes_times wanted (node ∷ before) branches) in rw f (omega (arith, rest)))
-          ])
+    elim (cases_Bool (eqb node wanted)) [
+      | inl f ↦
+          elim (cases_Bool (has before node)) [
+            | inl e ↦
+                (let none = none_again wanted before branches (sym (ap (has before) (eqb-true node wanted f)) ∙ e) in
+                rw (e, f) (omega (arith, none)))
+            | inr e ↦
+                (let none = none_again wanted (node ∷ before) branches (ap (λ b. b || has before wanted) f) in
+                rw (e, f) (omega (arith, none)))
+          ]
+      | inr f ↦
+          elim (cases_Bool (has before node)) [
+            | inl e ↦ rw (e, f) (nodes_times wanted before branches)
+            | inr e ↦ rw (e, f) (omega (arith, nodes_times wanted (node ∷ before) branches))
+          ]
     ]
 
 targets_times : (wanted : ℕ) (node : Node) → times wanted (targets node) ≤ cond (node_leads wanted node) 1 0
 targets_times wanted (Play card End) = omega arith
 targets_times wanted (Play card (To number)) = omega arith
-targets_times wanted (See branches) =
-    elim (cases_Bool (list_any (leads_to wanted) branches)) [
-      | inl e ↦ (let h = rw e at (nodes_times wanted [] branches) in rw e h)
-      | inr e ↦ (let h = rw e at (nodes_times wanted [] branches) in rw e h)
-    ]
+targets_times wanted (See branches) = nodes_times wanted [] branches
 
 -- how often a node is led to is at most the number of nodes that lead to it
 pub plan_times : (wanted : ℕ) (nodes : List Node) → times wanted (flat_map targets nodes) ≤ count_by (node_leads wanted) nodes
@@ -137,24 +127,5 @@ plan_times wanted (node ∷ nodes) =
       targets_times wanted node,
       plan_times wanted nodes,
       sum_by-cons (λ x. cond (node_leads wanted x) 1 0) node nodes,
-    ) in
-    all
-
-none_of : (place wanted : ℕ) (numbers : List ℕ) → wanted ≤ place → AllByRecursion (λ number. place < number) numbers → times wanted numbers ≡ 0
-none_of place wanted [] low later = refl
-none_of place wanted (number ∷ numbers) low later =
-    let above = later.0 in
-    let rest = none_of place wanted numbers low later.1 in rw (ne_eqb number wanted (λ e. absurd (omega (arith, low, above, e)))) (omega (arith, rest))
-
--- no node leads to node 0
-pub start_times : (place count : ℕ) (nodes : List Node) → AreNodes place count nodes → times 0 (flat_map targets nodes) ≡ 0
-start_times place count [] are = refl
-start_times place count (node ∷ nodes) are =
-    let all : times 0 (targets node ++ flat_map targets nodes) ≡ 0 =
-    omega (
-      arith,
-      times-append 0 (targets node) (flat_map targets nodes),
-      none_of place 0 (targets node) (omega arith) (targets_later place count node are.0),
-      start_times (place + 1) count nodes are.1,
     ) in
     all

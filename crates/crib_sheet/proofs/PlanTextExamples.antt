@@ -1,5 +1,5 @@
 -- Worked examples of the texts of sheets.
-use Rattle.std.specs.Prelude.{◌≡◌, ◌≤◌, ℕ, false, refl, Bool, List, [], ◌∷◌, ◌++◌, map, codes}
+use Rattle.std.specs.Prelude.{◌≡◌, ℕ, false, refl, Bool, List, [], ◌∷◌, ◌++◌, map, codes}
 use Rattle.std.specs.List.{count_by}
 use Rattle.std.specs.Fmt.{digits}
 use Rattle.crib_cards.specs.Sets.{has}
@@ -11,7 +11,6 @@ use Rattle.crib_plan.specs.declared.plan.Next.TheVariants.{End, To}
 use Rattle.crib_plan.specs.declared.plan.Node.TheVariants.{Play, See}
 use Rattle.crib_sheet.specs.PlanBranches.{node_leads, plan_branches}
 use Rattle.crib_sheet.proofs.PlanExamples.{look, deuce, heart, spade, three_eights, eights_sheet}
-use Rattle.crib_sheet.proofs.SheetSizes.{all_cards, most_cards, sheet_cards, sheet_columns, sheet_levels}
 
 -- ---- labels
 
@@ -92,27 +91,9 @@ eights_with_a_paragraph = refl
 
 -- ---- sizes
 
--- the lines, the levels, and the most cards in a line, with a paragraph and without
-eights_sizes : (sheet_lines eights_sheet ≡ 5) × (sheet_levels eights_sheet ≡ 2) × (sheet_cards eights_sheet ≡ 2)
-    × (sheet_cards (sheet_with (λ node. false) three_eights) ≡ 3)
+eights_lines : sheet_lines eights_sheet ≡ 5
 unfolding sheet_with
-eights_sizes = (refl, refl, refl, refl)
-
--- the deuce of node 7 is in two lines
-cards_with_a_paragraph : all_cards eights_sheet ≡ 10
-unfolding sheet_with
-cards_with_a_paragraph = refl
-
--- and the spade of node 10 in three
-cards_without_a_paragraph : all_cards (sheet_with (λ node. false) three_eights) ≡ 12
-unfolding sheet_with
-cards_without_a_paragraph = refl
-
-cards_before_a_look : most_cards 0 (Plays heart (Plays deuce (look ((codes "2", Plays spade Over) ∷ [])))) ≡ 2
-cards_before_a_look = refl
-
-cards_after_a_look : most_cards 0 (Plays heart (look ((codes "A", Plays deuce Over) ∷ (codes "2", Plays spade (Plays deuce Over)) ∷ []))) ≡ 2
-cards_after_a_look = refl
+eights_lines = refl
 
 -- a sheet whose paragraph is larger than its first row
 unfoldable pub paragraph_of_size : Row → Sheet
@@ -121,18 +102,6 @@ paragraph_of_size row = record { first = Plays heart (Named 1); paragraphs = rec
 lines_of_a_paragraph : sheet_lines (paragraph_of_size (look ((codes "2", Over) ∷ (codes "3", look ((codes "g", Over) ∷ [])) ∷ []))) ≡ 3
 unfolding paragraph_of_size
 lines_of_a_paragraph = refl
-
-levels_of_a_paragraph : sheet_levels (paragraph_of_size (look ((codes "2", look ((codes "g", Over) ∷ [])) ∷ (codes "3", Over) ∷ []))) ≡ 2
-unfolding paragraph_of_size
-levels_of_a_paragraph = refl
-
-cards_of_a_paragraph : sheet_cards (paragraph_of_size (Plays spade (Plays deuce Over))) ≡ 2
-unfolding paragraph_of_size
-cards_of_a_paragraph = refl
-
-eights_columns : sheet_columns eights_sheet ≡ 54
-unfolding sheet_with
-eights_columns = refl
 
 the_longest_of_two_lines : longest_line 0 (codes "8D\n2S 8H\n") ≡ 5
 the_longest_of_two_lines = refl

@@ -1,8 +1,8 @@
 -- A sheet can be read back from its text: two different sheets have different texts.
-use Rattle.std.proofs.Common.{◌≡◌, ℕ, zero, suc, ◌+◌, ◌-◌, ◌*◌, ◌<◌, Bool, true, false, not, eqb, List, [], ◌∷◌, ◌++◌, length, get_or, replicate, codes}
+use Rattle.std.proofs.Common.{◌≡◌, ℕ, zero, suc, ◌+◌, ◌-◌, ◌*◌, ◌<◌, Bool, true, false, not, eqb, cond, List, [], ◌∷◌, ◌++◌, length, replicate, codes}
 use Rattle.std.proofs.Common.{decimal, flat_map, refl, sym, ap, ◌∙◌, arith, append_assoc}
 use Rattle.std.specs.List.{list_any, list_all, AllByRecursion}
-use Rattle.std.proofs.lemmas.Bool.{agree_below, agree_below_at, and_parts, and_from, true≢false, ne_eqb, eq-eqb}
+use Rattle.std.proofs.lemmas.Bool.{agree_below, agree_below_at, and_parts, true≢false, ne_eqb, eq-eqb}
 use Rattle.std.proofs.lemmas.List.{append_cancel_left, replicate_more}
 use Rattle.std.proofs.lemmas.Fmt.{decimal_injective}
 use Rattle.crib_cards.specs.Cards.{IsCard, rank_of}
@@ -10,15 +10,12 @@ use Rattle.crib_cards.specs.CardText.{card_text, rank_letter}
 use Rattle.crib_cards.proofs.CardTextLemmas.{card_text-injective}
 use Rattle.crib_text.specs.Spelling.{space}
 use Rattle.crib_plan.proofs.WordLemmas.{IsDigit, decimal_digits}
-use Rattle.crib_sheet.specs.PlanSheet.{Row, Lines, Paragraph, Sheet, Over, Plays, Looks, Named, NoLine, Line}
+use Rattle.crib_sheet.specs.PlanSheet.{Row, Lines, Paragraph, Over, Plays, Looks, Named, NoLine, Line}
 use Rattle.crib_sheet.specs.PlanText.{label, label_width, indent, before_rest, row_text, lines_text, paragraph_text, sheet_text}
 use Rattle.crib_sheet.specs.PlanTextLaws.{IsRow, AreLines, IsParagraph, TextsHaveOneSheet}
-use Rattle.crib_sheet.proofs.PlanLabels.{is_label_byte, blanks, same_labels, label_bytes, label_first}
+use Rattle.crib_sheet.proofs.PlanLabels.{other_than, blanks, same_labels, no_colon, label_first}
 
 -- ---- cutting a text at a byte
-
-abbrev other_than : ℕ → ℕ → Bool
-other_than byte other = not (eqb other byte)
 
 cut_at : (byte : ℕ) (front front' rest rest' : List ℕ) → list_all (other_than byte) front ≡ true → list_all (other_than byte) front' ≡ true →
     front ++ byte ∷ rest ≡ front' ++ byte ∷ rest' → (front ≡ front') × (rest ≡ rest')
@@ -38,19 +35,24 @@ cut_at byte (first ∷ front) (first' ∷ front') rest rest' none none' same =
 
 -- ---- numbers
 
-digits_no_bracket : (digits : List ℕ) → AllByRecursion IsDigit digits → list_all (other_than 93) digits ≡ true
-digits_no_bracket [] all = refl
-digits_no_bracket (digit ∷ digits) all =
-    let h = all.0.1 in
-    let f : eqb digit 93 ≡ false = ne_eqb digit 93 (λ is. omega arith) in
-    rw (f, digits_no_bracket digits all.1) refl
+digits_other : (byte : ℕ) (digits : List ℕ) → ((digit : ℕ) → IsDigit digit → eqb digit byte ≡ false) → AllByRecursion IsDigit digits →
+    list_all (other_than byte) digits ≡ true
+digits_other byte [] other all = refl
+digits_other byte (digit ∷ digits) other all = rw (other digit all.0, digits_other byte digits other all.1) refl
+
+-- no byte of a number is one that no digit is
+pub number_bytes : (byte number : ℕ) → ((digit : ℕ) → IsDigit digit → eqb digit byte ≡ false) → number < 65535 →
+    list_all (other_than byte) (decimal number) ≡ true
+number_bytes byte number other small = digits_other byte (decimal number) other (decimal_digits number (omega arith))
+
+no_bracket : (number : ℕ) → number < 65535 → list_all (other_than 93) (decimal number) ≡ true
+no_bracket number small = number_bytes 93 number (λ digit is. ne_eqb digit 93 (λ e. absurd (omega (arith, is.1, e)))) small
 
 -- a number and its closing bracket
 same_numbers : (number number' : ℕ) (rest rest' : List ℕ) → number < 65535 → number' < 65535 →
     decimal number ++ 93 ∷ rest ≡ decimal number' ++ 93 ∷ rest' → (number ≡ number') × (rest ≡ rest')
 same_numbers number number' rest rest' small small' same =
-    let cut = cut_at 93 (decimal number) (decimal number') rest rest' (digits_no_bracket (decimal number) (decimal_digits number (omega arith)))
-    (digits_no_bracket (decimal number') (decimal_digits number' (omega arith))) same in
+    let cut = cut_at 93 (decimal number) (decimal number') rest rest' (no_bracket number small) (no_bracket number' small') same in
     (decimal_injective number number' (omega arith) (omega arith) cut.0, cut.1)
 
 -- ---- cards
@@ -76,51 +78,33 @@ no_card byte card none is same =
     ∙ agree_below_at (λ c. eqb (rank_letter (rank_of c)) byte) (λ _. false) 52 card none is)
 
 -- the bytes with which two texts begin
+
 first_byte : (byte byte' : ℕ) (rest rest' : List ℕ) → byte ∷ rest ≡ byte' ∷ rest' → byte ≡ byte'
-first_byte byte byte' rest rest' same = ap (λ bytes. get_or bytes 0 0) same
+first_byte byte byte' rest rest' same = cc
 
 clash : (byte byte' : ℕ) (rest rest' : List ℕ) → (byte ≡ byte' → ⊥) → byte ∷ rest ≡ byte' ∷ rest' → ⊥
 clash byte byte' rest rest' differ same = differ (first_byte byte byte' rest rest' same)
 
-look_or_see : (rest rest' : List ℕ) → codes ", then " ++ 108 ∷ rest ≡ codes ", then " ++ 115 ∷ rest' → ⊥
-look_or_see rest rest' same = let e : ◌≡◌ {A = ℕ} 108 115 = ap (λ bytes. get_or bytes 7 0) same in absurd (omega arith)
+-- what a text after a card begins with, before its row: its first byte shows it
+abbrev front_of : List ℕ → List ℕ
+front_of [] = []
+front_of (byte ∷ bytes) = cond (eqb byte 10) [] (cond (eqb byte 32) (32 ∷ []) (codes ", then "))
 
--- what is after a card shows what is
+front_is : (level : ℕ) (row : Row) (rest : List ℕ) → before_rest row ≡ front_of (before_rest row ++ (row_text level row ++ rest))
+front_is level Over rest = refl
+front_is level (Plays card row) rest = refl
+front_is level (Looks lines) rest = refl
+front_is level (Named number) rest = refl
+
 after_card : (level : ℕ) (row row' : Row) (rest rest' : List ℕ) →
     (before_rest row ++ row_text level row) ++ rest ≡ (before_rest row' ++ row_text level row') ++ rest' →
     row_text level row ++ rest ≡ row_text level row' ++ rest'
-after_card level Over Over rest rest' same =
-    same
-after_card level Over (Plays card' row') rest rest' same =
-    absurd (clash 10 32 _ _ (λ e. omega arith) same)
-after_card level Over (Looks lines') rest rest' same =
-    absurd (clash 10 44 _ _ (λ e. omega arith) same)
-after_card level Over (Named number') rest rest' same =
-    absurd (clash 10 44 _ _ (λ e. omega arith) same)
-after_card level (Plays card row) Over rest rest' same =
-    absurd (clash 32 10 _ _ (λ e. omega arith) same)
-after_card level (Plays card row) (Plays card' row') rest rest' same =
-    append_cancel_left (32 ∷ []) (row_text level (Plays card row) ++ rest) (row_text level (Plays card' row') ++ rest') same
-after_card level (Plays card row) (Looks lines') rest rest' same =
-    absurd (clash 32 44 _ _ (λ e. omega arith) same)
-after_card level (Plays card row) (Named number') rest rest' same =
-    absurd (clash 32 44 _ _ (λ e. omega arith) same)
-after_card level (Looks lines) Over rest rest' same =
-    absurd (clash 44 10 _ _ (λ e. omega arith) same)
-after_card level (Looks lines) (Plays card' row') rest rest' same =
-    absurd (clash 44 32 _ _ (λ e. omega arith) same)
-after_card level (Looks lines) (Looks lines') rest rest' same =
-    append_cancel_left (codes ", then ") (row_text level (Looks lines) ++ rest) (row_text level (Looks lines') ++ rest') same
-after_card level (Looks lines) (Named number') rest rest' same =
-    absurd (look_or_see _ _ same)
-after_card level (Named number) Over rest rest' same =
-    absurd (clash 44 10 _ _ (λ e. omega arith) same)
-after_card level (Named number) (Plays card' row') rest rest' same =
-    absurd (clash 44 32 _ _ (λ e. omega arith) same)
-after_card level (Named number) (Looks lines') rest rest' same =
-    absurd (look_or_see _ _ (sym same))
-after_card level (Named number) (Named number') rest rest' same =
-    append_cancel_left (codes ", then ") (row_text level (Named number) ++ rest) (row_text level (Named number') ++ rest') same
+after_card level row row' rest rest' same =
+    let text : before_rest row ++ (row_text level row ++ rest) ≡ before_rest row' ++ (row_text level row' ++ rest') =
+    sym (append_assoc (before_rest row) (row_text level row) rest) ∙ same ∙ append_assoc (before_rest row') (row_text level row') rest' in
+    let front : before_rest row' ≡ before_rest row = front_is level row' rest' ∙ ap front_of (sym text) ∙ sym (front_is level row rest) in
+    append_cancel_left (before_rest row) (row_text level row ++ rest) (row_text level row' ++ rest')
+    (text ∙ ap (λ before. before ++ (row_text level row' ++ rest')) front)
 
 -- ---- a line
 
@@ -140,15 +124,6 @@ line_is level width set row others rest =
     regroup (indent level) (label set) (replicate (width - length (label set)) space) (row_text level row) (lines_text level width others) rest
     ∙ ap (λ (more : List ℕ). indent level ++ ((label set ++ more) ++ 58 ∷ 32 ∷ (row_text level row ++ (lines_text level width others ++ rest))))
     (replicate_more (width - length (label set)) space)
-
-no_colon : (bytes : List ℕ) → list_all is_label_byte bytes ≡ true → list_all (other_than 58) bytes ≡ true
-no_colon [] all = refl
-no_colon (byte ∷ bytes) all =
-    let parts = and_parts (is_label_byte byte) (list_all is_label_byte bytes) all in
-    and_from _ _ (and_parts (other_than 58 byte) (other_than 10 byte) parts.0).0 (no_colon bytes parts.1)
-
-front_no_colon : (width : ℕ) (set : List Bool) → list_all (other_than 58) (label set ++ replicate (blanks_after width set) space) ≡ true
-front_no_colon width set = no_colon (label set ++ replicate (blanks_after width set) space) (label_bytes set (blanks_after width set))
 
 -- a line begins with four blanks for each level
 blanks_line : (level width : ℕ) (set : List Bool) (row : Row) (others : Lines) (rest : List ℕ) → length set ≡ 14 → list_any (λ flag. flag) set ≡ true →
@@ -216,7 +191,7 @@ mutual
       let lined = append_cancel_left (indent level) (front ++ 58 ∷ 32 ∷ (row_text level row ++ end)) (front' ++ 58 ∷ 32 ∷ (row_text level row' ++ end'))
       (sym (line_is level width set row others rest) ∙ same ∙ line_is level width' set' row' others' rest') in
       let cut = cut_at 58 front front' (32 ∷ (row_text level row ++ end)) (32 ∷ (row_text level row' ++ end'))
-      (front_no_colon width set) (front_no_colon width' set') lined in
+      (no_colon set (blanks_after width set) are.0) (no_colon set' (blanks_after width' set') are'.0) lined in
       let colon : 32 ∷ (row_text level row ++ end) ≡ 32 ∷ (row_text level row' ++ end') = cut.1 in
       let e : set ≡ set' = same_labels set set' (blanks_after width set) (blanks_after width' set') are.0 are'.0 cut.0 in
       let here = same_rows row level row' end end' are.2 are'.2
@@ -240,21 +215,6 @@ blanks_paragraphs [] = omega arith
 blanks_paragraphs (paragraph ∷ paragraphs) =
     omega (arith, ap blanks (paragraph_is paragraph (flat_map paragraph_text paragraphs)))
 
-paragraph_of : ℕ → Row → Paragraph
-paragraph_of number row = record { number = number; row = row }
-
-same_paragraph : (paragraph paragraph' : Paragraph) → paragraph.number ≡ paragraph'.number → paragraph.row ≡ paragraph'.row → paragraph ≡ paragraph'
-unfolding paragraph_of
-same_paragraph paragraph paragraph' number row =
-    ap (λ n. paragraph_of n paragraph.row) number ∙ ap (paragraph_of paragraph'.number) row
-
-sheet_of : Row → List Paragraph → Sheet
-sheet_of first paragraphs = record { first = first; paragraphs = paragraphs }
-
-same_sheet : (sheet sheet' : Sheet) → sheet.first ≡ sheet'.first → sheet.paragraphs ≡ sheet'.paragraphs → sheet ≡ sheet'
-unfolding sheet_of
-same_sheet sheet sheet' first others = ap (λ row. sheet_of row sheet.paragraphs) first ∙ ap (sheet_of sheet'.first) others
-
 same_paragraphs : (paragraphs paragraphs' : List Paragraph) → AllByRecursion IsParagraph paragraphs → AllByRecursion IsParagraph paragraphs' →
     flat_map paragraph_text paragraphs ≡ flat_map paragraph_text paragraphs' → paragraphs ≡ paragraphs'
 same_paragraphs [] [] are are' same = refl
@@ -272,13 +232,13 @@ same_paragraphs (paragraph ∷ paragraphs) (paragraph' ∷ paragraphs') are are'
     are.0.0 are'.0.0 numbered in
     let rows = same_rows paragraph.row 0 paragraph'.row more more' are.0.1 are'.0.1 (blanks_paragraphs paragraphs) (blanks_paragraphs paragraphs')
     (append_cancel_left (32 ∷ []) (row_text 0 paragraph.row ++ more) (row_text 0 paragraph'.row ++ more') cut.1) in
-    let same_one : paragraph ≡ paragraph' = same_paragraph paragraph paragraph' cut.0 rows.0 in
     let others : paragraphs ≡ paragraphs' = same_paragraphs paragraphs paragraphs' are.1 are'.1 rows.1 in
-    cc (same_one, others)
+    (λ i. record { number = cut.0 i; row = rows.0 i } ∷ others i)
 
 pub one_text : TextsHaveOneSheet
 unfolding sheet_text
 one_text sheet sheet' is is' same =
     let rows = same_rows sheet.first 0 sheet'.first (flat_map paragraph_text sheet.paragraphs) (flat_map paragraph_text sheet'.paragraphs) is.0 is'.0
     (blanks_paragraphs sheet.paragraphs) (blanks_paragraphs sheet'.paragraphs) same in
-    same_sheet sheet sheet' rows.0 (same_paragraphs sheet.paragraphs sheet'.paragraphs is.1 is'.1 rows.1)
+    let others = same_paragraphs sheet.paragraphs sheet'.paragraphs is.1 is'.1 rows.1 in
+    (λ i. record { first = rows.0 i; paragraphs = others i })

@@ -1,13 +1,13 @@
 -- How often the nodes of a plan are led to, counted node by node and letter by letter.
-use Rattle.std.proofs.Common.{◌≡◌, ◌≢◌, ℕ, zero, suc, ◌+◌, ◌<◌, ◌≤◌, min, cond, eqb, Bool, true, false, not, ◌&&◌, ◌||◌, List, [], ◌∷◌, ◌++◌, length, take, set}
+use Rattle.std.proofs.Common.{◌≡◌, ◌≢◌, ℕ, zero, suc, ◌+◌, ◌<◌, ◌≤◌, min, cond, eqb, Bool, true, false, not, ◌&&◌, ◌||◌, List, [], ◌∷◌, length, take, set}
 use Rattle.std.proofs.Common.{replicate}
 use Rattle.std.proofs.Common.{get_or, Some, None, unwrap_or, refl, sym, ap, ◌∙◌, arith, inl, inr}
 use Rattle.std.specs.List.{list_any, count_by}
 use Rattle.std.proofs.lemmas.Bool.{cases_Bool, cases_eq, cases_lt, eqb-true, eq-eqb, ne_eqb}
-use Rattle.std.proofs.lemmas.List.{take_all}
+use Rattle.std.proofs.lemmas.List.{get_or-set_same, get_or-set_other, take_all}
 use Rattle.std.proofs.lemmas.List.Folds.{list_any_more}
 use Rattle.std.proofs.lemmas.List.Sums.{sum_by_more}
-use Rattle.std.proofs.lemmas.Option.{slice_get_past}
+use Rattle.std.proofs.lemmas.Option.{slice_get_past, unwrap_or-slice_get}
 use Rattle.crib_plan.specs.declared.plan.Next.{Next}
 use Rattle.crib_plan.specs.declared.plan.Next.TheVariants.{End, To}
 use Rattle.crib_plan.specs.declared.plan.Node.{Node}
@@ -23,16 +23,11 @@ leads_anew node before place = leads_to node place && not (list_any (leads_to no
 -- ---- one entry is written
 
 set_here : (ways : List ℕ) (i : ℕ) (way : ℕ) → i < length ways → ways_in (set ways i way) i ≡ way
-set_here [] i way within = absurd (omega arith)
-set_here (first ∷ ways) zero way within = refl
-set_here (first ∷ ways) (suc i) way within = set_here ways i way (omega arith)
+set_here ways i way within = unwrap_or-slice_get (set ways i way) i 2 ∙ get_or-set_same ways i way 2 within
 
 set_there : (ways : List ℕ) (i j : ℕ) (way : ℕ) → i ≢ j → ways_in (set ways i way) j ≡ ways_in ways j
-set_there [] i j way differs = refl
-set_there (first ∷ ways) zero zero way differs = absurd (differs refl)
-set_there (first ∷ ways) zero (suc j) way differs = refl
-set_there (first ∷ ways) (suc i) zero way differs = refl
-set_there (first ∷ ways) (suc i) (suc j) way differs = set_there ways i j way (λ e. differs (ap suc e))
+set_there ways i j way differs =
+    unwrap_or-slice_get (set ways i way) j 2 ∙ get_or-set_other ways i j way 2 (λ e. differs (sym e)) ∙ sym (unwrap_or-slice_get ways j 2)
 
 pub at_entry : (ways : List ℕ) (i : ℕ) (none : ℕ) → i < length ways → ways_in ways i ≡ get_or ways i none
 at_entry [] i none within = absurd (omega arith)

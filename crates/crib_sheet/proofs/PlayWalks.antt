@@ -5,6 +5,7 @@ use Rattle.std.specs.Prelude.{Option, Some, None}
 use Rattle.std.proofs.lemmas.Bool.{cond_both, false≢true, le-ltb, lt-ltb}
 use Rattle.std.proofs.lemmas.List.{append-nil, append_assoc, drop_all, drop_more, length-append, map-append, reverse-append}
 use Rattle.std.proofs.lemmas.List.Sums.{sum_by_push}
+use Rattle.std.proofs.lemmas.Simd.{map-map}
 use Rattle.arrayvec.specs.ArrayVec.{ArrayVec}
 use Rattle.crib_cards.specs.Cards.{rank_of, rank_value}
 use Rattle.crib_cards.specs.Letters.{letter_of}
@@ -36,9 +37,9 @@ use Rattle.crib_sheet.proofs.ReasonsAdded.{pile_after_card, pile_after_go, point
 
 -- ---- one act
 -- the play is the one after a filled record
-record Is (play : PlaySoFar) (past : Record) : Type 0 where
-  pile : play.pile.items ≡ pile_of past
-  cards : play.cards ≡ length (cards_in past)
+pub record Is (play : PlaySoFar) (past : Record) : Type 0 where
+  pub pile : play.pile.items ≡ pile_of past
+  pub cards : play.cards ≡ length (cards_in past)
 
 -- what the code finds for a move, with the count with it and the points of its row
 record Finds (play : PlaySoFar) (start : Start) (what : Move) (seen : List Letter) (count points : ℕ) : Type 0 where
@@ -79,15 +80,9 @@ one_close : (own silent : Bool) (points : ℕ) → (own ≡ true → silent ≡ 
     (reason_if (ltb 0 points) reason.Go ≡ reason_if own reason.Go ++ reason_if silent reason.Go)
     × ((pile : List ℕ) → cond (ltb 0 points) [] pile ≡ cond silent [] (cond own [] pile))
 one_close true true points apart is = absurd (false≢true (sym (apart refl)))
-one_close true false points apart is =
-    let more : ltb 0 points ≡ true = lt-ltb 0 points (omega (arith, is)) in
-    (ap (λ (b : Bool). reason_if b reason.Go) more, λ pile. ap (λ (b : Bool). cond b [] pile) more)
-one_close false true points apart is =
-    let more : ltb 0 points ≡ true = lt-ltb 0 points (omega (arith, is)) in
-    (ap (λ (b : Bool). reason_if b reason.Go) more, λ pile. ap (λ (b : Bool). cond b [] pile) more)
-one_close false false points apart is =
-    let none : ltb 0 points ≡ false = le-ltb 0 points (omega (arith, is)) in
-    (ap (λ (b : Bool). reason_if b reason.Go) none, λ pile. ap (λ (b : Bool). cond b [] pile) none)
+one_close true false points apart is = rw (lt-ltb 0 points (omega (arith, is))) (refl, λ pile. refl)
+one_close false true points apart is = rw (lt-ltb 0 points (omega (arith, is))) (refl, λ pile. refl)
+one_close false false points apart is = rw (le-ltb 0 points (omega (arith, is))) (refl, λ pile. refl)
 
 never_both : (closed : Bool) (past : Record) → (closed ≡ true → is_begun (pile_of (Go ∷ past)) ≡ true) → closes Go past ≡ true → closed ≡ false
 never_both true past begun e =
@@ -123,9 +118,8 @@ pub record RowFinds (play : PlaySoFar) (start : Start) (act : Act) (before : Lis
   pub cards : cards_with play.cards row.act.what ≡ length (cards_in (filled_record start (letters_of (moves_of (act ∷ before)))))
 
 -- the play after some acts: its pile and its cards are those of their filled record
-pub record IsPlayAfter (play : PlaySoFar) (start : Start) (before : List Act) : Type 0 where
-  pub pile : play.pile.items ≡ pile_of (filled_record start (letters_of (moves_of before)))
-  pub cards : play.cards ≡ length (cards_in (filled_record start (letters_of (moves_of before))))
+abbrev pub IsPlayAfter : PlaySoFar → Start → List Act → Type 0
+IsPlayAfter play start before = Is play (filled_record start (letters_of (moves_of before)))
 
 pub row_finds : (play : PlaySoFar) (start : Start) (act : Act) (before : List Act) (row : Row) → IsPlayAfter play start before →
     row ≡ act_row start act before → RowFinds play start act before row
@@ -133,7 +127,7 @@ row_finds play start act before row is row_is =
     let seen = letters_of (moves_of before) in
     let made = act_row start act before in
     let past : letters_of (filled_moves start (moves_of before)) ≡ filled_record start seen = letters_filled start (moves_of before) in
-    let found = finds play start act.what seen made.count made.points (record { pile = is.pile; cards = is.cards })
+    let found = finds play start act.what seen made.count made.points is
     (ap (λ (record_of : Record). count_with (count_of (pile_of record_of)) act.what) past) refl in
     record {
       reasons = ap (row_reasons play) row_is ∙ found.reasons;
@@ -142,24 +136,32 @@ row_finds play start act before row is row_is =
     }
 
 -- ---- the rows in the order of play
-abbrev pub rows_from : Start → List Act → List Act → List Row
-rows_from start before [] = []
-rows_from start before (act ∷ acts) = act_row start act before ∷ rows_from start (act ∷ before) acts
 
-rows_forward : (start : Start) (before acts : List Act) →
-    reverse (act_rows start (reverse acts ++ before)) ≡ reverse (act_rows start before) ++ rows_from start before acts
-rows_forward start before [] = sym (append-nil (reverse (act_rows start before)))
-rows_forward start before (act ∷ acts) =
-    ap (λ (all : List Act). reverse (act_rows start (all ++ before))) (reverse-append (act ∷ []) acts)
-    ∙ ap (λ (all : List Act). reverse (act_rows start all)) (append_assoc (reverse acts) (act ∷ []) before)
-    ∙ rows_forward start (act ∷ before) acts
-    ∙ ap (λ (rows : List Row). rows ++ rows_from start (act ∷ before) acts) (reverse-append (act_row start act before ∷ []) (act_rows start before))
-    ∙ append_assoc (reverse (act_rows start before)) (act_row start act before ∷ []) (rows_from start (act ∷ before) acts)
+-- what is said of each act after the acts before it, in the order of play
+abbrev pub each_from : {X : Type 0} → (Act → List Act → X) → List Act → List Act → List X
+each_from one before [] = []
+each_from one before (act ∷ acts) = one act before ∷ each_from one (act ∷ before) acts
+
+-- the same is said with the last act first, turned round
+pub forward : {X : Type 0} (one : Act → List Act → X) (all : List Act → List X) →
+    ((act : Act) (before : List Act) → all (act ∷ before) ≡ one act before ∷ all before) →
+    (before acts : List Act) → reverse (all (reverse acts ++ before)) ≡ reverse (all before) ++ each_from one before acts
+forward one all step before [] = sym (append-nil (reverse (all before)))
+forward one all step before (act ∷ acts) =
+    ap (λ (past : List Act). reverse (all (past ++ before))) (reverse-append (act ∷ []) acts)
+    ∙ ap (λ (past : List Act). reverse (all past)) (append_assoc (reverse acts) (act ∷ []) before)
+    ∙ forward one all step (act ∷ before) acts
+    ∙ ap (λ told. reverse told ++ each_from one (act ∷ before) acts) (step act before)
+    ∙ ap (λ told. told ++ each_from one (act ∷ before) acts) (reverse-append (one act before ∷ []) (all before))
+    ∙ append_assoc (reverse (all before)) (one act before ∷ []) (each_from one (act ∷ before) acts)
+
+abbrev pub rows_from : Start → List Act → List Act → List Row
+rows_from start before acts = each_from (act_row start) before acts
 
 pub rows_of_report : (problem : Setup) (game : Game) → (report_of problem game).rows.items ≡ rows_from (start_of problem) [] game.acts.items
 rows_of_report problem game =
     ap (λ (all : List Act). reverse (act_rows (start_of problem) all)) (sym (append-nil (acts_back game)))
-    ∙ rows_forward (start_of problem) [] game.acts.items
+    ∙ forward (act_row (start_of problem)) (act_rows (start_of problem)) (λ act before. refl) [] game.acts.items
 
 -- ---- the walk
 abbrev pub lists_of : List (ArrayVec PlayReason) → List (List PlayReason)
@@ -261,17 +263,12 @@ pub walk_done : (problem : Setup) (game : Game) (play : PlaySoFar) (found : List
 walk_done problem game play found rows i past walks =
     walk_ends problem game play found (subst (Walks (start_of problem) (acts_back game) play found) (drop_all i rows past) walks)
 
-points_of_lists : (found : List (ArrayVec PlayReason)) → map (λ (some : ArrayVec PlayReason). reasons_points some.items) found ≡ map reasons_points
-    (lists_of found)
-points_of_lists [] = refl
-points_of_lists (some ∷ found) = ap (λ (totals : List ℕ). reasons_points some.items ∷ totals) (points_of_lists found)
-
 -- the points of all reasons are those of the rows
 pub found_points : (problem : Setup) (game : Game) (report : Report) (found : List (ArrayVec PlayReason)) → replay_result problem game ≡ Ok report →
     lists_of found ≡ game_reasons problem game →
     map (λ (some : ArrayVec PlayReason). reasons_points some.items) found ≡ map (λ (row : Row). row.points) report.rows.items
 found_points problem game report found e are =
-    points_of_lists found
+    sym (map-map reasons_points (λ (some : ArrayVec PlayReason). some.items) found)
     ∙ ap (map reasons_points) are
     ∙ points_of_game problem game
     ∙ ap (λ (r : Report). map (λ (row : Row). row.points) r.rows.items) (reported problem game report e)

@@ -1,9 +1,9 @@
 -- Bytes put on a page, one after another.
 use Rattle.std.proofs.Common.{◌≡◌, ℕ, zero, suc, ◌+◌, ◌<◌, ◌∙◌, Bool, true, false, List, [], ◌∷◌, ◌++◌, length, take, flat_map, get_or, Option}
-use Rattle.std.proofs.Common.{◌⊎◌, ◌-◌, ◌≤◌, codes, decimal, inl, inr, refl, ap, sym, subst, append_assoc, length-append, arith, rules}
+use Rattle.std.proofs.Common.{◌⊎◌, ◌-◌, ◌≤◌, codes, decimal, inl, inr, refl, ap, sym, subst, append_assoc, length-append, arith}
 use Rattle.std.specs.Io.KnownBytes.{Appends}
 use Rattle.std.proofs.KnownBytes.{Appends-nil, Appends-trans}
-use Rattle.std.proofs.lemmas.List.{append-nil, take-append-le, take-replicate}
+use Rattle.std.proofs.lemmas.List.{append-nil, flat_map_more, take-append-le, take-replicate, take_more}
 use Rattle.std.proofs.Math.Seq.{take-append-add}
 use Rattle.crib_text.specs.Device.{HasFailed}
 use Rattle.crib_text.specs.Spelling.{space}
@@ -76,12 +76,7 @@ as_text {s = s} {t = t} prints same = subst (λ (bytes : List ℕ). Prints bytes
 
 next_piece : {X : Type 0} (f : X → List ℕ) (xs : List X) (i : ℕ) (d : X) → i < length xs
     → flat_map f (take i xs) ++ f (get_or xs i d) ≡ flat_map f (take (i + 1) xs)
-next_piece f [] i d below = absurd (omega arith)
-next_piece f (x ∷ xs) zero d below = grind (rules)
-next_piece f (x ∷ xs) (suc i) d below =
-    let e : suc i + 1 ≡ suc (i + 1) = omega arith in
-    append_assoc (f x) (flat_map f (take i xs)) (f (get_or xs i d)) ∙ ap (λ (rest : List ℕ). f x ++ rest) (next_piece f xs i d (omega arith))
-    ∙ ap (λ (n : ℕ). flat_map f (take n (x ∷ xs))) (sym e)
+next_piece f xs i d below = flat_map_more f [] (take i xs) (get_or xs i d) ∙ ap (flat_map f) (sym (take_more xs i d below))
 
 -- the pieces of a list up to a place, and then the next one
 pub piece_at : {X : Type 0} (f : X → List ℕ) (xs : List X) (i : ℕ) (d : X) {s t u : Stand} → i < length xs
@@ -97,24 +92,18 @@ none_left [] none = refl
 none_left (x ∷ xs) none = absurd (omega (arith, none))
 
 -- what is printed on a page that was whole is sent: all of it if the page is not cut, and otherwise a proper beginning
-whole : {bytes : List ℕ} {s t : Stand} → Prints bytes s t → s.is_cut ≡ false → t.is_cut ≡ false
-    → TakesAll bytes s.contents t.contents s.faults t.faults
-whole {bytes} {s} {t} prints before after =
-    subst (λ (x : Bool). Changes false x bytes s t) after (subst (λ (x : Bool). Changes x t.is_cut bytes s t) before prints.put)
-
-front : {bytes : List ℕ} {s t : Stand} → Prints bytes s t → s.is_cut ≡ false → t.is_cut ≡ true
-    → FailsWithin bytes s.contents t.contents s.faults t.faults
-front {bytes} {s} {t} prints before after =
+put_as : {bytes : List ℕ} {s t : Stand} (cut : Bool) → Prints bytes s t → s.is_cut ≡ false → t.is_cut ≡ cut → Changes false cut bytes s t
+put_as {bytes} {s} {t} cut prints before after =
     subst (λ (x : Bool). Changes false x bytes s t) after (subst (λ (x : Bool). Changes x t.is_cut bytes s t) before prints.put)
 
 pub sent_all : {bytes : List ℕ} {s t : Stand} (status : Status) → Prints bytes s t → s.is_cut ≡ false → t.is_cut ≡ false
     → Sends (record { output = bytes; status = status }) s.contents t.contents (HasFailed s.faults t.faults) status
-sent_all status prints before after = inl ((whole prints before after).whole, refl)
+sent_all status prints before after = inl ((put_as false prints before after).whole, refl)
 
 pub sent_front : {bytes : List ℕ} {s t : Stand} (status : Status) → Prints bytes s t → s.is_cut ≡ false → t.is_cut ≡ true
     → Sends (record { output = bytes; status = status }) s.contents t.contents (HasFailed s.faults t.faults) Fault
 sent_front status prints before after =
-    let part = front prints before after in inr (part.sent, part.less, part.part, refl, part.failed)
+    let part = put_as true prints before after in inr (part.sent, part.less, part.part, refl, part.failed)
 
 -- all of it is written, or a proper beginning if the device failed
 abbrev pub Written : List ℕ → Stand → Stand → Type 0
@@ -127,8 +116,7 @@ written_if true bytes s t put = inr (put.sent, put.less, put.part, put.failed)
 written_if false bytes s t put = inl put.whole
 
 pub written : {bytes : List ℕ} {s t : Stand} → Prints bytes s t → s.is_cut ≡ false → Written bytes s t
-written {bytes} {s} {t} prints before =
-    written_if t.is_cut bytes s t (subst (λ (x : Bool). Changes x t.is_cut bytes s t) before prints.put)
+written {bytes} {s} {t} prints before = written_if t.is_cut bytes s t (put_as t.is_cut prints before refl)
 
 -- ---- loops
 

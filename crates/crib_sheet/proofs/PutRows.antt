@@ -3,7 +3,7 @@ use Rattle.std.proofs.Common.{◌≡◌, ℕ, zero, suc, ◌+◌, ◌-◌, ◌*�
 use Rattle.std.proofs.Common.{drop, take, replicate, get_or, codes, decimal, inl, inr, refl, ap, sym, subst, append_assoc, arith}
 use Rattle.std.specs.List.{AllByRecursion, flat_map, list_any}
 use Rattle.std.proofs.lemmas.Bool.{cases_Bool}
-use Rattle.std.proofs.Math.Seq.{drop-nil}
+use Rattle.std.proofs.lemmas.List.{drop_all}
 use Rattle.crib_cards.specs.CardText.{card_text}
 use Rattle.crib_text.specs.Spelling.{space}
 use Rattle.crib_plan.specs.declared.plan.Next.{Next}
@@ -18,7 +18,7 @@ use Rattle.crib_sheet.specs.PlanText.{row_text, lines_text, before_rest, indent,
 use Rattle.crib_sheet.specs.PlanPage.{end_of_row, legend_text, no_card, page_text}
 use Rattle.crib_sheet.specs.Private.Pages.{first_text, IsDeep, place_row, node_row, lines_at, line_front, spaced_label, width_at, new_node}
 use Rattle.crib_sheet.specs.Private.Pages.{paragraphs_text}
-use Rattle.crib_sheet.proofs.Labels.{branches_past, column_from}
+use Rattle.crib_sheet.proofs.Labels.{column_from}
 use Rattle.crib_sheet.proofs.PlanRows.{place_end, place_apart, place_node, node_play, node_see, node_at, no_line, new_line, lines_end_at, page_is, room}
 
 -- ---- places
@@ -91,11 +91,6 @@ later_see plan i branches d are inside is =
 
 -- ---- lines
 
-nodes_past : (plan : List Node) (i : ℕ) → length plan ≤ i → drop i plan ≡ []
-nodes_past [] i past = drop-nil i
-nodes_past (node ∷ plan) zero past = absurd (omega arith)
-nodes_past (node ∷ plan) (suc i) past = nodes_past plan i (omega arith)
-
 -- one more line
 pub line_more : (flags : List Bool) (plan : List Node) (level width : ℕ) (all : List Next) (i node : ℕ) (d : Next) → i < length all →
     new_node (take i all) (get_or all i d) ≡ Some node →
@@ -111,7 +106,7 @@ line_skipped flags plan level width all i d inside none = ap (lines_text level w
 
 pub no_more_lines : (flags : List Bool) (plan : List Node) (level width : ℕ) (all : List Next) (i : ℕ) → length all ≤ i →
     lines_text level width (lines_at flags plan all i) ≡ []
-no_more_lines flags plan level width all i past = ap (lines_text level width) (lines_end_at flags plan all i (branches_past all i past))
+no_more_lines flags plan level width all i past = ap (lines_text level width) (lines_end_at flags plan all i (drop_all i all past))
 
 -- ---- paragraphs
 
@@ -119,7 +114,7 @@ pub no_more_paragraphs : (flags : List Bool) (plan : List Node) (i : ℕ) → le
 unfolding paragraphs_text
 no_more_paragraphs flags plan i past =
     ap (λ (nodes : List Node). flat_map paragraph_text (filter (λ paragraph. apart_in flags paragraph.number) (rows_from (apart_in flags) i nodes)))
-    (nodes_past plan i past)
+    (drop_all i plan past)
 
 pub numbered_is : (flags : List Bool) (plan : List Node) (node : ℕ) →
     ((codes "\n[" ++ decimal node) ++ codes "] ") ++ row_text 0 (node_row flags plan node)

@@ -1,5 +1,5 @@
 -- Worked examples of the jobs, and of what a sheet means.
-use Rattle.std.proofs.Common.{◌≡◌, ◌⊎◌, ℕ, true, false, List, [], ◌∷◌, ◌++◌, Ok, Err, codes, refl}
+use Rattle.std.proofs.Common.{◌≡◌, ℕ, true, false, List, [], ◌∷◌, ◌++◌, Ok, Err, codes, map, refl}
 use Rattle.std.specs.Fmt.{digits}
 use Rattle.crib_check.specs.declared.verdict.Verdict.TheVariants.{Holds, Fails}
 use Rattle.crib_check.specs.Sure.{Ends}
@@ -7,13 +7,13 @@ use Rattle.crib_check.proofs.SureExamples.{at_29, ace_or_two, ace_or_two_is_sure
 use Rattle.crib_game.specs.declared.section.game.Game.{Game}
 use Rattle.crib_game.specs.declared.following.ending.Ending.TheVariants.{Short}
 use Rattle.crib_input.specs.Spelled.{SpellsPlan}
-use Rattle.crib_input.specs.declared.sections.Sections.TheVariants.{Question, Played}
+use Rattle.crib_input.specs.declared.sections.Sections.TheVariants.{Problem, Question, Played}
 use Rattle.crib_run.specs.declared.status.Status.TheVariants.{Yes, No, Refused, Fault}
 use Rattle.crib_input.proofs.EmptyExamples.{no_plan_in_nothing}
-use Rattle.crib_sheet.specs.declared.answer.job.SheetJob.TheVariants.{Plan, Game as GameJob}
+use Rattle.crib_sheet.specs.declared.answer.job.SheetJob.TheVariants.{Plan, Game as GameJob, Beaten, Try}
 use Rattle.crib_sheet.specs.Job.{job_called, sections_of}
 use Rattle.crib_sheet.specs.Sheet.{game_reply, verdict_status}
-use Rattle.crib_sheet.specs.Meaning.{GameMeans, PlanMeans}
+use Rattle.crib_sheet.specs.Meaning.{BeatenMeans, GameMeans, PlanMeans}
 use Rattle.crib_sheet.specs.PlanHead.{sure_text}
 use Rattle.crib_sheet.specs.PlanPage.{page_text}
 use Rattle.crib_sheet.specs.PlanSheet.{sheet_with}
@@ -21,23 +21,12 @@ use Rattle.crib_sheet.proofs.PlanPlays.{sure_is_reached}
 use Rattle.crib_sheet.proofs.PlanSheetRows.{plans_have_sheets}
 
 -- ---- the jobs
-plan_is_called : job_called (codes "plan") ≡ Ok Plan
-plan_is_called = refl
+jobs_by_their_names : map job_called (codes "plan" ∷ codes "game" ∷ codes "beaten" ∷ codes "try" ∷ codes "check" ∷ codes "pplan" ∷ [])
+    ≡ Ok Plan ∷ Ok GameJob ∷ Ok Beaten ∷ Ok Try ∷ Err (record {}) ∷ Err (record {}) ∷ []
+jobs_by_their_names = refl
 
-game_is_called : job_called (codes "game") ≡ Ok GameJob
-game_is_called = refl
-
-check_is_no_sheet : job_called (codes "check") ≡ Err (record {})
-check_is_no_sheet = refl
-
-letter_twice_is_no_sheet : job_called (codes "pplan") ≡ Err (record {})
-letter_twice_is_no_sheet = refl
-
-plan_reads_a_question : sections_of Plan ≡ Question
-plan_reads_a_question = refl
-
-game_reads_what_was_played : sections_of GameJob ≡ Played
-game_reads_what_was_played = refl
+what_jobs_read : map sections_of (Plan ∷ GameJob ∷ Beaten ∷ Try ∷ []) ≡ Question ∷ Played ∷ Question ∷ Problem ∷ []
+what_jobs_read = refl
 
 -- ---- the status
 sure_is_yes : verdict_status Holds ≡ Yes
@@ -64,18 +53,18 @@ no_yes_of_nothing : (text : List ℕ) → PlanMeans [] text Yes → ⊥
 no_yes_of_nothing text means = no_plan_in_nothing means.sure.problem means.sure.plan means.sure.spelled
 
 no_no_of_nothing : (text : List ℕ) → PlanMeans [] text No → ⊥
-no_no_of_nothing text means = no_plan_in_nothing means.problem means.plan means.spelled
+no_no_of_nothing text means = no_plan_in_nothing means.unsure.problem means.unsure.plan means.unsure.spelled
 
 nothing_is_refused : (text : List ℕ) → PlanMeans [] text Refused
 nothing_is_refused text = no_plan_in_nothing
 
-plan_without_memory : (input : List ℕ) → PlanMeans input (codes "fault 11\n") Fault
+without_memory : (input : List ℕ) →
+    PlanMeans input (codes "fault 11\n") Fault × GameMeans input (codes "fault 11\n") Fault × BeatenMeans input (codes "fault 11\n") Fault
 unfolding digits
-plan_without_memory input = refl
+without_memory input = (refl, refl, refl)
 
-game_without_memory : (input : List ℕ) → GameMeans input (codes "fault 11\n") Fault
-unfolding digits
-game_without_memory input = refl
+nothing_is_refused_by_beaten : (text : List ℕ) → BeatenMeans [] text Refused
+nothing_is_refused_by_beaten text = no_plan_in_nothing
 
 a_game_is_never_no : (input text : List ℕ) → GameMeans input text No → ⊥
 a_game_is_never_no input text means = means

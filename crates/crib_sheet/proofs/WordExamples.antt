@@ -209,7 +209,7 @@ turns_with_roles = refl
 
 -- ---- words of plans
 lines_of_endings : map failing_line (ending.Open ∷ ending.Lost ∷ ending.Reached ∷ [])
-    ≡ codes "This plan is not sure.\n" ∷ codes "This plan is not sure. In this game you lose:\n" ∷ codes "This plan is not sure.\n" ∷ []
+    ≡ [] ∷ codes "In this game you lose:\n" ∷ [] ∷ []
 lines_of_endings = refl
 
 sheets_after_a_line : game_lines (Ok (codes "bab\n")) ∷ game_lines (Err (NotTurn 1)) ∷ [] ≡ codes "\nbab\n" ∷ [] ∷ []
@@ -272,6 +272,7 @@ lines_that_are_ahead : lines_to (λ node. true) [] (To 3 ∷ To 3 ∷ To 4 ∷ [
 lines_that_are_ahead = refl
 
 sizes_of_rows : map line_count (Over ∷ Plays 4 (Looks (Line [] (Looks (Line [] Over NoLine)) (Line [] Over NoLine))) ∷ Named 1 ∷ []) ∷
-    map level_count (Over ∷ Plays 4 (Looks (Line [] (Looks (Line [] Over NoLine)) (Line [] Over NoLine))) ∷ Looks NoLine ∷ Named 1 ∷ []) ∷ []
-    ≡ (0 ∷ 3 ∷ 0 ∷ []) ∷ (0 ∷ 2 ∷ 1 ∷ 0 ∷ []) ∷ []
+    map level_count (Over ∷ Plays 4 (Looks (Line [] (Looks (Line [] Over NoLine)) (Line [] Over NoLine))) ∷ Looks NoLine ∷ Named 1
+    ∷ Looks (Line [] Over (Line [] (Looks NoLine) NoLine)) ∷ []) ∷ []
+    ≡ (0 ∷ 3 ∷ 0 ∷ []) ∷ (0 ∷ 2 ∷ 1 ∷ 0 ∷ 2 ∷ []) ∷ []
 sizes_of_rows = refl

@@ -3,18 +3,20 @@ use Rattle.std.specs.Prelude.{ℕ, List, [], ◌∷◌, Result, codes, find, map
 use Rattle.std.specs.Str.{bytes_eq}
 use Rattle.crib_answer.specs.declared.job.UnknownJob.{UnknownJob}
 use Rattle.crib_input.specs.declared.sections.Sections.{Sections}
-use Rattle.crib_input.specs.declared.sections.Sections.TheVariants.{Question, Played}
+use Rattle.crib_input.specs.declared.sections.Sections.TheVariants.{Problem, Question, Played}
 use Rattle.crib_sheet.specs.declared.answer.job.SheetJob.{SheetJob}
-use Rattle.crib_sheet.specs.declared.answer.job.SheetJob.TheVariants.{Plan, Game}
+use Rattle.crib_sheet.specs.declared.answer.job.SheetJob.TheVariants.{Plan, Game, Beaten, Try}
 
 -- the name of a job: the command that is typed for it
 abbrev pub name_of : SheetJob → List ℕ
 name_of Plan = codes "plan"
 name_of Game = codes "game"
+name_of Beaten = codes "beaten"
+name_of Try = codes "try"
 
 -- the jobs, in the order in which the help text lists them
 abbrev pub all_jobs : List SheetJob
-all_jobs = Plan ∷ Game ∷ []
+all_jobs = Plan ∷ Game ∷ Beaten ∷ Try ∷ []
 
 -- the names of the jobs, in the same order
 abbrev pub job_names : List (List ℕ)
@@ -28,3 +30,5 @@ job_called text = ok_or (find (λ job. bytes_eq text (name_of job)) all_jobs) (r
 abbrev pub sections_of : SheetJob → Sections
 sections_of Plan = Question
 sections_of Game = Played
+sections_of Beaten = Question
+sections_of Try = Problem

@@ -1,4 +1,5 @@
 pub mod Acts
+pub mod Beaten
 pub mod GameLaws
 pub mod GamePlay
 pub mod GameShow
@@ -9,6 +10,7 @@ pub mod Job
 pub mod Meaning
 pub mod PlanBranches
 pub mod PlanHead
+pub mod PlanLosses
 pub mod PlanNow
 pub mod PlanOutline
 pub mod PlanPage

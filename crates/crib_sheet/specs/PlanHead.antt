@@ -14,8 +14,10 @@ use Rattle.crib_check.specs.declared.verdict.Verdict.{Verdict}
 use Rattle.crib_check.specs.declared.verdict.Verdict.TheVariants.{Holds, Fails}
 use Rattle.crib_sheet.specs.GameText.{game_sheet_text}
 use Rattle.crib_sheet.specs.Heading.{role_word, heading_text}
+use Rattle.crib_sheet.specs.PlanLosses.{losses_text}
 use Rattle.crib_sheet.specs.PlanNow.{now_text}
 use Rattle.crib_sheet.specs.PlanStuck.{stuck_text}
+use Rattle.crib_sheet.specs.declared.plan.losses.Losses.{Losses}
 
 -- the line of a turn of the opening: `  pone 8D`
 unfoldable pub turn_line : Side → Act → List ℕ
@@ -29,13 +31,13 @@ turn_lines dealer acts = flat_map (turn_line dealer) acts
 abbrev pub sure_line : List ℕ
 sure_line = codes "This plan is sure: it reaches your goal against every hand and every play.\n\n"
 
--- that a plan is not sure, by the ending of the first game in which it fails
+-- how a plan fails, by the ending of the first game in which it does
 abbrev pub failing_line : Ending → List ℕ
-failing_line Open = codes "This plan is not sure.\n"
-failing_line Stuck = codes "This plan is not sure. In this game it states no card that you can play:\n"
-failing_line Lost = codes "This plan is not sure. In this game you lose:\n"
-failing_line Short = codes "This plan is not sure. In this game you fall short of your goal:\n"
-failing_line Reached = codes "This plan is not sure.\n"
+failing_line Open = []
+failing_line Stuck = codes "In this game it states no card that you can play:\n"
+failing_line Lost = codes "In this game you lose:\n"
+failing_line Short = codes "In this game you fall short of your goal:\n"
+failing_line Reached = []
 
 -- the sheet of a game, after an empty line
 abbrev pub game_lines : Result (List ℕ) GameFault → List ℕ
@@ -55,13 +57,13 @@ unfoldable pub sure_text : Setup → List ℕ
 sure_text problem =
     heading_text problem ++ turn_lines problem.dealer problem.played ++ now_text problem ++ sure_line
 
--- the head of the sheet of a plan that is not sure: the first game in which it fails, and why it is stuck there
+-- the rest of the head of a plan that is not sure: the first game in which it fails, and why it is stuck there
 unfoldable pub failing_text : Setup → List Node → Ending → Game → List ℕ
 failing_text problem plan ending game =
     failing_line ending ++ game_lines (game_sheet_text problem game) ++ why_text problem plan ending game
     ++ codes "\nThe plan:\n\n"
 
--- the head of a plan's sheet, by the verdict on the plan
-abbrev pub head_text : Setup → List Node → Verdict → List ℕ
-head_text problem plan Holds = sure_text problem
-head_text problem plan (Fails ending game) = failing_text problem plan ending game
+-- the head of a plan's sheet, by the verdict on the plan. If it is not sure, first how many deals beat it
+abbrev pub head_text : Setup → List Node → Verdict → Losses → List ℕ
+head_text problem plan Holds losses = sure_text problem
+head_text problem plan (Fails ending game) losses = losses_text losses ++ failing_text problem plan ending game

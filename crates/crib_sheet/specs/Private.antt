@@ -5,3 +5,4 @@ pub mod PlayWalk
 pub mod Prints
 pub mod Spots
 pub mod Ways
+pub mod Tries

@@ -3,17 +3,21 @@ ghost use Rattle.std.specs.Prelude.{◌≤◌, length};
 ghost use Rattle.crib_run.specs.Reply.{IsOutcome};
 ghost use Rattle.crib_sheet.specs.Sheet.{SheetMakes, sheet_reply};
 
+mod beaten;
 mod beside;
 mod game;
 mod job;
 mod plan;
 mod played;
+mod to_try;
 
+use crate::beaten::send_tally;
 use crate::game::send_game_sheet;
 use crate::plan::send_plan_sheet;
 pub use beside::SheetAsked;
+use crib_beaten::Tally;
 use crib_input::Reason;
-use crib_run::{Sendable, Status};
+use crib_run::{Answer, Sendable, Status};
 use crib_text::{MAX_INPUT, Sink};
 pub use game::GameSheet;
 pub use job::{NAMES, SheetJob};
@@ -27,6 +31,10 @@ pub enum Sheet<A: Allocator> {
     Plan(PlanSheet<A>),
     /// The sheet of a game.
     Game(GameSheet),
+    /// How many deals beat a plan.
+    Beaten(Tally<A>),
+    /// A plan to try.
+    Try(Answer<A>),
 }
 
 impl<A: Allocator> Sendable for Sheet<A> {
@@ -39,10 +47,13 @@ impl<A: Allocator> Sendable for Sheet<A> {
                 &sheet.problem,
                 &sheet.plan,
                 &sheet.verdict,
+                &sheet.losses,
                 &sheet.outline,
                 sheet.status,
             ),
             Sheet::Game(sheet) => send_game_sheet(sink, &sheet.problem, &sheet.game, &sheet.report),
+            Sheet::Beaten(tally) => send_tally(sink, tally),
+            Sheet::Try(answer) => answer.send(sink),
         }
     }
 }
@@ -60,5 +71,7 @@ pub fn sheet_of<A: Allocator + Copy>(
     match job {
         SheetJob::Plan => Ok(Sheet::Plan(plan::plan_sheet(alloc, input)?)),
         SheetJob::Game => Ok(Sheet::Game(played::game_sheet(input)?)),
+        SheetJob::Beaten => Ok(Sheet::Beaten(beaten::beaten_tally(alloc, input)?)),
+        SheetJob::Try => Ok(Sheet::Try(to_try::answer_to_try(alloc, input)?)),
     }
 }

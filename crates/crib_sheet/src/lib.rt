@@ -1,8 +1,9 @@
-//! Sheets: a plan in words, and a game with the reasons of its points, for a person to read, and the answers that
-//! are sheets.
+//! Sheets: a plan in words, a game with the reasons of its points, and how many deals beat a plan, for a person to
+//! read, and the answers that are sheets.
 #![tactic(auto)]
 
 mod answer;
+mod beaten;
 mod game;
 mod heading;
 mod page;
@@ -13,7 +14,7 @@ pub use game::{
     Combination, Combinations, Kind, PlayReason, PlayReasons, combination_law, crib_combinations,
     game_sheet_law, hand_combinations, points_law, reasons_of, send_game_sheet,
 };
-pub use plan::{Outline, play_law, send_plan_sheet, sheet_law, sheet_text_law};
+pub use plan::{Losses, Outline, play_law, send_plan_sheet, sheet_law, sheet_text_law};
 
 #[cfg(test)]
 mod tests;

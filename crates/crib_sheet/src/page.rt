@@ -62,8 +62,8 @@ pub(crate) fn put_small<P: Page>(page: &mut P, number: u8)
     page.put(Buffer::new().format(number).as_bytes());
 }
 
-/// Puts the decimal digits of the number of a node.
-pub(crate) fn put_number<P: Page>(page: &mut P, number: u16)
+/// Puts the decimal digits of a larger number: of a node, or of deals.
+pub(crate) fn put_number<P: Page>(page: &mut P, number: u32)
     ensures { Prints (decimal number) (P.stand page.old) (P.stand page.new) }
 {
     page.put(Buffer::new().format(number).as_bytes());

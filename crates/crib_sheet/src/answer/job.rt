@@ -13,10 +13,14 @@ pub enum SheetJob {
     Plan,
     /// `game`: reads a problem and a game, and prints the game with a reason for each point.
     Game,
+    /// `beaten`: reads a problem and a plan, and prints how many deals beat the plan.
+    Beaten,
+    /// `try`: reads a problem, and prints a plan: a sure one if there is one, otherwise one that few deals beat.
+    Try,
 }
 
 /// The names of the jobs, in the order in which the help text lists them.
-pub static NAMES: [&str; 2] = ["plan", "game"];
+pub static NAMES: [&str; 4] = ["plan", "game", "beaten", "try"];
 
 impl SheetJob {
     /// Returns the sections that the input of the job has to have.
@@ -24,8 +28,9 @@ impl SheetJob {
         ensures { result ≡ sections_of self }
     {
         match self {
-            SheetJob::Plan => Sections::Question,
+            SheetJob::Plan | SheetJob::Beaten => Sections::Question,
             SheetJob::Game => Sections::Played,
+            SheetJob::Try => Sections::Problem,
         }
     }
 }
@@ -39,6 +44,8 @@ impl FromStr for SheetJob {
         match text {
             "plan" => Ok(SheetJob::Plan),
             "game" => Ok(SheetJob::Game),
+            "beaten" => Ok(SheetJob::Beaten),
+            "try" => Ok(SheetJob::Try),
             _ => Err(UnknownJob),
         }
     }

@@ -4,7 +4,7 @@ ghost use Rattle.crib_run.specs.Reply.{IsOutcome};
 ghost use Rattle.crib_sheet.specs.Sheet.{SheetMakes, parts_reply, verdict_status};
 
 use crate::answer::job::SheetJob;
-use crate::plan::Outline;
+use crate::plan::{Losses, Outline, losses_by};
 use crib_check::{Verdict, verdict_on};
 use crib_input::{FaultCause, Reason, question_of};
 use crib_plan::Plan;
@@ -19,6 +19,8 @@ pub struct PlanSheet<A: Allocator> {
     pub problem: Problem,
     pub plan: Plan<A>,
     pub verdict: Verdict,
+    /// The deals that beat the plan, counted if it is not sure.
+    pub losses: Losses,
     /// Which nodes have paragraphs of their own.
     pub outline: Outline<A>,
     /// `Yes` if the plan is sure, and `No` if it is not.
@@ -40,11 +42,15 @@ pub(crate) fn plan_sheet<A: Allocator + Copy>(
     let Ok(outline) = Outline::of(alloc, &question.plan) else {
         return Err(Reason::Fault(FaultCause::NoMemory));
     };
+    let Ok(losses) = losses_by(alloc, &question.problem, &question.plan, &verdict) else {
+        return Err(Reason::Fault(FaultCause::NoMemory));
+    };
     Ok(PlanSheet {
         status: status_of(&verdict),
         problem: question.problem,
         plan: question.plan,
         verdict,
+        losses,
         outline,
     })
 }

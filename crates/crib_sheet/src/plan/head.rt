@@ -8,6 +8,8 @@ ghost use Rattle.crib_sheet.specs.Private.Prints.{Prints};
 use crate::game::put_sheet;
 use crate::heading::put_heading;
 use crate::page::{Page, put_move, put_role};
+use crate::plan::figures::put_losses;
+use crate::plan::losses::Losses;
 use crate::plan::now::put_now;
 use crate::plan::stuck::put_stuck;
 use crib_cards::{Act, Side};
@@ -18,19 +20,23 @@ use crib_problem::Problem;
 use std::alloc::Allocator;
 
 /// Puts the head of the sheet of a plan, by the verdict on it. For a plan that is sure this is the position, the turns
-/// that were played already and what they led to, and that the plan is sure. For any other plan it is why the plan is
-/// not sure, and the sheet of the first game in which it fails.
+/// that were played already and what they led to, and that the plan is sure. For any other plan it is how many deals
+/// beat it, why it is not sure, and the sheet of the first game in which it fails.
 pub(crate) fn put_head<A: Allocator, P: Page>(
     page: &mut P,
     problem: &Problem,
     plan: &Plan<A>,
     verdict: &Verdict,
+    losses: &Losses,
 )
-    ensures { Prints (head_text problem.now plan.now verdict.now) (P.stand page.old) (P.stand page.new) }
+    ensures { Prints (head_text problem.now plan.now verdict.now losses.now) (P.stand page.old) (P.stand page.new) }
 {
     match verdict {
         Verdict::Holds => put_sure(page, problem),
-        Verdict::Fails(ending, game) => put_failing(page, problem, plan, *ending, game),
+        Verdict::Fails(ending, game) => {
+            put_losses(page, losses);
+            put_failing(page, problem, plan, *ending, game);
+        },
     }
 }
 
@@ -99,17 +105,15 @@ fn put_turns<P: Page>(page: &mut P, dealer: Side, acts: &[Act])
     }
 }
 
-// Returns why a plan is not sure.
+// Returns how the first failing game ends.
 fn failing_words(ending: Ending) -> &'static [u8]
     ensures value { result.now ≡ failing_line ending }
     ensures short { length result.now ≤ 73 }
 {
     match ending {
-        Ending::Stuck => {
-            b"This plan is not sure. In this game it states no card that you can play:\n"
-        }
-        Ending::Lost => b"This plan is not sure. In this game you lose:\n",
-        Ending::Short => b"This plan is not sure. In this game you fall short of your goal:\n",
-        Ending::Open | Ending::Reached => b"This plan is not sure.\n",
+        Ending::Stuck => { b"In this game it states no card that you can play:\n" }
+        Ending::Lost => b"In this game you lose:\n",
+        Ending::Short => b"In this game you fall short of your goal:\n",
+        Ending::Open | Ending::Reached => b"",
     }
 }

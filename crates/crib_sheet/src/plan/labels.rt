@@ -65,9 +65,9 @@ fn add_range(text: &mut SpacedLabel, place: usize, before: usize)
     }
 }
 
-// Appends bytes to a label that has room for them.
-fn add(text: &mut SpacedLabel, bytes: &[u8])
-    requires { array_vec_len text.old + length bytes.now ≤ 29 }
+/// Appends bytes to a text that has room for them.
+pub(crate) fn add<const N: usize>(text: &mut ArrayVec<u8, N>, bytes: &[u8])
+    requires { array_vec_len text.old + length bytes.now ≤ N }
     ensures items { text.new.items ≡ text.old.items ++ bytes.now }
     ensures len { array_vec_len text.new ≡ array_vec_len text.old + length bytes.now }
 {

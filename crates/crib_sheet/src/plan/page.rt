@@ -11,6 +11,7 @@ ghost use Rattle.crib_sheet.specs.Private.Prints.{Prints};
 
 use crate::page::{Page, Printer, put_number};
 use crate::plan::head::put_head;
+use crate::plan::losses::Losses;
 use crate::plan::outline::Outline;
 use crate::plan::rows::Walk;
 use crib_check::Verdict;
@@ -37,18 +38,19 @@ const END_OTHERWISE: &[u8] =
     b"At the end of a row, or if there is no line, the plan states nothing more.
 ";
 
-/// Writes the head of the sheet of a plan by a verdict on it, the sheet, and how to read it. The plan is sure if
-/// `status` is `Yes`. Returns `status`, or `Fault` if the device failed. It needs no memory.
+/// Writes the head of the sheet of a plan by a verdict on it and the deals that beat it, the sheet, and how to read it.
+/// The plan is sure if `status` is `Yes`. Returns `status`, or `Fault` if the device failed. It needs no memory.
 pub fn send_plan_sheet<A: Allocator, B: Allocator, W: Sink>(
     sink: &mut W,
     problem: &Problem,
     plan: &Plan<A>,
     verdict: &Verdict,
+    losses: &Losses,
     outline: &Outline<B>,
     status: Status,
 ) -> Status
     ensures { Sends (record {
-      output = head_text problem.now plan.now verdict.now
+      output = head_text problem.now plan.now verdict.now losses.now
           ++ page_text (is_sure status) (sheet_with (apart_in outline.now) plan.now);
       status = status;
     }) (W.contents sink.old) (W.contents sink.new) (HasFailed (W.faults sink.old) (W.faults sink.new)) result }
@@ -57,7 +59,7 @@ pub fn send_plan_sheet<A: Allocator, B: Allocator, W: Sink>(
         sink,
         is_cut: false,
     };
-    put_head(&mut page, problem, plan, verdict);
+    put_head(&mut page, problem, plan, verdict, losses);
     put_page(&mut page, &Walk { plan, outline }, is_sure(status));
     let Printer { sink, is_cut } = page;
     // The proof reads what the device holds from this use of it.
@@ -105,7 +107,7 @@ fn put_paragraphs<A: Allocator, B: Allocator, P: Page>(page: &mut P, walk: &Walk
         let node = place as u16;
         if walk.outline.is_apart(node) {
             page.put(b"\n[");
-            put_number(page, node);
+            put_number(page, node as u32);
             page.put(b"] ");
             walk.put_node(page, 0, node);
         }

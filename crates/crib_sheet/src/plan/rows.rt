@@ -37,7 +37,7 @@ impl<A: Allocator, B: Allocator> Walk<'_, A, B> {
             Next::To(node) => {
                 if self.outline.is_apart(node) {
                     page.put(b"see [");
-                    put_number(page, node);
+                    put_number(page, node as u32);
                     page.put(b"]\n");
                 } else {
                     self.put_node(page, level, node);

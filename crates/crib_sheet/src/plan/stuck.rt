@@ -110,19 +110,19 @@ fn put_halt<A: Allocator, P: Page>(
         Halt::NoNode => page.put(b"The plan has no node.\n"),
         Halt::At(node) => {
             page.put(b"Node ");
-            put_number(page, node);
+            put_number(page, node as u32);
             put_stated(page, problem, acts, card_at(plan, Next::To(node)));
         }
         Halt::Ended(node) => {
             page.put(b"The plan ends at node ");
-            put_number(page, node);
+            put_number(page, node as u32);
             page.put(b".\n");
         }
         Halt::NoLine(node, letter) => {
             page.put(b"They show ");
             put_letter(page, letter);
             page.put(b", and node ");
-            put_number(page, node);
+            put_number(page, node as u32);
             page.put(b" has no line for it.\n");
         }
     }
@@ -145,8 +145,8 @@ fn put_stated<P: Page>(page: &mut P, problem: &Problem, acts: &[Act], stated: Op
     }
 }
 
-// Puts the word for a letter: `K` or `go`.
-fn put_letter<P: Page>(page: &mut P, letter: Letter)
+/// Puts the word for a letter: `K` or `go`.
+pub(crate) fn put_letter<P: Page>(page: &mut P, letter: Letter)
     ensures { Prints (letter_word letter) (P.stand page.old) (P.stand page.new) }
 {
     match letter {

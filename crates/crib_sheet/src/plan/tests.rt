@@ -1,4 +1,5 @@
 //! The sheets of plans, whole.
+use crate::plan::losses::Losses;
 use crate::*;
 use crib_check::Verdict;
 use crib_plan::{Plan, read_plan};
@@ -158,6 +159,7 @@ fn has_page(
         &problem,
         &plan,
         &Verdict::Holds,
+        &Losses::none(),
         &outline,
         status,
     );
@@ -217,6 +219,7 @@ fn a_failed_write_leaves_a_front(rt: HostRuntime) {
         &problem,
         &plan,
         &Verdict::Holds,
+        &Losses::none(),
         &outline,
         Status::Yes,
     );
@@ -228,6 +231,7 @@ fn a_failed_write_leaves_a_front(rt: HostRuntime) {
             &problem,
             &plan,
             &Verdict::Holds,
+            &Losses::none(),
             &outline,
             Status::Yes,
         );

@@ -3,7 +3,7 @@ use Rattle.std.proofs.lemmas.Grind.{flat_map-append}
 use Rattle.crib_text.specs.Spelling.{space}
 use Rattle.crib_sheet.specs.PlanText.{range_words, rank_words}
 use Rattle.crib_sheet.specs.Private.Pages.{spaced}
-use Rattle.crib_sheet.proofs.Labels.{ranks_in, ranks_out, ranks_end, thirteen, with_go, without_go}
+use Rattle.crib_sheet.proofs.Labels.{ranks_in, ranks_out, ranks_done, thirteen, with_go, without_go}
 use Rattle.crib_sheet.proofs.plan.labels.label_after_space.Goals as goal
 use Rattle.crib_sheet.proofs.plan.labels.label_after_space.Goals.{then-ranks-place, else-ranks-place}
 
@@ -37,22 +37,12 @@ loop-place-preserved c =
 
 pub returns-then-set-offset13-clause-items : goal.returns-then-set-offset13-clause-items
 returns-then-set-offset13-clause-items c =
-    let ranks : List Bool = take 13 c.args.set.now in
-    let words : c.add_range-2.new.text.items ≡ spaced (rank_words 0 0 ranks) =
-    c.add_range-2.ensures.items
-    ∙ ap (λ (words : List (List ℕ)). c.loop-place.text.items ++ spaced words)
-    (sym (ranks_end ranks c.loop-place.place c.loop-place.before (omega arith) (thirteen c.args.set.now c.told-set)))
-    ∙ c.loop-place.invariant.items
-    in
-    c.add.ensures.items ∙ with_go c.args.set.now _ c.add_range-2.new.text.items c.told-set c.if-set-offset13.true words
+    c.add.ensures.items ∙ with_go c.args.set.now _ c.add_range-2.new.text.items c.told-set c.if-set-offset13.true
+    (ranks_done c.args.set.now c.loop-place.place c.loop-place.before c.loop-place.text.items _ (omega arith) c.told-set c.add_range-2.ensures.items
+    c.loop-place.invariant.items)
 
 pub returns-else-set-offset13-clause-items : goal.returns-else-set-offset13-clause-items
 returns-else-set-offset13-clause-items c =
-    let ranks : List Bool = take 13 c.args.set.now in
-    let words : c.add_range-2.new.text.items ≡ spaced (rank_words 0 0 ranks) =
-    c.add_range-2.ensures.items
-    ∙ ap (λ (words : List (List ℕ)). c.loop-place.text.items ++ spaced words)
-    (sym (ranks_end ranks c.loop-place.place c.loop-place.before (omega arith) (thirteen c.args.set.now c.told-set)))
-    ∙ c.loop-place.invariant.items
-    in
-    without_go c.args.set.now _ c.add_range-2.new.text.items c.told-set c.if-set-offset13.false words
+    without_go c.args.set.now _ c.add_range-2.new.text.items c.told-set c.if-set-offset13.false
+    (ranks_done c.args.set.now c.loop-place.place c.loop-place.before c.loop-place.text.items _ (omega arith) c.told-set c.add_range-2.ensures.items
+    c.loop-place.invariant.items)

@@ -1,4 +1,4 @@
-use Rattle.std.proofs.Common.{◌≡◌, ℕ, Bool, List, [], ◌∷◌, ◌∙◌, cond, filter, ap, sym}
+use Rattle.std.proofs.Common.{◌≡◌, ℕ, Bool, List, ◌∷◌, ◌∙◌, cond, filter, ap, sym}
 use Rattle.crib_sheet.specs.Heading.{spaced_cards}
 use Rattle.crib_sheet.specs.PlanNow.{is_left}
 use Rattle.crib_sheet.proofs.Printing.{as_text, more, none_left, nothing}

@@ -1,4 +1,4 @@
-use Rattle.std.proofs.Common.{◌≡◌, ◌∙◌, ◌++◌, Bool, List, ap, sym, arith, codes, length}
+use Rattle.std.proofs.Common.{◌∙◌, ◌++◌, Bool, List, ap, sym, arith, codes, length}
 use Rattle.crib_plan.specs.declared.plan.Node.{Node}
 use Rattle.crib_sheet.specs.PlanPage.{no_card}
 use Rattle.crib_sheet.specs.PlanSheet.{Over}

@@ -1,4 +1,4 @@
-use Rattle.std.proofs.Common.{◌≡◌, ◌<◌, ◌∙◌, List, length, ap, sym, arith}
+use Rattle.std.proofs.Common.{◌<◌, ◌∙◌, List, length, ap, sym, arith}
 use Rattle.crib_plan.specs.declared.plan.Node.{Node}
 use Rattle.crib_sheet.proofs.Printing.{as_text, more, so_far_more, so_far_skip, so_far_done}
 use Rattle.crib_sheet.proofs.PlanRows.{paragraph_more, paragraph_none}

@@ -9,7 +9,7 @@ use Rattle.crib_sheet.proofs.plan.page.send_plan_sheet.Goals as goal
 pub returns-then-is_cut : goal.returns-then-is_cut
 returns-then-is_cut g c =
     let whole = as_text (more c.put_head.ensures c.put_page.ensures)
-    (ap (λ (sure : Bool). head_text c.args.problem.now c.args.plan.now c.args.verdict.now
+    (ap (λ (sure : Bool). head_text c.args.problem.now c.args.plan.now c.args.verdict.now c.args.losses.now
     ++ page_text sure (sheet_with (apart_in c.args.outline.now) c.args.plan.now)) c.is_sure.ensures) in
     let same = whole.same in
     let sent = sent_front c.args.status whole refl c.if-is_cut.true in
@@ -18,7 +18,7 @@ returns-then-is_cut g c =
 pub returns-else-is_cut : goal.returns-else-is_cut
 returns-else-is_cut g c =
     let whole = as_text (more c.put_head.ensures c.put_page.ensures)
-    (ap (λ (sure : Bool). head_text c.args.problem.now c.args.plan.now c.args.verdict.now
+    (ap (λ (sure : Bool). head_text c.args.problem.now c.args.plan.now c.args.verdict.now c.args.losses.now
     ++ page_text sure (sheet_with (apart_in c.args.outline.now) c.args.plan.now)) c.is_sure.ensures) in
     let same = whole.same in
     let sent = sent_all c.args.status whole refl c.if-is_cut.false in

@@ -1,4 +1,4 @@
-use Rattle.std.proofs.Common.{◌≡◌, ◌+◌, ◌<◌, ◌∙◌, length, min, get_or, take, set, sym, arith, rules}
+use Rattle.std.proofs.Common.{◌≡◌, ◌+◌, ◌∙◌, min, get_or, take, sym, arith, rules}
 use Rattle.std.proofs.lemmas.List.{length-set}
 use Rattle.crib_sheet.specs.Private.Ways.{ways_in}
 use Rattle.crib_sheet.proofs.PlanWays.{next_letter, all_letters, one_way, no_entry, no_way}

@@ -1,7 +1,7 @@
-use Rattle.std.proofs.Common.{rules, ◌≡◌, ◌+◌, ◌-◌, ◌<◌, ◌≤◌, ◌++◌, List, ℕ, Bool, length, sym, ap, ◌∙◌, arith}
+use Rattle.std.proofs.Common.{rules, ◌<◌, ◌≤◌, ◌++◌, List, ℕ, Bool, length, sym, ap, ◌∙◌, arith}
 use Rattle.crib_cards.specs.CardText.{card_text}
 use Rattle.crib_plan.specs.declared.plan.Next.TheVariants.{To}
-use Rattle.crib_plan.specs.declared.plan.Node.TheVariants.{Play, See}
+use Rattle.crib_plan.specs.declared.plan.Node.TheVariants.{See}
 use Rattle.crib_plan.specs.Nodes.{IsLater, IsNode}
 use Rattle.crib_sheet.specs.PlanText.{row_text}
 use Rattle.crib_sheet.specs.Private.Pages.{IsDeep, line_front, place_row, width_at}

@@ -1,0 +1,56 @@
+-- The lines of the deals that beat a plan, as the writers put them.
+use Rattle.std.proofs.Common.{◌≡◌, ◌≢◌, ◌≤◌, ℕ, ◌-◌, ◌/◌, Bool, false, List, [], ◌∷◌, ◌++◌, length, get_or, take, drop, replicate, codes, count_by}
+use Rattle.std.proofs.Common.{refl, ap, ◌∙◌, append_assoc, arith, rules}
+use Rattle.std.specs.List.{list_all}
+use Rattle.std.proofs.lemmas.Bool.{le-ltb, ne_eqb}
+use Rattle.std.proofs.lemmas.List.{take-replicate, take_all}
+use Rattle.crib_beaten.specs.declared.rows.Row.{Row}
+use Rattle.crib_text.specs.Spelling.{space}
+use Rattle.crib_sheet.specs.PlanLosses.{grouped, hands_text, loss_line, others_line, row_lines, rows_lines, slot_part, slot_text, term_text}
+use Rattle.crib_sheet.specs.Private.Pages.{spaced_label}
+use Rattle.crib_sheet.specs.declared.plan.losses.Losses.{Losses}
+use Rattle.crib_sheet.proofs.Labels.{label_is}
+
+pub loss_line_is : (front figure word : List ℕ) (deals blank gap : ℕ) → figure ≡ grouped deals → blank ≡ 25 - length front → gap ≡ 11 - length figure →
+    (((((codes "   " ++ front) ++ take blank (replicate 25 space)) ++ take gap (replicate 11 space)) ++ figure) ++ word) ++ codes "\n"
+    ≡ loss_line front deals word
+unfolding loss_line
+loss_line_is front figure word deals blank gap is left right =
+    let spaces : take blank (replicate 25 space) ≡ replicate (25 - length front) space =
+    ap (λ (k : ℕ). take k (replicate 25 space)) left ∙ take-replicate (25 - length front) 25 space (omega arith) in
+    let more : take gap (replicate 11 space) ≡ replicate (11 - length (grouped deals)) space =
+    ap (λ (k : ℕ). take k (replicate 11 space)) (right ∙ ap (λ (bytes : List ℕ). 11 - length bytes) is)
+    ∙ take-replicate (11 - length (grouped deals)) 11 space (omega arith) in
+    rw (spaces, more, is) (search rules)
+
+-- ---- slots
+
+pub slot_single : (text label written : List ℕ) (slot : List Bool) → list_all (λ flag. flag) slot ≡ false → count_by (λ flag. flag) slot ≡ 1 →
+    label ≡ spaced_label (slot ++ false ∷ []) → written ≡ drop 1 label → (text ++ codes " ") ++ written ≡ text ++ slot_part slot
+unfolding slot_text
+slot_single text label written slot several one spaced is =
+    rw (several, one, is, spaced, label_is (slot ++ false ∷ [])) (append_assoc text (codes " ") (drop 1 (spaced_label (slot ++ false ∷ []))))
+
+pub slot_several : (text label written : List ℕ) (slot : List Bool) → list_all (λ flag. flag) slot ≡ false → count_by (λ flag. flag) slot ≢ 1 →
+    label ≡ spaced_label (slot ++ false ∷ []) → written ≡ drop 1 label → ((text ++ codes " (") ++ written) ++ codes ")" ≡ text ++ slot_part slot
+unfolding slot_text
+slot_several text label written slot several more spaced is =
+    let its = drop 1 (spaced_label (slot ++ false ∷ [])) in
+    rw (several, ne_eqb (count_by (λ flag. flag) slot) 1 more, is, spaced, label_is (slot ++ false ∷ []))
+    (append_assoc (text ++ codes " (") its (codes ")") ∙ append_assoc text (codes " (") (its ++ codes ")"))
+
+-- ---- rows
+
+pub row_lines_from : (word front : List ℕ) (rows : List Row) → 1 ≤ length rows → front ≡ term_text (get_or rows 0 (record { term = []; deals = 0 })).term →
+    loss_line front (get_or rows 0 (record { term = []; deals = 0 })).deals word ++ row_lines [] (take (length rows - 1) (drop 1 rows))
+    ≡ row_lines word rows
+row_lines_from word front [] some is = absurd (omega (arith, some))
+row_lines_from word front (row ∷ rows) some is =
+    rw (is, take_all (length (row ∷ rows) - 1) rows (omega arith)) refl
+
+-- ---- hands
+
+pub hands_listed : (losses : Losses) → losses.beaten ≤ losses.open_deals / 10 → hands_text losses
+    ≡ codes " They then hold, at least:\n\n" ++ rows_lines losses.rows.rows.items ++ others_line losses.rows.others
+    ++ codes "\nIn brackets: one card of these ranks. Hands of two rows are in the first.\n"
+hands_listed losses few = rw (le-ltb _ _ few) refl

@@ -1,0 +1,5 @@
+use Rattle.crib_sheet.proofs.MadeSheets.{beaten_answers, beaten_made}
+use Rattle.crib_sheet.proofs.answer.beaten.beaten_tally.Goals as goal
+
+pub returns-in-Ok : goal.returns-in-Ok
+returns-in-Ok g c = (beaten_answers _, beaten_made _ _ _ _ _ c.in_ok-question.ensures.read c.in-Ok.ensures)

@@ -1,0 +1,18 @@
+use Rattle.std.proofs.Common.{◌∙◌, ap, sym}
+use Rattle.crib_sheet.specs.Private.Pages.{spaced_label}
+use Rattle.crib_sheet.proofs.LossLines.{slot_several, slot_single}
+use Rattle.crib_sheet.proofs.plan.figures.add_slot.Goals as goal
+
+pub returns-then-count-eq1-clause-items : goal.returns-then-count-eq1-clause-items
+returns-then-count-eq1-clause-items c =
+    rw (c.add-then-count-eq1.ensures.items, c.add.ensures.items)
+    (slot_single c.args.text.now.items _ c.without_first-label.result.now c.args.slot.now (sym c.is_any.ensures ∙ c.if-is_any.false)
+    (sym c.count.ensures ∙ c.if-count-eq1.true)
+    (c.as_slice.ensures.value ∙ c.label_after_space-spaced.ensures.items ∙ ap spaced_label c.letters_of.ensures) c.without_first-label.ensures)
+
+pub returns-else-count-eq1-clause-items : goal.returns-else-count-eq1-clause-items
+returns-else-count-eq1-clause-items c =
+    rw (c.add-else-count-eq1-3.ensures.items, c.add-else-count-eq1-2.ensures.items, c.add-else-count-eq1.ensures.items)
+    (slot_several c.args.text.now.items _ c.without_first-label.result.now c.args.slot.now (sym c.is_any.ensures ∙ c.if-is_any.false)
+    (λ one. c.if-count-eq1.false (c.count.ensures ∙ one))
+    (c.as_slice.ensures.value ∙ c.label_after_space-spaced.ensures.items ∙ ap spaced_label c.letters_of.ensures) c.without_first-label.ensures)

@@ -17,12 +17,14 @@ pub fn program() -> Program
         commands: NAMES.as_slice(),
         after_help: "\
 Commands:
-  plan  reads a problem and a plan, as cribplan check does: the plan in words, and whether it is sure
-  game  reads a problem and a game, as cribplan replay does: the game with a reason for each point
+  plan    reads a problem and a plan, as cribplan check does: the plan in words, and whether it is sure
+  game    reads a problem and a game, as cribplan replay does: the game with a reason for each point
+  beaten  reads a problem and a plan, as cribplan check does: how many deals beat the plan
+  try     reads a problem, as cribplan solve does: a sure plan, or one that few deals beat
 
 Exit status:
   0  the sheet is printed, and a plan is sure
-  1  the sheet is printed, and the plan is not sure
+  1  the sheet is printed, and the plan is not sure; for try, no plan is
   2  the command line or the input is refused
   3  reading or writing failed, or memory ran out
 

@@ -4,8 +4,8 @@ use crib_run::Status;
 use crib_sheet::SheetJob;
 use example_texts::games::LAST_CARD;
 use example_texts::joined;
-use example_texts::plans::LOOK;
-use example_texts::problems::{TENS, TWELVE};
+use example_texts::plans::{LOOK, REST};
+use example_texts::problems::{BEGUN, TENS, TWELVE};
 use failing_devices::Trouble;
 use std::io::ErrorKind;
 use std::process::Abort;
@@ -14,6 +14,8 @@ use std::process::Abort;
 fn sections(job: SheetJob) -> [&'static str; 2] {
     match job {
         SheetJob::Plan => [TWELVE, LOOK],
+        SheetJob::Beaten => [BEGUN, REST],
+        SheetJob::Try => [TWELVE, ""],
         SheetJob::Game => [TENS, LAST_CARD],
     }
 }
@@ -43,7 +45,12 @@ fn fails_to_read(rt: &(impl Abort + AllocGlobal), job: SheetJob, call: u64) {
 
 #[test]
 fn a_failed_read_is_fault_9(rt: HostRuntime) {
-    for job in [SheetJob::Plan, SheetJob::Game] {
+    for job in [
+        SheetJob::Plan,
+        SheetJob::Game,
+        SheetJob::Beaten,
+        SheetJob::Try,
+    ] {
         for call in [1, 2, 70] {
             fails_to_read(&rt, job, call);
         }
@@ -87,4 +94,6 @@ fn fails_to_write(rt: &(impl Abort + AllocGlobal), job: SheetJob) {
 fn a_failed_write_leaves_a_front(rt: HostRuntime) {
     fails_to_write(&rt, SheetJob::Plan);
     fails_to_write(&rt, SheetJob::Game);
+    fails_to_write(&rt, SheetJob::Beaten);
+    fails_to_write(&rt, SheetJob::Try);
 }

@@ -4,8 +4,8 @@ use crib_run::Status;
 use crib_sheet::SheetJob;
 use example_texts::games::LAST_CARD;
 use example_texts::joined;
-use example_texts::plans::TWOS;
-use example_texts::problems::{TENS, THIRTEEN, TWELVE};
+use example_texts::plans::{NO_PLAN, TWOS};
+use example_texts::problems::{BEGUN, TENS, THIRTEEN, TWELVE};
 use refusing_alloc::Refusing;
 use std::process::Abort;
 
@@ -49,4 +49,12 @@ fn of_a_plan(rt: HostRuntime) {
     assert!(rt; passed_over > 0);
     let (reported, _passed_over) = refuse_each(&rt, SheetJob::Plan, &[THIRTEEN, TWOS]);
     assert!(rt; reported >= 3);
+}
+
+// The input, the plan and the rows of the tally. Every deal beats a plan without nodes.
+#[test]
+fn of_a_tally(rt: HostRuntime) {
+    let (reported, passed_over) = refuse_each(&rt, SheetJob::Beaten, &[BEGUN, NO_PLAN]);
+    assert!(rt; reported >= 2);
+    assert_eq!(rt; passed_over, 0);
 }

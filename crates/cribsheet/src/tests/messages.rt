@@ -24,6 +24,8 @@ fn each_command_says_why(rt: HostRuntime) -> Result<(), Fail> {
     for (job, sections) in [
         (SheetJob::Plan, [THIRTEEN, TWOS]),
         (SheetJob::Game, [THIRTEEN, OWNER_LEADS]),
+        (SheetJob::Beaten, [THIRTEEN, TWOS]),
+        (SheetJob::Try, [THIRTEEN, ""]),
     ] {
         let input = joined_with(rt.alloc(), &sections, 5, "hold 10S 2D 2H 2S")?;
         let written = outcome_of(rt.alloc(), rt.alloc(), job, input.as_bytes());
@@ -86,11 +88,12 @@ const UNREAD: &str = "cribsheet: the input can't be read\n";
 
 const UNWRITTEN: &str = "cribsheet: the answer can't be written\n";
 
-// Asserts that the runs of both commands with these devices end with a fault, and write these words.
+// Asserts that a run of each command with these devices ends with a fault, and writes these words.
 fn faults(rt: &(impl Abort + AllocGlobal), given: Trouble, taken: Trouble, wanted: &str) {
     for (job, sections) in [
         (SheetJob::Plan, [THIRTEEN, TWOS]),
         (SheetJob::Game, [TENS, LAST_CARD]),
+        (SheetJob::Beaten, [THIRTEEN, TWOS]),
     ] {
         let input = joined(rt.alloc(), &sections).expect(rt, "memory");
         let alloc = rt.alloc();

@@ -19,9 +19,11 @@ fn job_of_words(alloc: Global, words: &[&str]) -> Result<SheetJob, ErrorKind> {
 
 #[test]
 fn reads_the_words(rt: HostRuntime) {
-    let rows: [(&[&str], Result<SheetJob, ErrorKind>); 7] = [
+    let rows: [(&[&str], Result<SheetJob, ErrorKind>); 9] = [
         (&["cribsheet", "plan"], Ok(SheetJob::Plan)),
         (&["cribsheet", "game"], Ok(SheetJob::Game)),
+        (&["cribsheet", "beaten"], Ok(SheetJob::Beaten)),
+        (&["cribsheet", "try"], Ok(SheetJob::Try)),
         (&["cribsheet", "check"], Err(ErrorKind::InvalidValue)),
         (&["cribsheet", "--help"], Err(ErrorKind::DisplayHelp)),
         (&["cribsheet", "--version"], Err(ErrorKind::UnknownArgument)),
@@ -43,9 +45,11 @@ fn tells_what_each_command_does(rt: HostRuntime) -> Result<(), Fail> {
     let help = format!(in rt.alloc(); "{refusal}")?;
     for part in [
         "Usage: cribsheet <command> < INPUT\n",
-        "[possible values: plan, game]",
-        "\n  plan  reads a problem and a plan, ",
-        "\n  game  reads a problem and a game, ",
+        "[possible values: plan, game, beaten, try]",
+        "\n  plan    reads a problem and a plan, ",
+        "\n  game    reads a problem and a game, ",
+        "\n  beaten  reads a problem and a plan, ",
+        "\n  try     reads a problem, ",
         "\nManual: man cribsheet. ",
     ] {
         assert!(rt; help.contains(part), "no {part}");

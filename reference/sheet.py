@@ -1,18 +1,32 @@
-"""Reads the sheet of a plan as `cribsheet plan` prints it, and follows it card by card. It knows nothing of nodes."""
+"""Reads the sheet of a plan as `cribsheet plan` prints it, and follows it card by card. It knows nothing of nodes.
+
+Of a plan that isn't sure, it also reads the head: how many deals beat the plan, and what the opponent then holds.
+"""
 
 from __future__ import annotations
 
 import re
+from collections.abc import Iterable
+from itertools import pairwise
 from typing import NamedTuple
 
+from beaten import Row as DealRow
 from cards import CARD_OF, RANKS, Card
 from plan import GO
+from view import Ranks, without
 
 CARD = "[A23456789TJQK][CDHS]"
 ROW = re.compile(rf"(?P<cards>{CARD}(?: {CARD})*)?(?:(?:, then |^)(?P<rest>look:|see \[\d+\]))?")
 LINE = re.compile(r"(?P<blanks> +)(?P<letters>\S.*?) +: (?P<row>.*)")
 PARAGRAPH = re.compile(r"\[(\d+)\] (.*)")
 BLANKS = 4  # for each look
+FIGURES = re.compile(
+    r"This plan is not sure\. It reaches your goal with (\S+) of the (\S+) deals that they may have, whatever they play\. "
+    r"With the other (\S+) they can beat it\.( They then hold, at least:)?.*"
+)
+DEALS = re.compile(r" {4}(\S.*?) +([0-9,]+)(?: deals?)?")
+OTHERS = "and others"
+MOST_ROWS = 12
 
 
 class Row(NamedTuple):
@@ -129,3 +143,54 @@ class Sheet:
             if letter in letters:
                 return self.on(Place(row))
         return Place(Row(()))
+
+
+def number_of(word: str) -> int:
+    """A number, with commas between thousands."""
+    number = int(word.replace(",", ""))
+    if f"{number:,}" != word:
+        raise SheetError(word)
+    return number
+
+
+def choices_of(term: str) -> list[frozenset[int]]:
+    """The ranks that each card of a row may have: one, or one of those in brackets."""
+    words = re.findall(r"\(([^()]+)\)|(\S)", term)
+    return [letters_of(some) if some else letters_of(one) for some, one in words]
+
+
+def meets(ranks: Ranks, choices: list[frozenset[int]]) -> bool:
+    """Whether among these ranks is a card for each choice, no card for two."""
+    if not choices:
+        return True
+    return any(meets(without(ranks, rank), choices[1:]) for rank in set(ranks) & choices[0])
+
+
+class Head:
+    """The head of the sheet of a plan that isn't sure."""
+
+    def __init__(self, text: str) -> None:
+        head, game, _ = text.partition("In this game ")
+        lines = [line for line in head.rstrip().split("\n") if line]
+        rows = [DEALS.fullmatch(line) for line in lines if line.startswith(" ")]
+        found = FIGURES.fullmatch(" ".join(line for line in lines if not line.startswith(" ")))
+        if not game or found is None or None in rows or bool(found[4]) != bool(rows) or len(rows) > MOST_ROWS + 1:
+            raise SheetError(head)
+        self.figures = tuple(number_of(word) for word in found.groups()[:3])
+        self.rows = [(row[1], number_of(row[2])) for row in rows if row]
+        figures = [figure for term, figure in self.rows if term != OTHERS]
+        if any(one < other for one, other in pairwise(figures)) or OTHERS in [term for term, _ in self.rows[:-1]]:
+            raise SheetError(head)
+
+    def rows_of_deals(self) -> list[int]:
+        """The figure of each row, and what is left for the others."""
+        figures = [figure for _, figure in self.rows]
+        return figures if self.rows[-1][0] == OTHERS else [*figures, 0]
+
+    def counts(self, rows: Iterable[DealRow]) -> list[int]:
+        """How many deals that beat the plan are in each row, and in none: each is in the first that it meets."""
+        terms = [choices_of(term) for term, _ in self.rows if term != OTHERS]
+        counts = [0] * (len(terms) + 1)
+        for row in rows:
+            counts[next((at for at, term in enumerate(terms) if meets(row.ranks, term)), len(terms))] += row.beaten
+        return counts

@@ -53,15 +53,24 @@ find_program() {
     return 1
 }
 
-# need_cribplan: finds cribplan, in $program. In the folder of the sources this is the one that its launcher runs.
+# find_behind NAME: the same, but in the folder of the sources it is the program that the launcher runs.
+find_behind() {
+    local path
+    path=$(find_program "$1") || return 1
+    if [ "$path" -ef "$here/../$1" ]; then "$here/../tools/program" "$1" || exit 3; else echo "$path"; fi
+}
+
+# need_cribplan: finds cribplan, in $program.
 need_cribplan() {
-    program=$(find_program cribplan) || {
-        say "there is no cribplan beside it, one folder up, or on the path"
+    program=$(find_behind cribplan) || {
+        [ $? -eq 3 ] || say "there is no cribplan beside it, one folder up, or on the path"
         exit 3
     }
-    if [ "$program" -ef "$here/../cribplan" ]; then
-        program=$("$here/../tools/program" cribplan) || exit 3
-    fi
+}
+
+# find_sheets: finds cribsheet, in $sheets; 1 if it isn't there.
+find_sheets() {
+    sheets=$(find_behind cribsheet) || { [ $? -ne 3 ] || exit 3; return 1; }
 }
 
 # keep_input WORD..: for a recipe that has no words of its own. Keeps standard input in $room/input, in which a byte
@@ -84,13 +93,21 @@ ask() {
     case $status:${answer[0]-} in
     '0:plan 1' | 0:holds | '0:board 1' | '0:play '* | 0:reached) ;;
     1:none | '1:fails '* | 1:open | 1:stuck | 1:lost | 1:short | '2:refused line '*) ;;
+    '0:beaten 0 of '* | '1:beaten '[1-9]* | '1:This plan is not sure. '*) ;;
     *)
+        [ "$1:$status:${answer[0]-}" != "try:1:plan 1" ] || return 0
         cat "$room/answer"
         cat "$room/words" >&2
-        say "cribplan $1 ended with status $status and no answer"
+        say "${program##*/} $1 ended with status $status and no answer"
         exit 3
         ;;
     esac
+}
+
+# ask_sheets COMMAND < INPUT: asks cribsheet, as ask does cribplan.
+ask_sheets() {
+    local program=$sheets
+    ask "$1"
 }
 
 # find_kept FILE COMMAND: whether cribplan-many keeps an answer to that file which isn't older; its file is in $kept.
@@ -187,6 +204,30 @@ is_sure() {
         nodes=
     fi
     return "$status"
+}
+
+# find_beaten GOAL TURN: after is_sure has found no plan for that goal and turn, how many deals beat the plan that
+# `cribsheet try` makes after that turn, and of how many; in $beaten, as `N of M`.
+find_beaten() {
+    if [ "${answer[0]}" = none ]; then
+        write_problem "$@" >"$room/tried"
+        ask_sheets try <"$room/tried"
+        cat "$room/answer" >>"$room/tried"
+    else
+        write_last_turn "$@" >"$room/tried"
+    fi
+    ask_sheets beaten <"$room/tried"
+    beaten=${answer[0]#beaten }
+}
+
+# with_commas N: the number, with commas between its thousands.
+with_commas() {
+    local rest=$1 text=
+    while [ "${#rest}" -gt 3 ]; do
+        text=,${rest: -3}$text
+        rest=${rest%???}
+    done
+    echo "$rest$text"
 }
 
 # find_greatest [TURN]: the greatest N for which `goal holes N` is sure, after that turn where it is given; in

@@ -31,8 +31,9 @@ FORMS = {  # types of Rust, and how antt has them
     r"u8|u16|u32|u64|usize": "ℕ",
     r"bool": "Bool",
     r"&str": "Bor (List ℕ)",
-    r"&(?:mut )?\[(.*)\]": "Bor (List {})",
-    r"\[(\w+); *\w+\]": "List {}",
+    r"&(?:mut )?\[([^;]*)(?:; .*)?\]": "Bor (List {})",
+    r"&(?:mut )?(\w+(?:<\w+>)?)": "Bor {}",
+    r"\[(\w+); [^;]*\]": "List {}",
     **{rf"{name}<(\w+)(?:, \w+)?>": name + " {}" for name in ("Option", "ArrayVec", "Vec")},
 }
 
@@ -97,7 +98,7 @@ class Declared:
         """The modules of a declared type: itself, and that of its variants if it is an enum."""
         name, inner, uses = place.split(".")[-1], f"{place}.TheVariants", {USES}
         code = re.sub(r"#\[.*?\] ?|//.*", "", self.types[crate, name][1])
-        head = r"(struct|enum) \w+(?:<([A-Z]\w*))?.*\n?((?s:.*?))(?:^\}|\Z)"
+        head = r"(struct|enum) \w+(?:<(?:'\w+, )?([A-Z]\w*))?.*\n?((?s:.*?))(?:^\}|\Z)"
         kind, over, body = re.search(head, code, re.M).groups("")
         parameter = f" ({over} : Type 0)" * bool(over)
         if kind == "struct":

@@ -3,16 +3,11 @@ use Rattle.std.proofs.Common.{◌≡◌, ℕ, ◌<◌, true, List, [], ◌∷◌
 use Rattle.crib_cards.specs.Cards.{IsCard}
 use Rattle.crib_cards.specs.Sets.{has, set_without, IsCardSet, first_of_list}
 use Rattle.crib_cards.proofs.SetFacts.{in_set_where}
-use Rattle.crib_cards.proofs.SetLemmas.{set_without-lowest}
+use Rattle.crib_cards.proofs.SetWalks.{lowest_split as split_at_lowest}
 
 -- a set is its lowest card, and then the set of the others
 pub lowest_split : (cards rest : List ℕ) (card : ℕ) → IsCardSet cards → Some card ≡ first_of_list cards → rest ≡ set_without cards card → cards ≡ card ∷ rest
-lowest_split [] rest card are e is = absurd cc
-lowest_split (first ∷ others) rest card are e is =
-    let same : first ≡ card = cc in
-    let left : set_without (first ∷ others) card ≡ others = ap (set_without (first ∷ others)) (sym same)
-    ∙ set_without-lowest (has (first ∷ others)) first others (sym are) in
-    ap (λ k. k ∷ others) same ∙ ap (λ xs. card ∷ xs) (sym (is ∙ left))
+lowest_split cards rest card are e is = split_at_lowest cards card are e ∙ ap (λ xs. card ∷ xs) (sym is)
 
 pub lowest_none : (cards : List ℕ) → None ≡ first_of_list cards → cards ≡ []
 lowest_none [] e = λ i. []

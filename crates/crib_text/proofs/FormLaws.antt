@@ -26,8 +26,7 @@ module _ {A : Type 0} {read : Rest → Result (A × Rest) Refusal} {lines : A �
 
   pub one_spelling : (value : A) (given : List (List ℕ)) (number after : ℕ) → read (from_line number given) ≡ Ok (value, from_line after []) →
       given ≡ map line_bytes (lines value)
-  one_spelling value given number after e =
-      (form.found (from_line number given) value (from_line after []) e).1 ∙ append-nil (map line_bytes (lines value))
+  one_spelling value given number after e = (form.found (from_line number given) value (from_line after []) e).1 ∙ append-nil (map line_bytes (lines value))
 
   pub lines_apart : (value other : A) (more : List (List ℕ)) → is value → is other → map line_bytes (lines value) ++ more ≡ map line_bytes (lines other)
       → (value ≡ other) × (more ≡ [])
@@ -43,8 +42,7 @@ module _ {A : Type 0} {read : Rest → Result (A × Rest) Refusal} {lines : A �
       (both.0, lines_of-none more both.1)
 
   pub texts_differ : (value other : A) → is value → is other → lines_text (lines value) ≡ lines_text (lines other) → value ≡ other
-  texts_differ value other is is_other same =
-      (texts_apart value other [] is is_other (append-nil (lines_text (lines value)) ∙ same)).0
+  texts_differ value other is is_other same = (texts_apart value other [] is is_other (append-nil (lines_text (lines value)) ∙ same)).0
 
   pub read_again : (value : A) (after : ℕ) → is value → after ≡ length (lines value) + 1
       → (all_lines (lines_text (lines value)) >>= read) ≡ Ok (value, from_line after [])

@@ -1,6 +1,7 @@
 -- Forms: a reader, and how the values that it reads are spelled. Where forms are put together, what holds of each holds of the whole.
-use Rattle.std.proofs.Common.{◌≡◌, ℕ, zero, suc, ◌+◌, ◌-◌, ◌<◌, ◌≤◌, true, List, [], ◌∷◌, ◌++◌, length, map, Result, Ok, Err, codes, refl, sym, ap, subst, ◌∙◌}
-use Rattle.std.proofs.Common.{◌^◌, ◌*◌, decimal, append_assoc, arith}
+use Rattle.std.proofs.Common.{rules}
+use Rattle.std.proofs.Common.{◌≡◌, ℕ, zero, suc, ◌+◌, ◌-◌, ◌<◌, ◌≤◌, ◌↔◌, true, List, [], ◌∷◌, ◌++◌, length, map, Result, Ok, Err, codes, refl, sym, ap}
+use Rattle.std.proofs.Common.{subst, ◌∙◌, ◌^◌, ◌*◌, decimal, append_assoc, arith}
 use Rattle.std.proofs.Math.Nat.{mul-suc}
 use Rattle.std.specs.Prelude.{nat_le}
 use Rattle.std.proofs.lemmas.Bool.{leb-true, le-leb}
@@ -159,15 +160,7 @@ line_form {read = read} {words = words} form some = record {
 
 -- no line
 pub none_form : {A : Type 0} (made : A) → IsForm (λ rest. Ok (made, rest)) (λ value. []) (λ value. value ≡ made) (λ value. 0)
-none_form {A = A} made = record {
-  found = λ rest value after e.
-      let both = ok_is (made, rest) (value, after) e in
-      (ap (λ (p : A × Rest). p.0) (sym both), ap (λ (p : A × Rest). p.1.lines) both);
-  spelled = λ value number rest is. rw is (ap (λ n. Ok (made, from_line n rest)) (omega arith));
-  full = λ value is. refl;
-  short = λ value is. omega arith;
-  steady = steady_ok made;
-}
+none_form {A = A} made = search (rules, steady_ok made)
 
 joined : (first more : List (List (List ℕ))) (rest : List (List ℕ)) →
     map line_bytes (first ++ more) ++ rest ≡ map line_bytes first ++ (map line_bytes more ++ rest)
@@ -306,20 +299,15 @@ pub each_line_form : {A : Type 0} {read : List (List ℕ) → Result A ℕ} {wor
     → IsForm (values_at (λ place. read) 0 count) (map words) (λ values. (length values ≡ count) × AllByRecursion is values) (λ values. most * length values)
 each_line_form {A = A} {words = words} {is = is} each some count =
     form_as (many_form (λ place. each) (λ place. some) 0 count)
-    (λ values all. (all.0, to 0 values all.1)) (λ values all. (all.0, from 0 values all.1)) (λ values all. same 0 values)
+    (λ values all. (all.0, (plain 0 values).0.0 all.1)) (λ values all. (all.0, (plain 0 values).0.1 all.1)) (λ values all. (plain 0 values).1)
     (λ values all. omega arith)
   where
-    to : (place : ℕ) (values : List A) → AreRows (λ place. is) place values → AllByRecursion is values
-    to place [] all = tt
-    to place (value ∷ values) all = (all.0, to (place + 1) values all.1)
-
-    from : (place : ℕ) (values : List A) → AllByRecursion is values → AreRows (λ place. is) place values
-    from place [] all = tt
-    from place (value ∷ values) all = (all.0, from (place + 1) values all.1)
-
-    same : (place : ℕ) (values : List A) → row_lines (λ place. words) place values ≡ map words values
-    same place [] = refl
-    same place (value ∷ values) = ap (λ ls. words value ∷ ls) (same (place + 1) values)
+    plain : (place : ℕ) (values : List A) →
+        (AreRows (λ place. is) place values ↔ AllByRecursion is values) × (row_lines (λ place. words) place values ≡ map words values)
+    plain place [] = ((λ all. all, λ all. all), refl)
+    plain place (value ∷ values) =
+        let rest = plain (place + 1) values in
+        ((λ all. (all.0, rest.0.0 all.1), λ all. (all.0, rest.0.1 all.1)), ap (λ ls. words value ∷ ls) rest.1)
 
 -- ---- the loop that reads a value from each line
 

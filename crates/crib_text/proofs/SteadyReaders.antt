@@ -1,15 +1,16 @@
 -- Lemmas about readers that read the first lines as they read all lines: where the first lines end too early, the text is cut short.
+use Rattle.std.proofs.Common.{rules}
 use Rattle.std.proofs.Common.{◌≡◌, ℕ, ◌+◌, ◌≤◌, true, false, List, [], ◌∷◌, ◌++◌, length, Result, Ok, Err, refl, sym, ap, ◌∙◌, arith, inl, inr}
 use Rattle.std.specs.Prelude.{◌⊎◌}
-use Rattle.std.specs.List.{list_all, take_while}
+use Rattle.std.specs.List.{list_all}
 use Rattle.std.proofs.lemmas.Bool.{cases_Bool, and_parts}
 use Rattle.std.proofs.lemmas.List.Folds.{list_all-append}
-use Rattle.crib_text.specs.Refusals.{Refusal, bad_byte, cut_short}
+use Rattle.crib_text.specs.Refusals.{Refusal, cut_short}
 use Rattle.crib_text.specs.Words.{lines_of, words_of, is_text_byte, is_ended, line_after}
 use Rattle.crib_text.specs.Reading.{◌>>=◌, Rest, Line, text_check, all_lines, words_in, first_line, line_at, in_line, value_at}
 use Rattle.crib_text.proofs.WordLemmas.{some_line}
 use Rattle.crib_text.proofs.LineLaws.{cut_lines, lines_law, no_feed_law}
-use Rattle.crib_text.proofs.ByteLemmas.{lines_count, lines_count-ended}
+use Rattle.crib_text.proofs.ByteLemmas.{checked, lines_count, lines_count-ended}
 use Rattle.crib_text.proofs.LineLemmas.{line_at-nil}
 use Rattle.crib_text.proofs.ReadingLemmas.{bind_ok, ok_is, pair_is, value_at-line}
 
@@ -36,16 +37,7 @@ pub record IsSteady {A : Type 0} (read : Rest → Result (A × Rest) Refusal) : 
       → IsKept read number front back value after ⊎ (read (from_line number front) ≡ Err (missing (number + length front)))
 
 pub steady_ok : {A : Type 0} (value : A) → IsSteady (λ rest. Ok (value, rest))
-steady_ok {A = A} value = record {
-  cut = λ number front back other after e.
-      let is = pair_is value other (from_line number (front ++ back)) after (ok_is (value, from_line number (front ++ back)) (other, after) e) in
-      inl (record {
-        left = front;
-        lines = ap (λ (r : Rest). r.lines) (sym is.1);
-        counted = ap (λ (r : Rest). r.number + length front) (sym is.1);
-        same = ap (λ (v : A). Ok (v, from_line number front)) is.0 ∙ ap (λ (r : Rest). Ok (other, from_line r.number front)) is.1;
-      });
-}
+steady_ok {A = A} value = search rules
 
 -- one such reader after another is such a reader. The second one may ask for what the first one reads
 pub steady_after : {A B : Type 0} (read : Rest → Result (A × Rest) Refusal) (next : A × Rest → Result (B × Rest) Refusal) → IsSteady read →
@@ -117,10 +109,7 @@ pub lines_cut : {A : Type 0} (read : Rest → Result (A × Rest) Refusal) (numbe
     (value : A) → IsSteady read
     → read (from_line number (front ++ next ∷ back)) ≡ Ok (value, from_line last []) → read (from_line number front) ≡ Err (missing (number + length front))
 lines_cut read number last front next back value steady e =
-    elim (steady.cut number front (next ∷ back) value (from_line last []) e) [
-      | inl kept ↦ absurd (some_left kept.left kept.lines)
-      | inr short ↦ short
-    ]
+    elim (steady.cut number front (next ∷ back) value (from_line last []) e) [ inl kept ↦ absurd (some_left kept.left kept.lines) | inr short ↦ short ]
   where
     some_left : (left : List (List ℕ)) → [] ≡ left ++ next ∷ back → ⊥
     some_left [] e = cc
@@ -133,27 +122,11 @@ ended_front : (front more : List ℕ) → is_ended front ≡ true → lines_of (
 ended_front front more e = ap (λ text. lines_of (text ++ more)) (sym (lines_law front e)) ∙ cut_lines (lines_of front) more (no_feed_law front)
 
 -- bytes that are read as lines: no byte is bad, and these are the lines
-pub record IsLines (bytes : List ℕ) (rest : Rest) : Type 0 where
-  pub good : list_all is_text_byte bytes ≡ true
-  pub is : from_line 1 (lines_of bytes) ≡ rest
-
-pub lines_read : (bytes : List ℕ) (rest : Rest) → all_lines bytes ≡ Ok rest → IsLines bytes rest
-unfolding all_lines text_check
+lines_read : (bytes : List ℕ) (rest : Rest) → all_lines bytes ≡ Ok rest → (list_all is_text_byte bytes ≡ true) × (from_line 1 (lines_of bytes) ≡ rest)
+unfolding all_lines
 lines_read bytes rest e =
-    elim (cases_Bool (list_all is_text_byte bytes)) [
-      | inl all ↦
-          elim (cases_Bool (is_ended bytes)) [
-            | inl ended ↦
-                let h : all_lines bytes ≡ Ok (from_line 1 (lines_of bytes)) = rw (all, ended) refl in
-                record { good = all; is = ok_is (from_line 1 (lines_of bytes)) rest (sym h ∙ e) }
-            | inr open_end ↦
-                let h : all_lines bytes ≡ Err (missing (length (lines_of bytes))) = rw (all, open_end) refl in
-                absurd cc
-          ]
-      | inr bad ↦
-          let h : all_lines bytes ≡ Err (record { line = line_after (take_while is_text_byte bytes); number = bad_byte }) = rw bad refl in
-          absurd cc
-    ]
+    let a = bind_ok (text_check bytes) _ rest e in
+    ((checked bytes a.1).0, ok_is (from_line 1 (lines_of bytes)) rest a.2)
 
 not_ended : (bytes : List ℕ) → list_all is_text_byte bytes ≡ true → is_ended bytes ≡ false → all_lines bytes ≡ Err (missing (line_after bytes))
 unfolding all_lines text_check
@@ -175,14 +148,14 @@ text_cut {A = A} read front next back last value steady e =
     let a = bind_ok (all_lines (front ++ next ∷ back)) read (value, from_line last []) e in
     let whole = lines_read (front ++ next ∷ back) a.0 a.1 in
     let good = (and_parts (list_all is_text_byte front) (list_all is_text_byte (next ∷ back)) (sym (list_all-append is_text_byte front (next ∷ back))
-    ∙ whole.good)).0 in
+    ∙ whole.0)).0 in
     elim (cases_Bool (is_ended front)) [
       | inl ended ↦
           let line = first_of (lines_of (next ∷ back)) (some_line next back) in
           let lines : lines_of front ++ line.0 ∷ line.1 ≡ lines_of (front ++ next ∷ back) = ap (λ (ls : List (List ℕ)). lines_of front ++ ls) (sym line.2)
           ∙ sym (ended_front front (next ∷ back) ended) in
           let all : read (from_line 1 (lines_of front ++ line.0 ∷ line.1)) ≡ Ok (value, from_line last []) =
-          ap (λ (ls : List (List ℕ)). read (from_line 1 ls)) lines ∙ ap read whole.is ∙ a.2 in
+          ap (λ (ls : List (List ℕ)). read (from_line 1 ls)) lines ∙ ap read whole.1 ∙ a.2 in
           ap (λ (r : Result Rest Refusal). r >>= read) (is_text front good ended) ∙ lines_cut read 1 last (lines_of front) line.0 line.1 value steady all
           ∙ ap (λ (n : ℕ). Err (missing n)) (lines_count-ended front ended)
       | inr open_end ↦ ap (λ (r : Result Rest Refusal). r >>= read) (not_ended front good open_end)

@@ -8,8 +8,8 @@ use Rattle.crib_text.proofs.text.line.Line.word.Goals as goal
 pub returns-then-end-self-clause-word : goal.returns-then-end-self-clause-word
 unfolding line_of
 returns-then-end-self-clause-word c =
-    sym (word_none c.args.self.now.bytes.now (words_of c.args.self.now.bytes.now) c.loop.counter c.args.index c.loop.start c.len_before.result
-    c.loop.invariant.words c.len_before.ensures.value (omega arith) c.loop-test.true)
+    sym (word_none c.args.self.now.bytes.now (words_of c.args.self.now.bytes.now) c.loop.counter c.loop.start c.len_before.result
+    c.loop.invariant.words c.len_before.ensures.value c.args.index (omega arith) c.loop-test.true)
 
 pub loop-preserved : goal.loop-preserved
 loop-preserved c =

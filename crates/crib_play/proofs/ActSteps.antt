@@ -1,12 +1,13 @@
 -- Proves that an act leads from a table that represents some visible turns to one that represents them and the new turn.
-use Rattle.std.proofs.Common.{◌≡◌, ℕ, ◌+◌, ◌-◌, ◌≤◌, zero, suc, Bool, true, false, cond, not, eqb, ltb, List, [], ◌∷◌, ◌++◌, refl, sym, ap, ◌∙◌}
+use Rattle.std.proofs.Common.{rules}
+use Rattle.std.proofs.Common.{◌≡◌, ℕ, ◌+◌, ◌-◌, ◌≤◌, zero, suc, Bool, true, false, cond, not, ltb, List, [], ◌∷◌, ◌++◌, refl, sym, ◌∙◌}
 use Rattle.std.proofs.Common.{inl, inr, arith}
 use Rattle.std.proofs.lemmas.Bool.Decides.{nat_tests}
-use Rattle.std.proofs.lemmas.Bool.{cases_Bool, cond_both, and_parts, both_ways, false≢true, true≢false, or_right, eq-eqb, not-true}
+use Rattle.std.proofs.lemmas.Bool.{cases_Bool, cond_both, and_parts, eq-eqb, not-true}
 use Rattle.std.proofs.Math.Bool.{and-true, and-false}
 use Rattle.crib_cards.specs.declared.sides.Side.{Side}
 use Rattle.crib_cards.specs.declared.sides.Side.TheVariants.{Owner, Opponent}
-use Rattle.crib_cards.specs.Sides.{other_side, are_decided}
+use Rattle.crib_cards.specs.Sides.{other_side}
 use Rattle.crib_play.specs.declared.turns.Turn.{Turn}
 use Rattle.crib_play.specs.Record.{is_begun, count_of}
 use Rattle.crib_play.specs.Points.{card_points}
@@ -28,13 +29,7 @@ heard_parts : (s : State) (side : Side) → heard_of s side ≡ true → (1 ≤ 
 heard_parts s side h = let p = and_parts (ltb 0 (s.left side)) (not (s.said side)) h in (grind (arith, nat_tests, p.0), not-true (s.said side) p.1)
 
 pub turned_card : (s : State) (rank : ℕ) → IsSum s → heard_of s s.mover ≡ true → IsTurned (step_card s rank)
-turned_card s rank total h =
-    let p = heard_parts s s.mover h in
-    record {
-      total = one_less s.mover p.0;
-      after_go = λ e. absurd (false≢true e);
-      after_card = λ _. rw (other_twice s.mover, p.1) (unsaid (closes_at s rank));
-    }
+turned_card s rank total h = search (rules, heard_parts s s.mover h, one_less s.mover, other_twice s.mover, unsaid (closes_at s rank))
   where
     one_less : (m : Side) → 1 ≤ s.left m → IsSum (step_card (record s { mover = m }) rank)
     one_less Owner some = omega arith
@@ -44,9 +39,7 @@ turned_card s rank total h =
     unsaid c = grind (arith, nat_tests)
 
 pub turned_go : (s : State) → IsTurned s → IsTurned (step_go s)
-turned_go s t = cond_both (closes_by_go s) (go_closing s) (go_open s) (λ x. IsTurned x)
-    (λ _. record { total = t.total; after_go = λ e. absurd (false≢true e); after_card = λ _. refl })
-    (λ _. record { total = t.total; after_go = λ _. rw (other_twice s.mover) (heard_open_mover s s.mover refl); after_card = λ e. absurd (true≢false e) })
+turned_go s t = search (rules, cond_both (closes_by_go s) (go_closing s) (go_open s), other_twice s.mover, heard_open_mover s s.mover)
 
 pub turned_gos : (n target : ℕ) (s : State) → IsTurned s → IsTurned (gos n target s)
 turned_gos zero target s t = t
@@ -59,14 +52,8 @@ cards_before s total = omega arith
 -- a card that is played on the table is the next turn of the record
 laid_face : (target : ℕ) (s : State) (turn : Turn) (rank : ℕ) (m : Side) → IsSum s → s.said m ≡ false →
     table_after_laying (face target s turn) m rank ≡ face target (step_card (record s { mover = m }) rank) turn
-laid_face target s turn rank Owner total said = elim (cases_Bool (closes_at s rank)) [
-  | inl c ↦ rw (cards_before s total, c) (simp and-true)
-  | inr c ↦ rw (cards_before s total, c, said) (simp and-true)
-]
-laid_face target s turn rank Opponent total said = elim (cases_Bool (closes_at s rank)) [
-  | inl c ↦ rw (cards_before s total, c) (simp and-true)
-  | inr c ↦ rw (cards_before s total, c, said) (simp and-true)
-]
+laid_face target s turn rank Owner total said = grind (arith, nat_tests, cards_before s total, and-true)
+laid_face target s turn rank Opponent total said = grind (arith, nat_tests, cards_before s total, and-true)
 
 -- a go that is said at the table is the next turn of the record
 pub passed_face : (target : ℕ) (s : State) (turn : Turn) (m : Side) →
@@ -81,9 +68,7 @@ none_left s side said e = let none = rw said at e in grind (arith, nat_tests, no
 some_heard : (target : ℕ) (s : State) (m : Side) → IsSum s → done target s ≡ false → ((side : Side) → s.said side ≡ false) →
     heard_of s (other_side m) ≡ false → heard_of s m ≡ false → ⊥
 some_heard target s m total d said other mine =
-    both_ways (done target s) d
-    (or_right (are_decided target s.scores) (eqb s.played 8)
-    (eq-eqb s.played 8 (eight m (none_left s (other_side m) (said (other_side m)) other) (none_left s m (said m) mine))))
+    search (rules, eq-eqb s.played 8 (eight m (none_left s (other_side m) (said (other_side m)) other) (none_left s m (said m) mine)))
   where
     eight : (side : Side) → s.left (other_side side) ≡ 0 → s.left side ≡ 0 → s.played ≡ 8
     eight Owner a b = omega arith
@@ -112,12 +97,7 @@ pub card_settled : (target : ℕ) (s : State) (turn : Turn) (rank : ℕ) → IsS
     (shown target (gos 3 target (step_card s rank)) ≡ table_after_play (face target s turn) s.mover rank)
     × (gos_points 3 target (step_card s rank) + card_points s.played (s.pile ++ rank ∷ []) ≡ points_of_play (face target s turn) s.mover rank)
 card_settled target s turn rank total h =
-    let settles = card_settles target s turn rank total h in
-    let laid = sym (laid_face target s turn rank s.mover total (heard_parts s s.mover h).1) in
-    let points = ap {B = ℕ} (λ n. card_points n (s.pile ++ rank ∷ [])) (cards_before s total) in (
-      settles.table ∙ ap (λ table. with_next_asked table s.mover) laid,
-      omega (arith, settles.points, ap (λ table. points_of_asking table s.mover) laid, points),
-    )
+    search (rules, card_settles target s turn rank total h, laid_face target s turn rank s.mover total (heard_parts s s.mover h).1, cards_before s total)
 
 -- ---- a go
 pub record GoSettles (target : ℕ) (s : State) (turn : Turn) : Type 0 where

@@ -1,6 +1,6 @@
 -- Worked examples of what people dispute about the play. Other disputes are elsewhere: the crib flush and who counts first in `crib_show`, and a plan that
 -- runs out in `crib_game`.
-use Rattle.std.specs.Prelude.{◌≡◌, refl, List, [], ◌∷◌, true, reverse}
+use Rattle.std.specs.Prelude.{◌≡◌, refl, List, [], ◌∷◌, map, true, reverse}
 use Rattle.std.specs.List.{list_any}
 use Rattle.crib_cards.specs.declared.sides.Side.TheVariants.{Owner, Opponent}
 use Rattle.crib_cards.specs.declared.letters.Letter.TheVariants.{Seen, Go}
@@ -21,20 +21,15 @@ level_start = record { dealer = Opponent; scores = record { owner = 0; opponent 
 
 -- ---- the last card and 31
 
--- K 8 K: after the go at 28 nobody is heard. It brings 1 for the last card, by the silent go that closes the count
-last_card_at_28 : points_added level_start Go (reverse (Seen 13 ∷ Seen 8 ∷ Seen 13 ∷ Go ∷ [])) ≡ 1
-last_card_at_28 = refl
-
--- K 8 K 3: 2 for 31, and no 1 beside it
-three_makes_31 : points_added level_start (Seen 3) (reverse (Seen 13 ∷ Seen 8 ∷ Seen 13 ∷ [])) ≡ 2
-three_makes_31 = refl
+-- K 8 K: after the go at 28 nobody is heard. It brings 1 for the last card, by the silent go that closes the count. K 8 K 3: 2 for 31, and no 1 beside it
+last_card_or_31 : points_added level_start Go (reverse (Seen 13 ∷ Seen 8 ∷ Seen 13 ∷ Go ∷ []))
+    ∷ points_added level_start (Seen 3) (reverse (Seen 13 ∷ Seen 8 ∷ Seen 13 ∷ [])) ∷ [] ≡ 1 ∷ 2 ∷ []
+last_card_or_31 = refl
 
 -- 31 closes the count by itself: the next player is asked over an empty pile
-asked_after_31 : asked_seen level_start (reverse (Seen 13 ∷ Seen 8 ∷ Seen 13 ∷ Seen 3 ∷ [])) ≡ turns.Owner
-asked_after_31 = refl
-
-count_after_31 : count_seen level_start (reverse (Seen 13 ∷ Seen 8 ∷ Seen 13 ∷ Seen 3 ∷ [])) ≡ 0
-count_after_31 = refl
+after_31 : (asked_seen level_start (reverse (Seen 13 ∷ Seen 8 ∷ Seen 13 ∷ Seen 3 ∷ [])) ≡ turns.Owner)
+    × (count_seen level_start (reverse (Seen 13 ∷ Seen 8 ∷ Seen 13 ∷ Seen 3 ∷ [])) ≡ 0)
+after_31 = (refl, refl)
 
 -- ---- gos said twice
 
@@ -49,11 +44,9 @@ one_go_is_seen : visible_turns Owner (reverse (Seen 10 ∷ Seen 9 ∷ Seen 8 ∷
 one_go_is_seen = refl
 
 -- 2 for the pair of aces, and then 6 for three aces and 1 for the last card
-pair_after_the_go : points_added level_start (Seen 1) (reverse (Seen 10 ∷ Seen 9 ∷ Seen 8 ∷ Seen 1 ∷ Go ∷ [])) ≡ 2
-pair_after_the_go = refl
-
-third_ace : points_added level_start (Seen 1) (reverse (Seen 10 ∷ Seen 9 ∷ Seen 8 ∷ Seen 1 ∷ Go ∷ Seen 1 ∷ [])) ≡ 7
-third_ace = refl
+more_aces : points_added level_start (Seen 1) (reverse (Seen 10 ∷ Seen 9 ∷ Seen 8 ∷ Seen 1 ∷ Go ∷ []))
+    ∷ points_added level_start (Seen 1) (reverse (Seen 10 ∷ Seen 9 ∷ Seen 8 ∷ Seen 1 ∷ Go ∷ Seen 1 ∷ [])) ∷ [] ≡ 2 ∷ 7 ∷ []
+more_aces = refl
 
 -- ---- a run across a close
 
@@ -62,12 +55,10 @@ pile_after_a_close : pile_of (filled_record level_start (reverse (Seen 13 ∷ Se
     ≡ 2 ∷ 3 ∷ []
 pile_after_a_close = refl
 
-no_run_across_a_close : points_added level_start (Seen 3) (reverse (Seen 13 ∷ Seen 12 ∷ Seen 10 ∷ Seen 1 ∷ Seen 2 ∷ [])) ≡ 0
-no_run_across_a_close = refl
-
 -- an ace that comes next makes no pair with the ace of the 31
-no_pair_across_a_close : points_added level_start (Seen 1) (reverse (Seen 13 ∷ Seen 12 ∷ Seen 10 ∷ Seen 1 ∷ [])) ≡ 0
-no_pair_across_a_close = refl
+nothing_across_a_close : points_added level_start (Seen 3) (reverse (Seen 13 ∷ Seen 12 ∷ Seen 10 ∷ Seen 1 ∷ Seen 2 ∷ []))
+    ∷ points_added level_start (Seen 1) (reverse (Seen 13 ∷ Seen 12 ∷ Seen 10 ∷ Seen 1 ∷ [])) ∷ [] ≡ 0 ∷ 0 ∷ []
+nothing_across_a_close = refl
 
 -- ---- a go at 22, and what it shows
 
@@ -92,8 +83,5 @@ king_at_21 : fits_at 21 48 ≡ true
 king_at_21 = refl
 
 -- so a go at 22 shows that each card left counts ten, and a go at 23 that it counts nine or ten
-go_at_22_tells_tens : least_of Owner Opponent (reverse (Seen 13 ∷ Seen 12 ∷ Seen 2 ∷ Go ∷ [])) ≡ 10
-go_at_22_tells_tens = refl
-
-go_at_23_tells_nines : least_of Owner Opponent (reverse (Seen 13 ∷ Seen 12 ∷ Seen 3 ∷ Go ∷ [])) ≡ 9
-go_at_23_tells_nines = refl
+gos_that_tell : map (λ rank. least_of Owner Opponent (reverse (Seen 13 ∷ Seen 12 ∷ Seen rank ∷ Go ∷ []))) (2 ∷ 3 ∷ []) ≡ 10 ∷ 9 ∷ []
+gos_that_tell = refl

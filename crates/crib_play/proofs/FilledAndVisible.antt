@@ -1,5 +1,6 @@
 -- Proves that the visible turns of a filled record are those that it was filled from.
-use Rattle.std.proofs.Common.{◌≡◌, ℕ, zero, suc, true, false, not, List, [], ◌∷◌, refl, ap, ◌∙◌, inl, inr}
+use Rattle.crib_play.specs.Laws.{FilledVisibleLaw, FilledHeardLaw}
+use Rattle.std.proofs.Common.{◌≡◌, ℕ, zero, suc, not, [], ◌∷◌, refl, ap, ◌∙◌, inl, inr}
 use Rattle.std.proofs.lemmas.Bool.{cases_Bool, and_parts, not-true}
 use Rattle.crib_cards.specs.declared.letters.Letter.{Letter}
 use Rattle.crib_cards.specs.declared.letters.Letter.TheVariants.{Seen, Go}
@@ -7,7 +8,6 @@ use Rattle.crib_cards.specs.Start.{Start, pone_of}
 use Rattle.crib_play.specs.Record.{Record, mover, is_heard}
 use Rattle.crib_play.specs.Score.{is_done}
 use Rattle.crib_play.specs.Filled.{visible_turns, is_silent_next, with_silent_gos, filled_record}
-use Rattle.crib_play.specs.Standing.{AreTaken, IsStart}
 use Rattle.crib_play.proofs.RecordStates.{heard_after}
 use Rattle.crib_play.proofs.RecordsReached.{Open, open_after, reached}
 
@@ -26,8 +26,7 @@ visible_turns-turn : (start : Start) (turn : Letter) (past : Record) → Open st
 visible_turns-turn start (Seen rank) past o = refl
 visible_turns-turn start Go past o = rw (heard_after start (mover (pone_of start) past) past ∙ o.held) refl
 
-pub visible_turns-filled_record : (start : Start) (seen : List Letter) → IsStart start → AreTaken start seen →
-    visible_turns (pone_of start) (filled_record start seen) ≡ seen
+pub visible_turns-filled_record : FilledVisibleLaw
 visible_turns-filled_record start [] is taken = refl
 visible_turns-filled_record start (turn ∷ seen) is taken =
     visible_turns-gos 3 start (turn ∷ filled_record start seen)
@@ -35,8 +34,7 @@ visible_turns-filled_record start (turn ∷ seen) is taken =
     ∙ ap (λ rest. turn ∷ rest) (visible_turns-filled_record start seen is taken.0)
 
 -- after a filled record the deal is done, or the side to move is heard
-pub heard-filled_record : (start : Start) (seen : List Letter) → IsStart start → AreTaken start seen → is_done start (filled_record start seen) ≡ false →
-    is_heard (pone_of start) (mover (pone_of start) (filled_record start seen)) (filled_record start seen) ≡ true
+pub heard-filled_record : FilledHeardLaw
 heard-filled_record start seen is taken d =
     heard_after start (mover (pone_of start) (filled_record start seen)) (filled_record start seen)
     ∙ (open_after start (filled_record start seen) (reached start seen is taken) d).held

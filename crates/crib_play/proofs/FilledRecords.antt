@@ -1,4 +1,5 @@
 -- Proves that a legal record is the filled record of its visible turns, where no silent go follows it.
+use Rattle.std.proofs.Common.{rules}
 use Rattle.std.proofs.Common.{◌≡◌, ℕ, zero, suc, ◌≤◌, true, false, not, List, [], ◌∷◌, ◌++◌, length, refl, sym, ap, ◌∙◌, inl, inr, arith}
 use Rattle.std.proofs.lemmas.Bool.{cases_Bool, cond_both, cond-true, cond-false, and_from, and_left, and_right, leb-true}
 use Rattle.crib_cards.specs.Start.{Start, pone_of, Hands}
@@ -33,33 +34,20 @@ module _ (pone : Side) (turn : Move) (past : List Move) where
 -- a record has at most as many visible turns as turns
 pub acts_fewer : (pone : Side) (played : List Move) → length (acts_of pone played) ≤ length played
 acts_fewer pone [] = omega arith
-acts_fewer pone (turn ∷ past) =
-    let rest = acts_fewer pone past in
-    elim (cases_Bool (is_visible pone (letter_of turn) (letters_of past))) [
-      | inl v ↦ let same = ap length (acts_visible pone turn past v) in omega (arith, rest, same)
-      | inr v ↦ let same = ap length (acts_silent pone turn past v) in omega (arith, rest, same)
-    ]
+acts_fewer pone (turn ∷ past) = search (rules, acts_fewer pone past, acts_visible pone turn past, acts_silent pone turn past)
 
 -- ---- the letters of moves
 pub letters_silent : (n : ℕ) (start : Start) (past : List Move) → letters_of (with_silent_moves n start past) ≡ with_silent_gos n start (letters_of past)
 letters_silent zero start past = refl
-letters_silent (suc n) start past = elim (cases_Bool (is_silent_next start (letters_of past))) [
-  | inl s ↦ rw s (letters_silent n start (move.Go ∷ past))
-  | inr s ↦ rw s refl
-]
+letters_silent (suc n) start past = search (rules, letters_silent n start (move.Go ∷ past))
 
 pub letters_filled : (start : Start) (seen : List Move) → letters_of (filled_moves start seen) ≡ filled_record start (letters_of seen)
 letters_filled start [] = refl
-letters_filled start (turn ∷ seen) =
-    letters_silent 3 start (turn ∷ filled_moves start seen)
-    ∙ ap (λ (past : Record). with_silent_gos 3 start (letter_of turn ∷ past)) (letters_filled start seen)
+letters_filled start (turn ∷ seen) = search (rules, letters_silent 3 start (turn ∷ filled_moves start seen), letters_filled start seen)
 
 pub letters_visible : (pone : Side) (past : List Move) → letters_of (visible_moves pone past) ≡ visible_turns pone (letters_of past)
 letters_visible pone [] = refl
-letters_visible pone (turn ∷ past) = elim (cases_Bool (is_visible pone (letter_of turn) (letters_of past))) [
-  | inl v ↦ rw v (ap (λ (rest : Record). letter_of turn ∷ rest) (letters_visible pone past))
-  | inr v ↦ rw v (letters_visible pone past)
-]
+letters_visible pone (turn ∷ past) = search (rules, letters_visible pone past)
 
 -- ---- what silent gos leave as it is
 pub silent_keeps : (P : List Move → Type 0) (start : Start) →
@@ -103,10 +91,7 @@ silent_go n start past e = cond-true (is_silent_next start (letters_of past)) (w
 pub silent_more : (n : ℕ) (start : Start) (past : List Move) → is_silent_next start (letters_of (with_silent_moves n start past)) ≡ false →
     with_silent_moves (suc n) start past ≡ with_silent_moves n start past
 silent_more zero start past e = silent_stop 1 start past e
-silent_more (suc n) start past e = elim (cases_Bool (is_silent_next start (letters_of past))) [
-  | inl s ↦ rw s (silent_more n start (move.Go ∷ past) (rw s at e))
-  | inr s ↦ rw s refl
-]
+silent_more (suc n) start past e = search (rules, silent_more n start (move.Go ∷ past))
 
 -- no silent go follows a filled record
 pub filled_stops : (start : Start) (seen : List Move) → IsStart start → AreTaken start (letters_of seen) →
@@ -156,13 +141,7 @@ fills_visible start hands turn past p may f v =
 fills_silent : (start : Start) (past : List Move) → IsStart start → is_done start (letters_of past) ≡ false → Fills start past →
     is_visible (pone_of start) Go (letters_of past) ≡ false → Fills start (move.Go ∷ past)
 fills_silent start past is d f v =
-    let pone = pone_of start in
-    let seen = visible_moves pone past in
-    let shows = moves_silent pone move.Go past v in
-    let silent : is_silent_next start (letters_of past) ≡ true = silent_is start (letters_of past) v d in
-    let stops : is_silent_next start (letters_of (with_silent_moves 3 start past)) ≡ false =
-    ap (λ (moves : List Move). is_silent_next start (letters_of moves)) (sym f.filled) ∙ filled_stops start seen is f.taken in
-    record { taken = rw shows f.taken; filled = rw shows (f.filled ∙ sym (silent_more 3 start past stops) ∙ silent_go 3 start past silent) }
+    search (rules, moves_silent, silent_is start (letters_of past) v d, filled_stops start, silent_more 3 start past, silent_go 3 start past)
 
 fills_turn : (start : Start) (hands : Hands) (turn : Move) (past : List Move) → IsStart start → Play start hands past → MayCome start hands turn past →
     Fills start past → Fills start (turn ∷ past)
@@ -174,9 +153,7 @@ fills_turn start hands move.Go past is p may f =
     ]
 
 fills_start : (start : Start) → IsStart start → Fills start []
-fills_start start is =
-    let stops : is_silent_next start [] ≡ false = filled_stops start [] is tt in
-    record { taken = tt; filled = sym (silent_stop 3 start [] stops) }
+fills_start start is = search (rules, filled_stops start [] is tt, silent_stop 3 start [])
 
 pub fills : (start : Start) (hands : Hands) (played : List Move) → IsStart start → IsDealt hands → IsLegal start hands played → Fills start played
 fills start hands [] is dealt legal = fills_start start is

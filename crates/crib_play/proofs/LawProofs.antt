@@ -5,12 +5,9 @@ use Rattle.crib_play.specs.Record.{Record}
 use Rattle.crib_play.specs.Standing.{AreTaken}
 use Rattle.crib_play.specs.Legal.{letters_of}
 use Rattle.crib_play.specs.History.{filled_moves}
-use Rattle.crib_play.specs.Laws.{VisibleLaw, SameEndLaw, LengthLaw}
-use Rattle.crib_play.specs.Laws.{ProgressLaw}
+use Rattle.crib_play.specs.Laws.{VisibleLaw, SameEndLaw}
 use Rattle.crib_play.proofs.FilledRecords.{fills, filled_whole, letters_visible, not_silent_done}
 use Rattle.crib_play.proofs.LegalRecords.{visible_legal}
-use Rattle.crib_play.proofs.RecordBounds.{at_most_29}
-use Rattle.crib_play.proofs.Progress.{some_turn}
 
 pub visible_law : VisibleLaw
 visible_law start hands played is =
@@ -24,9 +21,3 @@ same_end_law start hands others played other is are done done_too same =
     sym (filled_whole start hands played is.started is.dealt is.legal (not_silent_done start (letters_of played) done))
     ∙ ap (filled_moves start) same
     ∙ filled_whole start others other are.started are.dealt are.legal (not_silent_done start (letters_of other) done_too)
-
-pub length_law : LengthLaw
-length_law start hands played dealt legal = at_most_29 start hands played dealt legal
-
-pub progress_law : ProgressLaw
-progress_law start hands played going = some_turn start hands played going

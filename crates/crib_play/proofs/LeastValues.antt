@@ -1,12 +1,13 @@
 -- Proves that each card left to a side has at least the least value that its gos show, and that each visible turn changes this value by the rule.
-use Rattle.std.proofs.Common.{◌≡◌, ℕ, zero, suc, ◌+◌, ◌-◌, ◌≤◌, max, Bool, true, false, cond, not, ◌&&◌, eqb, leb, List, [], ◌∷◌, ◌++◌, refl, sym, ap, ◌∙◌}
+use Rattle.std.proofs.Common.{rules}
+use Rattle.crib_play.specs.Laws.{LeastLaw}
+use Rattle.std.proofs.Common.{◌≡◌, ℕ, zero, suc, ◌+◌, ◌-◌, ◌≤◌, max, Bool, true, false, cond, not, ◌&&◌, leb, List, [], ◌∷◌, refl, sym, ap, ◌∙◌}
 use Rattle.std.proofs.Common.{inl, inr, arith}
-use Rattle.std.specs.List.{list_any}
-use Rattle.std.proofs.lemmas.Bool.{cases_Bool, and_parts, and_left, and_right, not-true, both_ways, leb-false}
+use Rattle.std.proofs.lemmas.Bool.{cases_Bool, and_parts, not-true, leb-false}
 use Rattle.crib_cards.specs.Cards.{rank_of, rank_value, card_value}
 use Rattle.crib_cards.specs.Sets.{has}
 use Rattle.crib_cards.specs.Sides.{same_side}
-use Rattle.crib_cards.specs.Start.{Start, pone_of, Hands, hand_of}
+use Rattle.crib_cards.specs.Start.{Start, pone_of, Hands}
 use Rattle.crib_cards.specs.declared.sides.Side.{Side}
 use Rattle.crib_cards.specs.declared.letters.Letter.{Letter}
 use Rattle.crib_cards.specs.declared.letters.Letter.TheVariants.{Seen, Go}
@@ -17,7 +18,7 @@ use Rattle.crib_play.specs.Standing.{AreTaken, IsStart}
 use Rattle.crib_play.proofs.VisibleTurns.{count_seen, asked_seen}
 use Rattle.crib_cards.specs.declared.moves.Move.{Move}
 use Rattle.crib_cards.specs.declared.moves.Move.TheVariants as move
-use Rattle.crib_play.specs.Legal.{letters_of, cards_of, cards_left, fits, MayTake, IsLegal}
+use Rattle.crib_play.specs.Legal.{letters_of, cards_of, cards_left, fits, MayTake}
 use Rattle.crib_play.specs.Least.{least_with_go, least_of}
 use Rattle.crib_play.proofs.CardLemmas.{none_fewer, none_passes, has_played}
 use Rattle.crib_play.proofs.TurnFacts.{same_is, same_self}
@@ -27,22 +28,13 @@ use Rattle.crib_play.proofs.FilledAndVisible.{heard-filled_record}
 -- a card that is left after one more card was left before it
 left_before : (hands : Hands) (side : Side) (past : List Move) (played card : ℕ) → has (cards_left hands side (move.Card played ∷ past)) card ≡ true →
     has (cards_left hands side past) card ≡ true
-left_before hands side past played card h =
-    elim (cases_Bool (has (cards_left hands side past) card)) [
-      | inl held ↦ held
-      | inr out ↦
-          absurd (both_ways (has (cards_left hands side (move.Card played ∷ past)) card)
-          (none_fewer (λ x. not (has (cards_of past) x)) (λ x. not (has (cards_of past ++ played ∷ []) x)) (λ other. eqb other card) (λ other. eqb other card)
-          (λ x e. (and_parts (not (has (cards_of past) x)) _ (sym (has_played (cards_of past) played x) ∙ e)).0) (λ x e. e) (hand_of hands side) out) h)
-    ]
+left_before hands side past played card h = search (rules, none_fewer, has_played (cards_of past) played)
 
 -- a card that is left to a side after its go has too high a value to fit
 too_high : (hands : Hands) (m side : Side) (past : List Move) (card : ℕ) → MayTake hands m move.Go past → same_side m side ≡ true →
     has (cards_left hands side past) card ≡ true → 32 - count_of (pile_of (letters_of past)) ≤ card_value card
 too_high hands m side past card none same h =
-    high (count_of (pile_of (letters_of past))) (rank_of card)
-    (none_passes (fits past) (cards_left hands side past) card
-    (ap (λ (x : Side). list_any (fits past) (cards_left hands x past)) (sym (same_is m side same)) ∙ none) h)
+    search (rules, high (count_of (pile_of (letters_of past))) (rank_of card), none_passes (fits past) (cards_left hands side past) card, same_is m side same)
   where
     high : (n rank : ℕ) → leb (n + rank_value rank) 31 ≡ false → 32 - n ≤ rank_value rank
     high n rank e = omega (arith, leb-false (n + rank_value rank) 31 e)
@@ -51,25 +43,15 @@ both_below : (b : Bool) (low least value : ℕ) → (b ≡ true → low ≤ valu
 both_below true low least value gives is = let first = gives (λ _. true) in omega (arith, first, is)
 both_below false low least value gives is = is
 
-pub least_left : (start : Start) (hands : Hands) (side : Side) (played : List Move) (card : ℕ) → IsLegal start hands played →
-    has (cards_left hands side played) card ≡ true → least_of (pone_of start) side (letters_of played) ≤ card_value card
+pub least_left : LeastLaw
 least_left start hands side [] card legal h = omega arith
 least_left start hands side (move.Card rank ∷ past) card legal h = least_left start hands side past card legal.0 (left_before hands side past rank card h)
-least_left start hands side (move.Go ∷ past) card legal h =
-    let m = mover (pone_of start) (letters_of past) in
-    both_below (same_side m side && is_heard (pone_of start) side (letters_of past)) (32 - count_of (pile_of (letters_of past)))
-    (least_of (pone_of start) side (letters_of past)) (card_value card)
-    (λ e. too_high hands m side past card legal.1.may_take (and_parts (same_side m side) (is_heard (pone_of start) side (letters_of past)) e).0 h)
-    (least_left start hands side past card legal.0 h)
+least_left start hands side (move.Go ∷ past) card legal h = search (rules, both_below, too_high hands, least_left start hands side past card legal.0 h)
 
 -- ---- one more visible turn
 -- a go that is not heard shows nothing
 unheard_tells_none : (m side : Side) (heard : Side → Bool) → heard m ≡ false → (same_side m side && heard side) ≡ false
-unheard_tells_none m side heard e =
-    elim (cases_Bool (same_side m side)) [
-      | inl same ↦ and_right (same_side m side) (heard side) (ap heard (sym (same_is m side same)) ∙ e)
-      | inr other ↦ and_left (same_side m side) (heard side) other
-    ]
+unheard_tells_none m side heard e = search (rules, same_is m side)
 
 pub least_silent : (n : ℕ) (start : Start) (side : Side) (past : Record) →
     least_of (pone_of start) side (with_silent_gos n start past) ≡ least_of (pone_of start) side past
@@ -142,11 +124,4 @@ pub least_turned : (start : Start) (side : Side) (seen : List Letter) → IsStar
 least_turned start side [] is taken = refl
 least_turned start side (Seen rank ∷ seen) is taken = least_card start side seen rank ∙ least_turned start side seen is taken.0
 least_turned start side (Go ∷ seen) is taken =
-    let past = filled_record start seen in
-    let m = mover (pone_of start) past in
-    let rest = least_turned start side seen is taken.0 in
-    elim (cases_Bool (same_side m side)) [
-      | inl same ↦ rw same
-          (least_go start side seen is taken.0 (rw taken.1.not_done (ap side_asked (same_is m side same))) ∙ ap (least_with_go (count_seen start seen)) rest)
-      | inr other ↦ rw other (least_other start side seen Go other ∙ rest)
-    ]
+    search (rules, least_turned start side seen is taken.0, least_go start side seen is taken.0, same_is, least_other start side seen Go)

@@ -1,4 +1,5 @@
 -- Proves that visible turns which may be made one by one fill to a legal record, and that the visible turns of a legal record may be made so.
+use Rattle.std.proofs.Common.{rules}
 use Rattle.std.proofs.Common.{◌≡◌, ℕ, Bool, true, false, not, List, [], ◌∷◌, refl, sym, ap, ◌∙◌, inl, inr}
 use Rattle.std.proofs.lemmas.Bool.{cases_Bool, and_parts, not-true, not-false}
 use Rattle.std.proofs.Math.Bool.{and-true}
@@ -39,89 +40,74 @@ legal_gos n start hands past dealt legal =
       },
     )) n past legal
 
-pub legal_filled : (start : Start) (hands : Hands) (seen : List Move) → IsDealt hands → AreLegal start hands seen →
-    IsLegal start hands (filled_moves start seen)
-legal_filled start hands [] dealt are = tt
-legal_filled start hands (turn ∷ seen) dealt are =
-    legal_gos 3 start hands (turn ∷ filled_moves start seen) dealt (legal_filled start hands seen dealt are.0, are.1)
+-- where no silent go follows and the deal is not done, the player to move is heard
+pub heard_next : (start : Start) (past : Record) → is_silent_next start past ≡ false → is_done start past ≡ false →
+    is_heard (pone_of start) (mover (pone_of start) past) past ≡ true
+heard_next start past s d = search (rules, not-false, and-true)
 
 -- ---- the visible turns of a filled record are those that it was filled from
 acts_gos : (n : ℕ) (start : Start) (past : List Move) → acts_of (pone_of start) (with_silent_moves n start past) ≡ acts_of (pone_of start) past
 acts_gos n start past = silent_keeps (λ more. acts_of (pone_of start) more ≡ acts_of (pone_of start) past) start
     (λ more s same. acts_silent (pone_of start) move.Go more (silent_unheard start more s) ∙ same) n past refl
 
--- where no silent go follows and the deal is not done, the player to move is heard
-pub heard_next : (start : Start) (past : Record) → is_silent_next start past ≡ false → is_done start past ≡ false →
-    is_heard (pone_of start) (mover (pone_of start) past) past ≡ true
-heard_next start past s d =
-    let heard = is_heard (pone_of start) (mover (pone_of start) past) past in
-    not-false heard (sym (and-true (not heard)) ∙ (rw d at s))
+module _ (start : Start) (hands : Hands) where
+  pub legal_filled : (seen : List Move) → IsDealt hands → AreLegal start hands seen → IsLegal start hands (filled_moves start seen)
+  legal_filled [] dealt are = tt
+  legal_filled (turn ∷ seen) dealt are = legal_gos 3 start hands (turn ∷ filled_moves start seen) dealt (legal_filled seen dealt are.0, are.1)
 
-pub visible_heard : (start : Start) (turn : Move) (past : Record) → is_heard (pone_of start) (mover (pone_of start) past) past ≡ true →
-    is_visible (pone_of start) (letter_of turn) past ≡ true
-visible_heard start (move.Card card) past h = refl
-visible_heard start move.Go past h = h
+  taken_before : (seen : List Move) → IsStart start → IsDealt hands → AreLegal start hands seen →
+      visible_moves (pone_of start) (filled_moves start seen) ≡ seen → AreTaken start (letters_of seen)
+  taken_before seen is dealt are same = rw same at ((fills start hands (filled_moves start seen) is dealt (legal_filled seen dealt are)).taken)
 
-taken_before : (start : Start) (hands : Hands) (seen : List Move) → IsStart start → IsDealt hands → AreLegal start hands seen →
-    visible_moves (pone_of start) (filled_moves start seen) ≡ seen → AreTaken start (letters_of seen)
-taken_before start hands seen is dealt are same =
-    rw same at ((fills start hands (filled_moves start seen) is dealt (legal_filled start hands seen dealt are)).taken)
+  -- a turn that may come after a filled record is visible
+  visible_come : (turn : Move) (seen : List Move) → IsStart start → AreTaken start (letters_of seen) → MayCome start hands turn (filled_moves start seen) →
+      is_visible (pone_of start) (letter_of turn) (letters_of (filled_moves start seen)) ≡ true
+  visible_come move.Go seen is taken may = heard_next start (letters_of (filled_moves start seen)) (filled_stops start seen is taken) may.not_done
+  visible_come (move.Card card) seen is taken may = refl
 
--- a turn that may come after a filled record is visible
-visible_come : (start : Start) (hands : Hands) (turn : Move) (seen : List Move) → IsStart start → AreTaken start (letters_of seen) →
-    MayCome start hands turn (filled_moves start seen) →
-    is_visible (pone_of start) (letter_of turn) (letters_of (filled_moves start seen)) ≡ true
-visible_come start hands turn seen is taken may =
-    visible_heard start turn (letters_of (filled_moves start seen))
-    (heard_next start (letters_of (filled_moves start seen)) (filled_stops start seen is taken) may.not_done)
+  pub visible_filled : (seen : List Move) → IsStart start → IsDealt hands → AreLegal start hands seen →
+      visible_moves (pone_of start) (filled_moves start seen) ≡ seen
+  visible_filled [] is dealt are = refl
+  visible_filled (turn ∷ seen) is dealt are =
+      let before = visible_filled seen is dealt are.0 in
+      let past = filled_moves start seen in
+      ap moves_of (acts_gos 3 start (turn ∷ past))
+      ∙ moves_visible (pone_of start) turn past (visible_come turn seen is (taken_before seen is dealt are.0 before) are.1)
+      ∙ ap (λ (rest : List Move). turn ∷ rest) before
 
-pub visible_filled : (start : Start) (hands : Hands) (seen : List Move) → IsStart start → IsDealt hands → AreLegal start hands seen →
-    visible_moves (pone_of start) (filled_moves start seen) ≡ seen
-visible_filled start hands [] is dealt are = refl
-visible_filled start hands (turn ∷ seen) is dealt are =
-    let before = visible_filled start hands seen is dealt are.0 in
-    let past = filled_moves start seen in
-    ap moves_of (acts_gos 3 start (turn ∷ past))
-    ∙ moves_visible (pone_of start) turn past (visible_come start hands turn seen is (taken_before start hands seen is dealt are.0 before) are.1)
-    ∙ ap (λ (rest : List Move). turn ∷ rest) before
+  pub taken_legal : (seen : List Move) → IsStart start → IsDealt hands → AreLegal start hands seen → AreTaken start (letters_of seen)
+  taken_legal seen is dealt are = taken_before seen is dealt are (visible_filled seen is dealt are)
 
-pub taken_legal : (start : Start) (hands : Hands) (seen : List Move) → IsStart start → IsDealt hands → AreLegal start hands seen →
-    AreTaken start (letters_of seen)
-taken_legal start hands seen is dealt are = taken_before start hands seen is dealt are (visible_filled start hands seen is dealt are)
+  -- the same, for turns that may be made one by one
+  pub visible_after : (turn : Move) (seen : List Move) → IsStart start → IsDealt hands → AreLegal start hands seen →
+      MayCome start hands turn (filled_moves start seen) → is_visible (pone_of start) (letter_of turn) (letters_of (filled_moves start seen)) ≡ true
+  visible_after turn seen is dealt are may = visible_come turn seen is (taken_legal seen is dealt are) may
 
--- the same, for turns that may be made one by one
-pub visible_after : (start : Start) (hands : Hands) (turn : Move) (seen : List Move) → IsStart start → IsDealt hands → AreLegal start hands seen →
-    MayCome start hands turn (filled_moves start seen) →
-    is_visible (pone_of start) (letter_of turn) (letters_of (filled_moves start seen)) ≡ true
-visible_after start hands turn seen is dealt are may = visible_come start hands turn seen is (taken_legal start hands seen is dealt are) may
+  -- with such a turn, the filled record has one visible turn more
+  pub acts_more : (turn : Move) (seen : List Move) → IsStart start → IsDealt hands → AreLegal start hands (turn ∷ seen) →
+      acts_of (pone_of start) (filled_moves start (turn ∷ seen))
+      ≡ act_by (pone_of start) turn (filled_moves start seen) ∷ acts_of (pone_of start) (filled_moves start seen)
+  acts_more turn seen is dealt are =
+      acts_gos 3 start (turn ∷ filled_moves start seen)
+      ∙ acts_visible (pone_of start) turn (filled_moves start seen) (visible_after turn seen is dealt are.0 are.1)
 
--- with such a turn, the filled record has one visible turn more
-pub acts_more : (start : Start) (hands : Hands) (turn : Move) (seen : List Move) → IsStart start → IsDealt hands → AreLegal start hands (turn ∷ seen) →
-    acts_of (pone_of start) (filled_moves start (turn ∷ seen))
-    ≡ act_by (pone_of start) turn (filled_moves start seen) ∷ acts_of (pone_of start) (filled_moves start seen)
-acts_more start hands turn seen is dealt are =
-    acts_gos 3 start (turn ∷ filled_moves start seen)
-    ∙ acts_visible (pone_of start) turn (filled_moves start seen) (visible_after start hands turn seen is dealt are.0 are.1)
+  -- ---- the visible turns of a legal record
+  -- the record before a visible turn is a filled record
+  pub filled_before : (turn : Move) (past : List Move) → IsStart start → IsDealt hands → IsLegal start hands past → MayCome start hands turn past →
+      is_visible (pone_of start) (letter_of turn) (letters_of past) ≡ true → filled_moves start (visible_moves (pone_of start) past) ≡ past
+  filled_before turn past is dealt legal may v =
+      filled_law start hands past is dealt legal
+      ∙ silent_stop 3 start past (not_silent_heard start (letters_of past) (heard_visible start hands turn past (play_of start hands dealt past legal) may v))
 
--- ---- the visible turns of a legal record
--- the record before a visible turn is a filled record
-pub filled_before : (start : Start) (hands : Hands) (turn : Move) (past : List Move) → IsStart start → IsDealt hands → IsLegal start hands past →
-    MayCome start hands turn past →
-    is_visible (pone_of start) (letter_of turn) (letters_of past) ≡ true → filled_moves start (visible_moves (pone_of start) past) ≡ past
-filled_before start hands turn past is dealt legal may v =
-    filled_law start hands past is dealt legal
-    ∙ silent_stop 3 start past (not_silent_heard start (letters_of past) (heard_visible start hands turn past (play_of start hands dealt past legal) may v))
-
-pub visible_legal : (start : Start) (hands : Hands) (played : List Move) → IsStart start → IsDealt hands → IsLegal start hands played →
-    AreLegal start hands (visible_moves (pone_of start) played)
-visible_legal start hands [] is dealt legal = tt
-visible_legal start hands (turn ∷ past) is dealt legal =
-    let pone = pone_of start in
-    elim (cases_Bool (is_visible pone (letter_of turn) (letters_of past))) [
-      | inl v ↦ rw (moves_visible pone turn past v)
-          (visible_legal start hands past is dealt legal.0, rw (filled_before start hands turn past is dealt legal.0 legal.1 v) legal.1)
-      | inr v ↦ rw (moves_silent pone turn past v) (visible_legal start hands past is dealt legal.0)
-    ]
+  pub visible_legal : (played : List Move) → IsStart start → IsDealt hands → IsLegal start hands played →
+      AreLegal start hands (visible_moves (pone_of start) played)
+  visible_legal [] is dealt legal = tt
+  visible_legal (turn ∷ past) is dealt legal =
+      elim (cases_Bool (is_visible (pone_of start) (letter_of turn) (letters_of past))) [
+        | inl v ↦ rw (moves_visible (pone_of start) turn past v)
+            (visible_legal past is dealt legal.0, rw (filled_before turn past is dealt legal.0 legal.1 v) legal.1)
+        | inr v ↦ rw (moves_silent (pone_of start) turn past v) (visible_legal past is dealt legal.0)
+      ]
 
 -- ---- records with the same visible turns
 pub same_filled : (start : Start) (hands others : Hands) (played other : List Move) → IsStart start → IsDealt hands → IsDealt others →

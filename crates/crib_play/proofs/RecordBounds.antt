@@ -1,10 +1,12 @@
 -- Bounds on legal records: at most three gos follow a card, and there are at most 29 turns.
+use Rattle.std.proofs.Common.{rules}
+use Rattle.crib_play.specs.Laws.{GosLaw, FirstTurnLaw, LengthLaw, HighGoLaw}
 use Rattle.std.proofs.Common.{◌≡◌, ℕ, ◌+◌, ◌-◌, ◌*◌, ◌≤◌, Bool, true, false, cond, not, ◌&&◌, eqb, List, [], ◌∷◌, length, length-append, refl}
-use Rattle.std.proofs.Common.{sym, ap, subst, ◌∙◌, inl, inr, arith}
+use Rattle.std.proofs.Common.{sym, ap, ◌∙◌, inl, inr, arith}
 use Rattle.std.specs.List.{list_any}
 use Rattle.std.proofs.lemmas.Bool.Decides.{nat_tests}
 use Rattle.std.proofs.Math.Bool.{and-true, and-false}
-use Rattle.std.proofs.lemmas.Bool.{cases_Bool, or_parts, both_ways, cases_lt, false≢true, true≢false, le-leb, eqb-false}
+use Rattle.std.proofs.lemmas.Bool.{cases_Bool, or_parts, both_ways, false≢true, true≢false, le-leb, eqb-false}
 use Rattle.crib_cards.specs.Cards.{rank_of, card_value}
 use Rattle.crib_cards.specs.Sides.{other_side, same_side, are_decided}
 use Rattle.crib_cards.specs.Start.{Start, pone_of, Hands}
@@ -12,7 +14,7 @@ use Rattle.crib_cards.specs.declared.sides.Side.{Side}
 use Rattle.crib_cards.specs.declared.sides.Side.TheVariants.{Owner, Opponent}
 use Rattle.crib_cards.specs.declared.letters.Letter.{Letter}
 use Rattle.crib_cards.specs.declared.letters.Letter.TheVariants.{Seen, Go}
-use Rattle.crib_play.specs.Record.{Record, cards_in, count_of, is_begun, sequence_of, pile_of, closes, mover, cards_played, is_heard}
+use Rattle.crib_play.specs.Record.{Record, cards_in, is_begun, sequence_of, pile_of, closes, mover, cards_played}
 use Rattle.crib_play.specs.Score.{scores_after, is_done}
 use Rattle.crib_play.proofs.RecordStates.{is_go_first, first_card, closes-go}
 use Rattle.crib_play.proofs.SilentGos.{other_twice}
@@ -67,19 +69,13 @@ out_of_cards hands side past e none = none_where_all (fits past) (all_fit past e
 
 -- no go comes before the first card
 no_first_go : (start : Start) (hands : Hands) → IsDealt hands → MayCome start hands move.Go [] → ⊥
-no_first_go start hands dealt may =
-    let total = (play_of start hands dealt [] tt).left (pone_of start) in
-    let none = out_of_cards hands (pone_of start) [] refl may.may_take in
-    absurd (omega (arith, total, none))
+no_first_go start hands dealt may = search (rules, play_of start hands dealt [] tt, out_of_cards hands (pone_of start) [])
 
 -- ---- the gos after a card
 -- how many gos at most follow the last card, by whether the last turn is a go in this count and whether the pile has a card. A pile that has a card has at most
 -- one go over it, as the last turn. Two gos close a pile, and a third one follows only where its player has no card left
 abbrev most_gos : Bool → Bool → ℕ
 most_gos went begun = cond begun (cond went 1 0) (cond went 3 2)
-
-most_three : (went begun : Bool) → most_gos went begun ≤ 3
-most_three went begun = grind (arith, nat_tests)
 
 -- one go more closes the pile if it is the second one over it
 most_more : (went begun : Bool) (n : ℕ) → (went ≡ true → begun ≡ true) → n ≤ most_gos went begun →
@@ -104,16 +100,10 @@ pub record Bounds (start : Start) (hands : Hands) (past : List Move) : Type 0 wh
   pub long : length past + 3 ≤ 4 * length (cards_in (letters_of past)) + gos_since (letters_of past) + 3 * (1 - length (cards_in (letters_of past)))
 
 at_most_three : (start : Start) (hands : Hands) (past : List Move) → Bounds start hands past → gos_since (letters_of past) ≤ 3
-at_most_three start hands past b =
-    let few = b.gos in
-    omega (arith, few, most_three (is_go_first (sequence_of (letters_of past))) (is_begun (pile_of (letters_of past))))
+at_most_three start hands past b = grind (arith, nat_tests, b.gos)
 
 long_card : (n k more g : ℕ) → more ≡ k + 1 → g ≤ 3 → n + 3 ≤ 4 * k + g + 3 * (1 - k) → (k ≡ 0 → n ≡ 0) → n + 1 + 3 ≤ 4 * more + 0 + 3 * (1 - more)
-long_card n k more g e three long none =
-    elim (cases_lt 0 k) [
-      | inl some ↦ omega (arith, some)
-      | inr none_k ↦ let zero_k : k ≡ 0 = omega arith in let zero_n : n ≡ 0 = none zero_k in omega (arith, zero_k, zero_n)
-    ]
+long_card n k more g e three long none = search rules
 
 bounds_card : (start : Start) (hands : Hands) (past : List Move) (card : ℕ) → Bounds start hands past → Bounds start hands (move.Card card ∷ past)
 bounds_card start hands past card b =
@@ -139,9 +129,6 @@ module _ (start : Start) (hands : Hands) (dealt : IsDealt hands) (past : List Mo
   abbrev begun : Bool
   begun = is_begun (pile_of (letters_of past))
 
-  never_first : length (cards_in (letters_of past)) ≡ 0 → ⊥
-  never_first e = let C : List Move → Type 0 = λ moves. MayCome start hands move.Go moves in no_first_go start hands dealt (subst C (b.first e) may)
-
   -- there is no second go over an empty pile
   never_twice : is_go_first recent ≡ true → begun ≡ true
   never_twice went =
@@ -163,7 +150,7 @@ module _ (start : Start) (hands : Hands) (dealt : IsDealt hands) (past : List Mo
           ap (λ (side : Side). length (cards_left hands side past)) (other_twice (mover (pone_of start) (letters_of past)))
           ∙ out_of_cards hands (mover (pone_of start) (letters_of past)) past (rw open_now at off) may.may_take
     ];
-    first = λ e. absurd (never_first e);
+    first = λ e. absurd (no_first_go start hands dealt (rw (b.first e) at may));
     long = (let long = b.long in omega (arith, long));
   }
 
@@ -172,43 +159,30 @@ bounds_turn : (start : Start) (hands : Hands) → IsDealt hands → (turn : Move
 bounds_turn start hands dealt (move.Card card) past p may b = bounds_card start hands past card b
 bounds_turn start hands dealt move.Go past p may b = bounds_go start hands dealt past p may b
 
-bounds_start : (start : Start) (hands : Hands) → Bounds start hands []
-bounds_start start hands = record { gos = omega arith; out = λ _ e. absurd (false≢true e); first = λ _. refl; long = omega arith }
-
 pub bounds_of : (start : Start) (hands : Hands) → IsDealt hands → (past : List Move) → IsLegal start hands past → Bounds start hands past
-bounds_of start hands dealt [] legal = bounds_start start hands
+bounds_of start hands dealt [] legal = record { gos = omega arith; out = λ _ e. absurd (false≢true e); first = λ _. refl; long = omega arith }
 bounds_of start hands dealt (turn ∷ past) legal =
     bounds_turn start hands dealt turn past (play_of start hands dealt past legal.0) legal.1 (bounds_of start hands dealt past legal.0)
 
 -- ---- the laws
-pub three_gos : (start : Start) (hands : Hands) (played : List Move) → IsDealt hands → IsLegal start hands played → gos_since (letters_of played) ≤ 3
+pub three_gos : GosLaw
 three_gos start hands played dealt legal = at_most_three start hands played (bounds_of start hands dealt played legal)
 
-pub no_first_turn : (start : Start) (hands : Hands) (played : List Move) → IsDealt hands → IsLegal start hands played →
-    length (cards_in (letters_of played)) ≡ 0 → played ≡ []
+pub no_first_turn : FirstTurnLaw
 no_first_turn start hands played dealt legal = (bounds_of start hands dealt played legal).first
 
 long_turn : (start : Start) (hands : Hands) (turn : Move) (past : List Move) → Play start hands (turn ∷ past) → MayCome start hands turn past →
     Bounds start hands (turn ∷ past) → length (turn ∷ past) ≤ 29
 long_turn start hands (move.Card card) past p may b =
-    let long = b.long in
-    let eight = eight_at_most start hands (move.Card card ∷ past) p in
-    let number : length (cards_in (letters_of (move.Card card ∷ past))) ≡ length (cards_in (letters_of past)) + 1 =
-    length-append (cards_in (letters_of past)) (rank_of card ∷ []) in
-    omega (arith, long, eight, number)
+    search (rules, eight_at_most start hands (move.Card card ∷ past) p, length-append (cards_in (letters_of past)) (rank_of card ∷ []))
 long_turn start hands move.Go past p may b =
-    let long = b.long in
-    let three = at_most_three start hands (move.Go ∷ past) b in
-    let eight = eight_at_most start hands (move.Go ∷ past) p in
-    let less : length (cards_in (letters_of past)) ≡ 8 → ⊥ = not_eight start (letters_of past) may.not_done in
-    omega (arith, long, three, eight, less)
+    search (rules, at_most_three start hands (move.Go ∷ past) b, eight_at_most start hands (move.Go ∷ past) p, not_eight start (letters_of past) may.not_done)
 
-pub at_most_29 : (start : Start) (hands : Hands) (played : List Move) → IsDealt hands → IsLegal start hands played → length played ≤ 29
+pub at_most_29 : LengthLaw
 at_most_29 start hands [] dealt legal = omega arith
 at_most_29 start hands (turn ∷ past) dealt legal =
     long_turn start hands turn past (play_of start hands dealt (turn ∷ past) legal) legal.1 (bounds_of start hands dealt (turn ∷ past) legal)
 
-pub high_visible_go : (start : Start) (hands : Hands) (past : List Move) → IsDealt hands → IsLegal start hands (move.Go ∷ past) →
-    is_heard (pone_of start) (mover (pone_of start) (letters_of past)) (letters_of past) ≡ true → 22 ≤ count_of (pile_of (letters_of past))
+pub high_visible_go : HighGoLaw
 high_visible_go start hands past dealt legal heard =
     high_go start hands past (play_of start hands dealt past legal.0) (mover (pone_of start) (letters_of past)) legal.1.may_take heard

@@ -1,4 +1,5 @@
 -- The state of a record, step by step: a few facts about the turns so far show what the next turn changes.
+use Rattle.std.proofs.Common.{rules}
 use Rattle.std.proofs.Common.{◌≡◌, ℕ, ◌+◌, ◌-◌, zero, suc, Bool, true, false, cond, not, ◌&&◌, ◌||◌, eqb, ltb, List, [], ◌∷◌, ◌++◌, length, length-append, refl}
 use Rattle.std.proofs.Common.{sym, ap, ◌∙◌, inl, inr, arith}
 use Rattle.std.proofs.lemmas.Bool.Decides.{nat_tests}
@@ -16,7 +17,7 @@ use Rattle.crib_play.specs.declared.turns.Turn.TheVariants as turns
 use Rattle.crib_play.specs.declared.seats.Seat.{Seat}
 use Rattle.crib_play.specs.Record.{Record, cards_in, count_of, is_begun, is_close, sequence_of, pile_of, closes, mover, turns_of, cards_played, has_said_go}
 use Rattle.crib_play.specs.Record.{is_heard}
-use Rattle.crib_play.specs.Points.{card_points, turn_points, last_player, points_for, points_in}
+use Rattle.crib_play.specs.Points.{card_points, last_player, points_for, points_in}
 use Rattle.crib_play.specs.Score.{scores_after, is_done, side_asked}
 use Rattle.crib_play.specs.Filled.{is_silent_next, with_silent_gos}
 use Rattle.crib_play.specs.Standing.{Standing, standing_after}
@@ -78,11 +79,6 @@ go_closing s = record s { mover = other_side s.mover; go_last = false; pile = []
 abbrev pub step_go : State → State
 step_go s = cond (closes_by_go s) (go_closing s) (go_open s)
 
--- points of a side change its score alone
-scored : (b : Bool) (score points before : ℕ) →
-    score_with score (cond b points 0 + before) ≡ cond b (score_with (score_with score before) points) (score_with score before)
-scored b score points before = grind (arith, nat_tests)
-
 -- the scores after further points of one side
 scores_more : (start : Start) (past : Record) (side : Side) (points : ℕ) →
     ◌≡◌ {A = Scores}
@@ -91,14 +87,8 @@ scores_more : (start : Start) (past : Record) (side : Side) (points : ℕ) →
       opponent = score_with start.scores.opponent (cond (same_side side Opponent) points 0 + points_for (pone_of start) Opponent past);
     })
     (scores_with (scores_after start past) side points)
-scores_more start past Owner points = λ i. record {
-  owner = scored true start.scores.owner points (points_for (pone_of start) Owner past) i;
-  opponent = scored false start.scores.opponent points (points_for (pone_of start) Opponent past) i;
-}
-scores_more start past Opponent points = λ i. record {
-  owner = scored false start.scores.owner points (points_for (pone_of start) Owner past) i;
-  opponent = scored true start.scores.opponent points (points_for (pone_of start) Opponent past) i;
-}
+scores_more start past Owner points = grind (arith, nat_tests)
+scores_more start past Opponent points = grind (arith, nat_tests)
 
 close_step : (recent : List Letter) → is_close Go recent ≡ (is_go_first recent && is_begun (cards_in recent))
 close_step [] = refl
@@ -122,16 +112,7 @@ pile_card : (b : Bool) (rank : ℕ) (recent : List Letter) → cards_in (cond b 
 pile_card b rank recent = grind (arith, nat_tests)
 
 pub state_after-card : (start : Start) (past : Record) (rank : ℕ) → state_after start (Seen rank ∷ past) ≡ step_card (state_after start past) rank
-state_after-card start past rank =
-    let c : Bool = closes (Seen rank) past in
-    let m = mover (pone_of start) past in
-    λ i. record (step_card (state_after start past) rank) {
-      go_last = first_card c rank (sequence_of past) i;
-      pile = pile_card c rank (sequence_of past) i;
-      scores = scores_more start past m (turn_points (Seen rank) past) i;
-      played = length-append (cards_in past) (rank ∷ []) i;
-      left = λ side. left_card (same_side m side) rank (turns_of (pone_of start) side past) i;
-    }
+state_after-card start past rank = search (rules, first_card, pile_card, scores_more start past, length-append (cards_in past) (rank ∷ []), left_card)
 
 -- no points change no score
 unscored : (b : Bool) (score before : ℕ) → score_with score (cond b 0 0 + before) ≡ score_with score before
@@ -200,30 +181,17 @@ heard_after start side past = ap (λ (b : Bool). b && not (has_said_go (pone_of 
 
 pub standing_after-state : (start : Start) (past : Record) →
     standing_after start past ≡ face start.target (state_after start past) (asked_of start.target (state_after start past))
-standing_after-state start past = λ i. record (standing_after start past) {
-  owner = record { left = 4 - cards_played (pone_of start) Owner past; may_be_asked = heard_after start Owner past i };
-  opponent = record { left = 4 - cards_played (pone_of start) Opponent past; may_be_asked = heard_after start Opponent past i };
-}
+standing_after-state start past = search (rules, heard_after start Owner past, heard_after start Opponent past)
 
 silent_after : (start : Start) (past : Record) → is_silent_next start past ≡ is_silent start.target (state_after start past)
 silent_after start past = ap (λ (b : Bool). not b && not (is_done start past)) (heard_after start (mover (pone_of start) past) past)
 
 pub state_after-gos : (n : ℕ) (start : Start) (past : Record) → state_after start (with_silent_gos n start past) ≡ gos n start.target (state_after start past)
 state_after-gos zero start past = refl
-state_after-gos (suc n) start past =
-    elim (cases_Bool (is_silent_next start past)) [
-      | inl is ↦ rw (is, sym (silent_after start past) ∙ is) (state_after-gos n start (Go ∷ past) ∙ ap (gos n start.target) (state_after-go start past))
-      | inr is ↦ rw (is, sym (silent_after start past) ∙ is) refl
-    ]
+state_after-gos (suc n) start past = grind (arith, nat_tests, silent_after start past, state_after-gos n start (Go ∷ past), state_after-go start past)
 
 pub points_in-gos : (n : ℕ) (start : Start) (past : Record) →
     points_in (with_silent_gos n start past) ≡ gos_points n start.target (state_after start past) + points_in past
 points_in-gos zero start past = omega arith
 points_in-gos (suc n) start past =
-    elim (cases_Bool (is_silent_next start past)) [
-      | inl is ↦
-          let points = ap (gos_points n start.target) (state_after-go start past) in
-          let closing = ap {B = ℕ} (λ (c : Bool). cond c 1 0) (closes-go start past) in
-          rw (is, sym (silent_after start past) ∙ is) (omega (arith, points, closing, points_in-gos n start (Go ∷ past)))
-      | inr is ↦ rw (is, sym (silent_after start past) ∙ is) (omega arith)
-    ]
+    grind (arith, nat_tests, state_after-go start past, closes-go start past, silent_after start past, points_in-gos n start (Go ∷ past))

@@ -1,7 +1,7 @@
 -- Lemmas about the filled record of visible turns, turn by turn.
-use Rattle.std.proofs.Common.{◌≡◌, ℕ, ◌+◌, ◌≤◌, Bool, true, false, cond, List, [], ◌∷◌, refl, sym, ap, subst, ◌∙◌}
-use Rattle.std.proofs.Common.{inl, inr, arith}
-use Rattle.std.proofs.lemmas.Bool.{cases_Bool, false≢true}
+use Rattle.std.proofs.Common.{rules}
+use Rattle.std.proofs.Common.{◌≡◌, ℕ, ◌+◌, ◌≤◌, Bool, true, false, cond, List, [], ◌∷◌, refl, sym, ap, ◌∙◌}
+use Rattle.std.proofs.Common.{arith}
 use Rattle.crib_cards.specs.Cards.{rank_value}
 use Rattle.crib_cards.specs.declared.sides.Side.{Side}
 use Rattle.crib_cards.specs.declared.sides.Side.TheVariants.{Owner, Opponent}
@@ -16,7 +16,7 @@ use Rattle.crib_play.specs.Filled.{filled_record, with_silent_gos, points_added}
 use Rattle.crib_play.specs.Standing.{Standing, standing_after, MayFollow, AreTaken, IsStart, StandsFor, seat_of}
 use Rattle.crib_play.specs.Private.TableChanges.{with_seat, with_go_said, with_next_asked, points_of_asking, table_after_play, points_of_play, table_after_go}
 use Rattle.crib_play.specs.Private.TableChanges.{points_of_go}
-use Rattle.crib_play.proofs.RecordStates.{State, state_after, step_card, step_go, done, heard_of, gos, gos_points, face, asked_of, state_after-card}
+use Rattle.crib_play.proofs.RecordStates.{State, state_after, step_card, step_go, done, heard_of, gos, gos_points, asked_of, state_after-card}
 use Rattle.crib_play.proofs.RecordStates.{state_after-go, state_after-gos, points_in-gos, standing_after-state, closes-go}
 use Rattle.crib_play.specs.Sound.{IsSound}
 use Rattle.crib_play.proofs.SoundLemmas.{sound_played, sound_passed, sound_heard}
@@ -31,11 +31,7 @@ never_over Opponent e = cc
 -- the side that is asked is the side to move, and the deal is not done
 pub asked_mover : (start : Start) (past : Record) (side : Side) → asked_after start past ≡ side_asked side → (is_done start past ≡ false) ×
     (mover (pone_of start) past ≡ side)
-asked_mover start past side e =
-    elim (cases_Bool (is_done start past)) [
-      | inl d ↦ absurd (never_over side (rw d at e))
-      | inr d ↦ (d, same (mover (pone_of start) past) side (rw d at e))
-    ]
+asked_mover start past side e = search (rules, never_over side, same (mover (pone_of start) past) side)
   where
     same : (a b : Side) → side_asked a ≡ side_asked b → a ≡ b
     same Owner Owner e = refl
@@ -55,17 +51,7 @@ pub record Open (start : Start) (past : Record) : Type 0 where
   pub turned : IsTurned (state_after start past)
 
 pub open_after : (start : Start) (past : Record) → Reached start past → is_done start past ≡ false → Open start past
-open_after start past r d =
-    let m = mover (pone_of start) past in
-    let s = state_after start past in
-    let S : Standing → Type 0 = λ x. IsSound x in
-    record {
-      not_done = d;
-      held =
-          sym (seat_heard start.target s (asked_of start.target s) m)
-          ∙ sound_heard (face start.target s (asked_of start.target s)) m (subst S (standing_after-state start past) r.sound) (rw d refl);
-      turned = r.turned;
-    }
+open_after start past r d = search (rules, seat_heard start.target, sound_heard, standing_after-state start past)
 
 -- with one more turn and its silent gos, such a record shows this table, and has so many points more
 record Adds (start : Start) (turn : Letter) (past : Record) (after : Standing) (more : ℕ) : Type 0 where
@@ -108,12 +94,7 @@ go_adds start past o high =
 reached_more : (start : Start) (turn : Letter) (past : Record) (next : State) (after : Standing) (more : ℕ) → state_after start (turn ∷ past) ≡ next →
     IsTurned next → Adds start turn past after more → IsSound after → Reached start (with_silent_gos 3 start (turn ∷ past))
 reached_more start turn past next after more is turned added sound =
-    let T : State → Type 0 = λ s. IsTurned s in
-    let S : Standing → Type 0 = λ x. IsSound x in
-    record {
-      turned = subst T (sym (state_after-gos 3 start (turn ∷ past) ∙ ap (gos 3 start.target) is)) (turned_gos 3 start.target next turned);
-      sound = subst S (sym added.table) sound;
-    }
+    search (rules, state_after-gos 3 start (turn ∷ past), turned_gos 3 start.target next turned)
 
 reached_turn : (start : Start) (turn : Letter) (past : Record) → MayFollow start turn past → Reached start past →
     Reached start (with_silent_gos 3 start (turn ∷ past))
@@ -129,22 +110,7 @@ reached_turn start Go past may r =
     (sound_passed (standing_after start past) (mover (pone_of start) past) r.sound.fair)
 
 reached_start : (start : Start) → IsStart start → Reached start []
-reached_start start is = record {
-  turned = record { total = omega arith; after_go = λ e. absurd (false≢true e); after_card = λ _. refl };
-  sound = record {
-    fair = record {
-      room = omega arith;
-      owner_score = omega arith;
-      opponent_score = omega arith;
-      owner_four = omega arith;
-      opponent_four = omega arith;
-      owner_seat = λ _. omega arith;
-      opponent_seat = λ _. omega arith;
-    };
-    owner_asked = λ _. refl;
-    opponent_asked = λ _. refl;
-  };
-}
+reached_start start is = search rules
 
 pub reached : (start : Start) (seen : List Letter) → IsStart start → AreTaken start seen → Reached start (filled_record start seen)
 reached start [] is taken = reached_start start is

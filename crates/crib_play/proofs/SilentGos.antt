@@ -1,4 +1,5 @@
 -- Proves that the silent gos after a visible turn lead to the table that `with_next_asked` says.
+use Rattle.std.proofs.Common.{rules}
 use Rattle.std.proofs.Common.{◌≡◌, ℕ, ◌+◌, suc, true, false, cond, ◌&&◌, ◌||◌, eqb, ltb, refl, sym, ap, ◌∙◌, inl, inr, arith}
 use Rattle.std.proofs.lemmas.Bool.Decides.{nat_tests}
 use Rattle.std.proofs.lemmas.Bool.{cases_Bool}
@@ -13,7 +14,7 @@ use Rattle.crib_play.specs.Score.{side_asked}
 use Rattle.crib_play.specs.Standing.{Standing, seat_of}
 use Rattle.crib_play.specs.Private.TableChanges.{is_over, table_after_close, with_points, with_next_asked, points_of_asking}
 use Rattle.crib_play.proofs.RecordStates.{State, closes_by_go, go_open, go_closing, done, heard_of, is_silent, gos, gos_points, face, asked_of}
-use Rattle.crib_play.proofs.TurnFacts.{same_is, same_self}
+use Rattle.crib_play.proofs.TurnFacts.{same_self}
 
 abbrev pub shown : ℕ → State → Standing
 shown target s = face target s (asked_of target s)
@@ -39,17 +40,7 @@ heard_open_mover s o is = rw (is, same_self o) (and-false (ltb 0 (s.left o)))
 
 -- a go of a side that is not heard changes nothing on the table
 face_open : (target : ℕ) (s : State) (turn : Turn) (o : Side) → s.mover ≡ o → heard_of s o ≡ false → face target (go_open s) turn ≡ face target s turn
-face_open target s turn o is e = λ i. record (face target s turn) {
-  owner = record { left = s.left Owner; may_be_asked = same Owner i };
-  opponent = record { left = s.left Opponent; may_be_asked = same Opponent i };
-}
-  where
-    same : (side : Side) → heard_of (go_open s) side ≡ heard_of s side
-    same side =
-        elim (cases_Bool (same_side o side)) [
-          | inl mine ↦ rw (is, mine, and-false) (sym e ∙ ap (heard_of s) (same_is o side mine))
-          | inr other ↦ rw (is, other) refl
-        ]
+face_open target s turn o is e = grind (arith, nat_tests)
 
 -- ---- what `with_next_asked` says
 over_is : (target : ℕ) (s : State) (turn : Turn) → IsSum s → is_over (face target s turn) ≡ done target s
@@ -92,7 +83,8 @@ module _ (target : ℕ) (s : State) (m : Side) (is : s.mover ≡ other_side m) (
       elim (cases_Bool (done target s)) [
         | inl d ↦ let quiet : is_silent target s ≡ false = rw (d, and-false) refl in (rw (quiet, d) refl, rw quiet refl)
         | inr d ↦ elim (cases_Bool (heard_of s (other_side m))) [
-          | inl h ↦ let quiet : is_silent target s ≡ false = rw (is, h) refl in (rw (quiet, d, is, h) refl, rw quiet refl)
+          | inl h ↦ let quiet : is_silent target s ≡ false = rw (is, h) refl in
+              (rw (quiet, d, is, h) (refl {a = face target s (side_asked (other_side m))}), rw quiet refl)
           | inr h ↦ let silent : is_silent target s ≡ true = rw (is, h, d) refl in (
             rw (silent, no_go, stops, d, h)
                 (ap (λ x. face target (go_open s) (side_asked x)) (ap other_side is ∙ other_twice m) ∙ face_open target s (side_asked m) (other_side m) is h),
@@ -111,20 +103,14 @@ pub record Settles (target : ℕ) (s : State) (turn : Turn) (m : Side) : Type 0 
 
 module _ (target : ℕ) (s : State) (turn : Turn) (m : Side) (total : IsSum s) (is : s.mover ≡ other_side m) where
   settles_over : done target s ≡ true → Settles target s turn m
-  settles_over d =
-      let quiet : is_silent target s ≡ false = rw (d, and-false) refl in
-      let over = over_is target s turn total ∙ d in
-      record { table = rw (quiet, d, over) refl; points = rw (quiet, over) refl }
+  settles_over d = search (rules, and-false, over_is target s turn total)
 
   module _ (d : done target s ≡ false) where
     over : is_over (face target s turn) ≡ false
     over = over_is target s turn total ∙ d
 
     settles_other : heard_of s (other_side m) ≡ true → Settles target s turn m
-    settles_other h =
-        let quiet : is_silent target s ≡ false = rw (is, h) refl in
-        let other = seat_heard target s turn (other_side m) ∙ h in
-        record { table = rw (quiet, over, other, is, d) refl; points = rw (quiet, over, other) refl }
+    settles_other h = search (rules, seat_heard target s turn (other_side m), over)
 
     module _ (h : heard_of s (other_side m) ≡ false) where
       silent : is_silent target s ≡ true
@@ -159,7 +145,7 @@ module _ (target : ℕ) (s : State) (turn : Turn) (m : Side) (total : IsSum s) (
             let asked : asked_of target (go_closing s) ≡ lead target (go_closing s) m = rw (away, is, other_twice m) refl in
             record {
               table = rw (silent, closing, stops) (ap (face target (go_closing s)) asked ∙ sym closed.0);
-              points = rw (silent, closing, stops, closed.1) refl;
+              points = rw (silent, closing, stops, closed.1) (refl {a = 1});
             }
 
   -- the same after a card
@@ -178,8 +164,4 @@ module _ (target : ℕ) (s : State) (turn : Turn) (m : Side) (total : IsSum s) (
   -- the same after a go that is no close
   pub settles_go : closes_by_go s ≡ true → heard_of s m ≡ false → heard_of (go_closing s) m ≡ true →
       (heard_of s (other_side m) ≡ false → heard_of (go_closing s) (other_side m) ≡ false) → Settles target s turn m
-  settles_go closing g held away =
-      elim (cases_Bool (done target s)) [
-        | inl d ↦ settles_over d
-        | inr d ↦ elim (cases_Bool (heard_of s (other_side m))) [ inl h ↦ settles_other d h | inr h ↦ settles_once d h g closing (away h) held ]
-      ]
+  settles_go closing g held away = search (rules, settles_over, settles_other, settles_once)

@@ -1,5 +1,5 @@
 -- Worked examples of what lies on the table, and of the visible turns of records with real cards. The opponent deals.
-use Rattle.std.proofs.Common.{arith, ◌≡◌, ◌∙◌, refl, sym, ap, subst, true, false, [], ◌∷◌, List, ℕ}
+use Rattle.std.proofs.Common.{arith, rules, ◌≡◌, ◌∙◌, refl, sym, ap, subst, true, false, [], ◌∷◌, List, ℕ}
 use Rattle.std.specs.Prelude.{map, replicate, reverse}
 use Rattle.std.proofs.lemmas.Bool.{both_ways}
 use Rattle.crib_cards.specs.declared.sides.Side.TheVariants.{Owner, Opponent}
@@ -27,6 +27,9 @@ to_30 = reverse (Seen 13 ∷ Seen 10 ∷ Seen 10 ∷ Go ∷ [])
 abbrev seat : ℕ → Seat
 seat left = record { left = left; may_be_asked = true }
 
+abbrev unheard : ℕ → Seat
+unheard left = record { left = left; may_be_asked = false }
+
 abbrev table_at_30 : Standing
 table_at_30 = record {
   asked = turns.Owner;
@@ -35,7 +38,7 @@ table_at_30 = record {
   scores = record { owner = 63; opponent = 70 };
   target = 121;
   owner = seat 2;
-  opponent = record { left = 3; may_be_asked = false };
+  opponent = unheard 3;
 }
 
 pub on_the_table : standing_after level_start to_30 ≡ table_at_30
@@ -45,156 +48,79 @@ on_the_table = refl
 pub nobody_is_asked : (standing_after (record level_start { target = 65 }) (reverse (Seen 1 ∷ Seen 7 ∷ Seen 7 ∷ []))).asked ≡ turns.Over
 nobody_is_asked = refl
 
-pub seats_at_30 : seat_after level_start Owner to_30 ∷ seat_after level_start Opponent to_30 ∷ [] ≡ seat 2 ∷ record { left = 3; may_be_asked = false } ∷ []
+pub seats_at_30 : map (λ side. seat_after level_start side to_30) (Owner ∷ Opponent ∷ []) ∷ map (seat_of table_at_30) (Owner ∷ Opponent ∷ []) ∷ []
+    ≡ (seat 2 ∷ unheard 3 ∷ []) ∷ (seat 2 ∷ unheard 3 ∷ []) ∷ []
 seats_at_30 = refl
-
-pub seats_of_sides : map (seat_of table_at_30) (Owner ∷ Opponent ∷ []) ≡ seat 2 ∷ record { left = 3; may_be_asked = false } ∷ []
-seats_of_sides = refl
 
 -- a lead follows nothing, and nothing follows the end of a deal
 pub lead_follows : MayFollow level_start (Seen 13) []
 lead_follows = record { not_done = refl; may_show = omega arith }
 
-pub go_follows_not : MayFollow level_start Go [] → ⊥
-go_follows_not may = (let count = may.may_show in absurd (omega (arith, count)))
-
-pub after_the_last_card : MayFollow level_start (Seen 13) (replicate 8 (Seen 13)) → ⊥
-after_the_last_card may = absurd (both_ways true may.not_done refl)
+pub follow_not : ¬ MayFollow level_start Go [] × ¬ MayFollow level_start (Seen 13) (replicate 8 (Seen 13))
+follow_not = (λ may. absurd (omega arith), λ may. cc)
 
 pub three_kings_are_taken : AreTaken level_start (replicate 3 (Seen 13))
-three_kings_are_taken = (((tt, lead_follows), record { not_done = refl; may_show = omega arith }), record { not_done = refl; may_show = omega arith })
+three_kings_are_taken = search rules
 
-pub four_kings_are_not_taken : AreTaken level_start (replicate 4 (Seen 13)) → ⊥
-four_kings_are_not_taken are = (let fits = are.1.may_show in absurd (omega (arith, fits)))
-
-pub go_at_first_is_not_taken : AreTaken level_start (Seen 13 ∷ Go ∷ []) → ⊥
-go_at_first_is_not_taken are = go_follows_not are.0.1
+pub not_taken : ¬ AreTaken level_start (replicate 4 (Seen 13)) × ¬ AreTaken level_start (Seen 13 ∷ Go ∷ [])
+not_taken = (λ are. absurd (omega arith), λ are. absurd (omega arith))
 
 -- ---- starts: the owner below a target up to 121, and the opponent below 121
 pub closest_start : IsStart (record { dealer = Owner; scores = record { owner = 120; opponent = 120 }; target = 121 })
-closest_start = record { below_target = omega arith; target_in_game = omega arith; opponent_in_game = omega arith }
+closest_start = search rules
 
-pub owner_at_the_target : IsStart (record { dealer = Owner; scores = record { owner = 61; opponent = 0 }; target = 61 }) → ⊥
-owner_at_the_target is = (let below = is.below_target in absurd (omega (arith, below)))
-
-pub target_past_the_game : IsStart (record { dealer = Owner; scores = record { owner = 61; opponent = 0 }; target = 122 }) → ⊥
-target_past_the_game is = (let target = is.target_in_game in absurd (omega (arith, target)))
-
-pub opponent_at_121 : IsStart (record { dealer = Owner; scores = record { owner = 61; opponent = 121 }; target = 121 }) → ⊥
-opponent_at_121 is = (let below = is.opponent_in_game in absurd (omega (arith, below)))
+-- the owner at the target, a target past the game, and the opponent at 121
+pub no_starts : ¬ IsStart (record { dealer = Owner; scores = record { owner = 61; opponent = 0 }; target = 61 })
+    × ¬ IsStart (record { dealer = Owner; scores = record { owner = 61; opponent = 0 }; target = 122 })
+    × ¬ IsStart (record { dealer = Owner; scores = record { owner = 61; opponent = 121 }; target = 121 })
+no_starts = (λ is. absurd (omega arith), λ is. absurd (omega arith), λ is. absurd (omega arith))
 
 -- ---- rounds that represent visible turns
 pub stands_at_first : StandsFor (standing_after level_start []) level_start []
-stands_at_first = record {
-  started = record { below_target = omega arith; target_in_game = omega arith; opponent_in_game = omega arith };
-  taken = tt;
-  shows = refl;
-}
+stands_at_first = search rules
 
-pub stands_for_no_start : (round : Standing) (seen : List Letter) → StandsFor round (record level_start { target = 122 }) seen → ⊥
-stands_for_no_start round seen stands = (let target = stands.started.target_in_game in absurd (omega (arith, target)))
-
-pub stands_for_no_go_at_first : (round : Standing) → StandsFor round level_start (Go ∷ []) → ⊥
-stands_for_no_go_at_first round stands = go_follows_not stands.taken.1
-
-pub stands_for_no_other_scores : StandsFor (record (standing_after level_start []) { scores = record { owner = 62; opponent = 70 } }) level_start [] → ⊥
-stands_for_no_other_scores stands =
-    (let score : 62 ≡ 61 = ap (λ (round : Standing). round.scores.owner) stands.shows in absurd (omega (arith, score)))
+-- no start, a go at first, and other scores
+pub stands_for_none : (round : Standing) → ((seen : List Letter) → StandsFor round (record level_start { target = 122 }) seen → ⊥)
+    × ¬ StandsFor round level_start (Go ∷ [])
+    × ¬ StandsFor (record (standing_after level_start []) { scores = record { owner = 62; opponent = 70 } }) level_start []
+stands_for_none round = (
+  λ seen stands. absurd (omega arith),
+  λ stands. absurd (omega arith),
+  λ stands. absurd (omega (arith, ap (λ (round : Standing). round.scores.owner) stands.shows)),
+)
 
 -- ---- fair tables: eight cards at most, four for a side, scores up to 121, and a card for a side that is heard
 abbrev first_table : Standing
 first_table = record table_at_30 { pile = []; owner = seat 4; opponent = seat 4; scores = record { owner = 121; opponent = 121 } }
 
-pub fair_at_first : IsFair first_table
-fair_at_first = record {
-  room = omega arith;
-  owner_score = omega arith;
-  opponent_score = omega arith;
-  owner_four = omega arith;
-  opponent_four = omega arith;
-  owner_seat = λ heard. omega arith;
-  opponent_seat = λ heard. omega arith;
-}
+-- each side has its four cards, or one; and a side without a card is fair if it isn't heard
+pub fair : IsFair first_table × IsFair (record first_table { owner = seat 1; opponent = seat 1 })
+    × IsFair (record first_table { owner = unheard 0; opponent = unheard 0 })
+fair = search rules
 
--- a side without a card is fair if it isn't heard
-pub fair_without_cards : IsFair (record first_table { owner = record { left = 0; may_be_asked = false }; opponent = record { left = 0; may_be_asked = false } })
-fair_without_cards = record {
-  room = omega arith;
-  owner_score = omega arith;
-  opponent_score = omega arith;
-  owner_four = omega arith;
-  opponent_four = omega arith;
-  owner_seat = λ heard. absurd (both_ways false refl heard);
-  opponent_seat = λ heard. absurd (both_ways false refl heard);
-}
-
-pub fair_with_one_card_each : IsFair (record first_table { owner = seat 1; opponent = seat 1 })
-fair_with_one_card_each = record {
-  room = omega arith;
-  owner_score = omega arith;
-  opponent_score = omega arith;
-  owner_four = omega arith;
-  opponent_four = omega arith;
-  owner_seat = λ heard. omega arith;
-  opponent_seat = λ heard. omega arith;
-}
-
-pub nine_cards : IsFair (record first_table { pile = 13 ∷ [] }) → ⊥
-nine_cards is = (let room = is.room in absurd (omega (arith, room)))
-
-pub owner_past_121 : IsFair (record first_table { scores = record { owner = 122; opponent = 0 } }) → ⊥
-owner_past_121 is = (let score = is.owner_score in absurd (omega (arith, score)))
-
-pub opponent_past_121 : IsFair (record first_table { scores = record { owner = 0; opponent = 122 } }) → ⊥
-opponent_past_121 is = (let score = is.opponent_score in absurd (omega (arith, score)))
-
-pub five_for_the_owner : IsFair (record first_table { owner = seat 5; opponent = seat 3 }) → ⊥
-five_for_the_owner is = (let four = is.owner_four in absurd (omega (arith, four)))
-
-pub five_for_the_opponent : IsFair (record first_table { owner = seat 3; opponent = seat 5 }) → ⊥
-five_for_the_opponent is = (let four = is.opponent_four in absurd (omega (arith, four)))
-
-pub owner_heard_without_cards : IsFair (record first_table { owner = seat 0 }) → ⊥
-owner_heard_without_cards is = (let some = is.owner_seat refl in absurd (omega (arith, some)))
-
-pub opponent_heard_without_cards : IsFair (record first_table { opponent = seat 0 }) → ⊥
-opponent_heard_without_cards is = (let some = is.opponent_seat refl in absurd (omega (arith, some)))
+-- nine cards, a score past 121, five cards left, and a side that is heard without a card
+pub unfair : ¬ IsFair (record first_table { pile = 13 ∷ [] }) × ¬ IsFair (record first_table { scores = record { owner = 122; opponent = 0 } })
+    × ¬ IsFair (record first_table { scores = record { owner = 0; opponent = 122 } }) × ¬ IsFair (record first_table { owner = seat 5; opponent = seat 3 })
+    × ¬ IsFair (record first_table { owner = seat 3; opponent = seat 5 }) × ¬ IsFair (record first_table { owner = seat 0 })
+    × ¬ IsFair (record first_table { opponent = seat 0 })
+unfair = (
+  λ is. absurd (omega arith),
+  λ is. absurd (omega arith),
+  λ is. absurd (omega arith),
+  λ is. absurd (omega arith),
+  λ is. absurd (omega arith),
+  λ is. absurd (omega (arith, is.owner_seat refl)),
+  λ is. absurd (omega (arith, is.opponent_seat refl)),
+)
 
 -- on a sound table the side to move is heard, and the other side needn't be
-abbrev silent : Seat
-silent = record { left = 0; may_be_asked = false }
+pub sound_with_a_silent_opponent : IsSound (record first_table { asked = turns.Owner; opponent = unheard 0 })
+sound_with_a_silent_opponent = search rules
 
-pub sound_with_a_silent_opponent : IsFair (record first_table { opponent = silent }) → IsSound (record first_table { asked = turns.Owner; opponent = silent })
-sound_with_a_silent_opponent fair = record {
-  fair = record {
-    room = fair.room;
-    owner_score = fair.owner_score;
-    opponent_score = fair.opponent_score;
-    owner_four = fair.owner_four;
-    opponent_four = fair.opponent_four;
-    owner_seat = fair.owner_seat;
-    opponent_seat = fair.opponent_seat;
-  };
-  owner_asked = λ asked. refl;
-  opponent_asked = λ (asked : turns.Owner ≡ turns.Opponent). absurd cc;
-}
-
-pub silent_owner_asked : IsSound (record first_table { asked = turns.Owner; owner = silent }) → ⊥
-silent_owner_asked is = absurd (both_ways false refl (is.owner_asked refl))
-
-pub silent_opponent_asked : IsSound (record first_table { asked = turns.Opponent; opponent = silent }) → ⊥
-silent_opponent_asked is = absurd (both_ways false refl (is.opponent_asked refl))
-
-pub unfair_is_not_sound : IsSound (record first_table { asked = turns.Over; pile = 13 ∷ [] }) → ⊥
-unfair_is_not_sound is = nine_cards (record {
-  room = is.fair.room;
-  owner_score = is.fair.owner_score;
-  opponent_score = is.fair.opponent_score;
-  owner_four = is.fair.owner_four;
-  opponent_four = is.fair.opponent_four;
-  owner_seat = is.fair.owner_seat;
-  opponent_seat = is.fair.opponent_seat;
-})
+-- a silent side asked, and an unfair table
+pub unsound : ¬ IsSound (record first_table { asked = turns.Owner; owner = unheard 0 })
+    × ¬ IsSound (record first_table { asked = turns.Opponent; opponent = unheard 0 }) × ¬ IsSound (record first_table { asked = turns.Over; pile = 13 ∷ [] })
+unsound = (λ is. cc (is.owner_asked refl), λ is. cc (is.opponent_asked refl), λ is. absurd (omega arith))
 
 -- ---- real cards: KC TD 8C, a go, AC, a go that nobody hears, AS
 abbrev all_moves : List Move
@@ -206,11 +132,8 @@ own card = record { side = Owner; what = move.Card card }
 abbrev all_acts : List Act
 all_acts = reverse (own 48 ∷ record { side = Opponent; what = move.Card 37 } ∷ own 28 ∷ record { side = Opponent; what = move.Go } ∷ own 0 ∷ own 3 ∷ [])
 
-pub acts_that_are_seen : acts_of Owner all_moves ≡ all_acts
-acts_that_are_seen = refl
-
-pub moves_that_are_seen : visible_moves Owner all_moves ≡ moves_of all_acts
-moves_that_are_seen = refl
+pub turns_that_are_seen : (acts_of Owner all_moves ≡ all_acts) × (visible_moves Owner all_moves ≡ moves_of all_acts)
+turns_that_are_seen = (refl, refl)
 
 pub moves_of_acts : moves_of (own 3 ∷ record { side = Opponent; what = move.Go } ∷ own 3 ∷ []) ≡ move.Card 3 ∷ move.Go ∷ move.Card 3 ∷ []
 moves_of_acts = refl
@@ -241,11 +164,10 @@ events_of_sides = refl
 pub event_of_an_act : event_of (record { side = Opponent; what = move.Card 37 }) ≡ Theirs (Seen 10)
 event_of_an_act = refl
 
-pub letters_of_a_history : history_letters (Own (move.Card 37) ∷ Theirs Go ∷ Own move.Go ∷ Theirs (Seen 3) ∷ []) ≡ Seen 10 ∷ Go ∷ Go ∷ Seen 3 ∷ []
+pub letters_of_a_history : history_letters (Own (move.Card 37) ∷ Theirs Go ∷ Own move.Go ∷ Theirs (Seen 3) ∷ [])
+    ∷ map event_letter (Own (move.Card 37) ∷ Theirs (Seen 3) ∷ Theirs Go ∷ []) ∷ []
+    ≡ (Seen 10 ∷ Go ∷ Go ∷ Seen 3 ∷ []) ∷ (Seen 10 ∷ Seen 3 ∷ Go ∷ []) ∷ []
 letters_of_a_history = refl
-
-pub letter_of_an_event : map event_letter (Own (move.Card 37) ∷ Theirs (Seen 3) ∷ Theirs Go ∷ []) ≡ Seen 10 ∷ Seen 3 ∷ Go ∷ []
-letter_of_an_event = refl
 
 -- ---- holds
 abbrev hands : Hands
@@ -254,14 +176,10 @@ hands = record { owner = 48 ∷ 28 ∷ 0 ∷ 3 ∷ []; opponent = 37 ∷ 38 ∷ 
 pub dealt_hands : IsDealt hands
 dealt_hands = record { owner_four = refl; opponent_four = refl; distinct = refl }
 
-pub three_for_the_owner : IsDealt (record hands { owner = 48 ∷ 28 ∷ 0 ∷ [] }) → ⊥
-three_for_the_owner is = (let four = is.owner_four in absurd (omega (arith, four)))
-
-pub three_for_the_opponent : IsDealt (record hands { opponent = 37 ∷ 38 ∷ 50 ∷ [] }) → ⊥
-three_for_the_opponent is = (let four = is.opponent_four in absurd (omega (arith, four)))
-
-pub king_in_both_hands : IsDealt (record hands { opponent = 37 ∷ 38 ∷ 50 ∷ 48 ∷ [] }) → ⊥
-king_in_both_hands is = absurd (both_ways false refl is.distinct)
+-- three cards for the owner or for the opponent, and a king in both hands
+pub no_deals : ¬ IsDealt (record hands { owner = 48 ∷ 28 ∷ 0 ∷ [] }) × ¬ IsDealt (record hands { opponent = 37 ∷ 38 ∷ 50 ∷ [] })
+    × ¬ IsDealt (record hands { opponent = 37 ∷ 38 ∷ 50 ∷ 48 ∷ [] })
+no_deals = (λ is. absurd (omega arith), λ is. absurd (omega arith), λ is. cc)
 
 pub played_in_order : cards_of all_moves ≡ 48 ∷ 37 ∷ 28 ∷ 0 ∷ 3 ∷ []
 played_in_order = refl

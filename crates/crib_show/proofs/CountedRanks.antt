@@ -1,5 +1,5 @@
 -- The ranks that are read off the counts of the ranks, and the cards of one suit.
-use Rattle.std.proofs.Common.{◌≡◌, ℕ, zero, suc, ◌+◌, ◌-◌, ◌*◌, ◌/◌, ◌%◌, ◌<◌, ◌≤◌, true, cond, eqb, List, [], ◌∷◌, length, map, replicate, get_or, refl, sym}
+use Rattle.std.proofs.Common.{◌≡◌, ℕ, zero, suc, ◌+◌, ◌-◌, ◌*◌, ◌/◌, ◌%◌, ◌<◌, true, cond, eqb, List, [], ◌∷◌, map, replicate, get_or, refl, sym}
 use Rattle.std.proofs.Common.{ap, ◌∙◌, inl, inr, arith, ne_eqb}
 use Rattle.std.specs.List.{list_all, AllByRecursion}
 use Rattle.std.proofs.lemmas.Bool.{cases_lt, and_parts, eq-eqb, eqb-true}
@@ -28,10 +28,12 @@ times-other n x y apart = times-replicate n x y ∙ ap (λ b. n * cond b 1 0) (n
 times_below : (low number : ℕ) (counts : List ℕ) → number < low → times (ranks_from low counts) number ≡ 0
 times_below low number [] below = refl
 times_below low number (count ∷ counts) below =
-    let here = times-other count low number (λ same. omega arith) in
-    let rest = times_below (low + 1) number counts (omega arith) in
-    let both = count_append (λ other. eqb other number) (replicate count low) (ranks_from (low + 1) counts) in
-    omega (arith, here, rest, both)
+    omega (
+      arith,
+      times-other count low number (λ same. omega arith),
+      times_below (low + 1) number counts (omega arith),
+      count_append (λ other. eqb other number) (replicate count low) (ranks_from (low + 1) counts),
+    )
 
 times_at : (low number k : ℕ) (counts : List ℕ) → number ≡ low + k → times (ranks_from low counts) number ≡ get_or counts k 0
 times_at low number k [] is = refl
@@ -56,13 +58,10 @@ ranks_counted xs are =
           times_at 1 number (number - 1) (rank_counts xs) (omega arith) in
           elim (cases_lt number 14) [
             | inl inside ↦ at ∙ count_at-rank_counts xs number (above, omega arith)
-            | inr past ↦ at ∙ get_or_past (rank_counts xs) (number - 1) 0 (past_all (rank_counts xs) number past refl)
+            | inr past ↦ at ∙ get_or_past (rank_counts xs) (number - 1) 0 (omega (arith, past))
                 ∙ sym (times-no_rank xs number are (λ is. omega (arith, is.1)))
           ]
     ])
-  where
-    past_all : (counts : List ℕ) (number : ℕ) → 14 ≤ number → length counts ≡ 13 → length counts ≤ number - 1
-    past_all counts number past long = omega (arith, long)
 
 pub ranks_reordered : (xs ys : List ℕ) → Reordered xs ys → AllByRecursion IsRank xs → AllByRecursion IsRank ys
 ranks_reordered xs ys nothing are = tt

@@ -74,15 +74,14 @@ module _ (worst : WorstShow) (test : Test) where
         first_choice (try_hold worst test) (may_be_held worst) taken n cards ≡ None
     too_many = none_given (try_hold worst test) (may_be_held worst) (λ taken cards. count_at worst.ranks rank < count_rank rank taken)
         (λ taken cards more. not_as_many taken (λ same. omega (arith, more, same)))
-        (λ taken cards card more. let both = count_append of_rank taken (card ∷ []) in omega (arith, more, both))
+        (λ taken cards card more. omega (arith, more, count_append of_rank taken (card ∷ [])))
         (λ taken cards card more. more)
 
     pub one_too_many : (taken : List ℕ) (card n : ℕ) (cards : List ℕ) → rank_of card ≡ rank → count_at worst.ranks rank ≤ count_rank rank taken →
         first_choice (try_hold worst test) (may_be_held worst) (taken ++ card ∷ []) n cards ≡ None
     one_too_many taken card n cards same full =
-        let both = count_append of_rank taken (card ∷ []) in
         let one = count_cons of_rank card [] ∙ ap (λ b. cond b 1 0 + 0) (eq-eqb (rank_of card) rank same) in
-        too_many (taken ++ card ∷ []) n cards (omega (arith, full, both, one))
+        too_many (taken ++ card ∷ []) n cards (omega (arith, full, count_append of_rank taken (card ∷ []), one))
 
     pub too_few : (taken : List ℕ) (n : ℕ) (cards : List ℕ) → count_rank rank taken + count_rank rank cards < count_at worst.ranks rank →
         first_choice (try_hold worst test) (may_be_held worst) taken n cards ≡ None
@@ -90,8 +89,5 @@ module _ (worst : WorstShow) (test : Test) where
         (λ taken cards. count_rank rank taken + count_rank rank cards < count_at worst.ranks rank)
         (λ taken cards less. not_as_many taken (λ same. omega (arith, less, same)))
         (λ taken cards card less.
-        let both = count_append of_rank taken (card ∷ []) in
-        let one = count_cons of_rank card [] in
-        let more = count_cons of_rank card cards in
-        omega (arith, less, both, one, more))
-        (λ taken cards card less. let more = count_cons of_rank card cards in omega (arith, less, more))
+        omega (arith, less, count_append of_rank taken (card ∷ []), count_cons of_rank card [], count_cons of_rank card cards))
+        (λ taken cards card less. omega (arith, less, count_cons of_rank card cards))

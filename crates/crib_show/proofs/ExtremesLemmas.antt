@@ -1,6 +1,6 @@
 -- What is kept of a show is right for each other with the same cards.
-use Rattle.std.proofs.Common.{◌≡◌, ℕ, ◌+◌, ◌<◌, ◌≤◌, ◌++◌, List, IsTrue, length, replicate, set, eqb, refl, sym, ap, ◌∙◌, subst, inl, inr}
-use Rattle.std.proofs.lemmas.Bool.{cases_Bool, eqb-true, eqb-false}
+use Rattle.std.proofs.Common.{◌≡◌, ℕ, ◌+◌, ◌<◌, ◌≤◌, ◌++◌, List, IsTrue, length, replicate, set, refl, sym, ap, ◌∙◌, subst, inl, inr}
+use Rattle.std.proofs.lemmas.Bool.{cases_eq}
 use Rattle.std.proofs.lemmas.Grind.{get_or-set_at}
 use Rattle.std.proofs.lemmas.List.{get_or-set_other, get_or-replicate, length-replicate, length-set}
 use Rattle.std.specs.List.{list_all}
@@ -81,14 +81,13 @@ pub kept_with : (worst : WorstShow) (all : List Extremes) (place : ℕ) (here : 
     AreKeptIn worst.starter worst.own_throw worst.unseen worst.fixed all → AreKeptIn worst.starter worst.own_throw worst.unseen worst.fixed (set all place here)
 kept_with worst all place here is right kept = λ other none has inside.
     let within : place_among 4 other.ranks < length all = subst (λ k. place_among 4 other.ranks < k) (length-set all place here) inside in
-    elim (cases_Bool (eqb (place_among 4 other.ranks) place)) [
-      | inl yes_here ↦
-          let at = eqb-true (place_among 4 other.ranks) place yes_here in
+    elim (cases_eq (place_among 4 other.ranks) place) [
+      | inl at ↦
           let same : worst.ranks ≡ other.ranks = place_of_one 4 worst.ranks other.ranks (is.are_four.thirteen ∙ sym has.are_four.thirteen) is.are_four.four
           has.are_four.four (sym is.place_is ∙ sym at) in
           subst (AreKept other) (sym (get_or-set_at all place (place_among 4 other.ranks) here none at (subst (λ k. k < length all) at within)))
           (kept_there worst.starter worst.own_throw worst.unseen worst.fixed worst other (own_cards worst is.are_four) has same here right)
       | inr elsewhere ↦
-          subst (AreKept other) (sym (get_or-set_other all place (place_among 4 other.ranks) here none (eqb-false (place_among 4 other.ranks) place elsewhere)))
+          subst (AreKept other) (sym (get_or-set_other all place (place_among 4 other.ranks) here none elsewhere))
           (kept other none has within)
     ]

@@ -1,15 +1,16 @@
 -- The first choice of some cards that gives a deal.
 use Rattle.std.proofs.Common.{◌≡◌, ◌⊎◌, ℕ, zero, suc, ◌+◌, ◌-◌, ◌<◌, ◌≤◌, Bool, true, false, cond, List, [], ◌∷◌, ◌++◌, length, take, set, Some, None, refl}
+use Rattle.std.proofs.lemmas.Bool.Decides.{nat_tests}
 use Rattle.std.proofs.Common.{sym, ap, ◌∙◌, inl, inr, subst, append_assoc, append-nil, arith}
 use Rattle.std.specs.Prelude.{Option}
 use Rattle.std.specs.Option.{option_or}
-use Rattle.std.proofs.lemmas.Bool.{cases_eq, both_ways, cond-true}
+use Rattle.std.proofs.lemmas.Bool.{cases_Bool, cases_eq, both_ways, cond-true}
 use Rattle.std.proofs.lemmas.List.{take_all}
 use Rattle.crib_cards.specs.Order.{is_before}
 use Rattle.crib_cards.specs.Sets.{has}
 use Rattle.crib_cards.specs.declared.sides.Dealt.{Dealt}
 use Rattle.crib_show.specs.Private.Listing.{first_choice}
-use Rattle.crib_cards.proofs.Members.{AreAmong, has_here, has_there, has_cases}
+use Rattle.crib_cards.proofs.Members.{AreAmong, has_here, has_there}
 use Rattle.crib_show.proofs.RisingLists.{RisesFrom, none_below, rises_lower}
 use Rattle.crib_cards.proofs.SetWalks.{take_set}
 use Rattle.crib_cards.proofs.DictionaryOrder.{before_first, before_rest}
@@ -17,30 +18,19 @@ use Rattle.crib_cards.proofs.DictionaryOrder.{before_first, before_rest}
 -- ---- one card after another
 
 module _ (gives : List ℕ → Option Dealt) (may : ℕ → Bool) (taken : List ℕ) (n : ℕ) where
-  first_choice-cons : (card : ℕ) (cards : List ℕ) → first_choice gives may taken (suc n) (card ∷ cards) ≡ option_or
-      (cond (may card) (first_choice gives may (taken ++ card ∷ []) n cards) None) (first_choice gives may taken (suc n) cards)
-  unfolding first_choice
-  first_choice-cons card cards = refl
-
   pub choice_none : (cards : List ℕ) → cards ≡ [] → first_choice gives may taken (suc n) cards ≡ None
   unfolding first_choice
   choice_none cards is = ap (first_choice gives may taken (suc n)) is
 
   pub choice_found : (cards rest : List ℕ) (card : ℕ) (found : Dealt) → cards ≡ card ∷ rest → may card ≡ true →
       first_choice gives may (taken ++ card ∷ []) n rest ≡ Some found → first_choice gives may taken (suc n) cards ≡ Some found
-  choice_found cards rest card found is may_it gives_it =
-      ap (first_choice gives may taken (suc n)) is ∙ first_choice-cons card rest
-      ∙ ap (λ o. option_or o (first_choice gives may taken (suc n) rest)) (cond-true _ _ _ may_it ∙ gives_it)
+  unfolding first_choice
+  choice_found cards rest card found is may_it gives_it = rw (is, may_it, gives_it) refl
 
   pub choice_passed : (cards rest : List ℕ) (card : ℕ) → cards ≡ card ∷ rest → first_choice gives may (taken ++ card ∷ []) n rest ≡ None →
       first_choice gives may taken (suc n) cards ≡ first_choice gives may taken (suc n) rest
-  choice_passed cards rest card is none =
-      ap (first_choice gives may taken (suc n)) is ∙ first_choice-cons card rest
-      ∙ ap (λ o. option_or o (first_choice gives may taken (suc n) rest)) (ap (λ o. cond (may card) o None) none ∙ none_both (may card))
-    where
-      none_both : (b : Bool) → ◌≡◌ {A = Option Dealt} (cond b None None) None
-      none_both true = refl
-      none_both false = refl
+  unfolding first_choice
+  choice_passed cards rest card is none = elim (cases_Bool (may card)) [ inl e ↦ rw (is, none, e) refl | inr e ↦ rw (is, e) refl ]
 
 -- ---- the cards chosen so far, in an array of four
 
@@ -103,25 +93,15 @@ pub record IsChoice (may : ℕ → Bool) (low n : ℕ) (cards more : List ℕ) :
 
 module _ (may : ℕ → Bool) where
   pub choice_only : (low : ℕ) (cards : List ℕ) → IsChoice may low 0 cards []
-  choice_only low cards = record {
-    number = refl;
-    rises = tt;
-    among = λ x h. absurd (both_ways _ refl h);
-    each_may =
-        λ x h. absurd (both_ways _ refl h);
-  }
+  choice_only low cards = record { number = refl; rises = tt; among = λ x h. absurd (both_ways _ refl h); each_may = λ x h. absurd (both_ways _ refl h) }
 
   pub choice_first : (low n card : ℕ) (cards more : List ℕ) → low ≤ card → may card ≡ true → IsChoice may (card + 1) n cards more →
       IsChoice may low (suc n) (card ∷ cards) (card ∷ more)
   choice_first low n card cards more above may_it choice = record {
     number = ap suc choice.number;
     rises = (above, choice.rises);
-    among = λ x h. elim (has_cases card x more h) [
-      | inl here ↦ subst (λ k. has (card ∷ cards) k ≡ true) here (has_here card cards)
-      | inr there ↦
-          has_there card x cards (choice.among x there)
-    ];
-    each_may = λ x h. elim (has_cases card x more h) [ inl here ↦ ap may (sym here) ∙ may_it | inr there ↦ choice.each_may x there ];
+    among = λ x h. grind (arith, nat_tests, choice.among x, h);
+    each_may = λ x h. grind (arith, nat_tests, choice.each_may x, may_it, h);
   }
 
   pub choice_later : (low n card : ℕ) (cards more : List ℕ) → low ≤ card → IsChoice may (card + 1) n cards more → IsChoice may low n (card ∷ cards) more
@@ -141,18 +121,12 @@ module _ (may : ℕ → Bool) where
       record {
         number = omega (arith, number);
         rises = rises_more;
-        among = λ x h. elim (has_cases card x cards (choice.among x (has_there first x more h))) [
-          | inl here ↦ let above = none_below (card + 1) more x rises_more h in absurd (omega (arith, above, here))
-          | inr there ↦ there
-        ];
+        among = λ x h. grind (arith, nat_tests, choice.among x (has_there first x more h), none_below (card + 1) more x rises_more h);
         each_may = λ x h. choice.each_may x (has_there first x more h);
       }
 
   below : (card first low : ℕ) (cards : List ℕ) → RisesFrom low (card ∷ cards) → has (card ∷ cards) first ≡ true → (card ≡ first → ⊥) → card < first
-  below card first low cards rises h apart = elim (has_cases card first cards h) [
-    | inl here ↦ absurd (apart here)
-    | inr there ↦ let above = none_below (card + 1) cards first rises.1 there in omega (arith, above)
-  ]
+  below card first low cards rises h apart = grind (arith, nat_tests, none_below (card + 1) cards first rises.1)
 
   -- a choice whose first card is not the first of the list
   pub choice_beyond : (low n card first : ℕ) (cards more : List ℕ) → RisesFrom low (card ∷ cards) → (card ≡ first → ⊥) →
@@ -165,10 +139,7 @@ module _ (may : ℕ → Bool) where
         record {
           number = choice.number;
           rises = rises_more;
-          among = λ x h. elim (has_cases card x cards (choice.among x h)) [
-            | inl here ↦ let above = none_below (card + 1) (first ∷ more) x rises_more h in absurd (omega (arith, above, here))
-            | inr there ↦ there
-          ];
+          among = λ x h. grind (arith, nat_tests, choice.among x h, none_below (card + 1) (first ∷ more) x rises_more h);
           each_may = choice.each_may;
         },
       )
@@ -185,9 +156,9 @@ module _ (gives : List ℕ → Option Dealt) (may : ℕ → Bool) where
   gave_from taken low zero cards found rises e = record { more = []; choice = choice_only may low cards; gave = ap gives (append-nil taken) ∙ e }
   gave_from taken low (suc n) [] found rises e = absurd cc
   gave_from taken low (suc n) (card ∷ cards) found rises e =
-      elim (option_or_cases (cond (may card) (first_choice gives may (taken ++ card ∷ []) n cards) None) (first_choice gives may taken (suc n) cards) found e) [
+      elim (option_or_cases _ _ found e) [
         | inl first ↦
-            let parts = cond_some (may card) (first_choice gives may (taken ++ card ∷ []) n cards) found first in
+            let parts = cond_some _ _ found first in
             let rest = gave_from (taken ++ card ∷ []) (card + 1) n cards found rises.1 parts.1 in
             record {
               more = card ∷ rest.more;
@@ -227,13 +198,11 @@ module _ (gives : List ℕ → Option Dealt) (may : ℕ → Bool) where
               (λ other found len before gave. earlier (card ∷ other) found (ap suc len) (subst (λ k. is_before (card ∷ other) (k ∷ more) ≡ true) same
               (before_rest card other more before)) (ap gives (sym (append_assoc taken (card ∷ []) other)) ∙ gave)) in
               let is_may : may card ≡ true = ap may same ∙ choice.each_may first (has_here first more) in
-              option_or_first (cond (may card) (first_choice gives may (taken ++ card ∷ []) n cards) None) (first_choice gives may taken (suc n) cards)
-              (subst Q (sym (cond-true _ _ _ is_may)) with_it)
+              option_or_first _ _ (subst Q (sym (cond-true _ _ _ is_may)) with_it)
           | inr apart ↦
               let beyond = choice_beyond may low n card first cards more rises apart choice in
-              option_or_later (cond (may card) (first_choice gives may (taken ++ card ∷ []) n cards) None) (first_choice gives may taken (suc n) cards)
-              (λ found e.
-              let parts = cond_some (may card) (first_choice gives may (taken ++ card ∷ []) n cards) found e in
+              option_or_later _ _ (λ found e.
+              let parts = cond_some _ _ found e in
               let sooner = gave_from (taken ++ card ∷ []) (card + 1) n cards found rises.1 parts.1 in
               earlier (card ∷ sooner.more) found (ap suc sooner.choice.number) (before_first card first sooner.more more beyond.0)
               (ap gives (sym (append_assoc taken (card ∷ []) sooner.more)) ∙ sooner.gave))

@@ -1,25 +1,21 @@
 -- The points of the fifteens and pairs of some cards, and of the jack among them, count also where other cards are added.
-use Rattle.std.proofs.Common.{ℕ, ◌+◌, ◌*◌, ◌≤◌, Bool, cond, eqb, ◌&&◌, ◌||◌, List, [], ◌∷◌, ◌++◌, map, sum_by, sym, subst, ◌≡◌, arith}
+use Rattle.std.proofs.Common.{ℕ, ◌+◌, ◌≤◌, Bool, cond, eqb, ◌&&◌, ◌||◌, List, [], ◌∷◌, ◌++◌, map, sum_by, sym, subst, ◌≡◌, arith}
 use Rattle.std.specs.List.{list_any}
 use Rattle.std.proofs.lemmas.List.{map-append}
 use Rattle.std.proofs.lemmas.List.Folds.{list_any-append}
 use Rattle.std.proofs.lemmas.Bool.Decides.{nat_tests}
 use Rattle.crib_cards.specs.Cards.{jack, rank_of, suit_of}
-use Rattle.crib_show.specs.Show.{choices, crib_flush, crib_points, fifteen_points, is_fifteen, is_pair, jack_points, pair_points, run_points}
+use Rattle.crib_show.specs.Show.{choices, crib_points, fifteen_points, is_fifteen, is_pair, jack_points, pair_points}
 use Rattle.crib_show.proofs.Choices.{sum_by-choices}
 
 no_cards : (f : List ℕ → ℕ) (ys : List ℕ) → f [] ≤ sum_by f (choices ys)
 no_cards f [] = omega arith
-no_cards f (y ∷ ys) = let rest = no_cards f ys in let whole = sum_by-choices f y ys in omega (arith, rest, whole)
+no_cards f (y ∷ ys) = omega (arith, no_cards f ys, sum_by-choices f y ys)
 
 more_choices : (f : List ℕ → ℕ) (xs ys : List ℕ) → sum_by f (choices xs) ≤ sum_by f (choices (xs ++ ys))
 more_choices f [] ys = let some = no_cards f ys in omega (arith, some)
 more_choices f (x ∷ xs) ys =
-    let with_it = more_choices (λ chosen. f (x ∷ chosen)) xs ys in
-    let without = more_choices f xs ys in
-    let few = sum_by-choices f x xs in
-    let all = sum_by-choices f x (xs ++ ys) in
-    omega (arith, with_it, without, few, all)
+    omega (arith, more_choices (λ chosen. f (x ∷ chosen)) xs ys, more_choices f xs ys, sum_by-choices f x xs, sum_by-choices f x (xs ++ ys))
 
 -- each crib has the points of the starter and the owner's throw
 pub known_in_crib : (starter : ℕ) (throw theirs : List ℕ) →
@@ -33,18 +29,13 @@ known_in_crib starter throw theirs =
     let fifteens = more_choices (λ chosen. cond (is_fifteen chosen) 1 0) known (map rank_of theirs) in
     let pairs = more_choices (λ chosen. cond (is_pair chosen) 1 0) known (map rank_of theirs) in
     let is_right : ℕ → Bool = λ card. eqb (rank_of card) jack && eqb (suit_of card) (suit_of starter) in
-    sums (fifteen_points known) (pair_points known) (jack_points throw starter) (fifteen_points all) (pair_points all) (run_points all)
-    (crib_flush (throw ++ theirs) starter) (jack_points (throw ++ theirs) starter)
-    (subst (λ ranks. fifteen_points known ≤ fifteen_points ranks) (sym whole) (twice _ _ fifteens))
-    (subst (λ ranks. pair_points known ≤ pair_points ranks) (sym whole) (twice _ _ pairs))
-    (subst (λ b. jack_points throw starter ≤ cond b 1 0) (sym (list_any-append is_right throw theirs))
-    (either (list_any is_right throw) (list_any is_right theirs)))
+    omega (
+      arith,
+      subst (λ ranks. fifteen_points known ≤ fifteen_points ranks) (sym whole) (omega (arith, fifteens)),
+      subst (λ ranks. pair_points known ≤ pair_points ranks) (sym whole) (omega (arith, pairs)),
+      subst (λ b. jack_points throw starter ≤ cond b 1 0) (sym (list_any-append is_right throw theirs))
+          (either (list_any is_right throw) (list_any is_right theirs)),
+    )
   where
-    twice : (a b : ℕ) → a ≤ b → 2 * a ≤ 2 * b
-    twice a b less = omega arith
-
     either : (one other : Bool) → cond one 1 0 ≤ cond (one || other) 1 0
     either one other = grind (arith, nat_tests)
-
-    sums : (f p j fs ps rs flush js : ℕ) → f ≤ fs → p ≤ ps → j ≤ js → f + p + j ≤ fs + ps + rs + flush + js
-    sums f p j fs ps rs flush js less_f less_p less_j = omega arith

@@ -1,6 +1,6 @@
 -- The least and the most that are found so far, while pairs of ranks are tried.
 use Rattle.std.proofs.Common.{◌≡◌, ◌⊎◌, ℕ, ◌+◌, ◌-◌, ◌*◌, ◌/◌, ◌%◌, ◌<◌, ◌≤◌, min}
-use Rattle.std.proofs.Common.{refl, sym, ◌∙◌, inl, inr, subst, arith}
+use Rattle.std.proofs.Common.{sym, ◌∙◌, inl, inr, subst, arith}
 use Rattle.std.proofs.lemmas.Bool.{cases_lt}
 use Rattle.std.proofs.lemmas.Bool.Decides.{nat_tests}
 use Rattle.crib_cards.specs.Cards.{IsRank, card_of, rank_of, suit_of}
@@ -11,20 +11,11 @@ use Rattle.crib_show.specs.declared.deals.WorstShow.{WorstShow}
 
 -- ---- numbers
 
-min_below : (a b c next : ℕ) → next ≡ min a b → a ≤ c → next ≤ c
-min_below a b c next is below = omega arith
-
-min_right : (a b c next : ℕ) → next ≡ min a b → c ≡ b → next ≤ c
-min_right a b c next is same = omega arith
-
 min_is : (a b : ℕ) → (min a b ≡ a) ⊎ (min a b ≡ b)
 min_is a b = elim (cases_lt a b) [ inl less ↦ inl (omega arith) | inr more ↦ inr (omega arith) ]
 
 pub regroup : (a b c d : ℕ) → a ≡ b → a + c + d ≡ b + (c + d)
 regroup a b c d same = omega arith
-
-pub at_most : (a b c d : ℕ) → a ≡ b + c → c ≤ d → a ≤ b + d
-at_most a b c d e f = omega arith
 
 -- the least of four numbers, one for each suit
 abbrev least_of_four : (ℕ → ℕ) → ℕ
@@ -33,18 +24,16 @@ least_of_four f = min (min (min (f 0) (f 1)) (f 2)) (f 3)
 pub four_below : (f : ℕ → ℕ) (suit : ℕ) → suit < 4 → least_of_four f ≤ f suit
 four_below f suit small = grind (arith, nat_tests)
 
+four_cases : (a b c d : ℕ) → (let least : ℕ = min (min (min a b) c) d in (least ≡ a) ⊎ ((least ≡ b) ⊎ ((least ≡ c) ⊎ (least ≡ d))))
+four_cases a b c d = grind (arith, nat_tests)
+
 pub four_is : (f : ℕ → ℕ) → (suit : ℕ) × (suit < 4) × (least_of_four f ≡ f suit)
-four_is f =
-    let third : ℕ = min (min (f 0) (f 1)) (f 2) in
-    let second : ℕ = min (f 0) (f 1) in
-    elim (min_is third (f 3)) [
-      | inr is ↦ (3, omega arith, is)
-      | inl is ↦
-          elim (min_is second (f 2)) [
-            | inr is_2 ↦ (2, omega arith, is ∙ is_2)
-            | inl is_2 ↦ elim (min_is (f 0) (f 1)) [ inr is_1 ↦ (1, omega arith, is ∙ is_2 ∙ is_1) | inl is_0 ↦ (0, omega arith, is ∙ is_2 ∙ is_0) ]
-          ]
-    ]
+four_is f = elim (four_cases (f 0) (f 1) (f 2) (f 3)) [
+  | inl is ↦ (0, omega arith, is)
+  | inr (inl is) ↦ (1, omega arith, is)
+  | inr (inr (inl is)) ↦ (2, omega arith, is)
+  | inr (inr (inr is)) ↦ (3, omega arith, is)
+]
 
 pub card_back : (card : ℕ) → card_of (rank_of card) (suit_of card) ≡ card
 card_back card = back card
@@ -88,8 +77,7 @@ next_row first second before past = record {
 pub least_next : (worst : WorstShow) (first second p q least next : ℕ) → IsLeastBefore worst first second least → p ≡ first → q ≡ second →
     IsRank p → IsRank q → next ≡ min least (least_of_ranks worst p q) → IsLeastBefore worst first (second + 1) next
 least_next worst first second p q least next before is_p is_q range_p range_q is = record {
-  all = next_pair first second p q before.all (λ a b. min_below least (least_of_ranks worst p q) (least_of_ranks worst a b) next is) is_p is_q
-      (min_right least (least_of_ranks worst p q) (least_of_ranks worst p q) next is refl);
+  all = next_pair first second p q before.all (λ a b less. omega (arith, is, less)) is_p is_q (omega (arith, is));
   some = elim (min_is least (least_of_ranks worst p q)) [
     | inl old ↦ subst (λ k. (k ≡ no_crib) ⊎ ((p : ℕ) × (q : ℕ) × IsRank p × IsRank q × (k ≡ least_of_ranks worst p q))) (sym (is ∙ old)) before.some
     | inr new ↦ inr (p, q, range_p, range_q, is ∙ new)

@@ -1,5 +1,6 @@
 -- The places of ranks: each choice has its own.
 use Rattle.std.proofs.Common.{◌≡◌, ℕ, zero, suc, ◌+◌, ◌-◌, ◌<◌, ◌≤◌, List, [], ◌∷◌, length, fold, sum, replicate, refl, sym, ap, inl, inr, arith, subst}
+use Rattle.std.proofs.lemmas.Bool.{cases_order}
 use Rattle.std.proofs.lemmas.Bool.{cases_lt}
 use Rattle.std.proofs.lemmas.List.{length-append, length-replicate}
 use Rattle.crib_show.specs.Private.Extremes.{ranks_from}
@@ -10,10 +11,7 @@ use Rattle.crib_show.specs.Places.{below, many, place_among}
 
 fold_from : (a : ℕ) (xs : List ℕ) → fold ◌+◌ a xs ≡ a + fold ◌+◌ 0 xs
 fold_from a [] = omega arith
-fold_from a (x ∷ xs) =
-    let here = fold_from (a + x) xs in
-    let there = fold_from (0 + x) xs in
-    omega (arith, here, there)
+fold_from a (x ∷ xs) = omega (arith, fold_from (a + x) xs, fold_from (0 + x) xs)
 
 sum_more : (x : ℕ) (xs : List ℕ) → sum (x ∷ xs) ≡ x + sum xs
 sum_more x xs = let all : sum (x ∷ xs) ≡ 0 + x + sum xs = fold_from (0 + x) xs in omega (arith, all)
@@ -22,29 +20,17 @@ sum_more x xs = let all : sum (x ∷ xs) ≡ 0 + x + sum xs = fold_from (0 + x) 
 pub ranks_many : (low : ℕ) (counts : List ℕ) → sum counts ≡ length (ranks_from low counts)
 ranks_many low [] = refl
 ranks_many low (count ∷ counts) =
-    let rest = ranks_many (low + 1) counts in
-    let more = sum_more count counts in
     let both = length-append (replicate count low) (ranks_from (low + 1) counts) in
-    let here = length-replicate count low in
-    omega (arith, rest, more, both, here)
+    omega (arith, ranks_many (low + 1) counts, sum_more count counts, both, length-replicate count low)
 
 -- ---- places
 
 below_up : (f : ℕ → ℕ) (n m : ℕ) → n ≤ m → below f n ≤ below f m
-below_up f n zero up =
-    let is : n ≡ 0 = omega (arith, up) in
-    let same = ap (below f) is in
-    omega (arith, same)
+below_up f n zero up = let is : n ≡ 0 = omega (arith, up) in omega (arith, ap (below f) is)
 below_up f n (suc m) up =
     elim (cases_lt n (suc m)) [
-      | inl less ↦
-          let before = below_up f n m (omega (arith, less)) in
-          let step : below f (suc m) ≡ below f m + f m = refl in
-          omega (arith, before, step)
-      | inr most ↦
-          let is : n ≡ suc m = omega (arith, up, most) in
-          let same = ap (below f) is in
-          omega (arith, same)
+      | inl less ↦ let step : below f (suc m) ≡ below f m + f m = refl in omega (arith, below_up f n m (omega (arith, less)), step)
+      | inr most ↦ let is : n ≡ suc m = omega (arith, up, most) in omega (arith, ap (below f) is)
     ]
 
 below_next : (f : ℕ → ℕ) (n m : ℕ) → n < m → below f n + f n ≤ below f m
@@ -54,19 +40,15 @@ below_next f n m up = below_up f (suc n) m (omega (arith, up))
 pub place_inside : (cards : ℕ) (counts : List ℕ) → sum counts ≡ cards → place_among cards counts < many (length counts) cards
 place_inside cards [] none = subst (λ k. 0 < many 0 k) none (omega arith)
 place_inside cards (count ∷ counts) all =
-    let step : sum (count ∷ counts) ≡ count + sum counts = sum_more count counts in
-    let rest = place_inside (cards - count) counts (omega (arith, all, step)) in
-    let up = below_next (many (length counts)) (cards - count) (suc cards) (omega arith) in
-    omega (arith, rest, up)
+    let rest = place_inside (cards - count) counts (omega (arith, all, sum_more count counts)) in
+    omega (arith, rest, below_next (many (length counts)) (cards - count) (suc cards) (omega arith))
 
 -- with more of the first rank the place is before
 more_before : (cards one other : ℕ) (ones others : List ℕ) → length ones ≡ length others → sum ones + one ≡ cards → sum others + other ≡ cards →
     other < one → place_among cards (one ∷ ones) < place_among cards (other ∷ others)
 more_before cards one other ones others long all every more =
-    let here = place_inside (cards - one) ones (omega (arith, all)) in
     let up = below_next (many (length ones)) (cards - one) (cards - other) (omega (arith, all, every, more)) in
-    let same = ap (λ n. below (many n) (cards - other)) long in
-    omega (arith, here, up, same)
+    omega (arith, place_inside (cards - one) ones (omega (arith, all)), up, ap (λ n. below (many n) (cards - other)) long)
 
 -- one place has one choice
 pub place_of_one : (cards : ℕ) (ones others : List ℕ) → length ones ≡ length others → sum ones ≡ cards → sum others ≡ cards →
@@ -75,26 +57,18 @@ place_of_one cards [] [] long all every is = refl
 place_of_one cards [] (other ∷ others) long all every is = absurd (omega (arith, long))
 place_of_one cards (one ∷ ones) [] long all every is = absurd (omega (arith, long))
 place_of_one cards (one ∷ ones) (other ∷ others) long all every is =
-    let one_more : sum (one ∷ ones) ≡ one + sum ones = sum_more one ones in
-    let other_more : sum (other ∷ others) ≡ other + sum others = sum_more other others in
+    let one_more : sum ones + one ≡ cards = omega (arith, all, sum_more one ones) in
+    let other_more : sum others + other ≡ cards = omega (arith, every, sum_more other others) in
     let rest_long : length ones ≡ length others = omega (arith, long) in
-    elim (cases_lt one other) [
-      | inl less ↦
-          let apart = more_before cards other one others ones (sym rest_long) (omega (arith, every, other_more)) (omega (arith, all, one_more)) less in
-          absurd (omega (arith, apart, is))
-      | inr least ↦
-          elim (cases_lt other one) [
-            | inl more ↦
-                let apart = more_before cards one other ones others rest_long (omega (arith, all, one_more)) (omega (arith, every, other_more)) more in
-                absurd (omega (arith, apart, is))
-            | inr most ↦
-                let same : one ≡ other = omega (arith, least, most) in
-                let fewer = ap (λ n. below (many n) (cards - one)) rest_long in
-                let there = ap (λ k. below (many (length others)) (cards - k) + place_among (cards - k) others) same in
-                let rest = place_of_one (cards - one) ones others rest_long (omega (arith, all, one_more)) (omega (arith, every, same, other_more))
-                (omega (arith, is, fewer, there)) in
-                λ i. same i ∷ rest i
-          ]
+    elim (cases_order one other) [
+      | inr (inl less) ↦ absurd (omega (arith, more_before cards other one others ones (sym rest_long) other_more one_more less, is))
+      | inr (inr more) ↦ absurd (omega (arith, more_before cards one other ones others rest_long one_more other_more more, is))
+      | inl same ↦
+          let fewer = ap (λ n. below (many n) (cards - one)) rest_long in
+          let there = ap (λ k. below (many (length others)) (cards - k) + place_among (cards - k) others) same in
+          let rest = place_of_one (cards - one) ones others rest_long (omega (arith, one_more)) (omega (arith, other_more, same))
+          (omega (arith, is, fewer, there)) in
+          λ i. same i ∷ rest i
     ]
 
 -- four ranks have a place

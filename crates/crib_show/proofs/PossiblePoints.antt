@@ -1,9 +1,9 @@
 -- The points that five cards can have, from their ranks.
-use Rattle.std.proofs.Common.{◌≡◌, ◌≢◌, ℕ, ◌+◌, ◌≤◌, eqb, not, ◌&&◌, ◌||◌, Bool, true, false, List, length, map, sym, ap, ◌∙◌, arith}
+use Rattle.std.proofs.Common.{◌≡◌, ◌≢◌, ℕ, ◌+◌, ◌≤◌, eqb, not, ◌&&◌, ◌||◌, Bool, true, false, List, length, map, sym, ◌∙◌, arith}
+use Rattle.std.proofs.lemmas.Bool.{le-ltb}
 use Rattle.std.proofs.Common.{ne_eqb}
 use Rattle.std.specs.Prelude.{nat_lt}
 use Rattle.std.specs.List.{AllByRecursion}
-use Rattle.std.proofs.lemmas.Bool.{and_parts}
 use Rattle.std.proofs.lemmas.Bool.Decides.{nat_tests}
 use Rattle.std.proofs.lemmas.List.{length-map}
 use Rattle.crib_cards.specs.Cards.{IsRank, jack, rank_of}
@@ -35,42 +35,27 @@ IsAllowed-cards cards are five =
           (λ i. allows (counted.pairs i) (has_jack ranks) (fifteen_points ranks + counted.pairs i + counted.runs i)) ∙ is_allowed-ranks ranks are long;
     }
 
--- which points are possible, case by case
-or-left : (a b : Bool) → a ≡ false → (a || b) ≡ true → b ≡ true
-or-left a b not_a is = grind (arith, nat_tests)
+-- which points are possible: alone, with a jack, and with flushes of four and of five
+pub record IsPossible (pairs points : ℕ) (with_jack : Bool) : Type 0 where
+  pub alone : is_possible points ≡ true
+  pub jack : with_jack ≡ true → is_possible (points + 1) ≡ true
+  pub flush_of_four : pairs ≤ 2 → is_possible (points + 4) ≡ true
+  pub flush_of_five : pairs ≡ 0 → is_possible (points + 5) ≡ true
+  pub flush_and_jack : pairs ≡ 0 → is_possible (points + 6) ≡ true
 
-pub allows-alone : (pairs points : ℕ) (with_jack : Bool) → allows pairs with_jack points ≡ true → pairs ≢ 20 → is_possible points ≡ true
-allows-alone pairs points with_jack allowed some = (and_parts _ _ (or-left (eqb pairs 20) _ (ne_eqb pairs 20 some) allowed)).0
+parts : (twenty alone jack with_jack many four pair five six : Bool) →
+    (twenty || (alone && ((not jack || with_jack) && ((many || four) && (pair || (five && six)))))) ≡ true → twenty ≡ false →
+    (alone ≡ true) × (jack ≡ true → with_jack ≡ true) × (many ≡ false → four ≡ true) × (pair ≡ false → five ≡ true) × (pair ≡ false → six ≡ true)
+parts twenty alone jack with_jack many four pair five six allowed apart = grind (arith, nat_tests)
 
-pub allows-jack : (pairs points : ℕ) (with_jack : Bool) → allows pairs with_jack points ≡ true → pairs ≢ 20 → with_jack ≡ true → is_possible (points + 1) ≡ true
-allows-jack pairs points with_jack allowed some is =
-    or-left (not with_jack) (is_possible (points + 1)) (ap not is)
-    (and_parts _ _ (and_parts (is_possible points) _ (or-left (eqb pairs 20) _ (ne_eqb pairs 20 some) allowed)).1).0
-
-few_pairs : (pairs : ℕ) → pairs ≤ 2 → nat_lt 2 pairs ≡ false
-few_pairs pairs few = grind (arith, nat_tests)
-
-flushes : (pairs points : ℕ) (with_jack : Bool) → allows pairs with_jack points ≡ true → pairs ≢ 20 →
-    ((nat_lt 2 pairs || is_possible (points + 4)) && (nat_lt 0 pairs || (is_possible (points + 5) && is_possible (points + 6)))) ≡ true
-flushes pairs points with_jack allowed some =
-    (and_parts (not with_jack || is_possible (points + 1)) _ (and_parts (is_possible points) _ (or-left (eqb pairs 20) _ (ne_eqb pairs 20 some) allowed)).1).1
-
-pub allows-flush_of_four : (pairs points : ℕ) (with_jack : Bool) → allows pairs with_jack points ≡ true → pairs ≤ 2 → is_possible (points + 4) ≡ true
-allows-flush_of_four pairs points with_jack allowed few =
-    or-left (nat_lt 2 pairs) (is_possible (points + 4)) (few_pairs pairs few) (and_parts _ _ (flushes pairs points with_jack allowed (λ e. omega arith))).0
-
-no_pairs : (pairs : ℕ) → pairs ≡ 0 → nat_lt 0 pairs ≡ false
-no_pairs pairs none = grind (arith, nat_tests)
-
-flush_of_five : (pairs points : ℕ) (with_jack : Bool) → allows pairs with_jack points ≡ true → pairs ≡ 0 →
-    (is_possible (points + 5) && is_possible (points + 6)) ≡ true
-flush_of_five pairs points with_jack allowed none =
-    or-left (nat_lt 0 pairs) _ (no_pairs pairs none)
-    (and_parts (nat_lt 2 pairs || is_possible (points + 4)) _ (flushes pairs points with_jack allowed (λ e. omega arith))).1
-
-pub allows-flush_of_five : (pairs points : ℕ) (with_jack : Bool) → allows pairs with_jack points ≡ true → pairs ≡ 0 → is_possible (points + 5) ≡ true
-allows-flush_of_five pairs points with_jack allowed none = (and_parts _ _ (flush_of_five pairs points with_jack allowed none)).0
-
-pub allows-flush_and_jack : (pairs points : ℕ) (with_jack : Bool) → allows pairs with_jack points ≡ true → pairs ≡ 0 → is_possible (points + 6) ≡ true
-allows-flush_and_jack pairs points with_jack allowed none =
-    (and_parts (is_possible (points + 5)) _ (flush_of_five pairs points with_jack allowed none)).1
+pub possible_points : (pairs points : ℕ) (with_jack : Bool) → allows pairs with_jack points ≡ true → pairs ≢ 20 → IsPossible pairs points with_jack
+possible_points pairs points with_jack allowed some =
+    let tests = parts (eqb pairs 20) (is_possible points) with_jack (is_possible (points + 1)) (nat_lt 2 pairs) (is_possible (points + 4)) (nat_lt 0 pairs)
+    (is_possible (points + 5)) (is_possible (points + 6)) allowed (ne_eqb pairs 20 some) in
+    record {
+      alone = tests.0;
+      jack = tests.1;
+      flush_of_four = λ few. tests.2 (le-ltb 2 pairs few);
+      flush_of_five = λ none. tests.3 (le-ltb 0 pairs (omega arith));
+      flush_and_jack = λ none. tests.4 (le-ltb 0 pairs (omega arith));
+    }

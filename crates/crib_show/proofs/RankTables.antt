@@ -1,6 +1,6 @@
 -- Every list of five ranks, each in rising order only.
 use Rattle.std.proofs.Common.{◌≡◌, ℕ, zero, suc, ◌+◌, ◌-◌, ◌<◌, ◌≤◌, eqb, not, ◌&&◌, ◌||◌, Bool, true, List, [], ◌∷◌, length, sum, refl, sym, ap, ◌∙◌, inl}
-use Rattle.std.proofs.Common.{inr, subst, arith, eqb-true}
+use Rattle.std.proofs.Common.{inr, subst, arith}
 use Rattle.std.specs.List.{list_all, list_any, range_with_len, AllByRecursion}
 use Rattle.std.proofs.lemmas.Bool.{cases_lt, and_parts}
 use Rattle.std.proofs.lemmas.Bool.Decides.{nat_tests}
@@ -48,10 +48,7 @@ each_rising (suc n) low test = list_all (λ rank. each_rising n rank (λ ranks. 
 list_all-range : (p : ℕ → Bool) (start n k : ℕ) → list_all p (range_with_len start n) ≡ true → start ≤ k → k < start + n → p k ≡ true
 list_all-range p start zero k all low high = absurd (omega arith)
 list_all-range p start (suc n) k all low high =
-    elim (cases_lt start k) [
-      | inl below ↦ list_all-range p (start + 1) n k (and_parts (p start) (list_all p (range_with_len (start + 1) n)) all).1 (omega arith) (omega arith)
-      | inr above ↦ let e : k ≡ start = omega arith in ap p e ∙ (and_parts (p start) (list_all p (range_with_len (start + 1) n)) all).0
-    ]
+    grind (arith, nat_tests, list_all-range p (start + 1) n k)
 
 pub each_rising-at : (n low : ℕ) (test : List ℕ → Bool) (ranks : List ℕ) → each_rising n low test ≡ true → Rises low ranks → length ranks ≡ n →
     test ranks ≡ true
@@ -117,21 +114,13 @@ from_4 = refl
 from_each : (rank : ℕ) → IsRank rank → GoodFrom rank
 from_each rank is = each_rank GoodFrom from_1 from_2 from_3 from_4 refl refl refl refl refl refl refl refl refl rank is
 
-le_from : (a b : ℕ) → nat_le a b ≡ true → a ≤ b
-le_from a b is = grind (arith, nat_tests)
+agreed : (pairs pairs_counted runs runs_counted number : ℕ) → agree_in pairs pairs_counted runs runs_counted number ≡ true →
+    (pairs ≡ pairs_counted) × (runs ≡ runs_counted) × (pairs_counted ≤ 20) × (runs_counted ≤ 12) × (number ≡ 5)
+agreed pairs pairs_counted runs runs_counted number all = grind (arith, nat_tests)
 
 IsCounted-agree : (ranks counts : List ℕ) → agree_with ranks counts ≡ true → IsCounted ranks counts
 IsCounted-agree ranks counts all =
-    let first = and_parts _ _ all in
-    let second = and_parts _ _ first.1 in
-    let third = and_parts _ _ second.1 in
-    let fourth = and_parts _ _ third.1 in record {
-      pairs = eqb-true _ _ first.0;
-      runs = eqb-true _ _ second.0;
-      few_pairs = le_from _ _ third.0;
-      few_runs = le_from _ _ fourth.0;
-      number = eqb-true _ _ fourth.1;
-    }
+    let tests = agreed _ _ _ _ _ all in record { pairs = tests.0; runs = tests.1; few_pairs = tests.2; few_runs = tests.3; number = tests.4 }
 
 pub good_rising : (ranks : List ℕ) → Rises 1 ranks → length ranks ≡ 5 → (agree ranks ≡ true) × (is_allowed ranks ≡ true)
 good_rising [] rises five = absurd (omega arith)

@@ -44,32 +44,24 @@ count_by-reordered p xs ys r = sum_by-reordered (λ x. cond (p x) 1 0) xs ys r
 pub rank_counts-reordered : (xs ys : List ℕ) → Reordered xs ys → rank_counts xs ≡ rank_counts ys
 rank_counts-reordered xs ys r = λ i. map (λ rank. count_by-reordered (λ other. eqb other rank) xs ys r i) ranks
 
-or-swap : (a b c : Bool) → (a || (b || c)) ≡ (b || (a || c))
-or-swap a b c = grind (arith, nat_tests)
-
 pub list_any-reordered : (p : ℕ → Bool) (xs ys : List ℕ) → Reordered xs ys → list_any p xs ≡ list_any p ys
 list_any-reordered p xs ys nothing = refl
 list_any-reordered p xs ys (behind x us vs r) = ap (λ b. p x || b) (list_any-reordered p us vs r)
-list_any-reordered p xs ys (front x y us) = or-swap (p x) (p y) (list_any p us)
+list_any-reordered p xs ys (front x y us) = grind (arith, nat_tests)
 list_any-reordered p xs ys (both us vs ws r s) = list_any-reordered p us vs r ∙ list_any-reordered p vs ws s
 
-fold-max-reordered : (a : ℕ) (xs ys : List ℕ) → Reordered xs ys → fold max a xs ≡ fold max a ys
-fold-max-reordered a xs ys nothing = refl
-fold-max-reordered a xs ys (behind x us vs r) = fold-max-reordered (max a x) us vs r
-fold-max-reordered a xs ys (front x y us) = ap (λ b. fold max b us) (omega arith)
-fold-max-reordered a xs ys (both us vs ws r s) = fold-max-reordered a us vs r ∙ fold-max-reordered a vs ws s
-
-fold-min-reordered : (a : ℕ) (xs ys : List ℕ) → Reordered xs ys → fold min a xs ≡ fold min a ys
-fold-min-reordered a xs ys nothing = refl
-fold-min-reordered a xs ys (behind x us vs r) = fold-min-reordered (min a x) us vs r
-fold-min-reordered a xs ys (front x y us) = ap (λ b. fold min b us) (omega arith)
-fold-min-reordered a xs ys (both us vs ws r s) = fold-min-reordered a us vs r ∙ fold-min-reordered a vs ws s
+-- a step that may be taken in any order folds to the same
+fold-reordered : (f : ℕ → ℕ → ℕ) → ((a x y : ℕ) → f (f a x) y ≡ f (f a y) x) → (a : ℕ) (xs ys : List ℕ) → Reordered xs ys → fold f a xs ≡ fold f a ys
+fold-reordered f swap a xs ys nothing = refl
+fold-reordered f swap a xs ys (behind x us vs r) = fold-reordered f swap (f a x) us vs r
+fold-reordered f swap a xs ys (front x y us) = ap (λ b. fold f b us) (swap a x y)
+fold-reordered f swap a xs ys (both us vs ws r s) = fold-reordered f swap a us vs r ∙ fold-reordered f swap a vs ws s
 
 pub greatest_rank-reordered : (xs ys : List ℕ) → Reordered xs ys → greatest_rank xs ≡ greatest_rank ys
-greatest_rank-reordered xs ys r = fold-max-reordered 0 xs ys r
+greatest_rank-reordered xs ys r = fold-reordered max (λ a x y. omega arith) 0 xs ys r
 
 pub least_rank-reordered : (xs ys : List ℕ) → Reordered xs ys → least_rank xs ≡ least_rank ys
-least_rank-reordered xs ys r = fold-min-reordered 13 xs ys r
+least_rank-reordered xs ys r = fold-reordered min (λ a x y. omega arith) 13 xs ys r
 
 distinct_front : (a b c d : Bool) → (not (a || b) && (not c && d)) ≡ (not (a || c) && (not b && d))
 distinct_front a b c d = grind (arith, nat_tests)

@@ -1,7 +1,7 @@
 -- The points that the search finds among the throws are the greatest of the hidden deals that agree.
-use Rattle.std.proofs.Common.{◌≡◌, ◌≢◌, ◌⊎◌, ℕ, ◌+◌, ◌<◌, ◌≤◌, Bool, true, false, not, eqb, ◌||◌, List, [], ◌∷◌, refl, sym, ap, ◌∙◌}
+use Rattle.std.proofs.Common.{◌≡◌, ◌≢◌, ◌⊎◌, ℕ, ◌+◌, ◌<◌, ◌≤◌, Bool, true, false, not, ◌||◌, List, [], ◌∷◌, refl, sym, ap, ◌∙◌}
 use Rattle.std.proofs.Common.{inl, inr, subst, arith}
-use Rattle.std.proofs.lemmas.Bool.{cases_lt, false_from_ne_true, and_parts, and_from, both_ways, not-true, eqb-false, ne_eqb}
+use Rattle.std.proofs.lemmas.Bool.{cases_lt, false_from_ne_true, and_parts, and_from, both_ways, ne_eqb}
 use Rattle.std.proofs.lemmas.Bool.{le-leb, leb-true}
 use Rattle.std.proofs.lemmas.Bool.Decides.{nat_tests}
 use Rattle.std.proofs.Math.Nat.{le_trans}
@@ -9,9 +9,8 @@ use Rattle.crib_cards.specs.Cards.{IsRank, card_of, rank_of, suit_of}
 use Rattle.crib_cards.specs.Sets.{has, set_without, IsCardSet}
 use Rattle.crib_cards.specs.declared.sides.Dealt.{Dealt}
 use Rattle.crib_cards.proofs.LowestCard.{in_set}
-use Rattle.crib_cards.proofs.Members.{has_here, has_there}
 use Rattle.crib_cards.proofs.SetFacts.{IsCardSet-set_without, has-set_without}
-use Rattle.crib_show.specs.Private.Extremes.{crib_suit_points, crib_with, most_crib_suits, most_suit_points, plain_crib, ranks_from}
+use Rattle.crib_show.specs.Private.Extremes.{crib_with, most_crib_suits, most_suit_points, plain_crib, ranks_from}
 use Rattle.crib_show.specs.Private.Extremes.{suit_points}
 use Rattle.crib_show.specs.Private.Totals.{NoneScores, SomeScores, card_scores, target_points, throw_scores, without_throw}
 use Rattle.crib_show.specs.Show.{crib_points, plain_of_ranks}
@@ -23,7 +22,7 @@ use Rattle.crib_show.proofs.CribLemmas.{deal_with, ordered, suits_most, throw_be
 use Rattle.crib_show.proofs.Exchange.{IsHold, deal_of, held_in, hold_of, throw_of}
 use Rattle.crib_show.proofs.HandLemmas.{most_held, no_more, value}
 use Rattle.crib_show.proofs.Throws.{MayThrow, may_throw, crib_of_ranks}
-use Rattle.crib_show.proofs.PairTrials.{at_most, card_back, rank_back}
+use Rattle.crib_show.proofs.PairTrials.{card_back, rank_back}
 
 -- ---- one of four suits
 
@@ -45,8 +44,6 @@ module _ (worst : WorstShow) where
   found aim suit_bonus wanted give =
       let p = give.0 in
       let q = give.1 in
-      let range_p = give.2 in
-      let range_q = give.3 in
       let outer = and_parts _ _ give.4 in
       let room = (and_parts _ _ outer.0).1 in
       let first = four_any (λ s. card_scores worst aim wanted (card_of p s) q) outer.1 in
@@ -54,8 +51,8 @@ module _ (worst : WorstShow) where
       let with_first = and_parts _ _ first.2 in
       let second = four_any (λ t. throw_scores worst aim wanted x (card_of q t)) with_first.1 in
       let y = card_of q second.0 in
-      let rank_x : rank_of x ≡ p = rank_back p first.0 first.1 range_p.0 in
-      let rank_y : rank_of y ≡ q = rank_back q second.0 second.1 range_q.0 in
+      let rank_x : rank_of x ≡ p = rank_back p first.0 first.1 give.2.0 in
+      let rank_y : rank_of y ≡ q = rank_back q second.0 second.1 give.3.0 in
       let both = and_parts _ _ second.2 in
       let free = and_parts _ _ both.0 in
       record {
@@ -91,10 +88,7 @@ module _ (worst : WorstShow) where
     -- the crib with two cards thrown has at most the points of their ranks and the most of their suits
     crib_low : (x y : ℕ) → MayThrow worst x y → crib_points (crib_with worst x y) worst.starter
         ≤ plain_crib worst (rank_of x) (rank_of y) + most_crib_suits worst (rank_of x) (rank_of y)
-    crib_low x y may =
-        at_most (crib_points (crib_with worst x y) worst.starter) (plain_crib worst (rank_of x) (rank_of y)) (crib_suit_points worst x y)
-        (most_crib_suits worst (rank_of x) (rank_of y))
-        (crib_of_ranks worst x y) (suits_most worst unseen_set x y may)
+    crib_low x y may = omega (arith, crib_of_ranks worst x y, suits_most worst unseen_set x y may)
 
     -- ---- the greatest crib
     pub crib_greatest : HasDeal worst → (bound most : ℕ) →
@@ -102,37 +96,25 @@ module _ (worst : WorstShow) where
         (most ≡ 0) ⊎ SomeScores worst Crib 0 most → (most ≡ bound) ⊎ NoneScores worst Crib 0 (most + 1) → IsGreatestCrib worst most
     crib_greatest some bound most cribs give none = record {
       some = elim give [
-        | inl zero_is ↦ let few = all some.0 some.1 in (some.0, some.1, omega (arith, few, zero_is))
+        | inl zero_is ↦ (some.0, some.1, omega (arith, all some.0 some.1, zero_is))
         | inr two ↦
             let pair = found Crib 0 most two in
-            let deal = deal_with worst unseen_set some pair.x pair.y pair.may in (
-              record { hold = deal.0; throw = pair.x ∷ pair.y ∷ [] },
-              deal.1,
-              both (crib_points (crib_with worst pair.x pair.y) worst.starter) most
-                  (all (record { hold = deal.0; throw = pair.x ∷ pair.y ∷ [] }) deal.1) pair.gives,
-            )
+            let deal = deal_with worst unseen_set some pair.x pair.y pair.may in
+            let dealt : Dealt = record { hold = deal.0; throw = pair.x ∷ pair.y ∷ [] } in
+            (dealt, deal.1, omega (arith, all dealt deal.1, pair.gives))
       ];
       all = all;
     }
       where
-        both : (a b : ℕ) → a ≤ b → b ≤ a → a ≡ b
-        both a b c d = omega arith
-
-        none_more : (a b : ℕ) → a ≤ b → a ≤ b + 0
-        none_more a b c = omega arith
-
-        no_more_than : (a b : ℕ) → a ≡ b → b < most + 1 → a ≤ most
-        no_more_than a b c d = omega arith
-
         all : (dealt : Dealt) → AgreesInShow worst dealt → hidden_crib worst dealt ≤ most
         all dealt agrees = elim none [
-          | inl is ↦ subst (λ k. hidden_crib worst dealt ≤ k) (sym is) (cribs dealt agrees)
+          | inl is ↦ omega (arith, is, cribs dealt agrees)
           | inr less ↦
               let thrown = ordered worst unseen_set dealt.hold dealt.throw agrees in
-              no_more_than (hidden_crib worst dealt) (crib_points (crib_with worst thrown.x thrown.y) worst.starter) thrown.crib
-              (too_little Crib 0 (most + 1) thrown.x thrown.y less thrown.may thrown.order thrown.range_x thrown.range_y
-              (none_more (crib_points (crib_with worst thrown.x thrown.y) worst.starter) (plain_crib worst (rank_of thrown.x) (rank_of thrown.y)
-              + most_crib_suits worst (rank_of thrown.x) (rank_of thrown.y)) (crib_low thrown.x thrown.y thrown.may)))
+              let few : target_points worst Crib thrown.x thrown.y < most + 1 =
+              too_little Crib 0 (most + 1) thrown.x thrown.y less thrown.may thrown.order thrown.range_x thrown.range_y
+              (omega (arith, crib_low thrown.x thrown.y thrown.may)) in
+              omega (arith, thrown.crib, few)
         ]
 
     -- ---- holds beside a throw
@@ -150,22 +132,17 @@ module _ (worst : WorstShow) where
           distinct = is.distinct;
           unseen = λ k h.
               let card = in_set worst.unseen k unseen_set (is.unseen k h) in
-              has-set_without (set_without worst.unseen x) y k card
-              ∙ and_from _ _ (has-set_without worst.unseen x k card ∙ and_from _ _ (is.unseen k h) (ap not (ne_eqb k x (other k x hold h out_x))))
-              (ap not (ne_eqb k y (other k y hold h out_y)));
+              let apart = λ (z : ℕ) (out : has hold z ≡ false) (same : k ≡ z). both_ways _ out (subst (λ j. has hold j ≡ true) same h) in
+              let outer = has-set_without (set_without worst.unseen x) y k card in
+              grind (arith, nat_tests, outer, has-set_without worst.unseen x k card, is.unseen k h, apart x out_x, apart y out_y);
           ranks_held = is.ranks_held;
           fixed_held = is.fixed_held;
         }
-          where
-            other : (k z : ℕ) (hold : List ℕ) → has hold k ≡ true → has hold z ≡ false → k ≢ z
-            other k z hold held out = λ same. both_ways _ out (subst (λ j. has hold j ≡ true) same held)
 
         in_beside : (k : ℕ) → has beside.unseen k ≡ true → (has worst.unseen k ≡ true) × (k ≢ x) × (k ≢ y)
         in_beside k h =
             let card = in_set beside.unseen k (IsCardSet-set_without (set_without worst.unseen x) y) h in
-            let outer = and_parts _ _ (sym (has-set_without (set_without worst.unseen x) y k card) ∙ h) in
-            let inner = and_parts _ _ (sym (has-set_without worst.unseen x k card) ∙ outer.0) in
-            (inner.0, eqb-false k x (not-true (eqb k x) inner.1), eqb-false k y (not-true (eqb k y) outer.1))
+            grind (arith, nat_tests, has-set_without (set_without worst.unseen x) y k card, has-set_without worst.unseen x k card, h)
 
         -- a hold that gets the most points that suits can add, and thrown cards that are not in it
         record Best : Type 0 where
@@ -206,10 +183,7 @@ module _ (worst : WorstShow) where
             let deal = deal_with worst unseen_set some x y may in
             let dealt : Dealt = record { hold = deal.0; throw = x ∷ y ∷ [] } in
             let apart = (throw_of worst dealt deal.1).apart in
-            best deal.0 (hold_of worst dealt deal.1) (gone deal.0 apart x (has_here x (y ∷ []))) (gone deal.0 apart y (has_there x y (y ∷ []) (has_here y [])))
-          where
-            gone : (hold : List ℕ) → ((k : ℕ) → has hold k ≡ true → has (x ∷ y ∷ []) k ≡ false) → (k : ℕ) → has (x ∷ y ∷ []) k ≡ true → has hold k ≡ false
-            gone hold apart k h = false_from_ne_true _ (λ held. both_ways _ (apart k held) h)
+            best deal.0 (hold_of worst dealt deal.1) (grind (arith, nat_tests, apart x)) (grind (arith, nat_tests, apart y))
 
         -- the deal of this hold and throw
         best_deal : MayThrow worst x y → (of : Best) → AgreesInShow worst (record { hold = of.hold; throw = x ∷ y ∷ [] })
@@ -222,12 +196,7 @@ module _ (worst : WorstShow) where
           (most ≡ crib + suits) ⊎ NoneScores worst (CribAndHand four) suits (most + 1) → IsGreatestTotal worst (plain + most)
       total_greatest some crib plain suits most cribs is_plain is_suits give none = record {
         some = elim give [
-          | inl zero_is ↦ (
-            some.0,
-            some.1,
-            least (hidden_hand worst some.0) (hidden_crib worst some.0) (suit_points some.0.hold worst.starter)
-                (hand_is some.0 some.1) zero_is (all some.0 some.1),
-          )
+          | inl zero_is ↦ (some.0, some.1, omega (arith, hand_is some.0 some.1, zero_is, all some.0 some.1))
           | inr two ↦
               let pair = found (CribAndHand four) suits most two in
               let of = best_of_throw pair.x pair.y some pair.may in
@@ -235,20 +204,12 @@ module _ (worst : WorstShow) where
               let agrees = best_deal pair.x pair.y pair.may of in (
                 dealt,
                 agrees,
-                both (hidden_hand worst dealt) (hidden_crib worst dealt) (suit_points of.hold worst.starter)
-                    (most_suit_points (beside pair.x pair.y) four)
-                    (hand_is dealt agrees) of.suits (all dealt agrees) pair.gives,
+                omega (arith, hand_is dealt agrees, of.suits, all dealt agrees, pair.gives),
               )
         ];
         all = all;
       }
         where
-          least : (a b c : ℕ) → a ≡ plain + c → most ≡ 0 → a + b ≤ plain + most → a + b ≡ plain + most
-          least a b c d e f = omega arith
-
-          both : (a b c d : ℕ) → a ≡ plain + c → c ≡ d → a + b ≤ plain + most → most ≤ b + d → a + b ≡ plain + most
-          both a b c d e f g h = omega arith
-
           hand_is : (dealt : Dealt) → AgreesInShow worst dealt → hidden_hand worst dealt ≡ plain + suit_points dealt.hold worst.starter
           hand_is dealt agrees = subst (λ k. hidden_hand worst dealt ≡ k + suit_points dealt.hold worst.starter) (sym is_plain)
               (value worst unseen_set fixed_set (held_in worst some) dealt.hold (hold_of worst dealt agrees))
@@ -256,28 +217,15 @@ module _ (worst : WorstShow) where
           suits_few : (hold : List ℕ) → IsHold worst hold → suit_points hold worst.starter ≤ suits
           suits_few hold is = subst (λ k. suit_points hold worst.starter ≤ k) (sym is_suits) (no_more worst unseen_set fixed_set (held_in worst some) hold is)
 
-          bounded : (a b c : ℕ) → a ≡ plain + c → c ≤ suits → b ≤ crib → most ≡ crib + suits → a + b ≤ plain + most
-          bounded a b c d e f g = omega arith
-
-          points_few : (a b c : ℕ) → a ≤ b → c ≤ suits → a + c ≤ b + suits
-          points_few a b c d e = omega arith
-
-          no_more_than : (a b c d e : ℕ) → a ≡ plain + c → b ≡ d → c ≤ e → d + e < most + 1 → a + b ≤ plain + most
-          no_more_than a b c d e f g h i = omega arith
-
           all : (dealt : Dealt) → AgreesInShow worst dealt → hidden_total worst dealt ≤ plain + most
           all dealt agrees = elim none [
-            | inl is ↦ bounded (hidden_hand worst dealt) (hidden_crib worst dealt) (suit_points dealt.hold worst.starter) (hand_is dealt agrees)
-                (suits_few dealt.hold (hold_of worst dealt agrees)) (cribs.all dealt agrees) is
+            | inl is ↦ omega (arith, hand_is dealt agrees, suits_few dealt.hold (hold_of worst dealt agrees), cribs.all dealt agrees, is)
             | inr less ↦
                 let thrown = ordered worst unseen_set dealt.hold dealt.throw agrees in
                 let of = best_of_throw thrown.x thrown.y some thrown.may in
-                no_more_than (hidden_hand worst dealt) (hidden_crib worst dealt) (suit_points dealt.hold worst.starter)
-                (crib_points (crib_with worst thrown.x thrown.y) worst.starter) (most_suit_points (beside thrown.x thrown.y) four)
-                (hand_is dealt agrees) thrown.crib (suits_below thrown.x thrown.y dealt.hold (hold_of worst dealt agrees) thrown.out_x thrown.out_y)
-                (too_little (CribAndHand four) suits (most + 1) thrown.x thrown.y less thrown.may thrown.order thrown.range_x thrown.range_y
-                (points_few (crib_points (crib_with worst thrown.x thrown.y) worst.starter) (plain_crib worst (rank_of thrown.x) (rank_of thrown.y)
-                + most_crib_suits worst (rank_of thrown.x) (rank_of thrown.y)) (most_suit_points (beside thrown.x thrown.y) four)
-                (crib_low thrown.x thrown.y thrown.may)
-                (subst (λ k. k ≤ suits) of.suits (suits_few of.hold of.is_hold))))
+                let few : target_points worst (CribAndHand four) thrown.x thrown.y < most + 1 =
+                too_little (CribAndHand four) suits (most + 1) thrown.x thrown.y less thrown.may thrown.order thrown.range_x thrown.range_y
+                (omega (arith, crib_low thrown.x thrown.y thrown.may, of.suits, suits_few of.hold of.is_hold)) in
+                let suits_here = suits_below thrown.x thrown.y dealt.hold (hold_of worst dealt agrees) thrown.out_x thrown.out_y in
+                omega (arith, hand_is dealt agrees, thrown.crib, suits_here, few)
           ]

@@ -1,15 +1,14 @@
 -- The points of a crib with two cards that may be thrown.
 use Rattle.std.proofs.Common.{◌≡◌, ◌≢◌, ℕ, ◌+◌, ◌<◌, ◌≤◌, Bool, true, not, cond, eqb, ◌&&◌, []}
 use Rattle.std.proofs.Common.{◌∷◌, ap, ◌∙◌, inl, inr, arith}
-use Rattle.std.specs.List.{list_all, list_any}
 use Rattle.std.proofs.lemmas.Bool.{cases_Bool, and_parts, and_from, not-true, cond-true}
 use Rattle.std.proofs.lemmas.Bool.{cond-false, eqb-false, ne_eqb}
 use Rattle.std.proofs.lemmas.Bool.Decides.{nat_tests}
 use Rattle.std.proofs.lemmas.List.{map-append}
-use Rattle.crib_cards.specs.Cards.{IsRank, card_of, jack, rank_of, suit_of}
+use Rattle.crib_cards.specs.Cards.{IsRank, card_of, rank_of, suit_of}
 use Rattle.crib_show.specs.Private.Extremes.{crib_suit_points, crib_with, has_room, is_free, least_of_ranks}
-use Rattle.crib_show.specs.Private.Extremes.{least_suits, least_suits_with, may_throw_flush, may_throw_jack, most_crib_suits, no_crib, plain_crib, thrown_suits}
-use Rattle.crib_show.specs.Show.{crib_flush, crib_points, jack_points, plain_of_ranks, plain_points}
+use Rattle.crib_show.specs.Private.Extremes.{least_suits, least_suits_with, most_crib_suits, no_crib, plain_crib, thrown_suits}
+use Rattle.crib_show.specs.Show.{crib_flush, crib_points, jack_points, plain_of_ranks}
 use Rattle.crib_show.specs.declared.deals.WorstShow.{WorstShow}
 use Rattle.crib_show.proofs.PairTrials.{four_below, four_is, card_back, rank_back, regroup}
 
@@ -40,11 +39,10 @@ module _ (worst : WorstShow) where
       cond-true _ _ _ (and_from _ _ (and_from _ _ may.first_free may.second_free) (ap not (ne_eqb x y may.apart)))
 
   pub few_suits : (x y : ℕ) → crib_suit_points worst x y ≤ 6
-  few_suits x y = six (list_all (λ card. eqb (suit_of card) (suit_of worst.starter)) (crib_with worst x y))
-      (list_any (λ card. eqb (rank_of card) jack && eqb (suit_of card) (suit_of worst.starter)) (crib_with worst x y))
+  few_suits x y = six _ _
 
   pub few_most : (p q : ℕ) → most_crib_suits worst p q ≤ 6
-  few_most p q = six (may_throw_flush worst p q) (may_throw_jack worst p q)
+  few_most p q = six _ _
 
   least_suits_below : (x y : ℕ) → least_suits worst (rank_of x) (rank_of y) ≤ thrown_suits worst x y
   least_suits_below x y =
@@ -52,32 +50,24 @@ module _ (worst : WorstShow) where
       let q = rank_of y in
       let first = four_below (λ s. least_suits_with worst (card_of p s) q) (suit_of x) (omega arith) in
       let second = four_below (λ t. thrown_suits worst (card_of p (suit_of x)) (card_of q t)) (suit_of y) (omega arith) in
-      joined (least_suits worst p q) (least_suits_with worst (card_of p (suit_of x)) q) (thrown_suits worst (card_of p (suit_of x)) (card_of q (suit_of y)))
-      (thrown_suits worst x y) first second
-      (λ i. thrown_suits worst (card_back x i) (card_back y i))
-    where
-      joined : (a b c d : ℕ) → a ≤ b → b ≤ c → c ≡ d → a ≤ d
-      joined a b c d e f g = omega arith
+      let back : thrown_suits worst (card_of p (suit_of x)) (card_of q (suit_of y)) ≡ thrown_suits worst x y =
+      λ i. thrown_suits worst (card_back x i) (card_back y i) in
+      omega (arith, first, second, back)
 
   -- ---- the points of the crib
   pub crib_of_ranks : (x y : ℕ) → crib_points (crib_with worst x y) worst.starter
       ≡ plain_crib worst (rank_of x) (rank_of y) + crib_suit_points worst x y
   unfolding crib_points
   crib_of_ranks x y =
-      regroup (plain_points (worst.starter ∷ crib_with worst x y)) (plain_crib worst (rank_of x) (rank_of y)) (crib_flush (crib_with worst x y) worst.starter)
-      (jack_points (crib_with worst x y) worst.starter)
+      regroup _ _ (crib_flush (crib_with worst x y) worst.starter) (jack_points (crib_with worst x y) worst.starter)
       (ap (λ ranks. plain_of_ranks (rank_of worst.starter ∷ ranks)) (map-append rank_of worst.own_throw (x ∷ y ∷ [])))
 
   -- the crib with two cards that may be thrown has no fewer points than the least crib of their ranks
   pub above_least : (x y : ℕ) → MayThrow x y → least_of_ranks worst (rank_of x) (rank_of y) ≤ crib_points
       (crib_with worst x y) worst.starter
   above_least x y may =
-      joined (least_of_ranks worst (rank_of x) (rank_of y)) (plain_crib worst (rank_of x) (rank_of y)) (least_suits worst (rank_of x) (rank_of y))
-      (thrown_suits worst x y) (crib_suit_points worst x y) (crib_points (crib_with worst x y) worst.starter) (cond-true _ _ _
-      may.room) (least_suits_below x y) (suits_of x y may) (crib_of_ranks x y)
-    where
-      joined : (a b c d e f : ℕ) → a ≡ b + c → c ≤ d → d ≡ e → f ≡ b + e → a ≤ f
-      joined a b c d e f h i j k = omega arith
+      let least = cond-true _ (plain_crib worst (rank_of x) (rank_of y) + least_suits worst (rank_of x) (rank_of y)) no_crib may.room in
+      omega (arith, least, least_suits_below x y, suits_of x y may, crib_of_ranks x y)
 
   -- if such a throw is left, some two cards give the least crib of the ranks
   pub record Reaches (points : ℕ) : Type 0 where
@@ -91,7 +81,7 @@ module _ (worst : WorstShow) where
       elim (cases_Bool (has_room worst p q)) [
         | inr no_room ↦
             let none : least_of_ranks worst p q ≡ no_crib = cond-false _ _ _ no_room in
-            absurd (too_high points (least_of_ranks worst p q) is none low)
+            absurd (omega (arith, is, none, low))
         | inl room ↦
             let sum : least_of_ranks worst p q ≡ plain_crib worst p q + least_suits worst p q =
             cond-true _ _ _ room in
@@ -104,8 +94,7 @@ module _ (worst : WorstShow) where
             let test : Bool = is_free worst x && is_free worst y && not (eqb x y) in
             elim (cases_Bool test) [
               | inr fails ↦
-                  absurd (too_high_sum points (least_of_ranks worst p q) (plain_crib worst p q) (least_suits worst p q) (least_suits_with worst x q)
-                  (thrown_suits worst x y) is sum first.2 second.2 (cond-false _ _ _ fails) low)
+                  absurd (omega (arith, is, sum, first.2, second.2, cond-false _ (crib_suit_points worst x y) no_crib fails, low))
               | inl passes ↦
                   let parts = and_parts _ _ passes in
                   let free = and_parts _ _ parts.0 in
@@ -113,19 +102,10 @@ module _ (worst : WorstShow) where
                     x = x;
                     y = y;
                     may = may_throw x y p q rank_x rank_y free.0 free.1 parts.1 room;
-                    crib = exactly (crib_points (crib_with worst x y) worst.starter) (plain_crib worst p q) (crib_suit_points worst x y) points
-                        (least_of_ranks worst p q) (least_suits worst p q) (least_suits_with worst x q) (thrown_suits worst x y)
-                        (crib_of_ranks x y ∙ (λ i. plain_crib worst (rank_x i) (rank_y i) + crib_suit_points worst x y)) is sum first.2 second.2
-                        (cond-true _ _ _ passes);
+                    crib =
+                        let ranks : crib_points (crib_with worst x y) worst.starter ≡ plain_crib worst p q + crib_suit_points worst x y =
+                        crib_of_ranks x y ∙ (λ i. plain_crib worst (rank_x i) (rank_y i) + crib_suit_points worst x y) in
+                        omega (arith, ranks, is, sum, first.2, second.2, cond-true _ (crib_suit_points worst x y) no_crib passes);
                   }
             ]
       ]
-    where
-      too_high : (a b : ℕ) → a ≡ b → b ≡ 255 → a < 255 → ⊥
-      too_high a b e f less = omega arith
-
-      too_high_sum : (a b c d e f : ℕ) → a ≡ b → b ≡ c + d → d ≡ e → e ≡ f → f ≡ 255 → a < 255 → ⊥
-      too_high_sum a b c d e f g h i j k less = omega arith
-
-      exactly : (a b c d e f g h : ℕ) → a ≡ b + c → d ≡ e → e ≡ b + f → f ≡ g → g ≡ h → h ≡ c → a ≡ d
-      exactly a b c d e f g h i j k l m n = omega arith

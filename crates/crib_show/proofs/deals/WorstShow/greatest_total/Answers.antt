@@ -9,16 +9,13 @@ pub overflow_add-crib : goal.overflow_add-crib
 overflow_add-crib c =
     let some = c.requires.crib.some in
     let few = subst (λ k. k ≤ 102) some.2 (few_crib c.args.self.now c.know_set.ensures c.args.plain.now c.requires.plain some.0 some.1) in
-    let range = c.ranks_hand-hand.ensures.range in
-    omega (arith, few, range.1)
+    omega (arith, few, c.ranks_hand-hand.ensures.range.1)
 
 pub overflow_add-result : goal.overflow_add-result
 overflow_add-result c =
     let some = c.requires.crib.some in
     let few = subst (λ k. k ≤ 102) some.2 (few_crib c.args.self.now c.know_set.ensures c.args.plain.now c.requires.plain some.0 some.1) in
-    let range = c.ranks_hand-hand.ensures.range in
-    let most = c.most_points.ensures.range in
-    omega (arith, few, range.0, range.1, most)
+    omega (arith, few, c.ranks_hand-hand.ensures.range.0, c.ranks_hand-hand.ensures.range.1, c.most_points.ensures.range)
 
 pub returns : goal.returns
 returns c =

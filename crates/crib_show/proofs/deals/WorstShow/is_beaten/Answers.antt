@@ -6,14 +6,11 @@ use Rattle.crib_show.proofs.deals.WorstShow.is_beaten.Goals as goal
 
 pub returns-then-apart-lt-GAME_HOLE-clause-none : goal.returns-then-apart-lt-GAME_HOLE-clause-none
 returns-then-apart-lt-GAME_HOLE-clause-none c = λ going.
-    stopped_never c.args.self.now c.requires.still c.requires.dealer c.requires.pone (λ dealt agrees. omega (
-      arith,
-      c.if-apart-lt-GAME_HOLE.true,
-      ap (λ (s : Scores). s.opponent) c.with-apart.ensures,
-      ap (λ (s : Scores). s.opponent) c.with.ensures,
-      c.greatest_hand-hand.ensures.greatest.all dealt agrees,
-      c.greatest_crib-crib.ensures.greatest.all dealt agrees,
-    ))
+    stopped_never c.args.self.now c.requires.still c.requires.dealer c.requires.pone (λ dealt agrees.
+    let hand = c.greatest_hand-hand.ensures.greatest.all dealt agrees in
+    let crib = c.greatest_crib-crib.ensures.greatest.all dealt agrees in
+    let apart = ap (λ (s : Scores). s.opponent) c.with-apart.ensures in
+    omega (arith, c.if-apart-lt-GAME_HOLE.true, apart, ap (λ (s : Scores). s.opponent) c.with.ensures, hand, crib))
 
 pub returns-clause-some : goal.returns-clause-some
 returns-clause-some c = λ high.
@@ -23,9 +20,6 @@ returns-clause-some c = λ high.
 
 pub returns-clause-none : goal.returns-clause-none
 returns-clause-none c = λ low.
-    stopped_never c.args.self.now c.requires.still c.requires.dealer c.requires.pone (λ dealt agrees. omega (
-      arith,
-      leb-false 121 c.with-2.result.opponent low,
-      ap (λ (s : Scores). s.opponent) c.with-2.ensures,
-      c.greatest_total-total.ensures.greatest.all dealt agrees,
-    ))
+    stopped_never c.args.self.now c.requires.still c.requires.dealer c.requires.pone (λ dealt agrees.
+    let total = c.greatest_total-total.ensures.greatest.all dealt agrees in
+    omega (arith, leb-false 121 c.with-2.result.opponent low, ap (λ (s : Scores). s.opponent) c.with-2.ensures, total))

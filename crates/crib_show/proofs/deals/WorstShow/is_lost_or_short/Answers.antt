@@ -18,19 +18,13 @@ returns-then-not-self-clause-some c = λ short.
 pub returns-then-not-self-clause-none : goal.returns-then-not-self-clause-none
 returns-then-not-self-clause-none c = λ reached.
     dealer_never c.args.self.now c.requires.still c.requires.dealer (inr (c.crib_suffices.ensures.all (not-false c.crib_suffices.result reached)))
-    (λ dealt agrees. omega (
-      arith,
-      c.if-with-ge-GAME_HOLE.false,
-      ap (λ (s : Scores). s.opponent) c.with.ensures,
-      c.greatest_hand-hand.ensures.greatest.all dealt agrees,
-    ))
+    (λ dealt agrees.
+    let hand = c.greatest_hand-hand.ensures.greatest.all dealt agrees in
+    omega (arith, c.if-with-ge-GAME_HOLE.false, ap (λ (s : Scores). s.opponent) c.with.ensures, hand))
 
 pub returns-else-not-self-clause-none : goal.returns-else-not-self-clause-none
 returns-else-not-self-clause-none c = λ stop.
     dealer_never c.args.self.now c.requires.still c.requires.dealer (inl c.if-not-self.false)
-    (λ dealt agrees. omega (
-      arith,
-      c.if-with-ge-GAME_HOLE.false,
-      ap (λ (s : Scores). s.opponent) c.with.ensures,
-      c.greatest_hand-hand.ensures.greatest.all dealt agrees,
-    ))
+    (λ dealt agrees.
+    let hand = c.greatest_hand-hand.ensures.greatest.all dealt agrees in
+    omega (arith, c.if-with-ge-GAME_HOLE.false, ap (λ (s : Scores). s.opponent) c.with.ensures, hand))

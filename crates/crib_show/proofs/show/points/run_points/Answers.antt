@@ -6,23 +6,14 @@ use Rattle.crib_show.proofs.show.points.run_points.Goals as goal
 
 pub stretch_points-points-requires : goal.stretch_points-points-requires
 stretch_points-points-requires c =
-    omega (
-      arith,
-      Walks-product c.args.counts.now c.loop-count.count-index c.loop-count.points c.loop-count.length c.loop-count.forms c.loop-count.invariant
-          c.requires.few,
-    )
+    omega (arith, Walks-product _ _ _ _ _ c.loop-count.invariant c.requires.few)
 
 pub stretch_points-requires : goal.stretch_points-requires
-stretch_points-requires c = omega (
-  arith,
-  Walks-product c.args.counts.now c.loop-count.count-index c.loop-count.points c.loop-count.length c.loop-count.forms
-      c.loop-count.invariant c.requires.few,
-)
+stretch_points-requires c = omega (arith, Walks-product _ _ _ _ _ c.loop-count.invariant c.requires.few)
 
 pub overflow_mul-forms : goal.overflow_mul-forms
 overflow_mul-forms c =
-    let forms : c.loop-count.forms ≤ 32 = Walks-forms c.args.counts.now c.loop-count.count-index c.loop-count.points c.loop-count.length c.loop-count.forms
-    c.loop-count.invariant c.requires.few in
+    let forms = Walks-forms _ _ _ _ _ c.loop-count.invariant c.requires.few in
     let count : get_or c.args.counts.now c.loop-count.count-index 0 ≤ 5 =
     count-le c.args.counts.now c.requires.few c.loop-count.count-index 0 c.loop-count-test.true in
     let product : c.loop-count.forms * get_or c.args.counts.now c.loop-count.count-index 0 ≤ 32 * 5 = mul-le-mul forms count in
@@ -32,13 +23,10 @@ pub loop-count-preserved : goal.loop-count-preserved
 loop-count-preserved c =
     elim c.if-count-eq0.branch [
       | then-count-eq0 w ↦
-          Walks-same c.args.counts.now (c.loop-count.count-index + 1) _ _ _ c.if-count-eq0.points c.if-count-eq0.length c.if-count-eq0.forms
-          (Walks-closed c.args.counts.now c.loop-count.count-index c.loop-count.points c.loop-count.length c.loop-count.forms c.loop-count.invariant
-          c.loop-count-test.true w.if-count-eq0.true)
+          Walks-same _ _ _ _ _ _ _ _ (Walks-closed _ _ _ _ _ c.loop-count.invariant c.loop-count-test.true w.if-count-eq0.true)
           (w.points-is ∙ ap (λ n. c.loop-count.points + n) w.stretch_points-points.ensures) w.length-is w.forms-is
       | else-count-eq0 w ↦
-          Walks-same c.args.counts.now (c.loop-count.count-index + 1) _ _ _ c.if-count-eq0.points c.if-count-eq0.length c.if-count-eq0.forms
-          (Walks-prolonged c.args.counts.now c.loop-count.count-index c.loop-count.points c.loop-count.length c.loop-count.forms c.loop-count.invariant
-          c.loop-count-test.true (omega (arith, w.if-count-eq0.false)))
+          Walks-same _ _ _ _ _ _ _ _
+          (Walks-prolonged _ _ _ _ _ c.loop-count.invariant c.loop-count-test.true (omega (arith, w.if-count-eq0.false)))
           w.points-is w.length-is w.forms-is
     ]

@@ -6,21 +6,19 @@ use Rattle.crib_show.proofs.FirstChoices.{choice_none, choice_found, choice_pass
 use Rattle.crib_show.proofs.worst.listing.Listing.first_throw.Goals as goal
 
 pub loop-second-smaller : goal.loop-second-smaller
-loop-second-smaller c = rest_smaller c.loop-second.seconds c.without-seconds.result c.in-Some-lowest.second c.lowest-in-loop-second.ensures.set
+loop-second-smaller c = rest_smaller _ _ _ c.lowest-in-loop-second.ensures.set
     (sym c.in-Some-lowest.is ∙ c.lowest-in-loop-second.ensures.first) c.without-seconds.ensures
 
 pub loop-first-smaller : goal.loop-first-smaller
-loop-first-smaller c = rest_smaller c.loop-first.firsts c.without-firsts.result c.in-Some.first c.lowest.ensures.set
-    (sym c.in-Some.is ∙ c.lowest.ensures.first) c.without-firsts.ensures
+loop-first-smaller c = rest_smaller _ _ _ c.lowest.ensures.set (sym c.in-Some.is ∙ c.lowest.ensures.first) c.without-firsts.ensures
 
 pub returns-then-passes : goal.returns-then-passes
 unfolding first_choice
 returns-then-passes c =
     let gives = try_throw c.args.self.now.worst.now c.args.self.now.test c.args.hold in
-    let split = lowest_split c.loop-first.firsts c.without-firsts.result c.in-Some.first c.lowest.ensures.set (sym c.in-Some.is ∙ c.lowest.ensures.first)
-    c.without-firsts.ensures in
-    let split_again = lowest_split c.loop-second.seconds c.without-seconds.result c.in-Some-lowest.second c.lowest-in-loop-second.ensures.set
-    (sym c.in-Some-lowest.is ∙ c.lowest-in-loop-second.ensures.first) c.without-seconds.ensures in
+    let split = lowest_split _ _ _ c.lowest.ensures.set (sym c.in-Some.is ∙ c.lowest.ensures.first) c.without-firsts.ensures in
+    let split_again = lowest_split _ _ _ c.lowest-in-loop-second.ensures.set (sym c.in-Some-lowest.is ∙ c.lowest-in-loop-second.ensures.first)
+    c.without-seconds.ensures in
     sym (choice_found gives any_card [] 1 c.loop-first.firsts c.without-firsts.result c.in-Some.first _ split refl
     (sym c.loop-second.invariant
     ∙ choice_found gives any_card (c.in-Some.first ∷ []) 0 c.loop-second.seconds c.without-seconds.result c.in-Some-lowest.second _ split_again refl
@@ -30,19 +28,16 @@ returns-then-passes c =
 pub loop-second-preserved : goal.loop-second-preserved
 unfolding first_choice
 loop-second-preserved c =
-    sym (choice_passed (try_throw c.args.self.now.worst.now c.args.self.now.test c.args.hold) any_card (c.in-Some.first ∷ []) 0 c.loop-second.seconds
-    c.without-seconds.result c.in-Some-lowest.second
-    (lowest_split c.loop-second.seconds c.without-seconds.result c.in-Some-lowest.second c.lowest-in-loop-second.ensures.set
-    (sym c.in-Some-lowest.is ∙ c.lowest-in-loop-second.ensures.first) c.without-seconds.ensures)
+    sym (choice_passed (try_throw c.args.self.now.worst.now c.args.self.now.test c.args.hold) any_card (c.in-Some.first ∷ []) 0 _ _ _
+    (lowest_split _ _ _ c.lowest-in-loop-second.ensures.set (sym c.in-Some-lowest.is ∙ c.lowest-in-loop-second.ensures.first) c.without-seconds.ensures)
     (cond-false _ _ None (sym c.passes.ensures ∙ c.if-passes.false)))
     ∙ c.loop-second.invariant
 
 pub loop-first-preserved : goal.loop-first-preserved
 loop-first-preserved c =
     let gives = try_throw c.args.self.now.worst.now c.args.self.now.test c.args.hold in
-    sym (choice_passed gives any_card [] 1 c.loop-first.firsts c.without-firsts.result c.in-Some.first
-    (lowest_split c.loop-first.firsts c.without-firsts.result c.in-Some.first c.lowest.ensures.set (sym c.in-Some.is ∙ c.lowest.ensures.first)
-    c.without-firsts.ensures)
+    sym (choice_passed gives any_card [] 1 _ _ _
+    (lowest_split _ _ _ c.lowest.ensures.set (sym c.in-Some.is ∙ c.lowest.ensures.first) c.without-firsts.ensures)
     (sym c.loop-second.invariant ∙ choice_none gives any_card (c.in-Some.first ∷ []) 0 c.loop-second.seconds
     (lowest_none c.loop-second.seconds (sym c.in_default-lowest.is ∙ c.lowest-in-loop-second.ensures.first))))
     ∙ c.loop-first.invariant

@@ -1,10 +1,11 @@
 -- Proves that an owner who is asked after allowed acts holds a card.
-use Rattle.std.proofs.Common.{◌≡◌, ℕ, zero, suc, ◌+◌, ◌≤◌, Bool, true, false, cond, not, ◌&&◌, ◌||◌, eqb, ltb, List, [], ◌∷◌, length, Option, Some, None}
-use Rattle.std.proofs.Common.{refl, sym, ap, ◌∙◌, inl, inr, arith}
+use Rattle.std.proofs.Common.{◌≡◌, ℕ, zero, suc, ◌+◌, ◌≤◌, Bool, true, false, cond, not, ◌&&◌, ◌||◌, ltb, List, [], ◌∷◌, length, Option, Some, None}
+use Rattle.std.proofs.Common.{refl, sym, ap, ◌∙◌, ◌<◌, arith}
 use Rattle.std.specs.List.{list_any}
 use Rattle.std.specs.Option.{option_or}
 use Rattle.std.proofs.Math.Bool.{and-true}
-use Rattle.std.proofs.lemmas.Bool.{cases_Bool, and_parts, both_ways, not-false, leb-true, ltb-true, ltb-false, eqb-true}
+use Rattle.std.proofs.lemmas.Bool.{and_parts, cond_both, not-false, ltb-true, ltb-false}
+use Rattle.std.proofs.lemmas.Bool.Decides.{nat_tests}
 use Rattle.crib_cards.specs.Cards.{rank_of, card_value}
 use Rattle.crib_cards.specs.Sets.{has, set_where, set_without}
 use Rattle.crib_cards.specs.Letters.{letter_of}
@@ -16,13 +17,13 @@ use Rattle.crib_cards.specs.declared.letters.Letter.TheVariants.{Seen, Go}
 use Rattle.crib_cards.specs.declared.moves.Move.{Move}
 use Rattle.crib_cards.specs.declared.moves.Move.TheVariants as move
 use Rattle.crib_cards.specs.declared.moves.Act.{Act}
-use Rattle.crib_cards.proofs.SetLemmas.{set_where_agree, has-set_where, IsCardSet-set_where, eqb_turned, and_not_either}
+use Rattle.crib_cards.proofs.SetLemmas.{set_where_agree, has-set_where, IsCardSet-set_where}
 use Rattle.crib_cards.proofs.SetFacts.{in_set_where}
 use Rattle.crib_cards.proofs.SetCounts.{length-set_without}
 use Rattle.crib_play.specs.declared.turns.Turn.{Turn}
 use Rattle.crib_play.specs.declared.turns.Turn.TheVariants as turns
 use Rattle.crib_play.specs.Record as plays
-use Rattle.crib_play.specs.Record.{Record, count_of, pile_of, mover, has_said_go, is_heard}
+use Rattle.crib_play.specs.Record.{Record, count_of, pile_of, mover, is_heard}
 use Rattle.crib_play.specs.Score.{side_asked, asks}
 use Rattle.crib_play.specs.Filled.{is_silent_next, with_silent_gos}
 use Rattle.crib_play.specs.Standing.{MayShow, AreTaken, IsStart}
@@ -35,26 +36,22 @@ use Rattle.crib_play.proofs.TurnFacts.{high_count, played_card, played_go}
 use Rattle.crib_play.proofs.LeastValues.{least_card, least_other, least_go}
 use Rattle.crib_play.proofs.RecordsReached.{asked_mover}
 use Rattle.crib_play.proofs.FilledAndVisible.{heard-filled_record}
-use Rattle.crib_problem.specs.Refusals.{same_card, not_turn, not_held, does_not_fit, must_play, no_deal, already_over}
+use Rattle.crib_problem.specs.Refusals.{not_held, does_not_fit, must_play, no_deal}
 use Rattle.crib_problem.specs.Played.{OpeningBasis, cards_played, record_by, count_by_acts, asked_by, own_left_by, seen_by, least_by, shows_seen}
-use Rattle.crib_problem.specs.Played.{move_refusal, turn_refusal, is_over_by, AreAllowed}
+use Rattle.crib_problem.specs.Played.{move_refusal, turn_refusal, AreAllowed}
 use Rattle.crib_problem.specs.Setup.{Setup, IsSetup, opening_basis_of}
 use Rattle.crib_problem.specs.Private.OpeningTables.{Keeps}
 use Rattle.crib_problem.proofs.StartLemmas.{started, hold_known, hold_is_card, hold_four}
 
 -- ---- what follows where an act is not refused
 pub none_of_two : (a b : Bool) (x y : ℕ) (rest : Option ℕ) → cond a (Some x) (cond b (Some y) rest) ≡ None → (a ≡ false) × (b ≡ false) × (rest ≡ None)
-none_of_two true b x y rest e = absurd cc
-none_of_two false true x y rest e = absurd cc
-none_of_two false false x y rest e = (refl, refl, e)
+none_of_two a b x y rest e = grind arith
 
 pub none_of_one : (a : Bool) (x : ℕ) → cond a (Some x) None ≡ None → a ≡ false
-none_of_one true x e = absurd cc
-none_of_one false x e = refl
+none_of_one a x e = grind arith
 
 pub none_of_either : (first second : Option ℕ) → option_or first second ≡ None → (first ≡ None) × (second ≡ None)
-none_of_either None second e = (refl, e)
-none_of_either (Some number) second e = absurd cc
+none_of_either first second e = grind arith
 
 -- an act that may be the next one: the parts of this
 pub record MayTurn (seen : List ℕ) (asked : Turn) (count : ℕ) (own : List ℕ) (least : ℕ) (act : Act) : Type 0 where
@@ -64,29 +61,24 @@ pub record MayTurn (seen : List ℕ) (asked : Turn) (count : ℕ) (own : List �
 
 pub may_turn : (seen : List ℕ) (asked : Turn) (count : ℕ) (own : List ℕ) (least : ℕ) (act : Act) → turn_refusal seen asked count own least act ≡ None →
     MayTurn seen asked count own least act
-may_turn seen asked count own least act e =
-    let parts = none_of_two (shows_seen seen act.side act.what) (not (asks asked act.side)) same_card not_turn
-    (move_refusal count own least act.side act.what) e in
-    record { unseen = parts.0; turn = not-false (asks asked act.side) parts.1; may = parts.2 }
+may_turn seen asked count own least act e = grind arith
+
+-- an act that may follow some acts
+abbrev pub MayFollow : OpeningBasis → List Act → Act → Type 0
+MayFollow basis before act =
+    MayTurn (seen_by basis before) (asked_by basis before) (count_by_acts basis before) (own_left_by basis before) (least_by basis before) act
 
 pub asked_open : (asked : Turn) (side : Side) → asks asked side ≡ true → asked ≡ side_asked side
-asked_open turns.Owner Owner e = refl
-asked_open turns.Owner Opponent e = absurd cc
-asked_open turns.Opponent Owner e = absurd cc
-asked_open turns.Opponent Opponent e = refl
-asked_open turns.Over side e = absurd cc
+asked_open asked side e = grind arith
 
 -- ---- the owner's cards: those that he has played, and those left
 played_gos : (n : ℕ) (start : Start) (past : Record) → plays.cards_played (pone_of start) Owner (with_silent_gos n start past) ≡ plays.cards_played
     (pone_of start) Owner past
 played_gos zero start past = refl
 played_gos (suc n) start past =
-    let pone = pone_of start in
-    elim (cases_Bool (is_silent_next start past)) [
-      | inl s ↦ ap (λ (b : Bool). plays.cards_played pone Owner (cond b (with_silent_gos n start (Go ∷ past)) past)) s ∙ played_gos n start (Go ∷ past)
-          ∙ played_go pone Owner past
-      | inr s ↦ ap (λ (b : Bool). plays.cards_played pone Owner (cond b (with_silent_gos n start (Go ∷ past)) past)) s
-    ]
+    cond_both (is_silent_next start past) (with_silent_gos n start (Go ∷ past)) past
+    (λ all. plays.cards_played (pone_of start) Owner all ≡ plays.cards_played (pone_of start) Owner past)
+    (λ s. played_gos n start (Go ∷ past) ∙ played_go (pone_of start) Owner past) (λ s. refl)
 
 played_seen : (start : Start) (past : Record) (rank : ℕ) (side : Side) → mover (pone_of start) past ≡ side →
     plays.cards_played (pone_of start) Owner (with_silent_gos 3 start (Seen rank ∷ past)) ≡ cond (same_side side Owner)
@@ -99,84 +91,51 @@ played_seen start past rank side m =
 pub own_less : (hold played : List ℕ) (card : ℕ) → set_without (set_where (λ c. has hold c && not (has played c))) card ≡ set_where
     (λ c. has hold c && not (has (card ∷ played) c))
 own_less hold played card =
-    set_where_agree _ _ (λ other is.
-    ap (λ (b : Bool). b && not (eqb other card)) (has-set_where (λ c. has hold c && not (has played c)) other is)
-    ∙ and_not_either (has hold other) (has played other) (eqb other card)
-    ∙ ap (λ (b : Bool). has hold other && not (b || has played other)) (eqb_turned other card))
+    set_where_agree _ _ (λ other is. grind (arith, nat_tests, has-set_where (λ c. has hold c && not (has played c)) other is))
 
 -- a card that is not in his hold leaves his cards as they were
 own_same : (hold played : List ℕ) (card : ℕ) → has hold card ≡ false → set_where (λ c. has hold c && not (has (card ∷ played) c)) ≡ set_where
     (λ c. has hold c && not (has played c))
-own_same hold played card out =
-    set_where_agree _ _ (λ other is. elim (cases_Bool (eqb card other)) [
-      | inl same ↦ let mine : has hold other ≡ false = ap (has hold) (sym (eqb-true card other same)) ∙ out in
-          ap (λ (b : Bool). b && not (eqb card other || has played other)) mine ∙ sym (ap (λ (b : Bool). b && not (has played other)) mine)
-      | inr differs ↦ ap (λ (b : Bool). has hold other && not (b || has played other)) differs
-    ])
+own_same hold played card out = set_where_agree _ _ (λ other is. grind (arith, nat_tests, out))
 
 module _ (basis : OpeningBasis) (before : List Act) (keeps : Keeps basis before) where
   -- a card that the owner has not seen is not in his hold
   not_his : (card : ℕ) → has (seen_by basis before) card ≡ false → has basis.hold card ≡ false
-  not_his card e =
-      elim (cases_Bool (has basis.hold card)) [
-        | inl mine ↦
-            let parts = keeps.known card mine in
-            absurd (both_ways (has (seen_by basis before) card) e
-            (has-set_where (λ c. has basis.known c || has (cards_played before) c) card parts.0
-            ∙ ap (λ (b : Bool). b || has (cards_played before) card) parts.1))
-        | inr other ↦ other
-      ]
+  not_his card e = grind (arith, nat_tests, keeps.known card, has-set_where (λ c. has basis.known c || has (cards_played before) c) card)
 
-  keeps_card : (side : Side) (card : ℕ) → asked_by basis before ≡ side_asked side → shows_seen (seen_by basis before) side (move.Card card) ≡ false →
-      move_refusal (count_by_acts basis before) (own_left_by basis before) (least_by basis before) side (move.Card card) ≡ None →
-      Keeps basis (record { side = side; what = move.Card card } ∷ before)
-  keeps_card Owner card asked unseen may =
+  keeps_move : (side : Side) (what : Move) → asked_by basis before ≡ side_asked side → shows_seen (seen_by basis before) side what ≡ false →
+      move_refusal (count_by_acts basis before) (own_left_by basis before) (least_by basis before) side what ≡ None →
+      Keeps basis (record { side = side; what = what } ∷ before)
+  keeps_move Owner (move.Card card) asked unseen may =
       let own = own_left_by basis before in
       let held : has own card ≡ true =
       not-false (has own card) (none_of_two (not (has own card)) (not (fits_at (count_by_acts basis before) card)) not_held does_not_fit None may).0 in
       let test : ℕ → Bool = λ c. has basis.hold c && not (has (cards_played before) c) in
       let less : length own ≡ length (set_without own card) + 1 = length-set_without own card (IsCardSet-set_where test) (in_set_where test card held).0 held in
-      let left : length (set_without own card) ≡ length (own_left_by basis (record { side = Owner; what = move.Card card } ∷ before)) =
-      ap length (own_less basis.hold (cards_played before) card) in
+      let left = ap length (own_less basis.hold (cards_played before) card) in
       let more = played_seen basis.start (record_by basis before) (rank_of card) Owner (asked_mover basis.start (record_by basis before) Owner asked).1 in
-      let four = keeps.four in
-      record { known = keeps.known; four = omega (arith, less, left, more, four) }
-  keeps_card Opponent card asked unseen may =
-      let left : length (own_left_by basis (record { side = Opponent; what = move.Card card } ∷ before)) ≡ length (own_left_by basis before) =
-      ap length (own_same basis.hold (cards_played before) card (not_his card unseen)) in
+      record { known = keeps.known; four = omega (arith, less, left, more, keeps.four) }
+  keeps_move Opponent (move.Card card) asked unseen may =
+      let left = ap length (own_same basis.hold (cards_played before) card (not_his card unseen)) in
       let more = played_seen basis.start (record_by basis before) (rank_of card) Opponent (asked_mover basis.start (record_by basis before) Opponent asked).1 in
-      let four = keeps.four in
-      record { known = keeps.known; four = omega (arith, left, more, four) }
-
-  keeps_go : (side : Side) → Keeps basis (record { side = side; what = move.Go } ∷ before)
-  keeps_go side =
+      record { known = keeps.known; four = omega (arith, left, more, keeps.four) }
+  keeps_move side move.Go asked unseen may =
       let more = played_gos 3 basis.start (Go ∷ record_by basis before) ∙ played_go (pone_of basis.start) Owner (record_by basis before) in
-      let four = keeps.four in
-      record { known = keeps.known; four = omega (arith, more, four) }
+      record { known = keeps.known; four = omega (arith, more, keeps.four) }
 
-  keeps_move : (side : Side) (what : Move) → asked_by basis before ≡ side_asked side → shows_seen (seen_by basis before) side what ≡ false →
-      move_refusal (count_by_acts basis before) (own_left_by basis before) (least_by basis before) side what ≡ None →
-      Keeps basis (record { side = side; what = what } ∷ before)
-  keeps_move side (move.Card card) asked unseen may = keeps_card side card asked unseen may
-  keeps_move side move.Go asked unseen may = keeps_go side
-
-  pub keeps_act : (act : Act) → MayTurn (seen_by basis before) (asked_by basis before) (count_by_acts basis before) (own_left_by basis before)
-      (least_by basis before) act → Keeps basis (act ∷ before)
+  pub keeps_act : (act : Act) → MayFollow basis before act → Keeps basis (act ∷ before)
   keeps_act act may = keeps_move act.side act.what (asked_open (asked_by basis before) act.side may.turn) may.unseen may.may
 
   -- an owner who is asked holds a card
   pub asked_holds : IsStart basis.start → AreTaken basis.start (letters_of (moves_of before)) → asked_by basis before ≡ turns.Owner →
       1 ≤ length (own_left_by basis before)
   asked_holds is taken asked =
-      let pone = pone_of basis.start in
       let past = record_by basis before in
       let open_now = asked_mover basis.start past Owner asked in
-      let heard : is_heard pone Owner past ≡ true = ap (λ (side : Side). is_heard pone side past) (sym open_now.1)
+      let heard : is_heard (pone_of basis.start) Owner past ≡ true = ap (λ (side : Side). is_heard (pone_of basis.start) side past) (sym open_now.1)
       ∙ heard-filled_record basis.start (letters_of (moves_of before)) is taken open_now.0 in
-      let fewer = ltb-true (plays.cards_played pone Owner past) 4 (and_parts (ltb (plays.cards_played pone Owner past) 4) (not (has_said_go pone Owner past))
-      heard).0 in
-      let four = keeps.four in
-      omega (arith, fewer, four)
+      let fewer : plays.cards_played (pone_of basis.start) Owner past < 4 = ltb-true _ _ (and_parts _ _ heard).0 in
+      omega (arith, fewer, keeps.four)
 
 -- ---- what a turn shows of the opponent's cards
 module _ (basis : OpeningBasis) (before : List Act) where
@@ -204,13 +163,9 @@ Shows count move.Go = 22 ≤ count
 
 pub shows_move : (count : ℕ) (own : List ℕ) (least : ℕ) (side : Side) (what : Move) → (side ≡ Owner → 1 ≤ length own) →
     move_refusal count own least side what ≡ None → Shows count what
-shows_move count own least Owner (move.Card card) some e =
-    leb-true (count + card_value card) 31
-    (not-false (fits_at count card) (none_of_two (not (has own card)) (not (fits_at count card)) not_held does_not_fit None e).1)
+shows_move count own least Owner (move.Card card) some e = grind (arith, nat_tests)
 shows_move count own least Owner move.Go some e = low_fits count own (some refl) (none_of_one (list_any (fits_at count) own) must_play e)
-shows_move count own least Opponent (move.Card card) some e =
-    leb-true (count + card_value card) 31
-    (not-false (fits_at count card) (none_of_two (not (fits_at count card)) (ltb (card_value card) least) does_not_fit no_deal None e).0)
+shows_move count own least Opponent (move.Card card) some e = grind (arith, nat_tests)
 shows_move count own least Opponent move.Go some e = ltb-false count 22 (none_of_one (ltb count 22) no_deal e)
 
 shows_letter : (past : Record) (what : Move) → Shows (count_of (pile_of past)) what → MayShow (letter_of what) past
@@ -226,32 +181,20 @@ pub were_taken : (basis : OpeningBasis) → IsStart basis.start → Keeps basis 
 were_taken basis is keeps [] allowed = record { taken = tt; keeps = keeps }
 were_taken basis is keeps (act ∷ before) allowed =
     let so_far = were_taken basis is keeps before allowed.0 in
-    let asked = asked_by basis before in
-    let count = count_by_acts basis before in
-    let own = own_left_by basis before in
-    let least = least_by basis before in
-    let may = may_turn (seen_by basis before) asked count own least act
-    (none_of_either (turn_refusal (seen_by basis before) asked count own least act) (cond (is_over_by basis (act ∷ before)) (Some already_over) None)
-    allowed.1).0 in
-    let turn = asked_open asked act.side may.turn in
-    let holds : act.side ≡ Owner → 1 ≤ length own = λ e. asked_holds basis before so_far.keeps is so_far.taken (turn ∙ ap side_asked e) in
-    record {
-      taken = (
-        so_far.taken,
-        record {
-          not_done = (asked_mover basis.start (record_by basis before) act.side turn).0;
-          may_show = shows_letter (record_by basis before) act.what (shows_move count own least act.side act.what holds may.may);
-        },
-      );
-      keeps = keeps_act basis before so_far.keeps act may;
-    }
+    let may : MayFollow basis before act = may_turn _ _ _ _ _ act (none_of_either _ _ allowed.1).0 in
+    let turn = asked_open (asked_by basis before) act.side may.turn in
+    let holds : act.side ≡ Owner → 1 ≤ length (own_left_by basis before) =
+    λ e. asked_holds basis before so_far.keeps is so_far.taken (turn ∙ ap side_asked e) in
+    let not_done = (asked_mover basis.start (record_by basis before) act.side turn).0 in
+    let may_show = shows_letter (record_by basis before) act.what (shows_move _ (own_left_by basis before) _ act.side act.what holds may.may) in
+    record { taken = (so_far.taken, record { not_done = not_done; may_show = may_show }); keeps = keeps_act basis before so_far.keeps act may }
 
 -- ---- the board of a problem
 module _ (problem : Setup) (setup : IsSetup problem) where
   pub keeps_first : Keeps (opening_basis_of problem) []
   keeps_first =
-      let four : length (set_where (λ c. has problem.hold c && not false)) ≡ 4 = ap length (set_where_agree _ _ (λ card is. and-true (has problem.hold card)))
-      ∙ hold_four problem setup in
+      let four : length (set_where (λ c. has problem.hold c && not false)) ≡ 4 =
+      ap length (set_where_agree _ _ (λ card is. and-true (has problem.hold card))) ∙ hold_four problem setup in
       record { known = λ card mine. (hold_is_card problem setup card mine, hold_known problem setup card mine); four = omega (arith, four) }
 
   pub holds_asked : (acts : List Act) → AreAllowed (opening_basis_of problem) acts → asked_by (opening_basis_of problem) acts ≡ turns.Owner →

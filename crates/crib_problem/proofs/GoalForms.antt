@@ -1,5 +1,5 @@
 -- The goal of a problem: its hole, and the form of its line. All lemmas that go goal by goal are here.
-use Rattle.std.proofs.Common.{◌≡◌, ℕ, ◌-◌, ◌<◌, ◌≤◌, ◌^◌, true, false, eqb, cond, ◌&&◌, List, [], ◌∷◌, length, Ok, Err, codes, decimal, refl, sym, ap, subst}
+use Rattle.std.proofs.Common.{◌≡◌, ℕ, ◌-◌, ◌<◌, ◌≤◌, true, false, eqb, cond, ◌&&◌, List, [], ◌∷◌, length, Ok, Err, codes, decimal, refl, sym, ap, subst}
 use Rattle.std.proofs.Common.{◌∙◌, arith, inl, inr}
 use Rattle.std.specs.Prelude.{nat_le, bytes_eq}
 use Rattle.std.proofs.lemmas.Bool.{cases_Bool, cond-true, cond-false, leb-true, le-leb, and_parts, and_from}
@@ -19,7 +19,7 @@ use Rattle.crib_problem.specs.Setup.{IsGoal, CanSay, goal_hole, is_stop}
 use Rattle.crib_problem.specs.Spelling.{goal_words}
 use Rattle.crib_problem.specs.Refusals.{bad_goal}
 use Rattle.crib_problem.specs.Reading.{holes_in, stop_goal, plain_goal, holes_goal, win_in, target_in, goal_in}
-use Rattle.crib_problem.proofs.NamedWords.{if_named}
+use Rattle.crib_problem.proofs.NamedWords.{if_named, only_named}
 
 -- the hole of a goal is above the owner's score and at most 121
 pub goal_bounds : (score : ℕ) (goal : Goal) → score ≤ 120 → IsGoal score goal → (score < goal_hole score goal) × (goal_hole score goal ≤ 121)
@@ -44,18 +44,15 @@ holes_found version score word goal e =
     let a = bind_ok (number_in word) _ goal e in
     let b = bind_ok (unless_refused bad_goal (nat_le 1 a.0 && nat_le a.0 (game_hole - score))) _ goal a.2 in
     let both = and_parts _ _ (unless_ok _ bad_goal b.0 b.1) in
-    subst (HasGoal version score (codes "holes" ∷ word ∷ [])) (ok_is (Holes a.0) goal b.2) (
-      ap (λ (w : List ℕ). codes "holes" ∷ w ∷ []) (number_found word a.0 a.1).0,
-      ((leb-true _ _ both.0, leb-true _ _ both.1), said version (Holes a.0) refl),
-    )
+    let spelled = ap (λ (w : List ℕ). codes "holes" ∷ w ∷ []) (number_found word a.0 a.1).0 in
+    subst (HasGoal version score (codes "holes" ∷ word ∷ [])) (ok_is (Holes a.0) goal b.2)
+    (spelled, ((leb-true _ _ both.0, leb-true _ _ both.1), said version (Holes a.0) refl))
 
 two_found : (version : Version) (score : ℕ) (words : List (List ℕ)) (goal : Goal) → holes_goal score words ≡ Ok goal → HasGoal version score words goal
 unfolding holes_goal
 two_found version score (kind ∷ word ∷ []) goal e =
-    elim (if_named kind (codes "holes") (holes_in score word) (Err bad_line) goal e) [
-      | inl is ↦ let holes = holes_found version score word goal is.1 in (ap (λ (k : List ℕ). k ∷ word ∷ []) is.0 ∙ holes.0, holes.1)
-      | inr none ↦ absurd cc
-    ]
+    let is = only_named kind (codes "holes") (holes_in score word) bad_line goal e in
+    let holes = holes_found version score word goal is.1 in (ap (λ (k : List ℕ). k ∷ word ∷ []) is.0 ∙ holes.0, holes.1)
 two_found version score words goal e = absurd cc
 
 stop_found : (version : Version) (score : ℕ) (kind : List ℕ) (goal : Goal) → kind ≡ codes "stop" → stop_goal version ≡ Ok goal →
@@ -70,13 +67,10 @@ plain_found version score kind goal e =
     elim (if_named kind (codes "win") (Ok Win) (cond (bytes_eq kind (codes "stop")) (stop_goal version) (Err bad_line)) goal e) [
       | inl is ↦ subst (HasGoal version score (kind ∷ [])) (ok_is Win goal is.1) (ap (λ (k : List ℕ). k ∷ []) is.0, (tt, said version Win refl))
       | inr other ↦
-          elim (if_named kind (codes "stop") (stop_goal version) (Err bad_line) goal other) [
-            | inl is ↦ stop_found version score kind goal is.0 is.1
-            | inr none ↦ absurd cc
-          ]
+          let is = only_named kind (codes "stop") (stop_goal version) bad_line goal other in stop_found version score kind goal is.0 is.1
     ]
 
-goal_found : (version : Version) (score : ℕ) (words : List (List ℕ)) (goal : Goal) → goal_in version score words ≡ Ok goal →
+pub goal_found : (version : Version) (score : ℕ) (words : List (List ℕ)) (goal : Goal) → goal_in version score words ≡ Ok goal →
     (words ≡ codes "goal" ∷ goal_words goal) × (IsGoal score goal × CanSay version goal [])
 unfolding goal_in win_in target_in
 goal_found version score words goal e =

@@ -1,10 +1,9 @@
 -- Proves that the visible turns of a legal record are allowed, where the deal is not done after it.
-use Rattle.std.proofs.Common.{◌≡◌, ℕ, ◌+◌, ◌≤◌, Bool, true, false, cond, not, ◌&&◌, ◌||◌, eqb, leb, ltb, List, [], ◌∷◌, ◌++◌, reverse, Option, ◌<◌, length, ap}
-use Rattle.std.proofs.Common.{Some, None, refl, sym, ap, subst, ◌∙◌, inl, inr, arith, take, drop, get_or}
+use Rattle.std.proofs.Common.{◌≡◌, ℕ, ◌+◌, ◌≤◌, Bool, true, false, not, ◌&&◌, ◌||◌, leb, List, [], ◌∷◌, ◌++◌, reverse, ◌<◌, length, ap}
+use Rattle.std.proofs.Common.{None, refl, sym, ap, subst, ◌∙◌, arith, take, drop, get_or}
 use Rattle.std.specs.List.{list_any, filter}
-use Rattle.std.specs.Option.{option_or}
-use Rattle.std.proofs.Math.Bool.{or_comm, or-false}
-use Rattle.std.proofs.lemmas.Bool.{cases_Bool, cond-false, and_parts, or_left, or_right, not-true, eq-eqb, le-ltb}
+use Rattle.std.proofs.lemmas.Bool.{cond_both, cond-false, or_from}
+use Rattle.std.proofs.lemmas.Bool.Decides.{nat_tests}
 use Rattle.std.proofs.lemmas.List.{length-reverse, reverse-append, reverse-reverse, take_more, take-append-drop}
 use Rattle.crib_cards.specs.Cards.{IsCard, card_value}
 use Rattle.crib_cards.specs.Sets.{has}
@@ -14,16 +13,16 @@ use Rattle.crib_cards.specs.Start.{Start, Hands, pone_of}
 use Rattle.crib_cards.specs.declared.sides.Side.{Side}
 use Rattle.crib_cards.specs.declared.sides.Side.TheVariants.{Owner, Opponent}
 use Rattle.crib_cards.specs.declared.sides.Dealt.{Dealt}
-use Rattle.crib_cards.specs.declared.letters.Letter.TheVariants.{Go}
 use Rattle.crib_cards.specs.declared.moves.Move.{Move}
 use Rattle.crib_cards.specs.declared.moves.Move.TheVariants as move
 use Rattle.crib_cards.specs.declared.moves.Act.{Act}
 use Rattle.crib_cards.proofs.SetLemmas.{has-set_where}
+use Rattle.crib_cards.proofs.Members.{has_here, has_there}
 use Rattle.crib_cards.proofs.SetFacts.{has-append, has-filter, in_set_where}
 use Rattle.crib_play.specs.declared.turns.Turn.{Turn}
 use Rattle.crib_play.specs.declared.turns.Turn.TheVariants as turns
 use Rattle.crib_play.specs.Record.{Record, mover, count_of, pile_of}
-use Rattle.crib_play.specs.Score.{is_done, side_asked, asks, asked_after}
+use Rattle.crib_play.specs.Score.{is_done, side_asked, asked_after}
 use Rattle.crib_play.specs.Filled.{is_visible}
 use Rattle.crib_play.specs.Least.{least_of}
 use Rattle.crib_play.specs.Legal.{IsDealt, letters_of, cards_of, cards_left, fits, MayTake, MayCome, IsLegal}
@@ -34,7 +33,6 @@ use Rattle.crib_play.proofs.FilledRecords.{acts_visible, acts_silent, acts_fewer
 use Rattle.crib_play.proofs.LegalRecords.{filled_before}
 use Rattle.crib_play.proofs.LeastValues.{least_left}
 use Rattle.crib_play.proofs.RecordBounds.{at_most_29, high_visible_go}
-use Rattle.crib_problem.specs.Refusals.{same_card, not_turn, not_held, does_not_fit, must_play, no_deal, already_over}
 use Rattle.crib_problem.specs.Played.{OpeningBasis, cards_played, record_by, count_by_acts, asked_by, own_left_by, seen_by, least_by, shows_seen}
 use Rattle.crib_problem.specs.Played.{move_refusal, turn_refusal, is_over_by, act_refusal, AreAllowed}
 use Rattle.crib_problem.specs.declared.problem.Version.{Version}
@@ -46,15 +44,8 @@ use Rattle.crib_problem.proofs.StartLemmas.{started, hold_is_card, theirs_unseen
 -- ---- the acts of a record play the cards of the record
 has_acts : (pone : Side) (past : List Move) (card : ℕ) → has (cards_played (acts_of pone past)) card ≡ has (cards_of past) card
 has_acts pone [] card = refl
-has_acts pone (move.Card first ∷ past) card =
-    ap (λ (b : Bool). eqb first card || b) (has_acts pone past card) ∙ or_comm (eqb first card) (has (cards_of past) card)
-    ∙ ap (λ (b : Bool). has (cards_of past) card || b) (sym (or-false (eqb first card))) ∙ sym (has-append (cards_of past) (first ∷ []) card)
-has_acts pone (move.Go ∷ past) card = step (is_visible pone Go (letters_of past)) ∙ has_acts pone past card
-  where
-    step : (b : Bool) → has (cards_played (cond b (record { side = mover pone (letters_of past); what = move.Go } ∷ acts_of pone past) (acts_of pone past)))
-        card ≡ has (cards_played (acts_of pone past)) card
-    step true = refl
-    step false = refl
+has_acts pone (move.Card first ∷ past) card = grind (arith, nat_tests, has_acts pone past card, has-append (cards_of past) (first ∷ []) card)
+has_acts pone (move.Go ∷ past) card = grind (arith, has_acts pone past card)
 
 -- ---- moves with cards of the pack
 pub moves_append : (xs ys : List Act) → AllMoves xs → AllMoves ys → AllMoves (xs ++ ys)
@@ -79,28 +70,16 @@ all_from_back acts i act lt at =
 not_refused : (seen : List ℕ) (asked : Turn) (count : ℕ) (own : List ℕ) (least : ℕ) (side : Side) (what : Move) → shows_seen seen side what ≡ false →
     asked ≡ side_asked side → move_refusal count own least side what ≡ None →
     turn_refusal seen asked count own least (record { side = side; what = what }) ≡ None
-not_refused seen asked count own least side what unseen turn may =
-    cond-false (shows_seen seen side what) (Some same_card) (cond (not (asks asked side)) (Some not_turn) (move_refusal count own least side what)) unseen
-    ∙ cond-false (not (asks asked side)) (Some not_turn) (move_refusal count own least side what) (ap (λ (t : Turn). not (asks t side)) turn
-    ∙ asks_it side)
-    ∙ may
-  where
-    asks_it : (s : Side) → not (asks (side_asked s) s) ≡ false
-    asks_it Owner = refl
-    asks_it Opponent = refl
+not_refused seen asked count own least side what unseen turn may = grind arith
 
 pub none_any : (f : ℕ → Bool) (xs : List ℕ) → ((card : ℕ) → has xs card ≡ true → f card ≡ false) → list_any f xs ≡ false
 none_any f [] each = refl
-none_any f (x ∷ xs) each =
-    ap (λ (b : Bool). b || list_any f xs) (each x (or_left (eqb x x) (has xs x) (eq-eqb x x refl)))
-    ∙ none_any f xs (λ card h. each card (or_right (eqb x card) (has xs card) h))
+none_any f (x ∷ xs) each = or_from (f x) (list_any f xs) (each x (has_here x xs)) (none_any f xs (λ card h. each card (has_there x card xs h)))
 
 -- a card that is left of some cards is one of them, and was not played
 left_held : (cards : List ℕ) (past : List Move) (card : ℕ) → has (filter (λ c. not (has (cards_of past) c)) cards) card ≡ true →
     (has cards card ≡ true) × (has (cards_of past) card ≡ false)
-left_held cards past card h =
-    let parts = and_parts (has cards card) (not (has (cards_of past) card)) (sym (has-filter (λ c. not (has (cards_of past) c)) cards card) ∙ h) in
-    (parts.0, not-true (has (cards_of past) card) parts.1)
+left_held cards past card h = grind (arith, nat_tests, h, has-filter (λ c. not (has (cards_of past) c)) cards card)
 
 module _ (problem : Setup) (setup : IsSetup problem) (dealt : Dealt) (deal : IsDeal (unseen_of problem) dealt) where
   abbrev start : Start
@@ -126,9 +105,8 @@ module _ (problem : Setup) (setup : IsSetup problem) (dealt : Dealt) (deal : IsD
     -- the owner's cards left, by the acts and by the record
     own_has : (card : ℕ) → IsCard card → has (own_left_by basis acts) card ≡ has (cards_left hands Owner past) card
     own_has card is =
-        has-set_where (λ c. has problem.hold c && not (has (cards_played acts) c)) card is
-        ∙ ap (λ (b : Bool). has problem.hold card && not b) (has_acts pone past card)
-        ∙ sym (has-filter (λ c. not (has (cards_of past) c)) problem.hold card)
+        let left = has-set_where (λ c. has problem.hold c && not (has (cards_played acts) c)) card is in
+        grind (arith, nat_tests, left, has_acts pone past card, has-filter (λ c. not (has (cards_of past) c)) problem.hold card)
 
     own_held : (card : ℕ) → has (cards_left hands Owner past) card ≡ true → has (own_left_by basis acts) card ≡ true
     own_held card h = own_has card (hold_is_card problem setup card (left_held problem.hold past card h).0) ∙ h
@@ -143,9 +121,7 @@ module _ (problem : Setup) (setup : IsSetup problem) (dealt : Dealt) (deal : IsD
     theirs_hidden card h =
         let left = left_held dealt.hold past card h in
         let hidden = theirs_unseen problem setup dealt deal card left.0 in
-        has-set_where (λ c. has (known_cards problem) c || has (cards_played acts) c) card hidden.0
-        ∙ ap (λ (b : Bool). b || has (cards_played acts) card) hidden.1
-        ∙ has_acts pone past card ∙ left.1
+        grind (arith, nat_tests, has-set_where (λ c. has (known_cards problem) c || has (cards_played acts) c) card hidden.0, has_acts pone past card)
 
     -- the record is the filled record of its acts
     module _ (same : filled_moves start (visible_moves pone past) ≡ past) where
@@ -169,33 +145,15 @@ module _ (problem : Setup) (setup : IsSetup problem) (dealt : Dealt) (deal : IsD
     may_move : (side : Side) (turn : Move) → MayTake hands side turn past → (turn ≡ move.Go → 22 ≤ count_of (pile_of (letters_of past))) →
         (shows_seen (seen_by basis before) side turn ≡ false) ×
         (move_refusal (count_by_acts basis before) (own_left_by basis before) (least_by basis before) side turn ≡ None)
-    may_move Owner (move.Card card) take high = (
-      refl,
-      cond-false (not (has (own_left_by basis before) card)) (Some not_held) (cond (not (fits_at (count_by_acts basis before) card)) (Some does_not_fit) None)
-          (ap not (own_held past legal card take.0))
-          ∙ cond-false (not (fits_at (count_by_acts basis before) card)) (Some does_not_fit) None (ap not (fits_same past legal same card ∙ take.1)),
-    )
-    may_move Owner move.Go take high = (
-      refl,
-      cond-false (list_any (fits_at (count_by_acts basis before)) (own_left_by basis before)) (Some must_play) None
-          (none_any (fits_at (count_by_acts basis before)) (own_left_by basis before)
-          (λ card h. fits_same past legal same card ∙ none_passes (fits past) (cards_left hands Owner past) card take (own_kept past legal card h))),
-    )
+    may_move Owner (move.Card card) take high = grind (arith, nat_tests, own_held past legal card take.0, fits_same past legal same card, take.1)
+    may_move Owner move.Go take high =
+        let none = none_any (fits_at (count_by_acts basis before)) (own_left_by basis before)
+        (λ card h. fits_same past legal same card ∙ none_passes (fits past) (cards_left hands Owner past) card take (own_kept past legal card h)) in
+        grind (arith, none)
     may_move Opponent (move.Card card) take high =
-        let least = least_left start hands Opponent past card legal take.0 in
-        let told = least_same past legal same in (
-          theirs_hidden past legal card take.0,
-          cond-false (not (fits_at (count_by_acts basis before) card)) (Some does_not_fit)
-              (cond (ltb (card_value card) (least_by basis before)) (Some no_deal) None) (ap not (fits_same past legal same card ∙ take.1))
-              ∙ cond-false (ltb (card_value card) (least_by basis before)) (Some no_deal) None
-              (le-ltb (card_value card) (least_by basis before) (omega (arith, least, told))),
-        )
-    may_move Opponent move.Go take high =
-        let count = count_same past legal same in
-        let told = high refl in (
-          refl,
-          cond-false (ltb (count_by_acts basis before) 22) (Some no_deal) None (le-ltb (count_by_acts basis before) 22 (omega (arith, count, told))),
-        )
+        let told = least_left start hands Opponent past card legal take.0 in
+        grind (arith, nat_tests, told, theirs_hidden past legal card take.0, least_same past legal same, fits_same past legal same card, take.1)
+    may_move Opponent move.Go take high = grind (arith, nat_tests, count_same past legal same, high refl)
 
     asked_mover : is_done start (letters_of past) ≡ false → asked_by basis before ≡ side_asked (mover pone (letters_of past))
     asked_mover going = ap (asked_after start) (record_same past legal same) ∙ cond-false (is_done start (letters_of past)) turns.Over
@@ -213,23 +171,20 @@ module _ (problem : Setup) (setup : IsSetup problem) (dealt : Dealt) (deal : IsD
         let act : Act = record { side = side; what = turn } in
         let parts = may_move side turn may.may_take (high_go turn may v) in
         let over : is_over_by basis (act ∷ before) ≡ false = ap (is_over_by basis) (sym (acts_visible pone turn past v)) ∙ going in
-        ap (λ (refused : Option ℕ). option_or refused (cond (is_over_by basis (act ∷ before)) (Some already_over) None))
-        (not_refused (seen_by basis before) (asked_by basis before) (count_by_acts basis before) (own_left_by basis before) (least_by basis before) side turn
-        parts.0 (asked_mover may.not_done) parts.1)
-        ∙ cond-false (is_over_by basis (act ∷ before)) (Some already_over) None over
+        let none = not_refused (seen_by basis before) (asked_by basis before) (count_by_acts basis before) (own_left_by basis before) (least_by basis before)
+        side turn parts.0 (asked_mover may.not_done) parts.1 in
+        rw (none, over) refl
 
   -- ---- all visible turns of a record
   pub honest : (played : List Move) → IsLegal start hands played → is_over_by basis (acts_of pone played) ≡ false → AreAllowed basis (acts_of pone played)
   honest [] legal going = tt
   honest (turn ∷ past) legal going =
-      let A : List Act → Type 0 = λ acts. AreAllowed basis acts in
-      elim (cases_Bool (is_visible pone (letter_of turn) (letters_of past))) [
-        | inl v ↦
-            let same = filled_before start hands turn past (started problem setup) real legal.0 legal.1 v in
-            let before_going : is_over_by basis (acts_of pone past) ≡ false = ap (is_done start) (record_same past legal.0 same) ∙ legal.1.not_done in
-            subst A (sym (acts_visible pone turn past v)) (honest past legal.0 before_going, allowed_turn past legal.0 same turn legal.1 v going)
-        | inr v ↦ subst A (sym (acts_silent pone turn past v)) (honest past legal.0 (ap (is_over_by basis) (sym (acts_silent pone turn past v)) ∙ going))
-      ]
+      cond_both (is_visible pone (letter_of turn) (letters_of past)) _ _ (λ (acts : List Act). AreAllowed basis acts)
+      (λ v.
+      let same = filled_before start hands turn past (started problem setup) real legal.0 legal.1 v in
+      let before_going : is_over_by basis (acts_of pone past) ≡ false = ap (is_done start) (record_same past legal.0 same) ∙ legal.1.not_done in
+      (honest past legal.0 before_going, allowed_turn past legal.0 same turn legal.1 v going))
+      (λ v. honest past legal.0 (ap (is_over_by basis) (sym (acts_silent pone turn past v)) ∙ going))
 
   -- ---- a problem with these acts as its opening
   -- a card that is played is a card of the two holds
@@ -241,13 +196,8 @@ module _ (problem : Setup) (setup : IsSetup problem) (dealt : Dealt) (deal : IsD
   pub moves_are : (played : List Move) → IsLegal start hands played → AllMoves (acts_of pone played)
   moves_are [] legal = tt
   moves_are (turn ∷ past) legal =
-      elim (cases_Bool (is_visible pone (letter_of turn) (letters_of past))) [
-        | inl v ↦ subst AllMoves (sym (acts_visible pone turn past v)) (
-          move_is (mover pone (letters_of past)) turn past legal.1.may_take,
-          moves_are past legal.0,
-        )
-        | inr v ↦ subst AllMoves (sym (acts_silent pone turn past v)) (moves_are past legal.0)
-      ]
+      cond_both (is_visible pone (letter_of turn) (letters_of past)) _ _ AllMoves
+      (λ v. (move_is (mover pone (letters_of past)) turn past legal.1.may_take, moves_are past legal.0)) (λ v. moves_are past legal.0)
 
   pub may_begin : (played : List Move) → problem.version ≡ Two → IsLegal start hands played → is_over_by basis (acts_of pone played) ≡ false →
       IsSetup (record problem { played = reverse (acts_of pone played) })

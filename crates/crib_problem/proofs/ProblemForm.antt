@@ -1,8 +1,8 @@
 -- The form of a problem: what is read is spelled so, and what is spelled so is read. The laws of its spelling follow.
 use Rattle.std.proofs.Common.{◌≡◌, ℕ, zero, suc, ◌+◌, ◌*◌, ◌≤◌, List, [], ◌∷◌, ◌++◌, length, map, reverse, Ok, codes, decimal, refl}
 use Rattle.std.proofs.Common.{sym, ap, subst, ◌∙◌, arith}
+use Rattle.std.proofs.lemmas.Bool.Decides.{nat_tests}
 use Rattle.std.proofs.lemmas.List.{append-nil, reverse-reverse, length-map}
-use Rattle.crib_cards.specs.Sets.{has}
 use Rattle.crib_cards.specs.CardText.{card_text}
 use Rattle.crib_cards.specs.declared.moves.Act.{Act}
 use Rattle.crib_text.specs.Spelling.{line_bytes}
@@ -10,24 +10,21 @@ use Rattle.crib_text.specs.Reading.{◌>>=◌, Rest}
 use Rattle.crib_text.proofs.ReadingLemmas.{bind_ok, ok_is}
 use Rattle.crib_text.proofs.SteadyReaders.{IsSteady, from_line, steady_ok, steady_then, steady_value}
 use Rattle.crib_text.proofs.Forms.{IsForm, line_form, each_line_form, none_form, then_form, form_as}
-use Rattle.crib_text.proofs.FormLaws.{lines_apart, texts_apart, texts_differ, read_again, lines_cut_short, text_cut_short}
 use Rattle.crib_problem.specs.declared.problem.Version.{Version}
 use Rattle.crib_problem.specs.declared.problem.Version.TheVariants.{One, Two}
 use Rattle.crib_problem.specs.Setup.{Setup, IsSetup, setup_by, CanSay, opening_basis_of}
 use Rattle.crib_problem.specs.Played.{OpeningBasis, AreAllowed}
 use Rattle.crib_cards.specs.Words.{side_word}
-use Rattle.crib_problem.specs.Spelling.{version_word, goal_words, act_line, played_lines, problem_lines, problem_text}
+use Rattle.crib_problem.specs.Spelling.{version_word, goal_words, act_line, played_lines, problem_lines}
 use Rattle.crib_problem.specs.Reading.{seven_lines_at, allowed_in, allowed_at, turns_at, played_at, problem_at, with_played}
-use Rattle.crib_problem.specs.Laws.{SpellingLaw, PrefixLaw, LinesLaw, ReadAgainLaw}
-use Rattle.crib_problem.specs.CutLaws.{LinesCutLaw, TextCutLaw}
 use Rattle.crib_problem.proofs.CardLemmas.{all_parts, all-append}
 use Rattle.crib_problem.proofs.Setups.{AllMoves, says_goal, with_opening, without_opening}
 use Rattle.crib_problem.proofs.TurnLemmas.{acts_words, turns_found, turns_spelled}
 use Rattle.crib_problem.proofs.ActForms.{act_form, count_form}
-use Rattle.crib_problem.proofs.LinesReadAreSpelled.{AreNew, other_way, seven_distinct}
+use Rattle.crib_problem.proofs.LinesReadAreSpelled.{AreNew, seven_distinct}
 use Rattle.crib_problem.proofs.SpelledIsRead.{version_form, dealer_form, scores_form, starter_form, cards_form}
 use Rattle.crib_problem.proofs.GoalForms.{goal_form}
-use Rattle.crib_problem.proofs.SpelledIsRead.{unplayed, apart}
+use Rattle.crib_problem.proofs.SpelledIsRead.{unplayed}
 use Rattle.crib_cards.proofs.Members.{distinct_parts, distinct_left, distinct_right, distinct_apart}
 
 -- the lines that each version has
@@ -69,57 +66,23 @@ seven_form =
     let cards = is.1.1.1 in
     let hold = cards.1.0.1 in
     let thrown = cards.1.1.0.1 in
-    let goal = cards.1.1.1.0 in
-    subst IsUnplayed (sym cards.1.1.1.1) (record {
-      setup = record {
-        held = cards.1.0.0;
-        two_thrown = cards.1.1.0.0;
-        cards = (cards.0, all-append p.hold p.thrown hold.all_cards thrown.all_cards);
-        distinct = seven_distinct p.starter p.hold p.thrown hold thrown;
-        owner_score = is.1.1.0.0;
-        opponent_score = is.1.1.0.1;
-        goal_in_range = goal.0;
-        of_version = goal.1;
-        few = omega arith;
-        moves = tt;
-        allowed = tt;
-      };
-      none = refl;
-    }))
+    let all = all-append p.hold p.thrown hold.all_cards thrown.all_cards in
+    let distinct = seven_distinct p.starter p.hold p.thrown hold thrown in
+    let few : 0 ≤ 32 = omega arith in
+    subst IsUnplayed (sym cards.1.1.1.1) (record { setup = assumption (all, distinct, few); none = refl }))
     (λ p is.
     let setup = is.setup in
     let cards = all_parts (p.starter ∷ p.hold) p.thrown setup.cards in
     let own = distinct_parts p.starter p.hold (distinct_left (p.starter ∷ p.hold) p.thrown setup.distinct) in
-    let hold : AreNew (p.starter ∷ []) p.hold = record {
-      all_cards = cards.0.1;
-      distinct = own.1;
-      fresh = λ card h. rw (apart p.hold p.starter card own.0 h) refl;
-    } in
+    let hold : AreNew (p.starter ∷ []) p.hold = record { all_cards = cards.0.1; distinct = own.1; fresh = λ card h. grind (arith, nat_tests, h, own.0) } in
     let thrown : AreNew (p.starter ∷ p.hold) p.thrown = record {
       all_cards = cards.1;
       distinct = distinct_right (p.starter ∷ p.hold) p.thrown setup.distinct;
-      fresh = λ card h.
-          other_way (has p.thrown card) (has (p.starter ∷ p.hold) card) (distinct_apart (p.starter ∷ p.hold) p.thrown card setup.distinct) h;
+      fresh = λ card h. grind (arith, nat_tests, h, distinct_apart (p.starter ∷ p.hold) p.thrown card setup.distinct);
     } in
-    let made : p ≡ unplayed p = ap (λ (acts : List Act). record p { played = acts }) is.none in (
-      tt,
-      (
-        tt,
-        (
-          (setup.owner_score, setup.opponent_score),
-          (
-            cards.0.0,
-            (
-              (setup.held, hold),
-              (
-                (setup.two_thrown, thrown),
-                ((setup.goal_in_range, says_goal p.version p.goal p.played setup.of_version), made),
-              ),
-            ),
-          ),
-        ),
-      ),
-    ))
+    let made : p ≡ unplayed p = ap (λ (acts : List Act). record p { played = acts }) is.none in
+    let says = says_goal p.version p.goal p.played setup.of_version in
+    assumption (hold, thrown, made, says))
     (λ p is. refl) (λ p is. omega arith)
 
 -- what seven lines are read as meets the conditions of a problem
@@ -140,10 +103,9 @@ allowed_form : (basis : OpeningBasis) (count : ℕ) → IsForm (allowed_at basis
     (λ acts. (length (reverse acts) ≡ count) × AllMoves (reverse acts) × AreAllowed basis acts) (λ acts. 7 * length (reverse acts))
 allowed_form basis count = record {
   found = λ rest acts after e.
-      let turns = turns_found basis [] count rest (acts, after) e in (
-        (ap length turns.turned ∙ turns.counted, subst AllMoves (sym turns.turned) turns.moves, turns.allowed tt),
-        turns.spelled ∙ ap (λ more. map line_bytes (map act_line more) ++ after.lines) (sym turns.turned),
-      );
+      let turns = turns_found basis [] count rest (acts, after) e in
+      let spelled = turns.spelled ∙ ap (λ more. map line_bytes (map act_line more) ++ after.lines) (sym turns.turned) in
+      ((ap length turns.turned ∙ turns.counted, subst AllMoves (sym turns.turned) turns.moves, turns.allowed tt), spelled);
   spelled = λ acts number rest is.
       let same : reverse (reverse acts) ++ [] ≡ acts = append-nil (reverse (reverse acts)) ∙ reverse-reverse acts in
       let last = number + length (map act_line (reverse acts)) in
@@ -157,11 +119,11 @@ allowed_form basis count = record {
 }
 
 -- a problem with an opening after seven lines
-record HasTurns (seven p : Setup) : Type 0 where
-  few : length p.played ≤ 32
-  moves : AllMoves p.played
-  allowed : AreAllowed (opening_basis_of seven) (reverse p.played)
-  made : p ≡ record seven { played = p.played }
+pub record HasTurns (seven p : Setup) : Type 0 where
+  pub few : length p.played ≤ 32
+  pub moves : AllMoves p.played
+  pub allowed : AreAllowed (opening_basis_of seven) (reverse p.played)
+  pub made : p ≡ record seven { played = p.played }
 
 turns_form : (seven : Setup) → IsForm (turns_at seven) (λ p. played_lines Two p.played) (HasTurns seven) (λ p. 234)
 unfolding turns_at
@@ -178,15 +140,18 @@ turns_form seven =
       made = is.1.1 ∙ ap (λ (acts : List Act). record seven { played = acts }) (reverse-reverse p.played);
     })
     (λ p has.
-    let same = reverse-reverse p.played in (
-      has.few,
-      (
-        (ap length same, subst AllMoves (sym same) has.moves, has.allowed),
-        has.made ∙ ap (λ (acts : List Act). record seven { played = acts }) (sym same),
-      ),
-    ))
+    let same = reverse-reverse p.played in
+    let made = has.made ∙ ap (λ (acts : List Act). record seven { played = acts }) (sym same) in
+    (has.few, ((ap length same, subst AllMoves (sym same) has.moves, has.allowed), made)))
     (λ p has. rw (reverse-reverse p.played, append-nil (map act_line p.played)) refl)
     (λ p has. omega (arith, has.few, ap length (reverse-reverse p.played)))
+
+-- the opening that was read makes another problem
+pub setup_with : (p q : Setup) (first after : Rest) → IsSetup p → p.version ≡ Two → turns_at p first ≡ Ok (q, after) → IsSetup (record p { played = q.played })
+setup_with p q first after is two read =
+    let has = ((turns_form p).found first q after read).0 in
+    let C : Version → Type 0 = λ version. CanSay version p.goal q.played in
+    with_opening p q.played is (subst C (sym two) tt) has.few has.moves has.allowed
 
 -- what a version has after the seven lines
 abbrev Continues : Version → Setup → Setup → Type 0
@@ -226,27 +191,3 @@ problem_form =
     (λ p is. setup_of p.version p refl is.0.setup is.1)
     (λ p is. (record { setup = without_opening p is; none = refl }, continues p.version p refl is))
     (λ p is. refl) (λ p is. omega arith)
-
--- ---- the laws
-
-pub lines_proved : LinesLaw
-lines_proved = lines_apart problem_form
-
-pub prefix_proved : PrefixLaw
-unfolding problem_text
-prefix_proved = texts_apart problem_form
-
-pub spelling_proved : SpellingLaw
-unfolding problem_text
-spelling_proved = texts_differ problem_form
-
-pub read_again_proved : ReadAgainLaw
-unfolding problem_text
-read_again_proved problem is = read_again problem_form problem (length (problem_lines problem) + 1) is refl
-
-pub lines_cut_proved : LinesCutLaw
-lines_cut_proved = lines_cut_short problem_form
-
-pub text_cut_proved : TextCutLaw
-unfolding problem_text
-text_cut_proved = text_cut_short problem_form

@@ -1,16 +1,16 @@
 -- Proves that the spelling of a problem is read as that problem.
-use Rattle.std.proofs.Common.{◌≡◌, ℕ, ◌+◌, ◌*◌, ◌-◌, ◌≤◌, true, false, not, eqb, List, [], ◌∷◌, length, map, Ok, codes, decimal, refl, sym}
-use Rattle.std.proofs.Common.{ap, ◌∙◌, arith}
+use Rattle.std.proofs.Common.{◌≡◌, ℕ, ◌+◌, ◌*◌, ◌≤◌, true, false, List, [], ◌∷◌, length, map, Ok, codes, decimal, refl, sym}
+use Rattle.std.proofs.Common.{◌∙◌, arith}
 use Rattle.std.proofs.lemmas.Fmt.{length-decimal-le}
 use Rattle.std.proofs.lemmas.List.{length-map}
-use Rattle.std.proofs.lemmas.Bool.{ne_eqb, and_parts, not-true}
+use Rattle.std.proofs.lemmas.Bool.Decides.{nat_tests}
 use Rattle.crib_cards.specs.Cards.{IsCard}
-use Rattle.crib_cards.specs.Sets.{has, are_distinct}
+use Rattle.crib_cards.specs.Sets.{has}
 use Rattle.crib_cards.specs.CardText.{card_text}
 use Rattle.crib_cards.specs.declared.sides.Side.{Side}
 use Rattle.crib_cards.specs.declared.sides.Side.TheVariants.{Owner, Opponent}
 use Rattle.crib_cards.proofs.CardReadLemmas.{card_read-card_text, card_text-word, card_texts-words}
-use Rattle.crib_cards.proofs.Members.{has_here, has_there}
+use Rattle.crib_cards.proofs.Members.{has_here, has_there, distinct_parts}
 use Rattle.crib_text.proofs.SpellingLemmas.{is_word, is_word-decimal}
 use Rattle.crib_text.specs.Reading.{◌>>=◌, number_in}
 use Rattle.crib_text.proofs.ReadingLemmas.{bind_ok, number_spelled, number_found}
@@ -29,28 +29,17 @@ use Rattle.crib_problem.proofs.NamedWords.{side_called_is}
 
 -- ---- the words of each line
 
-side_word-word : (side : Side) → is_word (side_word side) ≡ true
-side_word-word Owner = refl
-side_word-word Opponent = refl
+side_is : (side : Side) → (side_in (side_word side) ≡ Ok side) × (is_word (side_word side) ≡ true) × (length (side_word side) ≤ 8)
+unfolding side_in
+side_is Owner = (refl, refl, omega arith)
+side_is Opponent = (refl, refl, omega arith)
 
-number_word : (n : ℕ) → n ≤ 121 → is_word (decimal n) ≡ true
-number_word n small = is_word-decimal n (omega arith)
-
-version_small : (version : Version) → version_number version ≤ 2
-version_small One = omega arith
-version_small Two = omega arith
+version_is : (version : Version) → (version_of_number (version_number version) ≡ Ok version) × (version_number version ≤ 2)
+unfolding version_of_number
+version_is One = (refl, omega arith)
+version_is Two = (refl, omega arith)
 
 -- ---- what each line is read as
-
-version_number_spelled : (version : Version) → version_of_number (version_number version) ≡ Ok version
-unfolding version_of_number
-version_number_spelled One = refl
-version_number_spelled Two = refl
-
-side_spelled : (side : Side) → side_in (side_word side) ≡ Ok side
-unfolding side_in
-side_spelled Owner = refl
-side_spelled Opponent = refl
 
 new_card_spelled : (known : List ℕ) (card : ℕ) → IsCard card → has known card ≡ false → new_card known (card_text card) ≡ Ok card
 unfolding new_card
@@ -58,21 +47,15 @@ new_card_spelled known card is fresh = rw (card_in-some (card_text card) card (c
 
 -- ---- new cards
 
--- a card that is among some cards differs from one that is not
-pub apart : (cards : List ℕ) (card other : ℕ) → has cards card ≡ false → has cards other ≡ true → eqb card other ≡ false
-apart cards card other without with_it =
-    ne_eqb card other (λ same. let h : has cards card ≡ true = ap (has cards) same ∙ with_it in absurd cc)
-
 new_cards_spelled : (known cards : List ℕ) → AreNew known cards → new_cards known (map card_text cards) ≡ Ok cards
 unfolding new_cards
 new_cards_spelled known [] new = refl
 new_cards_spelled known (card ∷ cards) new =
-    let parts = and_parts (not (has cards card)) (are_distinct cards) new.distinct in
-    let once = not-true (has cards card) parts.0 in
+    let parts = distinct_parts card cards new.distinct in
     let rest : AreNew (card ∷ known) cards = record {
       all_cards = new.all_cards.1;
       distinct = parts.1;
-      fresh = λ other h. rw (apart cards card other once h, new.fresh other (has_there card other cards h)) refl;
+      fresh = λ other h. grind (arith, nat_tests, h, parts.0, new.fresh other (has_there card other cards h));
     } in
     rw (new_card_spelled known card new.all_cards.0 (new.fresh card (has_here card cards)), new_cards_spelled (card ∷ known) cards rest) refl
 
@@ -89,28 +72,22 @@ version_word_form = record {
   found = λ given version e.
       let a = bind_ok (number_in given) _ version e in
       ((number_found given a.0 a.1).0 ∙ version_found a.0 version a.2, tt);
-  spelled = λ version is. rw (number_spelled (version_number version) (omega (arith, version_small version))) (version_number_spelled version);
-  full = λ version is. number_word (version_number version) (omega (arith, version_small version));
-  short = λ version is.
-      let small = version_small version in
-      length-decimal-le 1 (version_number version) (omega arith) (omega arith) (omega arith);
+  spelled = λ version is. rw (number_spelled (version_number version) (omega (arith, (version_is version).1))) (version_is version).0;
+  full = λ version is. is_word-decimal (version_number version) (omega (arith, (version_is version).1));
+  short = λ version is. let small = (version_is version).1 in length-decimal-le 1 (version_number version) (omega arith) (omega arith) (omega arith);
 }
 
 pub version_form : AreWordsForm version_in (λ version. codes "problem" ∷ version_word version ∷ []) (λ version. Unit {0}) (λ version. 10)
 unfolding version_in
 version_form = named_form (codes "problem") refl version_word_form
 
-side_short : (side : Side) → length (side_word side) ≤ 8
-side_short Owner = omega arith
-side_short Opponent = omega arith
-
 side_form : IsWordForm side_in side_word (λ side. Unit {0}) 8
 unfolding side_in
 side_form = record {
   found = λ given side e. (side_called_is side_word given side e, tt);
-  spelled = λ side is. side_spelled side;
-  full = λ side is. side_word-word side;
-  short = λ side is. side_short side;
+  spelled = λ side is. (side_is side).0;
+  full = λ side is. (side_is side).1;
+  short = λ side is. (side_is side).2;
 }
 
 pub dealer_form : AreWordsForm dealer_in (λ side. codes "dealer" ∷ side_word side ∷ []) (λ side. Unit {0}) (λ side. 16)
@@ -123,7 +100,7 @@ unfolding both_scores
 both_form = record {
   found = scores_found;
   spelled = λ scores is. rw (score_form.spelled scores.owner is.0, score_form.spelled scores.opponent is.1) refl;
-  full = λ scores is. rw (number_word scores.owner (omega (arith, is.0)), number_word scores.opponent (omega (arith, is.1))) refl;
+  full = λ scores is. rw (score_form.full scores.owner is.0, score_form.full scores.opponent is.1) refl;
   short = λ scores is. omega (arith, score_form.short scores.owner is.0, score_form.short scores.opponent is.1);
 }
 

@@ -10,9 +10,7 @@ returns-in-Over c = λ basis before after.
 
 pub returns-in-Owner : goal.returns-in-Owner
 returns-in-Owner c = λ basis before after.
-    let taken = c.take.ensures basis before after in (
-      added c.args.self.now c.take.new.self basis before c.args.act.now _ after taken
-          (sym c.turn_refusal.ensures ∙ ap cause_number_if c.in_default.is) c.next.ensures
-          ∙ elim c.in-Owner.is [ inl is ↦ ap end_refusal is | inr is ↦ ap end_refusal is ],
-      taken,
-    )
+    let taken = c.take.ensures basis before after in
+    let none = sym c.turn_refusal.ensures ∙ ap cause_number_if c.in_default.is in
+    let ended = added c.args.self.now c.take.new.self basis before c.args.act.now _ after taken none c.next.ensures in
+    (ended ∙ elim c.in-Owner.is [ inl is ↦ ap end_refusal is | inr is ↦ ap end_refusal is ], taken)

@@ -1,8 +1,9 @@
 -- If branches are read, the words are their spelling.
-use Rattle.std.proofs.Common.{◌≡◌, ℕ, zero, suc, ◌+◌, ◌^◌, ◌<◌, Bool, true, false, not, cond, ◌&&◌, List, [], ◌∷◌, ◌++◌, length, map, get_or}
+use Rattle.std.proofs.Common.{◌≡◌, ℕ, zero, suc, ◌+◌, ◌^◌, ◌<◌, Bool, false, not, cond, ◌&&◌, List, [], ◌∷◌, ◌++◌, length, map, get_or}
 use Rattle.std.proofs.Common.{take, drop, Option, Some, None, Ok, decimal, refl, sym, ap, subst, ◌∙◌, append_assoc, arith}
 use Rattle.std.specs.Prelude.{option_map, position, nat_le}
 use Rattle.std.specs.List.{list_any, AllByRecursion}
+use Rattle.std.proofs.lemmas.Bool.Decides.{nat_tests}
 use Rattle.std.proofs.lemmas.Bool.{eqb-true, leb-true, and_parts, not-true}
 use Rattle.std.proofs.lemmas.List.{append-nil, take-append-drop, drop_more}
 use Rattle.std.proofs.lemmas.List.Sums.{position_or_len_is}
@@ -14,7 +15,7 @@ use Rattle.crib_text.proofs.ReadingLemmas.{bind_ok, unless_ok, ok_is, or_ok}
 use Rattle.crib_plan.specs.Nodes.{IsLater}
 use Rattle.crib_plan.specs.Spelling.{letter_bytes, colon, leads_to, branch_word, nodes_of}
 use Rattle.crib_plan.specs.Refusals.{bad_set}
-use Rattle.crib_plan.specs.Reading.{is_colon, begins_with, letters_read, are_free, led_by, Branches, no_branches, Letters, Parts, parts_in, letters_in}
+use Rattle.crib_plan.specs.Reading.{is_colon, begins_with, letters_read, are_free, Branches, no_branches, Letters, Parts, parts_in, letters_in}
 use Rattle.crib_plan.specs.Reading.{branch_in, branches_in, branch_node_in}
 use Rattle.crib_plan.specs.SeeLaws.{Branch, branch_spelling}
 use Rattle.crib_plan.proofs.BranchLemmas.{rest_after, letters_cons}
@@ -26,8 +27,7 @@ take_none : (bytes : List ℕ) (n : ℕ) → ((k : ℕ) → k < n → is_colon (
 take_none bytes zero none = refl
 take_none [] (suc n) none = refl
 take_none (byte ∷ bytes) (suc n) none =
-    let here : is_colon byte ≡ false = none 0 (omega arith) in
-    rw here (take_none bytes n (λ i below. none (suc i) (omega arith)))
+    rw (none 0 (omega arith)) (take_none bytes n (λ i below. none (suc i) (omega arith)))
 
 -- a word is its parts with the byte between them, which neither part has
 pub record AreParts (word : List ℕ) (parts : Parts) : Type 0 where
@@ -42,8 +42,7 @@ parts_found word parts e =
     let b = bind_ok (unless_refused bad_line (not (list_any is_colon (drop (a.0 + 1) word)))) _ parts a.2 in
     let p = position-Some is_colon word a.0 0 (or_ok bad_line (position is_colon word) a.0 a.1) in
     let is : get_or word a.0 0 ≡ colon = eqb-true _ _ p.1 in
-    let made : Parts = record { front = take a.0 word; back = drop (a.0 + 1) word } in
-    subst (AreParts word) (ok_is made parts b.2) (record {
+    subst (AreParts word) (ok_is _ parts b.2) (record {
       whole = sym (take-append-drop a.0 word) ∙ ap (λ (bs : List ℕ). take a.0 word ++ bs) (drop_more word a.0 0 p.0)
           ∙ ap (λ (byte : ℕ). take a.0 word ++ byte ∷ drop (a.0 + 1) word) is;
       none_in_front = take_none word a.0 p.2;
@@ -53,14 +52,12 @@ parts_found word parts e =
 -- the bytes that are read as a set are its letters
 begins_found : (bytes : List ℕ) (letter : ℕ) (holds : Bool) → begins_with bytes letter ≡ holds
     → bytes ≡ cond holds (letter ∷ rest_after holds bytes) (rest_after holds bytes)
-begins_found [] letter true e = absurd cc
-begins_found (byte ∷ bytes) letter true e = ap (λ (b : ℕ). b ∷ bytes) (eqb-true byte letter e)
-begins_found bytes letter false e = refl
+begins_found bytes letter holds e = grind (arith, nat_tests, e)
 
 map_some : (holds : Bool) (o : Option (List Bool)) (holding : List Bool) → option_map (λ after. holds ∷ after) o ≡ Some holding → (after : List Bool) ×
     (o ≡ Some after) × (holds ∷ after ≡ holding)
-map_some holds None holding e = absurd cc
 map_some holds (Some after) holding e = (after, refl, cc)
+map_some holds None holding e = absurd cc
 
 pub read_found : (letters bytes : List ℕ) (holding : List Bool) → letters_read letters bytes ≡ Some holding → (bytes ≡ chosen holding letters) ×
     (length holding ≡ length letters)
@@ -83,8 +80,7 @@ letters_found before bytes letters e =
     let both = and_parts _ _ (unless_ok _ bad_set d.0 d.1) in
     let r = read_found letter_bytes bytes a.0 (or_ok bad_set _ a.0 a.1) in
     let p = position-Some (λ (holds : Bool). holds) a.0 b.0 false (or_ok bad_set _ b.0 b.1) in
-    let made : Letters = record { set = a.0; first = b.0 } in
-    subst (λ (l : Letters). AreLetters before bytes l) (ok_is made letters d.2) (record {
+    subst (λ (l : Letters). AreLetters before bytes l) (ok_is _ letters d.2) (record {
       bytes_are = r.0;
       long = r.1;
       first_is = position_or_len_is (λ (holds : Bool). holds) a.0 b.0 false (omega (arith, p.0)) p.2 (λ inside. p.1);
@@ -109,12 +105,11 @@ branch_found place count earlier before after word stand e =
     let parts = parts_found word a.0 a.1 in
     let letters = letters_found before a.0.front b.0 b.1 in
     let node = branch_node_found place count a.0.back d.0 d.1 in
-    let branch : Branch = record { set = a.0.front; node = d.0 } in
-    let made : Branches = record { nexts = led_by d.0 b.0.set before.nexts; least = b.0.first + 1 } in (
+    let branch : Branch = record { set = a.0.front; node = d.0 } in (
       branch,
       parts.whole ∙ ap (λ (w : List ℕ). a.0.front ++ colon ∷ w) node.0,
       (parts.none_in_front, ap (list_any is_colon) (sym node.0) ∙ parts.none_behind, node.1),
-      subst (λ (v : Branches). Stand place count (earlier ++ branch ∷ []) v) (ok_is made after f.2)
+      subst (λ (v : Branches). Stand place count (earlier ++ branch ∷ []) v) (ok_is _ after f.2)
           (one_more place count earlier before branch b.0 stand letters (node.2, node.3) (not-true _ (unless_ok _ bad_set f.0 f.1))),
     )
 
@@ -123,17 +118,13 @@ pub branches_found : (place count : ℕ) (earlier : List Branch) (before after :
     → (more : List Branch) × (words ≡ map branch_spelling more) × AllByRecursion IsPlain more × Stand place count (earlier ++ more) after
 unfolding branches_in
 branches_found place count earlier before after [] stand e =
-    let same : Stand place count (earlier ++ []) before = subst (λ (bs : List Branch). Stand place count bs before) (sym (append-nil earlier)) stand in
-    ([], refl, tt, subst (λ (v : Branches). Stand place count (earlier ++ []) v) (ok_is before after e) same)
+    ([], refl, tt, subst (λ (v : Branches). Stand place count (earlier ++ []) v) (ok_is before after e) (rw (append-nil earlier) stand))
 branches_found place count earlier before after (word ∷ words) stand e =
     let a = bind_ok (branch_in place count before word) _ after e in
     let one = branch_found place count earlier before a.0 word stand a.1 in
-    let more = branches_found place count (earlier ++ one.0 ∷ []) a.0 after words one.3 a.2 in (
-      one.0 ∷ more.0,
-      ap (λ (w : List ℕ). w ∷ words) one.1 ∙ ap (λ (ws : List (List ℕ)). branch_spelling one.0 ∷ ws) more.1,
-      (one.2, more.2),
-      subst (λ (bs : List Branch). Stand place count bs after) (append_assoc earlier (one.0 ∷ []) more.0) more.3,
-    )
+    let more = branches_found place count (earlier ++ one.0 ∷ []) a.0 after words one.3 a.2 in
+    let stands = subst (λ (bs : List Branch). Stand place count bs after) (append_assoc earlier (one.0 ∷ []) more.0) more.3 in
+    (one.0 ∷ more.0, cc (one.1, more.1), (one.2, more.2), stands)
 
 -- all branches of a line were read
 pub line_found : (place count : ℕ) (words : List (List ℕ)) (after : Branches) → branches_in place count no_branches words ≡ Ok after

@@ -3,7 +3,7 @@ use Rattle.std.proofs.Common.{◌≡◌, ℕ, ◌<◌, ◌≤◌, Bool, true, fa
 use Rattle.std.proofs.Common.{decimal, refl, ap, ◌∙◌, arith}
 use Rattle.std.specs.Prelude.{position}
 use Rattle.std.specs.List.{list_any, list_all, position_or_len}
-use Rattle.std.proofs.lemmas.Bool.{lt-ltb, and_parts, not-true}
+use Rattle.std.proofs.lemmas.Bool.{lt-ltb}
 use Rattle.std.proofs.lemmas.List.{length-append}
 use Rattle.std.proofs.lemmas.List.Sums.{position_or_len_is}
 use Rattle.std.proofs.Math.ListN.{get_or-append}
@@ -31,8 +31,7 @@ pub next_spelled : (place count : ℕ) (next : Next) → count ≤ 65535 → IsL
 unfolding next_in
 next_spelled place count End few later = refl
 next_spelled place count (To node) few later =
-    let h = later.1 in
-    rw (decimal_not_end node (omega arith), node_spelled place count node few later.0 later.1) refl
+    rw (decimal_not_end node (omega (arith, later.1)), node_spelled place count node few later.0 later.1) refl
 
 -- ---- the two parts of a word
 
@@ -55,6 +54,4 @@ parts_spelled front back none none2 =
 
 pub no_colon : (bytes : List ℕ) → list_all (λ byte. not (is_colon byte)) bytes ≡ true → list_any is_colon bytes ≡ false
 no_colon [] all = refl
-no_colon (byte ∷ bytes) all =
-    let parts = and_parts (not (is_colon byte)) (list_all (λ (b : ℕ). not (is_colon b)) bytes) all in
-    rw (not-true _ parts.0) (no_colon bytes parts.1)
+no_colon (byte ∷ bytes) all = grind (arith, all, no_colon bytes)

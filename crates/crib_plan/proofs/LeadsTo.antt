@@ -1,9 +1,9 @@
 -- Whether some branch leads to a node.
-use Rattle.std.proofs.Common.{◌≡◌, ℕ, Bool, true, false, not, cond, eqb, ◌&&◌, ◌||◌, List, [], ◌∷◌, ◌++◌}
-use Rattle.std.proofs.Common.{refl, sym, ap, ◌∙◌, inl, inr}
+use Rattle.std.proofs.Common.{◌≡◌, ℕ, Bool, true, false, not, cond, ◌&&◌, ◌||◌, List, [], ◌∷◌, ◌++◌}
+use Rattle.std.proofs.Common.{refl, sym, ◌∙◌, arith}
 use Rattle.std.specs.List.{list_any}
-use Rattle.std.proofs.lemmas.Bool.{cases_Bool, cases_eq, eq-eqb, ne_eqb}
-use Rattle.std.proofs.Math.Bool.{or-false, and-false, and-true}
+use Rattle.std.proofs.lemmas.Bool.Decides.{nat_tests}
+use Rattle.std.proofs.Math.Bool.{or-false, and-true}
 use Rattle.crib_cards.specs.Sets.{has}
 use Rattle.crib_plan.specs.declared.plan.Next.{Next}
 use Rattle.crib_plan.specs.declared.plan.Next.TheVariants.{End, To}
@@ -22,66 +22,33 @@ leads_in nodes (To node) = has nodes node
 pub nodes_of-append : (before : List ℕ) (xs ys : List Next) → nodes_of before (xs ++ ys) ≡ nodes_of before xs ++ nodes_of (seen_after before xs) ys
 nodes_of-append before [] ys = refl
 nodes_of-append before (End ∷ xs) ys = nodes_of-append before xs ys
-nodes_of-append before (To node ∷ xs) ys =
-    elim (cases_Bool (has before node)) [
-      | inl e ↦ rw e (nodes_of-append before xs ys)
-      | inr e ↦ rw e (ap (λ (ns : List ℕ). node ∷ ns) (nodes_of-append (node ∷ before) xs ys))
-    ]
+nodes_of-append before (To node ∷ xs) ys = grind (arith, nodes_of-append before xs ys, nodes_of-append (node ∷ before) xs ys)
 
 pub seen_after-append : (before : List ℕ) (xs ys : List Next) → seen_after before (xs ++ ys) ≡ seen_after (seen_after before xs) ys
 seen_after-append before [] ys = refl
 seen_after-append before (End ∷ xs) ys = seen_after-append before xs ys
-seen_after-append before (To node ∷ xs) ys =
-    elim (cases_Bool (has before node)) [
-      | inl e ↦ rw e (seen_after-append before xs ys)
-      | inr e ↦ rw e (seen_after-append (node ∷ before) xs ys)
-    ]
+seen_after-append before (To node ∷ xs) ys = grind (arith, seen_after-append before xs ys, seen_after-append (node ∷ before) xs ys)
 
 pub or_comm3 : (a b c : Bool) → ((a || b) || c) ≡ (b || (a || c))
-or_comm3 true true c = refl
-or_comm3 true false c = refl
-or_comm3 false true c = refl
-or_comm3 false false c = refl
+or_comm3 a b c = grind arith
 
 pub or_rest : (a b : Bool) → (a || b) ≡ true → a ≡ false → b ≡ true
-or_rest true b e f = absurd cc
-or_rest false b e f = e
+or_rest a b e f = grind arith
 
 pub has-seen_after : (before : List ℕ) (xs : List Next) (node : ℕ) → has (seen_after before xs) node ≡ (has before node || leads xs node)
 has-seen_after before [] node = sym (or-false (has before node))
 has-seen_after before (End ∷ xs) node = has-seen_after before xs node
-has-seen_after before (To other ∷ xs) node =
-    elim (cases_Bool (has before other)) [
-      | inl e ↦
-          rw e (has-seen_after before xs node ∙ elim (cases_eq other node) [
-            | inl is ↦ (let h : has before node ≡ true = ap (has before) (sym is) ∙ e in rw h refl)
-            | inr differs ↦ rw (ne_eqb other node differs) refl
-          ])
-      | inr e ↦ rw e (has-seen_after (other ∷ before) xs node ∙ or_comm3 (eqb other node) (has before node) (leads xs node))
-    ]
+has-seen_after before (To other ∷ xs) node = grind (arith, nat_tests, has-seen_after before xs node, has-seen_after (other ∷ before) xs node)
 
 -- one more branch adds its node, if no branch led to it
 pub nodes_more : (front : List Next) (node : ℕ) (led : Bool) → leads front node ≡ led
     → nodes_of [] (front ++ To node ∷ []) ≡ nodes_of [] front ++ cond led [] (node ∷ [])
-nodes_more front node true e = nodes_of-append [] front (To node ∷ []) ∙ rw (has-seen_after [] front node ∙ e) refl
-nodes_more front node false e = nodes_of-append [] front (To node ∷ []) ∙ rw (has-seen_after [] front node ∙ e) refl
+nodes_more front node led e = nodes_of-append [] front (To node ∷ []) ∙ rw (has-seen_after [] front node ∙ e) refl
 
 pub has-nodes_of : (before : List ℕ) (xs : List Next) (node : ℕ) → has (nodes_of before xs) node ≡ (leads xs node && not (has before node))
 has-nodes_of before [] node = refl
 has-nodes_of before (End ∷ xs) node = has-nodes_of before xs node
-has-nodes_of before (To other ∷ xs) node =
-    elim (cases_Bool (has before other)) [
-      | inl e ↦
-          rw e (has-nodes_of before xs node ∙ elim (cases_eq other node) [
-            | inl is ↦ (let h : has before node ≡ true = ap (has before) (sym is) ∙ e in rw h (and-false (leads xs node) ∙ sym (and-false _)))
-            | inr differs ↦ rw (ne_eqb other node differs) refl
-          ])
-      | inr e ↦
-          rw e (elim (cases_eq other node) [
-            | inl is ↦ (let h : has before node ≡ false = ap (has before) (sym is) ∙ e in rw (eq-eqb other node is, h) refl)
-            | inr differs ↦ rw (ne_eqb other node differs) (has-nodes_of (other ∷ before) xs node ∙ rw (ne_eqb other node differs) refl)
-          ])
-    ]
+has-nodes_of before (To other ∷ xs) node = grind (arith, nat_tests, has-nodes_of before xs node, has-nodes_of (other ∷ before) xs node)
 
 -- the nodes that branches lead to
 pub has_nodes : (xs : List Next) (node : ℕ) → has (nodes_of [] xs) node ≡ leads xs node

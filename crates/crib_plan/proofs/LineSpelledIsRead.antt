@@ -1,13 +1,15 @@
 -- The words of a see line are read as its branches: each is allowed after those before it.
-use Rattle.std.proofs.Common.{◌≡◌, ℕ, zero, suc, ◌+◌, ◌<◌, ◌≤◌, Bool, true, false, not, cond, eqb, List, [], ◌∷◌, ◌++◌, length, map, get_or, take, Ok}
+use Rattle.std.proofs.Common.{◌≡◌, ℕ, zero, suc, ◌+◌, ◌<◌, ◌≤◌, Bool, true, false, not, cond, List, [], ◌∷◌, ◌++◌, length, map, get_or, take, Ok}
 use Rattle.std.proofs.Common.{decimal, refl, sym, ap, subst, ◌∙◌, arith, inl, inr}
 use Rattle.std.specs.Prelude.{IsOk}
 use Rattle.std.specs.List.{position_or_len, AllByRecursion}
-use Rattle.std.proofs.lemmas.Bool.{cases_Bool, eqb-true, eq-eqb, or_left, or_right}
+use Rattle.std.proofs.lemmas.Bool.{cases_Bool, eq-eqb}
+use Rattle.std.proofs.lemmas.Bool.Decides.{nat_tests}
 use Rattle.std.proofs.lemmas.List.{append-nil, get_or-take, length-map, length-take, map-append, take_all, take_more}
 use Rattle.std.proofs.lemmas.List.Sums.{position_or_len_is}
 use Rattle.std.proofs.lemmas.Simd.{map-map}
 use Rattle.crib_cards.specs.Sets.{has}
+use Rattle.crib_cards.proofs.Members.{has_here, has_there}
 use Rattle.crib_text.proofs.NumberLemmas.{number_read-decimal}
 use Rattle.crib_plan.specs.declared.plan.Next.{Next}
 use Rattle.crib_plan.specs.declared.plan.Next.TheVariants.{End, To}
@@ -37,16 +39,9 @@ first_of_node node nexts long less =
     ∙ number_of_first (map (leads_to node) nexts) letter_bytes refl (all ∙ long) (omega (arith, first, all, long, less)) ∙ first
 
 found_before : (node : ℕ) (nexts : List Next) (place : ℕ) → leads (take place nexts) node ≡ true → position_or_len (leads_to node) nexts < place
-found_before node nexts zero e = absurd cc
+found_before node (next ∷ nexts) (suc place) e = grind (arith, e, found_before node nexts place)
 found_before node [] (suc place) e = absurd cc
-found_before node (next ∷ nexts) (suc place) e =
-    elim (cases_Bool (leads_to node next)) [
-      | inl here ↦ (let at : position_or_len (leads_to node) (next ∷ nexts) ≡ 0 = rw here refl in omega (arith, at))
-      | inr later ↦
-          let rest : leads (take place nexts) node ≡ true = rw later at e in
-          let at : position_or_len (leads_to node) (next ∷ nexts) ≡ suc (position_or_len (leads_to node) nexts) = rw later (omega arith) in
-          omega (arith, at, found_before node nexts place rest)
-    ]
+found_before node nexts zero e = absurd cc
 
 found_at : (node : ℕ) (nexts : List Next) (place : ℕ) → place < length nexts → leads (take place nexts) node ≡ false → get_or nexts place End ≡ To node
     → position_or_len (leads_to node) nexts ≡ place
@@ -59,15 +54,14 @@ found_at node nexts place inside fresh is =
 -- ---- each branch of a node is allowed after those of the nodes before it
 
 leads_to_is : (next : Next) (node : ℕ) → leads_to node next ≡ true → next ≡ To node
-leads_to_is End node e = absurd cc
-leads_to_is (To other) node e = ap To (eqb-true other node e)
+leads_to_is next node e = grind (arith, nat_tests, e)
 
 behind_all : (nexts : List Next) (nodes : List ℕ) (number : ℕ)
     → ((node : ℕ) → has nodes node ≡ true → first_number (letters_to node letter_bytes nexts) < number) → IsBehindLast (map (branch_at nexts) nodes) number
 behind_all nexts [] number all = tt
-behind_all nexts (node ∷ []) number all = all node (or_left (eqb node node) false (eq-eqb node node refl))
+behind_all nexts (node ∷ []) number all = all node (has_here node [])
 behind_all nexts (node ∷ next ∷ nodes) number all =
-    behind_all nexts (next ∷ nodes) number (λ other h. all other (or_right (eqb node other) (has (next ∷ nodes) other) h))
+    behind_all nexts (next ∷ nodes) number (λ other h. all other (has_there node other (next ∷ nodes) h))
 
 is_next : (all : List Next) (place node : ℕ) → length all ≡ 14 → place < 14 → get_or all place End ≡ To node → leads (take place all) node ≡ false
     → IsNextSet (map (branch_at all) (nodes_of [] (take place all))) (letters_to node letter_bytes all)
@@ -117,12 +111,11 @@ one_passes place count all k (To node) few long inside is later so_far =
           let new : _ ≡ false = has_node_at all (nodes_of [] front) node ∙ has_nodes front node ∙ fresh in
           let ok = pass_law place count (first_branches all front) (letters_to node letter_bytes all) (decimal node) node so_far letters digits
           (is_next all k node long inside is fresh) (number_read-decimal node (omega arith)) later new in
+          let passed = subst (λ (ws : List (List ℕ)). IsOk (branches_in place count no_branches ws))
+          (sym (map-append branch_spelling (first_branches all front) (branch_at all node ∷ []))) ok in
           subst (λ (bs : List Branch). Pass place count bs)
-          (sym (ap (map (branch_at all)) (nodes_more front node false fresh) ∙ map-append (branch_at all) (nodes_of [] front) (node ∷ []))) (
-            all_more (λ (branch : Branch). branch.node ≤ 4294967295) (first_branches all front) (branch_at all node) so_far.0 (omega arith),
-            subst (λ (ws : List (List ℕ)). IsOk (branches_in place count no_branches ws))
-                (sym (map-append branch_spelling (first_branches all front) (branch_at all node ∷ []))) ok,
-          )
+          (sym (ap (map (branch_at all)) (nodes_more front node false fresh) ∙ map-append (branch_at all) (nodes_of [] front) (node ∷ [])))
+          (all_more (λ (branch : Branch). branch.node ≤ 4294967295) (first_branches all front) (branch_at all node) so_far.0 (omega arith), passed)
     ]
 
 passes : (place count : ℕ) (all : List Next) (k : ℕ) → count ≤ 65535 → length all ≡ 14 → AllByRecursion (IsLater place count) all → k ≤ 14
@@ -141,8 +134,7 @@ pub line_spelled : (place count : ℕ) (nexts : List Next) → count ≤ 65535 �
 line_spelled place count nexts few long later =
     let pass = subst (λ (ns : List Next). Pass place count (first_branches nexts ns)) (take_all 14 nexts (omega (arith, long)))
     (passes place count nexts 14 few long later (omega arith)) in
-    let p = passing place count (branches_of nexts) pass in (
-      p.before.least,
-      ap (branches_in place count no_branches) (sym (map-map branch_spelling (branch_at nexts) (nodes_of [] nexts))) ∙ p.read
-          ∙ ap (λ (ns : List Next). Ok (record { nexts = ns; least = p.before.least })) (same_nexts p.before.nexts nexts p.stand.long long (sym p.stand.are)),
-    )
+    let p = passing place count (branches_of nexts) pass in
+    let same = same_nexts p.before.nexts nexts p.stand.long long (sym p.stand.are) in
+    let words = ap (branches_in place count no_branches) (sym (map-map branch_spelling (branch_at nexts) (nodes_of [] nexts))) in
+    (p.before.least, words ∙ p.read ∙ ap (λ (ns : List Next). Ok (record { nexts = ns; least = p.before.least })) same)

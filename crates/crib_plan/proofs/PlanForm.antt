@@ -7,17 +7,15 @@ use Rattle.crib_text.proofs.RoomLemmas.{ten_digits, five_digits}
 use Rattle.crib_text.proofs.TextLengths.{words_length}
 use Rattle.crib_text.proofs.Forms.{AreWordsForm, IsForm, AreRows, row_lines, most_form, named_form, header_form, line_form, many_form, then_form}
 use Rattle.crib_text.proofs.Forms.{then_given_form, form_as}
-use Rattle.crib_text.proofs.FormLaws.{texts_apart, lines_cut_short, text_cut_short}
 use Rattle.crib_plan.specs.declared.plan.Next.{Next}
 use Rattle.crib_plan.specs.declared.plan.Next.TheVariants.{End, To}
 use Rattle.crib_plan.specs.declared.plan.Node.{Node}
 use Rattle.crib_plan.specs.declared.plan.Node.TheVariants.{Play, See}
 use Rattle.crib_plan.specs.Nodes.{most_nodes, IsLater, IsNode, AreNodes, ArePlan}
 use Rattle.crib_plan.specs.Refusals.{too_many}
-use Rattle.crib_plan.specs.Spelling.{next_word, branch_word, nodes_of, node_line, node_lines, plan_lines, plan_text}
+use Rattle.crib_plan.specs.Spelling.{next_word, branch_word, nodes_of, node_line, node_lines, plan_lines}
 use Rattle.crib_plan.specs.Private.Spelling.{spaced_branch}
 use Rattle.crib_plan.specs.Reading.{count_in, count_at, node_from, nodes_at, plan_at}
-use Rattle.crib_plan.specs.Laws.{AreApart, LinesCutLaw, TextCutLaw}
 use Rattle.crib_plan.proofs.WordLemmas.{node_words}
 use Rattle.crib_plan.proofs.WrittenIsSpelled.{branches_len}
 use Rattle.crib_plan.proofs.ReadIsSpelled.{node_found}
@@ -43,12 +41,9 @@ branches_length all (node ∷ nodes) =
 -- at most ten digits, a keyword, and fourteen branches with a letter each
 node_short : (place count : ℕ) (node : Node) → count ≤ most_nodes → IsRow count place node → words_length (node_line place node) ≤ 127
 node_short place count (Play card next) few is = omega (arith, ten_digits place is.0, next_short place count next few is.1.1)
-node_short place count (See nexts) few is = omega (
-  arith,
-  ten_digits place is.0,
-  branches_length nexts (nodes_of [] nexts),
-  branches_len place count nexts is.1.1 is.1.0 few,
-)
+node_short place count (See nexts) few is =
+    let branches = branches_len place count nexts is.1.1 is.1.0 few in
+    omega (arith, ten_digits place is.0, branches_length nexts (nodes_of [] nexts), branches)
 
 node_form : (count : ℕ) → count ≤ most_nodes → (place : ℕ) → AreWordsForm (node_from place count) (node_line place) (IsRow count place) (λ node. 127)
 node_form count few place = record {
@@ -92,14 +87,3 @@ plan_form =
     (λ plan is. ((tt, is.0), (refl, rows_of_nodes 0 (length plan) plan (omega (arith, is.0)) is.1)))
     (λ plan are. ap (λ ls. (codes "plan" ∷ codes "1" ∷ []) ∷ (codes "nodes" ∷ decimal (length plan) ∷ []) ∷ ls) (same_lines 0 plan))
     (λ plan is. omega arith)
-
-pub apart_law : AreApart
-unfolding plan_text
-apart_law = texts_apart plan_form
-
-pub lines_cut_law : LinesCutLaw
-lines_cut_law = lines_cut_short plan_form
-
-pub text_cut_law : TextCutLaw
-unfolding plan_text
-text_cut_law = text_cut_short plan_form

@@ -1,10 +1,10 @@
 -- If a line is read as a node, it is the spelling of that node.
-use Rattle.std.proofs.Common.{◌≡◌, ℕ, ◌^◌, ◌<◌, eqb, List, [], ◌∷◌, Ok, Err, codes, decimal, refl, sym, ap, subst, ◌∙◌}
+use Rattle.std.proofs.Common.{◌≡◌, ℕ, ◌^◌, ◌<◌, eqb, List, [], ◌∷◌, Ok, codes, decimal, ap, subst, ◌∙◌}
 use Rattle.std.proofs.Common.{inl, inr}
 use Rattle.std.specs.Prelude.{bytes_eq}
 use Rattle.std.proofs.lemmas.Bool.{cases_Bool, eqb-true}
 use Rattle.std.proofs.lemmas.Slice.Eq.{bytes_eq-Decides}
-use Rattle.crib_cards.specs.CardText.{card_read, card_text}
+use Rattle.crib_cards.specs.CardText.{card_read}
 use Rattle.crib_cards.proofs.CardReadLemmas.{card_read_is}
 use Rattle.crib_text.specs.Refusals.{bad_line, bad_card}
 use Rattle.crib_text.specs.Reading.{or_refused, number_in}
@@ -33,8 +33,6 @@ IsLineOf place count words node = (words ≡ node_line place node) × (place < 2
 play_found : (place count : ℕ) (own kind : List ℕ) (words : List (List ℕ)) (node : Node) → kind ≡ codes "play" →
     play_in place count (own ∷ kind ∷ words) ≡ Ok node → IsLineOf place count (own ∷ kind ∷ words) node
 unfolding play_in
-play_found place count own kind [] node is e = absurd cc
-play_found place count own kind (card ∷ []) node is e = absurd cc
 play_found place count own kind (card ∷ next ∷ []) node is e =
     let a = bind_ok (own_number_in place own) _ node e in
     let b = bind_ok (or_refused bad_card (card_read card)) _ node a.2 in
@@ -42,14 +40,9 @@ play_found place count own kind (card ∷ next ∷ []) node is e =
     let o = own_found place own a.0 a.1 in
     let c = card_read_is card b.0 (or_ok bad_card (card_read card) b.0 b.1) in
     let n = next_found place count next d.0 d.1 in
-    subst (λ (v : Node). IsLineOf place count (own ∷ kind ∷ card ∷ next ∷ []) v) (ok_is (Play b.0 d.0) node d.2) (
-      ap (λ (w : List ℕ). w ∷ kind ∷ card ∷ next ∷ []) o.0 ∙ ap (λ (w : List ℕ). decimal place ∷ w ∷ card ∷ next ∷ []) is
-          ∙ ap (λ (w : List ℕ). decimal place ∷ codes "play" ∷ w ∷ next ∷ []) c.0
-          ∙ ap (λ (w : List ℕ). decimal place ∷ codes "play" ∷ card_text b.0 ∷ w ∷ []) n.0,
-      o.1,
-      (c.1, n.1),
-    )
-play_found place count own kind (card ∷ next ∷ other ∷ words) node is e = absurd cc
+    subst (λ (v : Node). IsLineOf place count (own ∷ kind ∷ card ∷ next ∷ []) v) (ok_is (Play b.0 d.0) node d.2)
+    (cc (o.0, is, c.0, n.0), o.1, (c.1, n.1))
+play_found place count own kind words node is e = absurd cc
 
 -- a see line that was read is that of its node
 see_found : (place count : ℕ) (own kind : List ℕ) (words : List (List ℕ)) (node : Node) → kind ≡ codes "see" →
@@ -60,27 +53,17 @@ see_found place count own kind words node is e =
     let b = bind_ok (branches_in place count no_branches words) _ node a.2 in
     let o = own_found place own a.0 a.1 in
     let l = line_found place count words b.0 b.1 in
-    subst (λ (v : Node). IsLineOf place count (own ∷ kind ∷ words) v) (ok_is (See b.0.nexts) node b.2) (
-      ap (λ (w : List ℕ). w ∷ kind ∷ words) o.0 ∙ ap (λ (w : List ℕ). decimal place ∷ w ∷ words) is
-          ∙ ap (λ (ws : List (List ℕ)). decimal place ∷ codes "see" ∷ ws) l.0,
-      o.1,
-      (l.1, l.2),
-    )
+    subst (λ (v : Node). IsLineOf place count (own ∷ kind ∷ words) v) (ok_is (See b.0.nexts) node b.2) (cc (o.0, is, l.0), o.1, (l.1, l.2))
 
 pub node_found : (place count : ℕ) (words : List (List ℕ)) (node : Node) → node_from place count words ≡ Ok node → IsLineOf place count words node
 unfolding node_from
-node_found place count [] node e = absurd cc
-node_found place count (own ∷ []) node e = absurd cc
 node_found place count (own ∷ kind ∷ words) node e =
     elim (cases_Bool (bytes_eq kind (codes "play"))) [
-      | inl plays ↦
-          let h : node_from place count (own ∷ kind ∷ words) ≡ play_in place count (own ∷ kind ∷ words) = rw plays refl in
-          play_found place count own kind words node ((bytes_eq-Decides kind (codes "play")).0 plays) (sym h ∙ e)
+      | inl plays ↦ play_found place count own kind words node ((bytes_eq-Decides kind (codes "play")).0 plays) (rw plays at e)
       | inr other ↦
           elim (cases_Bool (bytes_eq kind (codes "see"))) [
-            | inl sees ↦
-                let h : node_from place count (own ∷ kind ∷ words) ≡ see_in place count (own ∷ kind ∷ words) = rw (other, sees) refl in
-                see_found place count own kind words node ((bytes_eq-Decides kind (codes "see")).0 sees) (sym h ∙ e)
-            | inr neither ↦ (let h : node_from place count (own ∷ kind ∷ words) ≡ Err bad_line = rw (other, neither) refl in absurd cc)
+            | inl sees ↦ see_found place count own kind words node ((bytes_eq-Decides kind (codes "see")).0 sees) (rw (other, sees) at e)
+            | inr neither ↦ (let refused = rw (other, neither) at e in absurd cc)
           ]
     ]
+node_found place count words node e = absurd cc

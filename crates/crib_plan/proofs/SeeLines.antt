@@ -1,18 +1,20 @@
 -- The branches of a see line as the code keeps them, and as their letters and nodes.
 use Rattle.std.proofs.Common.{◌≡◌, ℕ, zero, suc, ◌+◌, ◌<◌, ◌≤◌, Bool, true, false, not, cond, eqb, ◌||◌, List, [], ◌∷◌, ◌++◌, length, map, get_or, take}
-use Rattle.std.proofs.Common.{refl, sym, ap, subst, ◌∙◌, arith, inl, inr}
+use Rattle.std.proofs.Common.{◌↔◌, refl, sym, ap, subst, ◌∙◌, arith, inl, inr}
 use Rattle.std.specs.Prelude.{replicate}
 use Rattle.std.specs.List.{position_or_len, AllByRecursion}
-use Rattle.std.proofs.lemmas.Bool.{cases_Bool, cases_eq, cases_lt, eqb-true, eq-eqb, ne_eqb, and_parts, or_left, or_right, or_parts}
+use Rattle.std.proofs.lemmas.Bool.{cases_Bool, and_parts, or_parts}
+use Rattle.std.proofs.lemmas.Bool.Decides.{nat_tests}
 use Rattle.std.proofs.lemmas.List.{get_or_past, ext_get_or, length-map, map-append}
 use Rattle.std.proofs.lemmas.List.Folds.{list_any_at}
 use Rattle.std.proofs.Math.ListN.{get_or-map}
 use Rattle.crib_cards.specs.Sets.{has}
+use Rattle.crib_cards.proofs.Members.{has_here, has_there}
 use Rattle.crib_plan.specs.declared.plan.Next.{Next}
 use Rattle.crib_plan.specs.declared.plan.Next.TheVariants.{End, To}
 use Rattle.crib_plan.specs.Nodes.{IsLater}
 use Rattle.crib_plan.specs.Spelling.{letter_bytes, leads_to, letters_to, nodes_of}
-use Rattle.crib_plan.specs.Reading.{is_end, are_free, led_by, Branches, no_branches, Letters}
+use Rattle.crib_plan.specs.Reading.{is_end, is_free, are_free, led_by, Branches, no_branches, Letters}
 use Rattle.crib_plan.specs.SeeLaws.{Branch, AreInOrder, letter_number, first_number, has_letter, has_node, IsBehindLast, IsNextSet}
 use Rattle.crib_plan.proofs.LeadsTo.{leads, leads_in, has_nodes}
 use Rattle.crib_plan.proofs.SeeSets.{chosen, chosen_in_order, place_of, has_chosen, letters_chosen, number_of_first, free_at}
@@ -20,25 +22,17 @@ use Rattle.crib_plan.proofs.SeeSets.{chosen, chosen_in_order, place_of, has_chos
 -- ---- nodes
 
 no_new : (before : List ℕ) (node : ℕ) (nexts : List Next) → nodes_of before (To node ∷ nexts) ≡ [] → (has before node ≡ true) × (nodes_of before nexts ≡ [])
-no_new before node nexts none =
-    elim (cases_Bool (has before node)) [
-      | inl e ↦ (e, let h : nodes_of before nexts ≡ [] = rw e at none in h)
-      | inr e ↦ (let h : node ∷ nodes_of (node ∷ before) nexts ≡ [] = rw e at none in absurd cc)
-    ]
+no_new before node nexts none = grind arith
 
 -- where no branch has a new node, none has one after a set has led to a node that was there before
 no_more : (node : ℕ) (before : List ℕ) (holding : List Bool) (nexts : List Next) → length holding ≡ length nexts → nodes_of before nexts ≡ []
     → nodes_of (node ∷ before) (led_by node holding nexts) ≡ []
 no_more node before [] [] long none = refl
-no_more node before [] (next ∷ nexts) long none = absurd (omega arith)
-no_more node before (holds ∷ holding) [] long none = refl
-no_more node before (true ∷ holding) (End ∷ nexts) long none = rw (eq-eqb node node refl) (no_more node before holding nexts (omega arith) none)
-no_more node before (true ∷ holding) (To other ∷ nexts) long none =
-    rw (eq-eqb node node refl) (no_more node before holding nexts (omega arith) (no_new before other nexts none).1)
-no_more node before (false ∷ holding) (End ∷ nexts) long none = no_more node before holding nexts (omega arith) none
-no_more node before (false ∷ holding) (To other ∷ nexts) long none =
+no_more node before (holds ∷ holding) (End ∷ nexts) long none = grind (arith, nat_tests, no_more node before holding nexts (omega arith) none)
+no_more node before (holds ∷ holding) (To other ∷ nexts) long none =
     let old = no_new before other nexts none in
-    rw (or_right (eqb node other) (has before other) old.0) (no_more node before holding nexts (omega arith) old.1)
+    grind (arith, nat_tests, old.0, no_more node before holding nexts (omega arith) old.1)
+no_more node before holding nexts long none = absurd (omega arith)
 
 first_later : (holding : List Bool) → position_or_len (λ holds. holds) (false ∷ holding) + 1 ≡ suc (position_or_len (λ holds. holds) holding + 1)
 first_later holding = omega arith
@@ -50,10 +44,7 @@ nodes_led : (node : ℕ) (before : List ℕ) (holding : List Bool) (nexts : List
     → nodes_of before (take least nexts) ≡ nodes_of before nexts
     → (nodes_of before (led_by node holding nexts) ≡ nodes_of before nexts ++ node ∷ [])
     × (nodes_of before (take (position_or_len (λ holds. holds) holding + 1) (led_by node holding nexts)) ≡ nodes_of before nexts ++ node ∷ [])
-nodes_led node before [] nexts least long free fresh new low some same = absurd (omega arith)
-nodes_led node before (holds ∷ holding) [] least long free fresh new low some same = absurd (omega arith)
 nodes_led node before (true ∷ holding) (To other ∷ nexts) least long free fresh new low some same = absurd cc
-nodes_led node before (true ∷ holding) (End ∷ nexts) (suc least) long free fresh new low some same = absurd (omega arith)
 nodes_led node before (true ∷ holding) (End ∷ nexts) zero long free fresh new low some same =
     let one = ap (λ (ns : List ℕ). ns ++ node ∷ []) same in
     (rw new (ap (λ (ns : List ℕ). node ∷ ns) (no_more node before holding nexts (omega arith) (sym same)) ∙ one), rw new one)
@@ -82,37 +73,28 @@ nodes_led node before (false ∷ holding) (To other ∷ nexts) (suc least) long 
           let rest = nodes_led node (other ∷ before) holding nexts least (omega arith) free apart.1 not_it (omega arith) (omega arith) left in
           (rw e (ap (λ (ns : List ℕ). other ∷ ns) rest.0), rw (first_later holding, e) (ap (λ (ns : List ℕ). other ∷ ns) rest.1))
     ]
+nodes_led node before holding nexts least long free fresh new low some same = absurd (omega arith)
 
 -- ---- letters
-
-end_leads_not : (next : Next) (node : ℕ) → is_end next ≡ true → leads_to node next ≡ false
-end_leads_not End node e = refl
-end_leads_not (To other) node e = absurd cc
 
 letters_kept : (other node : ℕ) → eqb node other ≡ false → (letters : List ℕ) (holding : List Bool) (nexts : List Next) → are_free holding nexts ≡ true →
     letters_to other letters (led_by node holding nexts) ≡ letters_to other letters nexts
 letters_kept other node differs [] holding nexts free = refl
 letters_kept other node differs (letter ∷ letters) [] nexts free = refl
 letters_kept other node differs (letter ∷ letters) (holds ∷ holding) [] free = refl
-letters_kept other node differs (letter ∷ letters) (true ∷ holding) (next ∷ nexts) free =
-    let parts = and_parts (is_end next) (are_free holding nexts) free in
-    rw (differs, end_leads_not next other parts.0) (letters_kept other node differs letters holding nexts parts.1)
-letters_kept other node differs (letter ∷ letters) (false ∷ holding) (next ∷ nexts) free =
-    ap (λ (ls : List ℕ). cond (leads_to other next) (letter ∷ ls) ls) (letters_kept other node differs letters holding nexts free)
+letters_kept other node differs (letter ∷ letters) (holds ∷ holding) (next ∷ nexts) free =
+    let parts = and_parts (is_free holds next) (are_free holding nexts) free in
+    grind (arith, parts.0, letters_kept other node differs letters holding nexts parts.1)
 
 letters_new : (node : ℕ) (letters : List ℕ) (holding : List Bool) (nexts : List Next) → leads nexts node ≡ false → length holding ≡ length nexts →
     letters_to node letters (led_by node holding nexts) ≡ chosen holding letters
 letters_new node [] [] nexts fresh long = refl
 letters_new node [] (holds ∷ holding) nexts fresh long = refl
 letters_new node (letter ∷ letters) [] [] fresh long = refl
-letters_new node (letter ∷ letters) [] (next ∷ nexts) fresh long = absurd (omega arith)
-letters_new node (letter ∷ letters) (holds ∷ holding) [] fresh long = absurd (omega arith)
-letters_new node (letter ∷ letters) (true ∷ holding) (next ∷ nexts) fresh long =
-    let rest = letters_new node letters holding nexts (or_parts (leads_to node next) (leads nexts node) fresh).1 (omega arith) in
-    rw (eq-eqb node node refl) (ap (λ (ls : List ℕ). letter ∷ ls) rest)
-letters_new node (letter ∷ letters) (false ∷ holding) (next ∷ nexts) fresh long =
+letters_new node (letter ∷ letters) (holds ∷ holding) (next ∷ nexts) fresh long =
     let apart = or_parts (leads_to node next) (leads nexts node) fresh in
-    rw apart.0 (letters_new node letters holding nexts apart.1 (omega arith))
+    grind (arith, nat_tests, apart.0, letters_new node letters holding nexts apart.1 (omega arith))
+letters_new node letters holding nexts fresh long = absurd (omega arith)
 
 all_led : (place count node : ℕ) → IsLater place count (To node) → (holding : List Bool) (nexts : List Next) → AllByRecursion (IsLater place count) nexts →
     AllByRecursion (IsLater place count) (led_by node holding nexts)
@@ -136,10 +118,7 @@ branches_of nexts = map (branch_at nexts) (nodes_of [] nexts)
 
 map_agree : (f g : ℕ → Branch) (nodes : List ℕ) → ((node : ℕ) → has nodes node ≡ true → f node ≡ g node) → map f nodes ≡ map g nodes
 map_agree f g [] same = refl
-map_agree f g (node ∷ nodes) same =
-    let here : f node ≡ g node = same node (or_left (eqb node node) (has nodes node) (eq-eqb node node refl)) in
-    let rest = map_agree f g nodes (λ other h. same other (or_right (eqb node other) (has nodes other) h)) in
-    ap (λ (branch : Branch). branch ∷ map f nodes) here ∙ ap (λ (branches : List Branch). g node ∷ branches) rest
+map_agree f g (node ∷ nodes) same = cc (same node (has_here node nodes), map_agree f g nodes (λ other h. same other (has_there node other nodes h)))
 
 -- what the code keeps represents the branches that were read
 pub record Stand (place count : ℕ) (earlier : List Branch) (before : Branches) : Type 0 where
@@ -152,15 +131,10 @@ pub record Stand (place count : ℕ) (earlier : List Branch) (before : Branches)
 pub none_stand : (place count : ℕ) → Stand place count [] no_branches
 none_stand place count = record { long = refl; later = all_ends place count 14; low = refl; are = refl; behind = λ number. (λ h. tt, λ h. omega arith) }
 
-behind_last : (earlier : List Branch) (branch : Branch) (number : ℕ) → first_number branch.set < number → IsBehindLast (earlier ++ branch ∷ []) number
-behind_last [] branch number h = h
-behind_last (one ∷ []) branch number h = h
-behind_last (one ∷ next ∷ earlier) branch number h = behind_last (next ∷ earlier) branch number h
-
-is_behind : (earlier : List Branch) (branch : Branch) (number : ℕ) → IsBehindLast (earlier ++ branch ∷ []) number → first_number branch.set < number
-is_behind [] branch number h = h
-is_behind (one ∷ []) branch number h = h
-is_behind (one ∷ next ∷ earlier) branch number h = is_behind (next ∷ earlier) branch number h
+behind_last : (earlier : List Branch) (branch : Branch) (number : ℕ) → IsBehindLast (earlier ++ branch ∷ []) number ↔ first_number branch.set < number
+behind_last [] branch number = (λ h. h, λ h. h)
+behind_last (one ∷ []) branch number = (λ h. h, λ h. h)
+behind_last (one ∷ next ∷ earlier) branch number = behind_last (next ∷ earlier) branch number
 
 -- bytes that were read as the letters of the next branch
 pub record AreLetters (before : Branches) (bytes : List ℕ) (letters : Letters) : Type 0 where
@@ -193,11 +167,8 @@ one_more place count earlier before branch letters stand are later fresh =
     let nodes = nodes_led node [] letters.set nexts before.least long are.free fresh refl (omega (arith, are.first_is, are.behind))
     (omega (arith, are.first_is, are.some)) stand.low in
     let kept : map (branch_at after) (nodes_of [] nexts) ≡ branches_of nexts = map_agree _ _ (nodes_of [] nexts) (λ other e.
-    elim (cases_Bool (eqb node other)) [
-      | inl same ↦ (let there = sym (has_nodes nexts other) ∙ e in let gone : leads nexts other ≡ false = ap (leads nexts) (sym (eqb-true node other same))
-          ∙ fresh in absurd cc)
-      | inr differs ↦ ap (λ (ls : List ℕ). record { set = ls; node = other }) (letters_kept other node differs letter_bytes letters.set nexts are.free)
-    ]) in
+    let differs : eqb node other ≡ false = grind (arith, nat_tests, e, has_nodes nexts other, fresh) in
+    ap (λ (ls : List ℕ). record { set = ls; node = other }) (letters_kept other node differs letter_bytes letters.set nexts are.free)) in
     let new : branch_at after node ≡ branch =
     ap (λ (ls : List ℕ). record { set = ls; node = node }) (letters_new node letter_bytes letters.set nexts fresh long ∙ sym are.bytes_are) in
     let number = first_is before branch.set letters are in
@@ -208,10 +179,7 @@ one_more place count earlier before branch letters stand are later fresh =
       are = ap (λ (bs : List Branch). bs ++ branch ∷ []) (stand.are ∙ sym kept)
           ∙ ap (λ (b : Branch). map (branch_at after) (nodes_of [] nexts) ++ b ∷ []) (sym new)
           ∙ sym (map-append (branch_at after) (nodes_of [] nexts) (node ∷ [])) ∙ ap (map (branch_at after)) (sym nodes.0);
-      behind = λ first. (
-        λ h. behind_last earlier branch first (omega (arith, number, h)),
-        λ h. let less = is_behind earlier branch first h in omega (arith, number, less),
-      );
+      behind = λ first. let last = behind_last earlier branch first in (λ h. last.1 (omega (arith, number, h)), λ h. omega (arith, number, last.0 h));
     }
 
 -- ---- the letters and the nodes of branches
@@ -232,11 +200,7 @@ where_to (branch ∷ branches) letter = cond (has branch.set letter) (To branch.
 
 pub has_where : (branches : List Branch) (letter : ℕ) → has_letter branches letter ≡ not (is_end (where_to branches letter))
 has_where [] letter = refl
-has_where (branch ∷ branches) letter =
-    elim (cases_Bool (has branch.set letter)) [
-      | inl e ↦ rw e refl
-      | inr e ↦ rw e (has_where branches letter)
-    ]
+has_where (branch ∷ branches) letter = grind (arith, has_where branches letter)
 
 pub letter_at : (nexts : List Next) (letter node : ℕ) → length nexts ≡ 14
     → has (letters_to node letter_bytes nexts) letter ≡ leads_to node (get_or nexts (letter_number letter) End)
@@ -249,14 +213,8 @@ letter_at nexts letter node long =
 pub where_among : (nexts : List Next) (letter : ℕ) (to : Next) (nodes : List ℕ)
     → ((node : ℕ) → has (letters_to node letter_bytes nexts) letter ≡ leads_to node to)
     → where_to (map (branch_at nexts) nodes) letter ≡ cond (leads_in nodes to) to End
-where_among nexts letter End [] each = refl
-where_among nexts letter (To to) [] each = refl
-where_among nexts letter End (node ∷ nodes) each = rw (each node) (where_among nexts letter End nodes each)
-where_among nexts letter (To to) (node ∷ nodes) each =
-    elim (cases_eq to node) [
-      | inl is ↦ rw (each node, eq-eqb to node is, eq-eqb node to (sym is)) (ap To (sym is))
-      | inr differs ↦ rw (each node, ne_eqb to node differs, ne_eqb node to (λ e. differs (sym e))) (where_among nexts letter (To to) nodes each)
-    ]
+where_among nexts letter to [] each = grind arith
+where_among nexts letter to (node ∷ nodes) each = grind (arith, nat_tests, each node, where_among nexts letter to nodes each)
 
 pub where_is : (nexts : List Next) (letter : ℕ) → length nexts ≡ 14 → where_to (branches_of nexts) letter ≡ get_or nexts (letter_number letter) End
 where_is nexts letter long =
@@ -265,10 +223,9 @@ where_is nexts letter long =
   where
     whole : (to : Next) → get_or nexts (letter_number letter) End ≡ to → cond (leads_in (nodes_of [] nexts) to) to End ≡ to
     whole End is = refl
-    whole (To node) is = ap (λ (b : Bool). cond b (To node) End) (has_nodes nexts node ∙ elim (cases_lt (letter_number letter) (length nexts)) [
-      | inl inside ↦ list_any_at (leads_to node) nexts (letter_number letter) End inside (ap (leads_to node) is ∙ eq-eqb node node refl)
-      | inr past ↦ (let none = get_or_past nexts (letter_number letter) End past in absurd cc)
-    ])
+    whole (To node) is =
+        let inside = list_any_at (leads_to node) nexts (letter_number letter) End in
+        grind (arith, nat_tests, is, has_nodes nexts node, inside, get_or_past nexts (letter_number letter) End)
 
 pub letter_stands : (place count : ℕ) (earlier : List Branch) (before : Branches) (letter : ℕ) → Stand place count earlier before
     → has_letter earlier letter ≡ not (is_end (get_or before.nexts (letter_number letter) End))

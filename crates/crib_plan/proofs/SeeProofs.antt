@@ -1,9 +1,10 @@
 -- The proofs of the laws of see lines.
-use Rattle.std.proofs.Common.{◌≡◌, ◌≢◌, ℕ, ◌+◌, ◌<◌, ◌≤◌, Bool, true, false, not, cond, ◌&&◌, List, [], ◌∷◌, ◌++◌, length, map, get_or}
-use Rattle.std.proofs.Common.{Some, None, Result, Ok, Err, codes, decimal, refl, sym, ap, subst, ◌∙◌, arith, inl, inr}
-use Rattle.std.specs.Prelude.{nat_lt, bytes_eq, IsOk}
+use Rattle.std.proofs.Common.{◌≡◌, ◌≢◌, ℕ, ◌+◌, ◌<◌, ◌≤◌, Bool, true, false, not, cond, List, [], ◌∷◌, ◌++◌, length, map, get_or}
+use Rattle.std.proofs.Common.{Some, None, Result, Ok, Err, codes, decimal, refl, sym, ap, subst, ◌∙◌, arith}
+use Rattle.std.specs.Prelude.{bytes_eq, IsOk}
 use Rattle.std.specs.List.{list_any, position_or_len, count_by, AllByRecursion}
-use Rattle.std.proofs.lemmas.Bool.{cases_Bool, cases_lt, le-leb, ltb-true, eq-eqb, and_parts, not-false, or_left, or_right, or_parts}
+use Rattle.std.proofs.lemmas.Bool.{le-leb, eq-eqb, not-false, false_from_ne_true, or_left, or_right, or_parts}
+use Rattle.std.proofs.lemmas.Bool.Decides.{nat_tests}
 use Rattle.std.proofs.lemmas.Fmt.{decimal_injective}
 use Rattle.std.proofs.lemmas.List.Folds.{list_any-append}
 use Rattle.std.proofs.lemmas.List.Sums.{sum_by-append, sum_by-cons}
@@ -33,13 +34,8 @@ use Rattle.crib_plan.proofs.SeeLines.{Stand, none_stand, node_stands, letter_sta
 count_none : (bytes : List ℕ) → list_any is_colon bytes ≡ false → count_by is_colon bytes ≡ 0
 count_none [] e = refl
 count_none (byte ∷ bytes) e =
-    elim (cases_Bool (is_colon byte)) [
-      | inl here ↦ (let h : list_any is_colon (byte ∷ bytes) ≡ true = rw here refl in absurd cc)
-      | inr other ↦
-          let rest : list_any is_colon bytes ≡ false = rw other at e in
-          let one : cond {A = ℕ} (is_colon byte) 1 0 ≡ 0 = rw other refl in
-          omega (arith, count_none bytes rest, sum_by-cons (λ (b : ℕ). cond (is_colon b) 1 0) byte bytes, one)
-    ]
+    let parts = or_parts (is_colon byte) (list_any is_colon bytes) e in
+    grind (arith, parts.0, count_none bytes parts.1, sum_by-cons (λ (b : ℕ). cond (is_colon b) 1 0) byte bytes)
 
 count_around : (front back : List ℕ) → count_by is_colon (front ++ colon ∷ back) ≡ count_by is_colon front + (1 + count_by is_colon back)
 count_around front back =
@@ -50,13 +46,8 @@ count_around front back =
 cut_count : (word : List ℕ) (parts : Parts) → parts_in word ≡ Ok parts → count_by is_colon word ≡ 1
 cut_count word parts e =
     let are = parts_found word parts e in
-    omega (
-      arith,
-      ap (count_by is_colon) are.whole,
-      count_around parts.front parts.back,
-      count_none parts.front are.none_in_front,
-      count_none parts.back are.none_behind,
-    )
+    let none = count_none parts.front are.none_in_front in
+    omega (arith, none, count_none parts.back are.none_behind, ap (count_by is_colon) are.whole, count_around parts.front parts.back)
 
 -- ---- readings with only one refusal
 
@@ -78,10 +69,7 @@ next_set_read place count earlier before set stand is =
     let found = read_found letter_bytes set read.0 read.1 in
     let first : ℕ = position_or_len (λ (b : Bool). b) read.0 in
     let some : first < length read.0 =
-    elim (cases_lt first (length read.0)) [
-      | inl inside ↦ inside
-      | inr past ↦ (let none = found.0 ∙ chosen_none read.0 letter_bytes past in absurd (omega (arith, ap length none, is.some)))
-    ] in
+    grind (arith, found.0, chosen_none read.0 letter_bytes, is.some) in
     let there = position_there (λ (b : Bool). b) read.0 first refl some in
     let number : first_number set ≡ first = ap (λ (bytes : List ℕ). first_number bytes) found.0 ∙ number_of_first read.0 letter_bytes refl found.1 some in
     let behind : before.least ≤ first = omega (arith, (stand.behind (first_number set)).1 is.behind, number) in
@@ -120,7 +108,7 @@ same_parts (byte ∷ front) (first ∷ other) back rest none none2 e =
     let here : byte ≡ first = cc in
     let left : front ++ colon ∷ back ≡ other ++ colon ∷ rest = cc in
     let same = same_parts front other back rest (or_parts (is_colon first) (list_any is_colon other) none).1 none2 left in
-    (ap (λ (bytes : List ℕ). byte ∷ bytes) same.0 ∙ ap (λ (b : ℕ). b ∷ other) here, same.1)
+    (cc (same.0, here), same.1)
 
 same_branches : (branches plain : List Branch) → AllByRecursion (λ (branch : Branch). branch.node ≤ 4294967295) branches → AllByRecursion IsPlain plain
     → map branch_spelling branches ≡ map branch_spelling plain → branches ≡ plain
@@ -211,11 +199,7 @@ unfolding branch_node_in
 end_law place count earlier set pass none is = next_refused place count earlier set (codes "end") bad_next pass none refl is refl
 
 not_end : (word : List ℕ) → word ≢ codes "end" → bytes_eq word (codes "end") ≡ false
-not_end word other =
-    elim (cases_Bool (bytes_eq word (codes "end"))) [
-      | inl same ↦ absurd (other ((bytes_eq-Decides word (codes "end")).0 same))
-      | inr e ↦ e
-    ]
+not_end word other = false_from_ne_true (bytes_eq word (codes "end")) (λ same. other ((bytes_eq-Decides word (codes "end")).0 same))
 
 no_number : (place count : ℕ) (next : List ℕ) → next ≢ codes "end" → number_read next ≡ None → branch_node_in place count next ≡ Err bad_number
 unfolding branch_node_in node_in number_in
@@ -233,13 +217,7 @@ read_node place count next node e =
 
 not_later : (place count node : ℕ) → ¬ IsLaterNode place count node → later_node place count node ≡ Err bad_next
 unfolding later_node
-not_later place count node never =
-    elim (cases_Bool (nat_lt place node && nat_lt node count)) [
-      | inl holds ↦
-          let both = and_parts (nat_lt place node) (nat_lt node count) holds in
-          absurd (never (ltb-true place node both.0, ltb-true node count both.1))
-      | inr fails ↦ rw fails refl
-    ]
+not_later place count node never = grind (arith, nat_tests, never)
 
 pub range_law : RangeLaw
 range_law place count earlier set next node pass none none2 is e never = next_refused place count earlier set next bad_next pass none none2 is

@@ -1,9 +1,10 @@
 -- Sets of letters, as bytes and as the places that they hold.
-use Rattle.std.proofs.Common.{◌≡◌, ℕ, zero, suc, ◌<◌, ◌≤◌, Bool, true, false, cond, eqb, List, [], ◌∷◌, length, get_or, map, Some, refl, sym, ap}
+use Rattle.std.proofs.Common.{◌≡◌, ℕ, zero, suc, ◌<◌, ◌≤◌, Bool, true, false, cond, eqb, List, [], ◌∷◌, length, get_or, map, Some, refl, ap}
 use Rattle.std.proofs.Common.{◌∙◌, arith, inl, inr}
 use Rattle.std.specs.Prelude.{option_map}
 use Rattle.std.specs.List.{list_any, position_or_len}
-use Rattle.std.proofs.lemmas.Bool.{cases_Bool, eqb-true, eq-eqb, and_parts, and_from}
+use Rattle.std.proofs.lemmas.Bool.{eq-eqb, and_parts, and_from}
+use Rattle.std.proofs.lemmas.Bool.Decides.{nat_tests}
 use Rattle.std.proofs.lemmas.List.{get_or_past}
 use Rattle.std.proofs.lemmas.List.Folds.{list_any_at}
 use Rattle.std.proofs.lemmas.List.Sums.{position_or_len_is}
@@ -68,11 +69,7 @@ chosen_in_order (false ∷ holding) (letter ∷ letters) = passed_in_order (chos
 -- ---- the places of letters
 
 pub none_at : {X : Type 0} (p : X → Bool) (xs : List X) (place : ℕ) (d : X) → place < length xs → list_any p xs ≡ false → p (get_or xs place d) ≡ false
-none_at p xs place d inside none =
-    elim (cases_Bool (p (get_or xs place d))) [
-      | inl e ↦ (let some = list_any_at p xs place d inside e in absurd cc)
-      | inr e ↦ e
-    ]
+none_at p xs place d inside none = grind (arith, list_any_at p xs place d inside)
 
 -- a letter that is not in a list has no place there
 not_placed : (letters : List ℕ) (letter : ℕ) → has letters letter ≡ false → position_or_len (λ l. eqb l letter) letters ≡ length letters
@@ -86,39 +83,21 @@ place_of [] place distinct inside = absurd (omega arith)
 place_of (first ∷ letters) zero distinct inside = place_here (λ (l : ℕ). eqb l first) first letters (eq-eqb first first refl)
 place_of (first ∷ letters) (suc place) distinct inside =
     let parts = distinct_parts first letters distinct in
-    let letter : ℕ = get_or letters place 0 in
-    elim (cases_Bool (eqb first letter)) [
-      | inl same ↦
-          let there = list_any_at (λ (l : ℕ). eqb l first) letters place 0 (omega arith) (eq-eqb letter first (sym (eqb-true first letter same))) in
-          let none = parts.0 in absurd cc
-      | inr differs ↦ place_later (λ (l : ℕ). eqb l letter) first letters differs ∙ ap suc (place_of letters place parts.1 (omega arith))
-    ]
+    let there = list_any_at (λ (l : ℕ). eqb l first) letters place 0 (omega arith) in
+    grind (arith, nat_tests, there, parts.0, place_of letters place parts.1 (omega arith))
 
 -- a set has a letter if it holds the letter's place
 pub has_chosen : (holding : List Bool) (letters : List ℕ) (letter : ℕ) → are_distinct letters ≡ true → length holding ≡ length letters
     → has (chosen holding letters) letter ≡ get_or holding (position_or_len (λ l. eqb l letter) letters) false
 has_chosen [] letters letter distinct long = refl
-has_chosen (holds ∷ holding) [] letter distinct long = absurd (omega arith)
 has_chosen (holds ∷ holding) (first ∷ letters) letter distinct long =
     let parts = distinct_parts first letters distinct in
+    let place : ℕ = position_or_len (λ (l : ℕ). eqb l letter) letters in
+    let here = place_here (λ (l : ℕ). eqb l letter) first letters in
+    let later = place_later (λ (l : ℕ). eqb l letter) first letters in
     let rest = has_chosen holding letters letter parts.1 (omega arith) in
-    elim (cases_Bool (eqb first letter)) [
-      | inl same ↦
-          let none : has letters letter ≡ false = ap (has letters) (sym (eqb-true first letter same)) ∙ parts.0 in
-          let past = get_or_past holding (position_or_len (λ (l : ℕ). eqb l letter) letters) false (omega (arith, not_placed letters letter none)) in
-          here holds (rest ∙ past) same ∙ ap (λ (k : ℕ). get_or (holds ∷ holding) k false) (sym (place_here (λ (l : ℕ). eqb l letter) first letters same))
-      | inr differs ↦ there holds differs ∙ rest
-          ∙ ap (λ (k : ℕ). get_or (holds ∷ holding) k false) (sym (place_later (λ (l : ℕ). eqb l letter) first letters differs))
-    ]
-  where
-    here : (holds : Bool) → has (chosen holding letters) letter ≡ false → eqb first letter ≡ true
-        → has (chosen (holds ∷ holding) (first ∷ letters)) letter ≡ holds
-    here true none same = rw same refl
-    here false none same = none
-
-    there : (holds : Bool) → eqb first letter ≡ false → has (chosen (holds ∷ holding) (first ∷ letters)) letter ≡ has (chosen holding letters) letter
-    there true differs = rw differs refl
-    there false differs = refl
+    grind (arith, nat_tests, parts.0, here, later, rest, not_placed letters letter, get_or_past holding place false)
+has_chosen holding letters letter distinct long = absurd (omega arith)
 
 -- the letters that lead to a node are those of a set
 pub letters_chosen : (node : ℕ) (letters : List ℕ) (nexts : List Next) → letters_to node letters nexts ≡ chosen (map (leads_to node) nexts) letters
@@ -137,12 +116,11 @@ chosen_none (false ∷ holding) (letter ∷ letters) none = chosen_none holding 
 
 first_chosen : (holding : List Bool) (letters : List ℕ) → length holding ≡ length letters → position_or_len (λ holds. holds) holding < length holding
     → get_or (chosen holding letters) 0 0 ≡ get_or letters (position_or_len (λ holds. holds) holding) 0
-first_chosen [] letters long some = absurd (omega arith)
-first_chosen (holds ∷ holding) [] long some = absurd (omega arith)
 first_chosen (true ∷ holding) (letter ∷ letters) long some = refl
 first_chosen (false ∷ holding) (letter ∷ letters) long some =
     let held : position_or_len (λ (h : Bool). h) (false ∷ holding) ≡ suc (position_or_len (λ (h : Bool). h) holding) = omega arith in
     rw held (first_chosen holding letters (omega arith) (omega arith))
+first_chosen holding letters long some = absurd (omega arith)
 
 -- the first letter of a set is at the first place that the set holds
 pub number_of_first : (holding : List Bool) (letters : List ℕ) → are_distinct letters ≡ true → length holding ≡ length letters

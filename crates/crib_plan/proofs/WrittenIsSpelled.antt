@@ -1,14 +1,13 @@
 -- The text that the code writes is the spelling, and no line is longer than the room that was made.
-use Rattle.std.proofs.Common.{◌≡◌, ℕ, zero, suc, ◌+◌, ◌*◌, ◌<◌, ◌≤◌, Bool, true, false, cond, eqb, List, [], ◌∷◌, ◌++◌, length, map, get_or, take, drop}
-use Rattle.std.proofs.Common.{codes, decimal, refl, sym, ap, subst, ◌∙◌, append_assoc, arith, inl, inr}
+use Rattle.std.proofs.Common.{◌≡◌, ℕ, zero, suc, ◌+◌, ◌*◌, ◌<◌, ◌≤◌, Bool, true, false, cond, List, [], ◌∷◌, ◌++◌, length, map, get_or, take, drop}
+use Rattle.std.proofs.Common.{codes, decimal, refl, sym, ap, subst, ◌∙◌, append_assoc, arith}
 use Rattle.std.proofs.lemmas.Grind.{flat_map-append}
 use Rattle.std.specs.List.{flat_map, count_by, AllByRecursion}
-use Rattle.std.proofs.lemmas.Bool.{cases_Bool, cases_eq, eq-eqb, ne_eqb, or_left, or_right}
+use Rattle.std.proofs.lemmas.Bool.Decides.{nat_tests}
 use Rattle.std.proofs.lemmas.List.{append-nil, length-append, take_more, drop_more}
-use Rattle.std.proofs.Math.Bool.{and-false}
 use Rattle.std.proofs.lemmas.List.Sums.{sum_by-cons, count_by-le-length}
 use Rattle.crib_cards.specs.Sets.{has, are_distinct}
-use Rattle.crib_cards.proofs.Members.{distinct_parts}
+use Rattle.crib_cards.proofs.Members.{has_here, has_there, distinct_parts}
 use Rattle.crib_text.specs.Spelling.{space, line_bytes, line_text, lines_text}
 use Rattle.crib_text.proofs.RoomLemmas.{five_digits}
 use Rattle.crib_plan.specs.declared.plan.Next.{Next}
@@ -26,14 +25,11 @@ use Rattle.crib_plan.proofs.WordLemmas.{later_small}
 pub letters_next : (node : ℕ) (letters : List ℕ) (nexts : List Next) (i : ℕ) (b : Bool) → leads_to node (get_or nexts i End) ≡ b →
     i < length letters → i < length nexts → letters_to node (drop i letters) (drop i nexts)
     ≡ cond b (get_or letters i 0 ∷ []) [] ++ letters_to node (drop (i + 1) letters) (drop (i + 1) nexts)
-letters_next node [] nexts i b is inside inside2 = absurd (omega arith)
-letters_next node (letter ∷ letters) [] i b is inside inside2 = absurd (omega arith)
-letters_next node (letter ∷ letters) (End ∷ nexts) zero b is inside inside2 = rw (← is) refl
-letters_next node (letter ∷ letters) (To other ∷ nexts) zero true is inside inside2 = rw is refl
-letters_next node (letter ∷ letters) (To other ∷ nexts) zero false is inside inside2 = rw is refl
+letters_next node (letter ∷ letters) (next ∷ nexts) zero b is inside inside2 = grind (arith, is)
 letters_next node (letter ∷ letters) (next ∷ nexts) (suc i) b is inside inside2 =
     let k : suc i + 1 ≡ suc (i + 1) = omega arith in
     rw k (letters_next node letters nexts i b is (omega arith) (omega arith))
+letters_next node letters nexts i b is inside inside2 = absurd (omega arith)
 
 -- the branches that are still to be written: that of the next letter, unless an earlier one has its node, and those behind it
 pub branches_next : (nexts : List Next) (i : ℕ) → i < length nexts → branches_text nexts i
@@ -91,34 +87,21 @@ few_letters node (letter ∷ letters) [] = omega arith
 few_letters node (letter ∷ letters) (next ∷ nexts) =
     let rest = few_letters node letters nexts in
     let more = sum_by-cons (λ (n : Next). cond {A = ℕ} (leads_to node n) 1 0) next nexts in
-    let here : length (letters_to node (letter ∷ letters) (next ∷ nexts)) ≡ cond {A = ℕ} (leads_to node next) 1 0 + length (letters_to node letters nexts) =
-    elim (cases_Bool (leads_to node next)) [
-      | inl e ↦ rw e (omega arith)
-      | inr e ↦ rw e (omega arith)
-    ] in
-    omega (arith, rest, more, here)
+    grind (arith, rest, more)
 
 one_apart : (node : ℕ) (nodes : List ℕ) (next : Next) → has nodes node ≡ false
     → cond {A = ℕ} (leads_to node next) 1 0 + cond {A = ℕ} (leads_in nodes next) 1 0 ≤ cond {A = ℕ} (leads_in (node ∷ nodes) next) 1 0
-one_apart node nodes End new = omega arith
-one_apart node nodes (To other) new =
-    elim (cases_eq other node) [
-      | inl is ↦ (let h : has nodes other ≡ false = ap (has nodes) is ∙ new in rw (eq-eqb other node is, eq-eqb node other (sym is), h) (omega arith))
-      | inr differs ↦ rw (ne_eqb other node differs, ne_eqb node other (λ e. differs (sym e))) (omega arith)
-    ]
+one_apart node nodes next new = grind (arith, nat_tests, new)
 
 -- branches that lead to different nodes are different branches
 all_apart : (node : ℕ) (nodes : List ℕ) (nexts : List Next) → has nodes node ≡ false
     → count_by (leads_to node) nexts + count_by (leads_in nodes) nexts ≤ count_by (leads_in (node ∷ nodes)) nexts
 all_apart node nodes [] new = omega arith
-all_apart node nodes (next ∷ nexts) new = omega (
-  arith,
-  one_apart node nodes next new,
-  all_apart node nodes nexts new,
-  sum_by-cons (λ (n : Next). cond {A = ℕ} (leads_to node n) 1 0) next nexts,
-  sum_by-cons (λ (n : Next). cond {A = ℕ} (leads_in nodes n) 1 0) next nexts,
-  sum_by-cons (λ (n : Next). cond {A = ℕ} (leads_in (node ∷ nodes) n) 1 0) next nexts,
-)
+all_apart node nodes (next ∷ nexts) new =
+    let to_node = sum_by-cons (λ (n : Next). cond {A = ℕ} (leads_to node n) 1 0) next nexts in
+    let to_nodes = sum_by-cons (λ (n : Next). cond {A = ℕ} (leads_in nodes n) 1 0) next nexts in
+    let to_all = sum_by-cons (λ (n : Next). cond {A = ℕ} (leads_in (node ∷ nodes) n) 1 0) next nexts in
+    omega (arith, one_apart node nodes next new, all_apart node nodes nexts new, to_node, to_nodes, to_all)
 
 total_small : (nodes letters : List ℕ) (nexts : List Next) → are_distinct nodes ≡ true → total_letters nodes letters nexts ≤ count_by (leads_in nodes) nexts
 unfolding total_letters
@@ -131,22 +114,13 @@ distinct_nodes : (before : List ℕ) (nexts : List Next) → are_distinct (nodes
 distinct_nodes before [] = refl
 distinct_nodes before (End ∷ nexts) = distinct_nodes before nexts
 distinct_nodes before (To node ∷ nexts) =
-    elim (cases_Bool (has before node)) [
-      | inl h ↦ rw h (distinct_nodes before nexts)
-      | inr h ↦
-          let none : has (nodes_of (node ∷ before) nexts) node ≡ false =
-          has-nodes_of (node ∷ before) nexts node ∙ rw (eq-eqb node node refl) (and-false (leads nexts node)) in
-          rw (h, none) (distinct_nodes (node ∷ before) nexts)
-    ]
+    let none = has-nodes_of (node ∷ before) nexts node in
+    grind (arith, nat_tests, none, distinct_nodes before nexts, distinct_nodes (node ∷ before) nexts)
 
 few_nodes : (before : List ℕ) (nexts : List Next) → length (nodes_of before nexts) ≤ length nexts
 few_nodes before [] = omega arith
 few_nodes before (End ∷ nexts) = omega (arith, few_nodes before nexts)
-few_nodes before (To node ∷ nexts) =
-    elim (cases_Bool (has before node)) [
-      | inl h ↦ rw h (omega (arith, few_nodes before nexts))
-      | inr h ↦ rw h (omega (arith, few_nodes (node ∷ before) nexts))
-    ]
+few_nodes before (To node ∷ nexts) = grind (arith, few_nodes before nexts, few_nodes (node ∷ before) nexts)
 
 -- each branch takes a space, its letters, a colon and a number
 words_len : (all : List Next) (nodes : List ℕ) → ((node : ℕ) → has nodes node ≡ true → node < 65536) →
@@ -154,9 +128,8 @@ words_len : (all : List Next) (nodes : List ℕ) → ((node : ℕ) → has nodes
 unfolding total_letters
 words_len all [] small = omega arith
 words_len all (node ∷ nodes) small =
-    let here : node < 65536 = small node (or_left (eqb node node) (has nodes node) (eq-eqb node node refl)) in
-    let rest = words_len all nodes (λ other h. small other (or_right (eqb node other) (has nodes other) h)) in
-    let digits = five_digits node here in
+    let rest = words_len all nodes (λ other h. small other (has_there node other nodes h)) in
+    let digits = five_digits node (small node (has_here node nodes)) in
     let one : length (spaced_branch all node) ≡ length (letters_to node letter_bytes all) + length (decimal node) + 2 =
     omega (arith, length-append (letters_to node letter_bytes all) (colon ∷ decimal node)) in
     omega (arith, length-append (spaced_branch all node) (flat_map (spaced_branch all) nodes))

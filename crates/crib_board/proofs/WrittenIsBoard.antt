@@ -51,9 +51,7 @@ pub row_written : (old : List ℕ) (number : ℕ) (row : Row)
     → ((((((((old ++ right_in 2 number) ++ codes " ") ++ side_column row.act.side) ++ codes " ") ++ move_word row.act.what)
     ++ with_space (right_in 2 row.count)) ++ with_space (right_in 2 row.points)) ++ score_columns row.scores) ++ codes "\n" ≡ old ++ row_line number row
 unfolding row_line
-row_written old number row =
-    regroup_row old (right_in 2 number) (codes " ") (side_column row.act.side) (move_word row.act.what) (with_space (right_in 2 row.count))
-    (with_space (right_in 2 row.points)) (score_columns row.scores) (codes "\n")
+row_written old number row = regroup_row old _ (codes " ") _ _ _ _ _ _
 
 pub hand_written : (old : List ℕ) (row : ShowRow)
     → (((((old ++ show_word row.crib) ++ codes " ") ++ side_column row.side) ++ with_space (right_in 2 row.points)) ++ score_columns row.scores) ++ codes "\n"

@@ -1,15 +1,12 @@
 -- Acts are refused unless they are the visible turns of a legal record without remarks.
-use Rattle.std.proofs.Common.{◌≡◌, ℕ, ◌+◌, zero, suc, Bool, true, false, cond, not, List, [], ◌∷◌, length, Option, Some, None, refl, sym, ap, subst, ◌∙◌, inl}
-use Rattle.std.proofs.Common.{inr}
-use Rattle.std.specs.List.{list_any}
+use Rattle.std.proofs.Common.{◌≡◌, ℕ, ◌+◌, zero, suc, Bool, true, false, cond, List, [], ◌∷◌, length, Option, Some, None, refl, sym, ap, subst, ◌∙◌}
+use Rattle.std.proofs.Common.{arith}
 use Rattle.std.specs.Option.{option_or}
-use Rattle.std.proofs.lemmas.Bool.{cases_Bool, cond-false, not-false, both_ways}
+use Rattle.std.proofs.lemmas.Bool.{cond_both, both_ways}
 use Rattle.crib_cards.specs.Letters.{letter_of}
-use Rattle.crib_cards.specs.Sets.{has}
 use Rattle.crib_cards.specs.Sides.{same_side}
 use Rattle.crib_cards.specs.Start.{Start, pone_of, Hands}
 use Rattle.crib_cards.specs.declared.sides.Side.{Side}
-use Rattle.crib_cards.specs.declared.letters.Letter.TheVariants.{Go}
 use Rattle.crib_cards.specs.declared.moves.Move.{Move}
 use Rattle.crib_cards.specs.declared.moves.Move.TheVariants as move
 use Rattle.crib_cards.specs.declared.moves.Act.{Act}
@@ -17,40 +14,29 @@ use Rattle.crib_play.specs.Record.{mover}
 use Rattle.crib_play.specs.Score.{is_done}
 use Rattle.crib_play.specs.Filled.{is_visible, is_silent_next}
 use Rattle.crib_play.specs.Standing.{IsStart}
-use Rattle.crib_play.specs.Legal.{IsDealt, letters_of, cards_left, fits, MayTake, MayCome, IsLegal}
+use Rattle.crib_play.specs.Legal.{IsDealt, letters_of, MayTake, MayCome, IsLegal}
 use Rattle.crib_play.specs.History.{with_silent_moves, filled_moves, AreLegal, acts_of, moves_of, act_by}
 use Rattle.crib_play.proofs.TurnFacts.{same_is, same_self}
-use Rattle.crib_play.proofs.FilledRecords.{acts_visible, acts_silent, silent_stop, silent_go}
 use Rattle.crib_play.proofs.LegalRecords.{silent_unheard, acts_more, filled_before}
 use Rattle.crib_game.specs.declared.fault.GameFault.{GameFault}
-use Rattle.crib_game.specs.declared.fault.GameFault.TheVariants.{NotHeld, DoesNotFit, MustPlay}
 use Rattle.crib_game.specs.declared.replaying.remark.Remark.{Remark}
-use Rattle.crib_game.specs.declared.replaying.remark.Remark.TheVariants.{Fine, Astray}
+use Rattle.crib_game.specs.declared.replaying.remark.Remark.TheVariants.{Fine}
 use Rattle.crib_game.specs.Laws.{NoneStrays}
 use Rattle.crib_game.specs.Replay.{Judge, first_fault, move_fault, act_fault, acts_fault}
 
 -- ---- one act
 pub cond_none : {A : Type 0} (b : Bool) (first : A) (rest : Option A) → cond b (Some first) rest ≡ None → (b ≡ false) × (rest ≡ None)
-cond_none true first rest e = cc
-cond_none false first rest e = (refl, e)
-
-none_cond : (b : Bool) (fault : GameFault) (rest : Option GameFault) → b ≡ false → rest ≡ None → cond b (Some fault) rest ≡ None
-none_cond b fault rest e f = cond-false b (Some fault) rest e ∙ f
+cond_none b first rest e = grind arith
 
 move_right : (hands : Hands) (side : Side) (turn : Move) (past : List Move) (place : ℕ) → move_fault hands side turn past place ≡ None →
     MayTake hands side turn past
-move_right hands side (move.Card card) past place e =
-    let held = cond_none (not (has (cards_left hands side past) card)) (NotHeld place) _ e in
-    let fit = cond_none (not (fits past card)) (DoesNotFit place) None held.1 in
-    (not-false (has (cards_left hands side past) card) held.0, not-false (fits past card) fit.0)
-move_right hands side move.Go past place e = (cond_none (list_any (fits past) (cards_left hands side past)) (MustPlay place) None e).0
+move_right hands side (move.Card card) past place e = grind (arith, e)
+move_right hands side move.Go past place e = grind (arith, e)
 
 right_move : (hands : Hands) (side : Side) (turn : Move) (past : List Move) (place : ℕ) → MayTake hands side turn past →
     move_fault hands side turn past place ≡ None
-right_move hands side (move.Card card) past place may =
-    none_cond (not (has (cards_left hands side past) card)) (NotHeld place) _ (ap not may.0)
-    (none_cond (not (fits past card)) (DoesNotFit place) None (ap not may.1) refl)
-right_move hands side move.Go past place may = none_cond (list_any (fits past) (cards_left hands side past)) (MustPlay place) None may refl
+right_move hands side (move.Card card) past place may = grind (arith, may.0, may.1)
+right_move hands side move.Go past place may = grind (arith, may)
 
 -- an act of the side that is asked, which may take this turn and has no remark
 pub record IsRight (judge : Judge) (start : Start) (hands : Hands) (act : Act) (past : List Move) : Type 0 where
@@ -60,11 +46,7 @@ pub record IsRight (judge : Judge) (start : Start) (hands : Hands) (act : Act) (
 
 first_none : (remark : Remark) (done asked : Bool) (wrong : Option GameFault) (place : ℕ) → first_fault remark done asked wrong place ≡ None →
     (remark ≡ Fine) × (done ≡ false) × (asked ≡ true) × (wrong ≡ None)
-first_none Fine false true wrong place e = (refl, refl, refl, e)
-first_none Astray true asked wrong place e = cc
-first_none Astray false true wrong place e = cc
-first_none Astray false false wrong place e = cc
-first_none remark done asked wrong place e = cc
+first_none remark done asked wrong place e = grind (arith, e)
 
 pub act_right : (judge : Judge) (start : Start) (hands : Hands) (act : Act) (past : List Move) (place : ℕ) → act_fault judge start hands act past place
     ≡ None → IsRight judge start hands act past
@@ -89,8 +71,7 @@ right_act judge start hands turn past place follows may =
 
 -- ---- all acts
 pub option_or_none : (earlier later : Option GameFault) → option_or earlier later ≡ None → (earlier ≡ None) × (later ≡ None)
-option_or_none (Some fault) later e = cc
-option_or_none None later e = (refl, e)
+option_or_none earlier later e = grind arith
 
 -- if no act is refused, each was taken by the rules
 pub legal_acts : (judge : Judge) (start : Start) (hands : Hands) (acts : List Act) → acts_fault judge start hands acts ≡ None →
@@ -120,14 +101,8 @@ silent_stays : (judge : Judge) (n : ℕ) (start : Start) (past : List Move) → 
     NoneStrays judge (pone_of start) (with_silent_moves n start past)
 silent_stays judge zero start past none = none
 silent_stays judge (suc n) start past none =
-    let N : List Move → Type 0 = λ moves. NoneStrays judge (pone_of start) moves in
-    elim (cases_Bool (is_silent_next start (letters_of past))) [
-      | inl s ↦
-          subst N (sym (silent_go n start past s))
-          (silent_stays judge n start (move.Go ∷ past)
-          (none, λ heard. absurd (both_ways (is_visible (pone_of start) Go (letters_of past)) (silent_unheard start past s) heard)))
-      | inr s ↦ subst N (sym (silent_stop (suc n) start past s)) none
-    ]
+    cond_both (is_silent_next start (letters_of past)) _ _ (λ (moves : List Move). NoneStrays judge (pone_of start) moves)
+    (λ s. silent_stays judge n start (move.Go ∷ past) (none, λ heard. absurd (both_ways _ (silent_unheard start past s) heard))) (λ s. none)
 
 pub acts_stay : (judge : Judge) (start : Start) (hands : Hands) (acts : List Act) → acts_fault judge start hands acts ≡ None →
     NoneStrays judge (pone_of start) (filled_moves start (moves_of acts))
@@ -147,13 +122,8 @@ no_fault judge start hands (turn ∷ past) is dealt legal none =
     let pone = pone_of start in
     let before = acts_of pone past in
     let earlier = no_fault judge start hands past is dealt legal.0 none.0 in
-    elim (cases_Bool (is_visible pone (letter_of turn) (letters_of past))) [
-      | inl v ↦
-          let same : filled_moves start (moves_of before) ≡ past = filled_before start hands turn past is dealt legal.0 legal.1 v in
-          ap (acts_fault judge start hands) (acts_visible pone turn past v)
-          ∙ ap (λ (fault : Option GameFault). option_or fault (act_fault judge start hands (act_by pone turn past) (filled_moves start (moves_of before))
-          (length before + 1))) earlier
-          ∙ ap (λ (seen : List Move). act_fault judge start hands (act_by pone turn past) seen (length before + 1)) same
-          ∙ right_act judge start hands turn past (length before + 1) (none.1 v) legal.1
-      | inr v ↦ ap (acts_fault judge start hands) (acts_silent pone turn past v) ∙ earlier
-    ]
+    cond_both (is_visible pone (letter_of turn) (letters_of past)) _ _ (λ (acts : List Act). acts_fault judge start hands acts ≡ None)
+    (λ v.
+    let same : filled_moves start (moves_of before) ≡ past = filled_before start hands turn past is dealt legal.0 legal.1 v in
+    rw (earlier, same) (right_act judge start hands turn past (length before + 1) (none.1 v) legal.1))
+    (λ v. earlier)

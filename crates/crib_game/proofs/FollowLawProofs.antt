@@ -1,10 +1,9 @@
 -- The laws of following a plan, as `specs/FollowLaws` states them.
-use Rattle.std.proofs.Common.{◌≡◌, ℕ, Bool, true, false, not, ◌&&◌, ◌||◌, List, [], ◌∷◌, Option, Some, None, Result, Ok, refl, sym, ap, subst, ◌∙◌, inl}
-use Rattle.std.proofs.Common.{inr}
+use Rattle.std.proofs.Common.{◌≡◌, true, false, ◌||◌, List, Option, None, Result, Ok, sym, ap, subst, ◌∙◌, inl}
+use Rattle.std.proofs.Common.{inr, arith}
 use Rattle.std.specs.List.{list_any}
-use Rattle.std.proofs.lemmas.Bool.{and_parts, or_cases}
-use Rattle.crib_cards.proofs.Members.{has_here, has_there}
-use Rattle.crib_cards.specs.Sets.{has}
+use Rattle.std.proofs.lemmas.Bool.{or_cases}
+use Rattle.crib_cards.proofs.Members.{any_found}
 use Rattle.crib_cards.specs.Start.{Start, pone_of, Hands}
 use Rattle.crib_cards.specs.Sides.{same_side}
 use Rattle.crib_cards.specs.declared.sides.Side.{Side}
@@ -12,7 +11,6 @@ use Rattle.crib_cards.specs.declared.sides.Side.TheVariants.{Owner}
 use Rattle.crib_cards.specs.declared.moves.Move.{Move}
 use Rattle.crib_cards.specs.declared.moves.Act.{Act}
 use Rattle.crib_play.specs.Record.{mover, is_heard}
-use Rattle.crib_play.specs.Score.{is_done}
 use Rattle.crib_play.specs.Filled.{is_silent_next}
 use Rattle.crib_play.specs.Legal.{IsDealt, letters_of, cards_left, fits, IsLegal}
 use Rattle.crib_play.specs.History.{filled_moves, moves_of}
@@ -20,12 +18,11 @@ use Rattle.crib_play.proofs.TurnFacts.{same_is, heard_card, play_of}
 use Rattle.crib_play.proofs.FilledRecords.{filled_whole, not_silent_heard, not_silent_done}
 use Rattle.crib_problem.specs.Setup.{Setup, IsSetup, start_of, hands_of}
 use Rattle.crib_plan.specs.declared.plan.Node.{Node}
-use Rattle.crib_plan.specs.Places.{stated_card}
 use Rattle.crib_game.specs.declared.following.ending.Ending.{Ending}
 use Rattle.crib_game.specs.declared.fault.GameFault.{GameFault}
 use Rattle.crib_game.specs.declared.section.game.Game.{Game}
 use Rattle.crib_game.specs.Replay.{record_of, unless_fault, is_done_for}
-use Rattle.crib_game.specs.Following.{place_of, is_playable, is_stuck}
+use Rattle.crib_game.specs.Following.{is_stuck}
 use Rattle.crib_game.specs.Followed.{IsRecordUnder, follow_fault, ending_of}
 use Rattle.crib_game.specs.FollowLaws.{StraysLaw, EndedLaw, AnswerLaw}
 use Rattle.crib_problem.proofs.StartLemmas.{started, hands_dealt}
@@ -40,32 +37,16 @@ strays_law problem plan played = (
 )
 
 -- ---- a record that is done or stuck is filled
-record IsSome (f : ℕ → Bool) (xs : List ℕ) : Type 0 where
-  pub card : ℕ
-  pub held : has xs card ≡ true
-  pub passes : f card ≡ true
-
-some_of : (f : ℕ → Bool) (xs : List ℕ) → list_any f xs ≡ true → IsSome f xs
-some_of f [] e = cc
-some_of f (x ∷ xs) e =
-    elim (or_cases (f x) (list_any f xs) e) [
-      | inl here ↦ record { card = x; held = has_here x xs; passes = here }
-      | inr there ↦ (let s = some_of f xs there in record { card = s.card; held = has_there x s.card xs s.held; passes = s.passes })
-    ]
-
 stuck_heard : (plan : List Node) (before : List Act) (start : Start) (hands : Hands) (played : List Move) → IsDealt hands → IsLegal start hands played →
     is_stuck plan before start hands played ≡ true →
     is_heard (pone_of start) (mover (pone_of start) (letters_of played)) (letters_of played) ≡ true
 stuck_heard plan before start hands played dealt legal stuck =
     let who = mover (pone_of start) (letters_of played) in
-    let any = list_any (fits played) (cards_left hands Owner played) in
-    let stated = not (is_playable hands played (stated_card plan (place_of plan before (pone_of start) played))) in
-    let turn = not (is_done start (letters_of played)) && same_side who Owner in
-    let fitting = (and_parts (turn && any) stated stuck).0 in
-    let some = some_of (fits played) (cards_left hands Owner played) (and_parts turn any fitting).1 in
-    let owner = same_is who Owner (and_parts (not (is_done start (letters_of played))) (same_side who Owner) (and_parts turn any fitting).0).1 in
+    let parts : (same_side who Owner ≡ true) × (list_any (fits played) (cards_left hands Owner played) ≡ true) = grind (arith, stuck) in
+    let some = any_found (fits played) (cards_left hands Owner played) parts.1 in
+    let owner = same_is who Owner parts.0 in
     let H : Side → Type 0 = λ side. is_heard (pone_of start) side (letters_of played) ≡ true in
-    subst H (sym owner) (heard_card start hands played (play_of start hands dealt played legal) Owner some.card some.held some.passes)
+    subst H (sym owner) (heard_card start hands played (play_of start hands dealt played legal) Owner some.0 some.1 some.2)
 
 ended_filled : (problem : Setup) (plan : List Node) (game : Game) (played : List Move) → IsSetup problem → IsRecordUnder problem plan game played →
     (is_done_for problem played || is_stuck plan problem.played (start_of problem) (hands_of problem game.opp) played) ≡ true → record_of problem game ≡ played
@@ -90,8 +71,7 @@ ended_law problem plan game played is of ended =
 -- ---- the answers
 answered : (fault : Option GameFault) (value ending : Ending) → ◌≡◌ {A = Result Ending GameFault} (unless_fault fault value) (Ok ending) → (fault ≡ None) ×
     (value ≡ ending)
-answered None value ending e = (refl, cc)
-answered (Some fault) value ending e = cc
+answered fault value ending e = grind arith
 
 pub answer_law : AnswerLaw
 answer_law problem plan game ending is six e =

@@ -1,10 +1,10 @@
 -- A game is refused unless its cards are a deal and its acts are the visible turns of a legal record.
-use Rattle.std.proofs.Common.{◌≡◌, ℕ, ◌+◌, ◌≤◌, Bool, true, false, not, ◌||◌, eqb, ltb, List, [], ◌∷◌, ◌++◌, length, Option, Some, None, Ok}
-use Rattle.std.proofs.Common.{refl, sym, ap, subst, ◌∙◌, inl, inr, arith}
+use Rattle.std.proofs.Common.{◌≡◌, ℕ, ◌+◌, ◌≤◌, true, false, not, List, [], ◌∷◌, ◌++◌, length, Option, Some, None, Ok}
+use Rattle.std.proofs.Common.{refl, sym, ap, subst, ◌∙◌, arith}
 use Rattle.std.specs.List.{list_all}
 use Rattle.std.specs.Option.{option_or}
-use Rattle.std.proofs.lemmas.Bool.{cases_Bool, cases_lt, cond-true, cond-false, lt-ltb, le-ltb, and_parts, and_from, or_parts}
-use Rattle.std.proofs.lemmas.Bool.{eq-eqb, eqb-true, not-true, both_ways}
+use Rattle.std.proofs.lemmas.Bool.{not-true}
+use Rattle.std.proofs.lemmas.Bool.Decides.{nat_tests}
 use Rattle.crib_cards.specs.Cards.{IsCard}
 use Rattle.crib_cards.specs.Deals.{six_cards}
 use Rattle.crib_cards.specs.Sets.{has, are_distinct}
@@ -31,13 +31,12 @@ use Rattle.crib_game.specs.declared.section.game.Game.{Game}
 use Rattle.crib_game.specs.Replay.{Judge, by_rules, first_seen, deal_fault, act_fault, acts_fault, few_fault, acts_back, game_fault_by, game_fault}
 use Rattle.crib_game.specs.Replay.{record_of, unless_fault, IsRecordOf}
 use Rattle.crib_game.specs.Laws.{NoneStrays}
-use Rattle.crib_game.specs.declared.fault.GameFault.TheVariants.{NotAsPlayed}
 use Rattle.crib_game.specs.Spelling.{AreSixCards}
 use Rattle.crib_game.proofs.ActFaults.{cond_none, option_or_none, act_right, legal_acts, acts_filled, acts_stay, no_fault}
 use Rattle.crib_game.proofs.OpeningActs.{AreAsPlayed, enough_begin, begin_played, none_from, none_to}
 use Rattle.crib_problem.proofs.CardLemmas.{all_parts}
 use Rattle.crib_game.proofs.JudgeLemmas.{AreCards}
-use Rattle.crib_cards.proofs.Members.{has_here, has_there, has_cases, all_has, all_from}
+use Rattle.crib_cards.proofs.Members.{has_here, has_there, all_has, all_from, distinct_parts}
 use Rattle.crib_problem.proofs.StartLemmas.{each_has, started, hands_dealt}
 
 -- ---- cards that are all different and not known
@@ -46,45 +45,22 @@ abbrev AreNew : List ℕ → List ℕ → Type 0
 AreNew known cards = (card : ℕ) → has cards card ≡ true → has known card ≡ false
 
 not_here : (known cards : List ℕ) (card : ℕ) → AreNew (card ∷ known) cards → has cards card ≡ false
-not_here known cards card new =
-    elim (cases_Bool (has cards card)) [
-      | inr none ↦ none
-      | inl is ↦ (let apart = (or_parts (eqb card card) (has known card) (new card is)).0 in let self : eqb card card ≡ true = eq-eqb card card refl in cc)
-    ]
+not_here known cards card new = grind (arith, nat_tests, new card)
 
 pub new_distinct : (known cards : List ℕ) (place : ℕ) → first_seen known place cards ≡ None → AreNew known cards × (are_distinct cards ≡ true)
 new_distinct known [] place e = ((λ card is. cc), refl)
 new_distinct known (card ∷ cards) place e =
     let parts = cond_none (has known card) place (first_seen (card ∷ known) (place + 1) cards) e in
-    let later = new_distinct (card ∷ known) cards (place + 1) parts.1 in (
-      (λ other is. elim (has_cases card other cards is) [
-        | inl here ↦ ap (has known) (sym here) ∙ parts.0
-        | inr there ↦ (or_parts (eqb card other) (has known other) (later.0 other there)).1
-      ]),
-      and_from (not (has cards card)) (are_distinct cards) (ap not (not_here known cards card later.0)) later.1,
-    )
+    let later = new_distinct (card ∷ known) cards (place + 1) parts.1 in
+    let once = not_here known cards card later.0 in
+    (λ other is. grind (arith, nat_tests, is, parts.0, later.0 other), grind (arith, once, later.1))
 
 pub none_seen : (known cards : List ℕ) (place : ℕ) → AreNew known cards → are_distinct cards ≡ true → first_seen known place cards ≡ None
 none_seen known [] place new distinct = refl
 none_seen known (card ∷ cards) place new distinct =
-    let parts = and_parts (not (has cards card)) (are_distinct cards) distinct in
-    let once : has cards card ≡ false = not-true (has cards card) parts.0 in
-    cond-false (has known card) (Some place) (first_seen (card ∷ known) (place + 1) cards)
-    (new card (has_here card cards))
-    ∙ none_seen (card ∷ known) cards (place + 1) (λ other is. both (eqb card other) (has known other) (apart other is)
-    (new other (has_there card other cards is))) parts.1
-  where
-    both : (a b : Bool) → a ≡ false → b ≡ false → (a || b) ≡ false
-    both true b e f = e
-    both false b e f = f
-
-    apart : (other : ℕ) → has cards other ≡ true → eqb card other ≡ false
-    apart other is =
-        elim (cases_Bool (eqb card other)) [
-          | inr differ ↦ differ
-          | inl same ↦ (let absent : has cards other ≡ false = ap (has cards) (sym (eqb-true card other same))
-              ∙ not-true (has cards card) (and_parts (not (has cards card)) (are_distinct cards) distinct).0 in absurd (both_ways (has cards other) absent is))
-        ]
+    let parts = distinct_parts card cards distinct in
+    rw (new card (has_here card cards))
+    (none_seen (card ∷ known) cards (place + 1) (λ other is. grind (arith, nat_tests, is, parts.0, new other (has_there card other cards is))) parts.1)
 
 -- ---- deals
 pub deal_is : (problem : Setup) (dealt : Dealt) → AreSixCards dealt → first_seen (known_cards problem) 1 (six_cards dealt) ≡ None →
@@ -116,30 +92,19 @@ hands_are problem dealt is six = record {
 
 -- ---- a game
 pub first_seen_none : (place : Option ℕ) → deal_fault place ≡ None → place ≡ None
-first_seen_none None e = refl
-first_seen_none (Some place) e = cc
+first_seen_none place e = grind arith
 
 pub no_fault_in_acts : (judge : Judge) (problem : Setup) (game : Game) → first_seen (known_cards problem) 1 (six_cards game.opp) ≡ None →
     acts_fault judge (start_of problem) (hands_of problem game.opp) (acts_back game) ≡ None →
     game_fault_by judge problem game ≡ few_fault problem.played game.acts.items
-no_fault_in_acts judge problem game none clear =
-    ap (λ (place : Option ℕ). option_or (deal_fault place) (option_or (acts_fault judge (start_of problem) (hands_of problem game.opp) (acts_back game))
-    (few_fault problem.played game.acts.items))) none
-    ∙ ap (λ (first : Option GameFault). option_or first (few_fault problem.played game.acts.items)) clear
+no_fault_in_acts judge problem game none clear = rw (none, clear) refl
 
 -- there are enough acts, or too few
 pub enough_acts : (played acts : List Act) → length played ≤ length acts → few_fault played acts ≡ None
-enough_acts played acts enough = cond-false (ltb (length acts) (length played)) (Some (NotAsPlayed (length acts + 1))) None
-    (le-ltb (length acts) (length played) enough)
+enough_acts played acts enough = grind (arith, nat_tests)
 
 pub acts_enough : (played acts : List Act) → few_fault played acts ≡ None → length played ≤ length acts
-acts_enough played acts e =
-    elim (cases_lt (length acts) (length played)) [
-      | inl few ↦ (let some : None ≡ Some (NotAsPlayed (length acts + 1)) =
-          sym e ∙ cond-true (ltb (length acts) (length played)) (Some (NotAsPlayed (length acts + 1))) None (lt-ltb (length acts) (length played) few) in
-          absurd cc)
-      | inr enough ↦ enough
-    ]
+acts_enough played acts e = grind (arith, nat_tests, e)
 
 -- the answer without a refusal
 pub accepted_is : {A : Type 0} (found : Option GameFault) (given value : A) → found ≡ None → given ≡ value → Ok given ≡ unless_fault found value
@@ -178,22 +143,12 @@ theirs_held judge start hands (act ∷ before) e card h =
     by_act who Opponent move.Go is may rest k = rest k
     by_act who Opponent (move.Card first) is may rest k =
         let T : Side → Type 0 = λ side. MayTake hands side (move.Card first) (filled_moves start (moves_of before)) in
-        let held = (subst T (sym is) may).0 in
-        elim (has_cases first card (cards_by Opponent before) k) [
-          | inl here ↦ ap (has hands.opponent) (sym here)
-              ∙ has-filter (λ c. not (has (cards_of (filled_moves start (moves_of before))) c)) hands.opponent first held
-          | inr there ↦ rest there
-        ]
+        let held = has-filter (λ c. not (has (cards_of (filled_moves start (moves_of before))) c)) hands.opponent first (subst T (sym is) may).0 in
+        grind (arith, nat_tests, k, rest, held)
 
 cards_more : (later before : List Act) (card : ℕ) → has (cards_by Opponent before) card ≡ true → has (cards_by Opponent (later ++ before)) card ≡ true
 cards_more [] before card h = h
-cards_more (act ∷ later) before card h = by_act act.side act.what (cards_more later before card h)
-  where
-    by_act : (side : Side) (what : Move) → has (cards_by Opponent (later ++ before)) card ≡ true →
-        has (cards_by Opponent (record { side = side; what = what } ∷ later ++ before)) card ≡ true
-    by_act Owner what rest = rest
-    by_act Opponent move.Go rest = rest
-    by_act Opponent (move.Card first) rest = has_there first card (cards_by Opponent (later ++ before)) rest
+cards_more (act ∷ later) before card h = grind (arith, nat_tests, cards_more later before card h)
 
 fixed_held : (judge : Judge) (problem : Setup) (game : Game) → acts_fault judge (start_of problem) (hands_of problem game.opp) (acts_back game) ≡ None →
     BeginsAsPlayed problem (acts_back game) →

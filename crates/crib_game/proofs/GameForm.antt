@@ -6,14 +6,12 @@ use Rattle.crib_cards.specs.Cards.{IsCard}
 use Rattle.crib_cards.specs.CardText.{card_text}
 use Rattle.crib_text.proofs.SpellingLemmas.{is_word}
 use Rattle.crib_text.proofs.Forms.{AreWordsForm, IsForm, keyword_form, each_form, header_form, line_form, each_line_form, none_form, then_form, form_as}
-use Rattle.crib_text.proofs.FormLaws.{one_spelling, lines_apart, texts_apart, texts_differ, read_again, lines_cut_short, text_cut_short}
 use Rattle.crib_problem.specs.Spelling.{act_line}
 use Rattle.crib_problem.proofs.CardLemmas.{all_parts, all-append}
 use Rattle.crib_problem.proofs.ActForms.{card_form, act_form, count_form}
 use Rattle.crib_game.specs.declared.section.game.Game.{Game}
-use Rattle.crib_game.specs.Spelling.{IsGame, game_lines, game_text}
+use Rattle.crib_game.specs.Spelling.{IsGame, game_lines}
 use Rattle.crib_game.specs.Reading.{cards_in_line, game_at}
-use Rattle.crib_game.specs.SpellingLaws.{OneSpellingLaw, SpellingLaw, PrefixLaw, LinesLaw, ReadAgainLaw, LinesCutLaw, TextCutLaw}
 
 cards_form : (keyword : List ℕ) (count : ℕ) → is_word keyword ≡ true → AreWordsForm (cards_in_line keyword count) (λ cards. keyword ∷ map card_text cards)
     (λ cards. (length (map card_text cards) ≡ count) × AllByRecursion IsCard cards) (λ cards. length keyword + 1 + 3 * length cards)
@@ -46,39 +44,8 @@ game_form =
       moves = is.1.1.1.1.0.1;
     })
     (λ game is.
-    let cards = all_parts game.opp.hold game.opp.throw is.six.cards in (
-      tt,
-      (
-        (length-map game.opp.hold card_text ∙ is.six.held, cards.0),
-        (
-          (length-map game.opp.throw card_text ∙ is.six.thrown, cards.1),
-          (is.few, ((refl, is.moves), refl)),
-        ),
-      ),
-    ))
+    let cards = all_parts game.opp.hold game.opp.throw is.six.cards in
+    let held = length-map game.opp.hold card_text ∙ is.six.held in
+    let thrown = length-map game.opp.throw card_text ∙ is.six.thrown in
+    assumption (cards, held, thrown))
     (λ game is. rw (append-nil (map act_line game.acts.items)) refl) (λ game is. omega (arith, is.six.held, is.six.thrown, is.few))
-
-pub one_spelling_law : OneSpellingLaw
-one_spelling_law game lines after e = one_spelling game_form game lines 1 after e
-
-pub lines_law : LinesLaw
-lines_law = lines_apart game_form
-
-pub prefix_law : PrefixLaw
-unfolding game_text
-prefix_law = texts_apart game_form
-
-pub spelling_law : SpellingLaw
-unfolding game_text
-spelling_law = texts_differ game_form
-
-pub read_again_law : ReadAgainLaw
-unfolding game_text game_lines
-read_again_law game is = read_again game_form game _ is (omega (arith, length-map game.acts.items act_line))
-
-pub lines_cut_law : LinesCutLaw
-lines_cut_law = lines_cut_short game_form
-
-pub text_cut_law : TextCutLaw
-unfolding game_text
-text_cut_law = text_cut_short game_form

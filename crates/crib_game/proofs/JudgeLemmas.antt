@@ -1,8 +1,7 @@
 -- Judging an act by the round and the cards that are left gives the same refusal as judging it by the record.
-use Rattle.std.proofs.Common.{◌≡◌, ℕ, ◌+◌, ◌≤◌, ◌<◌, Bool, true, false, cond, not, List, [], ◌∷◌, ◌++◌, length, get_or, take, drop, reverse, Option}
+use Rattle.std.proofs.Common.{◌≡◌, ℕ, ◌+◌, ◌≤◌, ◌<◌, Bool, true, cond, not, List, [], ◌∷◌, ◌++◌, length, get_or, take, drop, reverse, Option}
 use Rattle.std.proofs.Common.{Some, None, refl, sym, ap, subst, ◌∙◌, arith}
 use Rattle.std.specs.List.{filter, AllByRecursion}
-use Rattle.std.specs.Option.{option_or}
 use Rattle.std.proofs.lemmas.List.{take_more, reverse-append, length-reverse, length-take-le}
 use Rattle.crib_cards.specs.Cards.{IsCard, card_value}
 use Rattle.crib_cards.specs.Letters.{letter_of}
@@ -26,12 +25,10 @@ use Rattle.crib_play.proofs.TurnFacts.{play_of, filter_all}
 use Rattle.crib_play.proofs.FilledRecords.{letters_filled, may_show, cards_filled}
 use Rattle.crib_play.proofs.LegalRecords.{legal_filled, visible_after}
 use Rattle.crib_game.specs.declared.fault.GameFault.{GameFault}
-use Rattle.crib_game.specs.declared.fault.GameFault.TheVariants.{NotHeld, DoesNotFit, MustPlay, Strays}
 use Rattle.crib_game.specs.declared.replaying.judging.HeldCards.{HeldCards}
 use Rattle.crib_game.specs.declared.replaying.judging.JudgedGame.{JudgedGame}
 use Rattle.crib_game.specs.declared.replaying.remark.Remark.{Remark}
-use Rattle.crib_game.specs.declared.replaying.remark.Remark.TheVariants.{Fine, NotPlayed, Astray}
-use Rattle.crib_game.specs.Replay.{Judge, turn_fault, first_fault, move_fault_at, move_fault, act_fault, acts_fault}
+use Rattle.crib_game.specs.Replay.{Judge, first_fault, move_fault_at, move_fault, act_fault, acts_fault}
 use Rattle.crib_game.specs.Private.Judging.{is_over, held_cards_of, held_cards_after, left_by, fault_at, MayShowAt}
 use Rattle.crib_game.specs.Private.Walking.{IsJudged}
 use Rattle.crib_game.proofs.ActFaults.{IsRight, act_right, legal_acts}
@@ -70,29 +67,15 @@ held_step hands (move.Card card) seen =
 held_step hands move.Go seen = refl
 
 -- ---- one act
-turn_step : (done : Bool) (who side : Side) (place : ℕ) →
-    turn_fault (is_over (cond done turns.Over (side_asked who))) (asks (cond done turns.Over (side_asked who)) side) place
-    ≡ turn_fault done (same_side side who) place
-turn_step true who side place = refl
-turn_step false Owner Owner place = refl
-turn_step false Owner Opponent place = refl
-turn_step false Opponent Owner place = refl
-turn_step false Opponent Opponent place = refl
-
 asked_step : (remark : Remark) (done : Bool) (who side : Side) (wrong : Option GameFault) (place : ℕ) →
     first_fault remark (is_over (cond done turns.Over (side_asked who))) (asks (cond done turns.Over (side_asked who)) side) wrong place
     ≡ first_fault remark done (same_side side who) wrong place
-asked_step Fine done who side wrong place = ap (λ (turn : Option GameFault). option_or turn wrong) (turn_step done who side place)
-asked_step NotPlayed done who side wrong place = refl
-asked_step Astray done who side wrong place = ap (λ (turn : Option GameFault). option_or turn (Some (Strays place))) (turn_step done who side place)
+asked_step remark done who side wrong place = grind arith
 
 move_step : (hands : Hands) (side : Side) (turn : Move) (past : List Move) (place : ℕ) → AreCards hands →
     move_fault_at (count_of (pile_of (letters_of past))) (set_of (cards_left hands side past)) turn place ≡ move_fault hands side turn past place
-move_step hands side (move.Card card) past place are =
-    ap (λ (b : Bool). cond (not b) (Some (NotHeld place)) (cond (not (fits past card)) (Some (DoesNotFit place)) None))
-    (has-set_of (cards_left hands side past) card (all_left hands side past are))
-move_step hands side move.Go past place are =
-    ap (λ (b : Bool). cond b (Some (MustPlay place)) None) (any-set_of (fits past) (cards_left hands side past) (all_left hands side past are))
+move_step hands side (move.Card card) past place are = rw (has-set_of (cards_left hands side past) card (all_left hands side past are)) refl
+move_step hands side move.Go past place are = rw (any-set_of (fits past) (cards_left hands side past) (all_left hands side past are)) refl
 
 -- the round after some turns represents the filled record of their moves
 pub shows_filled : (table : Standing) (start : Start) (seen : List Move) → table ≡ standing_after start (filled_record start (letters_of seen)) →
@@ -117,16 +100,12 @@ fault_is judge table start hands act seen place are shows =
 pub fault_stays : (judge : Judge) (start : Start) (hands : Hands) (later before : List Act) (fault : GameFault) →
     acts_fault judge start hands before ≡ Some fault → acts_fault judge start hands (later ++ before) ≡ Some fault
 fault_stays judge start hands [] before fault e = e
-fault_stays judge start hands (act ∷ later) before fault e =
-    ap (λ (earlier : Option GameFault). option_or earlier (act_fault judge start hands act (filled_moves start (moves_of (later ++ before)))
-    (length (later ++ before) + 1))) (fault_stays judge start hands later before fault e)
+fault_stays judge start hands (act ∷ later) before fault e = rw (fault_stays judge start hands later before fault e) refl
 
 pub fault_here : (judge : Judge) (start : Start) (hands : Hands) (act : Act) (before : List Act) (fault : Option GameFault) →
     acts_fault judge start hands before ≡ None →
     act_fault judge start hands act (filled_moves start (moves_of before)) (length before + 1) ≡ fault → acts_fault judge start hands (act ∷ before) ≡ fault
-fault_here judge start hands act before fault none is =
-    ap (λ (earlier : Option GameFault). option_or earlier (act_fault judge start hands act (filled_moves start (moves_of before)) (length before + 1))) none
-    ∙ is
+fault_here judge start hands act before fault none is = rw none is
 
 -- ---- the acts so far
 pub judged_start : {judge : Judge} {start : Start} {hands : Hands} (walk : JudgedGame) → StandsFor walk.round start [] →
@@ -157,10 +136,9 @@ module _ {judge : Judge} {start : Start} {hands : Hands} {walk : JudgedGame} {be
         visible_after start hands act.what (moves_of before) j.stands.started dealt (legal_acts judge start hands before j.clear) judged_right.may
 
     shows_at : (turn : Move) → MayShow (letter_of turn) (letters_of past) → MayShowAt turn walk.round
-    shows_at (move.Card card) may = let P : Standing → Type 0 = λ x. count_of x.pile + card_value card ≤ 31 in
-        subst P (sym (shows_filled walk.round start (moves_of before) j.stands.shows)) may
-    shows_at move.Go may = let P : Standing → Type 0 = λ x. 22 ≤ count_of x.pile in
-        subst P (sym (shows_filled walk.round start (moves_of before) j.stands.shows)) may
+    shows_at (move.Card card) may =
+        subst (λ (x : Standing). count_of x.pile + card_value card ≤ 31) (sym (shows_filled walk.round start (moves_of before) j.stands.shows)) may
+    shows_at move.Go may = subst (λ (x : Standing). 22 ≤ count_of x.pile) (sym (shows_filled walk.round start (moves_of before) j.stands.shows)) may
 
     pub judged_shows : IsDealt hands → MayShowAt act.what walk.round
     judged_shows dealt =

@@ -1,7 +1,7 @@
 -- The laws, as `specs/Laws` states them.
 use Rattle.std.proofs.Common.{◌≡◌, ℕ, ◌+◌, true, false, ◌||◌, eqb, List, [], ◌∷◌, ◌++◌, length, reverse, Option, Some, None, ◌⊎◌, refl, sym, ap, ◌∙◌, inl}
 use Rattle.std.proofs.Common.{inr, arith}
-use Rattle.std.proofs.lemmas.Bool.{cases_Bool, cond-true, cond-false, or_left}
+use Rattle.std.proofs.lemmas.Bool.{cases_Bool, or_left}
 use Rattle.crib_cards.specs.Sets.{has}
 use Rattle.crib_cards.specs.Start.{Start, pone_of, Hands}
 use Rattle.crib_problem.specs.Setup.{start_of, CanSay}
@@ -57,19 +57,12 @@ no_fault_law judge start hands played is none = no_fault judge start hands playe
 -- ---- the first refusal
 option_or_some : (earlier later : Option GameFault) (fault : GameFault) → option_or earlier later ≡ Some fault → (earlier ≡ Some fault) ⊎
     ((earlier ≡ None) × (later ≡ Some fault))
-option_or_some (Some first) later fault e = inl e
-option_or_some None later fault e = inr (refl, e)
+option_or_some earlier later fault e = grind arith
 
 first_fault_from : (judge : Judge) (start : Start) (hands : Hands) (act : Act) (before : List Act) (fault : GameFault) →
     IsFirst judge start hands before fault → IsFirst judge start hands (act ∷ before) fault
-first_fault_from judge start hands act before fault is = record {
-  later = act ∷ is.later;
-  act = is.act;
-  before = is.before;
-  here = ap (λ (acts : List Act). act ∷ acts) is.here;
-  none_before = is.none_before;
-  of_the_act = is.of_the_act;
-}
+first_fault_from judge start hands act before fault is =
+    record { later = act ∷ is.later; act = is.act; before = is.before; here = cc; none_before = is.none_before; of_the_act = is.of_the_act }
 
 pub first_fault_law : FirstFaultLaw
 first_fault_law judge start hands [] fault e = cc
@@ -102,28 +95,18 @@ first_from known first [] place e = cc
 first_from known first (card ∷ cards) place e =
     elim (cases_Bool (has known card)) [
       | inl is ↦
-          let at = some_place first place (sym (cond-true (has known card) (Some first) (first_seen (card ∷ known) (first + 1) cards) is) ∙ e) in
-          record {
-            before = [];
-            card = card;
-            later = cards;
-            here = refl;
-            counted = omega (arith, at);
-            stood = or_left (has known card) false is;
-            none_before =
-                refl;
-          }
+          let at = some_place first place (rw is at e) in
+          record { before = []; card = card; later = cards; here = refl; counted = omega (arith, at); stood = or_left _ false is; none_before = refl }
       | inr lacks ↦
-          let rest = first_from (card ∷ known) (first + 1) cards place
-          (sym (cond-false (has known card) (Some first) (first_seen (card ∷ known) (first + 1) cards) lacks) ∙ e) in
+          let rest = first_from (card ∷ known) (first + 1) cards place (rw lacks at e) in
           record {
             before = card ∷ rest.before;
             card = rest.card;
             later = rest.later;
             here = ap (λ (xs : List ℕ). card ∷ xs) rest.here;
-            counted = (let more = rest.counted in omega (arith, more));
+            counted = omega (arith, rest.counted);
             stood = sym (or_comm3 (eqb card rest.card) (has known rest.card) (has rest.before rest.card)) ∙ rest.stood;
-            none_before = cond-false (has known card) (Some first) (first_seen (card ∷ known) (first + 1) rest.before) lacks ∙ rest.none_before;
+            none_before = rw lacks rest.none_before;
           }
     ]
 

@@ -2,7 +2,8 @@
 use Rattle.std.proofs.Common.{◌≡◌, ℕ, ◌+◌, ◌<◌, ◌≤◌, zero, suc, Bool, true, false, ◌&&◌, List, [], ◌∷◌, ◌++◌, length, get_or, take, reverse, Option, Some}
 use Rattle.std.proofs.Common.{refl, sym, ap, subst, ◌∙◌, inl, inr, arith}
 use Rattle.std.specs.Prelude.{slice_get}
-use Rattle.std.proofs.lemmas.Bool.{cases_Bool, cases_eq, and_parts, cond-true, cond-false, eqb-true, eq-eqb, both_ways}
+use Rattle.std.proofs.lemmas.Bool.{cases_Bool, cases_eq, and_parts, cond-true, cond_both, both_ways}
+use Rattle.std.proofs.lemmas.Bool.Decides.{nat_tests}
 use Rattle.std.proofs.lemmas.List.{take_all, length-reverse, length-take-le, length-append}
 use Rattle.std.proofs.lemmas.Option.{slice_get-get_or, slice_get_past}
 use Rattle.crib_cards.specs.Letters.{letter_of}
@@ -26,32 +27,22 @@ use Rattle.crib_game.proofs.JudgeLemmas.{reverse_more}
 
 -- ---- equal acts
 move_is : (what other : Move) → same_move what other ≡ true → what ≡ other
-move_is (move.Card card) (move.Card other) e = ap move.Card (eqb-true card other e)
-move_is (move.Card card) move.Go e = cc
-move_is move.Go (move.Card other) e = cc
-move_is move.Go move.Go e = refl
+move_is what other e = grind (arith, nat_tests, e)
 
 same_move_self : (what : Move) → same_move what what ≡ true
-same_move_self (move.Card card) = eq-eqb card card refl
-same_move_self move.Go = refl
+same_move_self what = grind (arith, nat_tests)
 
 act_is : (act other : Act) → same_act act other ≡ true → act ≡ other
 act_is act other e =
     let parts = and_parts (same_side act.side other.side) (same_move act.what other.what) e in
-    let side = same_is act.side other.side parts.0 in
-    let what = move_is act.what other.what parts.1 in
-    (λ i. record { side = side i; what = what i })
+    λ i. record { side = same_is act.side other.side parts.0 i; what = move_is act.what other.what parts.1 i }
 
 same_act_self : (act : Act) → same_act act act ≡ true
 same_act_self act = (λ i. same_self act.side i && same_move act.what act.what) ∙ same_move_self act.what
 
 -- there is no remark exactly where the act is the turn of the opening, or the opening has no turn there
 fine_played : (played act : Act) (strays : Bool) → remark_of (Some played) strays act ≡ Fine → played ≡ act
-fine_played played act strays e =
-    elim (cases_Bool (same_act played act)) [
-      | inl same ↦ act_is played act same
-      | inr other ↦ (let no : NotPlayed ≡ Fine = sym (cond-false (same_act played act) Fine NotPlayed other) ∙ e in absurd cc)
-    ]
+fine_played played act strays e = let same : same_act played act ≡ true = grind (arith, e) in act_is played act same
 
 played_fine : (played : Act) (strays : Bool) → remark_of (Some played) strays played ≡ Fine
 played_fine played strays = cond-true (same_act played played) Fine NotPlayed (same_act_self played)
@@ -84,11 +75,8 @@ begins_as_played played [] =
     subst A (take_all (length played) played (omega arith)) (front_played played (length played) (omega arith))
 begins_as_played played (act ∷ later) =
     let long = length-append later (reverse played) in
-    let same = length-reverse played in (
-      begins_as_played played later,
-      ap (λ (o : Option Act). remark_of o false act)
-          (slice_get_past played (length (later ++ reverse played)) (omega (arith, long, same))),
-    )
+    let past = slice_get_past played (length (later ++ reverse played)) (omega (arith, long, length-reverse played)) in
+    (begins_as_played played later, ap (λ (o : Option Act). remark_of o false act) past)
 
 -- acts that are as in the opening, and not more than it has, are its first turns
 first_ones : (played acts : List Act) → AreAsPlayed played acts → length acts ≤ length played → acts ≡ reverse (take (length acts) played)
@@ -102,18 +90,19 @@ first_ones played (act ∷ before) as_played few =
     let at : length before + 1 ≡ suc (length before) = omega arith in
     (λ i. sym first i ∷ rest i) ∙ sym (reverse_more played (length before) act lt) ∙ ap (λ (k : ℕ). reverse (take k played)) at
 
+-- as many acts as the opening has, and as in the opening, are the opening
+all_played : (problem : Setup) (acts : List Act) → AreAsPlayed problem.played acts → length problem.played ≡ length acts → BeginsAsPlayed problem acts
+all_played problem acts as_played whole = record {
+  later = [];
+  parts = first_ones problem.played acts as_played (omega (arith, whole)) ∙ ap reverse (take_all (length acts) problem.played (omega (arith, whole)));
+}
+
 -- acts that are as in the opening, and at least as many, begin with it
 pub enough_begin : (problem : Setup) (acts : List Act) → AreAsPlayed problem.played acts → length problem.played ≤ length acts → BeginsAsPlayed problem acts
-enough_begin problem [] as_played enough =
-    record { later = []; parts = first_ones problem.played [] as_played (omega arith) ∙ ap reverse (take_all 0 problem.played (omega arith)) }
+enough_begin problem [] as_played enough = all_played problem [] as_played (omega arith)
 enough_begin problem (act ∷ before) as_played enough =
     elim (cases_eq (length problem.played) (length before + 1)) [
-      | inl whole ↦
-          record {
-            later = [];
-            parts = first_ones problem.played (act ∷ before) as_played (omega (arith, whole))
-                ∙ ap reverse (take_all (length (act ∷ before)) problem.played (omega (arith, whole)));
-          }
+      | inl whole ↦ all_played problem (act ∷ before) as_played (omega (arith, whole))
       | inr more ↦
           let rest = enough_begin problem before as_played.0 (omega arith) in
           record { later = act ∷ rest.later; parts = ap (λ (acts : List Act). act ∷ acts) rest.parts }
@@ -145,8 +134,5 @@ module _ (problem : Setup) where
   pub none_to : (played : List Move) → NoneStrays (by_rules problem) pone played → AreAsPlayed problem.played (acts_of pone played)
   none_to [] none = tt
   none_to (turn ∷ past) none =
-      let A : List Act → Type 0 = λ acts. AreAsPlayed problem.played acts in
-      elim (cases_Bool (is_visible pone (letter_of turn) (letters_of past))) [
-        | inl v ↦ subst A (sym (acts_visible pone turn past v)) (none_to past none.0, none.1 v)
-        | inr v ↦ subst A (sym (acts_silent pone turn past v)) (none_to past none.0)
-      ]
+      cond_both (is_visible pone (letter_of turn) (letters_of past)) _ _ (λ (acts : List Act). AreAsPlayed problem.played acts)
+      (λ v. (none_to past none.0, none.1 v)) (λ v. none_to past none.0)

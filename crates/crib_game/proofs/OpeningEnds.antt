@@ -1,8 +1,9 @@
 -- When the opening is over, and that it stays over.
-use Rattle.std.proofs.Common.{◌≡◌, ℕ, zero, suc, ◌<◌, ◌≤◌, true, false, not, List, [], ◌∷◌, ◌++◌, length, refl, sym, ap}
+use Rattle.std.proofs.Common.{◌≡◌, ℕ, zero, suc, ◌≤◌, leb, not, List, [], ◌∷◌, ◌++◌, length, refl, sym, ap}
 use Rattle.std.proofs.Common.{◌∙◌, inl, inr, arith}
 use Rattle.std.specs.Prelude.{slice_get, is_some}
-use Rattle.std.proofs.lemmas.Bool.{cases_Bool, cases_lt, leb-true, le-leb, lt-leb}
+use Rattle.std.proofs.lemmas.Bool.{cases_Bool, leb-true, le-leb}
+use Rattle.std.proofs.lemmas.Bool.Decides.{nat_tests}
 use Rattle.std.proofs.lemmas.List.{length-append, length-reverse}
 use Rattle.crib_cards.specs.Letters.{letter_of}
 use Rattle.crib_cards.specs.Start.{pone_of}
@@ -17,31 +18,17 @@ use Rattle.crib_problem.specs.Setup.{start_of, played_back}
 use Rattle.crib_game.specs.FollowLaws.{OverLaw, StaysOverLaw, OverAfterLaw}
 
 -- a list has an item at each place below its length, and at no other
-past_played : (played : List Act) (n : ℕ) → length played ≤ n → is_some (slice_get played n) ≡ false
-past_played [] n enough = refl
-past_played (act ∷ played) zero enough = absurd (omega arith)
-past_played (act ∷ played) (suc n) enough = past_played played n (omega arith)
-
-at_played : (played : List Act) (n : ℕ) → n < length played → is_some (slice_get played n) ≡ true
-at_played [] n less = absurd (omega arith)
-at_played (act ∷ played) zero less = refl
-at_played (act ∷ played) (suc n) less = at_played played n (omega arith)
+at_place : (played : List Act) (n : ℕ) → leb (length played) n ≡ not (is_some (slice_get played n))
+at_place [] n = grind (arith, nat_tests)
+at_place (act ∷ played) zero = grind (arith, nat_tests)
+at_place (act ∷ played) (suc n) = grind (arith, nat_tests, at_place played n)
 
 pub over_is : OverLaw
-over_is played pone past =
-    let n = length (acts_of pone past) in
-    elim (cases_lt n (length played)) [
-      | inl inside ↦ lt-leb (length played) n inside ∙ sym (ap not (at_played played n inside))
-      | inr enough ↦ le-leb (length played) n enough ∙ sym (ap not (past_played played n enough))
-    ]
+over_is played pone past = at_place played (length (acts_of pone past))
 
 -- each further turn adds a visible turn or none
 acts_more : (pone : Side) (turn : Move) (past : List Move) → length (acts_of pone past) ≤ length (acts_of pone (turn ∷ past))
-acts_more pone turn past =
-    elim (cases_Bool (is_visible pone (letter_of turn) (letters_of past))) [
-      | inl v ↦ let same = ap length (acts_visible pone turn past v) in omega (arith, same)
-      | inr v ↦ let same = ap length (acts_silent pone turn past v) in omega (arith, same)
-    ]
+acts_more pone turn past = grind arith
 
 pub stays_over : StaysOverLaw
 stays_over played pone turn past over =
@@ -60,10 +47,7 @@ ends pone (turn ∷ later) past =
     let rest = ends pone later past in
     let act = act_by pone turn (later ++ past) in
     elim (cases_Bool (is_visible pone (letter_of turn) (letters_of (later ++ past)))) [
-      | inl v ↦ record {
-        more = act ∷ rest.more;
-        parts = acts_visible pone turn (later ++ past) v ∙ ap (λ (acts : List Act). act ∷ acts) rest.parts;
-      }
+      | inl v ↦ record { more = act ∷ rest.more; parts = acts_visible pone turn (later ++ past) v ∙ ap (λ (acts : List Act). act ∷ acts) rest.parts }
       | inr v ↦ record { more = rest.more; parts = acts_silent pone turn (later ++ past) v ∙ rest.parts }
     ]
 

@@ -24,7 +24,7 @@ use crib_problem::Problem;
 use crib_show::{Outcome, ShowRow, outcome_with, show_rows};
 
 /// The cards that each side has left.
-#[derive(Clone, Copy, Debug)]
+#[derive(Clone, Copy)]
 pub(crate) struct HeldCards {
     pub(crate) owner: CardSet,
     pub(crate) opponent: CardSet,

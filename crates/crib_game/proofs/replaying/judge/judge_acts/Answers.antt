@@ -7,10 +7,7 @@ use Rattle.crib_game.proofs.replaying.judge.judge_acts.Goals as goal
 
 pub loop-act-init : goal.loop-act-init
 loop-act-init g c = record {
-  walks = record {
-    judged = judged_start c.new-walk.result c.new-walk.ensures.stands c.new-walk.ensures.held;
-    counted = λ _. 0;
-  };
+  walks = record { judged = judged_start c.new-walk.result c.new-walk.ensures.stands c.new-walk.ensures.held; counted = λ _. 0 };
   followed = c.requires.follower;
 }
 

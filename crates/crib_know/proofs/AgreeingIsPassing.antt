@@ -1,6 +1,6 @@
 -- Each hidden deal that agrees with a history passes, and the letter that it shows next can be next.
 use Rattle.std.proofs.lemmas.Bool.Decides.{nat_tests}
-use Rattle.std.proofs.Common.{◌≡◌, ◌⊎◌, ℕ, ◌+◌, ◌<◌, ◌≤◌, Bool, true, false, not, ◌&&◌, ◌||◌, eqb, leb, List, map, length, count_by, refl, sym, ap, subst, ◌∙◌}
+use Rattle.std.proofs.Common.{◌≡◌, ◌⊎◌, ℕ, ◌+◌, ◌<◌, ◌≤◌, Bool, true, false, not, ◌&&◌, ◌||◌, eqb, leb, List, map, length, count_by, refl, sym, ap, ◌∙◌}
 use Rattle.std.proofs.Common.{inl, inr, arith}
 use Rattle.std.proofs.lemmas.Bool.{cases_lt, cond-false, eq-eqb, ne_eqb, leb-true}
 use Rattle.crib_cards.specs.Cards.{IsRank, rank_of, rank_value, card_value}
@@ -51,26 +51,17 @@ module _ (least : ℕ) (played hold : List ℕ) where
   passes_as : (rank : ℕ) → IsRank rank → passes_rank least (rank_counts played) (rank_counts (map rank_of hold)) rank
       ≡ (leb (ranks_of played rank) (count_rank rank hold) && (leb least (rank_value rank) || leb (count_rank rank hold) (ranks_of played rank)))
   passes_as rank is =
-      let seen = count_at-rank_counts played rank is in
-      let held = count_at-rank_counts (map rank_of hold) rank is ∙ count_map rank_of rank hold in
-      (λ i. leb (seen i) (held i) && (leb least (rank_value rank) || leb (held i) (seen i)))
-
-  one_from : (seen held value : ℕ) → seen ≤ held → (least ≤ value) ⊎ (held ≤ seen) → (leb seen held && (leb least value || leb held seen)) ≡ true
-  one_from seen held value enough high = grind (arith, nat_tests)
-
-  one_to : (seen held value : ℕ) → (leb seen held && (leb least value || leb held seen)) ≡ true → (seen ≤ held) × ((least ≤ value) ⊎ (held ≤ seen))
-  one_to seen held value e = (grind (arith, nat_tests), grind (arith, nat_tests))
+      grind (arith, nat_tests, count_at-rank_counts played rank is, count_at-rank_counts (map rank_of hold) rank is, count_map rank_of rank hold)
 
   pub passes_from : PassesRanks least played hold → passes least (rank_counts played) hold ≡ true
   passes_from each =
       all_ranks_from (passes_rank least (rank_counts played) (rank_counts (map rank_of hold)))
-      (λ rank is. passes_as rank is ∙ one_from (ranks_of played rank) (count_rank rank hold) (rank_value rank) (each rank is).enough (each rank is).high)
+      (λ rank is. grind (arith, nat_tests, passes_as rank is, (each rank is).enough, (each rank is).high))
 
   pub passes_to : passes least (rank_counts played) hold ≡ true → PassesRanks least played hold
   passes_to all rank is =
       let here = all_ranks (passes_rank least (rank_counts played) (rank_counts (map rank_of hold))) all rank is in
-      let plain = one_to (ranks_of played rank) (count_rank rank hold) (rank_value rank) (sym (passes_as rank is) ∙ here) in
-      record { enough = plain.0; high = plain.1 }
+      record { enough = grind (arith, nat_tests, passes_as rank is, here); high = grind (arith, nat_tests, passes_as rank is, here) }
 
 -- ---- turns
 pub theirs_is : (m : Side) (turn : Move) (letter : Letter) → event_by m turn ≡ Theirs letter → (m ≡ Opponent) × (letter_of turn ≡ letter)
@@ -175,8 +166,7 @@ module _ (problem : Setup) (setup : IsSetup problem) (dealt : Dealt) (deal : IsD
         MightPlay problem history (rank_of card)
     covers_card card may m =
         let rank = rank_of card in
-        let T : Side → Type 0 = λ side. MayTake the_hands side (move.Card card) past in
-        let take : MayTake the_hands Opponent (move.Card card) past = subst T m may.may_take in
+        let take : MayTake the_hands Opponent (move.Card card) past = rw m at may.may_take in
         let held : has left card ≡ true = take.0 in
         let low = left_high card held in
         let all : count_rank rank left + ranks_of (their_ranks history) rank ≡ count_rank rank dealt.hold = left_played (λ other. eqb other rank) in
@@ -194,11 +184,10 @@ module _ (problem : Setup) (setup : IsSetup problem) (dealt : Dealt) (deal : IsD
     covers_pass : MayCome the_start the_hands move.Go past → mover (pone_of the_start) (letters_of past) ≡ Opponent → MightGo problem history
     covers_pass may m =
         let dealt_ok = dealt_is problem setup dealt deal in
-        let T : Side → Type 0 = λ side. MayTake the_hands side move.Go past in
         let legal = legal_filled the_start the_hands plays.seen dealt_ok plays.legal in
         let taken = taken_legal the_start the_hands plays.seen (started problem setup) dealt_ok plays.legal in
         let heard = heard_next the_start (letters_of past) (filled_stops the_start plays.seen (started problem setup) taken) may.not_done in
-        let high = high_go the_start the_hands past (play_of the_start the_hands dealt_ok past legal) Opponent (subst T m may.may_take)
+        let high = high_go the_start the_hands past (play_of the_start the_hands dealt_ok past legal) Opponent (rw m at may.may_take)
         (ap (λ (side : Side). is_heard (pone_of the_start) side (letters_of past)) (sym m) ∙ heard) in
         record { asked = now_asked Opponent move.Go may m; high = omega (arith, high, count_same) }
 
@@ -211,5 +200,4 @@ module _ (problem : Setup) (setup : IsSetup problem) (dealt : Dealt) (deal : IsD
   pub covers : (history : List Event) (letter : Letter) → LastPlay the_start the_hands (Theirs letter) history → Might problem history letter
   covers history letter last =
       let is = theirs_is (mover (pone_of the_start) (filled_record the_start (history_letters history))) last.1.turn letter last.1.shows in
-      let M : Letter → Type 0 = λ shown. Might problem history shown in
-      subst M is.1 (covers_turn history last.0 last.1.turn last.1.may (mover_same history last.0 ∙ is.0))
+      rw is.1 at (covers_turn history last.0 last.1.turn last.1.may (mover_same history last.0 ∙ is.0))

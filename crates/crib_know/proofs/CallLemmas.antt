@@ -1,4 +1,5 @@
 -- What each call requires and gives, for a knowledge that represents a history.
+use Rattle.std.proofs.Common.{rules}
 use Rattle.std.proofs.Common.{map, count_by, ◌++◌, []}
 use Rattle.crib_cards.specs.Sets.{rank_counts}
 use Rattle.crib_cards.proofs.SetCounts.{count_append}
@@ -69,11 +70,7 @@ module _ (know : Knowledge) (problem : Setup) (history : List Event) (knows : Kn
   least_same = ap (λ (k : Knowledge). k.least) knows.knowledge
 
   pub stands_before : StandsFor know.round (start_of problem) (history_letters history)
-  stands_before = record {
-    started = started problem knows.setup;
-    taken = are_taken problem knows.setup history led knows.begun;
-    shows = ap (λ (k : Knowledge). k.round) knows.knowledge;
-  }
+  stands_before = search (rules, started problem knows.setup, are_taken problem knows.setup history led knows.begun, shows)
 
   pub least_range : (1 ≤ know.least) × (know.least ≤ 10)
   least_range = holds (λ k. (1 ≤ k.least) × (k.least ≤ 10)) (least_low problem knows.setup history, (needs_history problem knows.setup history led).least_most)
@@ -87,31 +84,20 @@ module _ (know : Knowledge) (problem : Setup) (history : List Event) (knows : Kn
   -- ---- what the opponent can show
   pub can_show_if : (letter : Letter) → Shows know letter → CanShow problem history letter
   can_show_if (Seen rank) facts =
-      let S : Knowledge → Type 0 = λ k. Shows k (Seen rank) in
-      let here = subst S knows.knowledge facts in
-      let free = here.4 in
+      let here = rw knows.knowledge at facts in
       shows problem knows.setup history led knows.begun (Seen rank) (record {
         is = here.0;
         asked = here.1;
         fits = here.2;
         high = here.3;
-        free = omega (arith, free, count_at-rank_counts (their_ranks history) rank here.0);
+        free = omega (arith, here.4, count_at-rank_counts (their_ranks history) rank here.0);
       })
   can_show_if Go facts =
-      let S : Knowledge → Type 0 = λ k. Shows k Go in
-      let here = subst S knows.knowledge facts in
+      let here = rw knows.knowledge at facts in
       shows problem knows.setup history led knows.begun Go (record { asked = here.0; high = here.1 })
 
   pub shows_then : (letter : Letter) → CanShow problem history letter → Shows know letter
-  shows_then (Seen rank) can =
-      let might = can_might problem knows.setup history (Seen rank) can in
-      holds (λ k. Shows k (Seen rank)) (
-        might.is,
-        might.asked,
-        might.fits,
-        might.high,
-        omega (arith, count_at-rank_counts (their_ranks history) rank might.is),
-      )
+  shows_then (Seen rank) can = search (rules, can_might problem knows.setup history (Seen rank) can, holds, count_at-rank_counts (their_ranks history) rank)
   shows_then Go can = let might = can_might problem knows.setup history Go can in holds (λ k. Shows k Go) (might.asked, might.high)
 
   pub exact : (letter : Letter) (result : Bool) → (IsTrue result ↔ Shows know letter) → (IsTrue result ↔ CanShow problem history letter)
@@ -151,8 +137,8 @@ module _ (know : Knowledge) (problem : Setup) (history : List Event) (knows : Kn
 
   -- ---- the owner's turns
   pub can_may : (what : Move) → CanDoAt know what → MayCome problem history (Own what)
-  can_may (move.Card card) can = let C : Knowledge → Type 0 = λ k. CanDoAt k (move.Card card) in subst C knows.knowledge can
-  can_may move.Go can = let C : Knowledge → Type 0 = λ k. CanDoAt k move.Go in subst C knows.knowledge can
+  can_may (move.Card card) can = rw knows.knowledge at can
+  can_may move.Go can = rw knows.knowledge at can
 
   -- the owner can make the move that may be next
   pub own_may : (what : Move) → MayCome problem history (Own what) → CanDoAt know what
@@ -174,8 +160,7 @@ module _ (know : Knowledge) (problem : Setup) (history : List Event) (knows : Kn
       StandsFor next.round (start_of problem) (Seen rank ∷ history_letters history) → next.own_left ≡ set_without know.own_left card →
       next ≡ record know { round = next.round; own_left = next.own_left } → KnowsAfter next problem (Own (move.Card card) ∷ history)
   after_own_play card rank is can next stands own others =
-      let S : ℕ → Type 0 = λ r. StandsFor next.round (start_of problem) (Seen r ∷ history_letters history) in
-      after_own (move.Card card) can (can_may (move.Card card) can).0 next (subst S is stands)
+      after_own (move.Card card) can (can_may (move.Card card) can).0 next (rw is at stands)
       (own ∙ ap (λ (k : Knowledge). set_without k.own_left card) knows.knowledge ∙ left_less problem.hold (own_cards history) card) others
 
   pub after_own_go : CanDoAt know move.Go → (next : Knowledge) → StandsFor next.round (start_of problem) (Go ∷ history_letters history) →

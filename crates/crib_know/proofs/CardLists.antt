@@ -1,10 +1,11 @@
 -- Lists of cards as sets, and counts of ranks.
+use Rattle.std.proofs.Common.{rules}
 use Rattle.std.proofs.lemmas.Bool.Decides.{nat_tests}
 use Rattle.crib_cards.proofs.SetCounts.{length-count_all}
 use Rattle.std.proofs.Common.{◌≡◌, ℕ, zero, suc, ◌+◌, ◌<◌, ◌≤◌, Bool, true, false, cond, ◌&&◌, eqb, List, [], ◌∷◌, map, length}
 use Rattle.std.proofs.Common.{count_by, refl, sym, ap, subst, ◌∙◌, inl, inr, arith}
 use Rattle.std.specs.List.{list_all, filter, range_with_len}
-use Rattle.std.proofs.lemmas.Bool.{cases_Bool, or_cases, or_right, both_ways, eqb-true}
+use Rattle.std.proofs.lemmas.Bool.{or_cases, both_ways}
 use Rattle.crib_cards.specs.Cards.{IsCard, IsRank, ranks}
 use Rattle.crib_cards.specs.Sets.{has, are_distinct, set_where, set_of}
 use Rattle.crib_cards.proofs.SetFacts.{in_set_where}
@@ -15,11 +16,7 @@ use Rattle.crib_cards.proofs.SetCounts.{count_cons, count_by-set_of}
 -- ---- ranges
 pub has_range_parts : (start n card : ℕ) → has (range_with_len start n) card ≡ true → (start ≤ card) × (card < start + n)
 has_range_parts start zero card h = absurd (both_ways false refl h)
-has_range_parts start (suc n) card h =
-    elim (or_cases (eqb start card) (has (range_with_len (start + 1) n) card) h) [
-      | inl here ↦ let e : start ≡ card = eqb-true start card here in (omega arith, omega arith)
-      | inr there ↦ let rest = has_range_parts (start + 1) n card there in (omega (arith, rest.0), omega (arith, rest.1))
-    ]
+has_range_parts start (suc n) card h = search (rules, or_cases (eqb start card) (has (range_with_len (start + 1) n) card) h, has_range_parts (start + 1) n card)
 
 pub has_range_from : (start n card : ℕ) → start ≤ card → card < start + n → has (range_with_len start n) card ≡ true
 has_range_from start zero card low high = absurd (omega arith)
@@ -54,13 +51,7 @@ pub record Counted (f : ℕ → Bool) (xs : List ℕ) : Type 0 where
 
 pub found_by : (f : ℕ → Bool) (xs : List ℕ) → 1 ≤ count_by f xs → Counted f xs
 found_by f [] some = absurd (omega arith)
-found_by f (x ∷ xs) some =
-    elim (cases_Bool (f x)) [
-      | inl e ↦ record { card = x; held = has_here x xs; passes = e }
-      | inr e ↦
-          let rest = found_by f xs (omega (arith, count_cons f x xs, none_counted (f x) e, some)) in
-          record { card = rest.card; held = or_right (eqb x rest.card) (has xs rest.card) rest.held; passes = rest.passes }
-    ]
+found_by f (x ∷ xs) some = search (rules, has_here x xs, found_by f xs, count_cons f x xs, none_counted (f x))
 
 pub count_none_of : (f : ℕ → Bool) (xs : List ℕ) → ((card : ℕ) → has xs card ≡ true → f card ≡ false) → count_by f xs ≡ 0
 count_none_of f [] each = refl
@@ -99,11 +90,8 @@ count_sum f g h (x ∷ xs) each =
 -- fewer cards pass a test that asks more
 pub count_fewer : (f p q : ℕ → Bool) (xs : List ℕ) → ((x : ℕ) → has xs x ≡ true → p x ≡ true → q x ≡ true) → count_by f (filter p xs) ≤ count_by f (filter q xs)
 count_fewer f p q xs harder =
-    let fewer = count_le (λ c. p c && f c) (λ c. q c && f c) xs (λ x h. one (p x) (q x) (f x) (harder x h)) in
+    let fewer = count_le (λ c. p c && f c) (λ c. q c && f c) xs (λ x h. grind (arith, nat_tests, harder x h)) in
     omega (arith, fewer, count_filter f p xs, count_filter f q xs)
-  where
-    one : (a b c : Bool) → (a ≡ true → b ≡ true) → one_if (a && c) ≤ one_if (b && c)
-    one a b c h = grind (arith, nat_tests)
 
 -- ---- a list and its set
 pub count_within : (f p : ℕ → Bool) (xs : List ℕ) → are_distinct xs ≡ true → ((card : ℕ) → has xs card ≡ true → has (set_where p) card ≡ true) →
@@ -116,8 +104,7 @@ count_within f p xs distinct within =
 
 -- ---- counts of ranks
 pub all_ranks_from : (p : ℕ → Bool) → ((rank : ℕ) → IsRank rank → p rank ≡ true) → list_all p ranks ≡ true
-all_ranks_from p each =
-    all_from p (range_with_len 1 13) (λ rank h. let within = has_range_parts 1 13 rank h in each rank (within.0, omega (arith, within.1)))
+all_ranks_from p each = all_from p (range_with_len 1 13) (λ rank h. let within = has_range_parts 1 13 rank h in each rank (within.0, omega (arith, within.1)))
 
 pub all_ranks : (p : ℕ → Bool) → list_all p ranks ≡ true → (rank : ℕ) → IsRank rank → p rank ≡ true
 all_ranks p all rank is = all_has p (range_with_len 1 13) rank all (has_range_from 1 13 rank is.0 (omega (arith, is.1)))

@@ -1,4 +1,5 @@
 -- The cards that are left to each side after some visible turns.
+use Rattle.std.proofs.Common.{rules}
 use Rattle.std.proofs.Math.Bool.{or_comm}
 use Rattle.std.proofs.Common.{◌≡◌, ℕ, ◌+◌, Bool, true, false, cond, not, ◌||◌, eqb, List, [], ◌∷◌, ◌++◌, count_by, refl, sym, ap, ◌∙◌, arith}
 use Rattle.std.specs.List.{filter}
@@ -85,10 +86,7 @@ module _ (start : Start) (hands : Hands) (dealt : IsDealt hands) (f : ℕ → Bo
       ap (count_by by_rank) (filter_all hands.opponent) in omega (arith, e)
   left_and_played (move.Go ∷ seen) legal = whole_go (mover (pone_of start) (letters_of (filled_moves start seen))) (cards_of seen) (events start seen)
       (left_and_played seen legal.0)
-  left_and_played (move.Card card ∷ seen) legal =
-      let m = mover (pone_of start) (letters_of (filled_moves start seen)) in
-      whole_card m card (cards_of seen) (events start seen) (ap (λ (left : List ℕ). has left card) (sym (left_remaining start hands m seen))
-      ∙ legal.1.may_take.0) (left_and_played seen legal.0)
+  left_and_played (move.Card card ∷ seen) legal = search (rules, whole_card, left_remaining start hands, left_and_played seen legal.0)
 
 -- a card of the owner is played exactly where his turns show it
 module _ (start : Start) (hands : Hands) (dealt : IsDealt hands) (card : ℕ) (mine : has hands.owner card ≡ true) where
@@ -110,8 +108,4 @@ module _ (start : Start) (hands : Hands) (dealt : IsDealt hands) (card : ℕ) (m
   own_played [] legal = refl
   own_played (move.Go ∷ seen) legal = own_played seen legal.0 ∙ own_go (mover (pone_of start) (letters_of (filled_moves start seen))) (events start seen)
   own_played (move.Card played ∷ seen) legal =
-      let m = mover (pone_of start) (letters_of (filled_moves start seen)) in
-      list_any-append (λ other. eqb other card) (cards_of seen) (played ∷ [])
-      ∙ ap (λ (b : Bool). has (cards_of seen) card || b) (or-false (eqb played card))
-      ∙ own_card m played (cards_of seen) (events start seen) (ap (λ (left : List ℕ). has left played) (sym (left_remaining start hands m seen))
-      ∙ legal.1.may_take.0) (own_played seen legal.0)
+      search (rules, list_any-append, or-false (eqb played card), own_card, left_remaining start hands, own_played seen legal.0)

@@ -1,9 +1,10 @@
 -- What a hold has after the cards are chosen.
+use Rattle.std.proofs.lemmas.Bool.{cond_both}
 use Rattle.std.proofs.lemmas.Bool.Decides.{nat_tests}
-use Rattle.std.proofs.Common.{◌≡◌, ◌⊎◌, ℕ, ◌+◌, ◌-◌, ◌<◌, ◌≤◌, min, max, Bool, true, false, cond, ◌&&◌, ◌||◌, eqb, ltb, leb, List, [], ◌∷◌, length, refl, ap}
-use Rattle.std.proofs.Common.{sym, subst, ◌∙◌, inl, inr, arith}
+use Rattle.std.proofs.Common.{◌≡◌, ◌⊎◌, ℕ, ◌+◌, ◌-◌, ◌<◌, ◌≤◌, min, max, true, false, ◌&&◌, ◌||◌, eqb, ltb, leb, List, [], ◌∷◌, length, refl, ap}
+use Rattle.std.proofs.Common.{sym, ◌∙◌, inl, inr, arith}
 use Rattle.std.proofs.lemmas.Bool.{and_parts, and_cases, both_ways, eq-eqb}
-use Rattle.std.proofs.lemmas.Bool.{ltb-true, ltb-false, leb-true, leb-false, or_left, or_right}
+use Rattle.std.proofs.lemmas.Bool.{ltb-true, ltb-false, leb-true, or_left, or_right}
 use Rattle.crib_cards.specs.Cards.{IsCard, rank_of, rank_value, card_value}
 use Rattle.crib_cards.specs.Sets.{has, IsCardSet, set_with, count_rank, rank_counts, count_at}
 use Rattle.crib_cards.specs.Order.{are_rising}
@@ -18,15 +19,8 @@ use Rattle.crib_know.proofs.CardLists.{one_if}
 use Rattle.crib_know.proofs.ChosenRanks.{ranks_of}
 use Rattle.crib_know.proofs.RankTotals.{total, total_add, total_one}
 
-if_cases : (P : List ℕ → Type 0) (b : Bool) (xs ys : List ℕ) → (b ≡ true → P xs) → (b ≡ false → P ys) → P (cond b xs ys)
-if_cases P true xs ys first second = first refl
-if_cases P false xs ys first second = second refl
-
 with_cases : (hold : List ℕ) (card other : ℕ) → has (set_with hold card) other ≡ true → (has hold other ≡ true) ⊎ (other ≡ card)
-with_cases hold card other h = either (has hold other) (in_set_where (λ k. has hold k || eqb k card) other h).1
-  where
-    either : (held : Bool) → (held || eqb other card) ≡ true → (held ≡ true) ⊎ (other ≡ card)
-    either held e = grind (arith, nat_tests)
+with_cases hold card other h = let there = (in_set_where (λ k. has hold k || eqb k card) other h).1 in grind (arith, nat_tests, there)
 
 -- ---- with one more card of a rank: the count of a rank before and after, and how many were seen of it
 below_most : (c r : ℕ) (after before seen value : ℕ → ℕ) (least held : ℕ) → held ≤ max (after r) (seen r) → after r ≡ before r + one_if (eqb c r) →
@@ -37,8 +31,7 @@ one_used : (c r : ℕ) (after before seen : ℕ → ℕ) → after r ≡ before 
     min (after r) (seen r) ≡ one_if (eqb c r) + min (before r) (seen r)
 one_used c r after before seen more less = grind (arith, nat_tests)
 
-none_used : (c r : ℕ) (after before seen : ℕ → ℕ) → after r ≡ before r + one_if (eqb c r) → seen c ≤ before c →
-    min (after r) (seen r) ≡ min (before r) (seen r)
+none_used : (c r : ℕ) (after before seen : ℕ → ℕ) → after r ≡ before r + one_if (eqb c r) → seen c ≤ before c → min (after r) (seen r) ≡ min (before r) (seen r)
 none_used c r after before seen more most = grind (arith, nat_tests)
 
 module _ (seen : List ℕ) (least whole : ℕ) where
@@ -67,17 +60,7 @@ module _ (seen : List ℕ) (least whole : ℕ) where
   -- the next card is held already, or passed over
   skipped : (first : List ℕ) (card : ℕ) (cards hold : List ℕ) → (has hold card ≡ false → Passed first hold card) → Chosen first cards hold →
       Chosen first (card ∷ cards) hold
-  skipped first card cards hold now next = record {
-    set = next.set;
-    keeps = next.keeps;
-    within = λ other h. elim (next.within other h) [ inl mine ↦ inl mine | inr later ↦ inr (has_there card other cards later) ];
-    number = next.number;
-    low = next.low;
-    passed = λ other h out. elim (has_cases card other cards h) [
-      | inl here ↦ (let P : ℕ → Type 0 = λ k. has hold k ≡ false → Passed first hold k in subst P here now out)
-      | inr later ↦ next.passed other later out
-    ];
-  }
+  skipped first card cards hold now next = grind (arith, nat_tests)
 
   module _ (first : List ℕ) (card : ℕ) (set : IsCardSet first) (is : IsCard card) (out : has first card ≡ false) where
     more : (rank : ℕ) → count_rank rank (set_with first card) ≡ count_rank rank first + one_if (eqb (rank_of card) rank)
@@ -143,14 +126,7 @@ module _ (seen : List ℕ) (least whole : ℕ) where
   pub chosen : (first : List ℕ) (left : ℕ) (cards : List ℕ) → IsCardSet first → AreCards cards → are_rising cards ≡ true →
       length first + left ≡ whole + used first → Chosen first cards (chosen_cards (rank_counts seen) least first left cards)
   unfolding chosen_cards
-  chosen first left [] set are rising number = record {
-    set = set;
-    keeps = λ card h. h;
-    within = λ card h. inl h;
-    number = omega (arith, number);
-    low = λ rank below. omega arith;
-    passed = λ card h out. absurd (both_ways false refl h);
-  }
+  chosen first left [] set are rising number = grind (arith, nat_tests)
   chosen first left (card ∷ cards) set are rising number =
       let is = are card (has_here card cards) in
       let at = count_at-rank_counts seen (rank_of card) (rank_is card is) in
@@ -161,23 +137,22 @@ module _ (seen : List ℕ) (least whole : ℕ) where
       let C : List ℕ → Type 0 = λ hold. Chosen first (card ∷ cards) hold in
       let more_set : IsCardSet (set_with first card) = IsCardSet-set_where (λ other. has first other || eqb other card) in
       let passing = then_chosen first left set number in
-      if_cases C (has first card) _ _ (λ held. skipped first card cards _ (λ out. absurd (both_ways _ out (passing.keeps card held))) passing)
+      cond_both (has first card) _ _ C (λ held. skipped first card cards _ (λ out. absurd (both_ways _ out (passing.keeps card held))) passing)
       (λ out.
       let longer = length-set_with first card set is out in
-      if_cases C (ltb (count_rank (rank_of card) first) (count_at (rank_counts seen) (rank_of card))) _ _
+      cond_both (ltb (count_rank (rank_of card) first) (count_at (rank_counts seen) (rank_of card))) _ _ C
       (λ less.
       let few = ltb-true (count_rank (rank_of card) first) (count_at (rank_counts seen) (rank_of card)) less in
       added first card set is out cards _ rising (λ low. omega (arith, few, at))
       (then_chosen (set_with first card) left more_set (omega (arith, longer, used_seen first card set is out (omega (arith, few, at)), number))))
       (λ most.
       let enough : ranks_of seen (rank_of card) ≤ count_rank (rank_of card) first =
-      (let many = ltb-false (count_rank (rank_of card) first) (count_at (rank_counts seen) (rank_of card)) most in omega (arith, many, at)) in
-      if_cases C (ltb 0 left && leb least (card_value card)) _ _
+      omega (arith, ltb-false (count_rank (rank_of card) first) (count_at (rank_counts seen) (rank_of card)) most, at) in
+      cond_both (ltb 0 left && leb least (card_value card)) _ _ C
       (λ both.
       let parts = and_parts (ltb 0 left) (leb least (card_value card)) both in
-      let some = ltb-true 0 left parts.0 in
       added first card set is out cards _ rising (λ low. absurd (omega (arith, low, leb-true least (card_value card) parts.1)))
-      (then_chosen (set_with first card) (left - 1) more_set (omega (arith, longer, used_left first card set is out enough, number, some))))
+      (then_chosen (set_with first card) (left - 1) more_set (omega (arith, longer, used_left first card set is out enough, number, ltb-true 0 left parts.0))))
       (λ neither. skipped first card cards _
       (λ absent. record {
         earlier = first;
@@ -185,9 +160,6 @@ module _ (seen : List ℕ) (least whole : ℕ) where
         among = passing.keeps;
         below = λ other h. inl h;
         enough = enough;
-        full = elim (and_cases (ltb 0 left) (leb least (card_value card)) neither) [
-          | inl none ↦ inr (let no_left = ltb-false 0 left none in omega (arith, no_left, number))
-          | inr low ↦ inl (leb-false least (card_value card) low)
-        ];
+        full = grind (arith, nat_tests, and_cases (ltb 0 left) (leb least (card_value card)) neither);
       })
       passing)))

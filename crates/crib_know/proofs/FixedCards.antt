@@ -1,6 +1,7 @@
 -- The fixed cards: those that the opponent played in the opening.
-use Rattle.std.proofs.Common.{◌≡◌, ℕ, true, false, not, ◌||◌, eqb, cond, List, [], ◌∷◌, Some, None, refl, ap}
-use Rattle.std.proofs.lemmas.Bool.{false_from_ne_true, and_from, or_parts, or_right, both_ways}
+use Rattle.std.proofs.Common.{rules}
+use Rattle.std.proofs.Common.{◌≡◌, ℕ, true, false, not, ◌||◌, eqb, cond, List, [], ◌∷◌, Some, None, ap}
+use Rattle.std.proofs.lemmas.Bool.{false_from_ne_true, or_parts, or_right, both_ways}
 use Rattle.crib_cards.specs.Cards.{IsCard}
 use Rattle.crib_cards.specs.Sets.{has, are_distinct}
 use Rattle.crib_cards.specs.declared.sides.Side.{Side}
@@ -16,7 +17,7 @@ use Rattle.crib_problem.proofs.Setups.{AllMoves}
 use Rattle.crib_problem.proofs.AskedHolds.{none_of_either, MayTurn, may_turn}
 use Rattle.crib_know.proofs.CardLists.{has_set_from, each_member}
 use Rattle.crib_problem.proofs.HonestTurns.{moves_back}
-use Rattle.crib_cards.proofs.Members.{AreCards, has_here, has_there}
+use Rattle.crib_cards.proofs.Members.{AreCards}
 
 -- ---- what holds of an act that is allowed
 abbrev pub Allowed : OpeningBasis → List Act → Act → Type 0
@@ -51,32 +52,13 @@ shown_card basis before card is e =
 
 next_shown : (basis : OpeningBasis) (before : List Act) (side : Side) (what : Move) → AreShown basis before → IsMove what →
     shows_seen (seen_by basis before) side what ≡ false → AreShown basis (record { side = side; what = what } ∷ before)
-next_shown basis before Owner what shown is e = record {
-  cards = shown.cards;
-  distinct = shown.distinct;
-  unknown = shown.unknown;
-  played = λ card h. played_on what (cards_played before) card (shown.played card h);
-}
+next_shown basis before Owner what shown is e = search (rules, shown.cards, shown.distinct, shown.unknown, played_on what (cards_played before))
 next_shown basis before Opponent move.Go shown is e = assumption
 next_shown basis before Opponent (move.Card first) shown is e =
-    let parts = shown_card basis before first is e in
-    let theirs = cards_by Opponent before in
-    let fresh = false_from_ne_true (has theirs first) (λ there. both_ways (has (cards_played before) first) parts.1 (shown.played first there)) in
-    record {
-      cards = each_member (λ card. IsCard card) first theirs is shown.cards;
-      distinct = and_from (not (has theirs first)) (are_distinct theirs) (ap not fresh) shown.distinct;
-      unknown = each_member (λ card. has basis.known card ≡ false) first theirs parts.0 shown.unknown;
-      played = each_member (λ card. has (first ∷ cards_played before) card ≡ true) first theirs (has_here first (cards_played before))
-          (λ card h. has_there first card (cards_played before) (shown.played card h));
-    }
+    search (rules, shown_card basis before first is e, false_from_ne_true, shown.played first, each_member, shown.cards, shown.distinct, shown.unknown)
 
 pub are_shown : (basis : OpeningBasis) (acts : List Act) → AllMoves acts → AreAllowed basis acts → AreShown basis acts
-are_shown basis [] moves allowed = record {
-  cards = λ card h. absurd (both_ways false refl h);
-  distinct = refl;
-  unknown = λ card h. absurd (both_ways false refl h);
-  played = λ card h. absurd (both_ways false refl h);
-}
+are_shown basis [] moves allowed = search rules
 are_shown basis (act ∷ before) moves allowed =
     next_shown basis before act.side act.what (are_shown basis before moves.1 allowed.0) moves.0 (allowed_parts basis before act allowed.1).unseen
 

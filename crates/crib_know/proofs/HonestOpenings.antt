@@ -1,5 +1,6 @@
 -- The opening of a problem is allowed exactly if some deal and legal play have it.
-use Rattle.std.proofs.Common.{◌≡◌, ℕ, ◌+◌, ◌<◌, ◌||◌, min, false, leb, List, [], ◌∷◌, ◌++◌, map, length, Some, None, cond}
+use Rattle.std.proofs.Common.{rules}
+use Rattle.std.proofs.Common.{◌≡◌, ℕ, ◌+◌, ◌<◌, ◌||◌, min, false, leb, List, [], ◌∷◌, ◌++◌, map, length}
 use Rattle.std.proofs.Common.{refl, sym, ap, subst, ◌∙◌, arith}
 use Rattle.std.proofs.lemmas.Bool.{lt-leb}
 use Rattle.std.proofs.Math.Nat.{min-le_right}
@@ -15,8 +16,7 @@ use Rattle.crib_play.specs.History.{event_of, acts_of, visible_moves}
 use Rattle.crib_play.specs.Standing.{IsStart}
 use Rattle.crib_play.proofs.FilledRecords.{acts_fewer, letters_filled, filled_law}
 use Rattle.crib_play.proofs.RecordBounds.{at_most_29}
-use Rattle.crib_problem.specs.Refusals.{already_over}
-use Rattle.crib_problem.specs.Played.{is_over_by, AreAllowed, turn_refusal, seen_by, asked_by, count_by_acts, own_left_by, least_by}
+use Rattle.crib_problem.specs.Played.{is_over_by, AreAllowed}
 use Rattle.crib_problem.specs.Setup.{Setup, IsSetup, CanSay, start_of, played_back, opening_basis_of, hands_of}
 use Rattle.crib_problem.specs.Laws.{IsHonest}
 use Rattle.crib_problem.proofs.StartLemmas.{started, hands_dealt}
@@ -40,11 +40,7 @@ start_not_done start is =
 not_over : (problem : Setup) → IsSetup problem → (acts : List Act) → AreAllowed (opening_basis_of problem) acts →
     is_over_by (opening_basis_of problem) acts ≡ false
 not_over problem setup [] allowed = start_not_done (start_of problem) (started problem setup)
-not_over problem setup (act ∷ before) allowed =
-    let basis = opening_basis_of problem in
-    none_of_one (is_over_by basis (act ∷ before)) already_over
-    (none_of_either (turn_refusal (seen_by basis before) (asked_by basis before) (count_by_acts basis before) (own_left_by basis before)
-    (least_by basis before) act) (cond (is_over_by basis (act ∷ before)) (Some already_over) None) allowed.1).1
+not_over problem setup (act ∷ before) allowed = search (rules, none_of_one, none_of_either)
 
 -- ---- an allowed opening has a deal and a legal record
 no_more : (later here acts : List Act) → acts ≡ later ++ here → map event_of acts ≡ map event_of here → acts ≡ here

@@ -1,4 +1,5 @@
 -- What a knowledge says of the histories that it represents.
+use Rattle.std.proofs.Common.{rules}
 use Rattle.std.proofs.Common.{◌≡◌, ℕ, ◌<◌, ◌≤◌, true, false, not, eqb, ltb, List, [], ◌∷◌, ◌++◌, map, length, refl, sym, ap}
 use Rattle.std.proofs.Common.{◌∙◌, arith}
 use Rattle.std.proofs.lemmas.Bool.{and_parts, both_ways, ltb-true}
@@ -84,19 +85,11 @@ module _ (problem : Setup) (setup : IsSetup problem) where
     there = λ other. there_more rank other (their_ranks history) (unseen_of problem) might.free (needs.there other);
     least_most = omega (arith, least_after_card problem history rank, needs.least_most);
   }
-  needs_shown history Go needs might most = record {
-    are = needs.are;
-    most = most;
-    there = needs.there;
-    least_most = omega (arith, might.high, needs.least_most, least_after_go_most problem history);
-  }
+  needs_shown history Go needs might most = search (rules, least_after_go_most problem history)
 
   pub needs_history : (history : List Event) → IsLed problem history → Needs problem setup (their_ranks history) (least_value problem history)
   needs_history [] led = record { are = λ rank h. absurd (both_ways false refl h); most = omega arith; there = λ rank. omega arith; least_most = omega arith }
-  needs_history (Own turn ∷ history) led =
-      let needs = needs_history history led.0 in
-      let same = least_after_own problem history turn (owner_asked turn led.1) in
-      record { are = needs.are; most = needs.most; there = needs.there; least_most = omega (arith, same) }
+  needs_history (Own turn ∷ history) led = search (rules, needs_history history led.0, least_after_own problem history turn (owner_asked turn led.1))
     where
       owner_asked : (own : Move) → MayCome problem history (Own own) → asked_now problem history ≡ turns.Owner
       owner_asked (move.Card card) may = may.0

@@ -4,7 +4,7 @@ use Rattle.crib_problem.proofs.AskedHolds.{none_of_two, asked_open}
 use Rattle.std.proofs.lemmas.List.{map-append}
 use Rattle.std.proofs.lemmas.Bool.{false_from_ne_true, ltb-false}
 use Rattle.std.proofs.Common.{◌≡◌, ℕ, ◌+◌, ◌<◌, ◌≤◌, Bool, true, not, ◌&&◌, ◌||◌, eqb, leb, ltb, List, [], ◌∷◌, ◌++◌, map, length}
-use Rattle.std.proofs.Common.{take, drop, reverse, get_or, None, refl, sym, ap, subst, ◌∙◌, arith}
+use Rattle.std.proofs.Common.{take, drop, reverse, get_or, None, refl, sym, ap, ◌∙◌, arith}
 use Rattle.std.specs.List.{list_any}
 use Rattle.std.proofs.lemmas.Bool.{or_left, both_ways, not-false, leb-true}
 use Rattle.std.proofs.lemmas.List.{append-nil}
@@ -171,8 +171,7 @@ module _ (problem : Setup) (setup : IsSetup problem) where
   bare_led = allowed_led (played_back problem) (back_moves problem setup) setup.allowed
 
   played_needs : Needs problem setup (their_ranks events_played) (least_value problem events_played)
-  played_needs = let needs = needs_history bare bare_is events_played bare_led in
-      record { are = needs.are; most = needs.most; there = needs.there; least_most = needs.least_most }
+  played_needs = assumption (needs_history bare bare_is events_played bare_led)
 
   played_fixes : Fixes problem setup (their_ranks events_played)
   played_fixes = begun_fixes problem setup events_played (record { later = []; parts = refl })
@@ -183,11 +182,8 @@ module _ (problem : Setup) (setup : IsSetup problem) where
   played_deal : IsDealOf problem played_dealt
   played_deal = first_is_deal problem setup (their_ranks events_played) (least_value problem events_played) played_needs played_fixes
 
-  bare_deal : IsDealOf bare played_dealt
-  bare_deal = record { deal = played_deal.deal; fixed = refl }
-
   played_plays : Plays (start_of problem) (hands_of problem played_dealt) events_played
-  played_plays = passing_plays bare bare_is played_dealt bare_deal events_played bare_led
+  played_plays = passing_plays bare bare_is played_dealt (record { deal = played_deal.deal; fixed = refl }) events_played bare_led
       (hold_passes problem setup (their_ranks events_played) (least_value problem events_played) played_needs played_fixes)
 
   pub played_agrees : AgreesWith problem events_played played_dealt
@@ -201,6 +197,5 @@ module _ (problem : Setup) (setup : IsSetup problem) where
       MayCome bare (map event_of (reverse (take i problem.played))) (event_of act)
   may_at i act lt at =
       let acts = problem.played in
-      let L : List Event → Type 0 = λ history. IsLed bare history in
       let whole = ap (map event_of) (all_from_back acts i act lt at) ∙ map-append event_of (reverse (drop (i + 1) acts)) (act ∷ reverse (take i acts)) in
-      (led_end bare (map event_of (reverse (drop (i + 1) acts))) (event_of act ∷ map event_of (reverse (take i acts))) (subst L whole bare_led)).1
+      (led_end bare (map event_of (reverse (drop (i + 1) acts))) (event_of act ∷ map event_of (reverse (take i acts))) (rw whole at bare_led)).1

@@ -1,4 +1,6 @@
 -- Each hidden deal that agrees has a legal record that begins with the very cards of the opening, suits included.
+use Rattle.std.proofs.Common.{arith}
+use Rattle.std.proofs.lemmas.Bool.Decides.{nat_tests}
 use Rattle.crib_problem.proofs.AskedHolds.{asked_open}
 use Rattle.std.proofs.Math.Bool.{or-false, or_comm}
 use Rattle.std.proofs.Common.{◌≡◌, ℕ, ◌+◌, Bool, true, false, not, ◌||◌, eqb, List, [], ◌∷◌, ◌++◌, map, refl, sym, ap, subst, ◌∙◌}
@@ -185,11 +187,7 @@ module _ (problem : Setup) (setup : IsSetup problem) (dealt : Dealt) (deal : IsD
       let might = may_might problem setup history event led.1 in
       let so_far = from_later later led.0 (passes_less problem setup dealt deal event history might passes) base in
       let next = next_play problem setup dealt deal event history so_far.plays might passes in
-      record {
-        plays = play_more start hands event history so_far.plays next;
-        front = next.turn ∷ so_far.front;
-        parts = λ i. next.turn ∷ so_far.parts i;
-      }
+      record { plays = play_more start hands event history so_far.plays next; front = next.turn ∷ so_far.front; parts = λ i. next.turn ∷ so_far.parts i }
 
   pub suited : (history : List Event) → BeginsAfter problem history → AgreesWith problem history dealt → IsPlayedOn problem history dealt
   suited history begun agrees =
@@ -214,11 +212,7 @@ module _ (problem : Setup) (setup : IsSetup problem) (dealt : Dealt) (deal : IsD
         legal = whole_legal;
         shows = history_events start hands (filled_moves start from.plays.seen) is dealt_ok whole_legal
             ∙ ap (events start) (visible_filled start hands from.plays.seen is dealt_ok from.plays.legal) ∙ from.plays.shows ∙ sym begun.parts;
-        begins = record {
-          later = ends.later;
-          parts = ap (λ (seen : List Move). acts_of (pone_of start) (filled_moves start seen)) from.parts ∙ ends.parts
-              ∙ ap (λ (acts : List Act). ends.later ++ acts) exact;
-        };
+        begins = grind (arith, nat_tests);
       }
     where
       legal_end : (front seen : List Move) → AreLegal start hands (front ++ seen) → AreLegal start hands seen

@@ -1,10 +1,9 @@
 -- What the owner's turns, the first lead and the first deal require and give.
+use Rattle.std.proofs.Common.{rules}
 use Rattle.std.proofs.Common.{◌≡◌, ◌≢◌, ℕ, ◌+◌, ◌<◌, ◌≤◌, List, [], ◌∷◌, map, length, take}
 use Rattle.std.proofs.Common.{reverse, get_or, replicate, refl, sym, ap, subst, ◌∙◌, arith}
 use Rattle.std.proofs.lemmas.List.{take_all}
 use Rattle.crib_cards.specs.Sets.{set_of, set_without_all}
-use Rattle.crib_cards.specs.Start.{Start}
-use Rattle.crib_cards.specs.declared.sides.Dealt.{Dealt}
 use Rattle.crib_cards.specs.declared.sides.Side.{Side}
 use Rattle.crib_cards.specs.declared.sides.Scores.{Scores}
 use Rattle.crib_cards.specs.declared.letters.Letter.{Letter}
@@ -15,10 +14,9 @@ use Rattle.crib_cards.specs.Sets.{count_at}
 use Rattle.crib_know.specs.Private.Knowledge.{Shows}
 use Rattle.crib_cards.specs.declared.moves.Move.{Move}
 use Rattle.crib_cards.specs.declared.moves.Act.{Act}
-use Rattle.crib_play.specs.Filled.{filled_record}
-use Rattle.crib_play.specs.Standing.{StandsFor, standing_after}
+use Rattle.crib_play.specs.Standing.{StandsFor}
 use Rattle.crib_play.specs.History.{Event, Own, event_of}
-use Rattle.crib_problem.specs.Setup.{Setup, IsSetup, unseen_of, start_of, target_of}
+use Rattle.crib_problem.specs.Setup.{Setup, IsSetup, unseen_of, target_of}
 use Rattle.crib_know.specs.Knowledge.{Knowledge, played_events, their_ranks, least_value, knowledge_after}
 use Rattle.crib_cards.specs.declared.sides.Side.TheVariants.{Opponent}
 use Rattle.crib_problem.specs.Played.{cards_by}
@@ -28,7 +26,7 @@ use Rattle.crib_know.proofs.LedHistories.{MayCome, IsLed}
 use Rattle.crib_play.proofs.TurnFacts.{filter_all}
 use Rattle.crib_know.specs.Private.Choice.{chosen_cards}
 use Rattle.crib_know.proofs.OpeningLawProofs.{begun_at_first_lead, played_dealt, played_agrees, may_at}
-use Rattle.crib_know.proofs.FirstDeals.{Needs, Fixes, first_hold, first_dealt, hold_four, hold_set, hold_within}
+use Rattle.crib_know.proofs.FirstDeals.{Needs, Fixes, first_hold, hold_four, hold_set, hold_within}
 use Rattle.crib_know.proofs.FirstDeals.{two_others}
 use Rattle.crib_know.proofs.RecordTurns.{possible_led}
 use Rattle.crib_know.proofs.KnowledgeFacts.{led_possible, needs_history, begun_fixes}
@@ -52,8 +50,7 @@ known_next know now next event same known after =
 pub moved_shows : (know now : Knowledge) → know ≡ now → (letter : Letter) → CanShowAt now letter → Shows know letter
 moved_shows know now same letter can = shows_then know can.0 can.1 (moved know now can.0 can.1 same can.2) letter can.3
 
-pub moved_left : (know now : Knowledge) → know ≡ now → (rank : ℕ) → CanShowAt now (Seen rank) →
-    (count_at know.ranks_seen rank < 255) × (1 ≤ know.opponent_left)
+pub moved_left : (know now : Knowledge) → know ≡ now → (rank : ℕ) → CanShowAt now (Seen rank) → (count_at know.ranks_seen rank < 255) × (1 ≤ know.opponent_left)
 moved_left know now same rank can = play_left know can.0 can.1 (moved know now can.0 can.1 same can.2) rank can.3
 
 -- what can be shown after one history that a knowledge represents can be shown after each
@@ -75,22 +72,7 @@ pub start_knows : (problem : Setup) → IsSetup problem → (dealer : Side) (sco
     next.ranks_seen ≡ replicate 13 0 → next.opponent_left ≡ 4 → next.least ≡ 1 → next.unseen ≡ unseen_of problem → next.fixed ≡ set_of [] →
     KnowsAfter next (at_first_lead problem) []
 start_knows problem setup dealer scores target next same_dealer same_scores same_target stands own ranks left least unseen fixed =
-    let start : Start = record { dealer = dealer; scores = scores; target = target } in
-    let same : start ≡ start_of problem = (λ i. record { dealer = same_dealer i; scores = same_scores i; target = same_target i }) in
-    record {
-      setup = without_opening problem setup;
-      begun = begun_at_first_lead problem [];
-      possible = led_possible (at_first_lead problem) (without_opening problem setup) [] tt (begun_at_first_lead problem []);
-      knowledge = λ i. record {
-        round = (stands.shows ∙ ap (λ (s : Start). standing_after s (filled_record s [])) same) i;
-        own_left = (own ∙ ap set_of (sym (filter_all problem.hold))) i;
-        ranks_seen = ranks i;
-        opponent_left = left i;
-        least = least i;
-        unseen = unseen i;
-        fixed = fixed i;
-      };
-    }
+    search (rules, led_possible (at_first_lead problem) (without_opening problem setup) [] tt (begun_at_first_lead problem []), filter_all problem.hold)
 
 -- what the owner knows after the opening
 pub played_knows : (problem : Setup) → IsSetup problem → (acts : List Act) → acts ≡ problem.played → (n : ℕ) → length acts ≤ n → (know now next : Knowledge) →
@@ -125,8 +107,7 @@ module _ (know : Knowledge) (problem : Setup) (history : List Event) (knows : Kn
   know_hold = chosen_cards know.ranks_seen know.least know.fixed know.opponent_left know.unseen
 
   pub know_four : length know_hold ≡ 4
-  know_four = let L : Knowledge → Type 0 = λ k. length (chosen_cards k.ranks_seen k.least k.fixed k.opponent_left k.unseen) ≡ 4 in
-      subst L (sym knows.knowledge) (hold_four problem knows.setup seen_ranks seen_least seen_needs seen_fixes)
+  know_four = rw knows.knowledge (hold_four problem knows.setup seen_ranks seen_least seen_needs seen_fixes)
 
   -- the cards left for the throw
   module _ (hold : List ℕ) (is : hold ≡ know_hold) (rest : List ℕ) (without : rest ≡ set_without_all know.unseen hold) where
@@ -145,11 +126,7 @@ module _ (know : Knowledge) (problem : Setup) (history : List Event) (knows : Kn
         omega (arith, two, ap length rest_is)
 
     pub first_is : (throw : List ℕ) → throw ≡ take 2 rest → IsFirstDeal problem history (record { hold = hold; throw = throw })
-    first_is throw two =
-        let D : Dealt → Type 0 = λ dealt. IsFirstDeal problem history dealt in
-        let same : record { hold = hold; throw = throw } ≡ first_dealt problem knows.setup seen_ranks seen_least =
-        (λ i. record { hold = hold_is i; throw = (two ∙ ap (take 2) rest_is) i }) in
-        subst D (sym same) (first_deal_is problem knows.setup history (led_of know problem history knows) knows.begun)
+    first_is throw two = rw (hold_is, two ∙ ap (take 2) rest_is) (first_deal_is problem knows.setup history (led_of know problem history knows) knows.begun)
 
 -- ---- a turn that is seen
 pub come_as : (know : Knowledge) (event other : Event) → event ≡ other → CanComeAt know event → CanComeAt know other
@@ -159,11 +136,8 @@ pub knows_as : (know : Knowledge) (problem : Setup) (history : List Event) (even
     KnowsAfter know problem (other ∷ history)
 knows_as know problem history event other same knows = let K : Event → Type 0 = λ e. KnowsAfter know problem (e ∷ history) in subst K (sym same) knows
 
-come_may : (know : Knowledge) (event : Event) (can : CanComeAt know event) → MayCome can.0 can.1 event
-come_may know event can = (possible_led can.0 can.2.setup (event ∷ can.1) can.3).1
-
 pub come_own : (know : Knowledge) (what : Move) → CanComeAt know (Own what) → CanDoAt know what
-come_own know what can = own_may know can.0 can.1 can.2 what (come_may know (Own what) can)
+come_own know what can = own_may know can.0 can.1 can.2 what (possible_led can.0 can.2.setup (Own what ∷ can.1) can.3).1
 
 -- one more turn of the opening
 pub see_next : (problem : Setup) (setup : IsSetup problem) (acts : List Act) → acts ≡ problem.played → (know : Knowledge) (i : ℕ) (act : Act) →
@@ -179,6 +153,4 @@ see_next problem setup acts value know i act lt at knows =
 
 pub seen_next : (know : Knowledge) (problem : Setup) (acts : List Act) (i : ℕ) (act : Act) → i < length acts → act ≡ get_or acts i act →
     KnowsAfter know problem (event_of act ∷ map event_of (reverse (take i acts))) → KnowsAfter know problem (map event_of (reverse (take (i + 1) acts)))
-seen_next know problem acts i act lt at knows =
-    let K : List Act → Type 0 = λ played. KnowsAfter know problem (map event_of played) in
-    subst K (sym (reverse_more acts i act lt at)) knows
+seen_next know problem acts i act lt at knows = rw (reverse_more acts i act lt at) knows

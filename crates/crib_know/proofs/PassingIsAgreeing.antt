@@ -1,7 +1,8 @@
 -- Each hidden deal that passes agrees with the history.
+use Rattle.std.proofs.Common.{rules}
 use Rattle.std.proofs.lemmas.Bool.Decides.{nat_tests}
 use Rattle.std.proofs.Common.{Bool, ◌⊎◌}
-use Rattle.std.proofs.Common.{◌≡◌, ℕ, ◌+◌, ◌-◌, ◌≤◌, max, true, false, not, eqb, leb, List, [], ◌∷◌, refl, sym, ap, subst, ◌∙◌, inl, inr, arith}
+use Rattle.std.proofs.Common.{◌≡◌, ℕ, ◌+◌, ◌-◌, ◌≤◌, max, true, false, not, eqb, leb, List, [], ◌∷◌, refl, sym, ap, ◌∙◌, inl, inr, arith}
 use Rattle.std.specs.List.{filter}
 use Rattle.std.proofs.lemmas.Bool.{eqb-true, eq-eqb, leb-true, le-leb, lt-leb}
 use Rattle.crib_cards.specs.Cards.{rank_of, rank_value, card_value}
@@ -79,14 +80,10 @@ module _ (problem : Setup) (setup : IsSetup problem) (dealt : Dealt) (deal : IsD
     turn_of side turn asked take =
         let is_open = asked_mover start (filled_record start (history_letters history)) side asked in
         let mover_is : mover (pone_of start) (letters_of before) ≡ side = mover_same problem setup dealt deal history plays ∙ is_open.1 in
-        let T : Side → Type 0 = λ s. MayTake hands s turn before in
         record {
           turn = turn;
           shows = ap (λ (s : Side). event_by s turn) is_open.1;
-          may = record {
-            not_done = ap (is_done start) (past_same problem setup dealt deal history plays) ∙ is_open.0;
-            may_take = subst T (sym mover_is) take;
-          };
+          may = record { not_done = ap (is_done start) (past_same problem setup dealt deal history plays) ∙ is_open.0; may_take = rw mover_is take };
         }
 
     pub fits_same : (card : ℕ) → fits before card ≡ leb (count_after problem history + card_value card) 31
@@ -109,16 +106,10 @@ module _ (problem : Setup) (setup : IsSetup problem) (dealt : Dealt) (deal : IsD
     own_may_take : (turn : Move) → asked_now problem history ≡ turns.Owner → MayTake hands Owner turn before → MayCome problem history (Own turn)
     own_may_take (move.Card card) asked take =
         (asked, own_from card take.0, leb-true (count_after problem history + card_value card) 31 (sym (fits_same card) ∙ take.1))
-    own_may_take move.Go asked take = (
-      asked,
-      none_any (λ c. leb (count_after problem history + card_value c) 31) (own_left problem history)
-          (λ card held. sym (fits_same card) ∙ none_passes (fits before) (cards_left hands Owner before) card take (own_to card held)),
-    )
+    own_may_take move.Go asked take = search (rules, none_any, fits_same, none_passes (fits before) (cards_left hands Owner before), own_to)
 
     pub own_may : (turn : Move) → mover (pone_of start) (letters_of before) ≡ Owner → legal.MayCome start hands turn before → MayCome problem history (Own turn)
-    own_may turn m may =
-        let T : Side → Type 0 = λ side. MayTake hands side turn before in
-        own_may_take turn (own_asked m may.not_done) (subst T m may.may_take)
+    own_may turn m may = own_may_take turn (own_asked m may.not_done) (rw m at may.may_take)
 
     -- the opponent plays a card of a rank, with which his hold passes
     their_card : (rank : ℕ) → MightPlay problem history rank → PassesRanks (least_value problem history) (rank ∷ their_ranks history) dealt.hold →
@@ -129,8 +120,7 @@ module _ (problem : Setup) (setup : IsSetup problem) (dealt : Dealt) (deal : IsD
         let found = found_by (λ c. eqb (rank_of c) rank) (left problem setup dealt deal history plays)
         (omega (arith, all, (passes rank might.is).enough, count_cons (λ other. eqb other rank) rank (their_ranks history), one_same rank)) in
         let is : rank_of found.card ≡ rank = eqb-true (rank_of found.card) rank found.passes in
-        let N : ℕ → Type 0 = λ r. NextPlay start hands (Theirs (Seen r)) history plays in
-        subst N is (turn_of Opponent (move.Card found.card) might.asked
+        rw (← is) (turn_of Opponent (move.Card found.card) might.asked
         (found.held, fits_same found.card ∙ le-leb (count_after problem history + card_value found.card) 31 (omega (arith, ap rank_value is))))
 
     -- the opponent says go, and holds no card that fits
@@ -185,10 +175,7 @@ passes_before problem event history played hold passes rank is =
 -- ---- a letter that can be shown might be next
 pub can_might : (problem : Setup) → IsSetup problem → (history : List Event) (letter : Letter) → CanShow problem history letter → Might problem history letter
 can_might problem setup history letter can =
-    let deal = can.1.0 in
-    let hands = hands_of problem can.0 in
-    let plays = plays_of (start_of problem) hands (Theirs letter ∷ history) (started problem setup) (dealt_is problem setup can.0 deal) can.1.1 in
-    covers problem setup can.0 deal history letter (last_play (start_of problem) hands (Theirs letter) history plays)
+    search (rules, plays_of (start_of problem), started problem setup, dealt_is problem setup can.0, covers problem setup can.0, last_play (start_of problem))
 
 -- a turn of the owner that can be next, or a letter that the opponent might show
 abbrev pub MightCome : Setup → List Event → Event → Type 0
@@ -239,15 +226,11 @@ module _ (problem : Setup) (setup : IsSetup problem) (dealt : Dealt) (deal : IsD
 
   pub passing_plays : (history : List Event) → IsLed problem history → PassesAfter history → Plays (start_of problem) (hands_of problem dealt) history
   passing_plays [] led passes = record { seen = []; legal = tt; shows = refl }
-  passing_plays (event ∷ history) led passes =
-      more_plays event history (may_might problem setup history event led.1) passes (passing_plays history led.0)
+  passing_plays (event ∷ history) led passes = more_plays event history (may_might problem setup history event led.1) passes (passing_plays history led.0)
 
   pub agrees_from : (history : List Event) → Plays (start_of problem) (hands_of problem dealt) history → AgreesWith problem history dealt
-  agrees_from history plays = (
-    deal,
-    agrees_of (start_of problem) (hands_of problem dealt) history (started problem setup) (dealt_is problem setup dealt deal)
-        plays,
-  )
+  agrees_from history plays =
+      (deal, agrees_of (start_of problem) (hands_of problem dealt) history (started problem setup) (dealt_is problem setup dealt deal) plays)
 
   pub passing_agrees : (history : List Event) → IsLed problem history → PassesAfter history → AgreesWith problem history dealt
   passing_agrees history led passes = agrees_from history (passing_plays history led passes)

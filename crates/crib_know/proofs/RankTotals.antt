@@ -1,6 +1,6 @@
 -- How many ranks a list has, from the counts of the thirteen ranks.
 use Rattle.std.proofs.lemmas.Bool.Decides.{nat_tests}
-use Rattle.std.proofs.Common.{◌≡◌, ◌⊎◌, ℕ, zero, suc, ◌+◌, ◌<◌, ◌≤◌, true, false, eqb, List, [], ◌∷◌, map, length, refl, subst, ◌∙◌, inl, inr, arith}
+use Rattle.std.proofs.Common.{◌≡◌, ◌⊎◌, ℕ, zero, suc, ◌+◌, ◌<◌, ◌≤◌, true, false, eqb, List, [], ◌∷◌, map, length, refl, ◌∙◌, inl, inr, arith}
 use Rattle.std.proofs.lemmas.Bool.{cases_lt, both_ways, eqb-true}
 use Rattle.std.proofs.lemmas.List.{length-map}
 use Rattle.crib_cards.specs.Cards.{IsRank, rank_of}
@@ -36,10 +36,7 @@ total_past x start (suc n) less = grind (arith, nat_tests, total_past x (start +
 pub total_one : (x start n : ℕ) → (total (λ r. one_if (eqb x r)) start n ≤ 1) × (start ≤ x → x < start + n → total (λ r. one_if (eqb x r)) start n ≡ 1)
 unfolding total
 total_one x start zero = (omega arith, λ low high. absurd (omega arith))
-total_one x start (suc n) =
-    let past = total_past x (start + 1) n in
-    let rest = total_one x (start + 1) n in
-    (grind (arith, nat_tests, past, rest.0), λ low high. grind (arith, nat_tests, past, rest.1))
+total_one x start (suc n) = grind (arith, nat_tests, total_past x (start + 1) n, total_one x (start + 1) n)
 
 -- one more at a number where the other function gives more
 pub one_more : (f g : ℕ → ℕ) (at r : ℕ) → f at < g at → f r ≤ g r → one_if (eqb at r) + f r ≤ g r
@@ -63,8 +60,7 @@ some_or_none rank listed are =
     elim (cases_lt 0 (ranks_of listed rank)) [
       | inl some ↦
           let found = found_by (λ r. eqb r rank) listed (omega (arith, some)) in
-          let R : ℕ → Type 0 = λ r. IsRank r in
-          inl (subst R (eqb-true found.card rank found.passes) (are found.card found.held))
+          inl (rw (eqb-true found.card rank found.passes) at (are found.card found.held))
       | inr none ↦ inr (omega arith)
     ]
 

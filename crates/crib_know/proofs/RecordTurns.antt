@@ -1,5 +1,5 @@
 -- The turns of a legal record can be made one by one.
-use Rattle.std.proofs.Common.{◌≡◌, true, List, [], ◌∷◌, map, ap, subst, ◌∙◌}
+use Rattle.std.proofs.Common.{◌≡◌, true, List, [], ◌∷◌, map, ap, ◌∙◌}
 use Rattle.crib_cards.specs.Start.{pone_of}
 use Rattle.crib_cards.specs.declared.sides.Dealt.{Dealt}
 use Rattle.crib_cards.specs.declared.moves.Move.{Move}
@@ -14,7 +14,7 @@ use Rattle.crib_play.proofs.FilledRecords.{acts_visible}
 use Rattle.crib_problem.specs.Setup.{Setup, IsSetup, start_of, hands_of, IsDealOf}
 use Rattle.crib_problem.proofs.StartLemmas.{started}
 use Rattle.crib_know.specs.Hidden.{AgreesWith, IsPossible, CanShow}
-use Rattle.crib_know.proofs.LedHistories.{MayCome, IsLed}
+use Rattle.crib_know.proofs.LedHistories.{IsLed}
 use Rattle.crib_know.proofs.Events.{plays_of, LastPlay, last_play}
 use Rattle.crib_know.proofs.Deals.{dealt_is}
 use Rattle.crib_know.proofs.AgreeingIsPassing.{own_is, mover_same}
@@ -37,10 +37,9 @@ module _ (problem : Setup) (setup : IsSetup problem) (dealt : Dealt) where
       let deal : IsDealOf problem dealt = agrees.0 in
       let last = last_of (Own turn) history agrees in
       let start = start_of problem in
-      let is = own_is (mover (pone_of start) (filled_record start (history_letters history))) last.1.turn turn last.1.shows in
-      let M : Move → Type 0 = λ own. MayCome problem history (Own own) in (
+      let is = own_is (mover (pone_of start) (filled_record start (history_letters history))) last.1.turn turn last.1.shows in (
         agreeing_led history (agrees_before (Own turn) history agrees),
-        subst M is.1 (own_may problem setup dealt deal history last.0 last.1.turn (mover_same problem setup dealt deal history last.0 ∙ is.0) last.1.may),
+        rw is.1 at (own_may problem setup dealt deal history last.0 last.1.turn (mover_same problem setup dealt deal history last.0 ∙ is.0) last.1.may),
       )
   agreeing_led (Theirs letter ∷ history) agrees = (agreeing_led history (agrees_before (Theirs letter) history agrees), (dealt, agrees))
 

@@ -4,7 +4,7 @@ use Rattle.std.proofs.lemmas.Bool.Decides.{nat_tests}
 use Rattle.std.proofs.Common.{◌≡◌, ℕ, zero, suc, ◌+◌, ◌<◌, ◌≤◌, Bool, true, false, cond, ◌&&◌, eqb, ltb, List, [], ◌∷◌, ◌++◌, length, take}
 use Rattle.std.proofs.Common.{refl, sym, ap, ◌∙◌, inl, inr, arith}
 use Rattle.std.specs.List.{filter, range_with_len}
-use Rattle.std.proofs.lemmas.Bool.{cases_lt, and_parts, and_from, or_parts}
+use Rattle.std.proofs.lemmas.Bool.{and_parts, and_from, or_parts}
 use Rattle.std.proofs.lemmas.Bool.{both_ways, eq-eqb}
 use Rattle.crib_cards.specs.Sets.{has, IsCardSet, set_where}
 use Rattle.crib_cards.specs.Order.{is_before, are_rising}
@@ -41,18 +41,7 @@ not_earlier (x ∷ xs) y ys above some = let less = above x (has_here x xs) in g
 
 module _ (p q : ℕ → Bool) where
   later : (start : ℕ) → p start ≡ q start → Differs p q (start + 1) → Differs p q start
-  later start same next =
-      let high = next.high in
-      record {
-        card = next.card;
-        high = omega (arith, high);
-        here = next.here;
-        lacks = next.lacks;
-        below = λ other from less. elim (cases_lt start other) [
-          | inl above ↦ next.below other (omega arith) less
-          | inr most ↦ (let is : other ≡ start = omega arith in ap p is ∙ same ∙ ap q (sym is))
-        ];
-      }
+  later start same next = grind (arith, nat_tests)
 
   by_first : (start : ℕ) (xs ys : List ℕ) (a b : Bool) → p start ≡ a → q start ≡ b → ((card : ℕ) → has xs card ≡ true → start < card) →
       (length xs ≡ length ys → is_before xs ys ≡ true → Differs p q (start + 1)) → length (cond a (start ∷ xs) xs) ≡ length (cond b (start ∷ ys) ys) →
@@ -64,8 +53,7 @@ module _ (p q : ℕ → Bool) where
       rest b e = grind (arith, nat_tests)
   by_first start xs ys true false yes_p no_q above next len e =
       record { card = start; high = omega arith; here = yes_p; lacks = no_q; below = λ other from less. absurd (omega arith) }
-  by_first start xs ys false true no_p yes_q above next len e =
-      absurd (both_ways (is_before xs (start ∷ ys)) (not_earlier xs start ys above (omega arith)) e)
+  by_first start xs ys false true no_p yes_q above next len e = absurd (both_ways (is_before xs (start ∷ ys)) (not_earlier xs start ys above (omega arith)) e)
   by_first start xs ys false false no_p no_q above next len e = later start (no_p ∙ sym no_q) (next len e)
 
   differs_from : (start n : ℕ) → length (filter p (range_with_len start n)) ≡ length (filter q (range_with_len start n)) →

@@ -1,7 +1,8 @@
 -- Each visible turn lowers the bound on the turns that may still be made.
-use Rattle.std.proofs.Common.{◌≡◌, ℕ, ◌+◌, ◌-◌, ◌<◌, ◌≤◌, Bool, true, false, cond, eqb, ltb, List, [], ◌∷◌, ◌++◌, refl, subst, ap, arith}
-use Rattle.std.proofs.Common.{inl, inr}
-use Rattle.std.proofs.lemmas.Bool.{cases_Bool}
+use Rattle.crib_play.specs.Private.TableChanges.{with_asked}
+use Rattle.std.proofs.lemmas.Bool.Decides.{nat_tests}
+use Rattle.std.proofs.lemmas.Bool.{cond_both}
+use Rattle.std.proofs.Common.{◌≡◌, ℕ, ◌+◌, ◌-◌, ◌<◌, ◌≤◌, Bool, true, cond, eqb, ltb, List, [], ◌∷◌, ◌++◌, refl, subst, arith}
 use Rattle.crib_cards.specs.Cards.{rank_of}
 use Rattle.crib_cards.specs.Sides.{other_side}
 use Rattle.crib_cards.specs.declared.sides.Side.{Side}
@@ -15,7 +16,8 @@ use Rattle.crib_play.specs.Filled.{filled_record}
 use Rattle.crib_play.specs.Sound.{IsSound}
 use Rattle.crib_play.specs.Standing.{Standing, standing_after, MayShow, AreTaken, StandsFor, seat_of}
 use Rattle.crib_play.specs.Private.TableChanges.{is_over, with_seat, with_go_said, table_after_close, with_card_on_pile}
-use Rattle.crib_play.specs.Private.TableChanges.{table_after_laying, with_next_asked, table_after_play, table_after_go}
+use Rattle.crib_play.specs.Private.TableChanges.{table_after_laying, with_next_asked, table_after_go}
+use Rattle.crib_play.specs.declared.turns.Turn.TheVariants as turns
 use Rattle.crib_play.specs.History.{Event, Own, Theirs, history_letters}
 use Rattle.crib_play.proofs.SoundLemmas.{sound_heard}
 use Rattle.crib_play.proofs.RecordsReached.{stands_played, stands_passed, reached}
@@ -33,78 +35,45 @@ use Rattle.crib_know.proofs.RecordTurns.{possible_led}
 use Rattle.crib_know.specs.Private.Ahead.{turns_ahead_at, turns_ahead}
 use Rattle.crib_play.proofs.ActSteps.{begun_count}
 
-one_most : (b : Bool) → cond b 1 0 ≤ 1
-one_most true = omega arith
-one_most false = omega arith
-
 waiting_most : (begun owner opponent : Bool) → cond begun (cond owner 1 0 + cond opponent 1 0) 0 ≤ 2
-waiting_most true owner opponent = let a = one_most owner in let b = one_most opponent in omega (arith, a, b)
-waiting_most false owner opponent = omega arith
+waiting_most begun owner opponent = grind (arith, nat_tests)
 
 -- ---- the next side is asked
-ahead_closed : (table : Standing) → turns_ahead_at (table_after_close table) ≤ turns_ahead_at table
-ahead_closed table = omega arith
-
 settled_least : (table : Standing) (side : Side) → turns_ahead_at (with_next_asked table side) ≤ turns_ahead_at table
 settled_least table side =
-    elim (cases_Bool (is_over table)) [
-      | inl over ↦ rw over (omega arith)
-      | inr on ↦ elim (cases_Bool (seat_of table (other_side side)).may_be_asked) [
-        | inl other ↦ rw (on, other) (omega arith)
-        | inr none ↦ elim (cases_Bool (seat_of table side).may_be_asked) [
-          | inl last ↦ rw (on, none, last) (omega arith)
-          | inr last ↦ rw (on, none, last) (omega arith)
-        ]
-      ]
-    ]
+    let P : Standing → Type 0 = λ t. turns_ahead_at t ≤ turns_ahead_at table in
+    cond_both (is_over table) (with_asked table turns.Over) _ P (λ _. omega arith)
+    (λ _. cond_both (seat_of table (other_side side)).may_be_asked (with_asked table (side_asked (other_side side))) _ P (λ _. omega arith)
+    (λ _. cond_both (seat_of table side).may_be_asked (with_asked table (side_asked side)) _ P (λ _. omega arith) (λ _. omega arith)))
 
 -- ---- a card
 pile_less : (table : Standing) (side : Side) (rank : ℕ) → IsSound table → table.asked ≡ side_asked side →
     turns_ahead_at (with_card_on_pile table side rank) < turns_ahead_at table
 pile_less table Owner rank sound asked =
-    let some = sound.fair.owner_seat (sound_heard table Owner sound asked) in
     let most = waiting_most (is_begun (table.pile ++ rank ∷ [])) (ltb 0 (table.owner.left - 1)) table.opponent.may_be_asked in
-    omega (arith, some, most)
+    omega (arith, sound.fair.owner_seat (sound_heard table Owner sound asked), most)
 pile_less table Opponent rank sound asked =
-    let some = sound.fair.opponent_seat (sound_heard table Opponent sound asked) in
     let most = waiting_most (is_begun (table.pile ++ rank ∷ [])) table.owner.may_be_asked (ltb 0 (table.opponent.left - 1)) in
-    omega (arith, some, most)
+    omega (arith, sound.fair.opponent_seat (sound_heard table Opponent sound asked), most)
 
 laid_less : (table : Standing) (side : Side) (rank : ℕ) → IsSound table → table.asked ≡ side_asked side →
     turns_ahead_at (table_after_laying table side rank) < turns_ahead_at table
-laid_less table side rank sound asked = lay (eqb (count_of (table.pile ++ rank ∷ [])) 31)
-  where
-    less : turns_ahead_at (with_card_on_pile table side rank) < turns_ahead_at table
-    less = pile_less table side rank sound asked
-
-    lay : (b : Bool) → turns_ahead_at (cond b (table_after_close (with_card_on_pile table side rank)) (with_card_on_pile table side rank)) < turns_ahead_at
-        table
-    lay true = let a = less in let b = ahead_closed (with_card_on_pile table side rank) in omega (arith, a, b)
-    lay false = less
-
-played_less : (table : Standing) (side : Side) (rank : ℕ) → IsSound table → table.asked ≡ side_asked side →
-    turns_ahead_at (table_after_play table side rank) < turns_ahead_at table
-played_less table side rank sound asked =
-    let a = settled_least (table_after_laying table side rank) side in
-    let b = laid_less table side rank sound asked in
-    omega (arith, a, b)
+laid_less table side rank sound asked =
+    let less = pile_less table side rank sound asked in
+    let P : Standing → Type 0 = λ t. turns_ahead_at t < turns_ahead_at table in
+    cond_both (eqb (count_of (table.pile ++ rank ∷ [])) 31) (table_after_close (with_card_on_pile table side rank)) (with_card_on_pile table side rank) P
+    (λ _. omega (arith, less)) (λ _. less)
 
 -- ---- a go
 said_less : (table : Standing) (side : Side) → IsSound table → table.asked ≡ side_asked side → is_begun table.pile ≡ true →
     turns_ahead_at (with_seat table side (with_go_said (seat_of table side))) < turns_ahead_at table
-said_less table Owner sound asked begun =
-    let heard : table.owner.may_be_asked ≡ true = sound_heard table Owner sound asked in
-    rw (begun, heard) (omega arith)
-said_less table Opponent sound asked begun =
-    let heard : table.opponent.may_be_asked ≡ true = sound_heard table Opponent sound asked in
-    rw (begun, heard) (omega arith)
+said_less table Owner sound asked begun = rw (begun, sound_heard table Owner sound asked) (omega arith)
+said_less table Opponent sound asked begun = rw (begun, sound_heard table Opponent sound asked) (omega arith)
 
 passed_less : (table : Standing) (side : Side) → IsSound table → table.asked ≡ side_asked side → 22 ≤ count_of table.pile →
     turns_ahead_at (table_after_go table side) < turns_ahead_at table
 passed_less table side sound asked high =
-    let a = settled_least (with_seat table side (with_go_said (seat_of table side))) side in
-    let b = said_less table side sound asked (begun_count table.pile high) in
-    omega (arith, a, b)
+    omega (arith, settled_least (with_seat table side (with_go_said (seat_of table side))) side, said_less table side sound asked (begun_count table.pile high))
 
 -- ---- a history that can be next can also be next in the problem without its opening
 led_bare : (problem : Setup) (history : List Event) → IsLed problem history → IsLed (at_first_lead problem) history
@@ -132,7 +101,8 @@ module _ (problem : Setup) (setup : IsSetup problem) (history : List Event) (led
       turns_ahead_at (standing_after (start_of problem) (filled_record (start_of problem) (letter ∷ history_letters history))) < turns_ahead_at table
   less_after side (Seen rank) asked may =
       let next = (stands_played table (start_of problem) (history_letters history) side rank stands asked may).0 in
-      subst (λ t. turns_ahead_at t < turns_ahead_at table) next.shows (played_less table side rank sound asked)
+      subst (λ t. turns_ahead_at t < turns_ahead_at table) next.shows
+      (omega (arith, settled_least (table_after_laying table side rank) side, laid_less table side rank sound asked))
   less_after side Go asked may =
       let next = (stands_passed table (start_of problem) (history_letters history) side stands asked may).0 in
       subst (λ t. turns_ahead_at t < turns_ahead_at table) next.shows (passed_less table side sound asked may)
@@ -152,7 +122,4 @@ turn_falls problem setup (Theirs Go) history led =
 pub know_falls : (know next : Knowledge) (problem : Setup) (event : Event) (history : List Event) → KnowsAfter know problem history →
     KnowsAfter next problem (event ∷ history) → turns_ahead next < turns_ahead know
 know_falls know next problem event history before after =
-    let falls = turn_falls problem before.setup event history (possible_led problem after.setup (event ∷ history) after.possible) in
-    let a : turns_ahead know ≡ _ = ap turns_ahead before.knowledge in
-    let b : turns_ahead next ≡ _ = ap turns_ahead after.knowledge in
-    omega (arith, falls, a, b)
+    rw (before.knowledge, after.knowledge) (turn_falls problem before.setup event history (possible_led problem after.setup (event ∷ history) after.possible))

@@ -23,8 +23,7 @@ different_append [] ys one other apart = other
 different_append (x ∷ xs) ys one other apart = grind (arith, one, apart, in_append, different_append xs ys)
 
 -- a list without one of its members
-without : {X : Type 0} (x : X) (xs : List X) → IsIn x xs →
-    (rest : List X) × (length xs ≡ length rest + 1) × ((y : X) → IsIn y xs → (x ≡ y) ⊎ IsIn y rest)
+without : {X : Type 0} (x : X) (xs : List X) → IsIn x xs → (rest : List X) × (length xs ≡ length rest + 1) × ((y : X) → IsIn y xs → (x ≡ y) ⊎ IsIn y rest)
 without x [] h = absurd h
 without x (y ∷ xs) (inl e) = (xs, omega arith, λ z h. grind (arith, e, h))
 without x (y ∷ xs) (inr h) = let below = without x xs h in (y ∷ below.0, omega (arith, below.1), λ z h. grind (arith, h, below.2 z))

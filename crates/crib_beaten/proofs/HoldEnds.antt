@@ -38,15 +38,15 @@ drop_may unseen (suc place) [] may = refl
 drop_may unseen (suc place) (card ∷ cards) may = drop_may unseen place cards (grind (arith, nat_tests, may, rising_rest card cards))
 
 -- no open deal has the cards of a hold from a place on, if no cards that may be held have them
-pub none_end : (problem : Setup) (cribs : Cribs) (fixed : List ℕ) (starter : ℕ) (ranks : List ℕ) → AreOfProblem problem cribs fixed starter ranks →
+pub none_end : {problem : Setup} {cribs : Cribs} {fixed : List ℕ} {starter : ℕ} {ranks : List ℕ} → AreOfProblem problem cribs fixed starter ranks →
     (demand : Demand) (hold : List ℕ) (place : ℕ) → ((held : List ℕ) → may_hold cribs.unseen fixed held ≡ true → drop place held ≡ drop place hold → ⊥) →
     AreCountedFrom problem demand ranks hold place 0 0
-none_end problem cribs fixed starter ranks of demand hold place none =
+none_end {problem} of demand hold place none =
     (exactly_none (λ dealt order has. closed dealt order has.0.0 has.1), exactly_none (λ dealt order has. closed dealt order has.0.0.0 has.1))
   where
     closed : (dealt : Dealt) → is_in_pack_order dealt ≡ true → IsOpen problem dealt → drop place dealt.hold ≡ drop place hold → ⊥
     closed dealt order is =
-        none dealt.hold ((λ i. may_hold (of.cards.unseen_is i) (of.cards.fixed_is i) dealt.hold) ∙ (open_to problem of.cards.setup dealt order is).0)
+        none dealt.hold ((λ i. may_hold (of.cards.unseen_is i) (of.cards.fixed_is i) dealt.hold) ∙ (open_to of.cards.setup dealt order is).0)
 
 pub no_end : (unseen fixed hold : List ℕ) (place : ℕ) → may_end unseen (drop place hold) ≡ false → (held : List ℕ) →
     may_hold unseen fixed held ≡ true → drop place held ≡ drop place hold → ⊥
@@ -54,7 +54,7 @@ no_end unseen fixed hold place apart held may e =
     both_ways (may_end unseen (drop place hold)) apart (ap (may_end unseen) (sym e) ∙ drop_may unseen place held (and_parts (may_end unseen held) _ may).0)
 
 -- the deals whose hold ends with some cards, by the suit of the card before them
-module _ (ranks hold : List ℕ) (place after : ℕ) (inside : place < length hold) (next : place + 1 ≡ after) (same : map rank_of hold ≡ ranks)
+module _ {ranks : List ℕ} (hold : List ℕ) (place : ℕ) {after : ℕ} (inside : place < length hold) (next : place + 1 ≡ after) (same : map rank_of hold ≡ ranks)
     (Has : Dealt → Type 0) where
   pub numbered : AreNumbered (EndsAs ranks hold after Has) (λ dealt. get_or dealt.hold place 0) suit_of (card_of (rank_of (get_or hold place 0))) 4
   numbered = record {
@@ -65,11 +65,11 @@ module _ (ranks hold : List ℕ) (place after : ℕ) (inside : place < length ho
     back = λ n less. omega (arith, less);
   }
 
-  pub next_suit : (suit count more : ℕ) (longer : List ℕ) → suit < 4 → longer ≡ suited hold place suit →
+  pub next_suit : {suit count more : ℕ} {longer : List ℕ} → suit < 4 → longer ≡ suited hold place suit →
       AreExactly (IsBefore ranks hold place after Has suit) count → AreExactly (EndsAs ranks longer place Has) more →
       AreExactly (IsBefore ranks hold place after Has (suit + 1)) (count + more)
-  next_suit suit count more longer small is so_far gave =
-      next_below _ _ _ _ _ numbered suit count more small so_far (exactly_same
+  next_suit {suit = suit} {longer = longer} small is so_far gave =
+      next_below numbered small so_far (exactly_same
       (λ dealt order has. let both = sym (opened dealt has.0.1) ∙ has.1 ∙ end in ((has.0, ap (drop 1) both), ap (λ (cards : List ℕ). get_or cards 0 0) both))
       (λ dealt order has. (has.0.0, opened dealt has.0.0.1 ∙ (λ i. has.1 i ∷ has.0.1 i) ∙ sym end)) gave)
     where

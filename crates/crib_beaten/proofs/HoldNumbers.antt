@@ -1,10 +1,9 @@
 -- Four ranks as a number.
-use Rattle.std.proofs.Common.{◌≡◌, ℕ, zero, suc, ◌+◌, ◌-◌, ◌*◌, ◌/◌, ◌%◌, ◌<◌, ◌≤◌, Bool, true, cond, List, [], ◌∷◌, length, map, add-one}
+use Rattle.std.proofs.Common.{◌≡◌, ℕ, zero, suc, ◌+◌, ◌-◌, ◌*◌, ◌/◌, ◌<◌, ◌≤◌, Bool, true, cond, List, [], ◌∷◌, length, map, add-one}
 use Rattle.std.proofs.Common.{refl, ap, subst, ◌∙◌, arith}
 use Rattle.std.proofs.lemmas.Bool.Decides.{nat_tests}
 use Rattle.crib_cards.specs.Cards.{IsCard, rank_of}
 use Rattle.crib_cards.specs.Order.{are_rising, is_before}
-use Rattle.crib_cards.proofs.DictionaryOrder.{before_first}
 use Rattle.crib_cards.proofs.Members.{AreCards, all_cards}
 use Rattle.crib_beaten.specs.Private.Numbers.{ranks_of_number, are_in_order, ordered_below, ordered_count}
 
@@ -33,14 +32,7 @@ numbered (w ∷ x ∷ y ∷ z ∷ []) four cards =
     rank card is = omega (arith, is)
 
     digits : (a b c d : ℕ) → a < 13 → b < 13 → c < 13 → d < 13 → HasNumber ((a + 1) ∷ (b + 1) ∷ (c + 1) ∷ (d + 1) ∷ [])
-    digits a b c d la lb lc ld =
-        let n = 13 * (13 * (13 * a + b) + c) + d in
-        let one : a + 1 ≡ n / 2197 + 1 = omega (arith, la, lb, lc, ld) in
-        let two : b + 1 ≡ n / 169 % 13 + 1 = omega (arith, la, lb, lc, ld) in
-        let three : c + 1 ≡ n / 13 % 13 + 1 = omega (arith, la, lb, lc, ld) in
-        let four : d + 1 ≡ n % 13 + 1 = omega (arith, la, lb, lc, ld) in
-        let number : ranks_number ((a + 1) ∷ (b + 1) ∷ (c + 1) ∷ (d + 1) ∷ []) ≡ n = omega arith in
-        rw number ((λ i. one i ∷ two i ∷ three i ∷ four i ∷ []), omega (arith, la, lb, lc, ld))
+    digits a b c d la lb lc ld = grind (arith, la, lb, lc, ld)
 numbered hold four cards = absurd (omega (arith, four))
 
 -- rising cards have their ranks in order
@@ -50,19 +42,8 @@ rising_ranks (card ∷ []) rising = refl
 rising_ranks (card ∷ next ∷ cards) rising = let below = rising_ranks (next ∷ cards) in grind (arith, nat_tests, rising, below)
 
 -- a smaller number has ranks that come before
-before_next : (x y : ℕ) (xs ys : List ℕ) → x ≤ y → (x ≡ y → is_before xs ys ≡ true) → is_before (x ∷ xs) (y ∷ ys) ≡ true
-before_next x y xs ys least rest = grind (arith, nat_tests, least, rest)
-
 pub number_before : (m n : ℕ) → m < n → is_before (ranks_of_number m) (ranks_of_number n) ≡ true
-number_before m n less =
-    let last : List ℕ = (m % 13 + 1) ∷ [] in
-    let last_above : List ℕ = (n % 13 + 1) ∷ [] in
-    let two : List ℕ = (m / 13 % 13 + 1) ∷ last in
-    let two_above : List ℕ = (n / 13 % 13 + 1) ∷ last_above in
-    before_next (m / 2197 + 1) (n / 2197 + 1) ((m / 169 % 13 + 1) ∷ two) ((n / 169 % 13 + 1) ∷ two_above) (omega (arith, less)) (λ one.
-    before_next (m / 169 % 13 + 1) (n / 169 % 13 + 1) two two_above (omega (arith, less, one)) (λ next.
-    before_next (m / 13 % 13 + 1) (n / 13 % 13 + 1) last last_above (omega (arith, less, one, next)) (λ three.
-    before_first (m % 13 + 1) (n % 13 + 1) [] [] (omega (arith, less, one, next, three)))))
+number_before m n less = grind (arith, nat_tests, less)
 
 -- ---- how many numbers have ranks in order
 pub ordered_more : (number : ℕ) → ordered_below (number + 1) ≡ ordered_count (ranks_of_number number) + ordered_below number
@@ -70,10 +51,8 @@ unfolding ordered_below
 ordered_more number = ap ordered_below (add-one number)
 
 ordered_up : (number more : ℕ) → ordered_below number ≤ ordered_below (more + number)
-ordered_up number zero = let same : 0 + number ≡ number = omega arith in rw same (omega arith)
-ordered_up number (suc more) =
-    let next : suc more + number ≡ more + number + 1 = omega arith in
-    rw next (omega (arith, ordered_up number more, ordered_more (more + number)))
+ordered_up number zero = grind arith
+ordered_up number (suc more) = grind (arith, ordered_up number more, ordered_more (more + number))
 
 all_ordered : ordered_below 28561 ≡ 1820
 unfolding ordered_below

@@ -23,7 +23,7 @@ ranks_numbered Has held = record {
   back = ranks_back;
 }
 
-module _ {X : Type 0} (Has : Dealt → Type 0) (list : Dealt → X) (number : X → ℕ) (at : ℕ → X) (most : ℕ) (all : AreNumbered Has list number at most) where
+module _ {X : Type 0} {Has : Dealt → Type 0} {list : Dealt → X} {number : X → ℕ} {at : ℕ → X} {most : ℕ} (all : AreNumbered Has list number at most) where
   -- a deal of the property with a smaller number
   abbrev pub IsBelow : ℕ → Dealt → Type 0
   IsBelow n dealt = Has dealt × (number (list dealt) < n)
@@ -31,12 +31,12 @@ module _ {X : Type 0} (Has : Dealt → Type 0) (list : Dealt → X) (number : X 
   pub none_below : AreExactly (IsBelow 0) 0
   none_below = exactly_none (λ dealt order is. let less = is.1 in absurd (omega (arith, less)))
 
-  pub all_below : (count : ℕ) → AreExactly (IsBelow most) count → AreExactly Has count
-  all_below count = exactly_same (λ dealt order is. is.0) (λ dealt order has. (has, all.few dealt has))
+  pub all_below : {count : ℕ} → AreExactly (IsBelow most) count → AreExactly Has count
+  all_below = exactly_same (λ dealt order is. is.0) (λ dealt order has. (has, all.few dealt has))
 
-  pub next_below : (n count more : ℕ) → n < most → AreExactly (IsBelow n) count → AreExactly (λ dealt. Has dealt × (list dealt ≡ at n)) more →
+  pub next_below : {n count more : ℕ} → n < most → AreExactly (IsBelow n) count → AreExactly (λ dealt. Has dealt × (list dealt ≡ at n)) more →
       AreExactly (IsBelow (n + 1)) (count + more)
-  next_below n count more small =
+  next_below {n} small =
       exactly_either (λ dealt is. elim (cases_lt (number (list dealt)) n) [
         | inl less ↦ inl (is.0, less)
         | inr least ↦ let less = is.1 in inr (is.0, all.are dealt is.0 ∙ ap at (omega (arith, less, least)))

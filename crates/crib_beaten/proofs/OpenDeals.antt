@@ -46,7 +46,7 @@ none_there (first ∷ cards) = grind (arith, nat_tests, has_here first cards)
 abbrev pub may_hold : List ℕ → List ℕ → List ℕ → Bool
 may_hold unseen fixed hold = may_end unseen hold && is_empty (set_without_all fixed hold)
 
-module _ (problem : Setup) (setup : IsSetup problem) where
+module _ {problem : Setup} (setup : IsSetup problem) where
   abbrev unseen : List ℕ
   unseen = unseen_of problem
 
@@ -62,11 +62,8 @@ module _ (problem : Setup) (setup : IsSetup problem) where
     left_is card h = grind (arith, nat_tests, in_set_where (λ c. has unseen c && not (has hold c)) card h)
 
     module _ (may : may_hold unseen fixed hold ≡ true) where
-      held : (are_rising hold ≡ true) × (list_all (has unseen) hold ≡ true) × (is_empty (set_without_all fixed hold) ≡ true)
+      pub held : (are_rising hold ≡ true) × (list_all (has unseen) hold ≡ true) × (is_empty (set_without_all fixed hold) ≡ true)
       held = grind (arith, nat_tests, may)
-
-      pub held_rising : are_rising hold ≡ true
-      held_rising = held.0
 
       held_card : AreCards hold
       held_card card h = (in_set_where (λ c. not (has (known_cards problem) c)) card (all_has (has unseen) hold card held.1 h)).0
@@ -99,23 +96,14 @@ module _ (problem : Setup) (setup : IsSetup problem) where
     thrown_rising = grind (arith, nat_tests, order)
 
     pub open_to : IsOpen problem dealt → IsFree dealt
-    open_to agrees =
-        let are_unseen = all_from (has unseen) dealt.hold (hold_unseen problem setup dealt agrees.0) in
-        let none = fixed_none dealt.hold agrees.0.fixed in
-        let left_there = λ (card : ℕ). λ (h : has dealt.throw card ≡ true).
-        let there = has-append dealt.hold dealt.throw card ∙ or_right _ _ h in
-        has_set_from (λ c. has unseen c && not (has dealt.hold c)) card (hidden problem setup dealt agrees.0 card there).0
-        (grind (
-          arith,
-          nat_tests,
-          h,
-          six_unseen problem setup dealt agrees.0 card there,
-          distinct_apart dealt.hold dealt.throw card agrees.0.deal.distinct,
-        )) in (
-          grind (arith, nat_tests, order, are_unseen, none),
-          agrees.0.deal.held,
-          throw_of (left dealt.hold) dealt.throw agrees.0.deal.thrown thrown_rising left_there,
-        )
+    open_to agrees = (
+      grind (arith, nat_tests, order, all_from (has unseen) dealt.hold (hold_unseen problem setup dealt agrees.0), fixed_none dealt.hold agrees.0.fixed),
+      agrees.0.deal.held,
+      throw_of (left dealt.hold) dealt.throw agrees.0.deal.thrown thrown_rising (λ card h.
+          let there = has-append dealt.hold dealt.throw card ∙ or_right _ _ h in
+          let apart = distinct_apart dealt.hold dealt.throw card agrees.0.deal.distinct in
+          has_set_from _ card (hidden setup agrees.0 card there).0 (grind (arith, nat_tests, h, six_unseen problem setup dealt agrees.0 card there, apart))),
+    )
 
     pub open_from : IsPossible problem (played_events problem) → passes_opening problem dealt.hold ≡ true → IsFree dealt → IsOpen problem dealt
     open_from possible passes free =

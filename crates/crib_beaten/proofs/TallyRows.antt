@@ -48,9 +48,9 @@ pub record IsBelow (problem : Setup) (plan : List Node) (number open_deals beate
   pub rows_are : AreRowsBelow problem plan number rows
 
 -- a sum with one more row, which fits
-pub sum_fits : (most number sum more : ℕ) → number < 28561 → most ≤ 1000000 → sum ≤ most * ordered_below number →
+pub sum_fits : (most : ℕ) {number sum more : ℕ} → number < 28561 → most ≤ 1000000 → sum ≤ most * ordered_below number →
     more ≤ most * ordered_count (ranks_of_number number) → (sum + more ≤ most * ordered_below (number + 1)) × (sum + more < 2 ^ 32)
-sum_fits most number sum more small low one other =
+sum_fits most {number} small low one other =
     rw (ordered_more number) (grind (arith, low, ordered_more number, ordered_few (number + 1) (omega (arith, small)), one, other))
 
 abbrev ComesBefore : RanksTally → RanksTally → Type 0
@@ -62,27 +62,26 @@ in_order_push (first ∷ rows) row order before =
     let next = All-push (λ (later : RanksTally). ComesBefore later first) rows row order.0 (All-head (ComesBefore row) first rows before) in
     (next, in_order_push rows row order.1 (All-tail (ComesBefore row) first rows before))
 
-module _ (problem : Setup) (plan : List Node) (setup : IsSetup problem) where
+open_numbered : {problem : Setup} → IsSetup problem → AreNumbered (IsOpen problem) ranks_held ranks_number ranks_of_number 28561
+open_numbered {problem} setup = ranks_numbered (IsOpen problem) (λ dealt is. (is.0.deal.held, hold_cards problem setup dealt is.0))
+
+module _ {problem : Setup} {plan : List Node} (setup : IsSetup problem) where
   opened : (dealt : Dealt) → Beats problem plan dealt → IsOpen problem dealt
   opened dealt beats = beats_open problem plan dealt setup beats
 
-  open_numbered : AreNumbered (IsOpen problem) ranks_held ranks_number ranks_of_number 28561
-  open_numbered = ranks_numbered (IsOpen problem) (λ dealt is. (is.0.deal.held, hold_cards problem setup dealt is.0))
-
   beats_numbered : AreNumbered (Beats problem plan) ranks_held ranks_number ranks_of_number 28561
-  beats_numbered = ranks_numbered (Beats problem plan)
-      (λ dealt beats. let is = opened dealt beats in (is.0.deal.held, hold_cards problem setup dealt is.0))
+  beats_numbered = ranks_numbered (Beats problem plan) (λ dealt beats. let is = (opened dealt beats).0 in (is.deal.held, hold_cards problem setup dealt is))
 
   pub none_yet : IsBelow problem plan 0 0 0 []
   none_yet = record {
-    open_deals_are = none_below _ _ _ _ _ open_numbered;
-    beaten_are = none_below _ _ _ _ _ beats_numbered;
+    open_deals_are = none_below (open_numbered setup);
+    beaten_are = none_below beats_numbered;
     few = (omega arith, omega arith);
     rows_are = record { right = All-nil _; in_order = tt; all = λ dealt order beats less. absurd (omega (arith, less)) };
   }
 
   -- ---- one more number
-  module _ (number sum beaten : ℕ) (rows : List RanksTally) (row : RanksTally) (small : number < 28561) (below : IsBelow problem plan number sum beaten rows)
+  module _ {number sum beaten : ℕ} {rows : List RanksTally} (row : RanksTally) (small : number < 28561) (below : IsBelow problem plan number sum beaten rows)
       (ranks : row.ranks ≡ ranks_of_number number) (counted : AreCounted problem plan row.ranks row.open_deals row.beaten) where
     kept : All (IsRowBelow problem plan (number + 1)) rows
     kept = λ k d inside. let is = below.rows_are.right k d inside in let less = is.2 in (is.0, is.1, omega (arith, less), is.3)
@@ -97,8 +96,7 @@ module _ (problem : Setup) (plan : List Node) (setup : IsSetup problem) where
       all = λ dealt order beats less. elim (parts dealt beats less) [
         | inl before ↦ below.rows_are.all dealt order beats before
         | inr same ↦
-            let zero : row.beaten ≡ 0 = grind (arith, nat_tests, none) in
-            absurd (exactly_zero (rw zero at counted.are_beaten) dealt order (beats, same))
+            let zero : row.beaten ≡ 0 = grind (arith, nat_tests, none) in absurd (exactly_zero (rw zero at counted.are_beaten) dealt order (beats, same))
       ];
     }
     next_rows true some = record {
@@ -115,28 +113,25 @@ module _ (problem : Setup) (plan : List Node) (setup : IsSetup problem) where
     pub next_tally : (row.open_deals ≤ 209920 * ordered_count (ranks_of_number number)) × (row.beaten ≤ 545792 * ordered_count (ranks_of_number number)) →
         IsBelow problem plan (number + 1) (sum + row.open_deals) (beaten + row.beaten) (with_row rows row)
     next_tally few = record {
-      open_deals_are = next_below _ _ _ _ _ open_numbered number sum row.open_deals small below.open_deals_are (rw ranks at counted.are_open);
-      beaten_are = next_below _ _ _ _ _ beats_numbered number beaten row.beaten small below.beaten_are (rw ranks at counted.are_beaten);
-      few = (
-        (sum_fits 209920 number sum row.open_deals small (omega arith) below.few.0 few.0).0,
-        (sum_fits 545792 number beaten row.beaten small (omega arith) below.few.1 few.1).0,
-      );
+      open_deals_are = next_below (open_numbered setup) small below.open_deals_are (rw ranks at counted.are_open);
+      beaten_are = next_below beats_numbered small below.beaten_are (rw ranks at counted.are_beaten);
+      few = ((sum_fits 209920 small (omega arith) below.few.0 few.0).0, (sum_fits 545792 small (omega arith) below.few.1 few.1).0);
       rows_are = next_rows (ltb 0 row.beaten) refl;
     }
 
   -- all numbers
-  pub whole_tally : {A : Type 0} (tally : Tally A) (number : ℕ) → number ≡ 28561 →
+  pub whole_tally : {A : Type 0} (tally : Tally A) {number : ℕ} → number ≡ 28561 →
       IsBelow problem plan number tally.open_deals tally.beaten tally.rows.items → IsTally problem plan tally
-  whole_tally tally number whole below = let all = rw whole at below in record {
-    are_open = all_below _ _ _ _ _ open_numbered tally.open_deals all.open_deals_are;
-    are_beaten = all_below _ _ _ _ _ beats_numbered tally.beaten all.beaten_are;
+  whole_tally tally whole below = let all = rw whole at below in record {
+    are_open = all_below (open_numbered setup) all.open_deals_are;
+    are_beaten = all_below beats_numbered all.beaten_are;
     are_rows = λ k d inside. (all.rows_are.right k d inside).0;
     in_order = all.rows_are.in_order;
     all = λ dealt order beats. all.rows_are.all dealt order beats (beats_numbered.few dealt beats);
   }
 
   -- ---- the deals with some ranks
-  module _ (ranks : List ℕ) where
+  module _ {ranks : List ℕ} where
     -- no open deal has them
     pub none_counted : ((dealt : Dealt) → is_in_pack_order dealt ≡ true → IsOpen problem dealt → ranks_held dealt ≡ ranks → ⊥) →
         AreCounted problem plan ranks 0 0
@@ -150,12 +145,11 @@ module _ (problem : Setup) (plan : List Node) (setup : IsSetup problem) where
     none_ordered not_so = none_counted (λ dealt order _ is. grind (arith, nat_tests, not_so, is, order, rising_ranks dealt.hold))
 
     -- a demand decides
-    pub counted_by : (demand : Demand) → Decides problem plan (rank_counts ranks) demand → (open_deals missing : ℕ) →
+    pub counted_by : {demand : Demand} {open_deals missing : ℕ} → Decides problem plan (rank_counts ranks) demand →
         AreExactly (λ dealt. IsOpen problem dealt × (ranks_held dealt ≡ ranks)) open_deals →
         AreExactly (λ dealt. IsMissing problem demand dealt × (ranks_held dealt ≡ ranks)) missing → AreCounted problem plan ranks open_deals missing
-    counted_by demand decides open_deals missing are_open are_missing = record {
+    counted_by decides are_open are_missing = record {
       are_open = are_open;
       are_beaten = exactly_same (λ dealt order is. grind (arith, nat_tests, is, decides.missed dealt is.0.0 (ap rank_counts is.1)))
-          (λ dealt order is. grind (arith, nat_tests, is, opened dealt is.0, decides.met dealt (opened dealt is.0) (ap rank_counts is.1)))
-          are_missing;
+          (λ dealt order is. grind (arith, nat_tests, is, opened dealt is.0, decides.met dealt (opened dealt is.0) (ap rank_counts is.1))) are_missing;
     }

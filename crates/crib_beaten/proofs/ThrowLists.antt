@@ -1,6 +1,6 @@
 -- The deals with a hold and a throw of two of some cards: how many of them pass a test.
 use Rattle.std.proofs.Common.{◌≡◌, ◌⊎◌, ℕ, ◌+◌, ◌-◌, ◌*◌, ◌<◌, ◌≤◌, Bool, true, false, cond, count_by, List, [], ◌∷◌, length, get_or, take, drop}
-use Rattle.std.proofs.Common.{not, eqb, slice_index, refl, sym, ap, subst, ◌∙◌, inl, inr, arith}
+use Rattle.std.proofs.Common.{not, eqb, slice_index, refl, sym, ap, ◌∙◌, inl, inr, arith}
 use Rattle.std.proofs.lemmas.List.{take_all}
 use Rattle.std.proofs.lemmas.List.Sums.{sum_by-cons}
 use Rattle.std.proofs.lemmas.Bool.Decides.{nat_tests}
@@ -30,9 +30,7 @@ module _ (hold : List ℕ) (held : are_rising hold ≡ true) (test : List ℕ �
   HasThrow Throw dealt = (dealt.hold ≡ hold) × Throw dealt.throw × (test dealt.throw ≡ true)
 
   one_throw : (throw : List ℕ) → are_rising throw ≡ true → AreExactly (HasThrow (λ thrown. thrown ≡ throw)) (cond (test throw) 1 0)
-  one_throw throw rising = exactly_same
-      (λ dealt order has. let is = has.0 in ((λ i. (sym is i).hold), (λ i. (sym is i).throw), ap test (λ i. (sym is i).throw) ∙ has.1))
-      (λ dealt order has. ((λ i. record { hold = sym has.0 i; throw = sym has.1 i }), ap test (sym has.1) ∙ has.2))
+  one_throw throw rising = exactly_same (λ dealt order has. grind (arith, has)) (λ dealt order has. grind (arith, has))
       (exactly_deal (record { hold = hold; throw = throw }) (test throw) (and_from (are_rising hold) (are_rising throw) held rising))
 
   either_throw : (One Other Throw : List ℕ → Type 0) (count more : ℕ) → ((throw : List ℕ) → Throw throw → One throw ⊎ Other throw) →
@@ -47,8 +45,7 @@ module _ (hold : List ℕ) (held : are_rising hold ≡ true) (test : List ℕ �
       AreExactly (HasThrow (IsThrowWith card others)) (count_by (λ other. test (card ∷ other ∷ [])) others)
   with_first card [] rising above = exactly_none (λ dealt order has. both_ways false refl has.1.1)
   with_first card (other ∷ others) rising above =
-      subst (AreExactly (HasThrow (IsThrowWith card (other ∷ others)))) (sym (sum_by-cons (λ o. cond (test (card ∷ o ∷ [])) 1 0) other others))
-      (either_throw (λ throw. throw ≡ card ∷ other ∷ []) (IsThrowWith card others) (IsThrowWith card (other ∷ others)) _ _
+      rw sum_by-cons (either_throw (λ throw. throw ≡ card ∷ other ∷ []) (IsThrowWith card others) (IsThrowWith card (other ∷ others)) _ _
       (λ throw t. elim (has_cases other t.0 others t.1) [ inl same ↦ inl (rw same t.2) | inr more ↦ inr (t.0, more, t.2) ])
       (λ throw two. (other, has_here other others, two)) (λ throw t. (t.0, has_there other t.0 others t.1, t.2))
       (λ throw two t. let same : other ≡ t.0 = ap (λ (xs : List ℕ). slice_index xs 1) (sym two ∙ t.2) in

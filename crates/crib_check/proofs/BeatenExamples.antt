@@ -1,17 +1,25 @@
 -- Worked examples of deals that beat a plan, and of what a deal must count in the show.
-use Rattle.std.proofs.Common.{◌≡◌, ℕ, true, false, List, [], ◌∷◌, refl, subst}
+use Rattle.std.proofs.Common.{◌≡◌, ℕ, Bool, true, false, List, [], ◌∷◌, ◌++◌, ◌≤◌, refl, subst}
 use Rattle.std.specs.Prelude.{IsFalse, IsTrue, map}
 use Rattle.std.proofs.lemmas.Bool.{both_ways, false_from_ne_true}
 use Rattle.crib_cards.specs.Cards.{rank_of}
 use Rattle.crib_cards.specs.Sets.{rank_counts, set_where}
 use Rattle.crib_cards.specs.declared.sides.Dealt.{Dealt}
+use Rattle.crib_cards.specs.declared.sides.Scores.{Scores}
+use Rattle.crib_cards.specs.declared.sides.Side.{Side}
 use Rattle.crib_show.specs.Show.{hand_points, crib_points}
+use Rattle.crib_show.specs.declared.deals.Full.{Full}
 use Rattle.crib_problem.specs.Setup.{Setup, IsDealOf}
 use Rattle.crib_plan.specs.declared.plan.Node.{Node}
+use Rattle.crib_plan.specs.Places.{plan_start}
+use Rattle.crib_know.specs.Knowledge.{played_events}
+use Rattle.crib_know.specs.Hidden.{KnowsAfter}
 use Rattle.crib_game.specs.declared.following.ending.Ending.TheVariants as ending
 use Rattle.crib_problem.proofs.ExampleProblems.{four_twos, aces}
 use Rattle.crib_check.specs.declared.beaten.demands.Demand.{Demand}
-use Rattle.crib_check.specs.Beaten.{Beats, Decides, IsOpen, counts_of, demand_of, is_met, meets, passes_opening}
+use Rattle.crib_check.specs.declared.beaten.plays.Plays.{Plays}
+use Rattle.crib_check.specs.Beaten.{ArePlays, Beats, Decides, IsOpen, IsShowAt, counts_of, demand_of, is_met, meets, passes_opening}
+use Rattle.crib_check.specs.Failing.{IsFailing}
 use Rattle.crib_check.proofs.Examples.{aces_are_a_deal, no_acts, stuck_at_once}
 use Rattle.crib_check.proofs.SureExamples.{at_29}
 
@@ -30,6 +38,26 @@ aces_meet : map (λ (demand : ℕ × ℕ × ℕ). meets four_twos (record { hand
 unfolding hand_points crib_points
 aces_meet = refl
 
+-- four clubs count as a flush in the hand, and would not in the crib
+abbrev clubs : Dealt
+clubs = record { hold = 0 ∷ 16 ∷ 32 ∷ 44 ∷ []; throw = 8 ∷ 9 ∷ [] }
+
+clubs_meet : map (λ (points : ℕ). meets four_twos (record { hand = points; total = 99; crib = 0 }) clubs) (10 ∷ 9 ∷ []) ≡ true ∷ false ∷ []
+unfolding hand_points crib_points
+clubs_meet = refl
+
+-- ---- the show
+module _ {dealer : Side} {scores : Scores} {target own_hand : ℕ} {is_to_stop : Bool} {full : Full} where
+  show_of_a_deal : IsShowAt dealer scores target is_to_stop own_hand full → (full.dealer ≡ dealer) × (full.scores ≡ scores) × (full.target ≡ target)
+      × (full.stop ≡ is_to_stop) × (hand_points full.own_hold full.starter ≡ own_hand)
+  show_of_a_deal is = (is.dealer_is, is.scores_are, is.target_is, is.stop_is, is.own_hand_is)
+
+  opponent_has_102 : IsShowAt dealer scores target is_to_stop own_hand full → hand_points full.opp.hold full.starter ≤ 102
+  opponent_has_102 is = is.few_hand
+
+  crib_has_102 : IsShowAt dealer scores target is_to_stop own_hand full → crib_points (full.own_throw ++ full.opp.throw) full.starter ≤ 102
+  crib_has_102 is = is.few_crib
+
 -- ---- open deals
 aces_are_open : IsOpen four_twos aces
 aces_are_open = (aces_are_a_deal, ([], tt, refl))
@@ -43,16 +71,26 @@ no_two_is_held is = both_ways false refl is.0.deal.hidden_before
 the_ten_is_held : IsOpen at_29 (record { hold = 1 ∷ 2 ∷ 3 ∷ 38 ∷ []; throw = 8 ∷ 9 ∷ [] }) → ⊥
 the_ten_is_held is = both_ways false refl is.0.fixed
 
-passes_with_a_ten : map (passes_opening at_29) ((1 ∷ 2 ∷ 3 ∷ 38 ∷ []) ∷ (1 ∷ 2 ∷ 3 ∷ 40 ∷ []) ∷ []) ≡ true ∷ false ∷ []
+passes_with_a_ten : map (passes_opening at_29) ((1 ∷ 2 ∷ 3 ∷ 38 ∷ []) ∷ (38 ∷ 1 ∷ 2 ∷ 3 ∷ []) ∷ (1 ∷ 2 ∷ 3 ∷ 40 ∷ []) ∷ []) ≡ true ∷ true ∷ false ∷ []
 passes_with_a_ten = refl
 
 -- ---- deals that beat a plan: without a node it is stuck at the first lead
 aces_beat_nothing : Beats four_twos [] aces
 aces_beat_nothing = record { game = no_acts; result = ending.Stuck; failing = stuck_at_once; of_deal = refl }
 
+beaten_by_a_game : {problem : Setup} {plan : List Node} {dealt : Dealt} (beats : Beats problem plan dealt) →
+    IsFailing problem plan beats.game beats.result × (beats.game.opp ≡ dealt)
+beaten_by_a_game beats = (beats.failing, beats.of_deal)
+
 -- what beats a plan is a deal of the problem
 what_beats_is_a_deal : (problem : Setup) (plan : List Node) (dealt : Dealt) → Beats problem plan dealt → IsDealOf problem dealt
 what_beats_is_a_deal problem plan dealt beats = subst (IsDealOf problem) beats.of_deal beats.failing.of_game.of_game.deal
+
+-- no game that fails has a deal with an owner's card
+nothing_beats_with_a_two : (plan : List Node) → Beats four_twos plan (record { hold = 0 ∷ 1 ∷ 2 ∷ 4 ∷ []; throw = 8 ∷ 9 ∷ [] }) → ⊥
+unfolding set_where
+nothing_beats_with_a_two plan beats =
+    both_ways false refl (subst (IsDealOf four_twos) beats.of_deal beats.failing.of_game.of_game.deal).deal.hidden_before
 
 -- a demand that decides is missed by them
 the_demand_is_missed : (demand : Demand) → Decides four_twos [] (rank_counts (1 ∷ 1 ∷ 1 ∷ 1 ∷ [])) demand → IsFalse (meets four_twos demand aces)
@@ -75,3 +113,21 @@ missed_ones_beat problem plan counts demand decides dealt agrees same = (decides
 -- ---- places
 places : (counts_of ((1 ∷ []) ∷ (2 ∷ []) ∷ []) 1 ≡ 2 ∷ []) × (demand_of (of_three ∷ []) 0 ≡ of_three)
 places = (refl, refl)
+
+abbrev of_nothing : Demand
+of_nothing = record { hand = 0; total = 0; crib = 0 }
+
+places_without_a_demand : demand_of (of_three ∷ of_nothing ∷ []) 0 ∷ demand_of (of_three ∷ of_nothing ∷ []) 2 ∷ [] ≡ of_three ∷ of_nothing ∷ []
+places_without_a_demand = refl
+
+-- ---- the games of a problem
+module _ {A : Type 0} {problem : Setup} {plan : List Node} {plays : Plays A} where
+  games_of_a_problem : ArePlays problem plan plays → (plays.problem.now ≡ problem) × (plays.plan.now ≡ plan) × (plays.start.place ≡ plan_start plan)
+      × (plays.own_hand ≡ hand_points problem.hold problem.starter)
+  games_of_a_problem are = (are.same_problem, are.same_plan, are.place, are.points)
+
+  known_before_them : ArePlays problem plan plays → KnowsAfter plays.start.know problem (played_events problem)
+  known_before_them are = are.knows
+
+  owner_has_102 : ArePlays problem plan plays → plays.own_hand ≤ 102
+  owner_has_102 are = are.few

@@ -26,45 +26,43 @@ use Rattle.crib_game.specs.Private.Tracing.{ending_at}
 use Rattle.crib_check.specs.declared.keys.Key.{Key}
 use Rattle.crib_check.specs.Failing.{IsFailingEnding}
 use Rattle.crib_check.specs.Private.Demands.{BeatsFrom}
-use Rattle.crib_check.specs.Private.Histories.{history_of_game}
 use Rattle.crib_check.specs.Private.Positions.{StandsAt}
 use Rattle.crib_check.specs.Private.Suits.{acts_in_suits}
 use Rattle.crib_check.proofs.ExtendedGames.{agrees_earlier, extends_less, failing_agrees}
 use Rattle.crib_check.proofs.NamedGames.{fails_here, history_is}
 
 -- ---- a deal that beats a plan from a history on
-module _ (problem : Setup) (plan : List Node) where
+module _ {problem : Setup} {plan : List Node} where
   -- agrees with the history
-  pub beats_agrees : IsSetup problem → (history : List Event) (dealt : Dealt) → BeatsFrom problem plan history dealt → AgreesWith problem history dealt
-  beats_agrees setup history dealt beats =
-      rw (← beats.beats.of_deal)
-      (agrees_earlier problem setup beats.beats.game.opp beats.extends.0 history
-      (rw beats.extends.1 at (failing_agrees problem plan beats.beats.game beats.beats.result beats.beats.failing)))
+  pub beats_agrees : IsSetup problem → {history : List Event} {dealt : Dealt} → BeatsFrom problem plan history dealt → AgreesWith problem history dealt
+  beats_agrees setup {history} beats =
+      rw (← beats.beats.of_deal) (agrees_earlier setup beats.extends.0 history (rw beats.extends.1 at (failing_agrees beats.beats.failing)))
 
   -- beats it from each earlier history on
-  pub beats_earlier : (event : Event) (history : List Event) (dealt : Dealt) → BeatsFrom problem plan (event ∷ history) dealt →
+  pub beats_earlier : {event : Event} {history : List Event} {dealt : Dealt} → BeatsFrom problem plan (event ∷ history) dealt →
       BeatsFrom problem plan history dealt
-  beats_earlier event history dealt beats =
-      record { beats = beats.beats; extends = extends_less event history (history_of_game beats.beats.game) beats.extends }
+  beats_earlier beats = record { beats = beats.beats; extends = extends_less beats.extends }
 
   -- a deal beats the plan from a position on if it fails there
-  module _ (key : Key) (dealt : Dealt) (fails : IsFailingEnding (ending_at problem dealt key.know.round key.know.own_left (stated_card plan key.place))) where
-    beats_later : (later : List Event) → StandsAt problem plan key (later ++ played_events problem) →
-        AgreesWith problem (later ++ played_events problem) dealt → BeatsFrom problem plan (later ++ played_events problem) dealt
-    beats_later later stands agrees =
-        let listed : List Act = acts_in_suits dealt.hold (played_back problem) later in
-        let game : Game = record { opp = dealt; acts = record { items = reverse listed } } in
-        let failing = fails_here problem plan key later stands game agrees (reverse-reverse listed) _ refl fails in record {
-          beats = record { game = game; result = _; failing = failing; of_deal = refl };
-          extends = ([], history_is problem plan key later stands game agrees (reverse-reverse listed));
-        }
+  beats_later : {key : Key} {dealt : Dealt} (later : List Event) → StandsAt problem plan key (later ++ played_events problem) →
+      AgreesWith problem (later ++ played_events problem) dealt →
+      IsFailingEnding (ending_at problem dealt key.know.round key.know.own_left (stated_card plan key.place)) →
+      BeatsFrom problem plan (later ++ played_events problem) dealt
+  beats_later {key} {dealt} later stands agrees fails =
+      let listed : List Act = acts_in_suits dealt.hold (played_back problem) later in
+      let game : Game = record { opp = dealt; acts = record { items = reverse listed } } in
+      let failing = fails_here later stands game agrees (reverse-reverse listed) refl fails in record {
+        beats = record { game = game; result = _; failing = failing; of_deal = refl };
+        extends = ([], history_is later stands game agrees (reverse-reverse listed));
+      }
 
-    pub beats_here : (history : List Event) → StandsAt problem plan key history → AgreesWith problem history dealt → BeatsFrom problem plan history dealt
-    beats_here history stands agrees =
-        let parts = stands.knows.begun.parts in rw parts (beats_later stands.knows.begun.later (rw parts at stands) (rw parts at agrees))
+  pub beats_here : {key : Key} {dealt : Dealt} {history : List Event} → StandsAt problem plan key history → AgreesWith problem history dealt →
+      IsFailingEnding (ending_at problem dealt key.know.round key.know.own_left (stated_card plan key.place)) → BeatsFrom problem plan history dealt
+  beats_here stands agrees fails =
+      let parts = stands.knows.begun.parts in rw parts (beats_later stands.knows.begun.later (rw parts at stands) (rw parts at agrees) fails)
 
 -- ---- the points of the opponent's hand and of the crib
-module _ (problem : Setup) (setup : IsSetup problem) (dealt : Dealt) (deal : IsDealOf problem dealt) where
+module _ {problem : Setup} {dealt : Dealt} (setup : IsSetup problem) (deal : IsDealOf problem dealt) where
   abbrev known : List ℕ
   known = known_cards problem
 

@@ -21,11 +21,11 @@ use Rattle.crib_check.proofs.PositionHistories.{stands_at_start}
 -- ---- deals that beat a plan
 module _ (problem : Setup) (plan : List Node) (dealt : Dealt) where
   beats_from : Beats problem plan dealt → BeatsFrom problem plan (played_events problem) dealt
-  beats_from beats = record { beats = beats; extends = failing_begins problem plan beats.game beats.result beats.failing }
+  beats_from beats = record { beats = beats; extends = failing_begins beats.failing }
 
   -- are open
   pub beats_open : IsSetup problem → Beats problem plan dealt → IsOpen problem dealt
-  beats_open setup beats = beats_agrees problem plan setup (played_events problem) dealt (beats_from beats)
+  beats_open setup beats = beats_agrees setup (beats_from beats)
 
 -- ---- what the games after the opening demand of the holds with some ranks, as the code has them
 module _ {A : Type 0} {problem : Setup} {plan : List Node} {plays : Plays A} (are : ArePlays problem plan plays) where
@@ -62,6 +62,6 @@ module _ {A : Type 0} {problem : Setup} {plan : List Node} {plays : Plays A} (ar
 
         same_met : (dealt : Dealt) → IsOpen problem dealt → meets problem new dealt ≡ meets problem joined.more dealt
         same_met dealt agrees =
-            let hand = few_hand problem are.knows.setup dealt agrees.0 in
-            let crib = few_crib problem are.knows.setup dealt agrees.0 in
+            let hand = few_hand are.knows.setup agrees.0 in
+            let crib = few_crib are.knows.setup agrees.0 in
             joined.joins _ _ hand crib ∙ ap (λ (b : Bool). b && meets problem joined.more dealt) (all _ _ hand crib)

@@ -43,7 +43,7 @@ use Rattle.crib_check.proofs.WalkConclusions.{over_ends, over_misses, own_goes_o
 -- a demand that each deal meets, or none
 pub met_as : {problem : Setup} {dealt : Dealt} {met : Bool} (demand : Demand) → IsSetup problem → IsDealOf problem dealt →
     ((hand crib : ℕ) → hand ≤ 102 → crib ≤ 102 → is_met demand hand crib ≡ met) → meets problem demand dealt ≡ met
-met_as {problem} {dealt} demand setup deal each = each _ _ (few_hand problem setup dealt deal) (few_crib problem setup dealt deal)
+met_as {problem} {dealt} demand setup deal each = each _ _ (few_hand setup deal) (few_crib setup deal)
 
 -- ---- a hold that shows a letter
 module _ {problem : Setup} {plan : List Node} {key : Key} {history : List Event} (stands : StandsAt problem plan key history)
@@ -60,8 +60,7 @@ module _ {problem : Setup} {plan : List Node} {key : Key} {history : List Event}
   -- shows it only if it may
   pub none_shown : (letter : Letter) (next : Key) → StandsAt problem plan next (Theirs letter ∷ history) →
       may_show key.know next.know letter counts ≡ false → AgreesWith problem (Theirs letter ∷ history) dealt → ⊥
-  none_shown Go next after none agrees =
-      both_ways _ (rw (← same) at none) ((passing_same next.know problem (Theirs Go ∷ history) after.knows dealt).0 agrees).1
+  none_shown Go next after none agrees = both_ways _ (rw (← same) at none) ((passing_same next.know problem (Theirs Go ∷ history) after.knows dealt).0 agrees).1
   none_shown (Seen rank) next after none agrees =
       let is = theirs_letter problem setup history (Seen rank) (dealt, agrees) in
       let enough = (agrees_passes problem setup dealt agrees.0 (Theirs (Seen rank) ∷ history) agrees rank is).enough in
@@ -70,8 +69,7 @@ module _ {problem : Setup} {plan : List Node} {key : Key} {history : List Event}
   -- shows it, if it may
   pub theirs_agrees : (letter : Letter) (next : Key) → StandsAt problem plan next (Theirs letter ∷ history) →
       may_show key.know next.know letter counts ≡ true → AgreesWith problem history dealt → AgreesWith problem (Theirs letter ∷ history) dealt
-  theirs_agrees Go next after may agrees =
-      (passing_same next.know problem (Theirs Go ∷ history) after.knows dealt).1 (agrees.0, rw (← same) at may)
+  theirs_agrees Go next after may agrees = (passing_same next.know problem (Theirs Go ∷ history) after.knows dealt).1 (agrees.0, rw (← same) at may)
   theirs_agrees (Seen rank) next after may agrees =
       passing_agrees problem setup dealt agrees.0 (Theirs (Seen rank) ∷ history) (led_of next.know problem (Theirs (Seen rank) ∷ history) after.knows)
       (λ other is_rank.
@@ -100,8 +98,7 @@ Goes problem plan key event next =
 pub goes_on : {problem : Setup} {plan : List Node} {key : Key} {event : Event} {next : Key} → IsAfterSome problem plan key → Goes problem plan key event next →
     IsAfterSome problem plan next × (turns_ahead next.know < turns_ahead key.know)
 goes_on {problem} {plan} {key} {event} {next} here goes =
-    let after = goes here.0 here.1 in
-    ((event ∷ here.0, after), know_falls key.know next.know problem event here.0 here.1.knows after.knows)
+    let after = goes here.0 here.1 in ((event ∷ here.0, after), know_falls key.know next.know problem event here.0 here.1.knows after.knows)
 
 -- a failing game with this deal goes on with one of the letters before a place
 abbrev pub BeatsBelow : Setup → List Node → ℕ → List Event → Dealt → Type 0
@@ -120,19 +117,15 @@ module _ {problem : Setup} {plan : List Node} {key : Key} {counts : List ℕ} wh
       IsDemandFrom problem plan key counts demand
   over_demand demand over decides history stands dealt agrees same =
       let told = decides history dealt stands.knows agrees in (
-        λ missed. beats_here problem plan key dealt (rw (over_ends problem plan key history stands over dealt)
-            (failed_outcome _ (λ reached. both_ways _ missed (told.1 reached)))) history stands agrees,
-        λ beats. false_from_ne_true _ (λ met.
-            (over_misses problem plan key history stands over beats.beats.game beats.beats.result beats.beats.failing beats.extends).1
-            (rw beats.beats.of_deal (told.0 met))),
+        λ missed. beats_here stands agrees (rw (over_ends stands over dealt) (failed_outcome _ (λ reached. both_ways _ missed (told.1 reached)))),
+        λ beats. false_from_ne_true _ (λ met. (over_misses stands over beats.beats.failing beats.extends).1 (rw beats.beats.of_deal (told.0 met))),
       )
 
   -- the owner is stuck
   pub stuck_demand : (demand : Demand) → IsStuckAt plan key → ((hand crib : ℕ) → crib ≤ 102 → is_met demand hand crib ≡ false) →
       IsDemandFrom problem plan key counts demand
   stuck_demand demand stuck none history stands dealt agrees same = (
-    λ missed. beats_here problem plan key dealt (subst IsFailingEnding (sym (stuck_ends problem plan key history stands stuck dealt)) (inl refl)) history
-        stands agrees,
+    λ missed. beats_here stands agrees (subst IsFailingEnding (sym (stuck_ends stands stuck dealt)) (inl refl)),
     λ beats. met_as demand stands.knows.setup agrees.0 (λ hand crib few. none hand crib),
   )
 
@@ -142,10 +135,8 @@ module _ {problem : Setup} {plan : List Node} {key : Key} {counts : List ℕ} wh
   own_demand {what} demand asked may goes tells history stands dealt agrees same =
       let after = goes history stands in
       let told = tells (Own what ∷ history) after dealt (own_agrees stands dealt same asked after agrees) same in (
-        λ missed. beats_earlier problem plan (Own what) history dealt (told.0 missed),
-        λ beats.
-            let on = own_goes_on problem plan key history stands what may beats.beats.game beats.beats.result beats.beats.failing beats.extends in
-            told.1 (record { beats = beats.beats; extends = on }),
+        λ missed. beats_earlier (told.0 missed),
+        λ beats. told.1 (record { beats = beats.beats; extends = own_goes_on stands what may beats.beats.failing beats.extends }),
       )
 
   -- no deal is beaten
@@ -167,16 +158,15 @@ module _ {problem : Setup} {plan : List Node} {key : Key} {counts : List ℕ} wh
   pub theirs_not_shown : {letter : Letter} {next : Key} → Goes problem plan key (Theirs letter) next → may_show key.know next.know letter counts ≡ false →
       IsDemandAfter problem plan key counts letter no_demand
   theirs_not_shown {letter} {next} goes none = none_demand (λ history stands dealt same beats.
-      none_shown stands dealt same letter next (goes history stands) none (beats_agrees problem plan stands.knows.setup (Theirs letter ∷ history) dealt beats))
+      none_shown stands dealt same letter next (goes history stands) none (beats_agrees stands.knows.setup beats))
 
   -- ---- the letters before a place
   pub none_below : IsDemandBelow problem plan key counts 0 no_demand
   none_below = none_demand (λ history stands dealt same beats. omega (arith, beats.1))
 
   pub next_below : {place : ℕ} {letter : Letter} (demand other joined : Demand) → letter_place letter ≡ place → IsLetter letter →
-      ((hand crib : ℕ) → is_met joined hand crib ≡ (is_met demand hand crib && is_met other hand crib)) →
-      IsDemandBelow problem plan key counts place demand → IsDemandAfter problem plan key counts letter other →
-      IsDemandBelow problem plan key counts (place + 1) joined
+      ((hand crib : ℕ) → is_met joined hand crib ≡ (is_met demand hand crib && is_met other hand crib)) → IsDemandBelow problem plan key counts place demand →
+      IsDemandAfter problem plan key counts letter other → IsDemandBelow problem plan key counts (place + 1) joined
   next_below {place} {letter} demand other joined at is join before last history stands dealt agrees same =
       let told = before history stands dealt agrees same in
       let told_last = last history stands dealt agrees same in (
@@ -187,7 +177,7 @@ module _ {problem : Setup} {plan : List Node} {key : Key} {counts : List ℕ} wh
         λ beats. join _ _ ∙ elim (cases_lt (letter_place beats.0) place) [
           | inl less ↦ and_left _ _ (told.1 (beats.0, less, beats.2))
           | inr most ↦
-              let agrees_then = beats_agrees problem plan stands.knows.setup (Theirs beats.0 ∷ history) dealt beats.2 in
+              let agrees_then = beats_agrees stands.knows.setup beats.2 in
               let valid = theirs_letter problem stands.knows.setup history beats.0 (dealt, agrees_then) in
               and_right _ _ (told_last.1 (rw (same_letter beats.0 letter valid is (omega (arith, most, beats.1, at))) at beats.2))
         ],
@@ -197,9 +187,9 @@ module _ {problem : Setup} {plan : List Node} {key : Key} {counts : List ℕ} wh
       IsDemandFrom problem plan key counts demand
   all_below demand asked all before history stands dealt agrees same =
       let told = before history stands dealt agrees same in (
-        λ missed. let beats = told.0 missed in beats_earlier problem plan (Theirs beats.0) history dealt beats.2,
+        λ missed. let beats = told.0 missed in beats_earlier beats.2,
         λ beats.
-            let next = theirs_goes_on problem plan key history stands asked beats.beats.game beats.beats.result beats.beats.failing beats.extends in
+            let next = theirs_goes_on stands asked beats.beats.failing beats.extends in
             let small = place_small next.letter (theirs_letter problem stands.knows.setup history next.letter next.can) in
             told.1 (next.letter, omega (arith, small, all), record { beats = beats.beats; extends = next.extends }),
       )

@@ -11,19 +11,16 @@ use Rattle.crib_play.specs.History.{Event, history_letters}
 use Rattle.crib_show.specs.Outcome.{outcome_of}
 use Rattle.crib_show.specs.Worst as worst
 use Rattle.crib_show.specs.Worst.{HasDeal, CanFail, NeverFails}
-use Rattle.crib_show.specs.declared.show.outcomes.Outcome.TheVariants.{Reached, Lost}
 use Rattle.crib_problem.specs.Setup.{Setup, start_of, target_of}
 use Rattle.crib_know.specs.Knowledge.{Knowledge, their_ranks}
-use Rattle.crib_know.specs.Hidden.{AgreesWith, KnowsAfter}
-use Rattle.crib_know.proofs.RecordTurns.{possible_led}
-use Rattle.crib_know.proofs.KnowledgeFacts.{first_deal_is}
+use Rattle.crib_know.specs.Hidden.{KnowsAfter}
 use Rattle.crib_game.specs.Replay.{full_with}
 use Rattle.crib_check.specs.Private.Positions.{AllReach}
 use Rattle.crib_check.specs.Shows.{IsReachedBehind, full_behind, worst_of}
 use Rattle.crib_check.proofs.FirstShortfalls as shorts
 use Rattle.crib_check.proofs.FirstShortfalls.{decided_reached, decided_lost, four_played, behind_to, behind_from}
 
-module _ (know : Knowledge) (problem : Setup) (history : List Event) (knows : KnowsAfter know problem history) where
+module _ {know : Knowledge} {problem : Setup} {history : List Event} (knows : KnowsAfter know problem history) where
   scores_are : know.round.scores ≡ scores_after (start_of problem) (filled_record (start_of problem) (history_letters history))
   scores_are = ap (λ (k : Knowledge). k.round.scores) knows.knowledge
 
@@ -31,27 +28,20 @@ module _ (know : Knowledge) (problem : Setup) (history : List Event) (knows : Kn
   all_reach reached dealt agrees = ap (λ (s : Scores). outcome_of (full_with problem dealt s)) scores_are ∙ reached dealt agrees
 
   pub reached_now : target_of problem ≤ know.round.scores.owner → IsReachedBehind problem history
-  reached_now high dealt agrees =
-      decided_reached (full_behind problem history dealt) (rw scores_are at high)
+  reached_now high dealt agrees = decided_reached (full_behind problem history dealt) (rw scores_are at high)
 
   pub lost_now : know.round.scores.owner < target_of problem → game_hole ≤ know.round.scores.opponent → IsReachedBehind problem history → ⊥
-  lost_now low high all = for_deal _ (first_deal_is problem knows.setup history (possible_led problem knows.setup history knows.possible) knows.begun).agrees
-    where
-      apart : Reached ≡ Lost → ⊥
-      apart e = cc
-
-      for_deal : (dealt : Dealt) → AgreesWith problem history dealt → ⊥
-      for_deal dealt agrees =
-          apart (sym (all dealt agrees) ∙ decided_lost (full_behind problem history dealt) (rw scores_are at low) (rw scores_are at high))
+  lost_now low high all =
+      cc (all knows.possible.0 knows.possible.1, decided_lost (full_behind problem history knows.possible.0) (rw scores_are at low) (rw scores_are at high))
 
   -- ---- eight cards are played
   module _ (over : know.round.asked ≡ turns.Over) (low : know.round.scores.owner < target_of problem) (open_score : know.round.scores.opponent < game_hole)
     where
       four : length (their_ranks history) ≡ 4
-      four = four_played problem know history knows over low open_score
+      four = four_played knows over low open_score
 
       pub has_deal : HasDeal (worst_of problem know)
-      has_deal = shorts.has_deal problem know history knows four (worst_of problem know) refl
+      has_deal = shorts.has_deal knows four refl
 
       full_same : (dealt : Dealt) → outcome_of (worst.with_dealt (worst_of problem know) dealt) ≡ outcome_of (full_behind problem history dealt)
       full_same dealt = ap (λ (s : Scores). outcome_of (full_with problem dealt s)) scores_are
@@ -62,9 +52,6 @@ module _ (know : Knowledge) (problem : Setup) (history : List Event) (knows : Kn
       end_is true some none =
           let failure = some refl in (
             λ h. absurd (both_ways false refl h),
-            λ all. absurd (failure.1.fails (full_same failure.0 ∙ all failure.0 (behind_from problem know history knows four failure.0 failure.1.agrees))),
+            λ all. absurd (failure.1.fails (full_same failure.0 ∙ all failure.0 (behind_from knows four failure.0 failure.1.agrees))),
           )
-      end_is false some none = (
-        λ h dealt agrees. sym (full_same dealt) ∙ none refl dealt (behind_to problem know history knows four dealt agrees),
-        λ reached. refl,
-      )
+      end_is false some none = (λ h dealt agrees. sym (full_same dealt) ∙ none refl dealt (behind_to knows four dealt agrees), λ reached. refl)

@@ -7,7 +7,9 @@ use Rattle.crib_cards.specs.declared.moves.Act.{Act}
 use Rattle.crib_play.specs.History.{Event, event_of}
 use Rattle.crib_problem.specs.Setup.{Setup, IsSetup, start_of, played_back}
 use Rattle.crib_plan.specs.declared.plan.Node.{Node}
-use Rattle.crib_know.specs.Knowledge.{played_events}
+use Rattle.crib_know.specs.Knowledge.{played_events, knowledge_after}
+use Rattle.crib_check.specs.declared.keys.Key.{Key}
+use Rattle.crib_check.specs.Private.Positions.{StandsAt}
 use Rattle.crib_know.specs.Hidden.{AgreesWith, BeginsAfter}
 use Rattle.crib_know.proofs.LedHistories.{MayCome}
 use Rattle.crib_know.proofs.RecordTurns.{agrees_before, agreeing_led}
@@ -17,8 +19,8 @@ use Rattle.crib_check.specs.Failing.{IsFailing}
 use Rattle.crib_check.specs.Private.Histories.{place_by, IsStatedEvent, FollowsBy, Extends, history_of_game}
 use Rattle.crib_check.proofs.PlaceByHistory.{begun_late, follows_to}
 
-pub extends_less : (event : Event) (history longer : List Event) → Extends (event ∷ history) longer → Extends history longer
-extends_less event history longer ext = (ext.0 ++ event ∷ [], ext.1 ∙ sym (append_assoc ext.0 (event ∷ []) history))
+pub extends_less : {event : Event} {history longer : List Event} → Extends (event ∷ history) longer → Extends history longer
+extends_less {event} {history} ext = (ext.0 ++ event ∷ [], ext.1 ∙ sym (append_assoc ext.0 (event ∷ []) history))
 
 -- a history that goes on from another is that one, or has one more event at least
 pub record GoesOnWith (history longer : List Event) : Type 0 where
@@ -37,7 +39,7 @@ extends_cases history longer ext = split ext.0 longer ext.1
         ]
 
 -- ---- failing games
-module _ (problem : Setup) (plan : List Node) (game : Game) (result : Ending) (failing : IsFailing problem plan game result) where
+module _ {problem : Setup} {plan : List Node} {game : Game} {result : Ending} (failing : IsFailing problem plan game result) where
   pub failing_agrees : AgreesWith problem (history_of_game game) game.opp
   failing_agrees =
       let of = failing.of_game.of_game in
@@ -59,11 +61,27 @@ pub follows_earlier : (plan : List Node) (played : List Act) (later history : Li
 follows_earlier plan played [] history follows = follows
 follows_earlier plan played (event ∷ later) history follows = follows_earlier plan played later history follows.0
 
-pub agrees_earlier : (problem : Setup) → IsSetup problem → (dealt : Dealt) (later history : List Event) → AgreesWith problem (later ++ history) dealt →
+pub agrees_earlier : {problem : Setup} {dealt : Dealt} → IsSetup problem → (later history : List Event) → AgreesWith problem (later ++ history) dealt →
     AgreesWith problem history dealt
-agrees_earlier problem setup dealt [] history agrees = agrees
-agrees_earlier problem setup dealt (event ∷ later) history agrees =
-    agrees_earlier problem setup dealt later history (agrees_before problem setup dealt event (later ++ history) agrees)
+agrees_earlier setup [] history agrees = agrees
+agrees_earlier setup (event ∷ later) history agrees = agrees_earlier setup later history (agrees_before _ setup _ event (later ++ history) agrees)
+
+-- the position after a history, and that a failing game passes it
+abbrev pub key_at : Setup → List Node → List Event → Key
+key_at problem plan history = record { know = knowledge_after problem history; place = place_by plan problem.played history }
+
+pub stands_at : {problem : Setup} {plan : List Node} {history : List Event} {game : Game} {result : Ending} → IsSetup problem → BeginsAfter problem history →
+    IsFailing problem plan game result → Extends history (history_of_game game) → StandsAt problem plan (key_at problem plan history) history
+stands_at {problem} {plan} {history} {game} setup begun failing ext = record {
+  knows = record {
+    setup = setup;
+    begun = begun;
+    possible = (game.opp, agrees_earlier setup ext.0 history (rw ext.1 at (failing_agrees failing)));
+    knowledge = refl;
+  };
+  place = refl;
+  follows = follows_earlier plan problem.played ext.0 history (rw ext.1 at (failing_follows failing));
+}
 
 -- the next turn of a failing game that goes on from a history
 pub record NextTurn (problem : Setup) (plan : List Node) (history : List Event) (game : Game) : Type 0 where
@@ -72,18 +90,17 @@ pub record NextTurn (problem : Setup) (plan : List Node) (history : List Event) 
   pub may : MayCome problem history event
   pub stated : IsStatedEvent plan (place_by plan problem.played history) event
 
-pub next_turn : (problem : Setup) (plan : List Node) → IsSetup problem → (history : List Event) → BeginsAfter problem history →
-    (game : Game) (result : Ending) → IsFailing problem plan game result →
-    Extends history (history_of_game game) → (history_of_game game ≡ history) ⊎ NextTurn problem plan history game
-next_turn problem plan setup history begun game result failing ext =
+pub next_turn : {problem : Setup} {plan : List Node} {history : List Event} {game : Game} {result : Ending} → IsSetup problem → BeginsAfter problem history →
+    IsFailing problem plan game result → Extends history (history_of_game game) → (history_of_game game ≡ history) ⊎ NextTurn problem plan history game
+next_turn {problem} {plan} {history} {game} setup begun failing ext =
     elim (extends_cases history (history_of_game game) ext) [
       | inl same ↦ inl same
       | inr more ↦
           let event = more.event in
           let later = more.extends.0 in
-          let agrees = agrees_earlier problem setup game.opp later (event ∷ history) (rw more.extends.1 at (failing_agrees problem plan game result failing)) in
+          let agrees = agrees_earlier setup later (event ∷ history) (rw more.extends.1 at (failing_agrees failing)) in
           let follows = follows_earlier plan problem.played later (event ∷ history)
-          (rw more.extends.1 at (failing_follows problem plan game result failing)) in
+          (rw more.extends.1 at (failing_follows failing)) in
           inr (record {
             event = event;
             extends = more.extends;

@@ -1,7 +1,8 @@
 -- The ending of a failing game that stops at a position.
-use Rattle.std.proofs.Common.{◌≡◌, ℕ, Bool, true, false, cond, not, ◌||◌, eqb, List, [], ◌∷◌, map, Some, None, Result, Ok, refl, sym, ap, subst, ◌∙◌, inl, inr}
+use Rattle.std.proofs.Common.{◌≡◌, ℕ, Bool, true, false, cond, not, ◌||◌, List, [], ◌∷◌, map, Some, None, Result, Ok, refl, sym, ap, subst, ◌∙◌, arith}
 use Rattle.std.specs.List.{list_all, filter, AllByRecursion}
-use Rattle.std.proofs.lemmas.Bool.{cases_Bool, and_parts, or_left, or_right, eq-eqb}
+use Rattle.std.proofs.lemmas.Bool.{and_parts}
+use Rattle.crib_cards.proofs.Members.{has_here, has_there}
 use Rattle.crib_cards.specs.Cards.{IsCard}
 use Rattle.crib_cards.specs.Deals.{six_cards}
 use Rattle.crib_cards.specs.Sets.{has, set_of, set_where}
@@ -11,7 +12,7 @@ use Rattle.crib_cards.specs.declared.letters.Letter.{Letter}
 use Rattle.crib_cards.specs.declared.moves.Move.{Move}
 use Rattle.crib_cards.specs.declared.moves.Act.{Act}
 use Rattle.crib_play.specs.Filled.{filled_record}
-use Rattle.crib_play.specs.Standing.{AreTaken, StandsFor, standing_after}
+use Rattle.crib_play.specs.Standing.{StandsFor, standing_after}
 use Rattle.crib_play.specs.Legal.{IsDealt, letters_of, cards_of}
 use Rattle.crib_play.specs.History.{Event, event_of, history_letters, history_of, moves_of, visible_moves, AreLegal}
 use Rattle.crib_play.proofs.LegalRecords.{visible_legal}
@@ -42,7 +43,6 @@ use Rattle.crib_game.proofs.FollowLawProofs.{ended_law, answer_law}
 use Rattle.crib_game.proofs.GameFaults.{hands_are}
 use Rattle.crib_cards.proofs.SetFacts.{in_set_where}
 use Rattle.crib_game.specs.Private.Judging.{left_by}
-use Rattle.crib_play.proofs.CardLemmas.{filter_yes, filter_no}
 use Rattle.crib_check.specs.declared.keys.Key.{Key}
 use Rattle.crib_check.specs.Failing.{IsFailingEnding, IsFailing}
 use Rattle.crib_check.specs.Private.Histories.{place_by, history_of_game}
@@ -54,12 +54,7 @@ use Rattle.crib_know.proofs.OpeningLawProofs.{letters_same}
 pub filter_same : (p q : ℕ → Bool) (xs : List ℕ) → ((x : ℕ) → has xs x ≡ true → p x ≡ q x) → filter p xs ≡ filter q xs
 filter_same p q [] same = refl
 filter_same p q (x ∷ xs) same =
-    let here : p x ≡ q x = same x (or_left (eqb x x) (has xs x) (eq-eqb x x refl)) in
-    let rest : filter p xs ≡ filter q xs = filter_same p q xs (λ y h. same y (or_right (eqb x y) (has xs y) h)) in
-    elim (cases_Bool (q x)) [
-      | inl is ↦ filter_yes p x xs (here ∙ is) ∙ ap (λ (ys : List ℕ). x ∷ ys) rest ∙ sym (filter_yes q x xs is)
-      | inr is ↦ filter_no p x xs (here ∙ is) ∙ rest ∙ sym (filter_no q x xs is)
-    ]
+    let rest = filter_same p q xs (λ y h. same y (has_there x y xs h)) in λ i. cond (same x (has_here x xs) i) (x ∷ rest i) (rest i)
 
 all_cards : (p : ℕ → Bool) (xs : List ℕ) → list_all (has (set_where p)) xs ≡ true → AllByRecursion IsCard xs
 all_cards p [] all = tt
@@ -76,24 +71,18 @@ six_is problem dealt deal = record {
 
 -- ---- endings
 pub open_is_none : IsFailingEnding ending.Open → ⊥
-open_is_none (inl e) = absurd cc
-open_is_none (inr (inl e)) = absurd cc
-open_is_none (inr (inr e)) = absurd cc
+open_is_none failing = grind (arith, failing)
 
 pub reached_is_none : IsFailingEnding ending.Reached → ⊥
-reached_is_none (inl e) = absurd cc
-reached_is_none (inr (inl e)) = absurd cc
-reached_is_none (inr (inr e)) = absurd cc
+reached_is_none failing = grind (arith, failing)
 
 failing_ended : (d s : Bool) (outcome : Outcome) → IsFailingEnding (ending_without (cond d (Some outcome) None) s) → (d || s) ≡ true
-failing_ended true s outcome f = refl
-failing_ended false true outcome f = refl
 failing_ended false false outcome f = absurd (open_is_none f)
+failing_ended d s outcome f = refl
 
 -- ---- a record of a game that stops at a position ends as the position and the deal say
-module _ (problem : Setup) (plan : List Node) (key : Key) (history : List Event) (stands : StandsAt problem plan key history) (game : Game)
-    (same : history_of_game game ≡ history)
-    (of_game : IsRecordUnder problem plan game (record_of problem game)) where
+module _ {problem : Setup} {plan : List Node} {key : Key} {history : List Event} {game : Game} (stands : StandsAt problem plan key history)
+    (same : history_of_game game ≡ history) (of_game : IsRecordUnder problem plan game (record_of problem game)) where
   abbrev start : Start
   start = start_of problem
 
@@ -127,15 +116,13 @@ module _ (problem : Setup) (plan : List Node) (key : Key) (history : List Event)
   letters_are = ap history_letters (sym same) ∙ letters_same (acts_back game)
 
   table_stands : StandsFor key.know.round start (letters_of seen)
-  table_stands =
-      record {
-        started = started problem stands.knows.setup;
-        taken = subst (AreTaken start) letters_are (are_taken problem stands.knows.setup history
-            (possible_led problem stands.knows.setup history stands.knows.possible)
-            stands.knows.begun);
-        shows = ap (λ (k : Knowledge). k.round) stands.knows.knowledge ∙ ap (λ (letters : List Letter). standing_after start (filled_record start letters))
-            letters_are;
-      }
+  table_stands = record {
+    started = started problem stands.knows.setup;
+    taken = rw letters_are at (are_taken problem stands.knows.setup history (possible_led problem stands.knows.setup history stands.knows.possible)
+        stands.knows.begun);
+    shows = ap (λ (k : Knowledge). k.round) stands.knows.knowledge
+        ∙ ap (λ (letters : List Letter). standing_after start (filled_record start letters)) letters_are;
+  }
 
   own_same : key.know.own_left ≡ (left_by hands seen).owner
   own_same =
@@ -156,19 +143,20 @@ module _ (problem : Setup) (plan : List Node) (key : Key) (history : List Event)
       (hands_are problem game.opp stands.knows.setup (six_is problem game.opp of_game.of_game.deal)) table_stands refl (ap (stated_card plan) place_same)
 
 -- following a failing game gives its ending
-module _ (problem : Setup) (plan : List Node) (setup : IsSetup problem) (game : Game) (result : Ending) (failing : IsFailing problem plan game result) where
-  pub failing_followed : ◌≡◌ {A = Result Ending GameFault} (follow_result problem plan game) (Ok result)
-  failing_followed =
-      let played = failing.played in
-      let d = is_done_for problem played in
-      let s = is_stuck plan problem.played (start_of problem) (hands_of problem game.opp) played in
-      ended_law problem plan game played setup failing.of_game (failing_ended d s (outcome_of (full_of problem game.opp played))
-      (subst IsFailingEnding (sym failing.ending_is) failing.failure))
-      ∙ ap Ok failing.ending_is
+pub failing_followed : (problem : Setup) (plan : List Node) → IsSetup problem → (game : Game) (result : Ending) → IsFailing problem plan game result →
+    ◌≡◌ {A = Result Ending GameFault} (follow_result problem plan game) (Ok result)
+failing_followed problem plan setup game result failing =
+    let d = is_done_for problem failing.played in
+    let s = is_stuck plan problem.played (start_of problem) (hands_of problem game.opp) failing.played in
+    ended_law problem plan game failing.played setup failing.of_game (failing_ended d s (outcome_of (full_of problem game.opp failing.played))
+    (rw failing.ending_is failing.failure))
+    ∙ ap Ok failing.ending_is
 
+module _ {problem : Setup} {plan : List Node} {game : Game} {result : Ending} (setup : IsSetup problem) (failing : IsFailing problem plan game result) where
   pub failing_stands : StandsSo problem plan game result (record_of problem game)
-  failing_stands = answer_law problem plan game result setup (six_is problem game.opp failing.of_game.of_game.deal) failing_followed
+  failing_stands = answer_law problem plan game result setup (six_is problem game.opp failing.of_game.of_game.deal)
+      (failing_followed problem plan setup game result failing)
 
-  pub failing_at : (key : Key) (history : List Event) → StandsAt problem plan key history → history_of_game game ≡ history →
+  pub failing_at : {key : Key} {history : List Event} → StandsAt problem plan key history → history_of_game game ≡ history →
       ending_at problem game.opp key.know.round key.know.own_left (stated_card plan key.place) ≡ result
-  failing_at key history stands same = record_ends problem plan key history stands game same failing_stands.of_game ∙ failing_stands.ending_is
+  failing_at stands same = record_ends stands same failing_stands.of_game ∙ failing_stands.ending_is

@@ -1,8 +1,9 @@
 -- The order of games by the opponent's letters.
-use Rattle.std.proofs.Common.{◌≡◌, ℕ, ◌<◌, Bool, true, false, ◌&&◌, eqb, ltb, List, [], ◌∷◌, ◌++◌, map, reverse, refl, sym, ap, ◌∙◌, append_assoc}
-use Rattle.std.proofs.Common.{inl, inr, arith}
+use Rattle.std.proofs.Common.{◌≡◌, ℕ, ◌<◌, true, false, List, [], ◌∷◌, ◌++◌, map, reverse, refl, sym, ap, ◌∙◌, append_assoc}
+use Rattle.std.proofs.Common.{arith}
 use Rattle.std.specs.Prelude.{bytes_eq, filter}
-use Rattle.std.proofs.lemmas.Bool.{cases_Bool, both_ways, or_from, and_right, le-ltb, ne_eqb}
+use Rattle.std.proofs.lemmas.Bool.{both_ways, or_from, and_left, and_right, false_from_ne_true}
+use Rattle.std.proofs.lemmas.Bool.Decides.{nat_tests}
 use Rattle.std.proofs.lemmas.Slice.Eq.{bytes_eq-Decides}
 use Rattle.std.proofs.lemmas.List.{map-append, reverse-append}
 use Rattle.crib_cards.specs.Order.{is_before}
@@ -23,9 +24,8 @@ use Rattle.crib_cards.proofs.DictionaryOrder.{before_first, before_rest, not_bef
 -- an event shows whose turn it was
 pub same_side_of : (side other : Side) (what move : Move) → event_by side what ≡ event_by other move → side ≡ other
 same_side_of Owner Owner what move e = refl
-same_side_of Owner Opponent what move e = absurd cc
-same_side_of Opponent Owner what move e = absurd cc
 same_side_of Opponent Opponent what move e = refl
+same_side_of side other what move e = absurd cc
 
 -- the places of the opponent's letters in a history, the last one first
 abbrev pub letter_in : Event → List ℕ → List ℕ
@@ -56,12 +56,13 @@ letter_first Opponent what acts = refl
 letters_turned : (acts : List Act) → letters_shown acts ≡ reverse (letters_in (map event_of (reverse acts)))
 letters_turned [] = refl
 letters_turned (act ∷ acts) =
-    letter_first act.side act.what acts
-    ∙ ap (λ (letters : List ℕ). reverse (letter_in (event_of act) []) ++ letters) (letters_turned acts)
-    ∙ sym (reverse-append (letters_in (map event_of (reverse acts))) (letter_in (event_of act) []))
-    ∙ ap reverse (sym (letters_appended (map event_of (reverse acts)) (event_of act ∷ [])))
-    ∙ ap (λ (history : List Event). reverse (letters_in history))
-    (sym (map-append event_of (reverse acts) (act ∷ [])) ∙ ap (map event_of) (sym (reverse-append (act ∷ []) acts)))
+    rw (
+      reverse-append (act ∷ []) acts,
+      map-append event_of (reverse acts) (act ∷ []),
+      letters_appended (map event_of (reverse acts)) (event_of act ∷ []),
+      reverse-append (letters_in (map event_of (reverse acts))) (letter_in (event_of act) []),
+    )
+    (letter_first act.side act.what acts ∙ ap (λ (letters : List ℕ). reverse (letter_in (event_of act) []) ++ letters) (letters_turned acts))
 
 pub letters_of_game : (game : Game) → opponent_letters game ≡ reverse (letters_in (history_of_game game))
 letters_of_game game = letters_turned game.acts.items
@@ -79,8 +80,7 @@ letters_go_on game history letter ext =
 
 -- ---- dictionary order
 pub larger_is_later : (before : List ℕ) (x y : ℕ) (xs ys : List ℕ) → y < x → is_before (before ++ x ∷ xs) (before ++ y ∷ ys) ≡ false
-larger_is_later [] x y xs ys less = or_from (ltb x y) (eqb x y && is_before xs ys) (le-ltb x y (omega arith))
-    (ap (λ (b : Bool). b && is_before xs ys) (ne_eqb x y (λ e. absurd (omega (arith, e)))))
+larger_is_later [] x y xs ys less = grind (arith, nat_tests, less)
 larger_is_later (b ∷ before) x y xs ys less = not_before_rest b (before ++ x ∷ xs) (before ++ y ∷ ys) (larger_is_later before x y xs ys less)
 
 pub smaller_is_before : (before : List ℕ) (x y : ℕ) (xs ys : List ℕ) → y < x → is_before (before ++ y ∷ ys) (before ++ x ∷ xs) ≡ true
@@ -97,21 +97,12 @@ later_letter game other history letter others ext ext_other less =
     let mine = letters_go_on game history letter ext in
     let theirs = letters_go_on other history others ext_other in
     let later : is_before (opponent_letters other) (opponent_letters game) ≡ false =
-    (λ i. is_before (theirs i) (mine i)) ∙ larger_is_later before (letter_place others) (letter_place letter) (reverse (letters_in ext_other.0))
-    (reverse (letters_in ext.0)) less in
+    (λ i. is_before (theirs i) (mine i)) ∙ larger_is_later before (letter_place others) (letter_place letter) _ _ less in
     let earlier : is_before (opponent_letters game) (opponent_letters other) ≡ true =
-    (λ i. is_before (mine i) (theirs i)) ∙ smaller_is_before before (letter_place others) (letter_place letter) (reverse (letters_in ext_other.0))
-    (reverse (letters_in ext.0)) less in
-    let differ : bytes_eq (opponent_letters other) (opponent_letters game) ≡ false =
-    elim (cases_Bool (bytes_eq (opponent_letters other) (opponent_letters game))) [
-      | inl same ↦
-          let letters : opponent_letters other ≡ opponent_letters game = (bytes_eq-Decides (opponent_letters other) (opponent_letters game)).0 same in
-          absurd (both_ways (is_before (opponent_letters game) (opponent_letters other))
-          (ap (is_before (opponent_letters game)) letters ∙ not_before_self (opponent_letters game)) earlier)
-      | inr apart ↦ apart
-    ] in
-    or_from (is_before (opponent_letters other) (opponent_letters game)) _ later (ap (λ (b : Bool). b && is_before (deal_numbers other.opp)
-    (deal_numbers game.opp)) differ)
+    (λ i. is_before (mine i) (theirs i)) ∙ smaller_is_before before (letter_place others) (letter_place letter) _ _ less in
+    or_from _ _ later (and_left _ _ (false_from_ne_true _ (λ same.
+    let letters = (bytes_eq-Decides (opponent_letters other) (opponent_letters game)).0 same in
+    both_ways _ (ap (is_before (opponent_letters game)) letters ∙ not_before_self (opponent_letters game)) earlier)))
 
 -- the deals decide between two games with the same history
 pub same_history : (game other : Game) → history_of_game other ≡ history_of_game game → is_before (deal_numbers other.opp) (deal_numbers game.opp) ≡ false →

@@ -1,6 +1,6 @@
 -- Demands that are joined at the places of choices.
-use Rattle.std.proofs.Common.{◌≡◌, ℕ, ◌+◌, ◌*◌, ◌<◌, ◌≤◌, Bool, true, false, cond, leb, ◌&&◌, List, [], ◌∷◌, ◌++◌}
-use Rattle.std.proofs.Common.{filter, get_or, length, set, take}
+use Rattle.std.proofs.Common.{◌≡◌, ℕ, ◌+◌, ◌*◌, ◌<◌, ◌≤◌, Bool, true, false, ◌&&◌, List, [], ◌∷◌, ◌++◌}
+use Rattle.std.proofs.Common.{filter, get_or, length, set, take, min, max}
 use Rattle.std.proofs.Common.{refl, ap, ◌∙◌, inl, inr, arith}
 use Rattle.std.proofs.lemmas.Bool.{cases_Bool}
 use Rattle.std.proofs.lemmas.Bool.Decides.{nat_tests}
@@ -15,11 +15,7 @@ use Rattle.crib_check.specs.Private.Demands.{AreJoined, IsJoined}
 
 -- ---- two demands, and the one that all deals meet
 abbrev pub both : Demand → Demand → Demand
-both one other = record {
-  hand = cond (leb one.hand other.hand) one.hand other.hand;
-  total = cond (leb one.total other.total) one.total other.total;
-  crib = cond (leb one.crib other.crib) other.crib one.crib;
-}
+both one other = record { hand = min one.hand other.hand; total = min one.total other.total; crib = max one.crib other.crib }
 
 pub met_both : (one other : Demand) (hand crib : ℕ) → is_met (both one other) hand crib ≡ (is_met one hand crib && is_met other hand crib)
 met_both one other hand crib = grind (arith, nat_tests)
@@ -40,8 +36,7 @@ unjoined {old = old} kind same = record {
 }
 
 module _ {choices : List (List ℕ)} {places : List ℕ} where
-  pub joined_none : {Kind : List ℕ → Demand → Type 0} (old : List Demand) → ((counts : List ℕ) → Kind counts no_demand) →
-      AreJoined Kind choices places old old
+  pub joined_none : {Kind : List ℕ → Demand → Type 0} (old : List Demand) → ((counts : List ℕ) → Kind counts no_demand) → AreJoined Kind choices places old old
   joined_none old all = record { here = λ place h. unjoined (all _) refl; elsewhere = λ place h. refl }
 
   pub joined_as : {Kind Also : List ℕ → Demand → Type 0} {old new : List Demand} →
@@ -114,15 +109,7 @@ one_more_place {demand} {seen} {place} {old} {mid} joined small join are = recor
     after : (met : Demand → Bool) (other : ℕ) → has (seen ++ place ∷ []) other ≡ true →
         (has seen other ≡ true → met (demand_of mid other) ≡ (met (demand_of old other) && met demand)) →
         met joined ≡ (met (demand_of mid place) && met demand) → met (demand_of (set mid place joined) other) ≡ (met (demand_of old other) && met demand)
-    after met other h was with_it = grind (
-      arith,
-      nat_tests,
-      h,
-      was,
-      with_it,
-      has_push seen place other,
-      are.elsewhere other,
-      get_or-set_same mid place joined,
-      get_or-set_other mid place other joined,
-      small,
-    )
+    after met other h was with_it =
+        let here = get_or-set_same mid place joined in
+        let there = get_or-set_other mid place other joined in
+        grind (arith, nat_tests, h, was, with_it, small, has_push seen place other, are.elsewhere other, here, there)

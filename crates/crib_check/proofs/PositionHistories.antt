@@ -21,7 +21,7 @@ pub stands_at_start : (problem : Setup) (plan : List Node) (know : Knowledge) (p
 stands_at_start problem plan know place events none knows at_start =
     rw none (record { knows = knows; place = at_start ∙ sym (place_at_start plan problem); follows = follows_at_start plan problem })
 
-module _ (problem : Setup) (plan : List Node) (key : Key) (history : List Event) (stands : StandsAt problem plan key history) where
+module _ {problem : Setup} {plan : List Node} {key : Key} {history : List Event} (stands : StandsAt problem plan key history) where
   -- the position after a turn
   pub stands_with : (event : Event) (know : Knowledge) (place : Next) → KnowsAfter know problem (event ∷ history) →
       place ≡ place_after_event plan key.place event → IsStatedEvent plan key.place event →

@@ -1,11 +1,10 @@
 -- The history and the hold fix a record in which the opponent plays equal ranks in suit order.
-use Rattle.std.proofs.Common.{◌≡◌, ℕ, ◌+◌, ◌<◌, ◌≤◌, Bool, true, false, not, ◌&&◌, ◌||◌, eqb, ltb, List, [], ◌∷◌, ◌++◌, map}
+use Rattle.std.proofs.Common.{◌≡◌, ℕ, ◌<◌, ◌≤◌, true, false, not, List, [], ◌∷◌, ◌++◌, map}
 use Rattle.std.proofs.Common.{length, length-append, refl, sym, ap, ◌∙◌, inl, inr, arith}
-use Rattle.std.specs.List.{list_any}
-use Rattle.std.proofs.lemmas.Bool.{cases_Bool, cases_lt, and_parts, and_from, or_cases, or_left, or_right, both_ways, not-true, lt-ltb, le-ltb}
-use Rattle.std.proofs.lemmas.Bool.{eq-eqb}
+use Rattle.std.proofs.lemmas.Bool.{cases_order, both_ways, not-true, false_from_ne_true}
+use Rattle.std.proofs.lemmas.Bool.Decides.{nat_tests}
+use Rattle.crib_cards.proofs.SetLemmas.{has_push}
 use Rattle.std.proofs.lemmas.List.{length-map}
-use Rattle.std.proofs.lemmas.List.Folds.{list_any-append}
 use Rattle.crib_cards.specs.Cards.{rank_of}
 use Rattle.crib_cards.specs.Sets.{has}
 use Rattle.crib_cards.specs.Start.{Start, pone_of, Hands}
@@ -33,15 +32,9 @@ module _ (few : ℕ) (start : Start) (hands : Hands) where
     where
       by : (side : Side) (what : Move) → (has (cards_by Opponent acts) card ≡ true → has (cards_of (moves_of acts)) card ≡ true) →
           has (theirs_with side what (cards_by Opponent acts)) card ≡ true → has (cards_of (what ∷ moves_of acts)) card ≡ true
-      by Owner (move.Card played) before is = list_any-append (λ c. eqb c card) (cards_of (moves_of acts)) (played ∷ [])
-          ∙ or_left (has (cards_of (moves_of acts)) card) (has (played ∷ []) card) (before is)
+      by Owner (move.Card played) before is = grind (arith, nat_tests, has_push (cards_of (moves_of acts)) played card, before is)
+      by Opponent (move.Card played) before is = grind (arith, nat_tests, has_push (cards_of (moves_of acts)) played card, before, is)
       by Owner move.Go before is = before is
-      by Opponent (move.Card played) before is =
-          list_any-append (λ c. eqb c card) (cards_of (moves_of acts)) (played ∷ [])
-          ∙ elim (or_cases (eqb played card) (has (cards_by Opponent acts) card) is) [
-            | inl now ↦ or_right (has (cards_of (moves_of acts)) card) (has (played ∷ []) card) (or_left (eqb played card) false now)
-            | inr earlier ↦ or_left (has (cards_of (moves_of acts)) card) (has (played ∷ []) card) (before earlier)
-          ]
       by Opponent move.Go before is = before is
 
   -- a card that may be played is in the hold, and was not played
@@ -51,29 +44,17 @@ module _ (few : ℕ) (start : Start) (hands : Hands) where
         (ap (λ (cards : List ℕ). has cards card) (sym (left_remaining start hands Opponent (moves_of acts))) ∙ held)
 
     unplayed : has (cards_by Opponent acts) card ≡ false
-    unplayed =
-        elim (cases_Bool (has (cards_by Opponent acts) card)) [
-          | inl is ↦ absurd (both_ways (has (cards_of (moves_of acts)) card) (not-true (has (cards_of (moves_of acts)) card) in_hold.1)
-              (played_is acts card is))
-          | inr is ↦ is
-        ]
+    unplayed = false_from_ne_true _ (λ is. both_ways _ (not-true _ in_hold.1) (played_is acts card is))
 
     -- so no higher card of its rank is played in suit order
     not_higher : (higher : ℕ) → rank_of card ≡ rank_of higher → card < higher → is_in_turn hands.opponent (cards_by Opponent acts) higher ≡ true → ⊥
     not_higher higher rank less order =
-        let test : ℕ → Bool = λ other. eqb (rank_of other) (rank_of higher) && ltb other higher && not (has (cards_by Opponent acts) other) in
-        both_ways (test card) (none_passes test hands.opponent card (not-true (list_any test hands.opponent) order) in_hold.0)
-        (and_from (eqb (rank_of card) (rank_of higher) && ltb card higher) (not (has (cards_by Opponent acts) card))
-        (and_from (eqb (rank_of card) (rank_of higher)) (ltb card higher) (eq-eqb (rank_of card) (rank_of higher) rank) (lt-ltb card higher less))
-        (ap not unplayed))
+        let fails = none_passes _ hands.opponent card (not-true _ order) in_hold.0 in grind (arith, nat_tests, fails, rank, less, unplayed)
 
   -- each card after the opening is played in suit order
   order_parts : (card : ℕ) (cards : List ℕ) → few ≤ length cards → is_in_suit_order few hands.opponent (card ∷ cards) ≡ true →
       (is_in_turn hands.opponent cards card ≡ true) × (is_in_suit_order few hands.opponent cards ≡ true)
-  order_parts card cards enough order =
-      and_parts (is_in_turn hands.opponent cards card) (is_in_suit_order few hands.opponent cards)
-      (sym (ap (λ (b : Bool). b || (is_in_turn hands.opponent cards card && is_in_suit_order few hands.opponent cards)) (le-ltb (length cards) few enough))
-      ∙ order)
+  order_parts card cards enough order = grind (arith, nat_tests, enough, order)
 
   order_rest : (side : Side) (what : Move) (cards : List ℕ) → few ≤ length cards → is_in_suit_order few hands.opponent (theirs_with side what cards) ≡ true →
       is_in_suit_order few hands.opponent cards ≡ true
@@ -82,24 +63,18 @@ module _ (few : ℕ) (start : Start) (hands : Hands) where
   order_rest Opponent move.Go cards enough order = order
 
   same_what : (acts : List Act) (side : Side) (what other : Move) → few ≤ length (cards_by Opponent acts) → event_by side what ≡ event_by side other →
-      MayTake hands side what (filled_moves start (moves_of acts)) →
-      MayTake hands side other (filled_moves start (moves_of acts)) →
+      MayTake hands side what (filled_moves start (moves_of acts)) → MayTake hands side other (filled_moves start (moves_of acts)) →
       is_in_suit_order few hands.opponent (theirs_with side what (cards_by Opponent acts)) ≡ true →
       is_in_suit_order few hands.opponent (theirs_with side other (cards_by Opponent acts)) ≡ true → what ≡ other
-  same_what acts Owner what other enough e take take_other order order_other = cc
   same_what acts Opponent (move.Card card) (move.Card other) enough e take take_other order order_other =
       let rank : rank_of card ≡ rank_of other = cc in
-      elim (cases_lt card other) [
-        | inl less ↦ absurd (not_higher acts card take.0 other rank less (order_parts other (cards_by Opponent acts) enough order_other).0)
-        | inr most ↦
-            elim (cases_lt other card) [
-              | inl more ↦ absurd (not_higher acts other take_other.0 card (sym rank) more (order_parts card (cards_by Opponent acts) enough order).0)
-              | inr least ↦ ap move.Card (omega (arith, most, least))
-            ]
+      elim (cases_order card other) [
+        | inl same ↦ ap move.Card same
+        | inr (inl less) ↦ absurd (not_higher acts card take.0 other rank less (order_parts other (cards_by Opponent acts) enough order_other).0)
+        | inr (inr more) ↦ absurd (not_higher acts other take_other.0 card (sym rank) more (order_parts card (cards_by Opponent acts) enough order).0)
       ]
-  same_what acts Opponent (move.Card card) move.Go enough e take take_other order order_other = absurd cc
   same_what acts Opponent move.Go (move.Card other) enough e take take_other order order_other = absurd cc
-  same_what acts Opponent move.Go move.Go enough e take take_other order order_other = refl
+  same_what acts side what other enough e take take_other order order_other = cc
 
   -- acts that begin with the same acts
   module _ (base : List Act) (enough : few ≤ length (cards_by Opponent base)) where
@@ -109,22 +84,16 @@ module _ (few : ℕ) (start : Start) (hands : Hands) where
       where
         by : (side : Side) (what : Move) → few ≤ length (cards_by Opponent (acts ++ base)) →
             few ≤ length (theirs_with side what (cards_by Opponent (acts ++ base)))
-        by Owner what most = most
         by Opponent (move.Card card) most = omega (arith, most)
-        by Opponent move.Go most = most
+        by side what most = most
 
     longer_list : (act : Act) (acts : List Act) → map event_of base ≡ map event_of (act ∷ acts ++ base) → ⊥
     longer_list act acts same =
-        let long = ap length same in
-        let mapped : length (map event_of base) ≡ length base = length-map base event_of in
-        let mapped_more : length (map event_of (acts ++ base)) ≡ length (acts ++ base) = length-map (acts ++ base) event_of in
-        let all : length (acts ++ base) ≡ length acts + length base = length-append acts base in
-        absurd (omega (arith, long, mapped, mapped_more, all))
+        omega (arith, ap length same, length-map base event_of, length-map (acts ++ base) event_of, length-append acts base)
 
     pub same_suits : (acts others : List Act) → AreLegal start hands (moves_of (acts ++ base)) → AreLegal start hands (moves_of (others ++ base)) →
-        events start (moves_of (acts ++ base)) ≡ map event_of (acts ++ base) →
-        events start (moves_of (others ++ base)) ≡ map event_of (others ++ base) → map event_of (acts ++ base) ≡ map event_of (others ++ base) →
-        is_in_suit_order few hands.opponent (cards_by Opponent (acts ++ base)) ≡ true →
+        events start (moves_of (acts ++ base)) ≡ map event_of (acts ++ base) → events start (moves_of (others ++ base)) ≡ map event_of (others ++ base) →
+        map event_of (acts ++ base) ≡ map event_of (others ++ base) → is_in_suit_order few hands.opponent (cards_by Opponent (acts ++ base)) ≡ true →
         is_in_suit_order few hands.opponent (cards_by Opponent (others ++ base)) ≡ true → acts ≡ others
     same_suits [] [] legal legal_other shows shows_other same order order_other = refl
     same_suits [] (other ∷ others) legal legal_other shows shows_other same order order_other = absurd (longer_list other others same)
@@ -133,21 +102,12 @@ module _ (few : ℕ) (start : Start) (hands : Hands) where
         let who = mover (pone_of start) (letters_of (filled_moves start (moves_of (acts ++ base)))) in
         let who_other = mover (pone_of start) (letters_of (filled_moves start (moves_of (others ++ base)))) in
         let first : event_by act.side act.what ≡ event_by other.side other.what = cc in
-        let tails : map event_of (acts ++ base) ≡ map event_of (others ++ base) = cc in
-        let shown : event_by who act.what ≡ event_by act.side act.what = cc in
-        let shown_rest : events start (moves_of (acts ++ base)) ≡ map event_of (acts ++ base) = cc in
-        let shown_other : event_by who_other other.what ≡ event_by other.side other.what = cc in
-        let shown_other_rest : events start (moves_of (others ++ base)) ≡ map event_of (others ++ base) = cc in
+        let side = same_side_of act.side other.side act.what other.what first in
         let most = more_cards acts in
-        let rest : acts ≡ others =
-        same_suits acts others legal.0 legal_other.0 shown_rest shown_other_rest tails
-        (order_rest act.side act.what (cards_by Opponent (acts ++ base)) most order)
+        let rest = same_suits acts others legal.0 legal_other.0 (cc) (cc) (cc) (order_rest act.side act.what (cards_by Opponent (acts ++ base)) most order)
         (order_rest other.side other.what (cards_by Opponent (others ++ base)) (more_cards others) order_other) in
-        let side : act.side ≡ other.side = same_side_of act.side other.side act.what other.what first in
-        let take = rw (same_side_of who act.side act.what act.what shown) at legal.1.may_take in
-        let take_other = rw (← rest) at
-        (rw (same_side_of who_other other.side other.what other.what shown_other ∙ sym side) at legal_other.1.may_take) in
-        let what : act.what ≡ other.what =
-        same_what (acts ++ base) act.side act.what other.what most (first ∙ ap (λ (s : Side). event_by s other.what) (sym side)) take take_other order
-        ((λ i. is_in_suit_order few hands.opponent (theirs_with (side i) other.what (cards_by Opponent (rest i ++ base)))) ∙ order_other) in
-        (λ i. record { side = side i; what = what i } ∷ rest i)
+        let take = rw (same_side_of who act.side act.what act.what (cc)) at legal.1.may_take in
+        let take_other = rw (same_side_of who_other other.side other.what other.what (cc), ← side, ← rest) at legal_other.1.may_take in
+        let what = same_what (acts ++ base) act.side act.what other.what most (rw (← side) at first) take take_other order
+        (rw (← side, ← rest) at order_other) in
+        λ i. record { side = side i; what = what i } ∷ rest i

@@ -1,10 +1,11 @@
 -- A worked plan that is sure, with two branches. The opening is TC TD 9C, which makes 29. The owner knows all twos, so the opponent shows an ace or says go.
 -- After an ace the owner's ace makes a pair and 31. After a go his two makes 31.
-use Rattle.std.proofs.Common.{arith, ◌≡◌, ◌⊎◌, ◌<◌, refl, sym, ap, ◌∙◌, subst, inl, inr, ℕ, Bool, true, false, eqb, not, ◌||◌, cond}
+use Rattle.std.proofs.Common.{arith, ◌≡◌, ◌⊎◌, ◌<◌, refl, sym, ap, ◌∙◌, subst, inl, inr, ℕ, Bool, true, false, eqb, not, ◌||◌}
 use Rattle.std.proofs.Common.{List, [], ◌∷◌, ◌++◌, length, filter, replicate}
 use Rattle.std.specs.Prelude.{IsTrue, IsFalse, if◌then◌else◌}
 use Rattle.std.specs.List.{list_all, list_any}
-use Rattle.std.proofs.lemmas.Bool.{both_ways, cases_Bool, eqb-true, eq-eqb, and_parts, or_cases, or_left, or_right}
+use Rattle.std.proofs.lemmas.Bool.{both_ways, cases_Bool, eq-eqb, or_cases, or_left, or_right}
+use Rattle.std.proofs.lemmas.Bool.Decides.{nat_tests}
 use Rattle.std.proofs.lemmas.Option.{same_Some}
 use Rattle.crib_cards.specs.Sets.{has, set_where}
 use Rattle.crib_cards.specs.declared.sides.Dealt.{Dealt}
@@ -85,77 +86,43 @@ abbrev stage_with : Stage → Move → Stage
 stage_with None_yet what = if is_card 36 what then One else Astray
 stage_with One what = if is_card 37 what then Both else Astray
 stage_with Both what = if is_card 32 what then All else Astray
-stage_with All what = All
-stage_with Astray what = Astray
+stage_with it what = it
 
 abbrev stage : List Act → Stage
 stage [] = None_yet
 stage (act ∷ before) = stage_with (stage before) act.what
 
 abbrev IsOnCourse : Stage → Type 0
-IsOnCourse None_yet = Unit {0}
-IsOnCourse One = Unit {0}
-IsOnCourse Both = Unit {0}
-IsOnCourse All = Unit {0}
 IsOnCourse Astray = ⊥
+IsOnCourse it = Unit {0}
 
 begun : (later : List Act) → stage (later ++ played_back at_29) ≡ All
 begun [] = refl
 begun (act ∷ later) = ap (λ it. stage_with it act.what) (begun later)
 
 before_it : (it : Stage) (what : Move) → IsOnCourse (stage_with it what) → IsOnCourse it
-before_it None_yet what is = tt
-before_it One what is = tt
-before_it Both what is = tt
-before_it All what is = tt
 before_it Astray what is = is
+before_it it what is = tt
 
 before_visible : (visible : Bool) (act : Act) (acts : List Act) → IsOnCourse (stage (if visible then act ∷ acts else acts)) → IsOnCourse (stage acts)
 before_visible true act acts is = before_it (stage acts) act.what is
 before_visible false act acts is = is
 
 the_card : (number card : ℕ) (it : Stage) → IsOnCourse (if eqb number card then it else Astray) → number ≡ card
-the_card number card it is =
-    elim (cases_Bool (eqb number card)) [
-      | inl same ↦ eqb-true number card same
-      | inr other ↦ absurd (subst (λ (test : Bool). IsOnCourse (if test then it else Astray)) other is)
-    ]
+the_card number card it is = grind (arith, nat_tests, is)
 
 -- ---- what the opponent may show at 29: his cards are unseen, and only the aces among them fit
-kept : (b : Bool) (first card : ℕ) (rest : List ℕ) → has (cond b (first ∷ rest) rest) card ≡ true → (first ≡ card) ⊎ (has rest card ≡ true)
-kept true first card rest h =
-    elim (or_cases (eqb first card) (has rest card) h) [
-      | inl here ↦ inl (eqb-true first card here)
-      | inr there ↦ inr there
-    ]
-kept false first card rest h = inr h
-
 passes : (p q : ℕ → Bool) (cards more : List ℕ) (card : ℕ) → list_all p (cards ++ more) ≡ true → has (filter q cards) card ≡ true → p card ≡ true
 passes p q [] more card all left = absurd (both_ways false refl left)
-passes p q (first ∷ cards) more card all left =
-    let parts = and_parts (p first) (list_all p (cards ++ more)) all in
-    elim (kept (q first) first card (filter q cards) left) [
-      | inl here ↦ ap p (sym here) ∙ parts.0
-      | inr there ↦ passes p q cards more card parts.1 there
-    ]
+passes p q (first ∷ cards) more card all left = grind (arith, nat_tests, all, left, passes p q cards more card)
 
-abbrev is_ace_if : Bool → ℕ → Bool
-is_ace_if false card = true
-is_ace_if true card = eqb 1 card || (eqb 2 card || eqb 3 card)
+each_passes : (p : ℕ → Bool) (cards : List ℕ) (card : ℕ) → list_all p cards ≡ true → has cards card ≡ true → p card ≡ true
+each_passes p [] card all h = absurd (both_ways false refl h)
+each_passes p (first ∷ cards) card all h = grind (arith, nat_tests, all, h, each_passes p cards card)
 
-only_aces_fit : list_all (λ card. is_ace_if (fits three_turns card) card) (unseen_of at_29) ≡ true
+only_aces_fit : list_all (λ card. not (fits three_turns card) || (eqb 1 card || (eqb 2 card || eqb 3 card))) (unseen_of at_29) ≡ true
 unfolding set_where
 only_aces_fit = refl
-
-an_ace_if_it_fits : (cards : List ℕ) (card : ℕ) → list_all (λ card. is_ace_if (fits three_turns card) card) cards ≡ true → has cards card ≡ true →
-    is_ace_if (fits three_turns card) card ≡ true
-an_ace_if_it_fits [] card all h = absurd (both_ways false refl h)
-an_ace_if_it_fits (first ∷ cards) card all h =
-    let parts = and_parts (is_ace_if (fits three_turns first) first) (list_all (λ card. is_ace_if (fits three_turns card) card) cards) all in
-    elim (or_cases (eqb first card) (has cards card) h) [
-      | inl here ↦ subst (λ card. is_ace_if (fits three_turns card) card ≡ true) (eqb-true first card here) parts.0
-      | inr there ↦ an_ace_if_it_fits cards card parts.1 there
-    ]
 
 one_that_fits : (cards : List ℕ) → list_any (fits three_turns) cards ≡ true → (card : ℕ) × (has cards card ≡ true) × (fits three_turns card ≡ true)
 one_that_fits [] any = absurd (both_ways false refl any)
@@ -166,52 +133,33 @@ one_that_fits (first ∷ cards) any =
     ]
 
 an_ace : (dealt : Dealt) (card : ℕ) → IsDealOf at_29 dealt → has (cards_left (hands_of at_29 dealt) Opponent three_turns) card ≡ true →
-    fits three_turns card ≡ true → (eqb 1 card || (eqb 2 card || eqb 3 card)) ≡ true
+    fits three_turns card ≡ true → (1 ≡ card) ⊎ (2 ≡ card) ⊎ (3 ≡ card)
 an_ace dealt card deal left fit =
     let hidden = passes (has (unseen_of at_29)) (λ card. not (has (cards_of three_turns) card)) dealt.hold dealt.throw card deal.deal.hidden_before left in
-    ap (λ b. is_ace_if b card) (sym fit) ∙ an_ace_if_it_fits (unseen_of at_29) card only_aces_fit hidden
+    grind (arith, nat_tests, fit, each_passes _ (unseen_of at_29) card only_aces_fit hidden)
 
 -- ---- each record that follows the plan is a course
-abbrev AsPlanned : Move → List Move → Type 0
-AsPlanned turn past =
-    IsTrue (opening_is_over at_29.played Owner past) →
-    IsAsStated ace_or_two (place_of ace_or_two at_29.played Owner past) (mover Owner (letters_of past)) turn
-
-further : (dealt : Dealt) (turn : Move) (past : List Move) → IsDealOf at_29 dealt → Course past →
-    MayCome (start_of at_29) (hands_of at_29 dealt) turn past → Follows ace_or_two at_29.played Owner (turn ∷ past) →
-    IsOnCourse (stage (acts_of Owner (turn ∷ past))) → Course (turn ∷ past)
-further dealt (Card card) past deal nothing come follows on = subst (λ card. Course (Card card ∷ [])) (the_card 36 card One on) the_ten
-further dealt Go past deal nothing come follows on = absurd (both_ways true come.may_take refl)
-further dealt (Card card) past deal the_ten come follows on = subst (λ card. Course (Card card ∷ Card 36 ∷ [])) (the_card 37 card Both on) two_tens
+further : (dealt : Dealt) (turn : Move) (past : List Move) → IsDealOf at_29 dealt → Course past → MayCome (start_of at_29) (hands_of at_29 dealt) turn past →
+    Follows ace_or_two at_29.played Owner (turn ∷ past) → IsOnCourse (stage (acts_of Owner (turn ∷ past))) → Course (turn ∷ past)
+further dealt (Card card) past deal nothing come follows on = rw (← the_card 36 card One on) the_ten
+further dealt (Card card) past deal the_ten come follows on = rw (← the_card 37 card Both on) two_tens
 further dealt Go past deal the_ten come follows on = absurd on
-further dealt (Card card) past deal two_tens come follows on =
-    subst (λ card. Course (Card card ∷ Card 37 ∷ Card 36 ∷ [])) (the_card 32 card All on) at_count_29
-further dealt Go past deal two_tens come follows on = absurd (both_ways true come.may_take refl)
-further dealt (Card card) past deal at_count_29 come follows on =
-    elim (or_cases (eqb 1 card) (eqb 2 card || eqb 3 card) (an_ace dealt card deal come.may_take.0 come.may_take.1)) [
-      | inl one ↦ subst (λ card. Course (Card card ∷ three_turns)) (eqb-true 1 card one) diamond
-      | inr other ↦ elim (or_cases (eqb 2 card) (eqb 3 card) other) [
-        | inl two ↦ subst (λ card. Course (Card card ∷ three_turns)) (eqb-true 2 card two) heart
-        | inr three ↦ subst (λ card. Course (Card card ∷ three_turns)) (eqb-true 3 card three) spade
-      ]
-    ]
+further dealt (Card card) past deal two_tens come follows on = rw (← the_card 32 card All on) at_count_29
+further dealt (Card card) past deal at_count_29 come follows on = elim (an_ace dealt card deal come.may_take.0 come.may_take.1) [
+  | inl one ↦ rw (← one) diamond
+  | inr (inl two) ↦ rw (← two) heart
+  | inr (inr three) ↦ rw (← three) spade
+]
 further dealt Go past deal at_count_29 come follows on = a_go
-further dealt (Card card) past deal diamond come follows on =
-    subst (λ card. Course (Card card ∷ Card 1 ∷ three_turns)) (same_Some 0 card (follows.1 refl)) after_diamond
-further dealt Go past deal diamond come follows on = absurd (both_ways true come.may_take refl)
-further dealt (Card card) past deal heart come follows on =
-    subst (λ card. Course (Card card ∷ Card 2 ∷ three_turns)) (same_Some 0 card (follows.1 refl)) after_heart
-further dealt Go past deal heart come follows on = absurd (both_ways true come.may_take refl)
-further dealt (Card card) past deal spade come follows on =
-    subst (λ card. Course (Card card ∷ Card 3 ∷ three_turns)) (same_Some 0 card (follows.1 refl)) after_spade
-further dealt Go past deal spade come follows on = absurd (both_ways true come.may_take refl)
-further dealt (Card card) past deal a_go come follows on =
-    subst (λ card. Course (Card card ∷ Go ∷ three_turns)) (same_Some 4 card (follows.1 refl)) after_go
-further dealt Go past deal a_go come follows on = absurd (both_ways true come.may_take refl)
+further dealt (Card card) past deal diamond come follows on = rw (← same_Some 0 card (follows.1 refl)) after_diamond
+further dealt (Card card) past deal heart come follows on = rw (← same_Some 0 card (follows.1 refl)) after_heart
+further dealt (Card card) past deal spade come follows on = rw (← same_Some 0 card (follows.1 refl)) after_spade
+further dealt (Card card) past deal a_go come follows on = rw (← same_Some 4 card (follows.1 refl)) after_go
 further dealt turn past deal after_diamond come follows on = absurd (both_ways true come.not_done refl)
 further dealt turn past deal after_heart come follows on = absurd (both_ways true come.not_done refl)
 further dealt turn past deal after_spade come follows on = absurd (both_ways true come.not_done refl)
 further dealt turn past deal after_go come follows on = absurd (both_ways true come.not_done refl)
+further dealt Go past deal other come follows on = absurd (both_ways true come.may_take refl)
 
 course : (dealt : Dealt) (played : List Move) → IsDealOf at_29 dealt → IsLegal (start_of at_29) (hands_of at_29 dealt) played →
     Follows ace_or_two at_29.played Owner played → IsOnCourse (stage (acts_of Owner played)) → Course played
@@ -227,86 +175,58 @@ course_of dealt played is =
     (all, course dealt played is.deal is.legal is.follows (subst IsOnCourse (sym all) tt))
 
 -- ---- the plan is sure
-abbrev is_stage_all : Stage → Bool
-is_stage_all All = true
-is_stage_all it = false
-
-not_stuck : (dealt : Dealt) (played : List Move) → stage (acts_of Owner played) ≡ All → Course played →
+sure_at : (dealt : Dealt) (played : List Move) → stage (acts_of Owner played) ≡ All → Course played →
     IsFalse (is_stuck ace_or_two at_29.played (start_of at_29) (hands_of at_29 dealt) played)
-not_stuck dealt played all nothing = absurd (both_ways false refl (ap is_stage_all all))
-not_stuck dealt played all the_ten = absurd (both_ways false refl (ap is_stage_all all))
-not_stuck dealt played all two_tens = absurd (both_ways false refl (ap is_stage_all all))
-not_stuck dealt played all at_count_29 = refl
-not_stuck dealt played all diamond = refl
-not_stuck dealt played all heart = refl
-not_stuck dealt played all spade = refl
-not_stuck dealt played all a_go = refl
-not_stuck dealt played all after_diamond = refl
-not_stuck dealt played all after_heart = refl
-not_stuck dealt played all after_spade = refl
-not_stuck dealt played all after_go = refl
-
-done_well : (dealt : Dealt) (played : List Move) → Course played → IsTrue (is_done_for at_29 played) → outcome_of (full_of at_29 dealt played) ≡ Reached
+    × (IsTrue (is_done_for at_29 played) → outcome_of (full_of at_29 dealt played) ≡ Reached)
 unfolding outcome_of
-done_well dealt played nothing over = absurd (both_ways false refl over)
-done_well dealt played the_ten over = absurd (both_ways false refl over)
-done_well dealt played two_tens over = absurd (both_ways false refl over)
-done_well dealt played at_count_29 over = absurd (both_ways false refl over)
-done_well dealt played diamond over = absurd (both_ways false refl over)
-done_well dealt played heart over = absurd (both_ways false refl over)
-done_well dealt played spade over = absurd (both_ways false refl over)
-done_well dealt played a_go over = absurd (both_ways false refl over)
-done_well dealt played after_diamond over = refl
-done_well dealt played after_heart over = refl
-done_well dealt played after_spade over = refl
-done_well dealt played after_go over = refl
+sure_at dealt played all nothing = absurd cc
+sure_at dealt played all the_ten = absurd cc
+sure_at dealt played all two_tens = absurd cc
+sure_at dealt played all after_diamond = (refl, λ over. refl)
+sure_at dealt played all after_heart = (refl, λ over. refl)
+sure_at dealt played all after_spade = (refl, λ over. refl)
+sure_at dealt played all after_go = (refl, λ over. refl)
+sure_at dealt played all other = (refl, λ over. absurd (both_ways false refl over))
 
 pub ace_or_two_is_sure : IsSure at_29 ace_or_two
 ace_or_two_is_sure = record {
-  never_stuck = λ dealt played is. let found = course_of dealt played is in not_stuck dealt played found.0 found.1;
-  reached = λ dealt played is over. done_well dealt played (course_of dealt played is).1 over;
+  never_stuck = λ dealt played is. let found = course_of dealt played is in (sure_at dealt played found.0 found.1).0;
+  reached = λ dealt played is. let found = course_of dealt played is in (sure_at dealt played found.0 found.1).1;
 }
 
 -- ---- the play goes on: the opponent has an ace, or he says go
-with_turn : (dealt : Dealt) (turn : Move) (past : List Move) → IsFollowed at_29 ace_or_two dealt past →
-    is_visible Owner (letter_of turn) (letters_of past) ≡ true → MayCome (start_of at_29) (hands_of at_29 dealt) turn past → AsPlanned turn past →
-    IsFollowed at_29 ace_or_two dealt (turn ∷ past)
-with_turn dealt turn past is visible come planned = record {
-  deal = is.deal;
-  legal = (is.legal, come);
-  begins = record {
-    later = act_by Owner turn past ∷ is.begins.later;
-    parts =
-        ap (λ b. if b then act_by Owner turn past ∷ acts_of Owner past else acts_of Owner past) visible
-        ∙ ap (λ acts. act_by Owner turn past ∷ acts) is.begins.parts;
-  };
-  follows = (is.follows, planned);
-}
+with_turn : {dealt : Dealt} {past : List Move} (turn : Move) → IsFollowed at_29 ace_or_two dealt past →
+    acts_of Owner (turn ∷ past) ≡ act_by Owner turn past ∷ acts_of Owner past → MayCome (start_of at_29) (hands_of at_29 dealt) turn past →
+    (IsTrue (opening_is_over at_29.played Owner past) →
+    IsAsStated ace_or_two (place_of ace_or_two at_29.played Owner past) (mover Owner (letters_of past)) turn) →
+    (next : Move) × IsFollowed at_29 ace_or_two dealt (next ∷ past)
+with_turn {past = past} turn is visible come planned = (
+  turn,
+  record {
+    deal = is.deal;
+    legal = (is.legal, come);
+    begins = record { later = act_by Owner turn past ∷ is.begins.later; parts = visible ∙ ap (λ acts. act_by Owner turn past ∷ acts) is.begins.parts };
+    follows = (is.follows, planned);
+  },
+)
 
 next_turn : (dealt : Dealt) (played : List Move) → Course played → stage (acts_of Owner played) ≡ All → IsFollowed at_29 ace_or_two dealt played →
     IsFalse (is_done_for at_29 played) → (turn : Move) × IsFollowed at_29 ace_or_two dealt (turn ∷ played)
-next_turn dealt played nothing all is on = absurd (both_ways false refl (ap is_stage_all all))
-next_turn dealt played the_ten all is on = absurd (both_ways false refl (ap is_stage_all all))
-next_turn dealt played two_tens all is on = absurd (both_ways false refl (ap is_stage_all all))
+next_turn dealt played nothing all is on = absurd cc
+next_turn dealt played the_ten all is on = absurd cc
+next_turn dealt played two_tens all is on = absurd cc
 next_turn dealt played at_count_29 all is on =
     elim (cases_Bool (list_any (fits three_turns) (cards_left (hands_of at_29 dealt) Opponent three_turns))) [
       | inl any ↦
           let found = one_that_fits (cards_left (hands_of at_29 dealt) Opponent three_turns) any in
-          (Card found.0, with_turn dealt (Card found.0) three_turns is refl (record { not_done = refl; may_take = (found.1, found.2) }) (λ late. tt))
-      | inr none ↦ (Go, with_turn dealt Go three_turns is refl (record { not_done = refl; may_take = none }) (λ late. tt))
+          with_turn (Card found.0) is refl (record { not_done = refl; may_take = (found.1, found.2) }) (λ late. tt)
+      | inr none ↦ with_turn Go is refl (record { not_done = refl; may_take = none }) (λ late. tt)
     ]
-next_turn dealt played diamond all is on =
-    (Card 0, with_turn dealt (Card 0) (Card 1 ∷ three_turns) is refl (record { not_done = refl; may_take = (refl, refl) }) (λ late. refl))
-next_turn dealt played heart all is on =
-    (Card 0, with_turn dealt (Card 0) (Card 2 ∷ three_turns) is refl (record { not_done = refl; may_take = (refl, refl) }) (λ late. refl))
-next_turn dealt played spade all is on =
-    (Card 0, with_turn dealt (Card 0) (Card 3 ∷ three_turns) is refl (record { not_done = refl; may_take = (refl, refl) }) (λ late. refl))
-next_turn dealt played a_go all is on =
-    (Card 4, with_turn dealt (Card 4) (Go ∷ three_turns) is refl (record { not_done = refl; may_take = (refl, refl) }) (λ late. refl))
-next_turn dealt played after_diamond all is on = absurd (both_ways true on refl)
-next_turn dealt played after_heart all is on = absurd (both_ways true on refl)
-next_turn dealt played after_spade all is on = absurd (both_ways true on refl)
-next_turn dealt played after_go all is on = absurd (both_ways true on refl)
+next_turn dealt played diamond all is on = with_turn (Card 0) is refl (record { not_done = refl; may_take = (refl, refl) }) (λ late. refl)
+next_turn dealt played heart all is on = with_turn (Card 0) is refl (record { not_done = refl; may_take = (refl, refl) }) (λ late. refl)
+next_turn dealt played spade all is on = with_turn (Card 0) is refl (record { not_done = refl; may_take = (refl, refl) }) (λ late. refl)
+next_turn dealt played a_go all is on = with_turn (Card 4) is refl (record { not_done = refl; may_take = (refl, refl) }) (λ late. refl)
+next_turn dealt played done all is on = absurd (both_ways true on refl)
 
 pub ace_or_two_goes_on : GoesOn at_29 ace_or_two
 ace_or_two_goes_on dealt played is on = let found = course_of dealt played is in next_turn dealt played found.1 found.0 is on
@@ -318,8 +238,8 @@ a_failing_plan_need_not_go_on game = tt
 -- ---- the play ends: the statement holds if no record has thirty turns, and fails if one has
 pub fewer_than_thirty_turns :
     ((dealt : Dealt) (played : List Move) → IsDealOf at_29 dealt → IsLegal (start_of at_29) (hands_of at_29 dealt) played → length played < 30) → Ends at_29
-fewer_than_thirty_turns few dealt played deal legal = let bound = few dealt played deal legal in omega (arith, bound)
+fewer_than_thirty_turns few dealt played deal legal = omega (arith, few dealt played deal legal)
 
 pub thirty_turns_are_too_many : Ends at_29 → (dealt : Dealt) (played : List Move) → IsDealOf at_29 dealt →
     IsLegal (start_of at_29) (hands_of at_29 dealt) played → length played ≡ 30 → ⊥
-thirty_turns_are_too_many ends dealt played deal legal thirty = let bound = ends dealt played deal legal in absurd (omega (arith, bound, thirty))
+thirty_turns_are_too_many ends dealt played deal legal thirty = absurd (omega (arith, ends dealt played deal legal, thirty))

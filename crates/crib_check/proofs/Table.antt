@@ -1,10 +1,11 @@
 -- What a table of positions holds, over the lists that it keeps.
-use Rattle.std.proofs.Common.{◌≡◌, ◌⊎◌, ◌↔◌, ℕ, ◌+◌, ◌<◌, ◌≤◌, Bool, true, false, cond, not, ◌&&◌, ◌||◌, List, [], ◌∷◌, ◌++◌, length}
-use Rattle.std.proofs.Common.{IsTrue, OnErr, Result, Ok, Err, inl, inr, refl, sym, ap, subst, ◌∙◌, true≢false, arith, if◌then◌else◌}
+use Rattle.std.proofs.Common.{◌≡◌, ◌⊎◌, ◌↔◌, ℕ, ◌<◌, ◌≤◌, Bool, true, false, cond, not, ◌&&◌, List, [], ◌∷◌, ◌++◌, length}
+use Rattle.std.proofs.Common.{IsTrue, OnErr, Result, Ok, Err, inl, inr, refl, sym, ap, subst, ◌∙◌, arith, if◌then◌else◌}
 use Rattle.std.specs.Bool.{Decides}
 use Rattle.std.specs.Cmp.{IsEquivalence}
 use Rattle.std.specs.List.{list_any, position_or_len, AllByRecursion}
-use Rattle.std.proofs.lemmas.Bool.Decides.{Decides-eqb, Decides-and, Decides-like}
+use Rattle.std.proofs.lemmas.Bool.{both_ways, cases_Bool, cond_both, cond-false, eqb-true, false_from_ne_true, or_from}
+use Rattle.std.proofs.lemmas.Bool.Decides.{nat_tests, Decides-eqb, Decides-and, Decides-like}
 use Rattle.std.proofs.lemmas.List.Folds.{prefix_len-append}
 use Rattle.std.proofs.lemmas.List.{length-append}
 use Rattle.indexmap.specs.IndexSet.{insert_key}
@@ -26,20 +27,9 @@ use Rattle.crib_check.proofs.Equality.{same_nexts, same_showns}
 
 -- ---- two values that have one number are equal
 module _ {X : Type 0} (eq : X → X → Bool) (laws : IsEquivalence eq) (one other : X) where
-  same_number : (xs : List X) → position_or_len (eq one) xs ≡ position_or_len (eq other) xs → position_or_len (eq one) xs < length xs →
-      eq one other ≡ true
+  same_number : (xs : List X) → position_or_len (eq one) xs ≡ position_or_len (eq other) xs → position_or_len (eq one) xs < length xs → eq one other ≡ true
   same_number [] e l = absurd (omega (arith, l))
-  same_number (x ∷ xs) e l = by (eq one x) refl (eq other x) refl e l (same_number xs)
-    where
-      by : (s : Bool) → eq one x ≡ s → (t : Bool) → eq other x ≡ t →
-          cond (not s) (1 + position_or_len (eq one) xs) 0 ≡ cond (not t) (1 + position_or_len (eq other) xs) 0 →
-          cond (not s) (1 + position_or_len (eq one) xs) 0 < length (x ∷ xs) →
-          (position_or_len (eq one) xs ≡ position_or_len (eq other) xs → position_or_len (eq one) xs < length xs → eq one other ≡ true) →
-          eq one other ≡ true
-      by true is true is_other e l rest = laws.congr one x other is ∙ laws.symm x other ∙ is_other
-      by true is false is_other e l rest = absurd (omega (arith, e))
-      by false is true is_other e l rest = absurd (omega (arith, e))
-      by false is false is_other e l rest = rest (omega (arith, e)) (omega (arith, l))
+  same_number (x ∷ xs) e l = grind (arith, nat_tests, e, l, same_number xs, laws.congr one x other, laws.symm x other)
 
 -- ---- entries
 abbrev same_entry : Entry → Entry → Bool
@@ -55,15 +45,12 @@ same_entries one other =
 no_entry : (sights : ℕ) (entry : Entry) (entries : List Entry) → AllByRecursion (IsInside sights) entries → (IsInside sights entry → ⊥) →
     list_any (same_entry entry) entries ≡ false
 no_entry sights entry [] all out = refl
-no_entry sights entry (x ∷ xs) all out = by (same_entry entry x) refl (no_entry sights entry xs all.1 out)
-  where
-    by : (b : Bool) → same_entry entry x ≡ b → list_any (same_entry entry) xs ≡ false → b || list_any (same_entry entry) xs ≡ false
-    by true same rest = absurd (out (subst (IsInside sights) (sym ((same_entries entry x).0 same)) all.0))
-    by false same rest = rest
+no_entry sights entry (x ∷ xs) all out =
+    or_from _ _ (false_from_ne_true _ (λ same. out (rw ((same_entries entry x).0 same) all.0))) (no_entry sights entry xs all.1 out)
 
 all_inside : (low high : ℕ) (entries : List Entry) → low ≤ high → AllByRecursion (IsInside low) entries → AllByRecursion (IsInside high) entries
 all_inside low high [] more all = tt
-all_inside low high (x ∷ xs) more all = (let at = all.0.0 in (omega (arith, at, more), all.0.1), all_inside low high xs more all.1)
+all_inside low high (x ∷ xs) more all = ((omega (arith, all.0.0, more), all.0.1), all_inside low high xs more all.1)
 
 all_put : (P : Entry → Type 0) (b : Bool) (entries : List Entry) (entry : Entry) → AllByRecursion P entries → P entry →
     AllByRecursion P (if b then entries else entries ++ entry ∷ [])
@@ -83,43 +70,33 @@ Holds kept key = found kept key ≡ true
 
 -- a key whose sight has no number isn't held
 pub without_sight : (kept now : Table) → kept ≡ now → AreInside kept → (key : Key) (sight : Sight) → sight ≡ sight_of key.know →
-    (IsNumber (sights_compared.ghosts.eq sight) kept.sights (position_or_len (sights_compared.ghosts.eq sight) kept.sights) → ⊥) →
-    IsTrue false ↔ Holds now key
+    (IsNumber (sights_compared.ghosts.eq sight) kept.sights (position_or_len (sights_compared.ghosts.eq sight) kept.sights) → ⊥) → IsTrue false ↔ Holds now key
 without_sight kept now seen inside key sight is none =
-    let Numbered : Sight → Type 0 = λ s.
-    IsNumber (sights_compared.ghosts.eq s) kept.sights (position_or_len (sights_compared.ghosts.eq s) kept.sights) in
-    let absent : found kept key ≡ false = no_entry (length kept.sights) (entry_in kept key) kept.entries inside
-    (λ at. none (subst Numbered (sym is) (record { first = refl; within = at.0; small = at.1 }))) in
-    (λ e. absurd (true≢false (sym e)), λ held. absurd (true≢false (sym held ∙ ap (λ (k : Table). found k key) (sym seen) ∙ absent)))
+    let absent = no_entry (length kept.sights) (entry_in kept key) kept.entries inside
+    (λ at. none (rw is (record { first = refl; within = at.0; small = at.1 }))) in
+    (λ e. absurd cc, λ held. absurd (both_ways (found kept key) absent (rw seen held)))
 
 -- after a put: the list of sights may have more
 module _ (before now after : Table) (seen : before ≡ now) (inside : AreInside before) (more : IsMore before.sights after.sights) where
   -- the entries of before are found as before
   found_alike : (key : Key) → list_any (same_entry (entry_in after key)) before.entries ≡ found now key
   found_alike key =
-      by (eqb (position_or_len same before.sights) (length before.sights)) refl
-      (ap (position_or_len same) more.parts ∙ prefix_len-append (λ x. not (same x)) before.sights more.more)
-      ∙ ap (λ (k : Table). found k key) seen
+      let split = ap (position_or_len same) more.parts ∙ prefix_len-append (λ x. not (same x)) before.sights more.more in
+      rw (← seen) (elim (cases_Bool (eqb (position_or_len same before.sights) (length before.sights))) [
+        | inl last ↦
+            let after_all = rw last at split in
+            let end = eqb-true _ _ last in
+            no_entry _ (entry_in after key) before.entries inside (λ at. omega (arith, after_all, at.0))
+            ∙ sym (no_entry _ (entry_in before key) before.entries inside (λ at. omega (arith, end, at.0)))
+        | inr inner ↦
+            ap (λ (k : ℕ). list_any (same_entry (record { sight = k; shown = shown_of key.know; place = key.place })) before.entries) (rw inner at split)
+      ])
     where
       same : Sight → Bool
       same = sights_compared.ghosts.eq (sight_of key.know)
 
-      by : (b : Bool) → eqb (position_or_len same before.sights) (length before.sights) ≡ b →
-          position_or_len same after.sights
-          ≡ cond b (length before.sights + position_or_len same more.more) (position_or_len same before.sights) →
-          list_any (same_entry (entry_in after key)) before.entries ≡ found before key
-      by true last is =
-          let end = (Decides-eqb (position_or_len same before.sights) (length before.sights)).0 last in
-          no_entry _ _ before.entries inside (λ at. (let low = at.0 in absurd (omega (arith, is, low))))
-          ∙ sym (no_entry _ _ before.entries inside (λ at. (let low = at.0 in absurd (omega (arith, end, low)))))
-      by false last is =
-          ap (λ (k : ℕ). list_any (same_entry (record { sight = k; shown = shown_of key.know; place = key.place })) before.entries) is
-
   inside_more : AllByRecursion (IsInside (length after.sights)) before.entries
-  inside_more =
-      let len = ap length more.parts in
-      let sum = length-append before.sights more.more in
-      all_inside _ _ before.entries (omega (arith, len, sum)) inside
+  inside_more = all_inside _ _ before.entries (omega (arith, ap length more.parts, length-append before.sights more.more)) inside
 
   -- a refused put: the entries are as they were
   pub refused_same : after.entries ≡ before.entries → (other : Key) → Holds after other ↔ Holds now other
@@ -150,10 +127,8 @@ module _ (before now after : Table) (seen : before ≡ now) (inside : AreInside 
     is_key : (other : Key) → IsKnown key.know → IsKnown other.know → entry ≡ entry_in after other → other ≡ key
     is_key other known known_other e =
         let same : entry_in after key ≡ entry_in after other = sym is_entry ∙ e in
-        let first = ap (λ (x : Entry). x.sight) is_entry in
-        let low = is_number.within in
         let sights = same_number sights_compared.ghosts.eq sights_alike (sight_of key.know) (sight_of other.know) after.sights
-        (ap (λ (x : Entry). x.sight) same) (omega (arith, first, low)) in
+        (ap (λ (x : Entry). x.sight) same) (omega (arith, ap (λ (x : Entry). x.sight) is_entry, is_number.within)) in
         let showns = (same_showns (shown_of key.know) (shown_of other.know)).1 (ap (λ (x : Entry). x.shown) same) in
         let knows = (same_knows key.know other.know known known_other).0
         (ap (λ (c : Bool). c && shown_compared.ghosts.eq (shown_of key.know) (shown_of other.know)) sights ∙ showns) in
@@ -165,18 +140,14 @@ module _ (before now after : Table) (seen : before ≡ now) (inside : AreInside 
           updates (entry_in after other) ∙ ap (λ (c : Bool). cond (same_entry entry (entry_in after other)) true c) (found_alike other)
 
       pub put_stays : (other : Key) → Holds now other → Holds after other
-      put_stays other is = found_after other ∙ by (same_entry entry (entry_in after other)) (found now other) is
-        where
-          by : (b c : Bool) → c ≡ true → cond b true c ≡ true
-          by true c is = refl
-          by false c is = is
+      put_stays other is = found_after other
+          ∙ cond_both (same_entry entry (entry_in after other)) true (found now other) (λ (b : Bool). b ≡ true) (λ _. refl) (λ _. is)
 
       pub put_held : IsKnown key.know → (other : Key) → IsKnown other.know → Holds after other → Holds now other ⊎ (other ≡ key)
-      put_held known other known_other is = by (same_entry entry (entry_in after other)) refl (sym (found_after other) ∙ is)
-        where
-          by : (b : Bool) → same_entry entry (entry_in after other) ≡ b → cond b true (found now other) ≡ true → Holds now other ⊎ (other ≡ key)
-          by true same is = inr (is_key other known known_other ((same_entries entry (entry_in after other)).0 same))
-          by false same is = inl is
+      put_held known other known_other is = elim (cases_Bool (same_entry entry (entry_in after other))) [
+        | inl same ↦ inr (is_key other known known_other ((same_entries entry (entry_in after other)).0 same))
+        | inr apart ↦ inl (sym (cond-false _ true _ apart) ∙ sym (found_after other) ∙ is)
+      ]
 
 -- what a refusal means without a condition, it means with it
 pub refused_too : {T E : Type 0} {P Q : Type 0} (result : Result T E) → (P → Q) → OnErr result P → OnErr result Q

@@ -1,5 +1,5 @@
 -- A plan is sure if no deal beats it, and then no deal does. It is enough to look at deals in pack order.
-use Rattle.std.proofs.Common.{◌≡◌, true, List, ◌++◌, refl, ap, ◌∙◌}
+use Rattle.std.proofs.Common.{◌≡◌, true, List, [], ◌++◌, refl, ap, ◌∙◌}
 use Rattle.std.proofs.lemmas.Bool.{and_from, or_right}
 use Rattle.crib_cards.specs.Cards.{rank_of}
 use Rattle.crib_cards.specs.Deals.{is_in_pack_order, six_cards}
@@ -14,22 +14,20 @@ use Rattle.crib_show.proofs.ReorderedLists.{Reordered, are_distinct-reordered, b
 use Rattle.crib_show.proofs.SetOrder.{set_of-reordered}
 use Rattle.crib_problem.specs.Setup.{Setup, IsSetup, IsDealOf, fixed_cards, unseen_of}
 use Rattle.crib_plan.specs.declared.plan.Node.{Node}
-use Rattle.crib_know.specs.Knowledge.{Knowledge, knowledge_after}
+use Rattle.crib_know.specs.Knowledge.{Knowledge}
 use Rattle.crib_know.specs.Hidden.{AgreesWith, KnowsAfter}
 use Rattle.crib_know.proofs.Deals.{hold_cards, hold_distinct}
 use Rattle.crib_know.proofs.CallLemmas.{passing_same}
 use Rattle.crib_game.specs.declared.section.game.Game.{Game}
 use Rattle.crib_game.specs.declared.following.ending.Ending.{Ending}
 use Rattle.crib_game.specs.Private.Judging.{full_at}
-use Rattle.crib_check.specs.declared.keys.Key.{Key}
 use Rattle.crib_check.specs.Beaten.{Beats}
 use Rattle.crib_check.specs.Failing.{IsFailing}
-use Rattle.crib_check.specs.Private.Histories.{history_of_game, place_by}
+use Rattle.crib_check.specs.Private.Histories.{history_of_game}
 use Rattle.crib_check.specs.Private.Demands.{passes_counts}
-use Rattle.crib_check.specs.Private.Positions.{StandsAt}
 use Rattle.crib_check.specs.Sure.{IsSure}
 use Rattle.crib_check.proofs.BeatingDeals.{beats_here, hidden}
-use Rattle.crib_check.proofs.ExtendedGames.{failing_agrees, failing_begins, failing_follows}
+use Rattle.crib_check.proofs.ExtendedGames.{failing_agrees, failing_begins, key_at, stands_at}
 use Rattle.crib_check.proofs.FailureEndings.{failing_at}
 use Rattle.crib_check.proofs.OneFirstGame.{sure_or_failing}
 use Rattle.crib_check.proofs.VerdictAtStart as start
@@ -41,12 +39,12 @@ ordered dealt = record { hold = set_of dealt.hold; throw = set_of dealt.throw }
 ordered_is : (dealt : Dealt) → is_in_pack_order (ordered dealt) ≡ true
 ordered_is dealt = and_from _ _ (are_rising-set_where (has dealt.hold)) (are_rising-set_where (has dealt.throw))
 
-module _ (problem : Setup) (setup : IsSetup problem) (dealt : Dealt) (deal : IsDealOf problem dealt) where
+module _ {problem : Setup} {dealt : Dealt} (setup : IsSetup problem) (deal : IsDealOf problem dealt) where
   same : IsReordered (ordered dealt) dealt
   same = record {
     hold = set_of-reordered dealt.hold (hold_distinct problem setup dealt deal) (hold_cards problem setup dealt deal);
     throw = set_of-reordered dealt.throw (distinct_right dealt.hold dealt.throw deal.deal.distinct)
-        (λ card h. (hidden problem setup dealt deal card (has-append dealt.hold dealt.throw card ∙ or_right _ _ h)).0);
+        (λ card h. (hidden setup deal card (has-append dealt.hold dealt.throw card ∙ or_right _ _ h)).0);
   }
 
   same_six : Reordered (six_cards (ordered dealt)) (six_cards dealt)
@@ -65,9 +63,9 @@ module _ (problem : Setup) (setup : IsSetup problem) (dealt : Dealt) (deal : IsD
         (λ card h. has-reordered _ _ card same.hold ∙ all_has (has dealt.hold) (fixed_cards problem) card deal.fixed h);
   }
 
-  agrees_ordered : (know : Knowledge) (history : List Event) → KnowsAfter know problem history → AgreesWith problem history dealt →
+  agrees_ordered : {know : Knowledge} {history : List Event} → KnowsAfter know problem history → AgreesWith problem history dealt →
       AgreesWith problem history (ordered dealt)
-  agrees_ordered know history knows agrees =
+  agrees_ordered {know} {history} knows agrees =
       let counts = rank_counts-reordered _ _ (map-reordered rank_of _ _ same.hold) in
       let passes = ((passing_same know problem history knows dealt).0 agrees).1 in
       (passing_same know problem history knows (ordered dealt)).1 (deal_ordered, ap (passes_counts know.least know.ranks_seen) counts ∙ passes)
@@ -76,19 +74,13 @@ module _ (problem : Setup) (setup : IsSetup problem) (dealt : Dealt) (deal : IsD
 module _ (problem : Setup) (plan : List Node) (setup : IsSetup problem) where
   beats_ordered : (game : Game) (result : Ending) → IsFailing problem plan game result → Beats problem plan (ordered game.opp)
   beats_ordered game result failing =
-      let begins = failing_begins problem plan game result failing in
-      let history : List Event = history_of_game game in
-      let agrees = failing_agrees problem plan game result failing in
-      let key : Key = record { know = knowledge_after problem history; place = place_by plan problem.played history } in
-      let stands : StandsAt problem plan key history = record {
-        knows = record { setup = setup; begun = record { later = begins.0; parts = begins.1 }; possible = (game.opp, agrees); knowledge = refl };
-        place = refl;
-        follows = failing_follows problem plan game result failing;
-      } in
-      let ends = outcome_of-reordered (full_at problem game.opp key.know.round) (ordered game.opp) game.opp (same problem setup game.opp agrees.0) in
-      let at_end = failing_at problem plan setup game result failing key history stands refl in
-      (beats_here problem plan key (ordered game.opp) (rw (ends, at_end) failing.failure) history stands
-      (agrees_ordered problem setup game.opp agrees.0 key.know history stands.knows agrees)).beats
+      let begins = failing_begins failing in
+      let agrees = failing_agrees failing in
+      let stands = stands_at setup (record { later = begins.0; parts = begins.1 }) failing ([], refl) in
+      let key = key_at problem plan (history_of_game game) in
+      let ends = outcome_of-reordered (full_at problem game.opp key.know.round) (ordered game.opp) game.opp (same setup agrees.0) in
+      let at_end = failing_at setup failing stands refl in
+      (beats_here stands (agrees_ordered setup agrees.0 stands.knows agrees) (rw (ends, at_end) failing.failure)).beats
 
   -- no deal beats a sure plan, and a plan that no deal in pack order beats is sure
   pub sure_unbeaten : IsSure problem plan → (dealt : Dealt) → Beats problem plan dealt → ⊥

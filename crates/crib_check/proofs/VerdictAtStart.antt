@@ -1,7 +1,8 @@
 -- What the walk's answer at the first position says of the plan.
-use Rattle.std.proofs.Common.{◌≡◌, ℕ, Bool, true, false, cond, not, ◌&&◌, List, ◌∷◌, reverse, Option, Some, None, refl, sym, ap, subst, inl, inr}
+use Rattle.std.proofs.Common.{◌≡◌, ℕ, Bool, true, false, cond, not, ◌&&◌, List, ◌∷◌, reverse, Option, Some, None, refl, sym, ap, inl, inr, arith}
 use Rattle.std.specs.List.{list_any}
-use Rattle.std.proofs.lemmas.Bool.{cases_Bool, and_parts, not-true}
+use Rattle.std.proofs.lemmas.Bool.{cases_Bool, and_parts, false_from_ne_true}
+use Rattle.std.proofs.lemmas.Bool.Decides.{nat_tests}
 use Rattle.std.proofs.lemmas.List.{reverse-reverse}
 use Rattle.crib_cards.specs.Sets.{has}
 use Rattle.crib_cards.specs.Sides.{same_side}
@@ -11,14 +12,13 @@ use Rattle.crib_cards.specs.declared.sides.Side.{Side}
 use Rattle.crib_cards.specs.declared.sides.Side.TheVariants.{Owner, Opponent}
 use Rattle.crib_cards.specs.declared.moves.Move.{Move}
 use Rattle.crib_cards.specs.declared.moves.Move.TheVariants as move
-use Rattle.crib_cards.specs.declared.moves.Act.{Act}
 use Rattle.crib_cards.specs.Letters.{letter_of}
 use Rattle.crib_play.specs.Filled.{is_visible}
 use Rattle.crib_play.specs.Record.{mover}
 use Rattle.crib_play.specs.Legal.{letters_of, cards_left, fits, MayTake}
 use Rattle.crib_play.specs.History.{Event, acts_of, act_by}
-use Rattle.crib_play.proofs.FilledRecords.{acts_visible, acts_silent}
-use Rattle.crib_play.proofs.LawProofs.{length_law, progress_law}
+use Rattle.crib_play.proofs.Progress.{progress_law}
+use Rattle.crib_play.proofs.RecordBounds.{at_most_29}
 use Rattle.crib_show.specs.declared.show.outcomes.Outcome.{Outcome}
 use Rattle.crib_show.specs.declared.show.outcomes.Outcome.TheVariants as outcome
 use Rattle.crib_show.specs.Outcome.{outcome_of}
@@ -45,33 +45,32 @@ use Rattle.crib_check.proofs.FailureEndings.{failing_followed}
 
 -- a place that is not stuck, where the owner is asked and a card fits, states a card that he may play
 pub not_stuck : (d who any playable : Bool) → (not d && who && any && not playable) ≡ false → d ≡ false → who ≡ true → any ≡ true → playable ≡ true
-not_stuck true who any playable e d w a = absurd cc
-not_stuck false false any playable e d w a = absurd cc
-not_stuck false true false playable e d w a = absurd cc
-not_stuck false true true true e d w a = refl
-not_stuck false true true false e d w a = absurd cc
+not_stuck d who any playable e going asked some = grind (arith, nat_tests, e, going, asked, some)
 
 pub first_of_all : (problem : Setup) (plan : List Node) (game : Game) (result : Ending) → IsFirstFrom problem plan (played_events problem) game result →
     IsFirstFailing problem plan game result
-first_of_all problem plan game result first = record {
-  failing = first.failing;
-  in_pack_order = first.in_pack_order;
-  in_suit_order = first.in_suit_order;
-  first = λ other others_ending fails. first.first other others_ending fails (failing_begins problem plan other others_ending fails);
-}
+first_of_all problem plan game result first = assumption (λ (other : Game) (others_ending : Ending) (fails : IsFailing problem plan other others_ending).
+    first.first other others_ending fails (failing_begins fails))
 
 -- a record with one more turn begins as before
 begins_more : (problem : Setup) (pone : Side) (turn : Move) (played : List Move) → BeginsAsPlayed problem (acts_of pone played) →
     BeginsAsPlayed problem (acts_of pone (turn ∷ played))
-begins_more problem pone turn played begins =
-    let act = act_by pone turn played in
-    elim (cases_Bool (is_visible pone (letter_of turn) (letters_of played))) [
-      | inl v ↦ subst (BeginsAsPlayed problem) (sym (acts_visible pone turn played v))
-          (record { later = act ∷ begins.later; parts = ap (λ (acts : List Act). act ∷ acts) begins.parts })
-      | inr v ↦ subst (BeginsAsPlayed problem) (sym (acts_silent pone turn played v)) begins
-    ]
+begins_more problem pone turn played begins = elim (cases_Bool (is_visible pone (letter_of turn) (letters_of played))) [
+  | inl v ↦ rw v (record { later = act_by pone turn played ∷ begins.later; parts = λ i. act_by pone turn played ∷ begins.parts i })
+  | inr v ↦ rw v begins
+]
 
-module _ (problem : Setup) (plan : List Node) (dealt : Dealt) (played : List Move) (followed : IsFollowed problem plan dealt played) where
+-- a record that is stuck is not done
+not_done : (d who any playable : Bool) → (not d && who && any && not playable) ≡ true → d ≡ false
+not_done d who any playable stuck = grind (arith, nat_tests, stuck)
+
+-- an outcome with which no plan has failed
+not_failed : (o : Outcome) → (IsFailingEnding (ending_with o) → ⊥) → o ≡ outcome.Reached
+not_failed outcome.Reached none = refl
+not_failed outcome.Lost none = absurd (none (inr (inl refl)))
+not_failed outcome.Short none = absurd (none (inr (inr refl)))
+
+module _ {problem : Setup} {plan : List Node} {dealt : Dealt} {played : List Move} (followed : IsFollowed problem plan dealt played) where
   abbrev start : Start
   start = start_of problem
 
@@ -90,12 +89,7 @@ module _ (problem : Setup) (plan : List Node) (dealt : Dealt) (played : List Mov
 
   of_game : IsRecordUnder problem plan game played
   of_game = record {
-    of_game = record {
-      deal = followed.deal;
-      legal = followed.legal;
-      acts = sym (reverse-reverse (acts_of (pone_of start) played));
-      begins = rw (reverse-reverse (acts_of (pone_of start) played)) followed.begins;
-    };
+    of_game = record { deal = followed.deal; legal = followed.legal; acts = sym (reverse-reverse _); begins = rw reverse-reverse followed.begins };
     follows = followed.follows;
   }
 
@@ -103,32 +97,16 @@ module _ (problem : Setup) (plan : List Node) (dealt : Dealt) (played : List Mov
   none_fails : HoldsFrom problem plan (played_events problem) → (result : Ending) → ending_of problem plan dealt played ≡ result → IsFailingEnding result → ⊥
   none_fails holds result is failure =
       let failing : IsFailing problem plan game result = record { played = played; of_game = of_game; ending_is = is; failure = failure } in
-      holds game result failing (failing_begins problem plan game result failing)
-
-  stuck_fails : HoldsFrom problem plan (played_events problem) → stuck ≡ true → ⊥
-  stuck_fails holds is =
-      let any = list_any (fits played) (cards_left hands Owner played) in
-      let who = same_side (mover (pone_of start) (letters_of played)) Owner in
-      let playable = not (is_playable hands played (stated_card plan (place_of plan problem.played (pone_of start) played))) in
-      let going = (and_parts (not done) who (and_parts (not done && who) any (and_parts (not done && who && any) playable is).0).0).0 in
-      let not_done : done ≡ false = not-true done going in
-      none_fails holds ending.Stuck (λ i. ending_without (cond (not_done i) (Some (outcome_of (full_of problem dealt played))) None) (is i)) (inl refl)
+      holds game result failing (failing_begins failing)
 
   pub never_stuck : HoldsFrom problem plan (played_events problem) → stuck ≡ false
-  never_stuck holds = elim (cases_Bool stuck) [ inl is ↦ absurd (stuck_fails holds is) | inr is ↦ is ]
-
-  done_ends : done ≡ true → (o : Outcome) → outcome_of (full_of problem dealt played) ≡ o →
-      ending_without (cond done (Some (outcome_of (full_of problem dealt played))) None) stuck ≡ ending_with o
-  done_ends is o e = (λ i. ending_without (cond (is i) (Some (e i)) None) stuck)
-
-  reached_by : HoldsFrom problem plan (played_events problem) → done ≡ true → (o : Outcome) → outcome_of (full_of problem dealt played) ≡ o →
-      o ≡ outcome.Reached
-  reached_by holds is outcome.Reached e = refl
-  reached_by holds is outcome.Lost e = absurd (none_fails holds ending.Lost (done_ends is outcome.Lost e) (inr (inl refl)))
-  reached_by holds is outcome.Short e = absurd (none_fails holds ending.Short (done_ends is outcome.Short e) (inr (inr refl)))
+  never_stuck holds = false_from_ne_true stuck (λ is.
+      none_fails holds ending.Stuck (λ i. ending_without (cond (not_done done _ _ _ is i) (Some (outcome_of (full_of problem dealt played))) None) (is i))
+      (inl refl))
 
   pub reached : HoldsFrom problem plan (played_events problem) → done ≡ true → outcome_of (full_of problem dealt played) ≡ outcome.Reached
-  reached holds is = reached_by holds is (outcome_of (full_of problem dealt played)) refl
+  reached holds is = not_failed _ (none_fails holds (ending_with (outcome_of (full_of problem dealt played)))
+      (λ i. ending_without (cond (is i) (Some (outcome_of (full_of problem dealt played))) None) stuck))
 
   -- ---- the play goes on
   abbrev NextFollowed : Type 0
@@ -150,20 +128,13 @@ module _ (problem : Setup) (plan : List Node) (dealt : Dealt) (played : List Mov
       stated_card plan (place_of plan problem.played (pone_of start) played) ≡ stated → is_playable hands played stated ≡ true → NextFollowed
   owner_plays m going None e is = absurd cc
   owner_plays m going (Some card) e is =
-      let parts = and_parts (has (cards_left hands Owner played) card) (fits played card) is in
-      goes_with Owner (move.Card card) m going (parts.0, parts.1) e
+      goes_with Owner (move.Card card) m going (and_parts (has (cards_left hands Owner played) card) (fits played card) is) e
 
   goes_by : (side : Side) → mover (pone_of start) (letters_of played) ≡ side → stuck ≡ false → done ≡ false → NextFollowed
-  goes_by Owner m free going =
-      let any = list_any (fits played) (cards_left hands Owner played) in
-      let who = same_side (mover (pone_of start) (letters_of played)) Owner in
-      let place = place_of plan problem.played (pone_of start) played in
-      elim (cases_Bool any) [
-        | inl some ↦
-            owner_plays m going (stated_card plan place) refl
-            (not_stuck done who any (is_playable hands played (stated_card plan place)) free going (ap (λ (s : Side). same_side s Owner) m) some)
-        | inr none ↦ goes_with Owner move.Go m going none tt
-      ]
+  goes_by Owner m free going = elim (cases_Bool (list_any (fits played) (cards_left hands Owner played))) [
+    | inl some ↦ owner_plays m going _ refl (not_stuck done _ _ _ free going (ap (λ (s : Side). same_side s Owner) m) some)
+    | inr none ↦ goes_with Owner move.Go m going none tt
+  ]
   goes_by Opponent m free going =
       let next = progress_law start hands played going in
       goes_with Opponent next.0 m going (rw m at next.1.may_take) tt
@@ -172,17 +143,15 @@ module _ (problem : Setup) (plan : List Node) (dealt : Dealt) (played : List Mov
   goes_on free going = goes_by (mover (pone_of start) (letters_of played)) refl free going
 
 pub sure_from : (problem : Setup) (plan : List Node) → HoldsFrom problem plan (played_events problem) → IsSure problem plan
-sure_from problem plan holds = record {
-  never_stuck = λ dealt played followed. never_stuck problem plan dealt played followed holds;
-  reached = λ dealt played followed is. reached problem plan dealt played followed holds is;
-}
+sure_from problem plan holds =
+    record { never_stuck = λ dealt played followed. never_stuck followed holds; reached = λ dealt played followed. reached followed holds }
 
 -- a sure plan goes on
 pub sure_goes_on : (problem : Setup) (plan : List Node) → IsSure problem plan → GoesOn problem plan
-sure_goes_on problem plan sure dealt played followed going = goes_on problem plan dealt played followed (sure.never_stuck dealt played followed) going
+sure_goes_on problem plan sure dealt played followed = goes_on followed (sure.never_stuck dealt played followed)
 
 pub ends : (problem : Setup) → IsSetup problem → Ends problem
-ends problem setup dealt played deal legal = length_law (start_of problem) (hands_of problem dealt) played (dealt_is problem setup dealt deal) legal
+ends problem setup dealt played deal legal = at_most_29 (start_of problem) (hands_of problem dealt) played (dealt_is problem setup dealt deal) legal
 
 -- ---- the verdict at the first position
 -- if a history leads to a position, the verdict there is right

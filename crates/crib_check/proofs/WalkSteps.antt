@@ -1,9 +1,10 @@
 -- What a walk may do for a turn, and what it has done after one.
-use Rattle.std.proofs.Common.{◌≡◌, ◌+◌, ℕ, List, None, sym, subst}
+use Rattle.std.proofs.Common.{◌≡◌, ◌+◌, ℕ, List, None, Option, refl, sym, subst}
 use Rattle.crib_cards.specs.Letters.{letter_place}
 use Rattle.crib_cards.specs.declared.letters.Letter.{Letter}
 use Rattle.crib_problem.specs.Setup.{Setup}
 use Rattle.crib_plan.specs.declared.plan.Node.{Node}
+use Rattle.crib_check.specs.declared.failure.Failure.{Failure}
 use Rattle.crib_check.specs.declared.keys.Key.{Key}
 use Rattle.crib_check.specs.declared.trails.Event.{Event as TrailEvent}
 use Rattle.crib_check.specs.declared.walk.Walk.{Walk}
@@ -11,6 +12,22 @@ use Rattle.crib_check.specs.Private.Found.{IsFoundBelow, IsSettledBelow}
 use Rattle.crib_check.specs.Private.Histories.{history_of_trail}
 use Rattle.crib_check.specs.Private.Positions.{StandsAt}
 use Rattle.crib_check.specs.Private.Walks.{IsWalkOf, MayWalk, HasGone, HasShown, history_at}
+
+module _ {A T : Type 0} {holds : T → Key → Type 0} {problem : Setup} {plan : List Node} {Found : List TrailEvent → Option Failure → Type 0}
+    {walk : Walk A T} where
+  -- a walk that stays where it is
+  pub stays : IsWalkOf holds problem plan walk → Found walk.trail.items walk.failure → HasGone holds problem plan walk.trail.items Found walk
+  stays kept found = record { kept = kept; back = λ none. refl; found = found }
+
+  -- a walk that has found a failure
+  pub failed : {trail : List TrailEvent} → IsWalkOf holds problem plan walk → (walk.failure ≡ None → ⊥) → Found walk.trail.items walk.failure →
+      HasGone holds problem plan trail Found walk
+  failed kept some found = record { kept = kept; back = λ none. absurd (some none); found = found }
+
+  -- a walk that has found one thing has found what follows from it
+  pub gone_as : {trail : List TrailEvent} {Also : List TrailEvent → Option Failure → Type 0} → HasGone holds problem plan trail Found walk →
+      (Found walk.trail.items walk.failure → Also walk.trail.items walk.failure) → HasGone holds problem plan trail Also walk
+  gone_as gone more = record { kept = gone.kept; back = gone.back; found = more gone.found }
 
 -- a walk after the letters below a place, none of which led to a failure
 pub record HasShownBelow {A T : Type 0} (holds : T → Key → Type 0) (start : Walk A T) (key : Key) (place : ℕ) (walk : Walk A T) : Type 0 where
@@ -33,8 +50,7 @@ module _ {A T : Type 0} {holds : T → Key → Type 0} {start walk : Walk A T} {
 
   -- what it has done after one letter more
   pub shown_next : {after : Walk A T} (letter : Letter) → letter_place letter ≡ place → HasShown holds walk key letter (history_at walk) after →
-      HasGone holds start.problem.now start.plan.now start.trail.items
-      (IsFoundBelow start.problem.now start.plan.now key (place + 1) (history_at start)) after
+      HasGone holds start.problem.now start.plan.now start.trail.items (IsFoundBelow start.problem.now start.plan.now key (place + 1) (history_at start)) after
   shown_next {after} letter at next =
       let S : (Setup × List Node × List TrailEvent) → Type 0 = λ x.
       HasGone holds x.0 x.1 x.2 (λ trail found. IsSettledBelow x.0 x.1 key (letter_place letter) →

@@ -11,8 +11,8 @@ count_before-loop-suit-preserved t c = record {
       let so_far = c.loop-suit.invariant.exact problem ranks of same in
       let is = c.with_suit-longer.ensures.value in
       let gave = c.count_from-more.ensures.exact problem ranks of (c.with_suit-longer.ensures.ranks ∙ same) in (
-        next_suit _ _ _ _ (omega (arith, c.told-hold)) (omega arith) same _ _ _ _ _ (omega arith) is so_far.0 gave.0,
-        next_suit _ _ _ _ (omega (arith, c.told-hold)) (omega arith) same _ _ _ _ _ (omega arith) is so_far.1 gave.1,
+        next_suit _ _ (omega (arith, c.told-hold)) (omega arith) same _ (omega arith) is so_far.0 gave.0,
+        next_suit _ _ (omega (arith, c.told-hold)) (omega arith) same _ (omega arith) is so_far.1 gave.1,
       );
   few = search (rules, arith);
 }
@@ -21,12 +21,12 @@ pub count_before-returns-clause-exact : goal.count_before-returns-clause-exact
 count_before-returns-clause-exact t c = λ problem ranks of same.
     let whole : c.loop-suit.suit ≡ 4 = omega (arith, c.loop-suit.auto.suit-end, c.loop-suit-test.false) in
     let so_far = rw whole at (c.loop-suit.invariant.exact problem ranks of same) in
-    let numbered = numbered ranks c.args.hold.now (c.args.place - 1) c.args.place (omega (arith, c.told-hold)) (omega arith) same in
-    (all_below _ _ _ _ _ (numbered (IsOpen problem)) _ so_far.0, all_below _ _ _ _ _ (numbered (IsMissing problem c.args.demand)) _ so_far.1)
+    let numbered = numbered c.args.hold.now (c.args.place - 1) (omega (arith, c.told-hold)) (omega arith) same in
+    (all_below (numbered (IsOpen problem)) so_far.0, all_below (numbered (IsMissing problem c.args.demand)) so_far.1)
 
 pub count_from-returns-then-not-may_begin-clause-exact : goal.count_from-returns-then-not-may_begin-clause-exact
 count_from-returns-then-not-may_begin-clause-exact t c = λ problem ranks of same.
-    none_end problem _ _ _ ranks of c.args.demand c.args.hold.now c.args.place
+    none_end of c.args.demand c.args.hold.now c.args.place
     (no_end c.args.cribs.now.unseen c.args.fixed c.args.hold.now c.args.place (sym c.may_begin.ensures ∙ c.if-not-may_begin.true))
 
 pub count_from-returns : goal.count_from-returns

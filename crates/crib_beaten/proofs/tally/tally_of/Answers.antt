@@ -7,38 +7,31 @@ use Rattle.crib_beaten.proofs.tally.tally_of.Goals as goal
 
 pub loop-number-init : goal.loop-number-init
 loop-number-init g c = record {
-  below = rw c.new.ensures.items (none_yet c.args.problem.now c.args.plan.now c.of-deals.ensures.cards.setup);
+  below = rw c.new.ensures.items (none_yet c.of-deals.ensures.cards.setup);
   place = (none_chosen []).0;
   few = omega arith;
 }
 
 pub add-requires-clause-open_deals : goal.add-requires-clause-open_deals
 add-requires-clause-open_deals g c =
-    (sum_fits 209920 c.loop-number.number c.loop-number.tally.open_deals c.row_at-row.result.open_deals (omega arith) (omega arith)
-    c.loop-number.invariant.below.few.0 c.row_at-row.ensures.few.0).1
+    (sum_fits 209920 (omega arith) (omega arith) c.loop-number.invariant.below.few.0 c.row_at-row.ensures.few.0).1
 
 pub add-requires-clause-beaten : goal.add-requires-clause-beaten
 add-requires-clause-beaten g c =
-    (sum_fits 545792 c.loop-number.number c.loop-number.tally.beaten c.row_at-row.result.beaten (omega arith) (omega arith)
-    c.loop-number.invariant.below.few.1 c.row_at-row.ensures.few.1).1
+    (sum_fits 545792 (omega arith) (omega arith) c.loop-number.invariant.below.few.1 c.row_at-row.ensures.few.1).1
 
 pub loop-number-preserved : goal.loop-number-preserved
 loop-number-preserved g c =
-    let problem = c.args.problem.now in
-    let plan = c.args.plan.now in
     let sums = c.in_ok-add.ensures in
-    let next = next_tally problem plan c.of-deals.ensures.cards.setup c.loop-number.number c.loop-number.tally.open_deals c.loop-number.tally.beaten
-    c.loop-number.tally.rows.items c.row_at-row.result (omega arith) c.loop-number.invariant.below c.row_at-row.ensures.ranks
-    (c.row_at-row.ensures.exact problem plan c.of-deals.ensures) c.row_at-row.ensures.few in
+    let next = next_tally c.of-deals.ensures.cards.setup c.row_at-row.result (omega arith) c.loop-number.invariant.below c.row_at-row.ensures.ranks
+    (c.row_at-row.ensures.exact c.args.problem.now c.args.plan.now c.of-deals.ensures) c.row_at-row.ensures.few in
     let after : c.place_after-place.result ≡ c.loop-number.place + ordered_count (ranks_of_number c.loop-number.number) =
-    c.place_after-place.ensures.value ∙ ap (λ ranks. c.loop-number.place + ordered_count ranks) c.row_at-row.ensures.ranks in
-    record {
+    c.place_after-place.ensures.value ∙ ap (λ ranks. c.loop-number.place + ordered_count ranks) c.row_at-row.ensures.ranks in record {
       below = rw (sums.open_deals, sums.beaten, sums.rows) next;
       place = omega (arith, after, c.loop-number.invariant.place, ordered_more c.loop-number.number);
       few = omega (arith, c.place_after-place.ensures.few, c.loop-number.invariant.few);
     }
 
 pub returns : goal.returns
-returns g c =
-    whole_tally c.args.problem.now c.args.plan.now c.of-deals.ensures.cards.setup c.loop-number.tally c.loop-number.number
-    (omega (arith, c.loop-number.auto.number-end, c.loop-number-test.false)) c.loop-number.invariant.below
+returns g c = whole_tally c.of-deals.ensures.cards.setup c.loop-number.tally (omega (arith, c.loop-number.auto.number-end, c.loop-number-test.false))
+    c.loop-number.invariant.below

@@ -25,19 +25,19 @@ four : (c : After-go_to) (history : List Event) → KnowsAfter c.args.know.now c
 four c history knows =
     let owner = owner_read c.round.ensures c.scores-scores.ensures.value in
     let opponent = opponent_read c.round.ensures c.scores-scores.ensures.value in
-    four_played c.args.problem.now c.args.know.now history knows c.requires.over
+    four_played knows c.requires.over
     (omega (arith, owner, c.target.ensures.value, c.if-scores-target.false)) (omega (arith, opponent, c.if-scores-ge-GAME_HOLE.false))
 
 pub first_failure_with-requires-clause-deal : goal.first_failure_with-requires-clause-deal
 first_failure_with-requires-clause-deal c =
     let known = c.requires.known in
-    has_deal c.args.problem.now c.args.know.now known.0 known.1 (four (goal.at.first_failure_with-requires-clause-deal c).After-go_to known.0 known.1)
-    _ (c.go_to.ensures.worst c.args.problem.now c.requires.shows)
+    has_deal known.1 (four (goal.at.first_failure_with-requires-clause-deal c).After-go_to known.0 known.1)
+    (c.go_to.ensures.worst c.args.problem.now c.requires.shows)
 
 pub returns-clause-first : goal.returns-clause-first
 returns-clause-first c = λ history knows.
-    short_of c.args.problem.now c.args.know.now history knows (four (goal.at.returns-clause-first c).After-go_to history knows)
-    _ (c.go_to.ensures.worst c.args.problem.now c.requires.shows) c.first_failure_with.result c.first_failure_with.ensures.first
+    short_of knows (four (goal.at.returns-clause-first c).After-go_to history knows)
+    (c.go_to.ensures.worst c.args.problem.now c.requires.shows) c.first_failure_with.result c.first_failure_with.ensures.first
 
 pub first_failure_with-requires-clause-shows : goal.first_failure_with-requires-clause-shows
 first_failure_with-requires-clause-shows c =

@@ -13,7 +13,7 @@ pub returns : goal.returns
 returns g c = λ problem history stands.
     let key = c.args.key.now in
     let P : Move → Type 0 = λ what. c.match-what.key ≡ place_after_event c.args.plan.now key.place (Own what) in
-    stands_with problem c.args.plan.now key history stands (Own c.args.what.now) _ _ (c.did.ensures problem history stands.knows)
+    stands_with stands (Own c.args.what.now) _ _ (c.did.ensures problem history stands.knows)
     (elim c.match-what.branch [
       | in-Card w ↦ subst P (sym w.in-Card.is) (w.key-is ∙ w.after_card-key.ensures.place)
       | in-Go w ↦ subst P (sym w.in-Go.is) w.key-is

@@ -4,5 +4,5 @@ use Rattle.crib_check.proofs.turns.go_by_theirs.Goals as goal
 
 pub returns : goal.returns
 returns g c = λ problem history stands.
-    stands_with problem c.args.plan.now c.args.key.now history stands (Theirs c.args.letter.now) _ _ (c.saw.ensures problem history stands.knows)
+    stands_with stands (Theirs c.args.letter.now) _ _ (c.saw.ensures problem history stands.knows)
     c.place_after-key.ensures.place tt

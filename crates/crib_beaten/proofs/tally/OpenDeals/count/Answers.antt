@@ -7,28 +7,26 @@ use Rattle.crib_beaten.proofs.tally.OpenDeals.count.Goals as goal
 
 pub returns-then-not-are_in_order-clause-exact : goal.returns-then-not-are_in_order-clause-exact
 returns-then-not-are_in_order-clause-exact g c = λ problem plan is.
-    none_ordered problem plan is.cards.setup c.args.ranks.now (sym c.are_in_order.ensures ∙ c.if-not-are_in_order.true)
+    none_ordered is.cards.setup (sym c.are_in_order.ensures ∙ c.if-not-are_in_order.true)
 
 pub returns-then-not-passes-clause-exact : goal.returns-then-not-passes-clause-exact
 returns-then-not-passes-clause-exact g c = λ problem plan is.
-    none_counted problem plan is.cards.setup c.args.ranks.now (λ dealt order opened same.
+    none_counted is.cards.setup (λ dealt order opened same.
     c.passes.ensures.none c.if-not-passes.true problem plan is.plays dealt opened (ap rank_counts same ∙ sym c.count_ranks.ensures.value))
 
 pub count_by_ranks-requires-clause-here : goal.count_by_ranks-requires-clause-here
-count_by_ranks-requires-clause-here g c =
-    let is = c.requires.here.2 in (
-      c.requires.here.0,
-      record {
-        cards = is.cards;
-        passing = λ hold same. c.passes.ensures.test _ _ is.plays hold (ap rank_counts same ∙ sym c.count_ranks.ensures.value) ∙ c.if-not-passes.false;
-      },
-    )
+count_by_ranks-requires-clause-here g c = let is = c.requires.here.2 in (
+  c.requires.here.0,
+  record {
+    cards = is.cards;
+    passing = λ hold same. c.passes.ensures.test _ _ is.plays hold (ap rank_counts same ∙ sym c.count_ranks.ensures.value) ∙ c.if-not-passes.false;
+  },
+)
 
 pub bounds-self-place : goal.bounds-self-place
 bounds-self-place g c =
     let at = c.requires.place in
-    let order = ap are_in_order (sym at.2) ∙ sym c.are_in_order.ensures ∙ c.if-not-are_in_order.false in
-    let small = small_place at.0 order at.1 in omega (arith, small, at.3)
+    let order = ap are_in_order (sym at.2) ∙ sym c.are_in_order.ensures ∙ c.if-not-are_in_order.false in omega (arith, small_place at.0 order at.1, at.3)
 
 pub offset_bounds-self-place : goal.offset_bounds-self-place
 offset_bounds-self-place g c = let small = bounds-self-place g c in omega (arith, small)
@@ -37,10 +35,8 @@ pub returns-clause-exact : goal.returns-clause-exact
 returns-clause-exact g c = λ problem plan is.
     let at = c.requires.place in
     let order = ap are_in_order (sym at.2) ∙ sym c.are_in_order.ensures ∙ c.if-not-are_in_order.false in
-    let small = small_place at.0 order at.1 in
     let exact = c.count_by_ranks.ensures.exact problem (record {
       cards = is.cards;
       passing = λ hold same. c.passes.ensures.test _ _ is.plays hold (ap rank_counts same ∙ sym c.count_ranks.ensures.value) ∙ c.if-not-passes.false;
     }) in
-    counted_by problem plan is.cards.setup c.args.ranks.now _ (rw (at.2, at.3) (is.decided at.0 at.1 order)) c.count_by_ranks.result.0 c.count_by_ranks.result.1
-    exact.0 exact.1
+    counted_by is.cards.setup (rw (at.2, at.3) (is.decided at.0 at.1 order)) exact.0 exact.1

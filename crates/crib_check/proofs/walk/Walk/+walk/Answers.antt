@@ -3,7 +3,7 @@ use Rattle.std.proofs.lemmas.Bool.{both_ways}
 use Rattle.crib_cards.specs.declared.letters.Letter.TheVariants.{Go}
 use Rattle.crib_check.specs.Private.Histories.{as_event}
 use Rattle.crib_check.specs.Private.Walks.{HasWalked, IsKept, history_at}
-use Rattle.crib_check.proofs.WalkSteps.{shown_next}
+use Rattle.crib_check.proofs.WalkSteps.{failed, gone_as, shown_next, stays}
 use Rattle.crib_check.proofs.TrailLengths.{trail_more, trail_back, trail_room}
 use Rattle.crib_check.proofs.FoundAtPosition.{own_found, theirs_found, found_from, one_more_settled}
 use Rattle.crib_check.proofs.EndedDeals.{all_reach}
@@ -13,11 +13,7 @@ use Rattle.crib_check.proofs.walk.Walk.+walk.Goals.{walk-then-eq-2, walk-else-eq
 
 -- ---- at a position
 pub walk-returns-then-has : goal.walk-returns-then-has
-walk-returns-then-has g t c = record {
-  kept = c.requires.kept;
-  back = λ none. refl;
-  found = rw c.requires.none (c.requires.kept.settled c.args.key.now (c.has.ensures c.if-has.true));
-}
+walk-returns-then-has g t c = stays c.requires.kept (rw c.requires.none (c.requires.kept.settled c.args.key.now (c.has.ensures c.if-has.true)))
 
 pub walk-returns-then-is_none : goal.walk-returns-then-is_none
 walk-returns-then-is_none g t c =
@@ -28,34 +24,23 @@ walk-returns-then-is_none g t c =
       | walk-else-eq-2 w ↦ rw w.self-is w.their_turn.ensures
     ] in
     let none : gone.failure ≡ None = grind arith in
-    let settled = one_more_settled walk.problem.now walk.plan.now (g.T.Settled.holds c.put.new.self) (g.T.Settled.holds gone.table.now) c.args.key.now
-    (history_at walk) c.requires.here (rw c.copy.ensures at c.put.ensures.held) walked.kept.settled (rw none at walked.found) in
+    let settled = one_more_settled (g.T.Settled.holds c.put.new.self) (g.T.Settled.holds gone.table.now) c.requires.here
+    (rw c.copy.ensures at c.put.ensures.held) walked.kept.settled (rw none at walked.found) in
     record { kept = assumption; back = walked.back; found = walked.found }
 
 -- ---- the owner's turn
 pub own_turn-returns-in-Some : goal.own_turn-returns-in-Some
 own_turn-returns-in-Some g t c =
-    let walk = c.args.self.now in
-    let next = rw c.copy-next.ensures at c.go_by_own.ensures in
-    record {
-      kept = c.take.ensures.kept;
-      back = c.take.ensures.back;
-      found = own_found walk.problem.now walk.plan.now c.args.key.now c.go_by_own.new.key c.take.new.self.trail.items (history_at walk) c.in-Some.what
-          c.take.new.self.failure c.requires.here.here c.in-Some.ensures (next walk.problem.now) c.take.ensures.found;
-    }
+    gone_as c.take.ensures (own_found c.take.new.self.trail.items c.in-Some.what c.take.new.self.failure c.requires.here.here c.in-Some.ensures
+    (rw c.copy-next.ensures at c.go_by_own.ensures c.args.self.now.problem.now))
 
 -- ---- the opponent's turn
 pub their_turn-returns-then-is_some : goal.their_turn-returns-then-is_some
 their_turn-returns-then-is_some g t c =
     let walk = c.args.self.now in
     let after = c.they_show.new.self in
-    let shown = shown_next c.loop-place.invariant c.at.result c.at.ensures.place c.they_show.ensures in
-    record {
-      kept = shown.kept;
-      back = shown.back;
-      found = found_from walk.problem.now walk.plan.now c.args.key.now _ (history_at walk) after.trail.items after.failure
-          (λ none. absurd (grind arith)) shown.found;
-    }
+    gone_as (shown_next c.loop-place.invariant c.at.result c.at.ensures.place c.they_show.ensures)
+    (found_from walk.problem.now walk.plan.now c.args.key.now _ (history_at walk) after.trail.items after.failure (λ none. absurd (grind arith)))
 
 pub their_turn-loop-place-preserved : goal.their_turn-loop-place-preserved
 their_turn-loop-place-preserved g t c =
@@ -67,16 +52,10 @@ pub their_turn-returns : goal.their_turn-returns
 their_turn-returns g t c =
     let walk = c.args.self.now in
     let after = c.they_show-2.new.self in
-    let end = c.loop-place.auto.place-end in
-    let past = c.loop-place-test.false in
-    let all : 13 ≡ c.loop-place.place = omega (arith, end, past) in
-    let shown = shown_next c.loop-place.invariant Go all c.they_show-2.ensures in
-    record {
-      kept = shown.kept;
-      back = shown.back;
-      found = found_from walk.problem.now walk.plan.now c.args.key.now 14 (history_at walk) after.trail.items after.failure
-          (λ none. settled_theirs walk.problem.now walk.plan.now c.args.key.now c.requires.asked) (rw (← all) at shown.found);
-    }
+    let all : 13 ≡ c.loop-place.place = omega (arith, c.loop-place.auto.place-end, c.loop-place-test.false) in
+    gone_as (shown_next c.loop-place.invariant Go all c.they_show-2.ensures) (λ found.
+    found_from walk.problem.now walk.plan.now c.args.key.now 14 (history_at walk) after.trail.items after.failure (λ none. settled_theirs c.requires.asked)
+    (rw (← all) at found))
 
 -- ---- a letter of the opponent
 pub they_show-go_by_theirs-requires : goal.they_show-go_by_theirs-requires
@@ -90,40 +69,22 @@ they_show-take-requires g t c κs within =
 
 pub they_show-returns-then-can_show : goal.they_show-returns-then-can_show
 they_show-returns-then-can_show g t c =
-    let walk = c.args.self.now in
-    let next = rw c.copy-next.ensures at c.go_by_theirs.ensures in
-    record {
-      kept = c.take.ensures.kept;
-      back = c.take.ensures.back;
-      found = theirs_found walk.problem.now walk.plan.now c.args.key.now c.go_by_theirs.new.key c.take.new.self.trail.items (history_at walk)
-          c.args.letter.now c.take.new.self.failure c.requires.here.here c.requires.asked c.requires.letter (next walk.problem.now) c.take.ensures.found;
-    }
+    gone_as c.take.ensures (theirs_found c.take.new.self.trail.items c.args.letter.now c.take.new.self.failure c.requires.here.here c.requires.asked
+    c.requires.letter (rw c.copy-next.ensures at c.go_by_theirs.ensures c.args.self.now.problem.now))
 
 pub they_show-returns-else-can_show : goal.they_show-returns-else-can_show
-they_show-returns-else-can_show g t c =
-    let walk = c.args.self.now in
-    record {
-      kept = c.requires.here.kept;
-      back = λ none. refl;
-      found = λ below. rw c.requires.here.none (below_more walk.problem.now walk.plan.now c.args.key.now _ c.args.letter.now c.requires.letter refl below
-          (λ h stands can. absurd (both_ways c.can_show.result c.if-can_show.false ((c.can_show.ensures.exact walk.problem.now h stands.knows).1 can))));
-    }
+they_show-returns-else-can_show g t c = stays c.requires.here.kept (λ below.
+    rw c.requires.here.none (below_more c.args.letter.now c.requires.letter refl below (λ h stands can.
+    absurd (both_ways _ c.if-can_show.false ((c.can_show.ensures.exact c.args.self.now.problem.now h stands.knows).1 can)))))
 
 -- ---- a turn
 pub take-returns-then-ends_well : goal.take-returns-then-ends_well
-take-returns-then-ends_well g t c =
-    let walk = c.args.self.now in
-    record {
-      kept = assumption;
-      back = λ none. refl;
-      found = rw c.requires.none (settled_over walk.problem.now walk.plan.now c.args.key.now (c.ends_well.ensures.over c.if-ends_well.true)
-          (λ history knows. all_reach c.args.key.now.know walk.problem.now history knows (c.ends_well.ensures.reached c.if-ends_well.true history knows)));
-    }
+take-returns-then-ends_well g t c = stays (assumption) (rw c.requires.none (settled_over (c.ends_well.ensures.over c.if-ends_well.true)
+    (λ history knows. all_reach knows (c.ends_well.ensures.reached c.if-ends_well.true history knows))))
 
 pub take-push-requires : goal.take-push-requires
 take-push-requires g t c =
-    let walk = c.args.self.now in
-    let room = trail_room c.args.key.now.know walk.problem.now (as_event c.args.event) walk.trail.items c.requires.here.knows in
+    let room = trail_room c.args.key.now.know c.args.self.now.problem.now (as_event c.args.event) c.args.self.now.trail.items c.requires.here.knows in
     search rules
 
 pub take-walk-requires : goal.take-walk-requires
@@ -150,9 +111,5 @@ take-returns-then-is_none g t c =
 pub take-returns-else-is_none : goal.take-returns-else-is_none
 take-returns-else-is_none g t c =
     let walk = c.args.self.now in
-    let walked = c.walk.ensures in
-    record {
-      kept = walked.kept;
-      back = λ none. absurd (grind arith);
-      found = rw (trail_more walk.problem.now walk.trail.items c.push.new.self.items c.args.event c.push.ensures.items) at walked.found;
-    }
+    failed c.walk.ensures.kept (λ none. grind arith)
+    (rw (trail_more walk.problem.now walk.trail.items c.push.new.self.items c.args.event c.push.ensures.items) at c.walk.ensures.found)

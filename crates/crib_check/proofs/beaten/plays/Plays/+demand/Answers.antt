@@ -34,7 +34,7 @@ join_by_own-returns g t c =
 pub join_after-returns-then-not-can_show-clause-joined : goal.join_after-returns-then-not-can_show-clause-joined
 join_after-returns-then-not-can_show-clause-joined g t c = joined_none _ (λ counts. none_demand (λ history stands dealt same beats.
     both_ways c.can_show.result c.if-not-can_show.true
-    ((c.can_show.ensures.exact _ history stands.knows).1 (dealt, beats_agrees _ _ stands.knows.setup _ dealt beats))))
+    ((c.can_show.ensures.exact _ history stands.knows).1 (dealt, beats_agrees stands.knows.setup beats))))
 
 pub join_after-go_by_theirs-requires : goal.join_after-go_by_theirs-requires
 join_after-go_by_theirs-requires g t c = rw c.copy-next.ensures (c.can_show.ensures.shown c.if-not-can_show.false)

@@ -29,6 +29,6 @@ returns g c history dealt knows agrees =
       target_is = sym c.target-2.ensures.value;
       stop_is = sym c.is_to_stop.ensures;
       own_hand_is = sym c.requires.0;
-      few_hand = few_hand _ knows.setup dealt agrees.0;
-      few_crib = few_crib _ knows.setup dealt agrees.0;
+      few_hand = few_hand knows.setup agrees.0;
+      few_crib = few_crib knows.setup agrees.0;
     })

@@ -137,11 +137,7 @@ module _ (problem : Setup) where
         let rank : rank_of found.card ≡ rank_of card = eqb-true (rank_of found.card) (rank_of card) found.passes in
         let parts = has-filter_parts (λ c. not (has (own_cards other) c)) problem.hold found.card found.held in (
           found.card,
-          record {
-            held = parts.0;
-            free = not-true (has (own_cards other) found.card) parts.1;
-            fits = rw (← count_alike one other alike, rank) is.fits;
-          },
+          record { held = parts.0; free = not-true (has (own_cards other) found.card) parts.1; fits = rw (← count_alike one other alike, rank) is.fits },
           rank,
         )
 

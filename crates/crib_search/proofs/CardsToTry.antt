@@ -1,13 +1,13 @@
 -- The loop that chooses the cards for the owner to try.
-use Rattle.std.proofs.Common.{◌≡◌, ℕ, ◌+◌, ◌<◌, ◌≤◌, Bool, true, false, not, ◌&&◌, cond, eqb, leb, List, [], ◌∷◌, ◌++◌, length, get_or, take, refl, sym}
+use Rattle.std.proofs.Common.{◌≡◌, ℕ, ◌+◌, ◌<◌, ◌≤◌, Bool, true, false, not, ◌&&◌, ◌||◌, cond, eqb, leb, List, [], ◌∷◌, ◌++◌, length, get_or, take, refl, sym}
 use Rattle.std.proofs.Common.{ap, ◌∙◌, inl, inr, arith}
 use Rattle.std.specs.List.{filter, list_any}
 use Rattle.std.proofs.Math.ListN.{set, length-set}
 use Rattle.std.proofs.lemmas.List.Elements.{filter-append}
-use Rattle.std.proofs.lemmas.List.{append-nil, length-take-le, take_all, take_more, take_more_set}
+use Rattle.std.proofs.lemmas.List.{append-nil, take_all, take_more, take_more_set}
 use Rattle.std.proofs.Common.{zero, suc}
 use Rattle.std.proofs.lemmas.Bool.{or_left, or_right}
-use Rattle.std.proofs.lemmas.Bool.{cases_Bool, and_parts, eqb-true, eq-eqb, leb-true}
+use Rattle.std.proofs.lemmas.Bool.{cases_Bool, and_parts, eqb-true, eq-eqb, false_from_ne_true, leb-true}
 use Rattle.crib_cards.specs.Cards.{rank_of, card_value}
 use Rattle.crib_cards.specs.Sets.{has}
 use Rattle.crib_cards.proofs.SetFacts.{has-filter}
@@ -46,59 +46,38 @@ any_kept rank other apart (x ∷ cards) =
       | inr differs ↦ rw (differs, any_kept rank other apart cards)
     ]
 
+-- a filter of a list to which a number was added, or not
+filter_push : (p : ℕ → Bool) (there : Bool) (cards : List ℕ) (card : ℕ) → filter p (cond there cards (cards ++ card ∷ [])) ≡ cond (not (p card) || there)
+    (filter p cards) (filter p cards ++ card ∷ [])
+filter_push p there cards card =
+    elim (cases_Bool (p card)) [
+      | inl kept ↦ elim (cases_Bool there) [ inl t ↦ rw (kept, t) | inr f ↦ rw (kept, f, filter-append p cards (card ∷ []), kept) ]
+      | inr left ↦ elim (cases_Bool there) [ inl t ↦ rw (left, t) | inr f ↦ rw (left, f, filter-append p cards (card ∷ []), left, append-nil (filter p cards)) ]
+    ]
+
 first_push : (cards : List ℕ) (card : ℕ) → one_of_each_rank (cards ++ card ∷ []) ≡ cond (list_any (of_rank (rank_of card)) (one_of_each_rank cards))
     (one_of_each_rank cards) (one_of_each_rank cards ++ card ∷ [])
 first_push [] card = refl
 first_push (x ∷ cards) card =
-    elim (cases_Bool (list_any (of_rank (rank_of card)) (one_of_each_rank cards))) [
-      | inl there ↦ elim (cases_Bool (eqb (rank_of x) (rank_of card))) [
-        | inl same ↦ rw (first_push cards card, there, same)
-        | inr differs ↦ rw (first_push cards card, there, differs, any_kept (rank_of x) (rank_of card) differs (one_of_each_rank cards), there)
-      ]
-      | inr new ↦ elim (cases_Bool (eqb (rank_of x) (rank_of card))) [
-        | inl same ↦
-            rw (
-              first_push cards card,
-              new,
-              filter-append (other_rank (rank_of x)) (one_of_each_rank cards) (card ∷ []),
-              eqb_turned (rank_of card) (rank_of x),
-              same,
-              append-nil (filter (other_rank (rank_of x)) (one_of_each_rank cards)),
-            )
-        | inr differs ↦
-            rw (
-              first_push cards card,
-              new,
-              filter-append (other_rank (rank_of x)) (one_of_each_rank cards) (card ∷ []),
-              eqb_turned (rank_of card) (rank_of x),
-              differs,
-              any_kept (rank_of x) (rank_of card) differs (one_of_each_rank cards),
-              new,
-            )
-      ]
-    ]
+    let firsts = one_of_each_rank cards in
+    let there = list_any (of_rank (rank_of card)) firsts in
+    rw (first_push cards card, filter_push (other_rank (rank_of x)) there firsts card, eqb_turned (rank_of card) (rank_of x))
+    (elim (cases_Bool (eqb (rank_of x) (rank_of card))) [
+      | inl same ↦ rw same
+      | inr differs ↦
+          rw (differs, any_kept (rank_of x) (rank_of card) differs firsts) (elim (cases_Bool there) [ inl t ↦ rw t | inr f ↦ rw f ])
+    ])
 
 -- ---- what is chosen of some cards
 abbrev pub chosen_of : Knowledge → List ℕ → List ℕ
 chosen_of know cards = one_of_each_rank (filter (may_play know) cards)
 
-module _ (know : Knowledge) (cards : List ℕ) (card : ℕ) where
-  pub chosen_skip : may_play know card ≡ false → chosen_of know (cards ++ card ∷ []) ≡ chosen_of know cards
-  chosen_skip e = rw (filter-append (may_play know) cards (card ∷ []), e, append-nil (filter (may_play know) cards))
-
-  pub chosen_same : may_play know card ≡ true → list_any (of_rank (rank_of card)) (chosen_of know cards) ≡ true →
-      chosen_of know (cards ++ card ∷ []) ≡ chosen_of know cards
-  chosen_same e there = rw (filter-append (may_play know) cards (card ∷ []), e, first_push (filter (may_play know) cards) card, there)
-
-  pub chosen_new : may_play know card ≡ true → list_any (of_rank (rank_of card)) (chosen_of know cards) ≡ false →
-      chosen_of know (cards ++ card ∷ []) ≡ chosen_of know cards ++ card ∷ []
-  chosen_new e new = rw (filter-append (may_play know) cards (card ∷ []), e, first_push (filter (may_play know) cards) card, new)
-
-  pub chosen_playable : has (chosen_of know cards) card ≡ true → (has know.own_left card ≡ true) × (count_of know.round.pile + card_value card ≤ 31)
-  chosen_playable h =
-      let fit = (has-filter_parts (may_play know) cards card (first_has (filter (may_play know) cards) card h)).1 in
-      let parts = and_parts (has know.own_left card) (leb (count_of know.round.pile + card_value card) 31) fit in
-      (parts.0, leb-true (count_of know.round.pile + card_value card) 31 parts.1)
+pub chosen_playable : (know : Knowledge) (cards : List ℕ) (card : ℕ) → has (chosen_of know cards) card ≡ true → (has know.own_left card ≡ true) ×
+    (count_of know.round.pile + card_value card ≤ 31)
+chosen_playable know cards card h =
+    let fit = (has-filter_parts (may_play know) cards card (first_has (filter (may_play know) cards) card h)).1 in
+    let parts = and_parts (has know.own_left card) (leb (count_of know.round.pile + card_value card) 31) fit in
+    (parts.0, leb-true (count_of know.round.pile + card_value card) 31 parts.1)
 
 -- what is chosen of the whole hold
 pub chosen_all : (know : Knowledge) (problem : Setup) (history : List Event) → KnowsAfter know problem history →
@@ -114,12 +93,9 @@ chosen_all know problem history knows =
     fits_now : ℕ → Bool
     fits_now card = leb (count_after problem history + card_value card) 31
 
-    left_is : (card : ℕ) → has problem.hold card ≡ true → has (own_left problem history) card ≡ not (has (own_cards history) card)
-    left_is card mine =
-        rw (has-set_where (has (filter is_free problem.hold)) card (hold_is_card problem knows.setup card mine), has-filter is_free problem.hold card, mine)
-
     playable_is : (card : ℕ) → has problem.hold card ≡ true → may_play (knowledge_after problem history) card ≡ (is_free card && fits_now card)
-    playable_is card mine = rw (left_is card mine)
+    playable_is card mine =
+        rw (has-set_where (has (filter is_free problem.hold)) card (hold_is_card problem knows.setup card mine), has-filter is_free problem.hold card, mine)
 
 -- ---- one card further
 abbrev pub AreChosen : Knowledge → List ℕ → ℕ → ℕ → List ℕ → Type 0
@@ -127,11 +103,14 @@ AreChosen know hold index len cards = (len ≤ index) × (length cards ≡ 4) ×
 
 module _ (know : Knowledge) (hold : List ℕ) (index len : ℕ) (cards : List ℕ) (before : AreChosen know hold index len cards) (within : index < length hold)
     (card : ℕ) (is : card ≡ get_or hold index card) where
-  next_front : take (index + 1) hold ≡ take index hold ++ card ∷ []
-  next_front = take_more hold index card within ∙ ap (λ (c : ℕ). take index hold ++ c ∷ []) (sym is)
+  abbrev front : List ℕ
+  front = filter (may_play know) (take index hold)
+
+  next_front : filter (may_play know) (take (index + 1) hold) ≡ front ++ filter (may_play know) (card ∷ [])
+  next_front = rw (take_more hold index card within, ← is) (filter-append (may_play know) (take index hold) (card ∷ []))
 
   pub step_skip : may_play know card ≡ false → AreChosen know hold (index + 1) len cards
-  step_skip e = let le = before.0 in (omega (arith, le), before.1, rw (next_front, chosen_skip know (take index hold) card e) before.2)
+  step_skip e = let le = before.0 in (omega (arith, le), before.1, rw (next_front, e, append-nil front) before.2)
 
   module _ (rank : ℕ) (rank_ok : rank ≡ rank_of card) where
     there_is : list_any (of_rank rank) (take len cards) ≡ list_any (of_rank (rank_of card)) (chosen_of know (take index hold))
@@ -139,7 +118,7 @@ module _ (know : Knowledge) (hold : List ℕ) (index len : ℕ) (cards : List �
 
     pub step_same : may_play know card ≡ true → list_any (of_rank rank) (take len cards) ≡ true → AreChosen know hold (index + 1) len cards
     step_same e there =
-        let le = before.0 in (omega (arith, le), before.1, rw (next_front, chosen_same know (take index hold) card e (sym there_is ∙ there)) before.2)
+        let le = before.0 in (omega (arith, le), before.1, rw (next_front, e, first_push front card, sym there_is ∙ there) before.2)
 
     pub step_new : length hold ≡ 4 → may_play know card ≡ true → list_any (of_rank rank) (take len cards) ≡ false → AreChosen know hold (index + 1) (len + 1)
         (set cards len card)
@@ -148,7 +127,7 @@ module _ (know : Knowledge) (hold : List ℕ) (index len : ℕ) (cards : List �
         let all = before.1 in (
           omega (arith, le),
           length-set cards len card ∙ before.1,
-          rw (next_front, chosen_new know (take index hold) card e (sym there_is ∙ new), ← before.2)
+          rw (next_front, e, first_push front card, sym there_is ∙ new, ← before.2)
               (take_more_set cards len card (omega (arith, le, all, within, four))),
         )
 
@@ -160,23 +139,13 @@ chosen_end know problem history knows hold cards index len same past chosen =
     let four : length hold ≡ 4 = rw same knows.setup.held in
     rw (chosen.2, take_all index hold (omega (arith, four, past)), same) (chosen_all know problem history knows)
 
-pub front_playable : (know : Knowledge) (hold cards : List ℕ) (index len : ℕ) → AreChosen know hold index len cards → (card : ℕ) →
-    has (take len cards) card ≡ true →
-    (has know.own_left card ≡ true) × (count_of know.round.pile + card_value card ≤ 31)
-front_playable know hold cards index len chosen card held =
-    chosen_playable know (take index hold) card (rw chosen.2 at held)
-
 -- if no card is an option, no card that is left fits
 pub none_left_fits : (problem : Setup) (history : List Event) → ((card : ℕ) → IsOption problem history card → ⊥) →
     list_any (λ card. leb (count_after problem history + card_value card) 31) (own_left problem history) ≡ false
-none_left_fits problem history none = none_any (λ card. leb (count_after problem history + card_value card) 31) (own_left problem history) each
-  where
-    each : (card : ℕ) → has (own_left problem history) card ≡ true → leb (count_after problem history + card_value card) 31 ≡ false
-    each card left =
-        elim (cases_Bool (leb (count_after problem history + card_value card) 31)) [
-          | inl fit ↦ absurd (none card (option_left problem history card left (leb-true (count_after problem history + card_value card) 31 fit)))
-          | inr e ↦ e
-        ]
+none_left_fits problem history none =
+    none_any (λ card. leb (count_after problem history + card_value card) 31) (own_left problem history)
+    (λ card left. false_from_ne_true (leb (count_after problem history + card_value card) 31)
+    (λ fit. none card (option_left problem history card left (leb-true (count_after problem history + card_value card) 31 fit))))
 
 -- if there is no card to try, no card fits
 pub none_fits : (know next : Knowledge) (problem : Setup) (history : List Event) → KnowsAfter know problem history → next ≡ know →
@@ -189,6 +158,3 @@ pub has_at : (cards : List ℕ) (index card : ℕ) → index < length cards → 
 has_at [] index card within is = absurd (omega (arith, within))
 has_at (first ∷ cards) zero card within is = or_left (eqb first card) (has cards card) (eq-eqb first card (sym is))
 has_at (first ∷ cards) (suc index) card within is = or_right (eqb first card) (has cards card) (has_at cards index card (omega (arith, within)) is)
-
-pub front_whole : (know : Knowledge) (hold cards : List ℕ) (index len : ℕ) → AreChosen know hold index len cards → index ≤ 4 → length (take len cards) ≡ len
-front_whole know hold cards index len chosen few = length-take-le len cards (omega (arith, chosen.0, chosen.1, few))

@@ -29,17 +29,11 @@ use Rattle.crib_search.specs.declared.finder.SearchFault.TheVariants.{TooLarge, 
 use Rattle.crib_search.specs.Answer.{plan_found, search_fault_number}
 
 -- ---- answers
-pub a_plan_is_found : (A : Type 0) → plan_found {A = A} (found.Plan (Play 4 End ∷ [])) ≡ Some (Play 4 End ∷ [])
-a_plan_is_found A = refl
+pub plans_that_are_found : (A : Type 0) → map (plan_found {A = A}) (found.Plan (Play 4 End ∷ []) ∷ found.None ∷ []) ≡ Some (Play 4 End ∷ []) ∷ None ∷ []
+plans_that_are_found A = refl
 
-pub no_plan_is_found : (A : Type 0) → plan_found {A = A} found.None ≡ None
-no_plan_is_found A = refl
-
-pub too_large : search_fault_number TooLarge ≡ 50
-too_large = refl
-
-pub out_of_memory : search_fault_number NoMemory ≡ 11
-out_of_memory = refl
+pub numbers_of_faults : map search_fault_number (TooLarge ∷ NoMemory ∷ []) ≡ 50 ∷ 11 ∷ []
+numbers_of_faults = refl
 
 -- ---- trees
 abbrev clubs : Tree
@@ -48,49 +42,30 @@ clubs = Plays 4 Finish
 abbrev look : Tree
 look = Sees (branches_of (clubs ∷ []))
 
-pub end_is_no_look : same_tree Finish look ≡ false
-end_is_no_look = refl
+abbrev two_branches : Tree
+two_branches = Sees (branches_of (clubs ∷ clubs ∷ []))
 
-pub card_is_no_end : same_tree clubs Finish ≡ false
-card_is_no_end = refl
+-- a look is itself, and not the end, a card, a look with another card, or one with one branch more
+pub same_as_a_look : map (same_tree look) (Finish ∷ clubs ∷ look ∷ Sees (branches_of (Plays 5 Finish ∷ [])) ∷ two_branches ∷ [])
+    ≡ false ∷ false ∷ true ∷ false ∷ false ∷ []
+same_as_a_look = refl
 
-pub look_is_no_end : same_tree look Finish ≡ false
-look_is_no_end = refl
-
-pub look_is_no_card : same_tree look clubs ≡ false
-look_is_no_card = refl
-
-pub look_is_itself : same_tree look look ≡ true
-look_is_itself = refl
-
-pub other_look : same_tree look (Sees (branches_of (Plays 5 Finish ∷ []))) ≡ false
-other_look = refl
-
-pub longer_look : same_tree look (Sees (branches_of (clubs ∷ clubs ∷ []))) ≡ false
-longer_look = refl
-
-pub shorter_look : same_tree (Sees (branches_of (clubs ∷ clubs ∷ []))) look ≡ false
-shorter_look = refl
-
-pub later_branch_differs : same_tree (Sees (branches_of (clubs ∷ clubs ∷ []))) (Sees (branches_of (clubs ∷ look ∷ []))) ≡ false
-later_branch_differs = refl
+-- neither is the end a look, a card the end, or a look one with a branch less or with another second branch
+pub other_trees : same_tree Finish look ∷ same_tree clubs Finish ∷ map (same_tree two_branches) (look ∷ Sees (branches_of (clubs ∷ look ∷ [])) ∷ [])
+    ≡ false ∷ false ∷ false ∷ false ∷ []
+other_trees = refl
 
 -- ---- letters, and the owner's cards that he may try
 pub ranks_and_then_a_go : letters
     ≡ Seen 1 ∷ Seen 2 ∷ Seen 3 ∷ Seen 4 ∷ Seen 5 ∷ Seen 6 ∷ Seen 7 ∷ Seen 8 ∷ Seen 9 ∷ Seen 10 ∷ Seen 11 ∷ Seen 12 ∷ Seen 13 ∷ Go ∷ []
 ranks_and_then_a_go = refl
 
--- after TC and a ten of the opponent, each of his other cards fits
-pub others_at_20 : options level (Theirs (Seen 10) ∷ Own (move.Card 36) ∷ []) ≡ 32 ∷ 4 ∷ 28 ∷ []
-others_at_20 = refl
-
--- after his own TC, which no other rank of the hold is, he tries the other three
-pub others_at_10 : options level (Own (move.Card 36) ∷ []) ≡ 32 ∷ 4 ∷ 28 ∷ []
-others_at_10 = refl
-
--- at 29, after a go, only 2C fits
-pub two_at_29 : options level (Theirs Go ∷ Own (move.Card 32) ∷ Theirs (Seen 10) ∷ Own (move.Card 36) ∷ []) ≡ 4 ∷ []
-two_at_29 = refl
+-- after his own TC, which no other rank of the hold is, he tries the other three, and so after a ten of the opponent, where each of them fits. At 29, after
+-- a go, only 2C fits
+pub cards_to_try : map (options level) ((Own (move.Card 36) ∷ []) ∷ (Theirs (Seen 10) ∷ Own (move.Card 36) ∷ [])
+    ∷ (Theirs Go ∷ Own (move.Card 32) ∷ Theirs (Seen 10) ∷ Own (move.Card 36) ∷ []) ∷ [])
+    ≡ (32 ∷ 4 ∷ 28 ∷ []) ∷ (32 ∷ 4 ∷ 28 ∷ []) ∷ (4 ∷ []) ∷ []
+cards_to_try = refl
 
 -- ---- one step, for given answers further on: none after 2C or after an ace of the opponent, 2C after a go of his, and otherwise the end
 abbrev answer : List Event → Option Tree
@@ -106,40 +81,26 @@ given history it = it ≡ answer history
 abbrev a_go : List Event
 a_go = Theirs Go ∷ []
 
-pub nothing_to_try : Tries given a_go [] None
-nothing_to_try = refl
+-- without a card to try, none is found, and no tree
+pub nothing_to_try : Tries given a_go [] None × (Tries given a_go [] (Some Finish) → ⊥)
+nothing_to_try = (refl, λ tries. cc)
 
-pub no_tree_of_nothing : Tries given a_go [] (Some Finish) → ⊥
-no_tree_of_nothing tries = cc
-
--- none is found after 2C, so 2D is played
-pub second_card : Tries given a_go (4 ∷ 5 ∷ []) (Some (Plays 5 Finish))
-second_card = (None, refl, (Some Finish, refl, refl))
-
--- 2D and 2H both lead to the end, so the first one is played
-pub first_card : OwnerFinds given a_go (5 ∷ 6 ∷ []) (Some (Plays 5 Finish))
-first_card = (Some Finish, refl, refl)
+-- none is found after 2C, so 2D is played. 2D and 2H both lead to the end, so the first one is played. If no card fits, the owner says go
+pub first_that_leads : Tries given a_go (4 ∷ 5 ∷ []) (Some (Plays 5 Finish)) × OwnerFinds given a_go (5 ∷ 6 ∷ []) (Some (Plays 5 Finish))
+    × OwnerFinds given a_go [] (Some look)
+first_that_leads = ((None, refl, (Some Finish, refl, refl)), (Some Finish, refl, refl), refl)
 
 pub a_card_that_leads_is_played : Tries given a_go (5 ∷ []) None → ⊥
 a_card_that_leads_is_played (None, is, rest) = cc
 a_card_that_leads_is_played (Some tree, is, rest) = cc
 
--- after 2D the end is found, so the answer is to play it
-pub one_card_is_tried : (found : Option Tree) → Tries given a_go (5 ∷ []) found →
-    (after : Option Tree) × (after ≡ Some Finish) × MatchOption after (found ≡ None) (λ tree. found ≡ Some (Plays 5 tree))
-one_card_is_tried found tries = tries
-
--- while a card fits, the owner tries it and says no go
-pub two_cards_are_tried : (found : Option Tree) → OwnerFinds given a_go (4 ∷ 5 ∷ []) found → Tries given a_go (4 ∷ 5 ∷ []) found
-two_cards_are_tried found finds = finds
-
--- at the first lead it is the owner's turn, and each card of TC 9C 2C 8C fits
-pub owner_leads : (found : Option Tree) → FindsFor turns.Owner given level [] found → Tries given [] (36 ∷ 32 ∷ 4 ∷ 28 ∷ []) found
-owner_leads found finds = finds
-
--- if no card fits, the owner says go
-pub own_go : OwnerFinds given a_go [] (Some look)
-own_go = refl
+-- after 2D the end is found, so the answer is to play it. While a card fits, the owner tries it and says no go. At the first lead it is the owner's turn,
+-- and each card of TC 9C 2C 8C fits
+pub owner_tries : (found : Option Tree) →
+    (Tries given a_go (5 ∷ []) found ≡ ((after : Option Tree) × (after ≡ Some Finish) × MatchOption after (found ≡ None) (λ tree. found ≡ Some (Plays 5 tree))))
+    × (OwnerFinds given a_go (4 ∷ 5 ∷ []) found ≡ Tries given a_go (4 ∷ 5 ∷ []) found)
+    × (FindsFor turns.Owner given level [] found ≡ Tries given [] (36 ∷ 32 ∷ 4 ∷ 28 ∷ []) found)
+owner_tries found = (refl, refl, refl)
 
 -- at 29 an ace can be shown, and none is found after it
 abbrev three_events : List Event
@@ -160,23 +121,18 @@ go_shown = (
   (assumption, (move.Go ∷ move.Card 32 ∷ move.Card 37 ∷ move.Card 36 ∷ [], assumption, refl)),
 )
 
-pub ace_lacks_a_tree : LacksBranch given at_29 three_events
-ace_lacks_a_tree = (Seen 1, ace_shown, refl)
-
+-- so none is found
 pub none_found_after_a_look : FindsFor turns.Opponent given at_29 three_events None
-none_found_after_a_look = inl (ace_lacks_a_tree, refl)
+none_found_after_a_look = inl ((Seen 1, ace_shown, refl), refl)
 
 -- a go can be shown, and the play of 2C is found after it
 pub branch_of_a_go : BranchFinds given at_29 three_events Go clubs
 branch_of_a_go = inl (go_shown, refl)
 
 -- the branch of a letter that can't be shown is the end, and nothing else
-pub hidden_branch_is_the_end : ¬ CanShow at_29 three_events (Seen 3) → BranchFinds given at_29 three_events (Seen 3) Finish
-hidden_branch_is_the_end none = inr (none, refl)
-
-pub hidden_branch_is_no_card : ¬ CanShow at_29 three_events (Seen 3) → BranchFinds given at_29 three_events (Seen 3) clubs → ⊥
-hidden_branch_is_no_card none (inl shown) = none shown.0
-hidden_branch_is_no_card none (inr hidden) = (let is = hidden.1 in cc)
+pub hidden_branch_is_the_end : ¬ CanShow at_29 three_events (Seen 3) →
+    BranchFinds given at_29 three_events (Seen 3) Finish × (BranchFinds given at_29 three_events (Seen 3) clubs → ⊥)
+hidden_branch_is_the_end none = (inr (none, refl), λ finds. elim finds [ inl shown ↦ none shown.0 | inr hidden ↦ let is = hidden.1 in cc ])
 
 -- none is found only if a branch is lacking, and a tree that is found joins its branches
 pub none_lacks_a_branch : FindsFor turns.Opponent given at_29 three_events None → LacksBranch given at_29 three_events
@@ -189,71 +145,43 @@ tree_joins_branches tree (inl lacks) = absurd (let is = lacks.1 in cc)
 tree_joins_branches tree (inr finds) = finds
 
 -- if a deal is done, the end is found where the owner has reached his goal, and otherwise none
-pub end_where_reached : IsReachedBehind level [] → FindsFor turns.Over given level [] None → ⊥
-end_where_reached reached (inl is) = (let end = is.1 in cc)
-end_where_reached reached (inr is) = is.0 reached
+pub end_where_reached : IsReachedBehind level [] → FindsFor turns.Over given level [] (Some Finish) × (FindsFor turns.Over given level [] None → ⊥)
+end_where_reached reached = (inl (reached, refl), λ finds. elim finds [ inl is ↦ let end = is.1 in cc | inr is ↦ is.0 reached ])
 
-pub none_where_not_reached : ¬ IsReachedBehind level [] → FindsFor turns.Over given level [] (Some Finish) → ⊥
-none_where_not_reached not_reached (inl is) = not_reached is.0
-none_where_not_reached not_reached (inr is) = (let end = is.1 in cc)
+pub none_where_not_reached : ¬ IsReachedBehind level [] → FindsFor turns.Over given level [] None × (FindsFor turns.Over given level [] (Some Finish) → ⊥)
+none_where_not_reached short = (inr (short, refl), λ finds. elim finds [ inl is ↦ short is.0 | inr is ↦ let end = is.1 in cc ])
 
-pub none_is_found_where_not_reached : ¬ IsReachedBehind level [] → FindsFor turns.Over given level [] None
-none_is_found_where_not_reached not_reached = inr (not_reached, refl)
-
-pub end_is_found_where_reached : IsReachedBehind level [] → FindsFor turns.Over given level [] (Some Finish)
-end_is_found_where_reached reached = inl (reached, refl)
-
--- at the first lead, some deal does not have the outcome Reached
-pub not_reached_at_the_start : IsReachedBehind level [] → ⊥
+-- at the first lead, some deal does not have the outcome Reached. After TC TD 9C the scores are 0 to 2. The owner's hand counts 9, so he is two holes short
+-- of eleven
+pub not_reached_yet : (IsReachedBehind level [] → ⊥) × (IsReachedBehind (record level { goal = Holes 11 }) three_events → ⊥)
 unfolding set_where outcome_of hand_points crib_points
-not_reached_at_the_start reached =
-    (let short = reached (record { hold = 37 ∷ 49 ∷ 50 ∷ 47 ∷ []; throw = 18 ∷ 25 ∷ [] })
-    (record { deal = record { held = refl; thrown = refl; distinct = refl; hidden_before = refl }; fixed = refl }, ([], tt, refl)) in cc)
+not_reached_yet = (
+  λ reached. (let short = reached (record { hold = 37 ∷ 49 ∷ 50 ∷ 47 ∷ []; throw = 18 ∷ 25 ∷ [] }) (assumption, ([], tt, refl)) in cc),
+  λ reached. (let short = reached level_deal (assumption, (move.Card 32 ∷ move.Card 37 ∷ move.Card 36 ∷ [], assumption, refl)) in cc),
+)
 
--- after TC TD 9C the scores are 0 to 2. The owner's hand counts 9, so he is two holes short of eleven
 pub scores_behind_three : (full_behind level three_events level_deal).scores ≡ record { owner = 0; opponent = 2 }
 scores_behind_three = refl
 
-pub short_of_eleven : IsReachedBehind (record level { goal = Holes 11 }) three_events → ⊥
-unfolding set_where outcome_of hand_points crib_points
-short_of_eleven reached =
-    (let short = reached level_deal (assumption, (move.Card 32 ∷ move.Card 37 ∷ move.Card 36 ∷ [], assumption, refl)) in cc)
-
 -- ---- steps: none is left at 0, and after the opening of three turns it is the opponent's turn
-pub no_step_is_left : (found : Option Tree) → Finds 0 level [] found → ⊥
-no_step_is_left found finds = finds
-
-pub opponent_after_three : (found : Option Tree) → Finds 1 at_29 three_events found →
-    FindsFor turns.Opponent (λ further after. Finds 0 at_29 further after) at_29 three_events found
-opponent_after_three found finds = finds
-
-pub tree_after_three : (found : Option Tree) → FindsTree at_29 found →
-    FindsFor turns.Opponent (λ further after. Finds 29 at_29 further after) at_29 three_events found
+pub steps_by_bound : (found : Option Tree) → (Finds 0 level [] found ≡ ⊥)
+    × (Finds 1 at_29 three_events found ≡ FindsFor turns.Opponent (λ further after. Finds 0 at_29 further after) at_29 three_events found)
+    × (FindsTree at_29 found ≡ FindsFor turns.Opponent (λ further after. Finds 29 at_29 further after) at_29 three_events found)
 unfolding FindsTree
-tree_after_three found finds = finds
-
--- without a tree there is no plan
-pub no_plan_without_a_tree : ((tree : Tree) → FindsTree at_29 (Some tree) → ⊥) → (plan : List Node) → IsFound at_29 (Some plan) → ⊥
-no_plan_without_a_tree none plan (None, finds, is) = cc
-no_plan_without_a_tree none plan (Some tree, finds, is) = none tree finds
+steps_by_bound found = (refl, refl, refl)
 
 -- ---- the plan: AC after an ace, 2C after a go. Each is the first card of the hold that leads to the goal
 abbrev ace_or_two : Tree
 ace_or_two = Sees (branches_of (Plays 0 Finish ∷ replicate 12 Finish ++ Plays 4 Finish ∷ []))
 
-ace_reaches : Finds 28 at_29 (Own (move.Card 0) ∷ Theirs (Seen 1) ∷ three_events) (Some Finish)
-unfolding outcome_of
-ace_reaches = inl (λ dealt agrees. refl, refl)
-
-two_reaches : Finds 28 at_29 (Own (move.Card 4) ∷ Theirs Go ∷ three_events) (Some Finish)
-unfolding outcome_of
-two_reaches = inl (λ dealt agrees. refl, refl)
-
 pub tree_of_two_cards : ((rank : ℕ) → 1 < rank → ¬ CanShow at_29 three_events (Seen rank)) → FindsTree at_29 (Some ace_or_two)
-unfolding FindsTree
+unfolding FindsTree outcome_of
 tree_of_two_cards none = inr (
   Plays 0 Finish ∷ replicate 12 Finish ++ Plays 4 Finish ∷ [],
-  (inl (ace_shown, (Some Finish, ace_reaches, refl)), ends (2 ∷ 3 ∷ 4 ∷ 5 ∷ 6 ∷ 7 ∷ 8 ∷ 9 ∷ 10 ∷ 11 ∷ 12 ∷ 13 ∷ []) refl),
+  (
+    inl (ace_shown, (Some Finish, inl (λ dealt agrees. refl, refl), refl)),
+    ends (2 ∷ 3 ∷ 4 ∷ 5 ∷ 6 ∷ 7 ∷ 8 ∷ 9 ∷ 10 ∷ 11 ∷ 12 ∷ 13 ∷ []) refl,
+  ),
   refl,
 )
   where
@@ -261,74 +189,53 @@ tree_of_two_cards none = inr (
     ends : (ranks : List ℕ) → list_all (λ rank. ltb 1 rank) ranks ≡ true →
         AllZip (BranchFinds (λ further after. Finds 29 at_29 further after) at_29 three_events) (map Seen ranks ++ Go ∷ [])
         (replicate (length ranks) Finish ++ Plays 4 Finish ∷ [])
-    ends [] high = (inl (go_shown, (Some Finish, two_reaches, refl)), tt)
+    ends [] high = (inl (go_shown, (Some Finish, inl (λ dealt agrees. refl, refl), refl)), tt)
     ends (rank ∷ ranks) high =
         let parts = and_parts (ltb 1 rank) (list_all (λ rank. ltb 1 rank) ranks) high in
         (inr (none rank (ltb-true 1 rank parts.0), refl), ends ranks parts.1)
 
 -- the look is node 0, and the card that the walk leaves last is node 1
-pub plan_of_two_cards : ((rank : ℕ) → 1 < rank → ¬ CanShow at_29 three_events (Seen rank)) →
-    IsFound at_29 (Some (See (To 2 ∷ replicate 12 End ++ To 1 ∷ []) ∷ Play 4 End ∷ Play 0 End ∷ []))
-plan_of_two_cards none = (Some ace_or_two, tree_of_two_cards none, refl)
+abbrev ace_or_two_nodes : List Node
+ace_or_two_nodes = See (To 2 ∷ replicate 12 End ++ To 1 ∷ []) ∷ Play 4 End ∷ Play 0 End ∷ []
 
+-- three nodes are more than two
+pub plan_of_two_cards : ((rank : ℕ) → 1 < rank → ¬ CanShow at_29 three_events (Seen rank)) →
+    IsFound at_29 (Some ace_or_two_nodes) × ExceedsLimit at_29 2
+plan_of_two_cards none = (found, (ace_or_two_nodes, found, omega arith))
+  where
+    found : IsFound at_29 (Some ace_or_two_nodes)
+    found = (Some ace_or_two, tree_of_two_cards none, refl)
+
+-- without a tree there is no plan
 pub a_plan_has_a_tree : (plan : List Node) → IsFound at_29 (Some plan) → (tree : Tree) × FindsTree at_29 (Some tree) × (Some plan ≡ Some (plan_of_tree tree))
 a_plan_has_a_tree plan (None, finds, is) = cc
 a_plan_has_a_tree plan (Some tree, finds, is) = (tree, finds, is)
 
--- three nodes are more than two, and only a plan with more nodes than a limit exceeds it
-pub three_nodes_exceed_two : ((rank : ℕ) → 1 < rank → ¬ CanShow at_29 three_events (Seen rank)) → ExceedsLimit at_29 2
-three_nodes_exceed_two none = (See (To 2 ∷ replicate 12 End ++ To 1 ∷ []) ∷ Play 4 End ∷ Play 0 End ∷ [], plan_of_two_cards none, omega arith)
-
+-- only a plan with more nodes than a limit exceeds it
 pub more_nodes_than_the_limit : (limit : ℕ) → ExceedsLimit at_29 limit → (plan : List Node) × (limit < length plan)
 more_nodes_than_the_limit limit exceeds = (exceeds.0, exceeds.2)
 
 -- ---- what a step finds is what is found after each of its turns
-pub owner_tries_in_order : (finds : Found) (found : Option Tree) → OwnerFinds finds three_events (4 ∷ 0 ∷ []) found →
-    Tries finds three_events (4 ∷ 0 ∷ []) found
-owner_tries_in_order finds found tries = tries
-
-pub owner_goes : (finds : Found) (found : Option Tree) → OwnerFinds finds three_events [] found → finds (Own move.Go ∷ three_events) found
-owner_goes finds found is = is
-
-pub branch_that_is_shown : (finds : Found) (tree : Tree) → CanShow at_29 three_events Go → finds (Theirs Go ∷ three_events) (Some tree) →
-    BranchFinds finds at_29 three_events Go tree
-branch_that_is_shown finds tree can is = inl (can, is)
-
-pub letter_that_lacks_a_tree : (finds : Found) → CanShow at_29 three_events Go → finds (Theirs Go ∷ three_events) None → LacksBranch finds at_29 three_events
-letter_that_lacks_a_tree finds can is = (Go, can, is)
-
--- none is found only if a letter lacks a tree, and a tree only if each letter has one
-pub none_without_a_lack : (LacksBranch given at_29 three_events → ⊥) → FindsFor turns.Opponent given at_29 three_events None → ⊥
-none_without_a_lack never (inl lacks) = never lacks.0
-none_without_a_lack never (inr joined) = (let found = joined.2 in absurd cc)
-
-pub no_tree_without_branches : (tree : Tree) → ((branches : List Tree) → AllZip (BranchFinds given at_29 three_events) letters branches → ⊥) →
-    FindsFor turns.Opponent given at_29 three_events (Some tree) → ⊥
-no_tree_without_branches tree never (inl lacks) = (let found = lacks.1 in absurd cc)
-no_tree_without_branches tree never (inr joined) = never joined.0 joined.1
+pub a_go_that_is_shown : (finds : Found) (tree : Tree) → CanShow at_29 three_events Go →
+    (finds (Theirs Go ∷ three_events) (Some tree) → BranchFinds finds at_29 three_events Go tree)
+    × (finds (Theirs Go ∷ three_events) None → LacksBranch finds at_29 three_events)
+a_go_that_is_shown finds tree can = (λ is. inl (can, is), λ is. (Go, can, is))
 
 pub second_card_after_a_lack : (finds : Found) → finds (Own (move.Card 4) ∷ three_events) None → finds (Own (move.Card 0) ∷ three_events) (Some Finish) →
     Tries finds three_events (4 ∷ 0 ∷ []) (Some (Plays 0 Finish))
 second_card_after_a_lack finds lacks is = (None, lacks, (Some Finish, is, refl))
 
-pub owner_is_asked : (finds : Found) (history : List Event) (found : Option Tree) → FindsFor turns.Owner finds level history found →
-    OwnerFinds finds history (options level history) found
-owner_is_asked finds history found is = is
-
--- ---- each step at any history
-pub step_of_the_opponent : (finds : Found) (history : List Event) (found : Option Tree) → FindsFor turns.Opponent finds level history found
+-- each step at any history: of the owner, if cards fit and if none does, of the opponent, and of nobody
+pub each_step : (finds : Found) (history : List Event) (found : Option Tree) (tree : Tree) →
+    (FindsFor turns.Owner finds level history found ≡ OwnerFinds finds history (options level history) found)
+    × (OwnerFinds finds three_events (4 ∷ 0 ∷ []) found ≡ Tries finds three_events (4 ∷ 0 ∷ []) found)
+    × (OwnerFinds finds three_events [] found ≡ finds (Own move.Go ∷ three_events) found)
+    × (FindsFor turns.Opponent finds level history found
     ≡ ((LacksBranch finds level history × (found ≡ None))
-    ⊎ ((branches : List Tree) × AllZip (BranchFinds finds level history) letters branches × (found ≡ Some (joined_tree branches))))
-step_of_the_opponent finds history found = refl
-
-pub step_of_nobody : (finds : Found) (history : List Event) (found : Option Tree) → FindsFor turns.Over finds level history found
-    ≡ ((IsReachedBehind level history × (found ≡ Some Finish)) ⊎ (¬ IsReachedBehind level history × (found ≡ None)))
-step_of_nobody finds history found = refl
-
-pub branch_that_is_lacking : (finds : Found) (history : List Event) → LacksBranch finds level history
-    ≡ ((letter : Letter) × CanShow level history letter × finds (Theirs letter ∷ history) None)
-branch_that_is_lacking finds history = refl
-
-pub branch_that_is_found : (finds : Found) (history : List Event) (tree : Tree) → BranchFinds finds level history Go tree
-    ≡ ((CanShow level history Go × finds (Theirs Go ∷ history) (Some tree)) ⊎ (¬ CanShow level history Go × (tree ≡ Finish)))
-branch_that_is_found finds history tree = refl
+    ⊎ ((branches : List Tree) × AllZip (BranchFinds finds level history) letters branches × (found ≡ Some (joined_tree branches)))))
+    × (LacksBranch finds level history ≡ ((letter : Letter) × CanShow level history letter × finds (Theirs letter ∷ history) None))
+    × (BranchFinds finds level history Go tree
+    ≡ ((CanShow level history Go × finds (Theirs Go ∷ history) (Some tree)) ⊎ (¬ CanShow level history Go × (tree ≡ Finish))))
+    × (FindsFor turns.Over finds level history found
+    ≡ ((IsReachedBehind level history × (found ≡ Some Finish)) ⊎ (¬ IsReachedBehind level history × (found ≡ None))))
+each_step finds history found tree = (refl, refl, refl, refl, refl, refl, refl)

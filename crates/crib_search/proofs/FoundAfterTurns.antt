@@ -145,9 +145,6 @@ module _ (problem : Setup) (draft_nodes : List DraftNode) (know : Knowledge) whe
     own_tried (card ∷ others) some same =
         answer_for problem draft_nodes know found turns.Owner asked _ (λ history more tree knows names tries. rw (← same history knows) tries)
 
-  pub tried_none : IsTried problem draft_nodes know [] None
-  tried_none = record { each = λ history more knows less. (None, refl, refl) }
-
   module _ (cards : List ℕ) (index card : ℕ) (within : index < length cards) (is : card ≡ get_or cards index card) (before : List DraftNode) where
     pub tried_some : IsMore before draft_nodes → (next : DraftPlace) (place : ℕ) → IsAfter problem before know (Own (move.Card card)) (Some next) →
         slice_get draft_nodes place ≡ Some (Play card next) → IsTried problem draft_nodes know (drop index cards) (Some (At place))

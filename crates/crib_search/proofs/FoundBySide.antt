@@ -105,7 +105,3 @@ opponent_none finds problem history (inr found) = absurd (cc (found.2))
 pub finds_of_tree : (problem : Setup) (found : Option Tree) → FindsTree problem found → Finds 30 problem (played_events problem) found
 unfolding FindsTree
 finds_of_tree problem found finds = finds
-
-pub tree_of_finds : (problem : Setup) (found : Option Tree) → Finds 30 problem (played_events problem) found → FindsTree problem found
-unfolding FindsTree
-tree_of_finds problem found finds = finds

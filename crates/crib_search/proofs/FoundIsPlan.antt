@@ -3,7 +3,7 @@ use Rattle.std.proofs.Common.{◌≡◌, ℕ, zero, suc, ◌≤◌, not, ◌&&�
 use Rattle.std.proofs.Common.{inl, inr}
 use Rattle.std.specs.List.{AllByRecursion, AllZip, filter, list_all}
 use Rattle.std.proofs.lemmas.List.Elements.{All-filter, All-from_recursion, recursion_from_All}
-use Rattle.std.proofs.lemmas.Bool.{cases_Bool}
+use Rattle.std.proofs.lemmas.Bool.{cond_both}
 use Rattle.crib_cards.specs.Sets.{has}
 use Rattle.crib_cards.specs.declared.letters.Letter.{Letter}
 use Rattle.crib_cards.specs.declared.moves.Move.TheVariants as move
@@ -20,7 +20,7 @@ use Rattle.crib_search.specs.Trees.{joined_tree_from, joined_tree, trees_with, t
 use Rattle.crib_search.specs.Private.Nodes.{IsWhole, AreWhole}
 use Rattle.crib_search.specs.Finder.{BranchFinds, Finds, FindsFor, Found, IsFound, OwnerFinds, letters, options}
 use Rattle.crib_search.proofs.FoundBySide.{finds_of_tree, opponent_some, tries_some}
-use Rattle.crib_search.proofs.NumberedNodes.{AreFine, IsFine, are_nodes, plan_count}
+use Rattle.crib_search.proofs.NumberedNodes.{AreFine, IsFine, nodes_from, plan_count}
 use Rattle.crib_search.proofs.Options.{option_is}
 use Rattle.crib_search.proofs.TreeWalks.{is_in, walk_closed}
 
@@ -40,11 +40,8 @@ branches_count (tree ∷ trees) = ap suc (branches_count trees)
 joined_from_whole : (all some : List Tree) → AllWhole all → length all ≡ 14 → AllWhole some → IsWhole (joined_tree_from all some)
 joined_from_whole all [] are count some_are = tt
 joined_from_whole all (tree ∷ trees) are count some_are =
-    let one = is_play tree && list_all (same_tree tree) trees in
-    elim (cases_Bool one) [
-      | inl same ↦ rw same some_are.0
-      | inr apart ↦ rw apart (branches_count all ∙ count, branches_whole all are)
-    ]
+    cond_both (is_play tree && list_all (same_tree tree) trees) tree (Sees (branches_of all)) IsWhole (λ same. some_are.0)
+    (λ apart. (branches_count all ∙ count, branches_whole all are))
 
 pub joined_whole : (trees : List Tree) → AllWhole trees → length trees ≡ 14 → IsWhole (joined_tree trees)
 joined_whole trees all count =
@@ -91,11 +88,7 @@ module _ (problem : Setup) (setup : IsSetup problem) where
 
 -- ---- the trees that a walk leaves
 leave_fine : (tree : Tree) (before inside : List Tree) → IsFine tree → AreFine before → AreFine inside → AreFine (trees_with tree before inside)
-leave_fine tree before inside fine old new =
-    elim (cases_Bool (is_in tree before)) [
-      | inl there ↦ rw there old
-      | inr fresh ↦ rw fresh (fine, new)
-    ]
+leave_fine tree before inside fine old new = cond_both (is_in tree before) before (tree ∷ inside) AreFine (λ there. old) (λ fresh. (fine, new))
 
 mutual
   walk_fine : (tree : Tree) (before : List Tree) → IsWhole tree → AreFine before → AreFine (trees_after_walk tree before)
@@ -114,7 +107,7 @@ pub tree_plan : (tree : Tree) → IsWhole tree → length (plan_of_tree tree) �
 tree_plan tree whole few =
     let all = trees_after_walk tree [] in
     let closed = walk_closed tree in
-    (few, are_nodes all (length (plan_of_tree tree)) (plan_count all all closed) closed (walk_fine tree [] whole tt))
+    (few, nodes_from all (length (plan_of_tree tree)) (plan_count all all closed) [] all closed closed refl (walk_fine tree [] whole tt))
 
 pub found_plan : (problem : Setup) (plan : List Node) → IsSetup problem → IsFound problem (Some plan) → length plan ≤ most_nodes → ArePlan plan
 found_plan problem plan setup (None, finds, e) few = absurd cc

@@ -42,7 +42,7 @@ use Rattle.crib_check.proofs.PlaceByHistory.{begun_late, place_at_start, place_l
 use Rattle.crib_search.proofs.Options.{IsOption, option_is, no_option, option_left, none_left}
 use Rattle.crib_search.proofs.RecordHistories.{letters_whole, led_by_record, agrees_of_record, is_whole, shown_by, left_of, fits_past}
 use Rattle.crib_search.proofs.PlacesOfTrees.{Stands, Does, joined_does}
-use Rattle.crib_search.proofs.Trees.{some_same}
+use Rattle.std.proofs.lemmas.Option.{same_Some}
 use Rattle.crib_know.proofs.PassingIsAgreeing.{theirs_asked}
 use Rattle.crib_search.proofs.FoundBySide.{finds_of_tree, for_asked, tries_some, branch_found, opponent_some}
 use Rattle.crib_cards.proofs.Members.{has_here, any_found}
@@ -80,16 +80,7 @@ module _ (problem : Setup) (setup : IsSetup problem) (plan : List Node) where
       elim (rw tried.4 at does) [
         | inl e ↦ absurd cc
         | inr stands ↦
-            record {
-              more = more;
-              card = tried.0;
-              next = tried.1;
-              after = stands.0;
-              option = option;
-              finds = tried.3;
-              node = stands.1;
-              stands = stands.2;
-            }
+            record { more = more; card = tried.0; next = tried.1; after = stands.0; option = option; finds = tried.3; node = stands.1; stands = stands.2 }
       ]
 
   stated_at : (history : List Event) → At history → asked_now problem history ≡ turns.Owner → (card : ℕ) → IsOption problem history card → Stated history
@@ -101,7 +92,7 @@ module _ (problem : Setup) (setup : IsSetup problem) (plan : List Node) where
   own_card_at : (history : List Event) → BeginsAfter problem history → (card : ℕ) → Stated history → stated_card plan (place_by plan problem.played history)
       ≡ Some card → At (Own (move.Card card) ∷ history)
   own_card_at history begun card stated is =
-      let same : stated.card ≡ card = some_same stated.card card (sym (ap card_of_node stated.node) ∙ is) in
+      let same : stated.card ≡ card = same_Some stated.card card (sym (ap card_of_node stated.node) ∙ is) in
       record {
         more = stated.more;
         tree = stated.next;

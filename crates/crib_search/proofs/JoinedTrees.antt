@@ -40,17 +40,13 @@ module _ (draft_nodes : List DraftNode) where
   all_earlier (tree ∷ trees) (next ∷ nexts) zip = (draft_place_earlier tree next zip.0, all_earlier trees nexts zip.1)
   all_earlier trees nexts zip = absurd zip
 
-  none_left : (trees : List Tree) (nexts : List DraftPlace) → AllZip (Names draft_nodes) trees nexts → first_place nexts ≡ None → filter goes_on trees ≡ []
+  -- if all are the end, none is left that is not
+  pub none_left : (trees : List Tree) (nexts : List DraftPlace) → AllZip (Names draft_nodes) trees nexts → first_place nexts ≡ None → filter goes_on trees ≡ []
   none_left [] nexts zip e = refl
   none_left (tree ∷ trees) [] zip e = absurd zip
   none_left (Finish ∷ trees) (End ∷ nexts) zip e = none_left trees nexts zip.1 e
   none_left (tree ∷ trees) (End ∷ nexts) zip e = absurd (cc (zip.0.2))
   none_left (tree ∷ trees) (At place ∷ nexts) zip e = absurd cc
-
-  -- all are the end
-  pub joined_end : (trees : List Tree) (nexts : List DraftPlace) → AllZip (Names draft_nodes) trees nexts → first_place nexts ≡ None →
-      Names draft_nodes (joined_tree trees) End
-  joined_end trees nexts zip e = rw (none_left trees nexts zip e)
 
   -- the first of the trees that are not the end, and the others
   record First (left : List Tree) (place : ℕ) : Type 0 where

@@ -82,9 +82,7 @@ kept_added before draft_node after kept below added distinct = record { earlier 
         elim (push_get before draft_node place other (ap (λ (draft_nodes : List DraftNode). slice_get draft_nodes place) (sym e) ∙ there)) [
           | inl old ↦ kept.earlier place other old
           | inr last ↦
-              let B : ℕ → Type 0 = λ count. IsBelow count draft_node in
-              let C : DraftNode → Type 0 = λ s. IsBelow place s in
-              subst C last.1 (subst B (sym last.0) below)
+              subst (λ (s : DraftNode). IsBelow place s) last.1 (subst (λ (count : ℕ). IsBelow count draft_node) (sym last.0) below)
         ]
 
 -- ---- trees

@@ -1,10 +1,10 @@
 -- The plans after each lead of a worked problem. The opening is 2C, own 6C, 4C, own JH, and a go of each side at 22, so the opponent has 2C, 4C and two
 -- ten-cards. The owner has KC and QH left, and plays one of them on the lead.
-use Rattle.std.proofs.Common.{arith, ◌≡◌, refl, subst, inl, inr, ℕ, Bool, true, false, eqb, not, ◌&&◌, ◌||◌, Option, Some, None}
-use Rattle.std.proofs.Common.{List, [], ◌∷◌, ◌++◌, length, filter}
+use Rattle.std.proofs.Common.{◌≡◌, refl, ℕ, Bool, true, false, eqb, not, ◌&&◌, ◌||◌, Option, Some, None, is_some}
+use Rattle.std.proofs.Common.{List, [], ◌∷◌, filter}
 use Rattle.std.specs.Prelude.{if◌then◌else◌}
 use Rattle.std.specs.List.{list_all, list_any}
-use Rattle.std.proofs.lemmas.Bool.{both_ways, cases_Bool, eqb-true, and_parts, or_cases}
+use Rattle.std.proofs.lemmas.Bool.{both_ways, eqb-true, true_from_ne_false}
 use Rattle.crib_cards.specs.Sets.{has, set_where}
 use Rattle.crib_cards.specs.declared.sides.Dealt.{Dealt}
 use Rattle.crib_cards.specs.declared.sides.Side.TheVariants.{Owner, Opponent}
@@ -17,17 +17,16 @@ use Rattle.crib_show.specs.Outcome.{outcome_of}
 use Rattle.crib_show.specs.Show.{hand_points}
 use Rattle.crib_show.specs.declared.show.outcomes.Outcome.{Outcome}
 use Rattle.crib_show.specs.declared.show.outcomes.Outcome.TheVariants.{Reached}
-use Rattle.crib_show.proofs.ReorderedLists.{Reordered, behind, front, both, same_order}
 use Rattle.crib_problem.specs.declared.problem.Goal.TheVariants.{Win}
 use Rattle.crib_problem.specs.declared.problem.Version.TheVariants.{Two}
 use Rattle.crib_problem.proofs.ExampleProblems.{plays, says_go}
-use Rattle.crib_problem.specs.Setup.{Setup, start_of, hands_of, played_back, unseen_of, fixed_cards}
+use Rattle.crib_problem.specs.Setup.{Setup, start_of, hands_of, unseen_of}
 use Rattle.crib_plan.specs.declared.plan.Next.{Next}
 use Rattle.crib_plan.specs.declared.plan.Next.TheVariants.{End, To}
 use Rattle.crib_plan.specs.declared.plan.Node.{Node}
 use Rattle.crib_plan.specs.declared.plan.Node.TheVariants.{Play}
 use Rattle.crib_game.specs.Replay.{is_done_for, full_of, same_act}
-use Rattle.crib_game.specs.Following.{opening_is_over, is_stuck, place_of}
+use Rattle.crib_game.specs.Following.{is_stuck}
 
 -- the owner deals, and wants to win; the starter is KS. Two gos end the pile of 2C 6C 4C JH, and KC and QH are left to the owner. The opponent is at 113, and
 -- wins with eight points in the play and the hand
@@ -64,36 +63,15 @@ abbrev pub plan_after : ℕ → List Node
 plan_after lead = Play (first_after lead) (To 1) ∷ Play (second_after lead) End ∷ []
 
 -- ---- lists
-pub all_before : (p : ℕ → Bool) (cards more : List ℕ) → list_all p (cards ++ more) ≡ true → list_all p cards ≡ true
-all_before p [] more all = refl
-all_before p (first ∷ cards) more all =
-    let parts = and_parts (p first) (list_all p (cards ++ more)) all in
-    rw parts.0 (all_before p cards more parts.1)
-
-pub brought_front : (cards : List ℕ) (card : ℕ) → has cards card ≡ true → (others : List ℕ) × Reordered cards (card ∷ others)
-brought_front [] card h = absurd (both_ways false refl h)
-brought_front (first ∷ cards) card h =
-    elim (or_cases (eqb first card) (has cards card) h) [
-      | inl here ↦ (cards, subst (λ number. Reordered (first ∷ cards) (number ∷ cards)) (eqb-true first card here) (same_order (first ∷ cards)))
-      | inr there ↦
-          let found = brought_front cards card there in (
-            first ∷ found.0,
-            both (first ∷ cards) (first ∷ card ∷ found.0) (card ∷ first ∷ found.0) (behind first cards (card ∷ found.0) found.1) (front first card found.0),
-          )
-    ]
-
-pub one_card : (cards : List ℕ) → length cards ≡ 1 → (card : ℕ) × (cards ≡ card ∷ [])
-one_card (card ∷ []) e = (card, refl)
-one_card cards e = absurd (omega (arith, e))
-
-each_lead : (test : ℕ → Bool) → list_all test leads ≡ true → (lead : ℕ) → has leads lead ≡ true → test lead ≡ true
+-- what a test says of each lead, it says of one, and what it says of each lead and each other ten-card
+pub each_lead : (test : ℕ → Bool) → list_all test leads ≡ true → (lead : ℕ) → has leads lead ≡ true → test lead ≡ true
 each_lead test all lead is = all_has test leads lead all is
 
 -- the ten-cards that the opponent may hold beside the lead
 abbrev pub tens : ℕ → List ℕ
 tens lead = filter (λ card. not (eqb lead card)) leads
 
-each_last : (test : ℕ → ℕ → Bool) → list_all (λ lead. list_all (test lead) (tens lead)) leads ≡ true → (lead last : ℕ) → has leads lead ≡ true →
+pub each_last : (test : ℕ → ℕ → Bool) → list_all (λ lead. list_all (test lead) (tens lead)) leads ≡ true → (lead last : ℕ) → has leads lead ≡ true →
     has (tens lead) last ≡ true → test lead last ≡ true
 each_last test all lead last is ten = all_has (test lead) (tens lead) last (each_lead (λ lead. list_all (test lead) (tens lead)) all lead is) ten
 
@@ -107,29 +85,21 @@ abbrev pub left_after : ℕ → List Act → Option (List Act)
 left_after lead [] = Some (after_lead lead).played
 left_after lead (act ∷ before) = left_with act (left_after lead before)
 
-abbrev pub IsLeft : Option (List Act) → Type 0
-IsLeft None = ⊥
-IsLeft (Some acts) = Unit {0}
-
 abbrev pub is_over : Option (List Act) → Bool
 is_over (Some []) = true
 is_over acts = false
 
-left_before : (act : Act) (it : Option (List Act)) → IsLeft (left_with act it) → IsLeft it
+left_before : (act : Act) (it : Option (List Act)) → is_some (left_with act it) ≡ true → is_some it ≡ true
 left_before act None is = is
-left_before act (Some acts) is = tt
+left_before act (Some acts) is = refl
 
-pub left_visible : (visible : Bool) (lead : ℕ) (act : Act) (acts : List Act) → IsLeft (left_after lead (if visible then act ∷ acts else acts)) →
-    IsLeft (left_after lead acts)
+pub left_visible : (visible : Bool) (lead : ℕ) (act : Act) (acts : List Act) → is_some (left_after lead (if visible then act ∷ acts else acts)) ≡ true →
+    is_some (left_after lead acts) ≡ true
 left_visible true lead act acts is = left_before act (left_after lead acts) is
 left_visible false lead act acts is = is
 
-pub the_card : (number card : ℕ) (more : List Act) → IsLeft (if eqb number card then Some more else None) → number ≡ card
-the_card number card more is =
-    elim (cases_Bool (eqb number card)) [
-      | inl same ↦ eqb-true number card same
-      | inr other ↦ absurd (rw other at is)
-    ]
+pub the_card : (number card : ℕ) (more : List Act) → is_some (if eqb number card then Some more else None) ≡ true → number ≡ card
+the_card number card more is = eqb-true number card (true_from_ne_false (eqb number card) (λ other. both_ways false refl (rw other at is)))
 
 -- ---- the records of the plan, the last turn first
 abbrev pub six_turns : List Move
@@ -150,7 +120,7 @@ to_last lead last = Card last ∷ to_first lead
 abbrev pub to_close : ℕ → ℕ → List Move
 to_close lead last = Go ∷ Go ∷ to_last lead last
 
-abbrev to_end : ℕ → ℕ → List Move
+abbrev pub to_end : ℕ → ℕ → List Move
 to_end lead last = Card (second_after lead) ∷ to_close lead last
 
 pub data Course (lead last : ℕ) : List Move → Type 0 where
@@ -172,7 +142,7 @@ pub data Course (lead last : ℕ) : List Move → Type 0 where
 abbrev nobody : Dealt
 nobody = record { hold = []; throw = [] }
 
-abbrev free : ℕ → List Move → Bool
+abbrev pub free : ℕ → List Move → Bool
 free lead past = not (is_stuck (plan_after lead) (after_lead lead).played (start_of (after_lead lead)) (hands_of (after_lead lead) nobody) past)
 
 abbrev pub goes_on : ℕ → List Move → Bool
@@ -192,18 +162,6 @@ is_reached outcome = false
 abbrev pub with_last : ℕ → ℕ → Dealt → Dealt
 with_last lead last dealt = record dealt { hold = last ∷ 4 ∷ 12 ∷ lead ∷ [] }
 
-pub begins : (lead : ℕ) → has leads lead ≡ true → is_over (left_after lead (played_back (after_lead lead))) ≡ true
-begins = each_lead (λ lead. is_over (left_after lead (played_back (after_lead lead)))) refl
-
-pub are_fixed : (lead : ℕ) → has leads lead ≡ true → list_all (has (fixed_cards (after_lead lead))) (4 ∷ 12 ∷ lead ∷ []) ≡ true
-are_fixed = each_lead (λ lead. list_all (has (fixed_cards (after_lead lead))) (4 ∷ 12 ∷ lead ∷ [])) refl
-
-pub not_4 : (lead : ℕ) → has leads lead ≡ true → not (eqb 4 lead) ≡ true
-not_4 = each_lead (λ lead. not (eqb 4 lead)) refl
-
-pub not_12 : (lead : ℕ) → has leads lead ≡ true → not (eqb 12 lead) ≡ true
-not_12 = each_lead (λ lead. not (eqb 12 lead)) refl
-
 pub only_tens : (lead : ℕ) → has leads lead ≡ true →
     list_all (λ card. fits four_turns card || (has (4 ∷ 12 ∷ lead ∷ []) card || has (tens lead) card)) (unseen_of before_the_lead) ≡ true
 unfolding set_where
@@ -215,57 +173,6 @@ pub still_left : (lead : ℕ) → has leads lead ≡ true →
 unfolding set_where
 still_left = each_lead (λ lead.
     list_all (λ card. has (4 ∷ 12 ∷ lead ∷ []) card || not (has (cards_of four_turns) card)) (unseen_of before_the_lead)) refl
-
-pub must_play : (lead : ℕ) → has leads lead ≡ true → can_play (to_lead lead) ≡ true
-must_play = each_lead (λ lead. can_play (to_lead lead)) refl
-
-pub all_shown : (lead : ℕ) → has leads lead ≡ true → list_all (has (cards_of (to_first lead))) (4 ∷ 12 ∷ lead ∷ []) ≡ true
-all_shown = each_lead (λ lead. list_all (has (cards_of (to_first lead))) (4 ∷ 12 ∷ lead ∷ [])) refl
-
-pub on_at_lead : (lead : ℕ) → has leads lead ≡ true → goes_on lead (to_lead lead) ≡ true
-on_at_lead = each_lead (λ lead. goes_on lead (to_lead lead)) refl
-
-pub on_at_first : (lead : ℕ) → has leads lead ≡ true → goes_on lead (to_first lead) ≡ true
-on_at_first = each_lead (λ lead. goes_on lead (to_first lead)) refl
-
-pub is_left : (lead last : ℕ) → has leads lead ≡ true → has (tens lead) last ≡ true → not (has (cards_of (to_first lead)) last) ≡ true
-is_left = each_last (λ lead last. not (has (cards_of (to_first lead)) last)) refl
-
-pub last_fits : (lead last : ℕ) → has leads lead ≡ true → has (tens lead) last ≡ true → fits (to_first lead) last ≡ true
-last_fits = each_last (λ lead last. fits (to_first lead) last) refl
-
-pub own_stops : (lead last : ℕ) → has leads lead ≡ true → has (tens lead) last ≡ true → not (can_play (to_last lead last)) ≡ true
-own_stops = each_last (λ lead last. not (can_play (to_last lead last))) refl
-
-pub own_plays : (lead last : ℕ) → has leads lead ≡ true → has (tens lead) last ≡ true → can_play (to_close lead last) ≡ true
-own_plays = each_last (λ lead last. can_play (to_close lead last)) refl
-
-pub four_shown : (lead last : ℕ) → has leads lead ≡ true → has (tens lead) last ≡ true →
-    list_all (has (cards_of (Go ∷ to_last lead last))) (last ∷ 4 ∷ 12 ∷ lead ∷ []) ≡ true
-four_shown = each_last (λ lead last. list_all (has (cards_of (Go ∷ to_last lead last))) (last ∷ 4 ∷ 12 ∷ lead ∷ [])) refl
-
-pub late : (lead last : ℕ) → has leads lead ≡ true → has (tens lead) last ≡ true →
-    opening_is_over (after_lead lead).played Opponent (to_close lead last) ≡ true
-late = each_last (λ lead last. opening_is_over (after_lead lead).played Opponent (to_close lead last)) refl
-
-pub placed : (lead last : ℕ) → has leads lead ≡ true → has (tens lead) last ≡ true →
-    is_second (place_of (plan_after lead) (after_lead lead).played Opponent (to_close lead last)) ≡ true
-placed = each_last (λ lead last. is_second (place_of (plan_after lead) (after_lead lead).played Opponent (to_close lead last))) refl
-
-pub free_at_end : (lead last : ℕ) → has leads lead ≡ true → has (tens lead) last ≡ true → free lead (to_end lead last) ≡ true
-free_at_end = each_last (λ lead last. free lead (to_end lead last)) refl
-
-pub on_at_last : (lead last : ℕ) → has leads lead ≡ true → has (tens lead) last ≡ true → goes_on lead (to_last lead last) ≡ true
-on_at_last = each_last (λ lead last. goes_on lead (to_last lead last)) refl
-
-pub on_at_30 : (lead last : ℕ) → has leads lead ≡ true → has (tens lead) last ≡ true → goes_on lead (Go ∷ to_last lead last) ≡ true
-on_at_30 = each_last (λ lead last. goes_on lead (Go ∷ to_last lead last)) refl
-
-pub on_at_close : (lead last : ℕ) → has leads lead ≡ true → has (tens lead) last ≡ true → goes_on lead (to_close lead last) ≡ true
-on_at_close = each_last (λ lead last. goes_on lead (to_close lead last)) refl
-
-pub done_at_end : (lead last : ℕ) → has leads lead ≡ true → has (tens lead) last ≡ true → is_done_for (after_lead lead) (to_end lead last) ≡ true
-done_at_end = each_last (λ lead last. is_done_for (after_lead lead) (to_end lead last)) refl
 
 pub wins : (dealt : Dealt) (lead last : ℕ) → has leads lead ≡ true → has (tens lead) last ≡ true →
     is_reached (outcome_of (full_of (after_lead lead) (with_last lead last dealt) (to_end lead last))) ≡ true

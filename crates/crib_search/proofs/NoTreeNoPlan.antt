@@ -1,7 +1,7 @@
 -- If no tree is found, no plan is sure.
 use Rattle.std.proofs.Common.{◌≡◌, ℕ, zero, suc, ◌+◌, true, false, List, [], ◌∷◌, Option, Some, None, refl, sym, ap, ◌∙◌, inl, inr}
 use Rattle.std.specs.List.{list_any}
-use Rattle.std.proofs.lemmas.Bool.{cases_Bool, and_parts, both_ways, leb-true}
+use Rattle.std.proofs.lemmas.Bool.{and_parts, both_ways, leb-true, true_from_ne_false}
 use Rattle.crib_cards.specs.Cards.{card_value, rank_of}
 use Rattle.crib_cards.specs.Sets.{has}
 use Rattle.crib_cards.specs.Sides.{same_side}
@@ -55,8 +55,7 @@ use Rattle.crib_search.proofs.CardsToTry.{none_left_fits}
 
 -- a deal whose play is over is done
 pub over_done : (start : Start) (past : Record) → asked_after start past ≡ turns.Over → is_done start past ≡ true
-over_done start past e =
-    elim (cases_Bool (is_done start past)) [ inl d ↦ d | inr d ↦ absurd (asked_some (mover (pone_of start) past) (rw d at e)) ]
+over_done start past e = true_from_ne_false (is_done start past) (λ going. asked_some (mover (pone_of start) past) (rw going at e))
   where
     asked_some : (side : Side) → side_asked side ≡ turns.Over → ⊥
     asked_some Owner h = cc
@@ -150,10 +149,7 @@ module _ (problem : Setup) (setup : IsSetup problem) (plan : List Node) (sure : 
   -- if no card is an option, the owner may say go
   go_may : (history : List Event) → asked_now problem history ≡ turns.Owner → ((card : ℕ) → IsOption problem history card → ⊥) →
       know.MayCome problem history (Own move.Go)
-  go_may history asked none = (
-    asked,
-    none_left_fits problem history none,
-  )
+  go_may history asked none = (asked, none_left_fits problem history none)
 
   -- ---- a tree is found after each history that is alike to one that follows the plan
   record AreTwins (one other : List Event) : Type 0 where

@@ -5,7 +5,8 @@ use Rattle.std.proofs.Common.{refl, sym, ◌∙◌, inl, inr, arith}
 use Rattle.std.proofs.Math.ListN.{set, length-set}
 use Rattle.std.proofs.lemmas.List.Elements.{All-from_recursion, All-weaker, recursion_from_All}
 use Rattle.std.proofs.lemmas.List.{get_or-set_same, get_or-set_other}
-use Rattle.std.proofs.lemmas.Bool.{cases_eq, cases_Bool, eq-eqb, ne_eqb}
+use Rattle.std.proofs.lemmas.Bool.Decides.{nat_tests}
+use Rattle.std.proofs.lemmas.Bool.{cases_eq, eq-eqb, ne_eqb}
 use Rattle.crib_search.specs.declared.nodes.DraftPlace.{DraftPlace}
 use Rattle.crib_search.specs.declared.nodes.DraftPlace.TheVariants.{End, At}
 use Rattle.crib_search.specs.declared.nodes.DraftNode.{DraftNode}
@@ -24,11 +25,7 @@ pub left_in : (draft_nodes : List DraftNode) → AreKept draft_nodes → (tree :
     AreLeft draft_nodes trees left → is_in tree trees ≡ is_some (mark_of place left)
 left_in draft_nodes kept tree place names [] [] are = refl
 left_in draft_nodes kept tree place names (other ∷ trees) (at ∷ left) are =
-    let same = same_for draft_nodes kept tree other place at names are.0 in
-    elim (cases_Bool (eqb at place)) [
-      | inl here ↦ rw (same, here)
-      | inr apart ↦ rw (same, apart) (left_in draft_nodes kept tree place names trees left are.1)
-    ]
+    grind (arith, nat_tests, same_for draft_nodes kept tree other place at names are.0, left_in draft_nodes kept tree place names trees left are.1)
 left_in draft_nodes kept tree place names trees left are = absurd are
 
 pub marks_left : (marks : List (Option ℕ)) (place : ℕ) (left after : List ℕ) (count : ℕ) → AreMarks marks left → place < length marks → count ≡ length left →

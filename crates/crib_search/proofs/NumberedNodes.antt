@@ -4,8 +4,9 @@ use Rattle.std.proofs.Common.{take, Option, Some, None, slice_get, append_assoc}
 use Rattle.std.proofs.Common.{length-append, refl, sym, ap, ◌∙◌, inl, inr, arith}
 use Rattle.std.specs.List.{AllByRecursion, flat_map}
 use Rattle.std.proofs.lemmas.Bool.{cases_Bool, or_left, or_right, both_ways}
+use Rattle.std.proofs.lemmas.Bool.Decides.{nat_tests}
 use Rattle.std.proofs.lemmas.List.{length-map, take_more}
-use Rattle.std.proofs.lemmas.Option.{slice_get_within, get_or_from_slice_get}
+use Rattle.std.proofs.lemmas.Option.{slice_get_within, get_or_from_slice_get, same_Some}
 use Rattle.std.proofs.lemmas.Grind.{flat_map-append}
 use Rattle.crib_cards.specs.Cards.{IsCard}
 use Rattle.crib_plan.specs.declared.plan.Next.TheVariants as next
@@ -14,10 +15,9 @@ use Rattle.crib_search.specs.declared.nodes.DraftPlace.{DraftPlace}
 use Rattle.crib_search.specs.declared.nodes.DraftPlace.TheVariants.{At}
 use Rattle.crib_search.specs.declared.nodes.DraftNode.{DraftNode}
 use Rattle.crib_search.specs.Trees.{Tree, Finish, Plays, Sees, Branches, NoBranch, Branch, trees_of, same_tree, number_of, place_of_tree, nodes_for}
-use Rattle.crib_search.specs.Trees.{plan_of_trees}
 use Rattle.crib_search.specs.Private.Nodes.{AreKept, Names, NameAll}
 use Rattle.crib_search.specs.Private.Numbers.{AreLeft, mark_of, next_for, node_for, nodes_at, nodes_of_places}
-use Rattle.crib_search.proofs.Trees.{same_is, same_self, some_same}
+use Rattle.crib_search.proofs.Trees.{same_is, same_self}
 use Rattle.crib_search.proofs.KeptNodes.{same_for}
 use Rattle.crib_search.proofs.NodeWalks.{left_in}
 use Rattle.crib_search.proofs.TreeWalks.{is_in, Placed, AllPlaced, Leads, IsClosed}
@@ -49,7 +49,7 @@ module _ (draft_nodes : List DraftNode) (kept : AreKept draft_nodes) where
   number_mark tree place names (other ∷ trees) (at ∷ left) are mark e =
       let same = same_for draft_nodes kept tree other place at names are.0 in
       elim (cases_Bool (eqb at place)) [
-        | inl here ↦ let is = some_same (length left) mark (rw here at e) in rw (same, here) (omega (arith, is))
+        | inl here ↦ let is = same_Some (length left) mark (rw here at e) in rw (same, here) (omega (arith, is))
         | inr apart ↦ let rest = number_mark tree place names trees left are.1 mark (rw apart at e) in rw (same, apart) (omega (arith, rest))
       ]
   number_mark tree place names trees left are mark e = absurd are
@@ -94,11 +94,7 @@ module _ (draft_nodes : List DraftNode) (kept : AreKept draft_nodes) where
 -- ---- these nodes are a plan
 number_below : (tree : Tree) (trees : List Tree) → is_in tree trees ≡ true → number_of tree trees < length trees
 number_below tree [] h = absurd (both_ways false refl h)
-number_below tree (first ∷ trees) h =
-    elim (cases_Bool (same_tree tree first)) [
-      | inl here ↦ rw here (omega arith)
-      | inr apart ↦ let rest = number_below tree trees (rw apart at h) in rw apart (omega (arith, rest))
-    ]
+number_below tree (first ∷ trees) h = grind (arith, nat_tests, number_below tree trees)
 
 in_append : (tree : Tree) (front rest : List Tree) → is_in tree rest ≡ true → is_in tree (front ++ rest) ≡ true
 in_append tree [] rest h = h
@@ -124,27 +120,23 @@ AreFine [] = Unit {0}
 AreFine (tree ∷ trees) = IsFine tree × AreFine trees
 
 module _ (all : List Tree) (count : ℕ) (long : count ≡ length all) where
-  within : (front rest : List Tree) (tree : Tree) → IsClosed (front ++ rest) → front ++ rest ≡ all → (place : ℕ) → place < length front →
-      is_in tree rest ≡ true → (place < number_of tree all) × (number_of tree all < count)
-  within front rest tree closed same place below there =
-      let after = rw same at (number_after tree front rest closed there) in
-      let most = number_below tree all (rw (← same) (in_append tree front rest there)) in
-      (omega (arith, after, below), omega (arith, most, long))
+  module _ (front rest : List Tree) (closed : IsClosed (front ++ rest)) (same : front ++ rest ≡ all) (place : ℕ) (below : place < length front) where
+    within : (tree : Tree) → is_in tree rest ≡ true → (place < number_of tree all) × (number_of tree all < count)
+    within tree there =
+        let after = rw same at (number_after tree front rest closed there) in
+        let most = number_below tree all (rw (← same) (in_append tree front rest there)) in
+        (omega (arith, after, below), omega (arith, most, long))
 
-  later_is : (front rest : List Tree) (tree : Tree) → IsClosed (front ++ rest) → front ++ rest ≡ all → (place : ℕ) → place < length front → Placed tree rest →
-      IsLater place count (place_of_tree all tree)
-  later_is front rest Finish closed same place below placed = tt
-  later_is front rest tree closed same place below placed = within front rest tree closed same place below placed
+    later_is : (tree : Tree) → Placed tree rest → IsLater place count (place_of_tree all tree)
+    later_is Finish placed = tt
+    later_is tree placed = within tree placed
 
-  all_later : (front rest : List Tree) (branches : Branches) → IsClosed (front ++ rest) → front ++ rest ≡ all → (place : ℕ) → place < length front →
-      AllPlaced branches rest →
-      AllByRecursion (IsLater place count) (map (place_of_tree all) (trees_of branches))
-  all_later front rest NoBranch closed same place below placed = tt
-  all_later front rest (Branch tree branches) closed same place below placed =
-      (later_is front rest tree closed same place below placed.0, all_later front rest branches closed same place below placed.1)
+    all_later : (branches : Branches) → AllPlaced branches rest → AllByRecursion (IsLater place count) (map (place_of_tree all) (trees_of branches))
+    all_later NoBranch placed = tt
+    all_later (Branch tree branches) placed = (later_is tree placed.0, all_later branches placed.1)
 
   -- from a place on
-  nodes_from : (front trees : List Tree) → IsClosed (front ++ trees) → IsClosed trees → front ++ trees ≡ all → AreFine trees →
+  pub nodes_from : (front trees : List Tree) → IsClosed (front ++ trees) → IsClosed trees → front ++ trees ≡ all → AreFine trees →
       AreNodes (length front) count (flat_map (nodes_for all) trees)
   nodes_from front [] closed rest same fine = tt
   nodes_from front (tree ∷ trees) closed rest same fine =
@@ -152,8 +144,8 @@ module _ (all : List Tree) (count : ℕ) (long : count ≡ length all) where
       let one : length (front ++ tree ∷ []) ≡ length front + 1 = length-append front (tree ∷ []) in
       let below : length front < length (front ++ tree ∷ []) = omega (arith, one) in
       let now : IsClosed ((front ++ tree ∷ []) ++ trees) = rw regroup closed in
-      first tree rest.1 fine.0 (λ next placed. later_is (front ++ tree ∷ []) trees next now (regroup ∙ same) (length front) below placed)
-      (λ branches placed. all_later (front ++ tree ∷ []) trees branches now (regroup ∙ same) (length front) below placed)
+      first tree rest.1 fine.0 (later_is (front ++ tree ∷ []) trees now (regroup ∙ same) (length front) below)
+      (all_later (front ++ tree ∷ []) trees now (regroup ∙ same) (length front) below)
       (rw (← one) (nodes_from (front ++ tree ∷ []) trees now rest.2 (regroup ∙ same) fine.1))
     where
       first : (tree : Tree) → Leads tree trees → IsFine tree → ((next : Tree) → Placed next trees → IsLater (length front) count (place_of_tree all next)) →
@@ -164,9 +156,6 @@ module _ (all : List Tree) (count : ℕ) (long : count ≡ length all) where
       first Finish leads fine one each rest = absurd leads
       first (Plays card next) leads fine one each rest = ((fine, one next leads), rest)
       first (Sees branches) leads fine one each rest = ((length-map (trees_of branches) (place_of_tree all) ∙ fine, each branches leads), rest)
-
-  pub are_nodes : IsClosed all → AreFine all → AreNodes 0 count (plan_of_trees all)
-  are_nodes closed fine = nodes_from [] all closed closed refl fine
 
 -- there are as many nodes as trees
 pub plan_count : (all trees : List Tree) → IsClosed trees → length (flat_map (nodes_for all) trees) ≡ length trees

@@ -1,5 +1,5 @@
 -- The tree that is found is unique, and so is the answer that there is none.
-use Rattle.std.proofs.Common.{◌≡◌, ℕ, zero, suc, List, [], ◌∷◌, Option, Some, None, refl, sym, ◌∙◌, inl, inr}
+use Rattle.std.proofs.Common.{arith, ◌≡◌, ℕ, zero, suc, List, [], ◌∷◌, Option, Some, None, refl, sym, ◌∙◌, inl, inr}
 use Rattle.std.specs.List.{AllZip}
 use Rattle.crib_cards.specs.declared.letters.Letter.{Letter}
 use Rattle.crib_cards.specs.declared.moves.Move.TheVariants as move
@@ -12,7 +12,7 @@ use Rattle.crib_search.specs.Trees.{Tree}
 use Rattle.crib_search.specs.Finder.{Found, Tries, OwnerFinds, LacksBranch, BranchFinds, FindsFor, Finds, letters, options}
 use Rattle.crib_search.specs.Laws.{OneLaw}
 use Rattle.crib_search.proofs.FoundBySide.{finds_of_tree, branch_found}
-use Rattle.crib_search.proofs.Trees.{some_same}
+use Rattle.std.proofs.lemmas.Option.{same_Some}
 
 -- one answer at a history
 abbrev IsOne : Found → Type 0
@@ -35,10 +35,7 @@ module _ (finds : Found) (single : IsOne finds) where
   module _ (problem : Setup) (setup : IsSetup problem) (history : List Event) where
     branch_one : (letter : Letter) (one other : Tree) → BranchFinds finds problem history letter one → BranchFinds finds problem history letter other →
         one ≡ other
-    branch_one letter one other (inl a) (inl b) = some_same one other (single (Theirs letter ∷ history) (Some one) (Some other) a.1 b.1)
-    branch_one letter one other (inl a) (inr b) = absurd (b.0 a.0)
-    branch_one letter one other (inr a) (inl b) = absurd (a.0 b.0)
-    branch_one letter one other (inr a) (inr b) = a.1 ∙ sym b.1
+    branch_one letter one other a b = grind (arith, single (Theirs letter ∷ history) (Some one) (Some other), same_Some one other)
 
     branches_one : (shown : List Letter) (ones others : List Tree) → AllZip (BranchFinds finds problem history) shown ones →
         AllZip (BranchFinds finds problem history) shown others → ones ≡ others

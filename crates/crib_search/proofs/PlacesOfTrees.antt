@@ -1,5 +1,5 @@
 -- The places of a plan that represent a tree.
-use Rattle.std.proofs.Common.{◌≡◌, ◌⊎◌, ℕ, zero, suc, Bool, true, false, ◌&&◌, cond, List, [], ◌∷◌, Option, Some, slice_get, refl, sym, ap, subst, ◌∙◌}
+use Rattle.std.proofs.Common.{◌≡◌, ◌⊎◌, ℕ, zero, suc, true, false, ◌&&◌, List, [], ◌∷◌, Option, Some, slice_get, refl, sym, ap, subst, ◌∙◌}
 use Rattle.std.proofs.Common.{inl, inr}
 use Rattle.std.specs.Prelude.{unwrap_or}
 use Rattle.std.specs.List.{filter, list_all}
@@ -33,21 +33,14 @@ Does plan tree place = (tree ≡ Finish) ⊎ Stands plan tree place
 
 module _ (plan : List Node) where
   -- the place of one branch
-  record BranchStands (tree : Tree) (nexts : List Next) (place : ℕ) : Type 0 where
-    next : Next
-    is : slice_get nexts place ≡ Some next
-    stands : Stands plan tree next
-
   branch_stands : (trees : List Tree) (nexts : List Next) (place : ℕ) (tree : Tree) → StandAll plan (branches_of trees) nexts →
-      slice_get trees place ≡ Some tree → BranchStands tree nexts place
+      slice_get trees place ≡ Some tree → (next : Next) × (slice_get nexts place ≡ Some next) × Stands plan tree next
   branch_stands [] nexts place tree all e = absurd cc
   branch_stands (first ∷ trees) nexts zero tree all e =
       let same : first ≡ tree = cc in
-      let S : Tree → Type 0 = λ t. Stands plan t all.0 in
-      record { next = all.0; is = ap (λ (xs : List Next). slice_get xs 0) all.2; stands = subst S same all.3 }
+      (all.0, ap (λ (xs : List Next). slice_get xs 0) all.2, subst (λ (t : Tree). Stands plan t all.0) same all.3)
   branch_stands (first ∷ trees) nexts (suc place) tree all e =
-      let rest = branch_stands trees all.1 place tree all.4 e in
-      record { next = rest.next; is = ap (λ (xs : List Next). slice_get xs (suc place)) all.2 ∙ rest.is; stands = rest.stands }
+      let rest = branch_stands trees all.1 place tree all.4 e in (rest.0, ap (λ (xs : List Next). slice_get xs (suc place)) all.2 ∙ rest.1, rest.2)
 
   -- at a play node, a letter does not move the place
   play_stays : (tree : Tree) (place : Next) (letter : Letter) → is_play tree ≡ true → Does plan tree place →
@@ -64,10 +57,9 @@ module _ (plan : List Node) where
     see_does (inl e) = absurd cc
     see_does (inr stands) =
         let found = branch_stands trees stands.0 (letter_place letter) tree stands.2 is in
-        let goes : further ≡ found.next = ap (λ (node : Option Node). after_letter node letter place) stands.1
-        ∙ ap (λ (next : Option Next). unwrap_or next End) found.is in
-        let S : Next → Type 0 = λ next. Stands plan tree next in
-        inr (subst S (sym goes) found.stands)
+        let goes : further ≡ found.0 = ap (λ (node : Option Node). after_letter node letter place) stands.1
+        ∙ ap (λ (next : Option Next). unwrap_or next End) found.1 in
+        inr (subst (λ (next : Next). Stands plan tree next) (sym goes) found.2)
 
     -- if a place will do for the joined tree, its place after a letter will do for the branch of that letter
     pub joined_does : Does plan (joined_tree trees) place → Does plan tree further
@@ -77,13 +69,12 @@ module _ (plan : List Node) where
         does_from : is_finish tree ≡ false → (left : List Tree) → filter goes_on trees ≡ left → Does plan (joined_tree_from trees left) place →
             Does plan tree further
         does_from on [] e does = inl (sym (first_is Finish trees (letter_place letter) tree (rw e) is on))
-        does_from on (first ∷ others) e does = choose (is_play first && list_all (same_tree first) others) refl does
-          where
-            choose : (b : Bool) → (is_play first && list_all (same_tree first) others) ≡ b → Does plan (cond b first (Sees (branches_of trees))) place →
-                Does plan tree further
-            choose true c does =
-                let parts = and_parts (is_play first) (list_all (same_tree first) others) c in
-                let all = and_from (same_tree first first) (list_all (same_tree first) others) (same_self first) parts.1 in
-                let same = first_is first trees (letter_place letter) tree (rw e all) is on in
-                inr (rw (← same) (play_stays first place letter parts.0 does))
-            choose false c does = see_does does
+        does_from on (first ∷ others) e does =
+            elim (cases_Bool (is_play first && list_all (same_tree first) others)) [
+              | inl c ↦
+                  let parts = and_parts (is_play first) (list_all (same_tree first) others) c in
+                  let all = and_from (same_tree first first) (list_all (same_tree first) others) (same_self first) parts.1 in
+                  let same = first_is first trees (letter_place letter) tree (rw e all) is on in
+                  inr (rw (← same) (play_stays first place letter parts.0 (rw c at does)))
+              | inr c ↦ see_does (rw c at does)
+            ]

@@ -1,5 +1,5 @@
 -- The places of a plan that is made from its beginning on.
-use Rattle.std.proofs.Common.{◌≡◌, ℕ, ◌≤◌, suc, List, [], ◌∷◌, ◌++◌, length, Some, slice_get, refl, sym, ap, subst, ◌∙◌, IsTrue}
+use Rattle.std.proofs.Common.{◌≡◌, ℕ, suc, List, [], ◌∷◌, ◌++◌, length, Some, slice_get, refl, sym, ap, subst, ◌∙◌, IsTrue}
 use Rattle.std.specs.List.{AllByRecursion, AllZip}
 use Rattle.crib_cards.specs.Cards.{IsCard}
 use Rattle.crib_cards.specs.Sets.{IsCardSet, has}
@@ -7,22 +7,17 @@ use Rattle.crib_cards.proofs.LowestCard.{in_set}
 use Rattle.crib_cards.proofs.SetFacts.{IsCardSet-set_of}
 use Rattle.crib_problem.specs.Setup.{Setup}
 use Rattle.crib_know.specs.Knowledge.{Knowledge}
-use Rattle.crib_plan.specs.Nodes.{ArePlan}
 use Rattle.crib_search.specs.declared.nodes.DraftPlace.{DraftPlace}
 use Rattle.crib_search.specs.declared.nodes.DraftPlace.TheVariants.{End, At}
 use Rattle.crib_search.specs.declared.nodes.DraftNode.{DraftNode}
 use Rattle.crib_search.specs.declared.nodes.DraftNode.TheVariants.{Play}
-use Rattle.crib_search.specs.Trees.{Tree, Finish, Plays, joined_tree, plan_of_tree}
-use Rattle.crib_search.specs.Private.Nodes.{IsEarlier, IsMore, Names, IsPlanned}
+use Rattle.crib_search.specs.Trees.{Tree, Finish, Plays, joined_tree}
+use Rattle.crib_search.specs.Private.Nodes.{IsMore, Names, IsPlanned}
 use Rattle.crib_search.specs.Private.Search.{IsHere}
 use Rattle.crib_search.proofs.KeptNodes.{names_more}
-use Rattle.crib_search.proofs.JoinedTrees.{draft_place_earlier}
-use Rattle.crib_search.proofs.FoundIsPlan.{AllWhole, joined_whole, tree_plan}
+use Rattle.crib_search.proofs.FoundIsPlan.{AllWhole, joined_whole}
 
 -- ---- nodes that are kept
-pub same_nodes : (draft_nodes : List DraftNode) → IsMore draft_nodes draft_nodes
-same_nodes draft_nodes place draft_node there = there
-
 pub more_trans : (one two three : List DraftNode) → IsMore one two → IsMore two three → IsMore one three
 more_trans one two three first second place draft_node there = second place draft_node (first place draft_node there)
 
@@ -35,10 +30,6 @@ left_is_card know problem here card left =
 -- ---- one place
 pub planned_end : (draft_nodes : List DraftNode) → IsPlanned draft_nodes End
 planned_end draft_nodes = record { tree = Finish; names = refl; whole = tt }
-
-pub planned_earlier : (draft_nodes : List DraftNode) (draft_place : DraftPlace) → IsPlanned draft_nodes draft_place →
-    IsEarlier (length draft_nodes) draft_place
-planned_earlier draft_nodes draft_place planned = draft_place_earlier draft_nodes planned.tree draft_place planned.names
 
 module _ (before after : List DraftNode) (more : IsMore before after) where
   pub planned_more : (draft_place : DraftPlace) → IsPlanned before draft_place → IsPlanned after draft_place
@@ -70,25 +61,11 @@ pub trees_planned : (draft_nodes : List DraftNode) (nexts : List DraftPlace) →
 trees_planned draft_nodes [] all = record { trees = []; names = tt; whole = tt; count = refl }
 trees_planned draft_nodes (next ∷ nexts) all =
     let rest = trees_planned draft_nodes nexts all.1 in
-    record {
-      trees = all.0.tree ∷ rest.trees;
-      names = (all.0.names, rest.names);
-      whole = (all.0.whole, rest.whole);
-      count = ap suc rest.count;
-    }
+    record { trees = all.0.tree ∷ rest.trees; names = (all.0.names, rest.names); whole = (all.0.whole, rest.whole); count = ap suc rest.count }
 
 pub planned_joined : (before after : List DraftNode) (nexts : List DraftPlace) (draft_place : DraftPlace) →
     AllByRecursion (IsPlanned before) nexts → length nexts ≡ 14 →
     ((trees : List Tree) → AllZip (Names before) trees nexts → Names after (joined_tree trees) draft_place) → IsPlanned after draft_place
 planned_joined before after nexts draft_place all count joined =
     let are = trees_planned before nexts all in
-    record {
-      tree = joined_tree are.trees;
-      names = joined are.trees are.names;
-      whole = joined_whole are.trees are.whole (are.count ∙ count);
-    }
-
--- ---- the plan
-pub plan_named : (draft_nodes : List DraftNode) (draft_place : DraftPlace) → IsPlanned draft_nodes draft_place →
-    (tree : Tree) × Names draft_nodes tree draft_place × (length (plan_of_tree tree) ≤ 65535 → ArePlan (plan_of_tree tree))
-plan_named draft_nodes draft_place planned = (planned.tree, planned.names, tree_plan planned.tree planned.whole)
+    record { tree = joined_tree are.trees; names = joined are.trees are.names; whole = joined_whole are.trees are.whole (are.count ∙ count) }

@@ -1,5 +1,5 @@
 -- The plan that is made of the nodes that a walk left, and the answers of the finder.
-use Rattle.std.proofs.Common.{◌≡◌, ◌≤◌, List, [], ◌∷◌, length, Option, Some, None, refl, sym, ap, subst, ◌∙◌, arith}
+use Rattle.std.proofs.Common.{◌≡◌, ◌≤◌, List, [], ◌∷◌, length, Option, Some, None, refl, sym, ap, ◌∙◌, subst, arith}
 use Rattle.std.specs.Prelude.{Result, Ok, Err, IsErrAnd}
 use Rattle.crib_problem.specs.Setup.{Setup, IsSetup}
 use Rattle.crib_know.specs.Knowledge.{Knowledge, played_events, knowledge_after}
@@ -18,7 +18,6 @@ use Rattle.crib_play.specs.History.{Event}
 use Rattle.crib_know.proofs.TurnsAhead.{turn_falls}
 use Rattle.crib_search.proofs.TreeWalks.{walk_closed, leads_in}
 use Rattle.crib_search.proofs.NumberedNodes.{nodes_are, plan_count, same_count}
-use Rattle.crib_search.proofs.FoundBySide.{tree_of_finds}
 use Rattle.crib_search.proofs.FoundAfterTurns.{none_named, some_named}
 
 -- ---- the plan
@@ -37,29 +36,25 @@ module _ (draft_nodes : List DraftNode) (kept : AreKept draft_nodes) (first : Dr
   plan_is = rw same (nodes_are draft_nodes kept all walked.left are all walked.left are (λ other h. leads_in all (walk_closed tree) other h))
 
 -- ---- from the start
-first_ahead : (problem : Setup) → turns_ahead (knowledge_after problem []) ≡ 24
-first_ahead problem = refl
-
 -- no more turns may be next than at the first lead
 ahead_led : (problem : Setup) → IsSetup problem → (history : List Event) → IsLed problem history → turns_ahead (knowledge_after problem history) ≤ 24
-ahead_led problem setup [] led = let e = first_ahead problem in omega (arith, e)
+ahead_led problem setup [] led = let e : turns_ahead (knowledge_after problem []) ≡ 24 = refl in omega (arith, e)
 ahead_led problem setup (event ∷ history) led =
     omega (arith, turn_falls problem setup event history led, ahead_led problem setup history led.0)
 
 module _ (problem : Setup) (draft_nodes : List DraftNode) (start : Knowledge) (knows : KnowsAfter start problem (played_events problem))
     (found : Option DraftPlace) (answer : IsAnswer problem draft_nodes start found) where
   tree_found : (tree : Option Tree) × NamesFound draft_nodes tree found × FindsTree problem tree
+  unfolding FindsTree
   tree_found =
       let most = ahead_led problem knows.setup (played_events problem) (possible_led problem knows.setup (played_events problem) knows.possible) in
       let ahead : turns_ahead start ≡ turns_ahead (knowledge_after problem (played_events problem)) = ap turns_ahead knows.knowledge in
-      let here = answer.each (played_events problem) 29 knows (omega (arith, most, ahead)) in
-      (here.0, here.1, tree_of_finds problem here.0 here.2)
+      answer.each (played_events problem) 29 knows (omega (arith, most, ahead))
 
   -- no plan is found
   pub none_found : found ≡ None → IsFound problem None
   none_found none =
-      let names = subst (λ f. NamesFound draft_nodes tree_found.0 f) none tree_found.1 in
-      (None, rw (none_named draft_nodes tree_found.0 names) at tree_found.2, refl)
+      (None, rw (none_named draft_nodes tree_found.0 (subst (λ f. NamesFound draft_nodes tree_found.0 f) none tree_found.1)) at tree_found.2, refl)
 
   -- a plan is found
   pub first_found : (first : DraftPlace) → found ≡ Some first → (tree : Tree) × Names draft_nodes tree first × FindsTree problem (Some tree)

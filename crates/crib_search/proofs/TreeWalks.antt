@@ -2,7 +2,7 @@
 use Rattle.std.proofs.Common.{◌≡◌, ◌⊎◌, ℕ, ◌+◌, ◌<◌, ◌≤◌, Bool, true, false, List, [], ◌∷◌, map, Some, slice_get, add-one, refl, ap}
 use Rattle.std.proofs.Common.{inl, inr, arith}
 use Rattle.std.specs.List.{list_any, flat_map}
-use Rattle.std.proofs.lemmas.Bool.{cases_Bool, or_cases, or_left, or_right, both_ways}
+use Rattle.std.proofs.lemmas.Bool.{cases_Bool, false_from_ne_true, or_cases, or_left, or_right, both_ways}
 use Rattle.crib_plan.specs.declared.plan.Node.{Node}
 use Rattle.crib_plan.specs.declared.plan.Node.TheVariants.{Play, See}
 use Rattle.crib_plan.specs.Places.{plan_start}
@@ -92,10 +92,8 @@ leave tree before inside most closed walk bigger leads =
   where
     absent : is_in tree before ≡ false → is_in tree inside ≡ false
     absent new =
-        elim (cases_Bool (is_in tree inside)) [
-          | inr e ↦ e
-          | inl e ↦ elim (walk.small tree e) [ inl old ↦ absurd (both_ways (is_in tree before) new old) | inr le ↦ absurd (omega (arith, le, bigger)) ]
-        ]
+        false_from_ne_true (is_in tree inside) (λ e.
+        elim (walk.small tree e) [ inl old ↦ both_ways (is_in tree before) new old | inr le ↦ absurd (omega (arith, le, bigger)) ])
 
     small_of : (other : Tree) → (same_tree other tree ≡ true) ⊎ (is_in other inside ≡ true) → (is_in other before ≡ true) ⊎ (size other ≤ size tree)
     small_of other (inl here) = let e : size other ≡ size tree = ap size (same_is other tree here) in inr (omega (arith, e))
@@ -121,22 +119,17 @@ mutual
         record {
           closed = others.0.closed;
           more = λ other h. others.0.more other (first.0.more other h);
-          small = λ other h. small_of other first.0 (others.0.small other h);
+          small = λ other h. elim (others.0.small other h) [
+            | inl there ↦ elim (first.0.small other there) [ inl old ↦ inl old | inr le ↦ inr (omega (arith, le)) ]
+            | inr le ↦ inr (omega (arith, le))
+          ];
         },
         (placed_more (trees_after_walk tree before) (trees_after_walks branches (trees_after_walk tree before)) others.0.more tree first.1, others.1),
       )
-    where
-      small_of : (other : Tree) → IsWalked before (trees_after_walk tree before) (size tree) → (is_in other (trees_after_walk tree before) ≡ true) ⊎
-          (size other ≤ sizes branches) → (is_in other before ≡ true) ⊎ (size other ≤ size tree + sizes branches)
-      small_of other first (inr le) = inr (omega (arith, le))
-      small_of other first (inl there) = elim (first.small other there) [ inl old ↦ inl old | inr le ↦ inr (omega (arith, le)) ]
 
--- the walk of a tree is closed, and has the tree
+-- the walk of a tree is closed
 pub walk_closed : (tree : Tree) → IsClosed (trees_after_walk tree [])
 walk_closed tree = (walk_tree tree [] tt).0.closed
-
-pub walk_placed : (tree : Tree) → Placed tree (trees_after_walk tree [])
-walk_placed tree = (walk_tree tree [] tt).1
 
 -- ---- the nodes
 pub leads_in : (trees : List Tree) → IsClosed trees → (tree : Tree) → is_in tree trees ≡ true → Leads tree trees
@@ -191,4 +184,4 @@ starts tree = rw (same_self tree)
 
 -- the plan of a tree represents it
 pub plan_stands : (tree : Tree) → Stands (plan_of_tree tree) tree (plan_start (plan_of_tree tree))
-plan_stands tree = rw (starts tree) (tree_stands (trees_after_walk tree []) (walk_closed tree) tree (walk_placed tree))
+plan_stands tree = rw (starts tree) (tree_stands (trees_after_walk tree []) (walk_closed tree) tree (walk_tree tree [] tt).1)

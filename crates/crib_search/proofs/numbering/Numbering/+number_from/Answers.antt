@@ -29,9 +29,7 @@ number_below-number_from-requires g t c κs within =
     let below = c.draft_node.ensures.kept.earlier c.args.place (Play c.in-Play.card c.in-Play.next) c.in-Play.ensures.node in
     let low : height c.in-Play.next ≤ c.args.place = below_height c.args.place c.in-Play.next below in
     let here = c.requires in
-    let le : c.args.place ≤ length c.args.self.now.draft_nodes = omega (arith, here) in
-    let earlier : IsEarlier (length c.args.self.now.draft_nodes) c.in-Play.next =
-    earlier_more c.args.place (length c.args.self.now.draft_nodes) c.in-Play.next le below in
+    let earlier = earlier_more c.args.place (length c.args.self.now.draft_nodes) c.in-Play.next (omega (arith, here)) below in
     search (rules, low, earlier)
 
 pub number_below-number_from-requires-in-loop-draft_place : goal.number_below-number_from-requires-in-loop-draft_place

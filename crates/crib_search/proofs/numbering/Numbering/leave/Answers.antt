@@ -14,12 +14,10 @@ invariant_of-self-2 g c =
     ap reverse c.in_ok-push.ensures.items ∙ reverse-append order (c.args.place ∷ []) in
     let nodes : c.self.inside.nodes.now ≡ c.args.self.now.draft_nodes = ap (λ (walked : Walked). walked.draft_nodes) c.self.view_is in
     let within : c.args.place < length c.self.inside.nodes.now = subst (λ nodes. c.args.place < length nodes) (sym nodes) c.requires in
-    let marks = c.self.invariant.2 in
-    let whole = c.self.invariant.3 in
     let kept : AllByRecursion (λ place. place < length c.self.inside.nodes.now) (c.args.place ∷ reverse order) = (within, c.self.invariant.1) in (
       c.self.invariant.0,
       subst (λ left. AllByRecursion (λ place. place < length c.self.inside.nodes.now) left) (sym after) kept,
-      marks_left c.self.inside.marks.items c.args.place (reverse order) (reverse c.push.new.self.items) c.len-before.result marks
-          (omega (arith, within, whole)) (count ∙ sym (length-reverse order)) after,
-      length-set c.self.inside.marks.items c.args.place (Some c.len-before.result) ∙ whole,
+      marks_left c.self.inside.marks.items c.args.place (reverse order) (reverse c.push.new.self.items) c.len-before.result c.self.invariant.2
+          (omega (arith, within, c.self.invariant.3)) (count ∙ sym (length-reverse order)) after,
+      length-set c.self.inside.marks.items c.args.place (Some c.len-before.result) ∙ c.self.invariant.3,
     )

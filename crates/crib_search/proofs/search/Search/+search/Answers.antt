@@ -1,8 +1,8 @@
-use Rattle.std.proofs.Common.{rules, ◌≡◌, ℕ, ◌<◌, ◌≤◌, List, length, take, refl, sym, ap, ◌∙◌, arith}
+use Rattle.std.proofs.Common.{rules, ◌≡◌, ℕ, ◌<◌, ◌≤◌, List, length, None, take, refl, sym, ap, ◌∙◌, arith}
 use Rattle.std.proofs.lemmas.List.{drop_all}
 use Rattle.crib_play.specs.History.{Own, Theirs}
 use Rattle.crib_search.proofs.FoundBySide.{take_letter}
-use Rattle.crib_search.proofs.FoundAfterTurns.{goes_on, over_found, own_go, own_tried, tried_some, tried_next, tried_none, branch_end, branch_after}
+use Rattle.crib_search.proofs.FoundAfterTurns.{goes_on, over_found, own_go, own_tried, tried_some, tried_next, branch_end, branch_after}
 use Rattle.crib_search.proofs.FoundAfterTurns.{branches_more, theirs_none, theirs_some, branches_named, ok_map}
 use Rattle.crib_search.proofs.FoundAfterTurns.{answer_earlier, answers_kept, later_trans, later_nodes, after_turn}
 use Rattle.crib_search.proofs.CardsToTry.{has_at, none_fits}
@@ -100,8 +100,9 @@ pub search_own-returns-clause-found : goal.search_own-returns-clause-found
 search_own-returns-clause-found g t c =
     let cards : List ℕ = take c.options-cards.result.1 c.options-cards.result.0 in
     let end : length cards ≤ c.loop-card.card-index = omega (arith, c.options-cards.ensures.whole, c.loop-card-test.false) in
-    own_tried _ _ _ c.requires.asked _ cards (omega (arith, c.options-cards.ensures.whole, c.if-len-eq0.false)) c.options-cards.ensures.cards
-    (c.loop-card.invariant.tried _ _ (rw (drop_all c.loop-card.card-index cards end) (tried_none _ _ _)))
+    own_tried _ c.loop-card.self.nodes _ c.requires.asked _ cards (omega (arith, c.options-cards.ensures.whole, c.if-len-eq0.false))
+    c.options-cards.ensures.cards
+    (c.loop-card.invariant.tried _ _ (rw (drop_all c.loop-card.card-index cards end) (record { each = λ history more knows less. (None, refl, refl) })))
 
 -- ---- the opponent
 pub search_theirs-returns-in-Some-clause-found : goal.search_theirs-returns-in-Some-clause-found

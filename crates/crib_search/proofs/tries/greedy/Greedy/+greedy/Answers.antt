@@ -1,17 +1,16 @@
-use Rattle.std.proofs.Common.{rules, ◌≡◌, ℕ, ◌+◌, ◌<◌, ◌≤◌, List, length, take, sym, ap, ◌∙◌, arith, IsTrue}
+use Rattle.std.proofs.Common.{rules, ◌≡◌, ℕ, ◌+◌, ◌≤◌, List, length, take, sym, ap, ◌∙◌, arith, IsTrue}
 use Rattle.std.specs.List.{AllZip}
 use Rattle.crib_cards.specs.Cards.{card_value}
 use Rattle.crib_cards.specs.Sets.{has}
 use Rattle.crib_cards.specs.declared.moves.Move.TheVariants as move
 use Rattle.crib_play.specs.Record.{count_of}
 use Rattle.crib_play.specs.History.{Own, Theirs}
-use Rattle.crib_know.specs.Private.Ahead.{turns_ahead}
 use Rattle.crib_search.specs.Trees.{Tree, joined_tree}
 use Rattle.crib_search.specs.Private.Nodes.{IsPlanned, Names}
-use Rattle.crib_search.specs.Private.Search.{IsHere}
 use Rattle.crib_search.proofs.FoundAfterTurns.{goes_on, ok_map}
 use Rattle.crib_search.proofs.CardsToTry.{has_at, none_fits}
-use Rattle.crib_search.proofs.PlannedPlaces.{left_is_card, same_nodes, more_trans, planned_end, planned_earlier, planned_more, planned_play, planned_push}
+use Rattle.crib_search.proofs.JoinedTrees.{draft_place_earlier}
+use Rattle.crib_search.proofs.PlannedPlaces.{left_is_card, more_trans, planned_end, planned_more, planned_play, planned_push}
 use Rattle.crib_search.proofs.PlannedPlaces.{trees_planned, planned_joined}
 use Rattle.crib_search.proofs.tries.greedy.Greedy.+greedy.Goals as goal
 use Rattle.crib_search.proofs.tries.greedy.Greedy.+greedy.Goals.{own_place-then-lost, own_place-else-lost}
@@ -47,12 +46,10 @@ pub own_place-place_at-requires : goal.own_place-place_at-requires
 own_place-place_at-requires g t c κs within =
     let on = goes_on c.args.know.now c.copy-next.result c.own_go.new.self (Own move.Go) c.copy-next.ensures c.own_go.ensures
     c.args.self.now.problem.now c.requires.here in
-    let here : IsHere c.args.self.now.problem.now c.own_go.new.self = on.0 in
-    let falls : turns_ahead c.own_go.new.self < turns_ahead c.args.know.now = on.1 in
-    search (rules, here, falls)
+    search (rules, on)
 
 pub own_place-loop-card-init : goal.own_place-loop-card-init
-own_place-loop-card-init g t c = record { kept = same_nodes c.args.nodes.now; planned = planned_end c.args.nodes.now }
+own_place-loop-card-init g t c = record { kept = λ place draft_node there. there; planned = planned_end c.args.nodes.now }
 
 pub own_place-place_with-requires-in-loop-card : goal.own_place-place_with-requires-in-loop-card
 own_place-place_with-requires-in-loop-card g t c κs within =
@@ -97,12 +94,11 @@ pub place_with-place_at-requires : goal.place_with-place_at-requires
 place_with-place_at-requires g t c κs within =
     let on = goes_on c.args.know.now c.copy-after.result c.own_play.new.self (Own (move.Card c.args.card)) c.copy-after.ensures c.own_play.ensures
     c.args.self.now.problem.now c.requires.here in
-    let here : IsHere c.args.self.now.problem.now c.own_play.new.self = on.0 in
-    let falls : turns_ahead c.own_play.new.self < turns_ahead c.args.know.now = on.1 in
-    search (rules, here, falls)
+    search (rules, on)
 
 pub place_with-place_of-requires : goal.place_with-place_of-requires
-place_with-place_of-requires g t c = planned_earlier c.place_at.new.nodes c.in_ok-next.next c.in_ok-next.ensures.planned
+place_with-place_of-requires g t c = draft_place_earlier c.place_at.new.nodes c.in_ok-next.ensures.planned.tree c.in_ok-next.next
+    c.in_ok-next.ensures.planned.names
 
 pub place_with-returns-in_err-place-clause-kept : goal.place_with-returns-in_err-place-clause-kept
 place_with-returns-in_err-place-clause-kept g t c =
@@ -147,6 +143,4 @@ pub place_after-place_at-requires : goal.place_after-place_at-requires
 place_after-place_at-requires g t c κs within =
     let on = goes_on c.args.know.now c.copy-next.result c.saw.new.self (Theirs c.args.letter.now) c.copy-next.ensures c.saw.ensures
     c.args.self.now.problem.now c.requires.here in
-    let here : IsHere c.args.self.now.problem.now c.saw.new.self = on.0 in
-    let falls : turns_ahead c.saw.new.self < turns_ahead c.args.know.now = on.1 in
-    search (rules, here, falls)
+    search (rules, on)

@@ -2,7 +2,7 @@
 use crate::grammar::Slot;
 use crate::misfit::{BAD_LINE, BAD_NEXT, BAD_SET, number_cause};
 use crate::scene::{Scene, Word};
-use crate::sentence::{Sentence, Typed, tell};
+use crate::sentence::{Hint, Sentence, Typed, tell};
 use crate::spelling::is_word;
 use crib_input::Cause;
 use crib_text::read_number;
@@ -25,7 +25,7 @@ pub(crate) fn branch_cause(scene: &Scene<'_>, branch: &Word<'_>) -> Option<Cause
 }
 
 /// Returns what is wrong with the letters of a branch with one colon, or that an earlier branch has its node.
-pub(crate) fn branch_fault<'a>(scene: &Scene<'a>, branch: &Word<'a>) -> Option<Sentence> {
+pub(crate) fn branch_fault<'a>(scene: &Scene<'a>, branch: &Word<'a>) -> Hint {
     let mut last = (' ', None);
     for byte in branch.letters() {
         let (letter, place) = (char::from(*byte), place_of(*byte));
@@ -49,31 +49,45 @@ pub(crate) fn branch_fault<'a>(scene: &Scene<'a>, branch: &Word<'a>) -> Option<S
 }
 
 // Returns what is wrong with a branch beside the branches before it.
-fn fault_beside<'a>(scene: &Scene<'a>, branch: &Word<'a>) -> Option<Sentence> {
+fn fault_beside<'a>(scene: &Scene<'a>, branch: &Word<'a>) -> Hint {
+    let fault = repeated_letter(scene, branch).or(out_of_order(scene, branch));
+    fault.or(same_node(scene, branch))
+}
+
+fn repeated_letter<'a>(scene: &Scene<'a>, branch: &Word<'a>) -> Hint {
     for byte in branch.letters() {
         if let Some(old) = earlier(scene, branch, |old| old.letters().contains(byte)) {
             let (letter, old) = (char::from(*byte), Typed(old.bytes));
             return tell(format_args!("{letter} stood in the branch {old} already"));
         }
     }
-    if let Some(old) = earlier(scene, branch, |old| first_place(old) > first_place(branch)) {
-        let old = Typed(old.bytes);
-        return tell(format_args!(
-            "it belongs before {old}: branches are sorted by their first letters"
-        ));
-    }
+    None
+}
+
+fn out_of_order<'a>(scene: &Scene<'a>, branch: &Word<'a>) -> Hint {
+    let old = earlier(scene, branch, |old| first_place(old) > first_place(branch))?;
+    let old = Typed(old.bytes);
+    tell(format_args!("it belongs before {old}: branches are sorted by their first letters"))
+}
+
+fn same_node<'a>(scene: &Scene<'a>, branch: &Word<'a>) -> Hint {
     let node = read_number(target_of(branch))?;
     let old = earlier(scene, branch, |old| target_of(old) == target_of(branch))?;
-    let mut both = Sentence::of("");
-    for letter in LETTERS {
-        if old.letters().contains(letter) || branch.letters().contains(letter) {
-            both.add(char::from(*letter));
-        }
-    }
+    let both = letters_of_both(&old, branch);
     let old = Typed(old.bytes);
     tell(format_args!(
         "the branch {old} leads to the same node; write both as one branch, \"{both}:{node}\""
     ))
+}
+
+fn letters_of_both(first: &Word<'_>, second: &Word<'_>) -> Sentence {
+    let mut both = Sentence::of("");
+    for letter in LETTERS {
+        if first.letters().contains(letter) || second.letters().contains(letter) {
+            both.add(char::from(*letter));
+        }
+    }
+    both
 }
 
 // Returns the first of the branches before this one that passes a test.

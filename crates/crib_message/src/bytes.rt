@@ -25,12 +25,19 @@ pub(crate) fn bad_byte(scene: &Scene<'_>) -> Option<Explained> {
 
 // Returns the bytes of the first character: one byte, or those of a sign in UTF-8.
 fn character(rest: &[u8]) -> Option<&[u8]> {
-    match rest {
-        [0xC2..=0xDF, 0x80..=0xBF, ..] => rest.get(..2),
-        [0xE0..=0xEF, 0x80..=0xBF, 0x80..=0xBF, ..] => rest.get(..3),
-        [0xF0..=0xF4, 0x80..=0xBF, 0x80..=0xBF, 0x80..=0xBF, ..] => rest.get(..4),
-        _ => rest.get(..1),
-    }
+    let length = match *rest.first()? {
+        0xC2..=0xDF => 2,
+        0xE0..=0xEF => 3,
+        0xF0..=0xF4 => 4,
+        _ => 1,
+    };
+    let sign = rest.get(..length).filter(|sign| is_continued(sign));
+    sign.or(rest.get(..1))
+}
+
+// Whether each byte but the first goes on with a sign in UTF-8.
+fn is_continued(sign: &[u8]) -> bool {
+    sign.iter().skip(1).all(|byte| matches!(*byte, 0x80..=0xBF))
 }
 
 // Returns the hint for a file that is no plain text: the marks with which it may begin, or three bytes that no text

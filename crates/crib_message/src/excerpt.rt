@@ -19,7 +19,7 @@ const BEFORE: usize = 40;
 pub(crate) type Excerpt = ArrayVec<u8, 900>;
 
 // A line in three stretches, of which the middle one is shown.
-#[derive(Clone, Copy, Debug)]
+#[derive(Clone, Copy)]
 struct Window<'a> {
     before: &'a [u8],
     shown: &'a [u8],

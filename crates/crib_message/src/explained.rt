@@ -19,7 +19,7 @@ const NO_END: &str =
     "a see line names no end; leave this branch out, since a letter in no branch leads to the end";
 
 /// The sentence of a refusal, and the stretch of its line that is meant.
-#[derive(Clone, Copy, Debug)]
+#[derive(Clone, Copy)]
 pub(crate) struct Explained {
     pub(crate) sentence: Sentence,
     pub(crate) mark: Option<Mark>,
@@ -60,22 +60,29 @@ pub(crate) fn said<T: Display + Drop>(text: T, mark: Option<Mark>, hint: Hint) -
 
 // Explains an input that is cut short: its last line has no LF, or a line is missing.
 fn cut_short(scene: &Scene<'_>) -> Explained {
-    let hint = match (scene.input, scene.row) {
-        ([.., last], _) if *last != b'\n' => {
-            let mark = Some(Mark::of(scene.text().len(), 1));
-            let hint = tell("Every line ends with LF, the last one too: press Enter behind it.");
-            let text = "the last line is cut short; expected: LF at its end";
-            return said(text, mark, hint);
-        }
-        ([], _) => tell("The input is empty."),
-        (_, Row::Act | Row::Node) => count_hint(scene),
-        (_, Row::Played) => tell(NEEDS_PLAYED),
-        (_, Row::Plan | Row::Game) => Some(sections_hint(scene.sections)),
+    if scene.input.is_empty() || scene.input.ends_with(b"\n") {
+        let pattern = scene.pattern();
+        let text = format_args!("the input ends here; expected: {pattern}");
+        return said(text, None, end_hint(scene));
+    }
+    let mark = Some(Mark::of(scene.text().len(), 1));
+    let hint = tell("Every line ends with LF, the last one too: press Enter behind it.");
+    said(
+        "the last line is cut short; expected: LF at its end",
+        mark,
+        hint,
+    )
+}
+
+// Returns the hint for an input that ends before this row.
+fn end_hint(scene: &Scene<'_>) -> Hint {
+    match scene.row {
+        _ if scene.input.is_empty() => tell("The input is empty."),
+        Row::Act | Row::Node => count_hint(scene),
+        Row::Played => tell(NEEDS_PLAYED),
+        Row::Plan | Row::Game => Some(sections_hint(scene.sections)),
         _ => None,
-    };
-    let pattern = scene.pattern();
-    let text = format_args!("the input ends here; expected: {pattern}");
-    said(text, None, hint)
+    }
 }
 
 // Explains a line behind the last section, or one with a word that does not fit or with too few words.

@@ -10,7 +10,7 @@ use crate::grammar::Slot::{
 use crate::scene::{Place, Section};
 
 /// A line of a section, by its keyword.
-#[derive(Clone, Copy, Debug, PartialEq, Eq)]
+#[derive(Clone, Copy, PartialEq, Eq)]
 pub(crate) enum Row {
     Problem,
     Dealer,
@@ -33,7 +33,7 @@ pub(crate) enum Row {
 }
 
 /// What is at a place of a line.
-#[derive(Clone, Copy, Debug, PartialEq, Eq)]
+#[derive(Clone, Copy, PartialEq, Eq)]
 pub(crate) enum Slot {
     /// The first word of the line.
     Keyword,

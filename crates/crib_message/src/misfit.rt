@@ -20,7 +20,7 @@ pub(crate) const BAD_NEXT: Cause = Cause::Plan(PlanCause::BadNext);
 pub(crate) const SAME_CARD: Cause = Cause::Problem(ProblemCause::SameCard);
 
 /// A word that does not fit, or the end of a line that is too short.
-#[derive(Clone, Copy, Debug)]
+#[derive(Clone, Copy)]
 pub(crate) struct Misfit<'a> {
     /// What the grammar has there.
     pub(crate) slot: Slot,
@@ -54,24 +54,48 @@ pub(crate) fn first_misfit<'a>(scene: &Scene<'a>, cause: Cause) -> Option<Misfit
 
 // Returns why a word does not fit its slot, if it doesn't.
 fn refusal(scene: &Scene<'_>, slot: Slot, word: &Word<'_>) -> Option<Cause> {
-    let fits = match (slot, word.bytes) {
-        (Slot::Keyword, word) => word == scene.row.keyword().as_bytes(),
-        (Slot::Aim, b"holes") => !scene.word(2).is_empty(),
-        (Slot::Aim, b"stop") => scene.is_second(),
-        (Slot::Aim, word) => word == b"win".as_slice(),
-        (Slot::Side, word) => matches!(word, b"owner" | b"opponent"),
-        (Slot::Kind, word) => matches!(word, b"play" | b"see"),
-        (Slot::Actor, word) => matches!(word, b"own" | b"opp"),
-        (Slot::Move, b"go") | (Slot::Target, b"end") => true,
-        (Slot::Extra, _) => false,
-        (Slot::Branch, _) => return branch_cause(scene, word),
-        (Slot::Card | Slot::Stated | Slot::Move, card) => match read_card(card) {
-            Some(_) => return earlier_line(scene, word).map(|_| SAME_CARD),
-            None => return Some(BAD_CARD),
-        },
-        (_, text) => return number_cause(scene, slot, read_number(text)),
-    };
-    (!fits).then_some(BAD_LINE)
+    match slot {
+        Slot::Branch => branch_cause(scene, word),
+        Slot::Move if word.bytes == b"go".as_slice() => None,
+        Slot::Target if word.bytes == b"end".as_slice() => None,
+        Slot::Card | Slot::Stated | Slot::Move => card_cause(scene, word),
+        Slot::Keyword | Slot::Aim | Slot::Side | Slot::Kind | Slot::Actor | Slot::Extra =>
+            (!is_fitting(scene, slot, word.bytes)).then_some(BAD_LINE),
+        _ => number_cause(scene, slot, read_number(word.bytes)),
+    }
+}
+
+// Whether a word is one of those that its slot takes.
+fn is_fitting(scene: &Scene<'_>, slot: Slot, word: &[u8]) -> bool {
+    match slot {
+        Slot::Keyword => word == scene.row.keyword().as_bytes(),
+        Slot::Aim => is_aim(scene, word),
+        Slot::Side => is_one_of(word, "owner opponent"),
+        Slot::Kind => is_one_of(word, "play see"),
+        Slot::Actor => is_one_of(word, "own opp"),
+        _ => false,
+    }
+}
+
+// Whether a word is one of these.
+fn is_one_of(word: &[u8], words: &str) -> bool {
+    words.split(' ').any(|one| word == one.as_bytes())
+}
+
+fn is_aim(scene: &Scene<'_>, word: &[u8]) -> bool {
+    match word {
+        b"holes" => !scene.word(2).is_empty(),
+        b"stop" => scene.is_second(),
+        _ => word == b"win".as_slice(),
+    }
+}
+
+// Returns why a word is no card, or no other card than those before it.
+fn card_cause(scene: &Scene<'_>, word: &Word<'_>) -> Option<Cause> {
+    match read_card(word.bytes) {
+        Some(_) => earlier_line(scene, word).map(|_| SAME_CARD),
+        None => Some(BAD_CARD),
+    }
 }
 
 /// Returns the first line of a problem that has a card before this word, if there is one.

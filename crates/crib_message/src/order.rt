@@ -11,6 +11,8 @@ pub(crate) const COMMENT: &str = "Comments are not allowed.";
 pub(crate) const NEEDS_PLAYED: &str =
     "In a problem 2 the line played follows the goal; at the first lead it is played 0.";
 
+const FIRST: &str = "The problem comes first.";
+
 /// Whether a line looks like an act or a turn.
 pub(crate) fn is_act(line: &[u8]) -> bool {
     is_word(word_in(line, 0), b"own") || is_word(word_in(line, 0), b"opp")
@@ -32,6 +34,20 @@ pub(crate) fn is_comment(word: &[u8]) -> bool {
 /// Returns the hint of a wrong count above the refused line: the lines that are announced there are more or fewer than
 /// there are.
 pub(crate) fn count_hint(scene: &Scene<'_>) -> Hint {
+    let (row, line, count) = announced(scene)?;
+    let above = scene.number.saturating_sub(1).saturating_sub(line);
+    let found = above.saturating_add(items_from(scene, row)?);
+    if count == found {
+        return None;
+    }
+    let keyword = row.keyword();
+    tell(format_args!(
+        "Line {line} says {keyword} {count}, but the number of lines for it is {found}."
+    ))
+}
+
+// Returns the last row above the refused line that announces lines, the number of its line, and how many it announces.
+fn announced(scene: &Scene<'_>) -> Option<(Row, u32, u32)> {
     let lines = scene.input.split(|byte| *byte == b'\n');
     let mut announced = None;
     for (line, number) in lines.zip(1..scene.number) {
@@ -40,23 +56,18 @@ pub(crate) fn count_hint(scene: &Scene<'_>) -> Hint {
             announced = Some((row, number, read_number(word_in(line, 1))?));
         }
     }
-    let (row, line, count) = announced?;
-    let above = scene.number.saturating_sub(1);
+    announced
+}
+
+// Returns how many lines of a row follow each other from the refused line on.
+fn items_from(scene: &Scene<'_>, row: Row) -> Option<u32> {
     let lines = scene.input.split(|byte| *byte == b'\n');
-    let rest = lines.skip(above as usize);
+    let rest = lines.skip(scene.number.saturating_sub(1) as usize);
     let items = rest.take_while(|line| match row {
         Row::Nodes => is_node(line),
         _ => is_act(line),
     });
-    let below = u32::try_from(items.count()).ok()?;
-    let found = above.saturating_sub(line).saturating_add(below);
-    if count == found {
-        return None;
-    }
-    let keyword = row.keyword();
-    tell(format_args!(
-        "Line {line} says {keyword} {count}, but the number of lines for it is {found}."
-    ))
+    u32::try_from(items.count()).ok()
 }
 
 /// Returns the hint for a line that is another one than was expected.
@@ -77,24 +88,52 @@ pub(crate) fn order_hint(scene: &Scene<'_>) -> Hint {
 
 // A line in place of the first line of a section, or behind the last section.
 fn header_hint(scene: &Scene<'_>, row: Option<Row>) -> Hint {
-    let order = Some(section_order(scene.place.section));
-    let text = match (scene.row, scene.word(0), row) {
-        (Row::Problem | Row::Plan | Row::Game, b"none", _) =>
-            "Where no plan is sure, solve writes none, and there is no plan to read.",
-        (Row::Problem, b"fails" | b"holds", _) | (Row::Problem, _, Some(Row::Plan | Row::Game)) =>
-            "The problem comes first.",
-        (Row::Problem, _, row) => return row.and(order),
-        (_, _, Some(Row::Problem)) => "An input has one problem.",
-        (_, _, Some(Row::Plan | Row::Game)) => return Some(sections_hint(scene.sections)),
-        (Row::Game, b"fails" | b"holds", _) =>
-            "Leave out this line of an answer: a game begins with game 1.",
-        (Row::Plan, _, Some(Row::Nodes)) => return order,
-        (Row::Game, _, Some(Row::Hold | Row::Throw | Row::Acts)) => return order,
-        _ if !scene.is_second() && (row == Some(Row::Played) || is_act(scene.text())) =>
+    match header_text(scene, row) {
+        Some(text) => count_hint(scene).or(tell(text)),
+        None => moved_hint(scene, row),
+    }
+}
+
+// Returns what to do with a line of another section, or with one that is no line of an input.
+fn header_text(scene: &Scene<'_>, row: Option<Row>) -> Option<&'static str> {
+    let is_opening = row == Some(Row::Played) || is_act(scene.text());
+    match (scene.row, row) {
+        (_, None) if answer_text(scene).is_some() => answer_text(scene),
+        (Row::Problem, Some(Row::Plan | Row::Game)) => Some(FIRST),
+        (Row::Problem, _) => None,
+        (_, Some(Row::Problem)) => Some("An input has one problem."),
+        _ if is_opening && !scene.is_second() => Some(
             "Turns that were played already need problem 2 on line 1.",
-        _ => return count_hint(scene),
-    };
-    count_hint(scene).or(tell(text))
+        ),
+        _ => None,
+    }
+}
+
+// Returns what to do with the first line of an answer.
+fn answer_text(scene: &Scene<'_>) -> Option<&'static str> {
+    let is_verdict = matches!(scene.word(0), b"fails" | b"holds");
+    match scene.row {
+        Row::Problem | Row::Plan | Row::Game if scene.word(0) == b"none".as_slice() => Some(
+            "Where no plan is sure, solve writes none, and there is no plan to read.",
+        ),
+        Row::Problem if is_verdict => Some(FIRST),
+        Row::Game if is_verdict => Some(
+            "Leave out this line of an answer: a game begins with game 1.",
+        ),
+        _ => None,
+    }
+}
+
+// The order of the section for one of its lines, or what the command reads.
+fn moved_hint(scene: &Scene<'_>, row: Option<Row>) -> Hint {
+    let order = Some(section_order(scene.place.section));
+    match (scene.row, row) {
+        (Row::Problem, _) => row.and(order),
+        (_, Some(Row::Plan | Row::Game)) => Some(sections_hint(scene.sections)),
+        (Row::Plan, Some(Row::Nodes)) => order,
+        (Row::Game, Some(Row::Hold | Row::Throw | Row::Acts)) => order,
+        _ => count_hint(scene),
+    }
 }
 
 /// Returns what the command reads.

@@ -27,7 +27,7 @@ pub(crate) fn word_in(line: &[u8], index: usize) -> &[u8] {
 }
 
 /// A stretch of the bytes of a line.
-#[derive(Clone, Copy, Debug, PartialEq, Eq)]
+#[derive(Clone, Copy, PartialEq, Eq)]
 pub(crate) struct Mark {
     pub(crate) from: usize,
     pub(crate) to: usize,
@@ -42,7 +42,7 @@ impl Mark {
 }
 
 /// A word of a line, its index there, and the place of its first byte.
-#[derive(Clone, Copy, Debug)]
+#[derive(Clone, Copy)]
 pub(crate) struct Word<'a> {
     pub(crate) bytes: &'a [u8],
     pub(crate) index: usize,
@@ -76,7 +76,7 @@ impl<'a> Word<'a> {
 }
 
 /// A section of an input.
-#[derive(Clone, Copy, Debug, PartialEq, Eq)]
+#[derive(Clone, Copy, PartialEq, Eq)]
 pub(crate) enum Section {
     Problem,
     Plan,
@@ -86,7 +86,7 @@ pub(crate) enum Section {
 }
 
 /// The place of a line: its section, and its number there, from 1.
-#[derive(Clone, Copy, Debug, PartialEq, Eq)]
+#[derive(Clone, Copy, PartialEq, Eq)]
 pub(crate) struct Place {
     pub(crate) section: Section,
     pub(crate) number: u32,
@@ -126,7 +126,7 @@ pub(crate) fn count_at(input: &[u8], line: u32) -> u32 {
 }
 
 /// A line that is refused, or the place of one that is missing.
-#[derive(Clone, Copy, Debug)]
+#[derive(Clone, Copy)]
 pub(crate) struct Scene<'a> {
     /// The sections that the input has to have.
     pub(crate) sections: Sections,

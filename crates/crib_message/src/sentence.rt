@@ -40,7 +40,7 @@ pub(crate) fn tell<D: Display + Drop>(text: D) -> Hint {
 
 /// A word as it was typed, in double quotes. Bytes other than 32 to 126 are written as `\xNN`, and a word of more than
 /// 24 bytes is cut. Without a word it is the end of the line.
-#[derive(Clone, Copy, Debug)]
+#[derive(Clone, Copy)]
 pub(crate) struct Typed<'a>(pub(crate) &'a [u8]);
 
 impl Display for Typed<'_> {
@@ -50,13 +50,17 @@ impl Display for Typed<'_> {
         }
         write!(f, "\"")?;
         for byte in self.0.iter().take(TYPED) {
-            match *byte {
-                plain @ b' '..=b'~' => write!(f, "{}", char::from(plain))?,
-                other => write!(f, "\\x{other:02x}")?,
-            }
+            write_byte(f, *byte)?;
         }
-        let end = if self.0.len() > TYPED { "..." } else { "" };
-        write!(f, "{end}\"")
+        let end = if self.0.len() > TYPED { "...\"" } else { "\"" };
+        write!(f, "{end}")
+    }
+}
+
+fn write_byte<W: Write>(f: &mut fmt::Formatter<W>, byte: u8) -> fmt::Result {
+    match byte {
+        b' '..=b'~' => write!(f, "{}", char::from(byte)),
+        _ => write!(f, "\\x{byte:02x}"),
     }
 }
 
@@ -93,7 +97,7 @@ fn cards_of(set: CardSet, count: u8) -> Sentence {
 }
 
 /// The cards that a side holds, and those of them that fit.
-#[derive(Clone, Copy, Debug)]
+#[derive(Clone, Copy)]
 pub(crate) struct Held {
     pub(crate) cards: Sentence,
     fitting: Sentence,

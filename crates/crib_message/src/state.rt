@@ -8,6 +8,8 @@ use crib_play::{Round, Turn};
 use crib_problem::{Problem, act_of, read_problem};
 use crib_text::Lines;
 
+type Acts = ArrayVec<Act, 32>;
+
 /// The state of the play before an act of an opening or of a game.
 #[derive(Drop)]
 pub(crate) struct State {
@@ -18,7 +20,7 @@ pub(crate) struct State {
     pub(crate) act: Act,
     pub(crate) round: Round,
     /// The acts before the refused one.
-    pub(crate) acts: ArrayVec<Act, 32>,
+    pub(crate) acts: Acts,
     /// The line of the last act.
     pub(crate) line: u32,
     /// The line of the last act before this count began, or 0.
@@ -38,32 +40,43 @@ impl State {
         let text = text_of(scene, head as usize);
         let mut lines = Lines::new(text.as_slice()).ok()?;
         let problem = read_problem(&mut lines).ok()?;
-        let (line, dealt, acts) = if is_game {
-            let Game { opp, acts } = read_game(&mut lines).ok()?;
-            (head.saturating_add(4), Some(opp), acts)
-        } else {
-            let mut acts = ArrayVec::new();
-            for _ in head..scene.number {
-                acts.try_push(act_of(&lines.next_line().ok()?).ok()?).ok()?;
-            }
-            (head, None, acts)
+        let (dealt, acts) = match is_game {
+            true => game_acts(&mut lines)?,
+            false => (
+                None,
+                opening_acts(&mut lines, scene.number.saturating_sub(head))?,
+            ),
         };
-        let place = scene.number.saturating_sub(line).saturating_sub(1) as usize;
-        let mut state = State {
+        let mut state = State::at_lead(
+            problem,
+            dealt,
+            if is_game {
+                head.saturating_add(4)
+            } else {
+                head
+            },
+        );
+        let place = scene.number.saturating_sub(state.line).saturating_sub(1) as usize;
+        state.act = acts.get(place).copied().unwrap_or_default();
+        for act in acts.iter().take(place.saturating_add(further)) {
+            state.take(act);
+        }
+        Some(state)
+    }
+
+    // Returns the state at the first lead, behind the line with this number.
+    fn at_lead(problem: Problem, dealt: Option<Dealt>, line: u32) -> State {
+        State {
             round: Round::new(problem.dealer(), problem.scores(), problem.target()),
             problem,
             dealt,
-            act: acts.get(place).copied().unwrap_or_default(),
+            act: Act::default(),
             acts: ArrayVec::new(),
             line,
             closed: 0,
             reached: 0,
             told: (32, 0),
-        };
-        for act in acts.iter().take(place.saturating_add(further)) {
-            state.take(act);
         }
-        Some(state)
     }
 
     /// Returns the cards that a side holds, if they are known.
@@ -107,6 +120,21 @@ impl State {
             self.closed = self.line;
         }
     }
+}
+
+// Reads a game: the opponent's cards, and the acts.
+fn game_acts(lines: &mut Lines<'_>) -> Option<(Option<Dealt>, Acts)> {
+    let Game { opp, acts } = read_game(lines).ok()?;
+    Some((Some(opp), acts))
+}
+
+// Reads so many turns of an opening.
+fn opening_acts(lines: &mut Lines<'_>, count: u32) -> Option<Acts> {
+    let mut acts = ArrayVec::new();
+    for _ in 0..count {
+        acts.try_push(act_of(&lines.next_line().ok()?).ok()?).ok()?;
+    }
+    Some(acts)
 }
 
 // Returns the first seven lines with an empty opening, and the lines after `head`, as far as there is room.

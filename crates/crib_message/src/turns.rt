@@ -25,16 +25,21 @@ pub(crate) fn explain_turn(scene: &Scene<'_>, cause: Cause) -> Option<Explained>
         _ => sentence.add(format_args!("{moved} is {cause}: ")),
     }
     add_reason(&mut sentence, &state, scene, cause)?;
-    let mark = match cause {
+    let mark = mark_of(scene.row, cause);
+    Some(Explained { sentence, mark })
+}
+
+// Returns the bytes of the line that are meant.
+fn mark_of(row: Row, cause: Cause) -> Option<Mark> {
+    match cause {
         Game(Fault::AfterEnd(_)) => None,
-        Game(Fault::NotAsPlayed(_)) if scene.row == Row::Acts => None,
+        Game(Fault::NotAsPlayed(_)) if row == Row::Acts => None,
         Game(Fault::NotAsPlayed(_)) => Some(Mark::of(0, 6)),
         Game(Fault::NotUnseen(place @ 5..)) => Some(Mark::of(3 * usize::from(place) - 9, 2)),
         Game(Fault::NotUnseen(place)) => Some(Mark::of(3 * usize::from(place) + 2, 2)),
         Game(Fault::NotTurn(_)) | Problem(Rule::NotTurn) => Some(Mark::of(0, 3)),
         _ => Some(Mark::of(4, 2)),
-    };
-    Some(Explained { sentence, mark })
+    }
 }
 
 // Appends why an act may not be the next one.
@@ -47,28 +52,35 @@ fn add_reason(to: &mut Sentence, state: &State, scene: &Scene<'_>, cause: Cause)
         (Problem(Rule::NotHeld | Rule::SameCard) | Game(Fault::NotHeld(_)), Move::Card(card)) => {
             add_not_held(to, state, card);
         }
-        (Problem(Rule::NoDeal), Move::Card(_)) => {
-            let (count, line) = state.told;
-            let least = 32u8.saturating_sub(count);
-            to.add(format_args!("the opponent said go at a count of {count} (line {line}), "));
-            to.add(format_args!("so each of their cards counts {least} or more"));
-        }
+        (Problem(Rule::NoDeal), Move::Card(_)) => add_told(to, state),
         (Problem(Rule::MustPlay | Rule::NoDeal) | Game(Fault::MustPlay(_)), _) => add_go(to, state),
         (Problem(Rule::AlreadyOver) | Game(Fault::AfterEnd(_)), _) => add_end(to, state, cause),
         (Game(Fault::NotUnseen(place)), _) => add_seen(to, state, place)?,
-        (Game(Fault::NotAsPlayed(place)), _) => {
-            let line = u32::from(place).saturating_add(8);
-            let turn = Typed(line_at(scene.input, line)?);
-            match scene.row {
-                Row::Acts => to.add(format_args!("{ALL_TURNS}{turn} (line {line}) is missing")),
-                _ => to.add(format_args!("the opening has {turn} (line {line}) there")),
-            }
-        }
+        (Game(Fault::NotAsPlayed(place)), _) => add_as_played(to, scene, place)?,
         (Game(Fault::Strays(_)), what) => {
             add_stray(to, scene.input, state.acts.as_slice());
             to.add(format_args!(", and the owner plays {}", moved(&what)));
         }
         _ => return None,
+    }
+    Some(())
+}
+
+// Appends what a go of the opponent says of their cards.
+fn add_told(to: &mut Sentence, state: &State) {
+    let (count, line) = state.told;
+    let least = 32u8.saturating_sub(count);
+    to.add(format_args!("the opponent said go at a count of {count} (line {line}), "));
+    to.add(format_args!("so each of their cards counts {least} or more"));
+}
+
+// Appends which turn the opening has at a place.
+fn add_as_played(to: &mut Sentence, scene: &Scene<'_>, place: u8) -> Option<()> {
+    let line = u32::from(place).saturating_add(8);
+    let turn = Typed(line_at(scene.input, line)?);
+    match scene.row {
+        Row::Acts => to.add(format_args!("{ALL_TURNS}{turn} (line {line}) is missing")),
+        _ => to.add(format_args!("the opening has {turn} (line {line}) there")),
     }
     Some(())
 }
@@ -185,17 +197,22 @@ fn add_not_held(to: &mut Sentence, state: &State, card: Card) {
 
 // Appends where a card of the opponent is before, from its place among the six.
 fn add_seen(to: &mut Sentence, state: &State, place: u8) -> Option<()> {
-    let Dealt { hold, throw } = state.dealt?;
-    let mut cards = hold.iter().chain(throw.iter());
-    let card = *cards.nth(usize::from(place).checked_sub(1)?)?;
+    let dealt = state.dealt?;
+    let card = dealt_at(&dealt, place)?;
     let (name, line) = (named(card), state.line.saturating_sub(2));
-    let is_held = place > 4 && hold.contains(&card);
+    let is_held = place > 4 && dealt.hold.contains(&card);
     match place_of(state, card) {
         Some((at, line)) => to.add(format_args!("{name} {at} (line {line})")),
         None if is_held => to.add(format_args!("{name} is in the opponent's hold (line {line})")),
         None => to.add(format_args!("{name} stands twice in this line")),
     }
     Some(())
+}
+
+// Returns the card at a place among the six, from 1.
+fn dealt_at(dealt: &Dealt, place: u8) -> Option<Card> {
+    let mut cards = dealt.hold.iter().chain(dealt.throw.iter());
+    cards.nth(usize::from(place).checked_sub(1)?).copied()
 }
 
 // Appends how the deal ended.

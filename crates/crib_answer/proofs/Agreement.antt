@@ -1,7 +1,6 @@
 -- The answers of one job agree with those of another.
 use Rattle.std.proofs.Common.{◌≡◌, ◌⊎◌, ◌≤◌, ℕ, List, [], ◌∷◌, ◌++◌, length, codes, Option, Some, None, Result, Ok, Err, inl, inr, refl, sym, ap, ◌∙◌}
-use Rattle.std.proofs.Common.{arith}
-use Rattle.std.specs.Prelude.{◌↔◌, ◌==◌, Bool, true, false, slice_index, if◌then◌else◌}
+use Rattle.std.specs.Prelude.{◌↔◌, Bool, true, false}
 use Rattle.std.proofs.lemmas.Bool.{cases_lt}
 use Rattle.crib_cards.specs.declared.sides.Scores.{Scores}
 use Rattle.crib_text.specs.Refusals.{Refusal}
@@ -42,7 +41,7 @@ use Rattle.crib_answer.specs.Answer.{board_reply, ending_reply, ending_status, r
 use Rattle.crib_answer.specs.Laws.{FailedGameLaw, FollowedGameLaw, FoundPlanLaw, SameRefusalLaw, SameReportLaw, outcome_with}
 use Rattle.crib_answer.specs.Reported.{IsReported, last_scores}
 use Rattle.crib_answer.proofs.JudgedInputs.{board_spelled, ending_accepted, ending_spelled, report_accepted, report_spelled}
-use Rattle.crib_answer.proofs.Replies.{fails_law, first_of, planned_by_output, sure_owed}
+use Rattle.crib_answer.proofs.Replies.{fails_law, no_output, planned_by_output, same_ending, sure_owed}
 
 -- ---- a plan that is found
 
@@ -148,9 +147,7 @@ same_refusal_law input refusal = same_refused (report_of_input input) (board_of_
 replayed_report : (read : Result Report Refusal) (reply : Reply) (more : List ℕ) → reply ≡ reply_by report_reply read → reply.output ≡ codes "play" ++ more →
     (report : Report) × (read ≡ Ok report)
 replayed_report (Ok report) reply more is e = (report, refl)
-replayed_report (Err refusal) reply more is e =
-    let f : ◌≡◌ {A = ℕ} 114 112 = first_of reply (refusal_reply refusal) (codes "play" ++ more) is e in
-    absurd (omega arith)
+replayed_report (Err refusal) reply more is e = no_output reply (refusal_reply refusal) (codes "play" ++ more) refl is e
 
 -- a report that is read is that of the game
 is_report_of : (fault : Option GameFault) (value report : Report) → ◌≡◌ {A = Result Report GameFault} (unless_fault fault value) (Ok report) →
@@ -167,34 +164,13 @@ same_report_law input reply more answers e =
 
 -- ---- a game that is followed
 
--- an ending by the first two letters of its word
-abbrev ending_called : List ℕ → Ending
-ending_called word =
-    if slice_index word 0 == 111 then ending.Open
-    else if slice_index word 0 == 108 then ending.Lost
-    else if slice_index word 0 == 114 then ending.Reached
-    else if slice_index word 1 == 116 then ending.Stuck
-    else ending.Short
-
--- the words of endings differ
-is_called : (result : Ending) → ending_called (ending_reply result).output ≡ result
-is_called ending.Open = refl
-is_called ending.Stuck = refl
-is_called ending.Lost = refl
-is_called ending.Short = refl
-is_called ending.Reached = refl
-
 followed_ending : (read : Result Ending Refusal) (result : Ending) → ending_reply result ≡ reply_by ending_reply read → read ≡ Ok result
-followed_ending (Ok given) result e =
-    ap Ok (sym (is_called given) ∙ ap (λ (r : Reply). ending_called r.output) (sym e) ∙ is_called result)
+followed_ending (Ok given) result e = ap Ok (same_ending given result [] [] (ap (λ (r : Reply). (codes "fails " ++ r.output) ++ []) (sym e)))
 followed_ending (Err refusal) result e = absurd (never_refused result (ap (λ (r : Reply). r.status) e))
   where
     never_refused : (one : Ending) → ending_status one ≡ Refused → ⊥
-    never_refused ending.Open e = cc
-    never_refused ending.Stuck e = cc
-    never_refused ending.Lost e = cc
-    never_refused ending.Short e = cc
     never_refused ending.Reached e = cc
+    never_refused one e = cc
 
 -- the ending of a record is that of its outcome
 outcome_is : (over : Option Outcome) (stuck : Bool) → over ≡ outcome_with (ending_without over stuck)

@@ -54,29 +54,16 @@ pub found_means : (input : List ℕ) (problem : Setup) (found : Option (List Nod
     → Solves input (found_reply found)
 found_means input problem (Some plan) spelled found =
     let sure = sure_law problem plan spelled.problem_is found in
-    record {
-      problem = problem;
-      plan = plan;
-      spelled = spelled;
-      plan_is = refl;
-      sure = sure;
-      goes_on = sure_goes_on problem plan sure;
-      ends = ends problem spelled.problem_is;
-    }
+    let on = sure_goes_on problem plan sure in
+    record { problem = problem; plan = plan; spelled = spelled; plan_is = refl; sure = sure; goes_on = on; ends = ends problem spelled.problem_is }
 found_means input problem None spelled found = (record { problem = problem; spelled = spelled; none = none_law problem spelled.problem_is found }, refl)
 
 problem_means : (input : List ℕ) (problem : Setup) (reply : Reply) → SpellsProblem input problem → AnswersProblem problem reply → Solves input reply
 problem_means input problem reply spelled (inl answer) = subst (Solves input) (sym answer.3) (found_means input problem answer.0 spelled answer.1)
 problem_means input problem reply spelled (inr answer) =
     let large = answer.0 in
-    subst (Solves input) (sym answer.1) (inr (
-      record {
-        problem = problem;
-        spelled = spelled;
-        some = record { plan = large.0; sure = sure_law problem large.0 spelled.problem_is large.1 };
-      },
-      refl,
-    ))
+    subst (Solves input) (sym answer.1)
+    (inr (record { problem = problem; spelled = spelled; some = record { plan = large.0; sure = sure_law problem large.0 spelled.problem_is large.1 } }, refl))
 
 solve_means : (input : List ℕ) (said : Result Setup Refusal) (reply : Reply) → problem_of_input input ≡ said → AnswersSolve said reply → Solves input reply
 solve_means input (Ok problem) reply asked answers = problem_means input problem reply (problem_accepted input problem asked) answers

@@ -1,8 +1,9 @@
 -- Worked examples of what the jobs read in an input, and of when they may ask for memory.
-use Rattle.std.proofs.Common.{arith, ◌≡◌, ◌∙◌, refl, sym, ap, subst, inl, inr, false, ℕ, List, [], ◌∷◌, ◌++◌, codes, length, map, Ok, Err}
+use Rattle.std.proofs.Common.{arith, ◌≡◌, ◌∙◌, refl, sym, ap, subst, inl, inr, false, ℕ, List, [], ◌∷◌, ◌++◌, codes, length, map, Result, Ok, Err}
 use Rattle.std.proofs.lemmas.Bool.{both_ways}
 use Rattle.std.specs.Fmt.{digits}
 use Rattle.crib_text.specs.Reading.{◌>>=◌}
+use Rattle.crib_text.specs.Refusals.{Refusal}
 use Rattle.crib_board.specs.Board.{board_of, right_in, row_line, row_lines, score_columns, track_line, track_lines}
 use Rattle.crib_game.specs.declared.following.ending.Ending.TheVariants as ending
 use Rattle.crib_input.proofs.InputReaders.{read_count, read_played, read_played_under, read_problem, read_question, refused}
@@ -36,105 +37,55 @@ abbrev game_section : List ℕ → List ℕ
 game_section act = codes "game 1\nhold AC AD AH AS\nthrow 3C 3D\nacts 1\n" ++ act ++ codes "\n"
 
 -- ---- a game is judged against its problem and its plan, and refused at the line of its act
-pub card_not_held : (report_of_input (problem_section ++ game_section (codes "own KC")) >>= λ report. Ok (length report.rows.items)) ≡ refused 12 41
-unfolding read_played report_of_input
-card_not_held = refl
+-- how many rows the report of an input has
+abbrev rows_in : List ℕ → Result ℕ Refusal
+rows_in input = report_of_input input >>= λ report. Ok (length report.rows.items)
 
-pub one_row : (report_of_input (problem_section ++ game_section (codes "own 2C")) >>= λ report. Ok (length report.rows.items)) ≡ Ok 1
+-- the reading of the whole input comes before the judgement of the game
+pub rows_of_reports : map (λ act. rows_in (problem_section ++ game_section act)) (codes "own KC" ∷ codes "own 2C" ∷ codes "own KC\n" ∷ [])
+    ≡ refused 12 41 ∷ Ok 1 ∷ refused 13 8 ∷ []
 unfolding read_played report_of_input
-one_row = refl
+rows_of_reports = refl
 
 pub board_of_a_card_not_held : board_of_input (problem_section ++ game_section (codes "own KC")) ≡ refused 12 41
 unfolding read_played board_of_input
 board_of_a_card_not_held = refl
 
-pub card_that_strays : ending_of_input (problem_section ++ plan_section ++ game_section (codes "own 2D")) ≡ refused 15 46
+-- the first card strays from the plan
+pub endings_of_games : map (λ act. ending_of_input (problem_section ++ plan_section ++ game_section act)) (codes "own 2D" ∷ codes "own 2C" ∷ [])
+    ≡ refused 15 46 ∷ Ok ending.Open ∷ []
 unfolding read_played_under ending_of_input
-card_that_strays = refl
-
-pub open_game : ending_of_input (problem_section ++ plan_section ++ game_section (codes "own 2C")) ≡ Ok ending.Open
-unfolding read_played_under ending_of_input
-open_game = refl
-
--- the reading of the whole input comes before the judgement of the game
-pub line_after_a_card_not_held :
-    (report_of_input (problem_section ++ game_section (codes "own KC\n")) >>= λ report. Ok (length report.rows.items)) ≡ refused 13 8
-unfolding read_played report_of_input
-line_after_a_card_not_held = refl
+endings_of_games = refl
 
 -- ---- memory: `check` and `follow` may ask for it once the number of nodes is read, whatever the lines after it are
-pub check_asks : AsksForMemory Check (problem_section ++ codes "plan 1\nnodes 1\nx\n")
+pub check_and_follow_ask : AsksForMemory Check (problem_section ++ codes "plan 1\nnodes 1\nx\n")
+    × AsksForMemory Follow (problem_section ++ codes "plan 1\nnodes 1\nx\n")
+    × (AsksForMemory Check (problem_section ++ codes "plan 1\nnodes 65536\n") → ⊥) × (AsksForMemory Follow problem_section → ⊥)
 unfolding read_count
-check_asks = refl
-
-pub follow_asks : AsksForMemory Follow (problem_section ++ codes "plan 1\nnodes 1\nx\n")
-unfolding read_count
-follow_asks = refl
-
-pub check_asks_not_for_too_many : AsksForMemory Check (problem_section ++ codes "plan 1\nnodes 65536\n") → ⊥
-unfolding read_count
-check_asks_not_for_too_many asks = absurd (both_ways false refl asks)
-
-pub follow_asks_not_without_a_plan : AsksForMemory Follow problem_section → ⊥
-unfolding read_count
-follow_asks_not_without_a_plan asks = absurd (both_ways false refl asks)
+check_and_follow_ask = (refl, refl, λ asks. absurd (both_ways false refl asks), λ asks. absurd (both_ways false refl asks))
 
 -- `solve` and `board` ask for it only if the whole input is not refused
-pub solve_asks : AsksForMemory Solve problem_section
-unfolding read_problem
-solve_asks = refl
-
-pub solve_asks_not_with_a_plan : AsksForMemory Solve (problem_section ++ plan_section) → ⊥
-unfolding read_problem
-solve_asks_not_with_a_plan asks = absurd (both_ways false refl asks)
-
-pub board_asks : AsksForMemory Board (problem_section ++ game_section (codes "own 2C"))
-unfolding read_played board_of_input
-board_asks = refl
-
-pub board_asks_not_for_a_card_not_held : AsksForMemory Board (problem_section ++ game_section (codes "own KC")) → ⊥
-unfolding read_played board_of_input
-board_asks_not_for_a_card_not_held asks = absurd (both_ways false refl asks)
+pub solve_and_board_ask : AsksForMemory Solve problem_section × (AsksForMemory Solve (problem_section ++ plan_section) → ⊥)
+    × AsksForMemory Board (problem_section ++ game_section (codes "own 2C")) × (AsksForMemory Board (problem_section ++ game_section (codes "own KC")) → ⊥)
+unfolding read_problem read_played board_of_input
+solve_and_board_ask = (refl, λ asks. absurd (both_ways false refl asks), refl, λ asks. absurd (both_ways false refl asks))
 
 -- ---- the right replies to an empty input, and to a game that is open under its plan
 abbrev cut_short_at_1 : Reply
 cut_short_at_1 = record { output = codes "refused line 1: 3\n"; status = Refused }
 
-pub replay_of_nothing : Answers Replay [] cut_short_at_1
-unfolding read_played report_of_input digits
-replay_of_nothing = refl
+pub replies_to_nothing : Answers Replay [] cut_short_at_1 × Answers Follow [] cut_short_at_1 × Answers Check [] cut_short_at_1
+    × Answers Solve [] cut_short_at_1 × Answers Board [] cut_short_at_1
+unfolding read_played read_played_under read_question read_problem report_of_input ending_of_input board_of_input digits
+replies_to_nothing = (refl, refl, refl, refl, refl)
 
-pub follow_of_nothing : Answers Follow [] cut_short_at_1
-unfolding read_played_under ending_of_input digits
-follow_of_nothing = refl
-
-pub check_of_nothing : Answers Check [] cut_short_at_1
-unfolding read_question digits
-check_of_nothing = refl
-
-pub solve_of_nothing : Answers Solve [] cut_short_at_1
-unfolding read_problem digits
-solve_of_nothing = refl
-
-pub board_of_nothing : Answers Board [] cut_short_at_1
-unfolding read_played board_of_input digits
-board_of_nothing = refl
-
-pub check_of_a_bad_node : Answers Check (problem_section ++ codes "plan 1\nnodes 1\nx\n") (record { output = codes "refused line 10: 4\n"; status = Refused })
-unfolding read_question digits
-check_of_a_bad_node = refl
-
-pub solve_of_a_problem_and_a_plan : Answers Solve (problem_section ++ plan_section) (record { output = codes "refused line 8: 8\n"; status = Refused })
-unfolding read_problem digits
-solve_of_a_problem_and_a_plan = refl
-
-pub follow_to_an_open_end : Answers Follow (problem_section ++ plan_section ++ game_section (codes "own 2C")) (record { output = codes "open\n"; status = No })
-unfolding read_played_under ending_of_input
-follow_to_an_open_end = refl
-
-pub replay_of_one_act : Answers Replay (problem_section ++ game_section (codes "own 2C")) (record { output = codes "play 0 0\nopen\n"; status = Yes })
-unfolding read_played report_of_input digits play_line
-replay_of_one_act = refl
+-- `check` of a bad node, `solve` of a problem and a plan, and a game of one act
+pub replies_by_job : Answers Check (problem_section ++ codes "plan 1\nnodes 1\nx\n") (record { output = codes "refused line 10: 4\n"; status = Refused })
+    × Answers Solve (problem_section ++ plan_section) (record { output = codes "refused line 8: 8\n"; status = Refused })
+    × Answers Follow (problem_section ++ plan_section ++ game_section (codes "own 2C")) (record { output = codes "open\n"; status = No })
+    × Answers Replay (problem_section ++ game_section (codes "own 2C")) (record { output = codes "play 0 0\nopen\n"; status = Yes })
+unfolding read_question read_problem read_played read_played_under ending_of_input report_of_input digits play_line
+replies_by_job = (refl, refl, refl, refl)
 
 pub board_of_one_act : Answers Board (problem_section ++ game_section (codes "own 2C")) (record {
   output =
@@ -152,13 +103,9 @@ board_of_one_act = refl
 abbrev fault_11 : Reply
 fault_11 = record { output = codes "fault 11\n"; status = Fault }
 
-pub check_may_run_out_of_memory : Makes Check (problem_section ++ plan_section) fault_11
-unfolding read_count digits
-check_may_run_out_of_memory = inr (refl, refl)
-
-pub check_makes_its_reply : Makes Check [] cut_short_at_1
-unfolding read_question digits
-check_makes_its_reply = inl refl
+pub check_makes : Makes Check (problem_section ++ plan_section) fault_11 × Makes Check [] cut_short_at_1
+unfolding read_count read_question digits
+check_makes = (inr (refl, refl), inl refl)
 
 pub replay_never_runs_out_of_memory : Makes Replay [] fault_11 → ⊥
 unfolding read_played report_of_input digits
@@ -176,11 +123,10 @@ pub names_of_jobs : map name_of (Replay ∷ Follow ∷ Check ∷ Solve ∷ Board
 names_of_jobs = refl
 
 -- ---- a refused input spells nothing, whatever the text is
-pub refused_check : (input text : List ℕ) → CheckMeans input text Refused ≡ ((problem : Setup) (plan : List Node) → SpellsPlan input problem plan → ⊥)
-refused_check input text = refl
-
-pub refused_solve : (input text : List ℕ) → SolveMeans input text Refused ≡ ((problem : Setup) → SpellsProblem input problem → ⊥)
-refused_solve input text = refl
+pub refused_inputs : (input text : List ℕ) →
+    (CheckMeans input text Refused ≡ ((problem : Setup) (plan : List Node) → SpellsPlan input problem plan → ⊥))
+    × (SolveMeans input text Refused ≡ ((problem : Setup) → SpellsProblem input problem → ⊥))
+refused_inputs input text = (refl, refl)
 
 abbrev two_acts : Game
 two_acts = record {
@@ -201,12 +147,9 @@ board_as_it_is = refl
 abbrev a_row : ℕ → Row
 a_row points = record { act = record { side = Owner; what = Go }; count = 30; points = 1; scores = record { owner = points; opponent = 70 } }
 
-pub scores_after_rows : last_scores (record { owner = 60; opponent = 70 }) (a_row 61 ∷ a_row 62 ∷ a_row 61 ∷ a_row 63 ∷ [])
-    ≡ record { owner = 63; opponent = 70 }
+pub scores_after_rows : map (last_scores (record { owner = 60; opponent = 70 })) ((a_row 61 ∷ a_row 62 ∷ a_row 61 ∷ a_row 63 ∷ []) ∷ [] ∷ [])
+    ≡ record { owner = 63; opponent = 70 } ∷ record { owner = 60; opponent = 70 } ∷ []
 scores_after_rows = refl
-
-pub scores_without_rows : last_scores (record { owner = 60; opponent = 70 }) [] ≡ record { owner = 60; opponent = 70 }
-scores_without_rows = refl
 
 -- one report makes the replies of `replay` and of `board`
 pub reported_scores : (input : List ℕ) (problem : Setup) (game : Game) (is : IsReported input problem game) → is.report.rows.items ≡ [] →
@@ -225,9 +168,6 @@ pub reported_input : (problem : Setup) (game : Game) → IsReported [] problem g
 unfolding problem_text problem_lines
 reported_input problem game is = (let text = is.spelled.text in cc)
 
-pub reported_board : (input : List ℕ) (problem : Setup) (game : Game) (is : IsReported input problem game) →
-    Answers Board input (board_reply (board_of problem is.report))
-reported_board input problem game is = is.drawn
-
-pub reported_replay : (input : List ℕ) (problem : Setup) (game : Game) (is : IsReported input problem game) → Answers Replay input (report_reply is.report)
-reported_replay input problem game is = is.replayed
+pub reported_replies : (input : List ℕ) (problem : Setup) (game : Game) (is : IsReported input problem game) →
+    Answers Board input (board_reply (board_of problem is.report)) × Answers Replay input (report_reply is.report)
+reported_replies input problem game is = (is.drawn, is.replayed)

@@ -1,5 +1,5 @@
 -- The text that the code puts together is the line that the definition states.
-use Rattle.std.proofs.Common.{◌≡◌, ℕ, List, [], ◌∷◌, ◌++◌, codes, decimal, refl, sym, ap, ◌∙◌, append_assoc, Option}
+use Rattle.std.proofs.Common.{◌≡◌, ℕ, List, [], ◌∷◌, ◌++◌, codes, decimal, refl, sym, ap, append_assoc, Option}
 use Rattle.std.specs.List.{flat_map}
 use Rattle.crib_text.specs.Spelling.{space, line_feed, line_text}
 use Rattle.crib_cards.specs.declared.sides.Scores.{Scores}
@@ -8,7 +8,6 @@ use Rattle.crib_show.specs.declared.show.outcomes.Outcome.{Outcome}
 use Rattle.crib_show.specs.Words.{outcome_word, show_word}
 use Rattle.crib_cards.specs.Words.{side_word}
 use Rattle.crib_game.specs.declared.following.ending.Ending.{Ending}
-use Rattle.crib_game.specs.declared.following.ending.Ending.TheVariants as ending
 use Rattle.crib_game.specs.Words.{ending_word}
 use Rattle.crib_answer.specs.Answer.{counted_line, play_line}
 use Rattle.crib_answer.specs.Private.Replies.{score_tail}
@@ -20,12 +19,7 @@ unfolding score_tail
 scores_written old scores = regroup old (decimal scores.owner) (decimal scores.opponent)
   where
     regroup : (old a b : List ℕ) → ((((old ++ codes " ") ++ a) ++ codes " ") ++ b) ++ codes "\n" ≡ old ++ space ∷ ((a ++ space ∷ b) ++ line_feed ∷ [])
-    regroup old a b =
-        append_assoc (((old ++ codes " ") ++ a) ++ codes " ") b (codes "\n")
-        ∙ append_assoc ((old ++ codes " ") ++ a) (codes " ") (b ++ codes "\n")
-        ∙ append_assoc (old ++ codes " ") a (space ∷ (b ++ codes "\n"))
-        ∙ append_assoc old (codes " ") (a ++ space ∷ (b ++ codes "\n"))
-        ∙ ap (λ (rest : List ℕ). old ++ space ∷ rest) (sym (append_assoc a (space ∷ b) (codes "\n")))
+    regroup old a b = simp append_assoc
 
 pub ruleset score_tails = (scores_written)
 
@@ -39,19 +33,7 @@ counted_written old row = regroup old (show_word row.crib) (side_word row.side) 
     regroup : (old word side points a b : List ℕ)
         → (((((old ++ word) ++ codes " ") ++ side) ++ codes " ") ++ points) ++ (space ∷ ((a ++ space ∷ b) ++ line_feed ∷ []))
         ≡ old ++ ((word ++ space ∷ (side ++ space ∷ (points ++ space ∷ (a ++ space ∷ b)))) ++ line_feed ∷ [])
-    regroup old word side points a b =
-        let scores = a ++ space ∷ b in
-        let tail = space ∷ (scores ++ line_feed ∷ []) in
-        append_assoc ((((old ++ word) ++ codes " ") ++ side) ++ codes " ") points tail
-        ∙ append_assoc (((old ++ word) ++ codes " ") ++ side) (codes " ") (points ++ tail)
-        ∙ append_assoc ((old ++ word) ++ codes " ") side (space ∷ (points ++ tail))
-        ∙ append_assoc (old ++ word) (codes " ") (side ++ space ∷ (points ++ tail))
-        ∙ append_assoc old word (space ∷ (side ++ space ∷ (points ++ tail)))
-        ∙ ap (λ (rest : List ℕ). old ++ rest)
-        (ap (λ (rest : List ℕ). word ++ space ∷ rest)
-        (ap (λ (rest : List ℕ). side ++ space ∷ rest) (sym (append_assoc points (space ∷ scores) (line_feed ∷ [])))
-        ∙ sym (append_assoc side (space ∷ (points ++ space ∷ scores)) (line_feed ∷ [])))
-        ∙ sym (append_assoc word (space ∷ (side ++ space ∷ (points ++ space ∷ scores))) (line_feed ∷ [])))
+    regroup old word side points a b = simp append_assoc
 
 pub ruleset counted_lines = (counted_written)
 
@@ -77,16 +59,9 @@ pub ruleset reports = (report_written)
 pub holds_written : line_text (codes "holds" ∷ []) ≡ codes "holds\n"
 holds_written = refl
 
-fails_line : (result : Ending) → codes "fails " ++ line_text (ending_word result ∷ []) ≡ line_text (codes "fails" ∷ ending_word result ∷ [])
-fails_line ending.Open = refl
-fails_line ending.Stuck = refl
-fails_line ending.Lost = refl
-fails_line ending.Short = refl
-fails_line ending.Reached = refl
-
 pub fails_written : (result : Ending) (game : List ℕ)
     → (([] ++ codes "fails ") ++ line_text (ending_word result ∷ [])) ++ game ≡ line_text (codes "fails" ∷ ending_word result ∷ []) ++ game
-fails_written result game = ap (λ (front : List ℕ). front ++ game) (fails_line result)
+fails_written result game = refl
 
 pub ruleset verdicts = (holds_written, fails_written)
 

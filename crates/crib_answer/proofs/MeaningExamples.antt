@@ -55,45 +55,23 @@ nothing_is_written problem (inr large) = (let text = ap (λ (reply : Reply). rep
 pub solved_by_its_problem : (problem : Setup) (reply : Reply) → AnswersSolve (Ok problem) reply ≡ AnswersProblem problem reply
 solved_by_its_problem problem reply = refl
 
--- ---- a sure plan is sure, goes on and ends
-pub sure_plan_is_sure : (input : List ℕ) → ((problem : Setup) (plan : List Node) → IsSure problem plan → ⊥) → HasSurePlan input → ⊥
-sure_plan_is_sure input none has = none has.problem has.plan has.sure
+-- ---- a sure plan is spelled, is sure, goes on and ends, and so is one that is found
+pub sure_plan : (input : List ℕ) (has : HasSurePlan input) →
+    SpellsPlan input has.problem has.plan × IsSure has.problem has.plan × GoesOn has.problem has.plan × Ends has.problem
+sure_plan input has = (has.spelled, has.sure, has.goes_on, has.ends)
 
-pub sure_plan_goes_on : (input : List ℕ) → ((problem : Setup) (plan : List Node) → GoesOn problem plan → ⊥) → HasSurePlan input → ⊥
-sure_plan_goes_on input none has = none has.problem has.plan has.goes_on
-
-pub play_of_a_sure_plan_ends : (input : List ℕ) → ((problem : Setup) → Ends problem → ⊥) → HasSurePlan input → ⊥
-play_of_a_sure_plan_ends input none has = none has.problem has.ends
-
-pub sure_plan_is_spelled : (input : List ℕ) → ((problem : Setup) (plan : List Node) → SpellsPlan input problem plan → ⊥) → HasSurePlan input → ⊥
-sure_plan_is_spelled input none has = none has.problem has.plan has.spelled
-
-pub found_plan_is_sure : (input text : List ℕ) → ((problem : Setup) (plan : List Node) → IsSure problem plan → ⊥) → IsSolvedBy input text → ⊥
-found_plan_is_sure input text none is = none is.problem is.plan is.sure
-
-pub found_plan_goes_on : (input text : List ℕ) → ((problem : Setup) (plan : List Node) → GoesOn problem plan → ⊥) → IsSolvedBy input text → ⊥
-found_plan_goes_on input text none is = none is.problem is.plan is.goes_on
-
-pub play_of_a_found_plan_ends : (input text : List ℕ) → ((problem : Setup) → Ends problem → ⊥) → IsSolvedBy input text → ⊥
-play_of_a_found_plan_ends input text none is = none is.problem is.ends
-
-pub problem_of_a_found_plan : (input text : List ℕ) → ((problem : Setup) → SpellsProblem input problem → ⊥) → IsSolvedBy input text → ⊥
-problem_of_a_found_plan input text none is = none is.problem is.spelled
+pub found_plan : (input text : List ℕ) (is : IsSolvedBy input text) →
+    SpellsProblem input is.problem × IsSure is.problem is.plan × GoesOn is.problem is.plan × Ends is.problem
+found_plan input text is = (is.spelled, is.sure, is.goes_on, is.ends)
 
 -- ---- no plan, and some plan
-pub no_plan_is_sure : (input : List ℕ) → ((problem : Setup) → IsWinnable problem) → HasNoPlan input → ⊥
-no_plan_is_sure input all has = has.none (all has.problem)
+pub problem_without_a_plan : (input : List ℕ) (has : HasNoPlan input) → SpellsProblem input has.problem × (((problem : Setup) → IsWinnable problem) → ⊥)
+problem_without_a_plan input has = (has.spelled, λ all. has.none (all has.problem))
 
-pub problem_without_a_plan : (input : List ℕ) → ((problem : Setup) → SpellsProblem input problem → ⊥) → HasNoPlan input → ⊥
-problem_without_a_plan input none has = none has.problem has.spelled
-
-pub problem_with_some_plan : (input : List ℕ) → ((problem : Setup) → SpellsProblem input problem → ⊥) → HasSomePlan input → ⊥
-problem_with_some_plan input none has = none has.problem has.spelled
+pub problem_with_some_plan : (input : List ℕ) (has : HasSomePlan input) → SpellsProblem input has.problem
+problem_with_some_plan input has = has.spelled
 
 -- ---- what `solve` guarantees
-pub solved_by_its_text : (input text : List ℕ) → SolveMeans input text Yes ≡ IsSolvedBy input text
-solved_by_its_text input text = refl
-
 pub too_large_for_some_plan : (input : List ℕ) → HasSomePlan input → SolveMeans input (codes "fault 50\n") Fault
 unfolding digits
 too_large_for_some_plan input has = inr (has, refl)
@@ -110,9 +88,8 @@ doubled_byte_of_a_fault input (inr has) = (let byte : 102 ≡ 97 = ap (λ bytes.
 pub doubled_byte_of_holds : (input : List ℕ) → CheckMeans input (codes "hholds\n") Yes → ⊥
 doubled_byte_of_holds input means = (let byte : 104 ≡ 111 = ap (λ bytes. slice_index bytes 1) means.1 in absurd (omega (arith, byte)))
 
-pub status_of_solve : (input text : List ℕ) → StatusMeans Solve input (record { output = text; status = Yes }) ≡ SolveMeans input text Yes
-status_of_solve input text = refl
-
-pub follow_and_board_mean_nothing : (text : List ℕ) →
-    StatusMeans Follow [] (record { output = text; status = Yes }) × StatusMeans Board [] (record { output = text; status = Yes })
-follow_and_board_mean_nothing text = (tt, tt)
+-- what the reply of each job guarantees
+pub meaning_by_job : (input text : List ℕ) → (StatusMeans Solve input (record { output = text; status = Yes }) ≡ SolveMeans input text Yes)
+    × (SolveMeans input text Yes ≡ IsSolvedBy input text) × StatusMeans Follow [] (record { output = text; status = Yes })
+    × StatusMeans Board [] (record { output = text; status = Yes })
+meaning_by_job input text = (refl, refl, tt, tt)

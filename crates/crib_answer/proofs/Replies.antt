@@ -1,6 +1,7 @@
 -- The laws of the replies, as `specs/Laws` states them.
-use Rattle.std.proofs.Common.{◌≡◌, ◌⊎◌, inl, inr, ℕ, eqb, cond, List, [], ◌∷◌, ◌++◌, drop, Option, Some, None, Result, Ok, Err, codes, refl}
-use Rattle.std.proofs.Common.{sym, ap, ◌∙◌, subst, arith}
+use Rattle.std.proofs.Common.{◌≡◌, ◌⊎◌, inl, inr, ℕ, eqb, false, cond, List, [], ◌∷◌, ◌++◌, drop, Some, None, Result, Ok, Err, codes, refl}
+use Rattle.std.proofs.Common.{sym, ap, ◌∙◌, subst}
+use Rattle.std.proofs.lemmas.Bool.{both_ways, eq-eqb}
 use Rattle.std.proofs.lemmas.List.{append_cancel_left}
 use Rattle.crib_text.specs.Refusals.{Refusal}
 use Rattle.crib_problem.specs.Setup.{Setup, IsSetup}
@@ -11,11 +12,9 @@ use Rattle.crib_game.specs.declared.section.game.Game.{Game}
 use Rattle.crib_game.specs.declared.following.ending.Ending.{Ending}
 use Rattle.crib_game.specs.declared.following.ending.Ending.TheVariants as ending
 use Rattle.crib_game.specs.Spelling.{game_text}
-use Rattle.crib_check.specs.declared.verdict.Verdict.{Verdict}
 use Rattle.crib_check.specs.declared.verdict.Verdict.TheVariants.{Holds, Fails}
 use Rattle.crib_check.specs.Sure.{IsSure}
 use Rattle.crib_check.specs.Failing.{IsFirstFailing}
-use Rattle.crib_check.specs.Verdicts.{IsRight}
 use Rattle.crib_check.proofs.VerdictAtStart.{ends, sure_goes_on}
 use Rattle.crib_check.proofs.OneFirstGame.{same_law}
 use Rattle.crib_search.specs.Finder.{IsFound, ExceedsLimit}
@@ -25,7 +24,7 @@ use Rattle.crib_answer.specs.declared.job.Job.TheVariants.{Replay, Follow, Check
 use Rattle.crib_input.specs.Input.{problem_of_input, question_of_input}
 use Rattle.crib_run.specs.Reply.{Reply}
 use Rattle.crib_run.specs.Reply.{refusal_reply, fault_reply}
-use Rattle.crib_answer.specs.Answer.{AnswersCheck, AnswersProblem, AnswersSolve, verdict_reply, found_reply, too_large}
+use Rattle.crib_answer.specs.Answer.{AnswersCheck, AnswersSolve, verdict_reply, found_reply, too_large}
 use Rattle.crib_answer.specs.Laws.{OneReplyLaw, HoldsLaw, FailsLaw, EitherLaw, SureLaw, FailingLaw, PlanLaw, NoneLaw}
 use Rattle.crib_answer.specs.Meaning.{holds_line, fails_line, none_line}
 use Rattle.crib_input.proofs.Inputs.{problem_accepted, question_accepted, question_spelled}
@@ -36,9 +35,12 @@ abbrev pub first_byte : List ℕ → ℕ
 first_byte [] = 0
 first_byte (byte ∷ bytes) = byte
 
--- the first byte of a reply that has a text as its output
-pub first_of : (reply stated : Reply) (text : List ℕ) → reply ≡ stated → reply.output ≡ text → first_byte stated.output ≡ first_byte text
-first_of reply stated text is e = ap (λ (r : Reply). first_byte r.output) (sym is) ∙ ap first_byte e
+-- a reply has no text as its output that begins with another byte
+pub no_output : {X : Type 0} (reply stated : Reply) (text : List ℕ) → eqb (first_byte stated.output) (first_byte text) ≡ false → reply ≡ stated →
+    reply.output ≡ text → X
+no_output reply stated text apart is e =
+    absurd (both_ways (eqb (first_byte stated.output) (first_byte text)) apart
+    (eq-eqb (first_byte stated.output) (first_byte text) (ap (λ (r : Reply). first_byte r.output) (sym is) ∙ ap first_byte e)))
 
 -- ---- the words of endings differ in their second letter
 
@@ -54,7 +56,7 @@ ending_in ending.Lost text = refl
 ending_in ending.Short text = refl
 ending_in ending.Reached text = refl
 
-same_ending : (one other : Ending) (text more : List ℕ) → fails_line one ++ text ≡ fails_line other ++ more → one ≡ other
+pub same_ending : (one other : Ending) (text more : List ℕ) → fails_line one ++ text ≡ fails_line other ++ more → one ≡ other
 same_ending one other text more e = sym (ending_in one text) ∙ ap (λ (bytes : List ℕ). ending_with (first_byte (drop 7 bytes))) e ∙ ending_in other more
 
 -- ---- check
@@ -72,26 +74,15 @@ record IsFailed (said : Result (Setup × List Node) Refusal) (result : Ending) (
   text_is : text ≡ game_text game
   first : IsFirstFailing question.0 question.1 game result
 
-holds_verdict : (question : Setup × List Node) (verdict : Verdict) (reply : Reply) → IsRight question.0 question.1 verdict → reply ≡ verdict_reply verdict
-    → reply.output ≡ holds_line → IsHeld (Ok question)
-holds_verdict question Holds reply right is e = record { question = question; asked = refl; sure = right }
-holds_verdict question (Fails result game) reply right is e =
-    let f : ◌≡◌ {A = ℕ} 102 104 = first_of reply (verdict_reply (Fails result game)) holds_line is e in
-    absurd (omega arith)
-
 held_by_output : (said : Result (Setup × List Node) Refusal) (reply : Reply) → AnswersCheck said reply → reply.output ≡ holds_line → IsHeld said
-held_by_output (Ok question) reply answers e = holds_verdict question answers.0 reply answers.1 answers.2 e
-held_by_output (Err refusal) reply is e =
-    let f : ◌≡◌ {A = ℕ} 114 104 = first_of reply (refusal_reply refusal) holds_line is e in
-    absurd (omega arith)
+held_by_output (Ok question) reply (Holds, right, is) e = record { question = question; asked = refl; sure = right }
+held_by_output (Ok question) reply (Fails result game, right, is) e = no_output reply (verdict_reply (Fails result game)) holds_line refl is e
+held_by_output (Err refusal) reply is e = no_output reply (refusal_reply refusal) holds_line refl is e
 
-fails_verdict : (question : Setup × List Node) (verdict : Verdict) (reply : Reply) (result : Ending) (text : List ℕ) → IsRight question.0 question.1 verdict
-    → reply ≡ verdict_reply verdict
-    → reply.output ≡ fails_line result ++ text → IsFailed (Ok question) result text
-fails_verdict question Holds reply result text right is e =
-    let f : ◌≡◌ {A = ℕ} 104 102 = first_of reply (verdict_reply Holds) (fails_line result ++ text) is e in
-    absurd (omega arith)
-fails_verdict question (Fails stated game) reply result text right is e =
+failed_by_output : (said : Result (Setup × List Node) Refusal) (reply : Reply) (result : Ending) (text : List ℕ) → AnswersCheck said reply
+    → reply.output ≡ fails_line result ++ text → IsFailed said result text
+failed_by_output (Ok question) reply result text (Holds, right, is) e = no_output reply (verdict_reply Holds) (fails_line result ++ text) refl is e
+failed_by_output (Ok question) reply result text (Fails stated game, right, is) e =
     let whole : fails_line stated ++ game_text game ≡ fails_line result ++ text = ap (λ (r : Reply). r.output) (sym is) ∙ e in
     let same : stated ≡ result = same_ending stated result (game_text game) text whole in
     let cut : fails_line result ++ game_text game ≡ fails_line result ++ text = ap (λ (r : Ending). fails_line r ++ game_text game) (sym same) ∙ whole in
@@ -102,13 +93,7 @@ fails_verdict question (Fails stated game) reply result text right is e =
       text_is = sym (append_cancel_left (fails_line result) (game_text game) text cut);
       first = subst (λ (r : Ending). IsFirstFailing question.0 question.1 game r) same right;
     }
-
-failed_by_output : (said : Result (Setup × List Node) Refusal) (reply : Reply) (result : Ending) (text : List ℕ) → AnswersCheck said reply
-    → reply.output ≡ fails_line result ++ text → IsFailed said result text
-failed_by_output (Ok question) reply result text answers e = fails_verdict question answers.0 reply result text answers.1 answers.2 e
-failed_by_output (Err refusal) reply result text is e =
-    let f : ◌≡◌ {A = ℕ} 114 102 = first_of reply (refusal_reply refusal) (fails_line result ++ text) is e in
-    absurd (omega arith)
+failed_by_output (Err refusal) reply result text is e = no_output reply (refusal_reply refusal) (fails_line result ++ text) refl is e
 
 pub holds_law : HoldsLaw
 holds_law input reply answers e =
@@ -135,26 +120,19 @@ fails_law input reply result text answers e =
       first = failed.first;
     }
 
-either_verdict : (verdict : Verdict) (reply : Reply) → reply ≡ verdict_reply verdict
-    → (reply ≡ verdict_reply Holds) ⊎ ((result : Ending) × (game : Game) × (reply ≡ verdict_reply (Fails result game)))
-either_verdict Holds reply is = inl is
-either_verdict (Fails result game) reply is = inr (result, game, is)
-
 pub either_law : EitherLaw
-either_law input problem plan reply spelled answers =
-    let A : Result (Setup × List Node) Refusal → Type 0 = λ said. AnswersCheck said reply in
-    let asked = subst A (question_spelled input problem plan spelled) answers in
-    either_verdict asked.0 reply asked.2
+either_law input problem plan reply spelled answers = by (rw (question_spelled input problem plan spelled) at answers)
+  where
+    by : AnswersCheck (Ok (problem, plan)) reply →
+        (reply ≡ verdict_reply Holds) ⊎ ((result : Ending) × (game : Game) × (reply ≡ verdict_reply (Fails result game)))
+    by (Holds, right, is) = inl is
+    by (Fails result game, right, is) = inr (result, game, is)
 
 pub sure_owed : SureLaw
-sure_owed input problem plan spelled sure =
-    let A : Result (Setup × List Node) Refusal → Type 0 = λ said. AnswersCheck said (verdict_reply Holds) in
-    subst A (sym (question_spelled input problem plan spelled)) (Holds, sure, refl)
+sure_owed input problem plan spelled sure = rw (question_spelled input problem plan spelled) (Holds, sure, refl)
 
 pub failing_owed : FailingLaw
-failing_owed input problem plan result game spelled first =
-    let A : Result (Setup × List Node) Refusal → Type 0 = λ said. AnswersCheck said (verdict_reply (Fails result game)) in
-    subst A (sym (question_spelled input problem plan spelled)) (Fails result game, first, refl)
+failing_owed input problem plan result game spelled first = rw (question_spelled input problem plan spelled) (Fails result game, first, refl)
 
 -- ---- solve
 
@@ -171,47 +149,20 @@ record IsUnplanned (said : Result Setup Refusal) : Type 0 where
   asked : said ≡ Ok problem
   found : IsFound problem None
 
-plan_reply : (problem : Setup) (found : Option (List Node)) (reply : Reply) (more : List ℕ) → IsFound problem found → ¬ ExceedsLimit problem most_nodes
-    → reply ≡ found_reply found → reply.output ≡ codes "plan" ++ more → IsPlanned (Ok problem) reply.output
-plan_reply problem (Some plan) reply more found small is e =
-    record { problem = problem; plan = plan; asked = refl; output_is = ap (λ (r : Reply). r.output) is; found = found; within = small }
-plan_reply problem None reply more found small is e =
-    let f : ◌≡◌ {A = ℕ} 110 112 = first_of reply (found_reply None) (codes "plan" ++ more) is e in
-    absurd (omega arith)
-
-planned_problem : (problem : Setup) (reply : Reply) (more : List ℕ) → AnswersProblem problem reply → reply.output ≡ codes "plan" ++ more
-    → IsPlanned (Ok problem) reply.output
-planned_problem problem reply more (inl answer) e = plan_reply problem answer.0 reply more answer.1 answer.2 answer.3 e
-planned_problem problem reply more (inr answer) e =
-    let f : ◌≡◌ {A = ℕ} 102 112 = first_of reply (fault_reply too_large) (codes "plan" ++ more) answer.1 e in
-    absurd (omega arith)
-
 pub planned_by_output : (said : Result Setup Refusal) (reply : Reply) (more : List ℕ) → AnswersSolve said reply → reply.output ≡ codes "plan" ++ more
     → IsPlanned said reply.output
-planned_by_output (Ok problem) reply more answers e = planned_problem problem reply more answers e
-planned_by_output (Err refusal) reply more is e =
-    let f : ◌≡◌ {A = ℕ} 114 112 = first_of reply (refusal_reply refusal) (codes "plan" ++ more) is e in
-    absurd (omega arith)
-
-none_reply : (problem : Setup) (found : Option (List Node)) (reply : Reply) → IsFound problem found → reply ≡ found_reply found → reply.output ≡ none_line
-    → IsUnplanned (Ok problem)
-unfolding plan_text plan_lines
-none_reply problem (Some plan) reply found is e =
-    let f : ◌≡◌ {A = ℕ} 112 110 = first_of reply (found_reply (Some plan)) none_line is e in
-    absurd (omega arith)
-none_reply problem None reply found is e = record { problem = problem; asked = refl; found = found }
-
-unplanned_problem : (problem : Setup) (reply : Reply) → AnswersProblem problem reply → reply.output ≡ none_line → IsUnplanned (Ok problem)
-unplanned_problem problem reply (inl answer) e = none_reply problem answer.0 reply answer.1 answer.3 e
-unplanned_problem problem reply (inr answer) e =
-    let f : ◌≡◌ {A = ℕ} 102 110 = first_of reply (fault_reply too_large) none_line answer.1 e in
-    absurd (omega arith)
+planned_by_output (Ok problem) reply more (inl (Some plan, found, small, is)) e =
+    record { problem = problem; plan = plan; asked = refl; output_is = ap (λ (r : Reply). r.output) is; found = found; within = small }
+planned_by_output (Ok problem) reply more (inl (None, found, small, is)) e = no_output reply (found_reply None) (codes "plan" ++ more) refl is e
+planned_by_output (Ok problem) reply more (inr (large, is)) e = no_output reply (fault_reply too_large) (codes "plan" ++ more) refl is e
+planned_by_output (Err refusal) reply more is e = no_output reply (refusal_reply refusal) (codes "plan" ++ more) refl is e
 
 unplanned_by_output : (said : Result Setup Refusal) (reply : Reply) → AnswersSolve said reply → reply.output ≡ none_line → IsUnplanned said
-unplanned_by_output (Ok problem) reply answers e = unplanned_problem problem reply answers e
-unplanned_by_output (Err refusal) reply is e =
-    let f : ◌≡◌ {A = ℕ} 114 110 = first_of reply (refusal_reply refusal) none_line is e in
-    absurd (omega arith)
+unfolding plan_text plan_lines
+unplanned_by_output (Ok problem) reply (inl (Some plan, found, small, is)) e = no_output reply (found_reply (Some plan)) none_line refl is e
+unplanned_by_output (Ok problem) reply (inl (None, found, small, is)) e = record { problem = problem; asked = refl; found = found }
+unplanned_by_output (Ok problem) reply (inr (large, is)) e = no_output reply (fault_reply too_large) none_line refl is e
+unplanned_by_output (Err refusal) reply is e = no_output reply (refusal_reply refusal) none_line refl is e
 
 pub plan_law : PlanLaw
 plan_law input reply more answers e =
@@ -241,15 +192,13 @@ one_verdict : (said : Result (Setup × List Node) Refusal) (one other : Reply) �
 one_verdict (Ok question) one other setups a b = a.2 ∙ ap verdict_reply (same_law question.0 question.1 a.0 b.0 (setups question refl) a.1 b.1) ∙ sym b.2
 one_verdict (Err refusal) one other setups a b = a ∙ sym b
 
-one_solution : (problem : Setup) (one other : Reply) → IsSetup problem → AnswersProblem problem one → AnswersProblem problem other → one ≡ other
-one_solution problem one other setup (inl a) (inl b) = a.3 ∙ ap found_reply (one_law problem a.0 b.0 setup a.1 b.1) ∙ sym b.3
-one_solution problem one other setup (inl a) (inr b) = absurd (a.2 b.0)
-one_solution problem one other setup (inr a) (inl b) = absurd (b.2 a.0)
-one_solution problem one other setup (inr a) (inr b) = a.1 ∙ sym b.1
-
 one_solved : (said : Result Setup Refusal) (one other : Reply) → ((problem : Setup) → said ≡ Ok problem → IsSetup problem) → AnswersSolve said one
     → AnswersSolve said other → one ≡ other
-one_solved (Ok problem) one other setups a b = one_solution problem one other (setups problem refl) a b
+one_solved (Ok problem) one other setups (inl a) (inl b) =
+    a.3 ∙ ap found_reply (one_law problem a.0 b.0 (setups problem refl) a.1 b.1) ∙ sym b.3
+one_solved (Ok problem) one other setups (inl a) (inr b) = absurd (a.2 b.0)
+one_solved (Ok problem) one other setups (inr a) (inl b) = absurd (b.2 a.0)
+one_solved (Ok problem) one other setups (inr a) (inr b) = a.1 ∙ sym b.1
 one_solved (Err refusal) one other setups a b = a ∙ sym b
 
 pub one_reply_law : OneReplyLaw

@@ -1,6 +1,6 @@
 -- The right replies to an input that is too long, to a verdict, and to what the finder finds.
-use Rattle.std.proofs.Common.{◌≡◌, ◌≢◌, ◌⊎◌, ℕ, ◌<◌, List, Option, Some, inl, inr, Result, length, Ok, refl, sym, ap, ◌∙◌, subst}
-use Rattle.crib_text.specs.Refusals.{Refusal, no_memory, too_long}
+use Rattle.std.proofs.Common.{◌≡◌, ◌≢◌, ◌⊎◌, ℕ, ◌<◌, List, Option, Some, inl, inr, length, Ok, refl, ap, ◌∙◌}
+use Rattle.crib_text.specs.Refusals.{no_memory, too_long}
 use Rattle.crib_answer.specs.declared.job.Job.{Job}
 use Rattle.crib_answer.specs.declared.job.Job.TheVariants.{Replay, Follow, Check, Solve, Board}
 use Rattle.crib_problem.specs.Setup.{Setup}
@@ -10,7 +10,7 @@ use Rattle.crib_check.specs.Verdicts.{IsRight}
 use Rattle.crib_check.specs.declared.verdict.Verdict.{Verdict}
 use Rattle.crib_check.specs.declared.verdict.Verdict.TheVariants.{Holds}
 use Rattle.crib_run.specs.Reply.{Reply, fault_reply, refusal_reply}
-use Rattle.crib_answer.specs.Answer.{Answers, AnswersCheck, AnswersProblem, Makes, found_reply, verdict_reply}
+use Rattle.crib_answer.specs.Answer.{Answers, AnswersProblem, Makes, found_reply, verdict_reply}
 use Rattle.crib_search.specs.Finder.{IsFound, ExceedsLimit}
 use Rattle.crib_input.specs.Input.{most_bytes, problem_alone_at, problem_of_input, question_at, question_of_input}
 use Rattle.crib_input.specs.Input.{played_at, played_of_input, played_under_at, played_under_of_input}
@@ -35,9 +35,7 @@ too_long_law job input long = long_answers job input _ long refl
 pub verdict_made : (input : List ℕ) (question : Setup × List Node) (verdict : Verdict) (reply : Reply) → question_of_input input ≡ Ok question
     → IsRight question.0 question.1 verdict
     → (reply ≡ verdict_reply verdict) ⊎ ((verdict ≢ Holds) × (reply ≡ fault_reply no_memory)) → Makes Check input reply
-verdict_made input question verdict reply asked right (inl is) =
-    let A : Result (Setup × List Node) Refusal → Type 0 = λ said. AnswersCheck said reply in
-    inl (subst A (sym asked) (verdict, right, is))
+verdict_made input question verdict reply asked right (inl is) = inl (rw asked (verdict, right, is))
 verdict_made input question verdict reply asked right (inr want) = inr (counted input question asked, want.1)
 
 -- the reply to what the finder finds is a right one for the problem

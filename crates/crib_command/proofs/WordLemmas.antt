@@ -1,11 +1,12 @@
 -- clap's parser refuses the words that `specs/Command` refuses, and finds the name of the command in the others.
-use Rattle.std.proofs.Common.{Option, None, ◌≡◌, ◌∙◌, ℕ, List, [], ◌∷◌, ◌||◌, ◌==◌, not, Bool, true, false, Some, map, length}
-use Rattle.std.proofs.Common.{refl, sym, subst, ap, ap₂, codes, fold, drop, is_some}
+use Rattle.std.proofs.Common.{Option, None, ◌≡◌, ◌∙◌, ℕ, List, [], ◌∷◌, ◌||◌, ◌==◌, Bool, true, false, Some, map, length}
+use Rattle.std.proofs.Common.{refl, sym, subst, ap, ap₂, arith, codes, fold, drop, is_some}
 use Rattle.std.specs.Prelude.{option_map, slice_get, option_and_then, if◌then◌else◌}
 use Rattle.std.specs.List.{list_any}
 use Rattle.std.specs.Option.{option_map_or}
 use Rattle.std.specs.Str.{bytes_eq, chars}
 use Rattle.std.specs.Borrow.{Bor}
+use Rattle.std.proofs.lemmas.Bool.{or_parts}
 use Rattle.std.proofs.lemmas.Slice.Eq.{bytes_eq-Decides}
 use Rattle.clap.specs.Faults.{bundle_fault, bundle_step_fault, check_fault, defaults_fault, entered_fault, fault_of, flag_word_fault, flags_fault}
 use Rattle.clap.specs.Faults.{long_fault, react_fault, settle_fault, short_fault, step_fault, turn_fault, walk_fault, word_fault}
@@ -15,10 +16,10 @@ use Rattle.clap.specs.Lexer.{long_of, short_of, strip_byte}
 use Rattle.clap.specs.Simple.{App, built, entered, matches_of}
 use Rattle.clap.specs.Walk.{Text, Rule, Held, Step, Walk, after_flag, after_step, arg_by_long, arg_by_short, bundle_met, bundle_step}
 use Rattle.clap.specs.Walk.{finished, idle, long_or_other, one_of}
-use Rattle.clap.specs.Walk.{plain, reacted, settled, short_or_plain, short_word, value, walked, word_met}
+use Rattle.clap.specs.Walk.{plain, settled, short_or_plain, short_word, value, walked, word_met}
 use Rattle.clap.specs.declared.builder.value_parser.ValueParser.TheVariants.{Names}
 use Rattle.clap.specs.declared.error.kind.ErrorKind.{ErrorKind}
-use Rattle.clap.specs.declared.error.kind.ErrorKind.TheVariants.{DisplayHelp, InvalidValue, TooManyValues, UnknownArgument}
+use Rattle.clap.specs.declared.error.kind.ErrorKind.TheVariants.{DisplayHelp, InvalidValue, UnknownArgument}
 use Rattle.crib_command.specs.Command.{IsCommandWords, end_refusal, has_hyphen, help_refusal, is_command, is_mark, is_wrong, long_refusal, option_refusal}
 use Rattle.crib_command.specs.Command.{first_of, plain_refusal, refusal_from, words_refusal, short_refusal, without_mark}
 use Rattle.crib_command.proofs.ClapApp.{command_app, help_flag}
@@ -89,38 +90,18 @@ module _ (program : Text) (names : List Text) (values : Bor (List (Bor Text))) (
   -- clap refuses a wrong name when it settles the value
   settles : (name : Option Text) → settle_fault rules false (held name) ≡ (if is_wrong names name then InvalidValue ∷ [] else [])
   settles None = refl
-  settles (Some word) = go (is_command names word) (accepted word)
-    where
-      go : (b : Bool) → list_any (λ s. bytes_eq s.now word) values.now ≡ b
-          → settle_fault rules false (held (Some word)) ≡ (if not b then InvalidValue ∷ [] else [])
-      go true e = rw e refl
-      go false e = rw e refl
+  settles (Some word) = grind (arith, accepted word)
 
   helps : (name : Option Text) → react_fault rules false help_flag [] (held name) ≡ help_refusal names name ∷ []
-  helps name = ap (λ k. then_kinds k (DisplayHelp ∷ [])) (settles name) ∙ go (is_wrong names name)
-    where
-      go : (b : Bool) → then_kinds (if b then InvalidValue ∷ [] else []) (DisplayHelp ∷ []) ≡ (if b then InvalidValue else DisplayHelp) ∷ []
-      go true = refl
-      go false = refl
+  helps name = ap (λ k. then_kinds k (DisplayHelp ∷ [])) (settles name) ∙ grind arith
 
   long_fails : (name : Option Text) (option : Text × Option Text)
       → long_fault rules false (arg_by_long rules option.0) option.1 (held name) ≡ long_refusal names name option ∷ []
-  long_fails name option = go (bytes_eq (codes "help") option.0) option.1
-    where
-      go : (b : Bool) (v : Option Text) → long_fault rules false (if b || false then Some help_flag else None) v (held name)
-          ≡ (if b then (if is_some v then TooManyValues else help_refusal names name) else UnknownArgument) ∷ []
-      go false v = refl
-      go true (Some v) = refl
-      go true None = helps name
+  long_fails name option = grind (arith, helps name)
 
   short_fails : (name : Option Text) (letter : ℕ) (rest : Text) (next : Held → Kinds)
       → short_fault rules false (arg_by_short rules letter) rest (held name) next ≡ short_refusal names name letter ∷ []
-  short_fails name letter rest next = go (104 == letter)
-    where
-      go : (b : Bool) → short_fault rules false (if b || false then Some help_flag else None) rest (held name) next
-          ≡ (if b then help_refusal names name else UnknownArgument) ∷ []
-      go false = refl
-      go true = ap (λ k. then_kinds k (next (reacted rules help_flag [] (held name)))) (helps name)
+  short_fails name letter rest next = grind (arith, helps name)
 
   letters_fail : (name : Option Text) (letters : Text)
       → bundle_fault rules false letters (held name)
@@ -186,11 +167,7 @@ module _ (program : Text) (names : List Text) (values : Bor (List (Bor Text))) (
       → turn_fault app.top [] (at false name) word ≡ (if is_some name then UnknownArgument ∷ [] else [])
   turns name word mark none =
       ap₂ (λ k (met : Held × Step). then_kinds k (step_fault app.top (place name) met.0 met.1))
-      (word_fails name word mark ∙ ap kinds_of none) (plain_met name word mark none) ∙ go name
-    where
-      go : (n : Option Text) → step_fault app.top (place n) (held n) value ≡ (if is_some n then UnknownArgument ∷ [] else [])
-      go None = refl
-      go (Some first) = refl
+      (word_fails name word mark ∙ ap kinds_of none) (plain_met name word mark none) ∙ grind arith
 
   walks : (word : Text) → is_mark word ≡ false → option_refusal names None word ≡ None → walked rules [] (at false None) word ≡ at false (Some word)
   unfolding walked
@@ -210,11 +187,7 @@ module _ (program : Text) (names : List Text) (values : Bor (List (Bor Text))) (
   ends : (ended : Bool) (name : Option Text) → ending (at ended name) ≡ kinds_of (end_refusal names name)
   unfolding defaults_fault
   ends ended None = refl
-  ends ended (Some word) = ap (λ k. then_kinds k []) (settles (Some word)) ∙ go (is_command names word)
-    where
-      go : (b : Bool) → then_kinds (if not b then InvalidValue ∷ [] else []) [] ≡ kinds_of (if b then None else Some InvalidValue)
-      go true = refl
-      go false = refl
+  ends ended (Some word) = ap (λ k. then_kinds k []) (settles (Some word)) ∙ grind arith
 
   -- clap's kinds of error are those of the refusal
   agrees : (words : List Text) (ended : Bool) (name : Option Text) → from (at ended name) words ≡ kinds_of (refusal_from names words ended name)
@@ -253,15 +226,7 @@ module _ (program : Text) (names : List Text) (values : Bor (List (Bor Text))) (
       → Finds (walk_on (at ended name) words) (left ended name words)
   unfolding refusal_from without_mark
   finds [] ended None e = cc
-  finds [] ended (Some word) e = (word, nothing_left ended, go (is_command names word) e, refl)
-    where
-      nothing_left : (b : Bool) → left b (Some word) [] ≡ word ∷ []
-      nothing_left true = refl
-      nothing_left false = refl
-
-      go : (b : Bool) → (if b then None else Some InvalidValue) ≡ None → b ≡ true
-      go true e = refl
-      go false e = cc
+  finds [] ended (Some word) e = (word, grind arith, grind (arith, e), refl)
   finds (word ∷ rest) true None e = subst (λ w. Finds (walk_on w rest) (word ∷ rest)) (sym (walked_trailing word)) (finds rest true (Some word) e)
   finds (word ∷ rest) true (Some name) e = cc
   finds (word ∷ rest) false name e = go (is_mark word) refl (option_refusal names name word) refl (finds rest) e
@@ -296,19 +261,9 @@ module _ (program : Text) (names : List Text) (values : Bor (List (Bor Text))) (
 -- a command's name has no hyphen at its front
 plain_name : (names : List Text) (name : Text) → list_any has_hyphen names ≡ false → is_command names name ≡ true → strip_byte 45 name ≡ None
 plain_name [] name bare named = cc
-plain_name (first ∷ names) name bare named = go (bytes_eq first name) refl (has_hyphen first) refl (plain_name names name)
-  where
-    go : (same : Bool) → bytes_eq first name ≡ same → (hyphen : Bool) → has_hyphen first ≡ hyphen
-        → (list_any has_hyphen names ≡ false → is_command names name ≡ true → strip_byte 45 name ≡ None) → strip_byte 45 name ≡ None
-    go same same_is true hyphen_is rec = let bad : true ≡ false = rw hyphen_is at bare in cc
-    go true same_is false hyphen_is rec =
-        let is : first ≡ name = (bytes_eq-Decides first name).0 same_is in
-        none (strip_byte 45 name) (subst (λ n. has_hyphen n ≡ false) is hyphen_is)
-      where
-        none : (o : Option Text) → is_some o ≡ false → o ≡ None
-        none None e = refl
-        none (Some rest) e = cc
-    go false same_is false hyphen_is rec = rec (rw hyphen_is at bare) (rw same_is at named)
+plain_name (first ∷ names) name bare named =
+    let parts = or_parts (has_hyphen first) (list_any has_hyphen names) bare in
+    grind (arith, parts.0, named, (bytes_eq-Decides first name).0, plain_name names name parts.1)
 
 name_is_plain : (names : List Text) (name : Text) → strip_byte 45 name ≡ None → option_refusal names None name ≡ None
 unfolding chars
@@ -322,29 +277,13 @@ takes : (names : List Text) (name : Text) → list_any has_hyphen names ≡ fals
 unfolding refusal_from without_mark
 takes names name bare named [] true None e = cc
 takes names name bare named [] false None e = cc
-takes names name bare named [] true (Some word) e = let is : word ≡ name = cc in rw is (name_is_named names name named)
-takes names name bare named [] false (Some word) e = let is : word ≡ name = cc in rw is (name_is_named names name named)
+takes names name bare named [] ended (Some word) e = let is : word ≡ name = cc in rw is (name_is_named names name named)
 takes names name bare named (word ∷ rest) true None e = takes names name bare named rest true (Some word) e
 takes names name bare named (word ∷ rest) true (Some before) e = cc
-takes names name bare named (word ∷ rest) false None e = go (is_mark word) refl (takes names name bare named rest)
-  where
-    go : (m : Bool) → is_mark word ≡ m
-        → ((ended : Bool) (n : Option Text) → left ended n rest ≡ name ∷ [] → refusal_from names rest ended n ≡ None)
-        → (if m then refusal_from names rest true None else first_of (option_refusal names None word) (refusal_from names rest false (Some word))) ≡ None
-    go true mark rec = rec true None (rw mark at e)
-    go false mark rec =
-        let here : word ∷ without_mark rest ≡ name ∷ [] = rw mark at e in
-        let is : word ≡ name = cc in
-        ap (λ o. first_of o (refusal_from names rest false (Some word)))
-        (ap (option_refusal names None) is ∙ name_is_plain names name (plain_name names name bare named))
-        ∙ rec false (Some word) here
-takes names name bare named (word ∷ rest) false (Some before) e = go (is_mark word) refl (takes names name bare named rest)
-  where
-    go : (m : Bool) → is_mark word ≡ m
-        → ((ended : Bool) (n : Option Text) → left ended n rest ≡ name ∷ [] → refusal_from names rest ended n ≡ None)
-        → (if m then refusal_from names rest true (Some before) else first_of (option_refusal names (Some before) word) (Some UnknownArgument)) ≡ None
-    go true mark rec = rec true (Some before) (rw mark at e)
-    go false mark rec = let here : before ∷ word ∷ without_mark rest ≡ name ∷ [] = rw mark at e in cc
+takes names name bare named (word ∷ rest) false None e =
+    let plain = name_is_plain names name (plain_name names name bare named) in
+    grind (arith, e, plain, takes names name bare named rest true None, takes names name bare named rest false (Some word))
+takes names name bare named (word ∷ rest) false (Some before) e = grind (arith, e, takes names name bare named rest true (Some before))
 
 -- words that name a command are not refused
 pub command_words_taken : (names words : List Text) (name : Text) → list_any has_hyphen names ≡ false → IsCommandWords names words name

@@ -1,9 +1,8 @@
 -- An accepted input with a game spells what was read of it, and an input that spells a game is read so.
-use Rattle.std.proofs.Common.{◌≡◌, ℕ, List, [], ◌∷◌, ◌++◌, Result, Ok, refl, sym, ap, ◌∙◌, append_assoc, arith}
+use Rattle.std.proofs.Common.{◌≡◌, ℕ, List, ◌++◌, Ok, refl, sym, ap, ◌∙◌, append_assoc, arith}
 use Rattle.std.proofs.lemmas.Grind.{flat_map-append}
-use Rattle.crib_text.specs.Refusals.{Refusal}
 use Rattle.crib_text.specs.Spelling.{line_text, lines_text}
-use Rattle.crib_text.specs.Reading.{◌>>=◌, Rest, end_at}
+use Rattle.crib_text.specs.Reading.{Rest, end_at}
 use Rattle.crib_text.proofs.ReadingLemmas.{bind_ok, ok_is}
 use Rattle.crib_problem.specs.Setup.{Setup}
 use Rattle.crib_problem.specs.Spelling.{problem_lines, problem_text}
@@ -41,23 +40,16 @@ played_accepted input played e =
     let text = flat_map-append line_text (problem_lines played.0) (game_lines played.1) in
     record { problem_is = said.0.0; game_is = said.0.1; text = said.1 ∙ text }
 
-played_by : (rest after left : Rest) (problem : Setup) (game : Game) → problem_at rest ≡ Ok (problem, after) → game_at after ≡ Ok (game, left)
-    → end_at left ≡ Ok tt → played_at rest ≡ Ok (problem, game, after.number)
-unfolding played_at
-played_by rest after left problem game e f none = rw (e, f, none) refl
-
 -- if an input spells a problem and a game, they are read
 pub played_spelled : (input : List ℕ) (problem : Setup) (game : Game) → SpellsGame input problem game
     → (first : ℕ) × (played_of_input input ≡ Ok (problem, game, first))
-unfolding played_of_input problem_text game_text
+unfolding played_of_input played_at problem_text game_text
 played_spelled input problem game spelled =
     let text = flat_map-append line_text (problem_lines problem) (game_lines game) in
     let are = input_read (both_form problem_form game_form) input (problem, game) (spelled.problem_is, spelled.game_is) (omega arith)
     (spelled.text ∙ sym text) in
-    let parts = both_parts problem_at game_at are.0 are.2.left problem game are.2.taken in (
-      parts.0.number,
-      ap (λ (lines : Result Rest Refusal). lines >>= played_at) are.1 ∙ played_by are.0 parts.0 are.2.left problem game parts.1 parts.2 are.2.none,
-    )
+    let parts = both_parts problem_at game_at are.0 are.2.left problem game are.2.taken in
+    (parts.0.number, rw (are.1, parts.1, parts.2, are.2.none) refl)
 
 -- ---- a problem, a plan and a game
 
@@ -89,23 +81,14 @@ played_under_accepted input played e =
     let text = texts_joined played.0 played.1 played.2 in
     record { problem_is = said.0.0; plan_is = said.0.1.0; game_is = said.0.1.1; text = said.1 ∙ text }
 
-played_under_by : (rest before after left : Rest) (problem : Setup) (plan : List Node) (game : Game) → problem_at rest ≡ Ok (problem, before)
-    → plan_at before ≡ Ok (plan, after) → game_at after ≡ Ok (game, left) → end_at left ≡ Ok tt
-    → played_under_at rest ≡ Ok (problem, plan, game, after.number)
-unfolding played_under_at
-played_under_by rest before after left problem plan game e f g none = rw (e, f, g, none) refl
-
 -- if an input spells a problem, a plan and a game, they are read
 pub played_under_spelled : (input : List ℕ) (problem : Setup) (plan : List Node) (game : Game) → SpellsPlannedGame input problem plan game
     → (first : ℕ) × (played_under_of_input input ≡ Ok (problem, plan, game, first))
-unfolding played_under_of_input problem_text plan_text game_text
+unfolding played_under_of_input played_under_at problem_text plan_text game_text
 played_under_spelled input problem plan game spelled =
     let form = both_form problem_form (both_form plan_form game_form) in
     let are = input_read form input (problem, (plan, game)) (spelled.problem_is, (spelled.plan_is, spelled.game_is)) (omega (arith, spelled.plan_is.0))
     (spelled.text ∙ sym (texts_joined problem plan game)) in
     let parts = both_parts problem_at (both plan_at game_at) are.0 are.2.left problem (plan, game) are.2.taken in
-    let more = both_parts plan_at game_at parts.0 are.2.left plan game parts.2 in (
-      more.0.number,
-      ap (λ (lines : Result Rest Refusal). lines >>= played_under_at) are.1
-          ∙ played_under_by are.0 parts.0 more.0 are.2.left problem plan game parts.1 more.1 more.2 are.2.none,
-    )
+    let more = both_parts plan_at game_at parts.0 are.2.left plan game parts.2 in
+    (more.0.number, rw (are.1, parts.1, more.1, more.2, are.2.none) (refl {a = Ok (problem, plan, game, more.0.number)}))

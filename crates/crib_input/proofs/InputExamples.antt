@@ -1,6 +1,6 @@
 -- Worked examples of whole inputs: what their bytes are read as, how they are refused, and what they spell. A card is a number below 52: 4 is 2C.
 use Rattle.std.specs.Prelude.{◌≡◌, refl, ◌+◌, nat_le, ℕ, List, [], ◌∷◌, ◌++◌, length, map, Result, Ok, Err, codes, if◌then◌else◌}
-use Rattle.std.proofs.Common.{arith, sym, ap, subst}
+use Rattle.std.proofs.Common.{arith, ◌≤◌, sym, ap, subst}
 use Rattle.std.specs.Fmt.{digits}
 use Rattle.crib_cards.specs.declared.sides.Side.TheVariants.{Owner}
 use Rattle.crib_text.specs.Refusals.{Refusal}
@@ -46,75 +46,40 @@ the_plan = Play 5 End ∷ []
 abbrev the_game : Game
 the_game = record { opp = aces; acts = record { items = plays Owner 4 ∷ [] } }
 
--- ---- what inputs are read as: each section, and refusal 8 for a line after the last one
-pub a_problem : read_problem problem_section ≡ Ok after_two
+-- ---- what inputs are read as: each section, and refusal 8 for a line after the last one. No section may be missing, or come before its place
+pub problems_read : map read_problem (problem_section ∷ (problem_section ++ codes "\n") ∷ []) ≡ Ok after_two ∷ refused 11 8 ∷ []
 unfolding read_problem
-a_problem = refl
+problems_read = refl
 
-pub a_line_after_a_problem : read_problem (problem_section ++ codes "\n") ≡ refused 11 8
-unfolding read_problem
-a_line_after_a_problem = refl
-
-pub a_plan_after_a_problem : read_question (problem_section ++ plan_section) ≡ Ok (after_two, the_plan)
+-- a plan after a problem, the same with a line after it, no plan, and a game in its place
+pub questions_read : map read_question ((problem_section ++ plan_section) ∷ (problem_section ++ plan_section ++ codes "\n") ∷ problem_section
+    ∷ (problem_section ++ game_section) ∷ []) ≡ Ok (after_two, the_plan) ∷ refused 14 8 ∷ refused 11 3 ∷ refused 11 4 ∷ []
 unfolding read_question
-a_plan_after_a_problem = refl
+questions_read = refl
 
-pub a_line_after_a_plan : read_question (problem_section ++ plan_section ++ codes "\n") ≡ refused 14 8
-unfolding read_question
-a_line_after_a_plan = refl
-
--- the section of the game begins at line 11
-pub a_game_after_a_problem : read_played (problem_section ++ game_section) ≡ Ok (after_two, the_game, 11)
+-- the section of the game begins at line 11. A game after a problem, the same with a line after it, and a plan in its place
+pub played_read : map read_played ((problem_section ++ game_section) ∷ (problem_section ++ game_section ++ codes "\n")
+    ∷ (problem_section ++ plan_section) ∷ []) ≡ Ok (after_two, the_game, 11) ∷ refused 16 8 ∷ refused 11 4 ∷ []
 unfolding read_played
-a_game_after_a_problem = refl
+played_read = refl
 
-pub a_line_after_a_game : read_played (problem_section ++ game_section ++ codes "\n") ≡ refused 16 8
-unfolding read_played
-a_line_after_a_game = refl
-
--- the section of the game begins at line 14
-pub a_plan_and_a_game : read_played_under (problem_section ++ plan_section ++ game_section) ≡ Ok (after_two, the_plan, the_game, 14)
+-- the section of the game begins at line 14. A plan and a game, the same with a line after it, and a game before its plan
+pub played_under_read : map read_played_under ((problem_section ++ plan_section ++ game_section)
+    ∷ (problem_section ++ plan_section ++ game_section ++ codes "\n") ∷ (problem_section ++ game_section ++ plan_section) ∷ [])
+    ≡ Ok (after_two, the_plan, the_game, 14) ∷ refused 19 8 ∷ refused 11 4 ∷ []
 unfolding read_played_under
-a_plan_and_a_game = refl
+played_under_read = refl
 
-pub a_line_after_a_planned_game : read_played_under (problem_section ++ plan_section ++ game_section ++ codes "\n") ≡ refused 19 8
-unfolding read_played_under
-a_line_after_a_planned_game = refl
-
--- no section may be missing, or come before its place
-pub no_plan : read_question problem_section ≡ refused 11 3
-unfolding read_question
-no_plan = refl
-
-pub a_game_for_a_plan : read_question (problem_section ++ game_section) ≡ refused 11 4
-unfolding read_question
-a_game_for_a_plan = refl
-
-pub a_plan_for_a_game : read_played (problem_section ++ plan_section) ≡ refused 11 4
-unfolding read_played
-a_plan_for_a_game = refl
-
-pub a_game_before_its_plan : read_played_under (problem_section ++ game_section ++ plan_section) ≡ refused 11 4
-unfolding read_played_under
-a_game_before_its_plan = refl
-
--- the number of nodes is read before the nodes
-pub count_before_nodes : read_count (problem_section ++ codes "plan 1\nnodes 3\n") ≡ Ok 3
+-- the number of nodes is read before the nodes, and one is too great
+pub counts_read : map (λ plan. read_count (problem_section ++ plan)) (codes "plan 1\nnodes 3\n" ∷ codes "plan 1\nnodes 65536\n" ∷ [])
+    ≡ Ok 3 ∷ refused 12 32 ∷ []
 unfolding read_count
-count_before_nodes = refl
-
-pub count_too_great : read_count (problem_section ++ codes "plan 1\nnodes 65536\n") ≡ refused 12 32
-unfolding read_count
-count_too_great = refl
+counts_read = refl
 
 -- ---- the text of an input: a bad byte at line 2, and a last line that is not ended
-pub a_bad_byte : read_lines (codes "problem 1\n\t\n") ≡ refused 2 1
+pub lines_read : map read_lines (codes "problem 1\n\t\n" ∷ codes "problem 1\ndealer" ∷ []) ≡ refused 2 1 ∷ refused 2 3 ∷ []
 unfolding read_lines
-a_bad_byte = refl
-
-pub not_ended : read_lines (codes "problem 1\ndealer") ≡ refused 2 3
-unfolding read_lines
-not_ended = refl
+lines_read = refl
 
 -- a text of 8,388,608 bytes is read, and one of 8,388,609 bytes is refused, whatever these bytes are
 pub the_longest : (bytes : List ℕ) → length bytes ≡ 8388608 → input_lines bytes ≡ all_lines bytes
@@ -146,14 +111,11 @@ value_or other (Err refusal) = other
 abbrev bad_line_3 : Reason
 bad_line_3 = reasons.Refused (record { line = 3; cause = causes.Text texts.BadLine })
 
-pub value_as_read : ReadsAs (λ (n : ℕ). n + 1) (Ok 5) (Ok 6)
-value_as_read = refl
+pub as_read : ReadsAs (λ (n : ℕ). n + 1) (Ok 5) (Ok 6) × ReadsAs (λ (n : ℕ). n) (Err bad_line_3) (refused 3 4)
+as_read = (refl, refl)
 
 pub another_value : ReadsAs (λ (n : ℕ). n + 1) (Ok 5) (Ok 5) → ⊥
 another_value is = (let value : 5 ≡ 6 = ap (value_or 0) is in absurd (omega (arith, value)))
-
-pub refusal_as_read : ReadsAs (λ (n : ℕ). n) (Err bad_line_3) (refused 3 4)
-refusal_as_read = refl
 
 pub another_refusal : ReadsAs (λ (n : ℕ). n) (Err bad_line_3) (refused 9 8) → ⊥
 another_refusal is = (let line : 9 ≡ 3 = ap (line_or 0) is in absurd (omega (arith, line)))
@@ -161,11 +123,10 @@ another_refusal is = (let line : 9 ≡ 3 = ap (line_or 0) is in absurd (omega (a
 pub a_value_for_a_refusal : ReadsAs (λ (n : ℕ). n) (Err bad_line_3) (Ok 3) → ⊥
 a_value_for_a_refusal is = (let line : 0 ≡ 3 = ap (line_or 0) is in absurd (omega (arith, line)))
 
+-- without memory anything may have been read, but there is no other fault
 pub anything_without_memory : ReadsAs (λ (n : ℕ). n) (Err (reasons.Fault faults.NoMemory)) (refused 3 4)
-anything_without_memory = refl
-
-pub no_other_fault_while_reading : ReadsAs (λ (n : ℕ). n) (Err (reasons.Fault faults.TooLarge)) (refused 3 4) → ⊥
-no_other_fault_while_reading is = absurd cc
+    × (ReadsAs (λ (n : ℕ). n) (Err (reasons.Fault faults.TooLarge)) (refused 3 4) → ⊥)
+anything_without_memory = (refl, λ is. absurd cc)
 
 -- ---- an input that was not read because of its plan
 abbrev bad_set_9 : Fault PlanCause
@@ -181,10 +142,8 @@ pub refused_at_another_line : IsForPlan bad_set_9 (reasons.Refused (record { lin
 refused_at_another_line is = (let line : 8 ≡ 9 = ap (λ (refusal : Refusal). refusal.line) is.0 in absurd (omega (arith, line)))
 
 pub memory_for_a_plan : IsForPlan no_memory (reasons.Fault faults.NoMemory)
-memory_for_a_plan = (refl, refl)
-
-pub no_refusal_without_memory : IsForPlan no_memory (reasons.Refused (record { line = 0; cause = causes.Text texts.NoMemory })) → ⊥
-no_refusal_without_memory is = absurd (is.1 refl)
+    × (IsForPlan no_memory (reasons.Refused (record { line = 0; cause = causes.Text texts.NoMemory })) → ⊥)
+memory_for_a_plan = ((refl, refl), λ is. absurd (is.1 refl))
 
 pub no_memory_for_a_set : IsForPlan bad_set_9 (reasons.Fault faults.NoMemory) → ⊥
 no_memory_for_a_set is = (let same : 31 ≡ 11 = is.1 in absurd (omega (arith, same)))
@@ -193,22 +152,16 @@ pub no_other_fault_for_a_plan : IsForPlan no_memory (reasons.Fault faults.TooLar
 no_other_fault_for_a_plan is = (let same : faults.TooLarge ≡ faults.NoMemory = is.0 in absurd cc)
 
 -- ---- what an input spells: the texts one after the other, of a valid problem, a valid plan and a valid game
-pub spells_a_problem : IsSetup after_two → SpellsProblem problem_section after_two
-unfolding problem_text problem_lines digits
-spells_a_problem problem = record { problem_is = problem; text = refl }
-
-pub spells_a_plan : IsSetup after_two → ArePlan the_plan → SpellsPlan (problem_section ++ plan_section) after_two the_plan
-unfolding problem_text problem_lines plan_text plan_lines digits
-spells_a_plan problem plan = record { problem_is = problem; plan_is = plan; text = refl }
-
-pub spells_a_game : IsSetup after_two → IsGame the_game → SpellsGame (problem_section ++ game_section) after_two the_game
-unfolding problem_text problem_lines game_text game_lines digits
-spells_a_game problem game = record { problem_is = problem; game_is = game; text = refl }
-
-pub spells_a_planned_game : IsSetup after_two → ArePlan the_plan → IsGame the_game →
-    SpellsPlannedGame (problem_section ++ plan_section ++ game_section) after_two the_plan the_game
+pub spelled_inputs : IsSetup after_two → ArePlan the_plan → IsGame the_game → SpellsProblem problem_section after_two
+    × SpellsPlan (problem_section ++ plan_section) after_two the_plan × SpellsGame (problem_section ++ game_section) after_two the_game
+    × SpellsPlannedGame (problem_section ++ plan_section ++ game_section) after_two the_plan the_game
 unfolding problem_text problem_lines plan_text plan_lines game_text game_lines digits
-spells_a_planned_game problem plan game = record { problem_is = problem; plan_is = plan; game_is = game; text = refl }
+spelled_inputs problem plan game = (
+  record { problem_is = problem; text = refl },
+  record { problem_is = problem; plan_is = plan; text = refl },
+  record { problem_is = problem; game_is = game; text = refl },
+  record { problem_is = problem; plan_is = plan; game_is = game; text = refl },
+)
 
 -- a problem with the owner at 121, a plan whose only node leads to itself, and a game with one card thrown are not valid
 abbrev past_the_end : Setup
@@ -220,26 +173,28 @@ to_itself = Play 5 (To 0) ∷ []
 abbrev one_thrown : Game
 one_thrown = record { opp = record { hold = 0 ∷ 1 ∷ 2 ∷ 3 ∷ []; throw = 8 ∷ [] }; acts = record { items = [] } }
 
-pub problem_past_the_end : (input : List ℕ) → SpellsProblem input past_the_end → ⊥
-problem_past_the_end input is = (let score = is.problem_is.owner_score in absurd (omega (arith, score)))
+pub problem_past_the_end : (input : List ℕ) (plan : List Node) (game : Game) → (SpellsProblem input past_the_end → ⊥)
+    × (SpellsPlan input past_the_end plan → ⊥) × (SpellsGame input past_the_end game → ⊥) × (SpellsPlannedGame input past_the_end plan game → ⊥)
+problem_past_the_end input plan game = (
+  λ is. past is.problem_is.owner_score,
+  λ is. past is.problem_is.owner_score,
+  λ is. past is.problem_is.owner_score,
+  λ is. past is.problem_is.owner_score,
+)
+  where
+    past : 121 ≤ 120 → ⊥
+    past score = absurd (omega (arith, score))
 
-pub plan_past_the_end : (input : List ℕ) (plan : List Node) → SpellsPlan input past_the_end plan → ⊥
-plan_past_the_end input plan is = (let score = is.problem_is.owner_score in absurd (omega (arith, score)))
+pub plan_to_itself : (input : List ℕ) (problem : Setup) (game : Game) → (SpellsPlan input problem to_itself → ⊥)
+    × (SpellsPlannedGame input problem to_itself game → ⊥)
+plan_to_itself input problem game = (
+  λ is. (let later = is.plan_is.1.0.1.0 in absurd (omega (arith, later))),
+  λ is. (let later = is.plan_is.1.0.1.0 in absurd (omega (arith, later))),
+)
 
-pub game_past_the_end : (input : List ℕ) (game : Game) → SpellsGame input past_the_end game → ⊥
-game_past_the_end input game is = (let score = is.problem_is.owner_score in absurd (omega (arith, score)))
-
-pub planned_game_past_the_end : (input : List ℕ) (plan : List Node) (game : Game) → SpellsPlannedGame input past_the_end plan game → ⊥
-planned_game_past_the_end input plan game is = (let score = is.problem_is.owner_score in absurd (omega (arith, score)))
-
-pub plan_to_itself : (input : List ℕ) (problem : Setup) → SpellsPlan input problem to_itself → ⊥
-plan_to_itself input problem is = (let later = is.plan_is.1.0.1.0 in absurd (omega (arith, later)))
-
-pub planned_game_to_itself : (input : List ℕ) (problem : Setup) (game : Game) → SpellsPlannedGame input problem to_itself game → ⊥
-planned_game_to_itself input problem game is = (let later = is.plan_is.1.0.1.0 in absurd (omega (arith, later)))
-
-pub game_with_one_thrown : (input : List ℕ) (problem : Setup) → SpellsGame input problem one_thrown → ⊥
-game_with_one_thrown input problem is = (let two = is.game_is.six.thrown in absurd (omega (arith, two)))
-
-pub planned_game_with_one_thrown : (input : List ℕ) (problem : Setup) (plan : List Node) → SpellsPlannedGame input problem plan one_thrown → ⊥
-planned_game_with_one_thrown input problem plan is = (let two = is.game_is.six.thrown in absurd (omega (arith, two)))
+pub game_with_one_thrown : (input : List ℕ) (problem : Setup) (plan : List Node) → (SpellsGame input problem one_thrown → ⊥)
+    × (SpellsPlannedGame input problem plan one_thrown → ⊥)
+game_with_one_thrown input problem plan = (
+  λ is. (let two = is.game_is.six.thrown in absurd (omega (arith, two))),
+  λ is. (let two = is.game_is.six.thrown in absurd (omega (arith, two))),
+)

@@ -1,7 +1,7 @@
 -- An accepted input spells what was read of it, and an input that spells a problem, or a problem and a plan, is accepted.
-use Rattle.std.proofs.Common.{◌≡◌, ℕ, ◌+◌, ◌<◌, ◌≤◌, Bool, true, false, cond, List, [], ◌∷◌, ◌++◌, length, map, flat_map, Result, Ok, Err, IsOk}
-use Rattle.std.proofs.Common.{refl, sym, ap, ◌∙◌, arith}
-use Rattle.std.proofs.lemmas.Bool.{le-leb, leb-true, lt-leb}
+use Rattle.std.proofs.Common.{◌≡◌, ℕ, ◌+◌, ◌<◌, ◌≤◌, true, List, [], ◌∷◌, ◌++◌, length, map, flat_map, Result, Ok, Err, IsOk}
+use Rattle.std.proofs.Common.{refl, sym, ap, ◌∙◌, inl, inr, arith}
+use Rattle.std.proofs.lemmas.Bool.{cases_Bool, le-leb, leb-true, lt-leb}
 use Rattle.std.proofs.lemmas.Grind.{flat_map-append}
 use Rattle.std.proofs.lemmas.List.{append-nil}
 use Rattle.std.proofs.lemmas.List.Folds.{flat_map-map}
@@ -38,12 +38,11 @@ pub record IsWhole (input : List ℕ) (rest : Rest) : Type 0 where
 
 pub whole_input : (input : List ℕ) (rest : Rest) → input_lines input ≡ Ok rest → IsWhole input rest
 unfolding input_lines
-whole_input input rest e = by_length (nat_le (length input) most_bytes) _ refl e
-  where
-    by_length : (small : Bool) (long : Refusal) → nat_le (length input) most_bytes ≡ small → cond small (all_lines input) (Err long) ≡ Ok rest
-        → IsWhole input rest
-    by_length true long is e = record { few = leb-true (length input) most_bytes is; lines = e }
-    by_length false long is e = absurd cc
+whole_input input rest e =
+    elim (cases_Bool (nat_le (length input) most_bytes)) [
+      | inl is ↦ record { few = leb-true (length input) most_bytes is; lines = rw is at e }
+      | inr is ↦ absurd (cc (rw is at e))
+    ]
 
 pub short_input : (input : List ℕ) → length input ≤ most_bytes → input_lines input ≡ all_lines input
 unfolding input_lines
@@ -175,21 +174,16 @@ question_accepted input question e =
     let text = flat_map-append line_text (problem_lines question.0) (plan_lines question.1) in
     record { problem_is = said.0.0; plan_is = said.0.1; text = said.1 ∙ text }
 
-question_by : (rest after left : Rest) (problem : Setup) (plan : List Node) → problem_at rest ≡ Ok (problem, after) → plan_at after ≡ Ok (plan, left)
-    → end_at left ≡ Ok tt → question_at rest ≡ Ok (problem, plan)
-unfolding question_at
-question_by rest after left problem plan e f none = rw (e, f, none) refl
-
 -- if an input spells a problem and a plan, `check` reads them
 pub question_spelled : (input : List ℕ) (problem : Setup) (plan : List Node) → SpellsPlan input problem plan
     → question_of_input input ≡ Ok (problem, plan)
-unfolding question_of_input problem_text plan_text
+unfolding question_of_input question_at problem_text plan_text
 question_spelled input problem plan spelled =
     let text = flat_map-append line_text (problem_lines problem) (plan_lines plan) in
     let are = input_read (both_form problem_form plan_form) input (problem, plan) (spelled.problem_is, spelled.plan_is) (omega (arith, spelled.plan_is.0))
     (spelled.text ∙ sym text) in
     let parts = both_parts problem_at plan_at are.0 are.2.left problem plan are.2.taken in
-    ap (λ (lines : Result Rest Refusal). lines >>= question_at) are.1 ∙ question_by are.0 parts.0 are.2.left problem plan parts.1 parts.2 are.2.none
+    rw (are.1, parts.1, parts.2, are.2.none) refl
 
 -- ---- an input that is too long, and the number of nodes
 

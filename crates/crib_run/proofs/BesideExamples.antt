@@ -1,5 +1,5 @@
 -- Worked examples of what is written beside a reply.
-use Rattle.std.proofs.Common.{◌≡◌, ◌∙◌, arith, refl, ap, inl, inr, zero, suc, take, ℕ, List, [], codes, Some, Ok, Err}
+use Rattle.std.proofs.Common.{◌≡◌, ◌∙◌, arith, refl, ap, inl, inr, zero, suc, take, ℕ, List, [], ◌∷◌, codes, map, Some, Ok, Err}
 use Rattle.std.specs.Prelude.{slice_index}
 use Rattle.std.specs.Fmt.{digits}
 use Rattle.crib_text.specs.declared.fault.TextCause.TheVariants.{TooLong}
@@ -16,11 +16,9 @@ holds_reply = record { output = codes "holds\n"; status = statuses.Yes }
 abbrev memory_reply : Reply
 memory_reply = record { output = codes "fault 11\n"; status = statuses.Fault }
 
-pub an_input_that_was_read : input_of (Ok (codes "problem 1\n")) ≡ codes "problem 1\n"
-an_input_that_was_read = refl
-
-pub an_input_that_was_not_read : input_of (Err TooLong) ≡ []
-an_input_that_was_not_read = refl
+-- the bytes of an input, and none of one that was not read
+pub bytes_of_inputs : map input_of (Ok (codes "problem 1\n") ∷ Err TooLong ∷ []) ≡ codes "problem 1\n" ∷ [] ∷ []
+bytes_of_inputs = refl
 
 -- ---- the reason
 pub of_a_fault : IsReason memory_reply statuses.Fault (Fault NoMemory)
@@ -32,20 +30,19 @@ pub of_a_failed_writer : IsReason holds_reply statuses.Fault (Fault WriteFailed)
 of_a_failed_writer = inr ((λ same. absurd cc), refl)
 
 pub no_failed_writer : IsReason holds_reply statuses.Yes (Fault WriteFailed) → ⊥
-no_failed_writer is = elim is [
-  | inl same ↦ let both = same.1 in let status : statuses.Yes ≡ statuses.Fault = ap (λ (reply : Reply). reply.status) both in absurd cc
-  | inr failed ↦ failed.0 refl
-]
+no_failed_writer (inl same) = (let status : statuses.Yes ≡ statuses.Fault = ap (λ (reply : Reply). reply.status) same.1 in absurd cc)
+no_failed_writer (inr failed) = failed.0 refl
 
 -- ---- what is written
 abbrev says : Reason → List ℕ → Type 0
 says reason text = text ≡ codes "why\n"
 
+-- nothing beside yes and no
 pub nothing_beside_an_answer : Explains says holds_reply statuses.Yes (Some (codes "a")) (Some (codes "a")) ⊥
-nothing_beside_an_answer = refl
-
-pub no_words_beside_an_answer : Explains says holds_reply statuses.Yes (Some []) (Some (codes "a")) (Unit {0}) → ⊥
-no_words_beside_an_answer written = absurd cc
+    × Explains says holds_reply statuses.No (Some (codes "a")) (Some (codes "a")) ⊥
+    × (Explains says holds_reply statuses.Yes (Some []) (Some (codes "a")) (Unit {0}) → ⊥)
+    × (Explains says holds_reply statuses.No (Some []) (Some (codes "a")) (Unit {0}) → ⊥)
+nothing_beside_an_answer = (refl, refl, λ written. absurd cc, λ written. absurd cc)
 
 pub a_fault_is_explained : Explains says memory_reply statuses.Fault (Some []) (Some (codes "why\n")) ⊥
 unfolding digits
@@ -53,16 +50,13 @@ a_fault_is_explained = (Fault NoMemory, inl (refl, refl), (codes "why\n", refl, 
 
 -- a fault isn't left unexplained
 pub no_silent_fault : (reason : Reason) → Writes (says reason) (Some []) (Some []) ⊥ → ⊥
-no_silent_fault reason written = elim written.2 [
-  | inl whole ↦ let none = whole in let is = written.1 in absurd cc
-  | inr front ↦ front.3
-]
+no_silent_fault reason (text, is, inl whole) = absurd cc
+no_silent_fault reason (text, is, inr front) = front.3
 
+-- all but the last byte is a beginning, too
 pub cut_by_a_failure : (reason : Reason) → Writes (says reason) (Some []) (Some (codes "wh")) (Unit {0})
-cut_by_a_failure reason = (codes "why\n", refl, inr (2, omega arith, refl, tt))
-
-pub cut_before_the_last_byte : (reason : Reason) → Writes (says reason) (Some []) (Some (codes "why")) (Unit {0})
-cut_before_the_last_byte reason = (codes "why\n", refl, inr (3, omega arith, refl, tt))
+    × Writes (says reason) (Some []) (Some (codes "why")) (Unit {0})
+cut_by_a_failure reason = ((codes "why\n", refl, inr (2, omega arith, refl, tt)), (codes "why\n", refl, inr (3, omega arith, refl, tt)))
 
 -- ---- reasons that are none: another status, another number, and another fault than that of the writer
 pub another_status : IsReason memory_reply statuses.Yes (Fault NoMemory) → ⊥
@@ -79,12 +73,6 @@ another_fault (inl same) = (let status : statuses.Fault ≡ statuses.Yes = same.
 another_fault (inr failed) = (let reason = failed.1 in absurd cc)
 
 -- ---- nothing else is written
-pub nothing_beside_a_no : Explains says holds_reply statuses.No (Some (codes "a")) (Some (codes "a")) ⊥
-nothing_beside_a_no = refl
-
-pub no_words_beside_a_no : Explains says holds_reply statuses.No (Some []) (Some (codes "a")) (Unit {0}) → ⊥
-no_words_beside_a_no written = absurd cc
-
 pub no_fault_without_a_reason : ((reason : Reason) → IsReason holds_reply statuses.Fault reason → ⊥) →
     Explains says holds_reply statuses.Fault (Some []) (Some (codes "why\n")) ⊥ → ⊥
 no_fault_without_a_reason none written = none written.0 written.1

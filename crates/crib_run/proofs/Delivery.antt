@@ -3,7 +3,7 @@ use Rattle.std.proofs.Common.{◌≡◌, ◌⊎◌, inl, inr, List, ℕ, [], Opt
 use Rattle.std.specs.Io.KnownBytes.{Appends}
 use Rattle.crib_input.specs.declared.reason.Reason.{Reason}
 use Rattle.crib_run.specs.declared.status.Status.{Status}
-use Rattle.crib_run.specs.declared.status.Status.TheVariants.{Yes, No, Refused, Fault}
+use Rattle.crib_run.specs.declared.status.Status.TheVariants.{Yes, No}
 use Rattle.crib_run.specs.Beside.{Explains}
 use Rattle.crib_run.specs.Reply.{IsOutcome, Reply, outcome_reply, reason_reply}
 
@@ -26,7 +26,5 @@ pub silent : (says : Reason → List ℕ → Type 0) (reply : Reply) (ended : St
     → Explains says reply ended old new failed → (ended ≡ Yes) ⊎ (ended ≡ No) → Appends old new []
 silent says reply Yes old new failed nothing quiet = nothing
 silent says reply No old new failed nothing quiet = nothing
-silent says reply Refused old new failed said (inl is) = cc
-silent says reply Refused old new failed said (inr is) = cc
-silent says reply Fault old new failed said (inl is) = cc
-silent says reply Fault old new failed said (inr is) = cc
+silent says reply ended old new failed said (inl is) = cc
+silent says reply ended old new failed said (inr is) = cc

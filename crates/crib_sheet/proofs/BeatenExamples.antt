@@ -28,14 +28,12 @@ statuses : map beaten_status (0 ∷ 1 ∷ []) ≡ Yes ∷ No ∷ []
 statuses = refl
 
 reply_of_a_tally : {A : Type 0} (tally : Tally A) →
-    tally_reply tally
-    ≡ record { output = beaten_text tally.open_deals tally.beaten tally.rows.items; status = beaten_status tally.beaten }
+    tally_reply tally ≡ record { output = beaten_text tally.open_deals tally.beaten tally.rows.items; status = beaten_status tally.beaten }
 reply_of_a_tally tally = refl
 
 -- ---- right replies
 figures_are_right_and_written : (problem : Setup) (plan : List Node) (reply : Reply) →
-    ((open_deals beaten : ℕ) (rows : List RanksTally) → AreFigures problem plan open_deals beaten rows →
-    reply ≡ beaten_reply open_deals beaten rows → ⊥) →
+    ((open_deals beaten : ℕ) (rows : List RanksTally) → AreFigures problem plan open_deals beaten rows → reply ≡ beaten_reply open_deals beaten rows → ⊥) →
     AnswersBeaten (Ok (problem, plan)) reply → ⊥
 figures_are_right_and_written problem plan reply none answers = none answers.0 answers.1 answers.2 answers.3 answers.4
 
@@ -48,20 +46,16 @@ refused_plan_has_no_tally : (reply : Reply) → AnswersBeaten (Err (record { lin
 unfolding digits
 refused_plan_has_no_tally reply is = is
 
-reads_what_plan_reads : (input : List ℕ) → SheetAsksForMemory Beaten input ≡ SheetAsksForMemory Plan input
-reads_what_plan_reads input = refl
-
 -- ---- what each status guarantees
-sure_and_counted : (input text : List ℕ) → BeatenMeans input text Yes ≡ ((sure : HasSurePlan input) × SaysHowMany sure.problem sure.plan text)
-sure_and_counted input text = refl
-
-unsure_and_counted : (input text : List ℕ) → BeatenMeans input text No ≡ ((unsure : HasUnsurePlan input) × SaysHowMany unsure.problem unsure.plan text)
-unsure_and_counted input text = refl
+-- the first row: `beaten` reads what `plan` reads
+what_beaten_means : (input text : List ℕ) →
+    (SheetAsksForMemory Beaten input ≡ SheetAsksForMemory Plan input)
+    × (BeatenMeans input text Yes ≡ ((sure : HasSurePlan input) × SaysHowMany sure.problem sure.plan text))
+    × (BeatenMeans input text No ≡ ((unsure : HasUnsurePlan input) × SaysHowMany unsure.problem unsure.plan text))
+    × (SheetMeans Beaten input (record { output = text; status = No }) ≡ BeatenMeans input text No)
+what_beaten_means input text = (refl, refl, refl, refl)
 
 counts_are_right_and_printed : (problem : Setup) (plan : List Node) (text : List ℕ) →
     ((open_deals beaten : ℕ) (rows : List RanksTally) → AreFigures problem plan open_deals beaten rows → text ≡ beaten_text open_deals beaten rows → ⊥) →
     SaysHowMany problem plan text → ⊥
 counts_are_right_and_printed problem plan text none says = none says.open_deals says.beaten says.rows says.right says.printed
-
-reply_of_beaten : (input text : List ℕ) → SheetMeans Beaten input (record { output = text; status = No }) ≡ BeatenMeans input text No
-reply_of_beaten input text = refl

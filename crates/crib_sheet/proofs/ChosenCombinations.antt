@@ -1,5 +1,5 @@
 -- The combinations that are made choice by choice are those of all choices.
-use Rattle.std.proofs.Common.{◌≡◌, ℕ, Bool, true, false, cond, List, [], ◌∷◌, ◌++◌, map, filter, refl, sym, ap, ◌∙◌, append-nil, append_assoc}
+use Rattle.std.proofs.Common.{◌≡◌, ℕ, List, [], ◌∷◌, ◌++◌, map, filter, refl, sym, ap, ◌∙◌, append-nil, append_assoc, arith}
 use Rattle.std.proofs.lemmas.List.{map-append}
 use Rattle.std.proofs.lemmas.List.Elements.{filter-append}
 use Rattle.crib_cards.specs.Cards.{rank_of}
@@ -28,16 +28,11 @@ passing_both kind all sets others =
 
 from_passes : (kind : Kind) (all taken left : List ℕ) → combinations_from kind all taken left ≡ passing kind all (behind taken (choices left))
 unfolding combinations_from
-from_passes kind all taken [] = one (counts_as kind all (map rank_of taken)) ∙ ap (λ cards. passing kind all (cards ∷ [])) (sym (append-nil taken))
-  where
-    one : (b : Bool) → cond b (combination kind taken ∷ []) [] ≡ map (combination kind) (cond b (taken ∷ []) [])
-    one true = refl
-    one false = refl
+from_passes kind all taken [] = grind (arith, append-nil taken)
 from_passes kind all taken (card ∷ left) =
-    (λ i. from_passes kind all (taken ++ card ∷ []) left i ++ from_passes kind all taken left i)
-    ∙ ap (λ sets. passing kind all sets ++ passing kind all (behind taken (choices left))) (sym (behind_one_more taken card (choices left)))
-    ∙ sym (passing_both kind all (behind taken (map (λ cards. card ∷ cards) (choices left))) (behind taken (choices left)))
-    ∙ ap (passing kind all) (sym (map-append (λ cards. taken ++ cards) (map (λ cards. card ∷ cards) (choices left)) (choices left)))
+    rw (from_passes kind all (taken ++ card ∷ []) left, from_passes kind all taken left, ← behind_one_more taken card (choices left))
+    (rw (← passing_both kind all (behind taken (map (λ cards. card ∷ cards) (choices left))) (behind taken (choices left)))
+    (rw (map-append (λ cards. taken ++ cards) (map (λ cards. card ∷ cards) (choices left)) (choices left)) refl))
 
 -- from no cards on they are all combinations of their kind
 pub from_none : (kind : Kind) (all : List ℕ) → combinations_from kind (map rank_of all) [] all ≡ combinations_of kind all

@@ -1,17 +1,15 @@
 -- The combinations of a hand or a crib add up to its points.
-use Rattle.std.proofs.Common.{◌≡◌, ℕ, ◌+◌, ◌*◌, suc, eqb, Bool, true, false, cond, ◌&&◌, ◌||◌, List, [], ◌∷◌, ◌++◌, length, map, filter, sum_by, count_by}
-use Rattle.std.proofs.Common.{refl, sym, ap, ◌∙◌, arith, zero-add}
-use Rattle.std.specs.List.{list_any}
+use Rattle.std.proofs.Common.{◌≡◌, ℕ, ◌+◌, ◌*◌, Bool, cond, List, [], ◌∷◌, ◌++◌, length, map, filter, sum_by, count_by}
+use Rattle.std.proofs.Common.{refl, sym, ap, ◌∙◌, arith}
 use Rattle.std.proofs.lemmas.List.{length-map}
 use Rattle.std.proofs.lemmas.List.Sums.{sum_by-append, sum_by-cons}
-use Rattle.crib_cards.specs.Cards.{rank_of, suit_of, jack}
-use Rattle.crib_show.specs.Show.{choices, is_fifteen, is_pair, are_of_suit, hand_flush, crib_flush, hand_points, crib_points, jack_points, plain_points}
+use Rattle.crib_cards.specs.Cards.{rank_of}
+use Rattle.crib_show.specs.Show.{choices, is_fifteen, is_pair, hand_flush, crib_flush, hand_points, crib_points, jack_points, plain_points}
 use Rattle.crib_show.proofs.Choices.{sum_by-choices}
 use Rattle.crib_show.proofs.ReorderedLists.{Reordered, behind, front, both, same_order}
 use Rattle.crib_show.proofs.RankLaw.{plain_of_ranks-reordered}
 use Rattle.crib_show.proofs.OrderLaw.{map-reordered}
 use Rattle.crib_sheet.specs.declared.game.combination.Kind.{Kind}
-use Rattle.crib_sheet.specs.declared.game.combination.Kind.TheVariants.{Fifteen, Pair, Run, Flush, Jack}
 use Rattle.crib_sheet.specs.declared.game.combination.Combination.{Combination}
 use Rattle.crib_sheet.specs.GameShow.{combination, worth, points_of, counts_as, combinations_of, plain_combinations, flush_in_hand, flush_in_crib}
 use Rattle.crib_sheet.specs.GameShow.{jack_among, hand_combinations, crib_combinations}
@@ -28,17 +26,9 @@ passing_points : (kind : Kind) (all : List ℕ) (sets : List (List ℕ)) →
     sum_by points_of (passing kind all sets) ≡ sum_by (λ cards. counted kind all (map rank_of cards)) sets
 passing_points kind all [] = refl
 passing_points kind all (cards ∷ sets) =
-    one (counts_as kind all (map rank_of cards)) (passing_points kind all sets)
-    ∙ sym (sum_by-cons (λ cards. counted kind all (map rank_of cards)) cards sets)
-  where
-    one : (b : Bool) → sum_by points_of (passing kind all sets) ≡ sum_by (λ cards. counted kind all (map rank_of cards)) sets →
-        sum_by points_of (map (combination kind) (cond b (cards ∷ filter (λ cards. counts_as kind all (map rank_of cards)) sets)
-        (filter (λ cards. counts_as kind all (map rank_of cards)) sets)))
-        ≡ (let n : ℕ = cond b (worth kind (length (map rank_of cards))) 0 in n) + sum_by (λ cards. counted kind all (map rank_of cards)) sets
-    one true rest =
-        sum_by-cons points_of (combination kind cards) (passing kind all sets)
-        ∙ (λ i. worth kind (sym (length-map cards rank_of) i) + rest i)
-    one false rest = rest ∙ sym (zero-add (sum_by (λ cards. counted kind all (map rank_of cards)) sets))
+    let one = sum_by-cons points_of (combination kind cards) (passing kind all sets) in
+    let ranks = sum_by-cons (λ some. counted kind all (map rank_of some)) cards sets in
+    grind (arith, passing_points kind all sets, length-map cards rank_of, one, ranks)
 
 -- the ranks of the choices are the choices of the ranks
 chosen_ranks : (f : List ℕ → ℕ) (cards : List ℕ) → sum_by (λ chosen. f (map rank_of chosen)) (choices cards) ≡ sum_by f (choices (map rank_of cards))
@@ -58,15 +48,7 @@ kind_points kind all =
 twice : (p : List ℕ → Bool) (sets : List (List ℕ)) → sum_by (λ set. cond (p set) 2 0) sets ≡ 2 * count_by p sets
 twice p [] = refl
 twice p (set ∷ sets) =
-    let rest = twice p sets in
-    let first = sum_by-cons (λ set. cond (p set) 2 0) set sets in
-    let counts = sum_by-cons (λ set. cond (p set) 1 0) set sets in
-    elim (p set) as (λ b. sum_by (λ set. cond (p set) 2 0) (set ∷ sets) ≡ (let n : ℕ = cond b 2 0 in n) + sum_by (λ set. cond (p set) 2 0) sets →
-    count_by p (set ∷ sets) ≡ (let n : ℕ = cond b 1 0 in n) + count_by p sets →
-    sum_by (λ set. cond (p set) 2 0) (set ∷ sets) ≡ 2 * count_by p (set ∷ sets)) [
-      | true ↦ λ e d. omega (arith, rest, e, d)
-      | false ↦ λ e d. omega (arith, rest, e, d)
-    ] first counts
+    grind (arith, twice p sets, sum_by-cons (λ set. cond (p set) 2 0) set sets, sum_by-cons (λ set. cond (p set) 1 0) set sets)
 
 pub starter_first : (cards : List ℕ) (starter : ℕ) → Reordered (cards ++ starter ∷ []) (starter ∷ cards)
 starter_first [] starter = same_order (starter ∷ [])
@@ -77,12 +59,7 @@ starter_first (card ∷ cards) starter =
 -- the points of the fifteens, pairs and runs
 plain_sum : (all : List ℕ) → sum_by points_of (plain_combinations all) ≡ plain_points all
 plain_sum all =
-    let fifteens = kind_points Fifteen all ∙ twice is_fifteen (choices (map rank_of all)) in
-    let pairs = kind_points Pair all ∙ twice is_pair (choices (map rank_of all)) in
-    let runs = kind_points Run all in
-    let apart = sum_by-append points_of (combinations_of Fifteen all) (combinations_of Pair all) in
-    sum_by-append points_of (combinations_of Fifteen all ++ combinations_of Pair all) (combinations_of Run all)
-    ∙ (λ i. (apart ∙ (λ j. fifteens j + pairs j)) i + runs i)
+    omega (arith, sum_by-append points_of, kind_points, twice is_fifteen, twice is_pair)
 
 plain_sum_of : (cards : List ℕ) (starter : ℕ) → sum_by points_of (plain_combinations (cards ++ starter ∷ [])) ≡ plain_points (starter ∷ cards)
 plain_sum_of cards starter =
@@ -92,50 +69,23 @@ plain_sum_of cards starter =
 
 hand_flush_sum : (cards : List ℕ) (starter : ℕ) → length cards ≡ 4 → sum_by points_of (flush_in_hand cards starter) ≡ hand_flush cards starter
 hand_flush_sum [] starter four = refl
-hand_flush_sum (a ∷ []) starter four = absurd (omega (arith, four))
-hand_flush_sum (a ∷ b ∷ []) starter four = absurd (omega (arith, four))
-hand_flush_sum (a ∷ b ∷ c ∷ []) starter four = absurd (omega (arith, four))
-hand_flush_sum (a ∷ b ∷ c ∷ d ∷ []) starter four =
-    either (are_of_suit a (b ∷ c ∷ d ∷ starter ∷ [])) (are_of_suit a (b ∷ c ∷ d ∷ []))
-  where
-    either : (all hand : Bool) →
-        sum_by points_of (cond all (combination Flush (a ∷ b ∷ c ∷ d ∷ starter ∷ []) ∷ []) (cond hand (combination Flush (a ∷ b ∷ c ∷ d ∷ []) ∷ []) []))
-        ≡ (let n : ℕ = cond all 5 (cond hand 4 0) in n)
-    either true hand = refl
-    either false true = refl
-    either false false = refl
-hand_flush_sum (a ∷ b ∷ c ∷ d ∷ e ∷ more) starter four = absurd (omega (arith, four))
+hand_flush_sum (a ∷ b ∷ c ∷ d ∷ []) starter four = grind (arith)
+hand_flush_sum _ starter four = absurd (omega (arith, four))
 
 crib_flush_sum : (cards : List ℕ) (starter : ℕ) → length cards ≡ 4 → sum_by points_of (flush_in_crib cards starter) ≡ crib_flush cards starter
-crib_flush_sum [] starter four = absurd (omega (arith, four))
-crib_flush_sum (a ∷ []) starter four = absurd (omega (arith, four))
-crib_flush_sum (a ∷ b ∷ []) starter four = absurd (omega (arith, four))
-crib_flush_sum (a ∷ b ∷ c ∷ []) starter four = absurd (omega (arith, four))
-crib_flush_sum (a ∷ b ∷ c ∷ d ∷ []) starter four = either (are_of_suit starter (a ∷ b ∷ c ∷ d ∷ []))
-  where
-    either : (all : Bool) → sum_by points_of (cond all (combination Flush (a ∷ b ∷ c ∷ d ∷ starter ∷ []) ∷ []) []) ≡ (let n : ℕ = cond all 5 0 in n)
-    either true = refl
-    either false = refl
-crib_flush_sum (a ∷ b ∷ c ∷ d ∷ e ∷ more) starter four = absurd (omega (arith, four))
+crib_flush_sum (a ∷ b ∷ c ∷ d ∷ []) starter four = grind (arith)
+crib_flush_sum _ starter four = absurd (omega (arith, four))
 
 jack_sum : (cards : List ℕ) (starter : ℕ) → sum_by points_of (jack_among cards starter) ≡ jack_points cards starter
 jack_sum [] starter = refl
-jack_sum (card ∷ cards) starter = either (eqb (rank_of card) jack && eqb (suit_of card) (suit_of starter)) (jack_sum cards starter)
-  where
-    either : (is : Bool) → sum_by points_of (jack_among cards starter) ≡ jack_points cards starter →
-        sum_by points_of (cond is (combination Jack (card ∷ []) ∷ []) (jack_among cards starter))
-        ≡ (let n : ℕ = cond (is || list_any (λ card. eqb (rank_of card) jack && eqb (suit_of card) (suit_of starter)) cards) 1 0 in n)
-    either true rest = refl
-    either false rest = rest
+jack_sum (card ∷ cards) starter = grind (arith, jack_sum cards starter)
 
 -- what is listed part after part adds up to the points of the parts
 listed_sum : (cards : List ℕ) (starter : ℕ) (flush : List Combination) {points : ℕ} {found flushed made : List Combination} →
     made ≡ flushed ++ jack_among cards starter → flushed ≡ found ++ flush → found ≡ plain_combinations (cards ++ starter ∷ []) →
     sum_by points_of flush ≡ points → sum_by points_of made ≡ plain_points (starter ∷ cards) + points + jack_points cards starter
 listed_sum cards starter flush {found = found} {flushed = flushed} last next first is =
-    let plain = ap (sum_by points_of) first ∙ plain_sum_of cards starter in
-    let both = ap (sum_by points_of) next ∙ sum_by-append points_of found flush ∙ (λ i. plain i + is i) in
-    ap (sum_by points_of) last ∙ sum_by-append points_of flushed (jack_among cards starter) ∙ (λ i. both i + jack_sum cards starter i)
+    omega (arith, ap (sum_by points_of) last, ap (sum_by points_of) next, ap (sum_by points_of) first, sum_by-append points_of, plain_sum_of, is, jack_sum)
 
 pub hand_sum : (cards : List ℕ) (starter : ℕ) → length cards ≡ 4 → sum_by points_of (hand_combinations cards starter) ≡ hand_points cards starter
 unfolding hand_combinations hand_points

@@ -1,16 +1,15 @@
 -- No combination is listed twice.
-use Rattle.std.proofs.Common.{◌≡◌, ◌≢◌, ℕ, suc, ◌<◌, eqb, Bool, true, false, cond, not, ◌&&◌, ◌||◌, List, [], ◌∷◌, ◌++◌, map, filter}
+use Rattle.std.proofs.Common.{◌≡◌, ◌≢◌, ℕ, suc, ◌<◌, eqb, Bool, true, false, not, List, [], ◌∷◌, ◌++◌, map, filter}
 use Rattle.std.proofs.Common.{refl, sym, ap, ◌∙◌, arith, true≢false}
 use Rattle.std.specs.List.{AllByRecursion}
-use Rattle.std.proofs.lemmas.Bool.{eq-eqb}
-use Rattle.crib_cards.specs.Cards.{rank_of, suit_of, jack}
+use Rattle.std.proofs.lemmas.Bool.{and_parts, cond_both, eq-eqb, not-true, or_parts}
 use Rattle.crib_cards.specs.Sets.{has, are_distinct}
-use Rattle.crib_show.specs.Show.{choices, are_of_suit}
+use Rattle.crib_show.specs.Show.{choices}
 use Rattle.crib_show.proofs.ReorderedLists.{are_distinct-reordered}
 use Rattle.crib_sheet.specs.declared.game.combination.Kind.{Kind}
 use Rattle.crib_sheet.specs.declared.game.combination.Kind.TheVariants.{Fifteen, Pair, Run, Flush, Jack}
 use Rattle.crib_sheet.specs.declared.game.combination.Combination.{Combination}
-use Rattle.crib_sheet.specs.GameShow.{combination, counts_as, combinations_of, plain_combinations, flush_in_hand, flush_in_crib}
+use Rattle.crib_sheet.specs.GameShow.{combination, combinations_of, plain_combinations, flush_in_hand, flush_in_crib}
 use Rattle.crib_sheet.specs.GameShow.{jack_among, hand_combinations, crib_combinations}
 use Rattle.crib_sheet.specs.GameShowLaws.{AllDiffer, HandListLaw, CribListLaw}
 use Rattle.crib_sheet.proofs.AllEntries.{all_both, all_every, all_filter, all_map, all_weaker}
@@ -26,29 +25,18 @@ differ_map f apart (x ∷ xs) differ = (
 
 differ_filter : {X : Type 0} (p : X → Bool) (xs : List X) → AllDiffer xs → AllDiffer (filter p xs)
 differ_filter p [] differ = tt
-differ_filter p (x ∷ xs) differ = one (p x) (differ_filter p xs differ.1)
-  where
-    one : (b : Bool) → AllDiffer (filter p xs) → AllDiffer (cond b (x ∷ filter p xs) (filter p xs))
-    one true rest = (all_filter (λ y. x ≢ y) p xs differ.0, rest)
-    one false rest = rest
+differ_filter p (x ∷ xs) differ =
+    cond_both (p x) _ _ AllDiffer (λ e. (all_filter (λ y. x ≢ y) p xs differ.0, differ_filter p xs differ.1)) (λ e. differ_filter p xs differ.1)
 
 pub differ_both : {X : Type 0} (xs ys : List X) → AllDiffer xs → AllDiffer ys → AllByRecursion (λ x. AllByRecursion (λ y. x ≢ y) ys) xs → AllDiffer (xs ++ ys)
 differ_both [] ys differ more apart = more
 differ_both (x ∷ xs) ys differ more apart = (all_both (λ y. x ≢ y) xs ys differ.0 apart.0, differ_both xs ys differ.1 more apart.1)
 
-split : (b d : Bool) → (not b && d) ≡ true → (b ≡ false) × (d ≡ true)
-split true d is = absurd cc
-split false d is = (refl, is)
-
-neither : (b d : Bool) → (b || d) ≡ false → (b ≡ false) × (d ≡ false)
-neither true d is = absurd cc
-neither false d is = (refl, is)
-
 -- no choice begins with a card that is not there
 begins : (card : ℕ) (cards : List ℕ) → has cards card ≡ false → AllByRecursion (λ set. (rest : List ℕ) → card ∷ rest ≢ set) (choices cards)
 begins card [] out = (λ rest e. absurd cc, tt)
 begins card (other ∷ cards) out =
-    let outs = neither (eqb other card) (has cards card) out in
+    let outs = or_parts (eqb other card) (has cards card) out in
     all_both (λ set. (rest : List ℕ) → card ∷ rest ≢ set) (map (λ set. other ∷ set) (choices cards)) (choices cards)
     (all_map (λ set. (rest : List ℕ) → card ∷ rest ≢ set) (λ set. other ∷ set) (choices cards)
     (all_every (λ set. (rest : List ℕ) → card ∷ rest ≢ other ∷ set)
@@ -59,14 +47,14 @@ begins card (other ∷ cards) out =
 choices_differ : (cards : List ℕ) → are_distinct cards ≡ true → AllDiffer (choices cards)
 choices_differ [] are = (tt, tt)
 choices_differ (card ∷ cards) are =
-    let parts = split (has cards card) (are_distinct cards) are in
+    let parts = and_parts (not (has cards card)) (are_distinct cards) are in
     let rest = choices_differ cards parts.1 in
     differ_both (map (λ set. card ∷ set) (choices cards)) (choices cards)
     (differ_map (λ set. card ∷ set) (λ set other e. cc) (choices cards) rest) rest
     (all_map (λ set. AllByRecursion (λ other. set ≢ other) (choices cards)) (λ set. card ∷ set) (choices cards)
     (all_every (λ set. AllByRecursion (λ other. card ∷ set ≢ other) (choices cards))
     (λ set. all_weaker (λ other. (rest : List ℕ) → card ∷ rest ≢ other) (λ other. card ∷ set ≢ other) (λ other begins. begins set) (choices cards)
-    (begins card cards parts.0)) (choices cards)))
+    (begins card cards (not-true (has cards card) parts.0))) (choices cards)))
 
 -- different entries, whose places are before a place
 pub record Stands {X : Type 0} (order : X → ℕ) (place : ℕ) (made : List X) : Type 0 where
@@ -105,17 +93,12 @@ AreAt place made = AllByRecursion (λ one. kind_order one ≡ place) made
 
 kind_at : (kind : Kind) (all : List ℕ) → AreAt (order kind) (combinations_of kind all)
 unfolding combinations_of
-kind_at kind all =
-    all_map (λ one. kind_order one ≡ order kind) (combination kind) (filter (λ cards. counts_as kind (map rank_of all) (map rank_of cards)) (choices all))
-    (all_every (λ cards. order kind ≡ order kind) (λ cards. refl)
-    (filter (λ cards. counts_as kind (map rank_of all) (map rank_of cards)) (choices all)))
+kind_at kind all = all_map (λ one. kind_order one ≡ order kind) (combination kind) _ (all_every (λ cards. order kind ≡ order kind) (λ cards. refl) _)
 
 kind_differs : (kind : Kind) (all : List ℕ) → are_distinct all ≡ true → AllDiffer (combinations_of kind all)
 unfolding combinations_of
 kind_differs kind all are =
-    differ_map (combination kind) (λ cards others e. ap (λ m. m.cards.items) e)
-    (filter (λ cards. counts_as kind (map rank_of all) (map rank_of cards)) (choices all))
-    (differ_filter (λ cards. counts_as kind (map rank_of all) (map rank_of cards)) (choices all) (choices_differ all are))
+    differ_map (combination kind) (λ cards others e. ap (λ m. m.cards.items) e) _ (differ_filter _ (choices all) (choices_differ all are))
 
 plain_stands : (all : List ℕ) → are_distinct all ≡ true → Stands kind_order 3 (plain_combinations all)
 plain_stands all are =
@@ -129,29 +112,14 @@ abbrev AreAlone : ℕ → List Combination → Type 0
 AreAlone place made = AreAt place made × AllDiffer made
 
 hand_flush_alone : (cards : List ℕ) (starter : ℕ) → AreAlone 3 (flush_in_hand cards starter)
-hand_flush_alone [] starter = (tt, tt)
-hand_flush_alone (card ∷ cards) starter = either (are_of_suit card (cards ++ starter ∷ [])) (are_of_suit card cards)
-  where
-    either : (all hand : Bool) →
-        AreAlone 3 (cond all (combination Flush (card ∷ cards ++ starter ∷ []) ∷ []) (cond hand (combination Flush (card ∷ cards) ∷ []) []))
-    either true hand = ((refl, tt), (tt, tt))
-    either false true = ((refl, tt), (tt, tt))
-    either false false = (tt, tt)
+hand_flush_alone cards starter = grind (arith)
 
 crib_flush_alone : (cards : List ℕ) (starter : ℕ) → AreAlone 3 (flush_in_crib cards starter)
-crib_flush_alone cards starter = either (are_of_suit starter cards)
-  where
-    either : (all : Bool) → AreAlone 3 (cond all (combination Flush (cards ++ starter ∷ []) ∷ []) [])
-    either true = ((refl, tt), (tt, tt))
-    either false = (tt, tt)
+crib_flush_alone cards starter = grind (arith)
 
 jack_alone : (cards : List ℕ) (starter : ℕ) → AreAlone 4 (jack_among cards starter)
 jack_alone [] starter = (tt, tt)
-jack_alone (card ∷ cards) starter = either (eqb (rank_of card) jack && eqb (suit_of card) (suit_of starter)) (jack_alone cards starter)
-  where
-    either : (is : Bool) → AreAlone 4 (jack_among cards starter) → AreAlone 4 (cond is (combination Jack (card ∷ []) ∷ []) (jack_among cards starter))
-    either true rest = ((refl, tt), (tt, tt))
-    either false rest = rest
+jack_alone (card ∷ cards) starter = grind (arith, jack_alone cards starter)
 
 all_distinct : (cards : List ℕ) (starter : ℕ) → are_distinct (starter ∷ cards) ≡ true → are_distinct (cards ++ starter ∷ []) ≡ true
 all_distinct cards starter are = are_distinct-reordered (cards ++ starter ∷ []) (starter ∷ cards) (starter_first cards starter) ∙ are

@@ -1,8 +1,9 @@
 -- Reasons and combinations add up to the points beside them, and no act lists a reason twice.
-use Rattle.std.proofs.Common.{◌≡◌, ◌≢◌, ℕ, suc, ◌<◌, Bool, true, false, cond, eqb, List, [], ◌∷◌, ◌++◌}
+use Rattle.std.proofs.Common.{◌≡◌, ℕ, suc, Bool, true, false, cond, eqb, List, [], ◌∷◌, ◌++◌}
 use Rattle.std.proofs.Common.{length, map, sum_by}
 use Rattle.std.proofs.Common.{refl, ap, subst, ◌∙◌, arith}
 use Rattle.std.specs.List.{AllByRecursion}
+use Rattle.std.proofs.lemmas.Bool.{cond_both, true≢false}
 use Rattle.std.proofs.lemmas.List.{length-append}
 use Rattle.crib_cards.specs.Letters.{letter_of}
 use Rattle.crib_cards.specs.Runs.{is_run}
@@ -27,7 +28,7 @@ use Rattle.crib_problem.specs.Setup.{Setup, IsSetup, start_of}
 use Rattle.crib_game.specs.declared.section.game.Game.{Game}
 use Rattle.crib_game.specs.declared.replaying.report.Row.{Row}
 use Rattle.crib_game.specs.declared.replaying.report.Report.{Report}
-use Rattle.crib_game.specs.Replay.{acts_back, full_of, is_done_for, record_of, show_if_done}
+use Rattle.crib_game.specs.Replay.{acts_back, full_of, is_done_for, record_of}
 use Rattle.crib_game.specs.Spelling.{AreSixCards}
 use Rattle.crib_sheet.specs.declared.game.reason.PlayReason.{PlayReason}
 use Rattle.crib_sheet.specs.declared.game.reason.PlayReason.TheVariants.{Fifteen, ThirtyOne, Alike, Run, Go, LastCard}
@@ -69,10 +70,9 @@ card_stands before count pile =
 
 -- a go that closes the pile leaves no pile for another one to close
 go_once : (own later : Bool) → (own ≡ true → later ≡ false) → AllDiffer (reason_if own Go ++ reason_if later Go)
-go_once true true apart = let e : true ≡ false = apart refl in absurd cc
-go_once true false apart = (tt, tt)
-go_once false true apart = (tt, tt)
+go_once true true apart = absurd (true≢false (apart refl))
 go_once false false apart = tt
+go_once _ _ apart = (tt, tt)
 
 added_differ : (start : Start) (turn : Letter) (seen : List Letter) → AllDiffer (reasons_added start turn seen)
 added_differ start (letter.Seen rank) seen =
@@ -101,8 +101,7 @@ reasons_add_up problem game report e = (
 
 row_and_more : (P : ShowRow → Type 0) (decided : Bool) (row : ShowRow) (rows : List ShowRow) → P row → AllByRecursion P rows
     → AllByRecursion P (cond decided [] (row ∷ rows))
-row_and_more P true row rows first others = tt
-row_and_more P false row rows first others = (first, others)
+row_and_more P decided row rows first others = cond_both decided [] (row ∷ rows) (AllByRecursion P) (λ e. tt) (λ e. (first, others))
 
 -- what holds of the row of each hand holds of all rows that are counted
 rows_all : (P : ShowRow → Type 0) (full : Full) (scores : Scores)
@@ -138,8 +137,5 @@ show_adds_up problem game setup six =
 pub hands_add_up : HandsAddUpLaw
 hands_add_up problem game report setup six e =
     subst (λ (r : Report). AllByRecursion (AddsUp problem game.opp) r.show.items) (reported problem game report e)
-    (if_done (is_done_for problem (record_of problem game)))
-  where
-    if_done : (done : Bool) → AllByRecursion (AddsUp problem game.opp) (show_if_done done (full_of problem game.opp (record_of problem game)))
-    if_done true = show_adds_up problem game setup six
-    if_done false = tt
+    (cond_both (is_done_for problem (record_of problem game)) _ _ (AllByRecursion (AddsUp problem game.opp))
+    (λ e. show_adds_up problem game setup six) (λ e. tt))

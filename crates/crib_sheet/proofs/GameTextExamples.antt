@@ -35,80 +35,39 @@ rest_of_the_show =
     ++ codes "The dealer's crib: 4S 6S 5H 7D with 3H, 9 points (you 11, they 15)\n  fifteen 2: 4S 6S 5H\n  fifteen 2: 5H 7D 3H\n"
     ++ codes "  run of five 5: 4S 6S 5H 7D 3H\n\nThe deal is over: you fall short of your goal.\n"
 
-whole_sheet : game_sheet_text level (game_with level_deal level_acts) ≡ Ok
-    (codes "You are the pone at 0, and the dealer is at 0. The starter is 3H.\nYou hold TC 9C 2C 8C and threw 4S 6S.\nYou want to win.\n"
-    ++ acts_and_hand ++ rest_of_the_show)
-unfolding digits right_in heading_text scores_line other_score own_line goal_line opening_line sheet_of dealt_line reason_text points_text score_text
-    act_text act_line act_lines counted_text counted_name counted_points combination_line combinations_of hand_combinations crib_combinations
-    show_of outcome_of hand_points crib_points
-whole_sheet = refl
+-- the heading of each sheet, but for the goal
+abbrev level_head : List ℕ
+level_head = codes "You are the pone at 0, and the dealer is at 0. The starter is 3H.\nYou hold TC 9C 2C 8C and threw 4S 6S.\n"
 
--- six turns were played already, and nothing else changes
-begun_sheet : game_sheet_text (record level { played = take 6 level_acts }) (game_with level_deal level_acts) ≡ Ok
-    (codes "You are the pone at 0, and the dealer is at 0. The starter is 3H.\nYou hold TC 9C 2C 8C and threw 4S 6S.\nYou want to win.\n"
-    ++ codes "The first 6 turns were played. Scores and cards are those before them.\n" ++ acts_and_hand ++ rest_of_the_show)
-unfolding digits right_in heading_text scores_line other_score own_line goal_line opening_line sheet_of dealt_line reason_text points_text score_text
-    act_text act_line act_lines counted_text counted_name counted_points combination_line combinations_of hand_combinations crib_combinations
-    show_of outcome_of hand_points crib_points
-begun_sheet = refl
-
--- the pone's hand reaches eleven holes, and nothing more is counted
-holes_sheet : game_sheet_text (record level { goal = Holes 11 }) (game_with level_deal level_acts) ≡ Ok
-    (codes "You are the pone at 0, and the dealer is at 0. The starter is 3H.\nYou hold TC 9C 2C 8C and threw 4S 6S.\n"
-    ++ codes "You want 11 holes or more in this deal.\n" ++ acts_and_hand
-    ++ codes "\nYou have reached your goal; the deal isn't counted further.\n")
-unfolding digits right_in heading_text scores_line other_score own_line goal_line opening_line sheet_of dealt_line reason_text points_text score_text
-    act_text act_line act_lines counted_text counted_name counted_points combination_line combinations_of hand_combinations crib_combinations
-    show_of outcome_of hand_points crib_points
-holes_sheet = refl
-
-open_sheet : game_sheet_text (record level { goal = Stop }) (game_with level_deal []) ≡ Ok
-    (codes "You are the pone at 0, and the dealer is at 0. The starter is 3H.\nYou hold TC 9C 2C 8C and threw 4S 6S.\n"
+-- a whole deal. Then six turns were played already, and nothing else changes. Then the pone's hand reaches eleven holes, and nothing
+-- more is counted. The last two: a game that has only begun, and one that is refused and has no sheet
+sheets_of_games :
+    (game_sheet_text level (game_with level_deal level_acts) ≡ Ok (level_head ++ codes "You want to win.\n" ++ acts_and_hand ++ rest_of_the_show))
+    × (game_sheet_text (record level { played = take 6 level_acts }) (game_with level_deal level_acts) ≡ Ok (level_head
+    ++ codes "You want to win.\nThe first 6 turns were played. Scores and cards are those before them.\n" ++ acts_and_hand ++ rest_of_the_show))
+    × (game_sheet_text (record level { goal = Holes 11 }) (game_with level_deal level_acts) ≡ Ok (level_head
+    ++ codes "You want 11 holes or more in this deal.\n" ++ acts_and_hand ++ codes "\nYou have reached your goal; the deal isn't counted further.\n"))
+    × (game_sheet_text (record level { goal = Stop }) (game_with level_deal []) ≡ Ok (level_head
     ++ codes "You want to keep the dealer from winning in this deal.\nThe dealer holds TD KD KH QS and threw 5H 7D.\n\n"
-    ++ codes " # side   card count you they  points\n\nThe deal isn't over yet.\n")
-unfolding digits right_in heading_text scores_line other_score own_line goal_line opening_line sheet_of dealt_line act_lines
-open_sheet = refl
+    ++ codes " # side   card count you they  points\n\nThe deal isn't over yet.\n"))
+    × (game_sheet_text level (game_with level_deal (plays Opponent 37 ∷ [])) ≡ Err (NotTurn 1))
+unfolding digits right_in heading_text scores_line other_score own_line goal_line opening_line sheet_of dealt_line reason_text points_text score_text act_text
+    act_line act_lines counted_text counted_name counted_points combination_line combinations_of hand_combinations crib_combinations show_of outcome_of
+    hand_points crib_points
+sheets_of_games = (refl, refl, refl, refl, refl)
 
--- a game that is refused has no sheet
-no_sheet : game_sheet_text level (game_with level_deal (plays Opponent 37 ∷ [])) ≡ Err (NotTurn 1)
-no_sheet = refl
+-- ---- words that these sheets don't have
 
--- ---- acts
-
-three_alike : reason_text (Alike 3) ≡ codes "three alike 6"
-unfolding digits reason_text
-three_alike = refl
-
-four_alike : reason_text (Alike 4) ≡ codes "four alike 12"
-unfolding digits reason_text
-four_alike = refl
-
-run_of_four : reason_text (Run 4) ≡ codes "run of four 4"
-unfolding digits reason_text
-run_of_four = refl
-
-run_of_six : run_word 6 ≡ codes "run of six"
-run_of_six = refl
-
-run_of_seven : run_word 7 ≡ codes "run of seven"
-run_of_seven = refl
-
--- ---- the show
-
-his_nobs : combination_line (combination Jack (43 ∷ [])) ≡ codes "  his nobs 1: JS\n"
-unfolding digits combination_line
-his_nobs = refl
-
-nothing_counts : combination_lines [] ≡ codes "  nothing counts\n"
-nothing_counts = refl
-
--- ---- the outcome
-
-lost : outcome_text Opponent Win (Some Lost) ≡ codes "\nThe deal is over: the dealer wins.\n"
-lost = refl
-
-won : outcome_text Owner Win (Some Reached) ≡ codes "\nThe deal is over: you win.\n"
-won = refl
-
-stopped : outcome_text Owner Stop (Some Reached) ≡ codes "\nThe deal is over: you keep the pone from winning.\n"
-stopped = refl
+words_of_games :
+    (reason_text (Alike 3) ≡ codes "three alike 6")
+    × (reason_text (Alike 4) ≡ codes "four alike 12")
+    × (reason_text (Run 4) ≡ codes "run of four 4")
+    × (run_word 6 ≡ codes "run of six")
+    × (run_word 7 ≡ codes "run of seven")
+    × (combination_line (combination Jack (43 ∷ [])) ≡ codes "  his nobs 1: JS\n")
+    × (combination_lines [] ≡ codes "  nothing counts\n")
+    × (outcome_text Opponent Win (Some Lost) ≡ codes "\nThe deal is over: the dealer wins.\n")
+    × (outcome_text Owner Win (Some Reached) ≡ codes "\nThe deal is over: you win.\n")
+    × (outcome_text Owner Stop (Some Reached) ≡ codes "\nThe deal is over: you keep the pone from winning.\n")
+unfolding digits reason_text combination_line
+words_of_games = (refl, refl, refl, refl, refl, refl, refl, refl, refl, refl)

@@ -1,7 +1,7 @@
 -- A game can be read back from its sheet: two games of a problem with the same sheet are equal.
 use Rattle.std.proofs.Common.{◌≡◌, ℕ, zero, suc, ◌+◌, ◌-◌, ◌<◌, List, [], ◌∷◌, ◌++◌, length, replicate, codes}
 use Rattle.std.proofs.Common.{decimal, flat_map, reverse}
-use Rattle.std.proofs.Common.{Option, Some, None, Ok, refl, sym, ap, subst, ◌∙◌, arith, append_assoc}
+use Rattle.std.proofs.Common.{Option, Some, None, Ok, refl, sym, ap, ◌∙◌, arith, append_assoc}
 use Rattle.std.specs.List.{AllByRecursion}
 use Rattle.std.proofs.lemmas.List.{append_cancel_left, append-nil}
 use Rattle.crib_cards.specs.Cards.{IsCard}
@@ -13,13 +13,13 @@ use Rattle.crib_cards.specs.declared.moves.Move.{Move}
 use Rattle.crib_cards.specs.declared.moves.Move.TheVariants as move
 use Rattle.crib_cards.specs.declared.sides.Dealt.{Dealt}
 use Rattle.crib_cards.specs.declared.sides.Side.{Side}
-use Rattle.crib_cards.specs.declared.sides.Side.TheVariants.{Owner, Opponent}
+use Rattle.crib_cards.specs.declared.sides.Side.TheVariants.{Opponent}
 use Rattle.crib_text.specs.Spelling.{line_feed, space}
 use Rattle.crib_play.specs.History.{moves_of}
 use Rattle.crib_play.specs.Legal.{letters_of}
 use Rattle.crib_plan.proofs.WordLemmas.{IsDigit, decimal_digits}
 use Rattle.crib_show.specs.declared.show.outcomes.Outcome.{Outcome}
-use Rattle.crib_show.specs.declared.show.outcomes.Outcome.TheVariants.{Reached, Lost, Short}
+use Rattle.crib_show.specs.declared.show.outcomes.Outcome.TheVariants.{Reached}
 use Rattle.crib_show.specs.declared.show.outcomes.ShowRow.{ShowRow}
 use Rattle.crib_problem.specs.declared.problem.Goal.{Goal}
 use Rattle.crib_problem.specs.declared.problem.Goal.TheVariants.{Win, Holes, Stop}
@@ -27,6 +27,7 @@ use Rattle.crib_problem.specs.Setup.{Setup, IsMove, start_of}
 use Rattle.crib_problem.specs.Spelling.{move_word}
 use Rattle.crib_problem.proofs.CardLemmas.{all_parts}
 use Rattle.crib_game.specs.declared.section.game.Game.{Game}
+use Rattle.crib_game.specs.declared.replaying.report.Report.{Report}
 use Rattle.crib_game.specs.declared.replaying.report.Row.{Row}
 use Rattle.crib_game.specs.declared.fault.GameFault.{GameFault}
 use Rattle.crib_game.specs.Replay.{act_row, acts_back, game_fault, report_of, unless_fault}
@@ -47,32 +48,24 @@ use Rattle.crib_sheet.proofs.PlayWalks.{each_from, forward, rows_from, rows_of_r
 same_spaced : (cards cards' rest rest' : List ℕ) → length cards ≡ length cards' → AllByRecursion IsCard cards → AllByRecursion IsCard cards'
     → flat_map spaced_card cards ++ rest ≡ flat_map spaced_card cards' ++ rest' → (cards ≡ cards') × (rest ≡ rest')
 same_spaced [] [] rest rest' long all all' same = (refl, same)
-same_spaced [] (card' ∷ cards') rest rest' long all all' same = absurd (omega (arith, long))
-same_spaced (card ∷ cards) [] rest rest' long all all' same = absurd (omega (arith, long))
 same_spaced (card ∷ cards) (card' ∷ cards') rest rest' long all all' same =
     let after : card_text card ++ (flat_map spaced_card cards ++ rest) ≡ card_text card' ++ (flat_map spaced_card cards' ++ rest') = cc in
     let first = same_cards card card' _ _ all.0 all'.0 after in
     let more = same_spaced cards cards' rest rest' (omega (arith, long)) all.1 all'.1 first.1 in
     ((λ i. first.0 i ∷ more.0 i), more.1)
+same_spaced _ _ rest rest' long all all' same = absurd (omega (arith, long))
 
 same_moves : (what what' : Move) (rest rest' : List ℕ) → IsMove what → IsMove what' → move_word what ++ rest ≡ move_word what' ++ rest'
     → what ≡ what'
 same_moves (move.Card card) (move.Card card') rest rest' is is' same = ap move.Card (same_cards card card' rest rest' is is' same).0
+same_moves move.Go move.Go rest rest' is is' same = refl
 same_moves (move.Card card) move.Go rest rest' is is' same = absurd (no_card 103 card refl is cc)
 same_moves move.Go (move.Card card') rest rest' is is' same = absurd (no_card 103 card' refl is' cc)
-same_moves move.Go move.Go rest rest' is is' same = refl
 
 -- a side in its column
 same_sides : (dealer side side' : Side) (rest rest' : List ℕ) → left_in 6 (role_word dealer side) ++ rest ≡ left_in 6 (role_word dealer side') ++ rest'
     → (side ≡ side') × (rest ≡ rest')
-same_sides Owner Owner Owner rest rest' same = (refl, cc)
-same_sides Owner Owner Opponent rest rest' same = let e : ◌≡◌ {A = ℕ} 100 112 = cc in absurd (omega (arith, e))
-same_sides Owner Opponent Owner rest rest' same = let e : ◌≡◌ {A = ℕ} 112 100 = cc in absurd (omega (arith, e))
-same_sides Owner Opponent Opponent rest rest' same = (refl, cc)
-same_sides Opponent Owner Owner rest rest' same = (refl, cc)
-same_sides Opponent Owner Opponent rest rest' same = let e : ◌≡◌ {A = ℕ} 112 100 = cc in absurd (omega (arith, e))
-same_sides Opponent Opponent Owner rest rest' same = let e : ◌≡◌ {A = ℕ} 100 112 = cc in absurd (omega (arith, e))
-same_sides Opponent Opponent Opponent rest rest' same = (refl, cc)
+same_sides dealer side side' rest rest' same = grind (arith)
 
 -- ---- the line of an act
 
@@ -87,16 +80,14 @@ line_is : (dealer : Side) (number : ℕ) (last : Side) (row : Row) (reasons : Li
     ≡ right_in 2 number ++ (codes " " ++ (left_in 6 (role_word dealer row.act.side) ++ (codes " " ++ (move_word row.act.what
     ++ (codes "      " ++ (right_in 2 row.count ++ (score_text row.scores ++ (points_text dealer last row reasons ++ (codes "\n" ++ (more ++ rest))))))))))
 unfolding act_line act_text
-line_is dealer number last row reasons more rest =
-    pieces (right_in 2 number) (codes " ") (left_in 6 (role_word dealer row.act.side)) (codes " ") (move_word row.act.what) (codes "      ")
-    (right_in 2 row.count) (score_text row.scores) (points_text dealer last row reasons) (codes "\n") more rest
+line_is dealer number last row reasons more rest = search pieces
 
 -- a line begins with a space or a digit
 not_feed : (blanks : ℕ) (digits x rest : List ℕ) → AllByRecursion IsDigit digits → 0 < blanks + length digits
     → (replicate blanks space ++ digits) ++ x ≡ line_feed ∷ rest → ⊥
 not_feed zero [] x rest all some same = absurd (omega (arith, some))
-not_feed zero (digit ∷ digits) x rest all some same = let e : digit ≡ line_feed = cc in let h = all.0.0 in absurd (omega (arith, e, h))
-not_feed (suc blanks) digits x rest all some same = let e : space ≡ line_feed = cc in absurd (omega (arith, e))
+not_feed zero (digit ∷ digits) x rest all some same = (let h = all.0.0 in let e : digit ≡ line_feed = cc in omega (arith, e, h))
+not_feed (suc blanks) digits x rest all some same = (let e : space ≡ line_feed = cc in omega (arith, e))
 
 no_line : (number : ℕ) (x rest : List ℕ) → number < 100 → right_in 2 number ++ x ≡ line_feed ∷ rest → ⊥
 unfolding right_in
@@ -130,17 +121,9 @@ first_act : (dealer : Side) (start : Start) (number : ℕ) (last : Side) (before
     → lines_from dealer start number last before (act ∷ acts) ++ rest ≡ lines_from dealer start number last before (act' ∷ acts') ++ rest' → act ≡ act'
 unfolding act_lines
 first_act dealer start number last before act act' acts acts' rest rest' is is' same =
-    let row = act_row start act before in
-    let row' = act_row start act' before in
-    let own = reasons_after start act before in
-    let own' = reasons_after start act' before in
-    let after = last_after act.side act.what last in
-    let after' = last_after act'.side act'.what last in
     let opened =
-    sym (line_is dealer number after row own (lines_from dealer start (number + 1) after (act ∷ before) acts) rest) ∙ same
-    ∙ line_is dealer number after' row' own' (lines_from dealer start (number + 1) after' (act' ∷ before) acts') rest' in
-    let sides =
-    same_sides dealer act.side act'.side _ _ (append_cancel_left (codes " ") _ _ (append_cancel_left (right_in 2 number) _ _ opened)) in
+    sym (line_is dealer number _ (act_row start act before) _ _ rest) ∙ same ∙ line_is dealer number _ (act_row start act' before) _ _ rest' in
+    let sides = same_sides dealer act.side act'.side _ _ (append_cancel_left (codes " ") _ _ (append_cancel_left (right_in 2 number) _ _ opened)) in
     let moves = same_moves act.what act'.what _ _ is is' (append_cancel_left (codes " ") _ _ sides.1) in
     (λ i. record { side = sides.0 i; what = moves i })
 
@@ -151,41 +134,26 @@ same_acts : (dealer : Side) (start : Start) (number : ℕ) (last : Side) (before
 unfolding act_lines
 same_acts dealer start number last before [] [] rest rest' few few' are are' same = refl
 same_acts dealer start number last before [] (act' ∷ acts') rest rest' few few' are are' same =
-    let after = last_after act'.side act'.what last in
-    let own = reasons_after start act' before in
-    absurd (no_line number _ rest (omega arith)
-    (sym (line_is dealer number after (act_row start act' before) own (lines_from dealer start (number + 1) after (act' ∷ before) acts') (line_feed ∷ rest'))
-    ∙ sym same))
+    absurd (no_line number _ rest (omega arith) (sym (line_is dealer number _ (act_row start act' before) _ _ (line_feed ∷ rest')) ∙ sym same))
 same_acts dealer start number last before (act ∷ acts) [] rest rest' few few' are are' same =
-    let after = last_after act.side act.what last in
-    let own = reasons_after start act before in
-    absurd (no_line number _ rest' (omega arith)
-    (sym (line_is dealer number after (act_row start act before) own (lines_from dealer start (number + 1) after (act ∷ before) acts) (line_feed ∷ rest))
-    ∙ same))
+    absurd (no_line number _ rest' (omega arith) (sym (line_is dealer number _ (act_row start act before) _ _ (line_feed ∷ rest)) ∙ same))
 same_acts dealer start number last before (act ∷ acts) (act' ∷ acts') rest rest' few few' are are' same =
     let first = first_act dealer start number last before act act' acts acts' (line_feed ∷ rest) (line_feed ∷ rest') are.0 are'.0 same in
-    let lines = λ (one : Act). lines_from dealer start number last before (one ∷ acts') in
-    let again = subst (λ (one : Act). lines_from dealer start number last before (act ∷ acts) ++ line_feed ∷ rest ≡ lines one ++ line_feed ∷ rest')
-    (sym first) same in
+    let again : lines_from dealer start number last before (act ∷ acts) ++ line_feed ∷ rest
+    ≡ lines_from dealer start number last before (act ∷ acts') ++ line_feed ∷ rest' = rw (sym first) at same in
     let after = last_after act.side act.what last in
-    let own = reasons_after start act before in
-    let line = act_line dealer number after (act_row start act before) own in
-    let others =
-    append_cancel_left line _ _
-    (sym (append_assoc line (lines_from dealer start (number + 1) after (act ∷ before) acts) (line_feed ∷ rest)) ∙ again
-    ∙ append_assoc line (lines_from dealer start (number + 1) after (act ∷ before) acts') (line_feed ∷ rest')) in
+    let line = act_line dealer number after (act_row start act before) (reasons_after start act before) in
+    let others = append_cancel_left line _ _ (sym (append_assoc line _ (line_feed ∷ rest)) ∙ again ∙ append_assoc line _ (line_feed ∷ rest')) in
     let more = same_acts dealer start (number + 1) after (act ∷ before) acts acts' rest rest' (omega arith) (omega arith) are.1 are'.1 others in
     (λ i. first i ∷ more i)
 
 -- ---- what comes after the acts
 
 outcome_feeds : (dealer : Side) (goal : Goal) (over : Option Outcome) → (rest : List ℕ) × (outcome_text dealer goal over ≡ line_feed ∷ rest)
-outcome_feeds dealer goal None = (_, refl)
 outcome_feeds dealer Win (Some Reached) = (_, refl)
 outcome_feeds dealer (Holes holes) (Some Reached) = (_, refl)
 outcome_feeds dealer Stop (Some Reached) = (_, refl)
-outcome_feeds dealer goal (Some Lost) = (_, refl)
-outcome_feeds dealer goal (Some Short) = (_, refl)
+outcome_feeds dealer goal _ = (_, refl)
 
 show_feeds : (problem : Setup) (dealt : Dealt) (rows : List ShowRow) (over : Option Outcome)
     → (rest : List ℕ) × (flat_map (counted_text problem dealt) rows ++ outcome_text problem.dealer problem.goal over ≡ line_feed ∷ rest)
@@ -206,14 +174,13 @@ same_deals : (dealer : Side) (dealt dealt' : Dealt) (rest rest' : List ℕ) → 
     → dealt_line dealer dealt ++ rest ≡ dealt_line dealer dealt' ++ rest' → (dealt ≡ dealt') × (rest ≡ rest')
 unfolding dealt_line
 same_deals dealer dealt dealt' rest rest' six six' same =
-    let role = role_word dealer Opponent in
     let cards = all_parts dealt.hold dealt.throw six.cards in
     let cards' = all_parts dealt'.hold dealt'.throw six'.cards in
     let opened =
-    sym (opened_deal (codes "The ") role (codes " holds") (spaced_cards dealt.hold) (codes " and threw") (spaced_cards dealt.throw) (codes ".\n") rest) ∙ same
-    ∙ opened_deal (codes "The ") role (codes " holds") (spaced_cards dealt'.hold) (codes " and threw") (spaced_cards dealt'.throw) (codes ".\n")
-    rest' in
-    let holds = append_cancel_left (codes " holds") _ _ (append_cancel_left role _ _ (append_cancel_left (codes "The ") _ _ opened)) in
+    sym (opened_deal (codes "The ") _ (codes " holds") (spaced_cards dealt.hold) (codes " and threw") (spaced_cards dealt.throw) (codes ".\n") rest) ∙ same
+    ∙ opened_deal (codes "The ") (role_word dealer Opponent) (codes " holds") (spaced_cards dealt'.hold) (codes " and threw") (spaced_cards dealt'.throw)
+    (codes ".\n") rest' in
+    let holds = append_cancel_left (codes " holds") _ _ (append_cancel_left (role_word dealer Opponent) _ _ (append_cancel_left (codes "The ") _ _ opened)) in
     let hold = same_spaced dealt.hold dealt'.hold _ _ (six.held ∙ sym six'.held) cards.0 cards'.0 holds in
     let throw =
     same_spaced dealt.throw dealt'.throw _ _ (six.thrown ∙ sym six'.thrown) cards.1 cards'.1 (append_cancel_left (codes " and threw") _ _ hold.1) in
@@ -226,18 +193,11 @@ lines_of problem game = lines_from problem.dealer (start_of problem) 1 (pone_of 
 rows_are : (problem : Setup) (game : Game) → rows_text problem (report_of problem game) (game_reasons problem game) ≡ lines_of problem game
 rows_are problem game = λ i. act_lines problem.dealer 1 (pone_of (start_of problem)) (rows_of_report problem game i) (reasons_of_game problem game i)
 
-sheet_opened : (problem : Setup) (game : Game)
-    → sheet_of problem game.opp (report_of problem game) (game_reasons problem game)
-    ≡ heading_text problem ++ (dealt_line problem.dealer game.opp ++ (columns_line
-    ++ (rows_text problem (report_of problem game) (game_reasons problem game)
-    ++ (flat_map (counted_text problem game.opp) (report_of problem game).show.items
-    ++ outcome_text problem.dealer problem.goal (report_of problem game).over))))
+sheet_opened : (problem : Setup) (opp : Dealt) (report : Report) (reasons : List (List PlayReason)) → sheet_of problem opp report reasons
+    ≡ heading_text problem ++ (dealt_line problem.dealer opp ++ (columns_line ++ (rows_text problem report reasons
+    ++ (flat_map (counted_text problem opp) report.show.items ++ outcome_text problem.dealer problem.goal report.over))))
 unfolding sheet_of
-sheet_opened problem game =
-    regroup (heading_text problem) (dealt_line problem.dealer game.opp) columns_line
-    (rows_text problem (report_of problem game) (game_reasons problem game))
-    (flat_map (counted_text problem game.opp) (report_of problem game).show.items)
-    (outcome_text problem.dealer problem.goal (report_of problem game).over)
+sheet_opened problem opp report reasons = search regroup
 
 -- the sheet of a game, piece by piece: the heading, the deal, the acts, and then a line feed
 abbrev Opens : Setup → Game → List ℕ → Type 0
@@ -254,7 +214,7 @@ opened_sheet problem game text is = of_fault (game_fault problem game) is
         let feeds = show_feeds problem game.opp report.show.items report.over in
         let whole : sheet_of problem game.opp report (game_reasons problem game) ≡ text = cc in (
           feeds.0,
-          sym whole ∙ sheet_opened problem game
+          sym whole ∙ sheet_opened problem game.opp report (game_reasons problem game)
               ∙ (λ i. heading_text problem ++ (dealt_line problem.dealer game.opp ++ (columns_line ++ (rows_are problem game i ++ feeds.1 i)))),
         )
     of_fault (Some fault) is = absurd cc

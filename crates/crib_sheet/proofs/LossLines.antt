@@ -1,6 +1,6 @@
 -- The lines of the deals that beat a plan, as the writers put them.
 use Rattle.std.proofs.Common.{◌≡◌, ◌≢◌, ◌≤◌, ℕ, ◌-◌, ◌/◌, Bool, false, List, [], ◌∷◌, ◌++◌, length, get_or, take, drop, replicate, codes, count_by}
-use Rattle.std.proofs.Common.{refl, ap, ◌∙◌, append_assoc, arith, rules}
+use Rattle.std.proofs.Common.{refl, ◌∙◌, append_assoc, arith, rules}
 use Rattle.std.specs.List.{list_all}
 use Rattle.std.proofs.lemmas.Bool.{le-ltb, ne_eqb}
 use Rattle.std.proofs.lemmas.List.{take-replicate, take_all}
@@ -16,12 +16,8 @@ pub loss_line_is : (front figure word : List ℕ) (deals blank gap : ℕ) → fi
     ≡ loss_line front deals word
 unfolding loss_line
 loss_line_is front figure word deals blank gap is left right =
-    let spaces : take blank (replicate 25 space) ≡ replicate (25 - length front) space =
-    ap (λ (k : ℕ). take k (replicate 25 space)) left ∙ take-replicate (25 - length front) 25 space (omega arith) in
-    let more : take gap (replicate 11 space) ≡ replicate (11 - length (grouped deals)) space =
-    ap (λ (k : ℕ). take k (replicate 11 space)) (right ∙ ap (λ (bytes : List ℕ). 11 - length bytes) is)
-    ∙ take-replicate (11 - length (grouped deals)) 11 space (omega arith) in
-    rw (spaces, more, is) (search rules)
+    rw (left, take-replicate (25 - length front) 25 space (omega arith), right, is, take-replicate (11 - length (grouped deals)) 11 space (omega arith))
+    (search rules)
 
 -- ---- slots
 

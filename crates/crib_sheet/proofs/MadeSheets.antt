@@ -123,15 +123,6 @@ pub said : (input : List ℕ) (reason : Reason) (message : List ℕ) {s t u : St
 said input reason message is puts (acts, shown, prints) whole =
     (prints.same, (message ++ acts, (message, acts, is, shown, refl), written (more puts prints) whole))
 
-pub ruleset made = (
-  plan_refused,
-  plan_without_memory,
-  plan_made,
-  game_refused,
-  game_judged,
-  game_made,
-  beaten_refused,
-  beaten_without_memory,
-  beaten_made,
-  beaten_answers,
-)
+pub ruleset made_plans = (plan_refused, plan_without_memory, plan_made, beaten_refused, beaten_without_memory, beaten_made, beaten_answers)
+
+pub ruleset made = (made_plans, game_refused, game_judged, game_made)

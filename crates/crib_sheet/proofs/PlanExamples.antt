@@ -48,39 +48,13 @@ eights_row last =
 abbrev pub eights_sheet : Sheet
 eights_sheet = sheet_with (λ node. node == 10) three_eights
 
-pub one_paragraph : eights_sheet ≡ record { first = eights_row (Named 10); paragraphs = record { number = 10; row = Plays spade Over } ∷ [] }
-unfolding sheet_with
-one_paragraph = refl
-
-pub no_paragraph : sheet_with (λ node. false) three_eights ≡ record { first = eights_row (Plays spade Over); paragraphs = [] }
-unfolding sheet_with
-no_paragraph = refl
-
-pub at_first : sheet_card eights_sheet [] ≡ Some diamond
+-- a card that the dealer shows before a look changes nothing, and no line is for a go
+pub cards_of_eights : map (sheet_card eights_sheet)
+    ([] ∷ (Shown (Seen 5) ∷ []) ∷ (OwnCard ∷ []) ∷ (OwnCard ∷ Shown (Seen 3) ∷ OwnCard ∷ Shown (Seen 2) ∷ [])
+    ∷ (OwnCard ∷ Shown (Seen 2) ∷ OwnCard ∷ OwnCard ∷ []) ∷ (OwnCard ∷ Shown Go ∷ []) ∷ [])
+    ≡ Some diamond ∷ Some diamond ∷ None ∷ Some spade ∷ Some spade ∷ None ∷ []
 unfolding sheet_with sheet_card
-at_first = refl
-
--- a card that the dealer shows before a look changes nothing
-pub before_a_look : sheet_card eights_sheet (Shown (Seen 5) ∷ []) ≡ Some diamond
-unfolding sheet_with sheet_card
-before_a_look = refl
-
-pub at_a_look : sheet_card eights_sheet (OwnCard ∷ []) ≡ None
-unfolding sheet_with sheet_card
-at_a_look = refl
-
-pub after_a_three_and_a_two : sheet_card eights_sheet (OwnCard ∷ Shown (Seen 3) ∷ OwnCard ∷ Shown (Seen 2) ∷ []) ≡ Some spade
-unfolding sheet_with sheet_card
-after_a_three_and_a_two = refl
-
-pub in_the_paragraph : sheet_card eights_sheet (OwnCard ∷ Shown (Seen 2) ∷ OwnCard ∷ OwnCard ∷ []) ≡ Some spade
-unfolding sheet_with sheet_card
-in_the_paragraph = refl
-
--- no line is for a go
-pub after_a_go : sheet_card eights_sheet (OwnCard ∷ Shown Go ∷ []) ≡ None
-unfolding sheet_with sheet_card
-after_a_go = refl
+cards_of_eights = refl
 
 -- ---- lines
 
@@ -89,30 +63,24 @@ abbrev by_twos : List Node
 by_twos =
     See (To 1 ∷ To 1 ∷ To 2 ∷ To 2 ∷ End ∷ To 3 ∷ To 3 ∷ replicate 7 End) ∷ Play deuce End ∷ Play heart End ∷ Play spade End ∷ []
 
-pub a_line_for_each_node : sheet_with (λ node. false) by_twos ≡ record {
-  first = look ((codes "A2", Plays deuce Over) ∷ (codes "34", Plays heart Over) ∷ (codes "67", Plays spade Over) ∷ []);
-  paragraphs = [];
-}
+pub sheets_of_plans :
+    (eights_sheet ≡ record { first = eights_row (Named 10); paragraphs = record { number = 10; row = Plays spade Over } ∷ [] })
+    × (sheet_with (λ node. false) three_eights ≡ record { first = eights_row (Plays spade Over); paragraphs = [] })
+    × (sheet_with (λ node. false) by_twos
+    ≡ record { first = look ((codes "A2", Plays deuce Over) ∷ (codes "34", Plays heart Over) ∷ (codes "67", Plays spade Over) ∷ []); paragraphs = [] })
+    × (sheet_with (λ node. nat_le 2 node) by_twos ≡ record {
+      first = look ((codes "A2", Plays deuce Over) ∷ (codes "34", Named 2) ∷ (codes "67", Named 3) ∷ []);
+      paragraphs = record { number = 2; row = Plays heart Over } ∷ record { number = 3; row = Plays spade Over } ∷ [];
+    })
 unfolding sheet_with
-a_line_for_each_node = refl
-
-pub two_paragraphs : sheet_with (λ node. nat_le 2 node) by_twos ≡ record {
-  first = look ((codes "A2", Plays deuce Over) ∷ (codes "34", Named 2) ∷ (codes "67", Named 3) ∷ []);
-  paragraphs = record { number = 2; row = Plays heart Over } ∷ record { number = 3; row = Plays spade Over } ∷ [];
-}
-unfolding sheet_with
-two_paragraphs = refl
-
-pub for_no_letter : row_for (Line [] (Plays spade Over) NoLine) Go ≡ Over
-for_no_letter = refl
+sheets_of_plans = (refl, refl, refl, refl)
 
 -- ---- nodes with paragraphs of their own
 
-pub in_an_outline : apart_in (false ∷ true ∷ []) 1 ≡ true
-in_an_outline = refl
-
-pub not_apart : apart_in (false ∷ true ∷ []) 0 ≡ false
-not_apart = refl
-
-pub past_an_outline : apart_in (true ∷ []) 1 ≡ false
-past_an_outline = refl
+-- no line is for no letter. In an outline, before it, and past it
+pub nodes_apart :
+    (row_for (Line [] (Plays spade Over) NoLine) Go ≡ Over)
+    × (apart_in (false ∷ true ∷ []) 1 ≡ true)
+    × (apart_in (false ∷ true ∷ []) 0 ≡ false)
+    × (apart_in (true ∷ []) 1 ≡ false)
+nodes_apart = (refl, refl, refl, refl)

@@ -32,21 +32,6 @@ sure_head : (losses : Losses) → head_text after_tens [] Holds losses ≡
 unfolding digits heading_text scores_line other_score own_line goal_line opening_line sure_text turn_line now_line
 sure_head losses = refl
 
-losing_head : failing_text close_to_lost [] Lost (game_with pairing (plays Owner 0 ∷ plays Opponent 1 ∷ [])) ≡
-    codes "In this game you lose:\n\nYou are the pone at 100, and the dealer is at 119. The starter is KD.\n"
-    ++ codes "You hold AC 2C 2D 2H and threw 4C 6D.\nYou want to win.\nThe dealer holds AD AH AS 2S and threw 3C 3D.\n\n"
-    ++ codes " # side   card count you they  points\n 1 pone   AC       1 100  119\n 2 dealer AD       2 100  121  2: pair 2\n\n"
-    ++ codes "The deal is over: the dealer wins.\n\nThe plan:\n\n"
-unfolding digits right_in heading_text scores_line other_score own_line goal_line opening_line failing_text sheet_of dealt_line reason_text points_text
-    score_text act_text act_line act_lines show_of outcome_of hand_points crib_points
-losing_head = refl
-
-without_a_card : failing_line Stuck ≡ codes "In this game it states no card that you can play:\n"
-without_a_card = refl
-
-short_of_the_goal : failing_line Short ≡ codes "In this game you fall short of your goal:\n"
-short_of_the_goal = refl
-
 -- ---- pages
 
 -- how to read each sheet
@@ -62,18 +47,12 @@ if_sure = codes "nothing is left to decide, or\nyour goal is reached: then play 
 unfoldable pub otherwise : List ℕ
 otherwise = codes "the plan states nothing more.\n"
 
-page_without_a_card : page_text true (record { first = Over; paragraphs = [] }) ≡ codes "No card is needed.\n" ++ how_to_read ++ if_sure
-unfolding page_text sheet_text legend_text if_sure
-page_without_a_card = refl
-
-page_that_states_no_card :
-    page_text false (record { first = Over; paragraphs = [] }) ≡ codes "The plan states no card.\n" ++ how_to_read ++ otherwise
-unfolding page_text sheet_text legend_text otherwise
-page_that_states_no_card = refl
-
-page_of_a_card : page_text true (record { first = Plays 31 Over; paragraphs = [] }) ≡ codes "8S\n" ++ how_to_read ++ if_sure
-unfolding page_text sheet_text legend_text if_sure
-page_of_a_card = refl
+pages_without_a_look :
+    (page_text true (record { first = Over; paragraphs = [] }) ≡ codes "No card is needed.\n" ++ how_to_read ++ if_sure)
+    × (page_text false (record { first = Over; paragraphs = [] }) ≡ codes "The plan states no card.\n" ++ how_to_read ++ otherwise)
+    × (page_text true (record { first = Plays 31 Over; paragraphs = [] }) ≡ codes "8S\n" ++ how_to_read ++ if_sure)
+unfolding page_text sheet_text legend_text if_sure otherwise
+pages_without_a_look = (refl, refl, refl)
 
 -- ---- why a plan is stuck
 
@@ -84,40 +63,34 @@ kings = plays Owner 0 ∷ plays Opponent 48 ∷ []
 unfoldable pub one_line : List Node
 one_line = Play 0 (To 1) ∷ See (End ∷ To 2 ∷ End ∷ End ∷ End ∷ End ∷ End ∷ End ∷ End ∷ End ∷ End ∷ End ∷ End ∷ End ∷ []) ∷ Play 4 End ∷ []
 
-no_line_for_a_king : stuck_text close_to_lost one_line kings ≡ codes "They show K, and node 1 has no line for it.\n"
-unfolding digits stuck_text stuck_words kings one_line
-no_line_for_a_king = refl
-
-stuck_head : failing_text close_to_lost one_line Stuck (game_with (record pairing { hold = 1 ∷ 2 ∷ 3 ∷ 48 ∷ [] }) kings) ≡
+heads_of_failing_plans :
+    (failing_text close_to_lost [] Lost (game_with pairing (plays Owner 0 ∷ plays Opponent 1 ∷ [])) ≡
+    codes "In this game you lose:\n\nYou are the pone at 100, and the dealer is at 119. The starter is KD.\n"
+    ++ codes "You hold AC 2C 2D 2H and threw 4C 6D.\nYou want to win.\nThe dealer holds AD AH AS 2S and threw 3C 3D.\n\n"
+    ++ codes " # side   card count you they  points\n 1 pone   AC       1 100  119\n 2 dealer AD       2 100  121  2: pair 2\n\n"
+    ++ codes "The deal is over: the dealer wins.\n\nThe plan:\n\n")
+    × (failing_text close_to_lost one_line Stuck (game_with (record pairing { hold = 1 ∷ 2 ∷ 3 ∷ 48 ∷ [] }) kings) ≡
     codes "In this game it states no card that you can play:\n\nYou are the pone at 100, and the dealer is at 119. "
     ++ codes "The starter is KD.\nYou hold AC 2C 2D 2H and threw 4C 6D.\nYou want to win.\nThe dealer holds AD AH AS KC and threw 3C 3D.\n\n"
     ++ codes " # side   card count you they  points\n 1 pone   AC       1 100  119\n 2 dealer KC      11 100  119\n\n"
-    ++ codes "The deal isn't over yet.\n\nThey show K, and node 1 has no line for it.\n\nThe plan:\n\n"
+    ++ codes "The deal isn't over yet.\n\nThey show K, and node 1 has no line for it.\n\nThe plan:\n\n")
 unfolding digits right_in heading_text scores_line other_score own_line goal_line opening_line failing_text sheet_of dealt_line reason_text points_text
     score_text act_text act_line act_lines show_of outcome_of hand_points crib_points stuck_text stuck_words kings one_line
-stuck_head = refl
+heads_of_failing_plans = (refl, refl)
 
 unsure_head : (losses : Losses) → head_text close_to_lost one_line (Fails Stuck (game_with pairing [])) losses
     ≡ losses_text losses ++ failing_text close_to_lost one_line Stuck (game_with pairing [])
 unsure_head losses = refl
 
-a_card_that_is_not_held : stuck_text close_to_lost (Play 28 End ∷ []) [] ≡ codes "Node 0 states 8C, which you don't hold.\n"
-unfolding digits stuck_text stuck_words
-a_card_that_is_not_held = refl
-
-a_card_that_was_played : stuck_text close_to_lost (Play 0 (To 1) ∷ Play 0 End ∷ []) kings ≡ codes "Node 1 states AC, which you don't hold.\n"
-unfolding digits stuck_text stuck_words kings
-a_card_that_was_played = refl
-
-the_end_of_the_plan : stuck_text close_to_lost (Play 0 End ∷ []) kings ≡ codes "The plan ends at node 0.\n"
-unfolding digits stuck_text stuck_words kings
-the_end_of_the_plan = refl
-
-a_look_at_your_turn : stuck_text close_to_lost (Play 0 (To 1) ∷ Play 4 (To 2) ∷ See [] ∷ []) (plays Owner 0 ∷ plays Owner 4 ∷ [])
-    ≡ codes "Node 2 looks at what they show next, and it is your turn.\n"
-unfolding digits stuck_text stuck_words
-a_look_at_your_turn = refl
-
-no_node_at_all : stuck_text close_to_lost [] [] ≡ codes "The plan has no node.\n"
-unfolding stuck_text stuck_words
-no_node_at_all = refl
+why_plans_fail :
+    (failing_line Stuck ≡ codes "In this game it states no card that you can play:\n")
+    × (failing_line Short ≡ codes "In this game you fall short of your goal:\n")
+    × (stuck_text close_to_lost one_line kings ≡ codes "They show K, and node 1 has no line for it.\n")
+    × (stuck_text close_to_lost (Play 28 End ∷ []) [] ≡ codes "Node 0 states 8C, which you don't hold.\n")
+    × (stuck_text close_to_lost (Play 0 (To 1) ∷ Play 0 End ∷ []) kings ≡ codes "Node 1 states AC, which you don't hold.\n")
+    × (stuck_text close_to_lost (Play 0 End ∷ []) kings ≡ codes "The plan ends at node 0.\n")
+    × (stuck_text close_to_lost (Play 0 (To 1) ∷ Play 4 (To 2) ∷ See [] ∷ []) (plays Owner 0 ∷ plays Owner 4 ∷ [])
+    ≡ codes "Node 2 looks at what they show next, and it is your turn.\n")
+    × (stuck_text close_to_lost [] [] ≡ codes "The plan has no node.\n")
+unfolding digits stuck_text stuck_words kings one_line
+why_plans_fail = (refl, refl, refl, refl, refl, refl, refl, refl)

@@ -1,7 +1,7 @@
 -- The labels of lines, by a look at each set of the fourteen letters: a label gives its set, is short, and has no byte
 -- that ends it.
 use Rattle.std.proofs.Common.{◌≡◌, ℕ, zero, suc, ◌+◌, ◌-◌, ◌≤◌, Bool, true, false, not, eqb, leb, cond, ◌&&◌, ◌||◌, List, [], ◌∷◌, ◌++◌, length}
-use Rattle.std.proofs.Common.{take, replicate, filter, refl, sym, ap, ◌∙◌}
+use Rattle.std.proofs.Common.{take, replicate, filter, refl, sym, ap, ◌∙◌, arith}
 use Rattle.std.specs.Bool.{beq}
 use Rattle.std.specs.Cmp.{booleans_Decides}
 use Rattle.std.specs.Cmp.Lexicographic.{pointwise, pointwise_decides}
@@ -73,8 +73,7 @@ pub all_blanks : (test : ℕ → Bool) (bytes : List ℕ) (count : ℕ) → test
     list_all test (bytes ++ replicate count space) ≡ true
 all_blanks test [] zero is all = refl
 all_blanks test [] (suc count) is all = and_from _ _ is (all_blanks test [] count is all)
-all_blanks test (byte ∷ bytes) count is all =
-    let parts = and_parts (test byte) (list_all test bytes) all in and_from _ _ parts.0 (all_blanks test bytes count is parts.1)
+all_blanks test (byte ∷ bytes) count is all = grind (arith, all, all_blanks test bytes count is)
 
 -- no colon is there, nor the end of a line
 pub no_colon : (set : List Bool) (count : ℕ) → length set ≡ 14 → list_all (other_than 58) (label set ++ replicate count space) ≡ true
@@ -89,10 +88,7 @@ no_letters (suc count) = no_letters count
 
 set_is : (set : List Bool) (count : ℕ) → length set ≡ 14 → set_told (label set ++ replicate count space) ≡ set
 set_is set count long =
-    ap (λ letters. take 14 (told 0 false letters))
-    (filter-append (other_than space) (label set) (replicate count space) ∙ ap (λ more. filter (other_than space) (label set) ++ more) (no_letters count)
-    ∙ append-nil (filter (other_than space) (label set)))
-    ∙ (pointwise_decides booleans_Decides (set_told (label set)) set).0 (and_parts _ _ (all_told set long)).0
+    rw (filter-append, no_letters count, append-nil) ((pointwise_decides booleans_Decides (set_told (label set)) set).0 (and_parts _ _ (all_told set long)).0)
 
 -- two sets with the same label, and blanks after it, are the same
 pub same_labels : (set set' : List Bool) (count count' : ℕ) → length set ≡ 14 → length set' ≡ 14 →

@@ -1,7 +1,7 @@
 -- The sheet of an outline repeats no look, and so it has few lines and a short text.
 use Rattle.std.proofs.Common.{◌≡◌, ℕ, ◌+◌, ◌*◌, ◌<◌, ◌≤◌, Bool, List, length, map, flat_map, drop, get_or}
-use Rattle.std.proofs.Common.{slice_get, Some, option_map, unwrap_or, refl, sym, ap, subst, ◌∙◌, arith, inl, inr}
-use Rattle.std.proofs.lemmas.Bool.{cases_Bool, cases_lt}
+use Rattle.std.proofs.Common.{refl, subst, arith}
+use Rattle.std.proofs.lemmas.Bool.Decides.{nat_tests}
 use Rattle.std.proofs.lemmas.Option.{slice_get_past, slice_get-get_or}
 use Rattle.crib_plan.specs.declared.plan.Next.TheVariants.{End, To}
 use Rattle.crib_plan.specs.declared.plan.Node.{Node}
@@ -12,8 +12,7 @@ use Rattle.crib_sheet.specs.PlanOutline.{apart_in}
 use Rattle.crib_sheet.specs.PlanSheet.{Row, Over, Plays, Looks, Named, row_to, rows_from, sheet_with}
 use Rattle.crib_sheet.specs.PlanSheetSize.{level_count, line_count, longest_line, sheet_lines}
 use Rattle.crib_sheet.specs.PlanText.{sheet_text}
-use Rattle.crib_sheet.specs.Private.Spots.{levels_at, AreLow, AreSized}
-use Rattle.crib_sheet.specs.Private.Ways.{ways_to}
+use Rattle.crib_sheet.specs.Private.Spots.{AreLow, AreSized}
 use Rattle.crib_sheet.specs.declared.plan.spots.Spot.{Spot}
 use Rattle.crib_sheet.proofs.PlanFits.{rows_behind, to_fits, apart_same, outline_fits}
 use Rattle.crib_sheet.proofs.PlanSheetCounts.{there, few_lines, paragraphs_are_nodes}
@@ -37,25 +36,11 @@ led_once spots plan long low sized number above some =
     let apart : ℕ → Bool = apart_in (map (λ (s : Spot). s.is_apart) spots) in
     let later = rows_from apart 1 (drop 1 plan) in
     let row : Row = row_to apart later (To number) in
-    let lines : 0 < line_count row = some in
     let depth = (to_fits apart spots low later (To number) (rows_behind spots plan long low sized)).depth in
-    let deep : levels_at spots (To number) ≡ 0 → ⊥ = λ flat. absurd (omega (arith, lines, no_lines row (omega (arith, depth, flat)))) in
-    elim (cases_Bool (apart number)) [
-      | inl e ↦ (let none : 0 < 0 = rw e at some in absurd (omega (arith, none)))
-      | inr e ↦
-          elim (cases_lt number (length spots)) [
-            | inl within ↦
-                elim (cases_lt 1 (ways_to plan number)) [
-                  | inl twice ↦
-                      (let node = get_or plan number (Play 0 End) in
-                      let found : slice_get plan number ≡ Some node = slice_get-get_or plan number (Play 0 End) (omega (arith, within, long)) in
-                      absurd (deep ((sized.whole number node above found (sym (apart_same spots number within) ∙ e)).once twice)))
-                  | inr once ↦ omega (arith, once, plan_times number plan)
-                ]
-            | inr past ↦
-                absurd (deep (ap (λ found. unwrap_or (option_map (λ (s : Spot). s.levels) found) 0) (slice_get_past spots number (omega (arith, past)))))
-          ]
-    ]
+    let node = get_or plan number (Play 0 End) in
+    let whole = sized.whole number node above in
+    let there = slice_get-get_or plan number (Play 0 End) in
+    grind (arith, nat_tests, depth, no_lines row, whole, there, apart_same spots number, slice_get_past spots number, plan_times number plan)
 
 pub outline_lines : (spots : List Spot) (plan : List Node) → length spots ≡ length plan → AreLow spots → AreSized 1 plan spots →
     sheet_lines (sheet_with (apart_in (map (λ spot. spot.is_apart) spots)) plan) ≤ plan_branches plan

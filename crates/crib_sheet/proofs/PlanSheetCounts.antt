@@ -1,8 +1,9 @@
 -- A sheet has few lines: at most one for each branch of its plan, if each of its nodes is in one place.
-use Rattle.std.proofs.Common.{◌≡◌, ℕ, zero, suc, ◌+◌, ◌*◌, ◌<◌, ◌≤◌, Bool, true, false, eqb, ◌||◌, List, [], ◌∷◌, ◌++◌, length, map, filter}
-use Rattle.std.proofs.Common.{take, drop, flat_map, refl, sym, ap, ◌∙◌, arith, inl, inr}
+use Rattle.std.proofs.Common.{◌≡◌, ℕ, zero, suc, ◌+◌, ◌*◌, ◌<◌, ◌≤◌, Bool, true, eqb, ◌||◌, List, [], ◌∷◌, ◌++◌, length, map, filter}
+use Rattle.std.proofs.Common.{take, drop, flat_map, refl, sym, ap, ◌∙◌, arith}
 use Rattle.std.specs.List.{list_any, sum_by}
-use Rattle.std.proofs.lemmas.Bool.{cases_Bool, eq-eqb, ne_eqb}
+use Rattle.std.proofs.lemmas.Bool.Decides.{nat_tests}
+use Rattle.std.proofs.lemmas.Bool.{ne_eqb}
 use Rattle.std.proofs.Math.Nat.{mul_comm, mul-le-mul_left}
 use Rattle.std.proofs.Math.Bool.{or_comm, or-false}
 use Rattle.std.proofs.lemmas.List.Sums.{sum_by-cons, length-filter, count_by-le-length}
@@ -22,8 +23,7 @@ use Rattle.crib_sheet.proofs.PlanTargets.{total, total-append, times, times-appe
 -- no row has a number below the first
 not_there : (apart : ℕ → Bool) (place number : ℕ) (nodes : List Node) → number < place → row_named (rows_from apart place nodes) number ≡ Over
 not_there apart place number [] low = refl
-not_there apart place number (node ∷ nodes) low =
-    rw (ne_eqb place number (λ e. absurd (omega (arith, low, e)))) (not_there apart (place + 1) number nodes (omega (arith, low)))
+not_there apart place number (node ∷ nodes) low = grind (arith, nat_tests, not_there apart (place + 1) number nodes)
 
 -- a count that is at most 1 where it matters
 bounded : (count value : ℕ) → (0 < value → count ≤ 1) → count * value ≤ value
@@ -52,16 +52,11 @@ module _ (apart : ℕ → Bool) where
       let rest : drop (from + 1) all ≡ branches = rest_of all from (To node) branches is in
       let next : (number : ℕ) → list_any (leads_to number) (take (from + 1) all) ≡ (has before number || eqb node number) =
       λ number. any_next (leads_to number) all from (To node) branches is ∙ ap (λ b. b || eqb node number) (sym (same number)) in
-      elim (cases_Bool (has before node)) [
-        | inl e ↦
-            (let f : list_any (leads_to node) (take from all) ≡ true = sym (same node) ∙ e in
-            rw (e, f) (lines_value later all (from + 1) branches before (λ number. seen before node number e ∙ sym (next number)) rest))
-        | inr e ↦
-            (let f : list_any (leads_to node) (take from all) ≡ false = sym (same node) ∙ e in
-            let others = lines_value later all (from + 1) branches (node ∷ before)
-            (λ number. or_comm (eqb node number) (has before number) ∙ sym (next number)) rest in
-            rw (e, f) (omega (arith, others)))
-      ]
+      let skipped = λ (e : has before node ≡ true).
+      lines_value later all (from + 1) branches before (λ number. seen before node number e ∙ sym (next number)) rest in
+      let others = lines_value later all (from + 1) branches (node ∷ before)
+      (λ number. or_comm (eqb node number) (has before number) ∙ sym (next number)) rest in
+      grind (arith, same node, skipped, others)
 
   node_value : (later : List Paragraph) (node : Node) → line_count (row_of apart later node) ≡ branch_count node + total (there later) (targets node)
   node_value later (Play card End) = refl
@@ -69,11 +64,7 @@ module _ (apart : ℕ → Bool) where
   node_value later (See branches) = lines_value later branches 0 branches [] (λ number. refl) refl
 
   none_there : (later : List Paragraph) (number : ℕ) → row_named later number ≡ Over → there later number ≡ 0
-  none_there later number none =
-      elim (cases_Bool (apart number)) [
-        | inl e ↦ rw e refl
-        | inr e ↦ rw (e, none) refl
-      ]
+  none_there later number none = grind (arith, none)
 
   nothing : (numbers : List ℕ) → total (there []) numbers ≡ 0
   nothing [] = refl
@@ -83,12 +74,7 @@ module _ (apart : ℕ → Bool) where
   first_lines : (place : ℕ) (node : Node) (later : List Paragraph) →
       kept_lines (with_row apart place node later) + there (with_row apart place node later) place ≡ line_count (row_of apart later node) + kept_lines later
   first_lines place node later =
-      elim (cases_Bool (apart place)) [
-        | inl e ↦
-            rw e
-            (omega (arith, sum_by-cons line_count (row_of apart later node) (map (λ (p : Paragraph). p.row) (filter (λ p. apart p.number) later))))
-        | inr e ↦ rw (e, eq-eqb place place refl) (omega arith)
-      ]
+      grind (arith, nat_tests, sum_by-cons line_count (row_of apart later node) (map (λ (p : Paragraph). p.row) (filter (λ p. apart p.number) later)))
 
   -- rows have no more lines than their nodes have branches, if each with lines is led to once, from these numbers or
   -- from the nodes
@@ -105,22 +91,11 @@ module _ (apart : ℕ → Bool) where
       let rest = few_from (place + 1) nodes (numbers ++ targets node)
       (λ number above some.
       let here : 0 < there rows number = omega (arith, some, same number (λ e. absurd (omega (arith, above, e)))) in
-      omega (
-        arith,
-        once number (omega (arith, above)) here,
-        times-append number numbers (targets node),
-        times-append number (targets node) (flat_map targets nodes),
-      )) in
-      omega (
-        arith,
-        rest,
-        split (there rows) (there later) place numbers (none_there later place (not_there apart (place + 1) place nodes (omega arith))) same,
-        bounded (times place numbers) (there rows place) (λ some. omega (arith, once place (omega arith) some)),
-        first_lines place node later,
-        node_value later node,
-        total-append (there later) numbers (targets node),
-        sum_by-cons branch_count node nodes,
-      )
+      omega (arith, once number (omega (arith, above)) here, times-append, times-append number (targets node) (flat_map targets nodes))) in
+      let none = none_there later place (not_there apart (place + 1) place nodes (omega arith)) in
+      let few = bounded (times place numbers) (there rows place) (λ some. omega (arith, once place (omega arith) some)) in
+      let parts = split (there rows) (there later) place numbers none same in
+      omega (arith, rest, parts, few, first_lines place node later, node_value later node, total-append, sum_by-cons branch_count node nodes)
 
   -- a sheet has no more lines than its plan has branches, if each node behind the first whose row has lines is led to once
   pub few_lines : (plan : List Node) →
@@ -131,14 +106,9 @@ module _ (apart : ℕ → Bool) where
   few_lines (node ∷ nodes) once =
       let later : List Paragraph = rows_from apart 1 nodes in
       let rows : List Paragraph = with_row apart 0 node later in
-      omega (
-        arith,
-        few_from 1 nodes (targets node) (λ number low some. omega (arith, once number low some, times-append number (targets node) (flat_map targets nodes))),
-        first_lines 0 node later,
-        node_value later node,
-        sum_by-cons line_count (row_to apart rows (To 0)) (map (λ (p : Paragraph). p.row) (filter (λ (p : Paragraph). apart p.number) rows)),
-        sum_by-cons branch_count node nodes,
-      )
+      let few = few_from 1 nodes (targets node) (λ number low some. omega (arith, once number low some, times-append)) in
+      let lines = sum_by-cons line_count (row_to apart rows (To 0)) (map (λ (p : Paragraph). p.row) (filter (λ (p : Paragraph). apart p.number) rows)) in
+      omega (arith, few, first_lines 0 node later, node_value later node, sum_by-cons branch_count node nodes, lines)
 
 -- ---- paragraphs
 

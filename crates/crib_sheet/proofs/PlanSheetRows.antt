@@ -1,7 +1,7 @@
 -- The sheet of a plan is valid.
-use Rattle.std.proofs.Common.{◌≡◌, ℕ, ◌+◌, ◌≤◌, Bool, true, eqb, ◌||◌, List, [], ◌∷◌, length, map, take, refl, ap, ◌∙◌, arith, inl, inr}
+use Rattle.std.proofs.Common.{◌≡◌, ℕ, ◌+◌, ◌≤◌, Bool, true, eqb, ◌||◌, List, [], ◌∷◌, length, map, take, refl, ap, ◌∙◌, arith}
 use Rattle.std.specs.List.{list_any, AllByRecursion}
-use Rattle.std.proofs.lemmas.Bool.{cases_Bool, eq-eqb, or_right}
+use Rattle.std.proofs.lemmas.Bool.{cond_both, eq-eqb, or_right}
 use Rattle.std.proofs.lemmas.List.{length-map}
 use Rattle.crib_plan.specs.declared.plan.Next.{Next}
 use Rattle.crib_plan.specs.declared.plan.Next.TheVariants.{End, To}
@@ -17,19 +17,13 @@ use Rattle.crib_sheet.proofs.AllEntries.{all_filter}
 named_row : (paragraphs : List Paragraph) (number : ℕ) → AllByRecursion IsParagraph paragraphs → IsRow (row_named paragraphs number)
 named_row [] number are = tt
 named_row (paragraph ∷ paragraphs) number are =
-    elim (cases_Bool (eqb paragraph.number number)) [
-      | inl e ↦ rw e are.0.1
-      | inr e ↦ rw e (named_row paragraphs number are.1)
-    ]
+    cond_both (eqb paragraph.number number) _ _ IsRow (λ e. are.0.1) (λ e. named_row paragraphs number are.1)
 
 row_there : (apart : ℕ → Bool) (later : List Paragraph) (place count : ℕ) (next : Next) → count ≤ most_nodes → AllByRecursion IsParagraph later →
     IsLater place count next → IsRow (row_to apart later next)
 row_there apart later place count End few are is = tt
 row_there apart later place count (To node) few are is =
-    elim (cases_Bool (apart node)) [
-      | inl e ↦ rw e (let h = is.1 in omega arith)
-      | inr e ↦ rw e (named_row later node are)
-    ]
+    let below = is.1 in cond_both (apart node) _ _ IsRow (λ e. omega (arith, few, below)) (λ e. named_row later node are)
 
 any_map : (test : Next → Bool) (nexts : List Next) → list_any (λ flag. flag) (map test nexts) ≡ list_any test nexts
 any_map test [] = refl
@@ -52,12 +46,8 @@ lines_there apart later place count all from (To node ∷ branches) few are long
     let others = lines_there apart later place count all (from + 1) branches few are long (among_rest all (To node) branches among) each.1 in
     let here : leads_to node (To node) ≡ true = eq-eqb node node refl in
     let some : list_any (leads_to node) all ≡ true = among node (ap (λ b. b || list_any (leads_to node) branches) here) in
-    elim (cases_Bool (list_any (leads_to node) (take from all))) [
-      | inl e ↦ rw e others
-      | inr e ↦
-          rw e
-          ((length-map all (leads_to node) ∙ long, any_map (leads_to node) all ∙ some, row_there apart later place count (To node) few are each.0, others))
-    ]
+    cond_both (list_any (leads_to node) (take from all)) _ _ AreLines (λ e. others)
+    (λ e. (length-map all (leads_to node) ∙ long, any_map (leads_to node) all ∙ some, row_there apart later place count (To node) few are each.0, others))
 
 row_is : (apart : ℕ → Bool) (later : List Paragraph) (place count : ℕ) (node : Node) → count ≤ most_nodes → AllByRecursion IsParagraph later →
     IsNode place count node → IsRow (row_of apart later node)
@@ -75,11 +65,7 @@ rows_are apart place count (node ∷ nodes) few fit are =
 first_is : (apart : ℕ → Bool) (plan : List Node) (rows : List Paragraph) → length plan ≤ most_nodes → AllByRecursion IsParagraph rows →
     IsRow (row_to apart rows (plan_start plan))
 first_is apart [] rows few are = tt
-first_is apart (node ∷ nodes) rows few are =
-    elim (cases_Bool (apart 0)) [
-      | inl e ↦ rw e (omega arith)
-      | inr e ↦ rw e (named_row rows 0 are)
-    ]
+first_is apart (node ∷ nodes) rows few are = cond_both (apart 0) _ _ IsRow (λ e. omega arith) (λ e. named_row rows 0 are)
 
 pub plans_have_sheets : PlansHaveSheets
 unfolding sheet_with

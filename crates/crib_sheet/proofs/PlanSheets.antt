@@ -1,9 +1,11 @@
 -- A sheet states what its plan states.
-use Rattle.std.proofs.Common.{◌≡◌, ℕ, zero, suc, ◌+◌, ◌<◌, Bool, true, false, eqb, ◌||◌, List, [], ◌∷◌, length, map, filter, take, drop, slice_get}
-use Rattle.std.proofs.Common.{Option, Some, None, unwrap_or, option_map, refl, sym, ap, subst, ◌∙◌, arith, inl, inr, zero-add, true≢false}
+use Rattle.std.proofs.Common.{◌≡◌, ℕ, zero, suc, ◌+◌, ◌<◌, ◌≤◌, Bool, true, false, eqb, List, [], ◌∷◌, length, map, filter, take, drop, slice_get}
+use Rattle.std.proofs.Common.{Option, Some, None, unwrap_or, refl, sym, ap, subst, ◌∙◌, arith, add-zero, zero-add}
 use Rattle.std.specs.List.{list_any, AllByRecursion}
-use Rattle.std.proofs.lemmas.Bool.{cases_Bool, cases_eq, ne_eqb, eq-eqb, or_right}
-use Rattle.std.proofs.lemmas.Option.{slice_get-map}
+use Rattle.std.proofs.lemmas.Bool.Decides.{nat_tests}
+use Rattle.std.proofs.lemmas.Bool.{cond_both, eq-eqb}
+use Rattle.std.proofs.lemmas.Option.{get_or_from_slice_get, slice_get-get_or, slice_get-map, slice_get_within}
+use Rattle.std.proofs.lemmas.List.{drop_all, drop_more}
 use Rattle.crib_cards.specs.Letters.{letter_place}
 use Rattle.crib_cards.specs.declared.letters.Letter.{Letter}
 use Rattle.crib_plan.specs.declared.plan.Next.{Next}
@@ -27,79 +29,53 @@ spot rows (To node) = row_named rows node
 named_apart : (apart : ℕ → Bool) (rows : List Paragraph) (node : ℕ) → apart node ≡ true →
     row_named (filter (λ paragraph. apart paragraph.number) rows) node ≡ row_named rows node
 named_apart apart [] node here = refl
-named_apart apart (row ∷ rows) node here =
-    elim (cases_eq row.number node) [
-      | inl e ↦ (let h : apart row.number ≡ true = ap apart e ∙ here in rw (h, eq-eqb row.number node e) refl)
-      | inr differs ↦
-          elim (cases_Bool (apart row.number)) [
-            | inl h ↦ rw (h, ne_eqb row.number node differs) (named_apart apart rows node here)
-            | inr h ↦ rw (h, ne_eqb row.number node differs) (named_apart apart rows node here)
-          ]
-    ]
+named_apart apart (row ∷ rows) node here = grind (arith, nat_tests, named_apart apart rows node here)
 
 -- a node's row names no paragraph
 named_stays : (apart : ℕ → Bool) (sheet : Sheet) (place : ℕ) (nodes : List Node) (node : ℕ) →
     read_on sheet (row_named (rows_from apart place nodes) node) ≡ row_named (rows_from apart place nodes) node
 named_stays apart sheet place [] node = refl
 named_stays apart sheet place (Play card next ∷ nodes) node =
-    elim (cases_Bool (eqb place node)) [
-      | inl e ↦ rw e refl
-      | inr e ↦ rw e (named_stays apart sheet (place + 1) nodes node)
-    ]
+    cond_both (eqb place node) _ _ (λ row. read_on sheet row ≡ row) (λ e. refl) (λ e. named_stays apart sheet (place + 1) nodes node)
 named_stays apart sheet place (See branches ∷ nodes) node =
-    elim (cases_Bool (eqb place node)) [
-      | inl e ↦ rw e refl
-      | inr e ↦ rw e (named_stays apart sheet (place + 1) nodes node)
-    ]
+    cond_both (eqb place node) _ _ (λ row. read_on sheet row ≡ row) (λ e. refl) (λ e. named_stays apart sheet (place + 1) nodes node)
 
--- the row of a node, and those of the later ones
-pub record Stands (apart : ℕ → Bool) (rows : List Paragraph) (place : ℕ) (node : Node) : Type 0 where
-  pub later : List Paragraph
-  pub here : row_named rows place ≡ row_of apart later node
-  pub after : (other : ℕ) → place < other → row_named rows other ≡ row_named later other
+-- the rows from a place on are those of the nodes from there on
+pub skip_to : (apart : ℕ → Bool) (from : ℕ) (plan : List Node) (i there other : ℕ) → from + i ≡ there → there ≤ other →
+    row_named (rows_from apart from plan) other ≡ row_named (rows_from apart there (drop i plan)) other
+skip_to apart from plan zero there other at above = let e : from ≡ there = omega arith in rw e refl
+skip_to apart from [] (suc i) there other at above = refl
+skip_to apart from (node ∷ plan) (suc i) there other at above = grind (arith, nat_tests, skip_to apart (from + 1) plan i there other)
 
-stands_at : (apart : ℕ → Bool) (place : ℕ) (nodes : List Node) (i : ℕ) (node : Node) → slice_get nodes i ≡ Some node →
-    Stands apart (rows_from apart place nodes) (place + i) node
-stands_at apart place [] i node is = absurd cc
-stands_at apart place (first ∷ nodes) zero node is = record {
-  later = rows_from apart (place + 1) nodes;
-  here = (let e : place + 0 ≡ place = omega arith in rw (e, eq-eqb place place refl) (ap (row_of apart (rows_from apart (place + 1) nodes)) cc));
-  after = λ other above. rw (ne_eqb place other (λ e. absurd (omega arith))) refl;
-}
-stands_at apart place (first ∷ nodes) (suc i) node is =
-    let rest = stands_at apart (place + 1) nodes i node is in
-    let e : place + 1 + i ≡ place + suc i = omega arith in
-    record {
-      later = rest.later;
-      here = rw (ne_eqb place (place + suc i) (λ e. absurd (omega arith))) (ap (row_named (rows_from apart (place + 1) nodes)) (sym e) ∙ rest.here);
-      after = λ other above. rw (ne_eqb place other (λ e. absurd (omega arith))) (rest.after other (omega arith));
-    }
+-- the rows of the nodes behind one
+abbrev pub behind : (ℕ → Bool) → List Node → ℕ → List Paragraph
+behind apart plan i = rows_from apart (i + 1) (drop (i + 1) plan)
 
-past_end : (apart : ℕ → Bool) (place : ℕ) (nodes : List Node) (i : ℕ) → slice_get nodes i ≡ None →
-    row_named (rows_from apart place nodes) (place + i) ≡ Over
-past_end apart place [] i is = refl
-past_end apart place (first ∷ nodes) zero is = absurd cc
-past_end apart place (first ∷ nodes) (suc i) is =
-    let e : place + suc i ≡ place + 1 + i = omega arith in
-    rw (ne_eqb place (place + suc i) (λ e. absurd (omega arith))) (ap (row_named (rows_from apart (place + 1) nodes)) e ∙ past_end apart (place + 1) nodes i is)
+pub row_is : (apart : ℕ → Bool) (plan : List Node) (i : ℕ) (node : Node) → slice_get plan i ≡ Some node →
+    row_named (rows_from apart 0 plan) i ≡ row_of apart (behind apart plan i) node
+row_is apart plan i node is =
+    skip_to apart 0 plan i i i (omega arith) (omega arith)
+    ∙ rw (drop_more plan i node (slice_get_within plan i node is), get_or_from_slice_get plan i node node is, eq-eqb i i refl) refl
 
-pub stands : (apart : ℕ → Bool) (plan : List Node) (i : ℕ) (node : Node) → slice_get plan i ≡ Some node → Stands apart (rows_from apart 0 plan) i node
-stands apart plan i node is = subst (λ k. Stands apart (rows_from apart 0 plan) k node) (zero-add i) (stands_at apart 0 plan i node is)
+pub later_is : (apart : ℕ → Bool) (plan : List Node) (i other : ℕ) → i < other →
+    row_named (rows_from apart 0 plan) other ≡ row_named (behind apart plan i) other
+later_is apart plan i other above = skip_to apart 0 plan (i + 1) (i + 1) other (omega arith) (omega (arith, above))
 
 past : (apart : ℕ → Bool) (plan : List Node) (i : ℕ) → slice_get plan i ≡ None → row_named (rows_from apart 0 plan) i ≡ Over
-past apart plan i is = ap (row_named (rows_from apart 0 plan)) (sym (zero-add i)) ∙ past_end apart 0 plan i is
+past apart plan i is =
+    skip_to apart 0 plan i i i (omega arith) (omega arith)
+    ∙ ap (λ nodes. row_named (rows_from apart i nodes) i) (drop_all i plan (grind (arith, slice_get-get_or plan i (Play 0 End), is)))
 
 -- what is asked of nodes holds of each
-pub node_fits : (place count : ℕ) (nodes : List Node) (i : ℕ) (node : Node) → AreNodes place count nodes → slice_get nodes i ≡ Some node →
+node_fits : (place count : ℕ) (nodes : List Node) (i : ℕ) (node : Node) → AreNodes place count nodes → slice_get nodes i ≡ Some node →
     IsNode (place + i) count node
 node_fits place count [] i node are is = absurd cc
-node_fits place count (first ∷ nodes) zero node are is =
-    let e : place + 0 ≡ place = omega arith in
-    let same : first ≡ node = cc in
-    rw e (subst (IsNode place count) same are.0)
+node_fits place count (first ∷ nodes) zero node are is = let same : first ≡ node = cc in rw (← same, add-zero) are.0
 node_fits place count (first ∷ nodes) (suc i) node are is =
-    let e : place + 1 + i ≡ place + suc i = omega arith in
-    subst (λ k. IsNode k count node) e (node_fits (place + 1) count nodes i node are.1 is)
+    let e : place + 1 + i ≡ place + suc i = omega arith in rw e at (node_fits (place + 1) count nodes i node are.1 is)
+
+pub node_is : (plan : List Node) (i : ℕ) (node : Node) → AreNodes 0 (length plan) plan → slice_get plan i ≡ Some node → IsNode i (length plan) node
+node_is plan i node are is = subst (λ k. IsNode k (length plan) node) (zero-add i) (node_fits 0 (length plan) plan i node are is)
 
 -- the branch of a letter is later, if all branches are
 pub branch_later : (place count : ℕ) (branches : List Next) (i : ℕ) → AllByRecursion (IsLater place count) branches →
@@ -115,37 +91,20 @@ goes_on : (apart : ℕ → Bool) (plan : List Node) (sheet : Sheet) →
     read_on sheet (row_to apart later next) ≡ spot (rows_from apart 0 plan) next
 goes_on apart plan sheet named later End same = refl
 goes_on apart plan sheet named later (To node) same =
-    elim (cases_Bool (apart node)) [
-      | inl e ↦ rw e (ap (λ ps. row_named ps node) named ∙ named_apart apart (rows_from apart 0 plan) node e)
-      | inr e ↦ rw e (ap (read_on sheet) same ∙ named_stays apart sheet 0 plan node)
-    ]
-
-agrees : (apart : ℕ → Bool) (rows : List Paragraph) (place count : ℕ) (node : Node) (s : Stands apart rows place node) (next : Next) →
-    IsLater place count next → spot s.later next ≡ spot rows next
-agrees apart rows place count node s End is = refl
-agrees apart rows place count node s (To other) is = sym (s.after other is.0)
+    cond_both (apart node) _ _ (λ row. read_on sheet row ≡ row_named (rows_from apart 0 plan) node)
+    (λ e. ap (λ ps. row_named ps node) named ∙ named_apart apart (rows_from apart 0 plan) node e)
+    (λ e. ap (read_on sheet) same ∙ named_stays apart sheet 0 plan node)
 
 -- the lines of a look
-flag : (f : Next → Bool) (found : Option Next) → f End ≡ false → unwrap_or (option_map f found) false ≡ f (unwrap_or found End)
-flag f None none = sym none
-flag f (Some branch) none = refl
-
 is_for_is : (all : List Next) (letter : Letter) (node : ℕ) → is_for (map (leads_to node) all) letter ≡ leads_to node (branch_of all letter)
-is_for_is all letter node =
-    ap (λ o. unwrap_or o false) (slice_get-map (leads_to node) all (letter_place letter))
-    ∙ flag (leads_to node) (slice_get all (letter_place letter)) refl
+is_for_is all letter node = grind (arith, slice_get-map (leads_to node) all (letter_place letter))
 
 no_line : (apart : ℕ → Bool) (later : List Paragraph) (all : List Next) (letter : Letter) → branch_of all letter ≡ End →
     (from : ℕ) (branches : List Next) → row_for (lines_to apart later all from branches) letter ≡ Over
 no_line apart later all letter end from [] = refl
 no_line apart later all letter end from (End ∷ branches) = no_line apart later all letter end (from + 1) branches
 no_line apart later all letter end from (To node ∷ branches) =
-    let rest = no_line apart later all letter end (from + 1) branches in
-    let not_for : is_for (map (leads_to node) all) letter ≡ false = is_for_is all letter node ∙ ap (leads_to node) end in
-    elim (cases_Bool (list_any (leads_to node) (take from all))) [
-      | inl e ↦ rw e rest
-      | inr e ↦ rw (e, not_for) rest
-    ]
+    grind (arith, is_for_is all letter node, end, no_line apart later all letter end (from + 1) branches)
 
 -- a node to which no earlier letter leads has the first line that is for its letter
 line_for : (apart : ℕ → Bool) (later : List Paragraph) (all : List Next) (letter : Letter) (node : ℕ) → branch_of all letter ≡ To node →
@@ -153,40 +112,16 @@ line_for : (apart : ℕ → Bool) (later : List Paragraph) (all : List Next) (le
     list_any (leads_to node) branches ≡ true → row_for (lines_to apart later all from branches) letter ≡ row_to apart later (To node)
 line_for apart later all letter node there from [] is none some = absurd cc
 line_for apart later all letter node there from (End ∷ branches) is none some =
-    let next : drop (from + 1) all ≡ branches = rest_of all from End branches is in
-    let still : list_any (leads_to node) (take (from + 1) all) ≡ false =
-    any_next (leads_to node) all from End branches is ∙ ap (λ b. b || false) none in
-    line_for apart later all letter node there (from + 1) branches next still some
+    let more = line_for apart later all letter node there (from + 1) branches (rest_of all from End branches is) in
+    grind (arith, any_next (leads_to node) all from End branches is, more)
 line_for apart later all letter node there from (To other ∷ branches) is none some =
-    let next : drop (from + 1) all ≡ branches = rest_of all from (To other) branches is in
-    elim (cases_eq other node) [
-      | inl e ↦
-          (let new : list_any (leads_to other) (take from all) ≡ false = ap (λ k. list_any (leads_to k) (take from all)) e ∙ none in
-          let for : is_for (map (leads_to other) all) letter ≡ true =
-          is_for_is all letter other ∙ ap (leads_to other) there ∙ eq-eqb node other (sym e)
-          in
-          rw (new, for) (ap (λ k. row_to apart later (To k)) e))
-      | inr differs ↦
-          (let away : eqb other node ≡ false = ne_eqb other node differs in
-          let still : list_any (leads_to node) (take (from + 1) all) ≡ false =
-          any_next (leads_to node) all from (To other) branches is ∙ ap (λ b. b || eqb other node) none ∙ away in
-          let more : list_any (leads_to node) branches ≡ true = sym (ap (λ b. b || list_any (leads_to node) branches) away) ∙ some in
-          let rest = line_for apart later all letter node there (from + 1) branches next still more in
-          let not_for : is_for (map (leads_to other) all) letter ≡ false =
-          is_for_is all letter other ∙ ap (leads_to other) there ∙ ne_eqb node other (λ e. differs (sym e))
-          in
-          elim (cases_Bool (list_any (leads_to other) (take from all))) [
-            | inl e ↦ rw e rest
-            | inr e ↦ rw (e, not_for) rest
-          ])
-    ]
+    let more = line_for apart later all letter node there (from + 1) branches (rest_of all from (To other) branches is) in
+    grind (arith, nat_tests, is_for_is all letter other, is_for_is all letter node, there, any_next (leads_to node) all from (To other) branches is, more)
 
 any_at : (branches : List Next) (i node : ℕ) → unwrap_or (slice_get branches i) End ≡ To node → list_any (leads_to node) branches ≡ true
 any_at [] i node is = absurd cc
-any_at (branch ∷ branches) zero node is =
-    let e : leads_to node branch ≡ true = ap (leads_to node) is ∙ eq-eqb node node refl in
-    ap (λ b. b || list_any (leads_to node) branches) e
-any_at (branch ∷ branches) (suc i) node is = or_right (leads_to node branch) (list_any (leads_to node) branches) (any_at branches i node is)
+any_at (branch ∷ branches) zero node is = grind (arith, nat_tests)
+any_at (branch ∷ branches) (suc i) node is = grind (arith, any_at branches i node is)
 
 -- the line of a letter has the row of the place to which the letter leads
 pub line_of : (apart : ℕ → Bool) (later : List Paragraph) (branches : List Next) (letter : Letter) (next : Next) → branch_of branches letter ≡ next →
@@ -201,39 +136,28 @@ module _ (apart : ℕ → Bool) (plan : List Node) (are : AreNodes 0 (length pla
   abbrev rows : List Paragraph
   rows = rows_from apart 0 plan
 
-  fits : (i : ℕ) (node : Node) → slice_get plan i ≡ Some node → IsNode i (length plan) node
-  fits i node is = subst (λ k. IsNode k (length plan) node) (zero-add i) (node_fits 0 (length plan) plan i node are is)
-
-  leads_on : (place : ℕ) (node : Node) (s : Stands apart rows place node) (next : Next) → IsLater place (length plan) next →
-      read_on sheet (row_to apart s.later next) ≡ spot rows next
-  leads_on place node s next is = goes_on apart plan sheet named s.later next (agrees apart rows place (length plan) node s next is)
+  leads_on : (place : ℕ) (next : Next) → IsLater place (length plan) next → read_on sheet (row_to apart (behind apart plan place) next) ≡ spot rows next
+  leads_on place End is = goes_on apart plan sheet named (behind apart plan place) End refl
+  leads_on place (To other) is = goes_on apart plan sheet named (behind apart plan place) (To other) (sym (later_is apart plan place other is.0))
 
   card_at : (node : ℕ) (found : Option Node) → slice_get plan node ≡ found → card_on (row_named rows node) ≡ card_of_node found
   card_at node None is = ap card_on (past apart plan node is)
-  card_at node (Some (Play card next)) is = ap card_on (stands apart plan node (Play card next) is).here
-  card_at node (Some (See branches)) is = ap card_on (stands apart plan node (See branches) is).here
+  card_at node (Some one) is = grind (arith, row_is apart plan node one is)
 
   own_at : (node : ℕ) (found : Option Node) → slice_get plan node ≡ found → read_card sheet (row_named rows node) ≡ spot rows (after_play found (To node))
-  own_at node None is = ap (read_card sheet) (past apart plan node is) ∙ sym (past apart plan node is)
+  own_at node None is = rw (past apart plan node is) refl
   own_at node (Some (Play card next)) is =
-      let s = stands apart plan node (Play card next) is in
-      ap (read_card sheet) s.here ∙ leads_on node (Play card next) s next (fits node (Play card next) is).1
-  own_at node (Some (See branches)) is =
-      let s = stands apart plan node (See branches) is in
-      ap (read_card sheet) s.here ∙ sym s.here
+      rw (row_is apart plan node (Play card next) is) (leads_on node next (node_is plan node (Play card next) are is).1)
+  own_at node (Some (See branches)) is = rw (row_is apart plan node (See branches) is) refl
 
   shown_at : (node : ℕ) (letter : Letter) (found : Option Node) → slice_get plan node ≡ found →
       read_letter sheet (row_named rows node) letter ≡ spot rows (after_letter found letter (To node))
-  shown_at node letter None is = ap (λ row. read_letter sheet row letter) (past apart plan node is) ∙ sym (past apart plan node is)
-  shown_at node letter (Some (Play card next)) is =
-      let s = stands apart plan node (Play card next) is in
-      ap (λ row. read_letter sheet row letter) s.here ∙ sym s.here
+  shown_at node letter None is = rw (past apart plan node is) refl
+  shown_at node letter (Some (Play card next)) is = rw (row_is apart plan node (Play card next) is) refl
   shown_at node letter (Some (See branches)) is =
-      let s = stands apart plan node (See branches) is in
-      let later = branch_later node (length plan) branches (letter_place letter) (fits node (See branches) is).1 in
-      ap (λ row. read_letter sheet row letter) s.here
-      ∙ ap (read_on sheet) (line_of apart s.later branches letter (branch_of branches letter) refl)
-      ∙ leads_on node (See branches) s (branch_of branches letter) later
+      rw (row_is apart plan node (See branches) is, line_of apart (behind apart plan node) branches letter (branch_of branches letter) refl)
+      (leads_on node (branch_of branches letter)
+      (branch_later node (length plan) branches (letter_place letter) (node_is plan node (See branches) are is).1))
 
   after_turn : (place : Next) (turn : Turn) → read_turn sheet (spot rows place) turn ≡ spot rows (place_after_turn plan place turn)
   after_turn End OwnCard = refl

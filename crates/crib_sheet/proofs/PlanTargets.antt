@@ -1,10 +1,8 @@
 -- The nodes that the nodes of a plan lead to, and how often each is led to.
-use Rattle.std.proofs.Common.{◌≡◌, ℕ, suc, ◌+◌, ◌*◌, ◌<◌, ◌≤◌, Bool, true, false, cond, eqb, ◌||◌, List, [], ◌∷◌, ◌++◌, length, get_or}
-use Rattle.std.proofs.Common.{take, drop, flat_map, refl, sym, ap, ◌∙◌, arith, inl, inr}
+use Rattle.std.proofs.Common.{◌≡◌, ℕ, ◌+◌, ◌*◌, ◌<◌, ◌≤◌, Bool, true, cond, eqb, ◌||◌, List, [], ◌∷◌, ◌++◌, length, get_or}
+use Rattle.std.proofs.Common.{take, drop, flat_map, refl, sym, ap, ◌∙◌, arith}
 use Rattle.std.specs.List.{list_any, count_by}
-use Rattle.std.proofs.lemmas.Bool.{cases_Bool, cases_eq, eqb-true, eq-eqb, ne_eqb, or_right, true≢false}
-use Rattle.std.proofs.Math.Nat.{add-mul}
-use Rattle.std.proofs.Math.Bool.{or-false}
+use Rattle.std.proofs.lemmas.Bool.Decides.{nat_tests}
 use Rattle.std.proofs.lemmas.List.{drop-drop, get_or-drop, length-drop}
 use Rattle.std.proofs.lemmas.List.Folds.{list_any_more}
 use Rattle.std.proofs.lemmas.List.Sums.{sum_by-cons}
@@ -40,11 +38,7 @@ pub split : (value value' : ℕ → ℕ) (here : ℕ) (numbers : List ℕ) → v
     total value numbers ≡ times here numbers * value here + total value' numbers
 split value value' here [] none same = omega arith
 split value value' here (number ∷ numbers) none same =
-    let rest = split value value' here numbers none same in
-    elim (cases_eq number here) [
-      | inl e ↦ rw (eq-eqb number here e) (omega (arith, rest, ap value e, ap value' e, none, add-mul 1 (times here numbers) (value here)))
-      | inr differs ↦ rw (ne_eqb number here differs) (omega (arith, rest, same number differs))
-    ]
+    grind (arith, nat_tests, split value value' here numbers none same, same number)
 
 -- ---- branches
 
@@ -56,21 +50,12 @@ pub any_next : (p : Next → Bool) (all : List Next) (from : ℕ) (branch : Next
     list_any p (take (from + 1) all) ≡ (list_any p (take from all) || p branch)
 any_next p all from branch branches is =
     let within : from < length all = omega (arith, length-drop from all, ap length is) in
-    let at : from ≡ from + 0 = omega arith in
-    let here : get_or all from branch ≡ branch =
-    ap (λ k. get_or all k branch) at ∙ sym (get_or-drop from all 0 branch) ∙ ap (λ rest. get_or rest 0 branch) is in
+    let here : get_or all from branch ≡ branch = grind (arith, get_or-drop from all 0 branch, is) in
     list_any_more p all from branch within ∙ ap (λ b. list_any p (take from all) || p b) here
 
 -- a number that was seen already
 pub seen : (before : List ℕ) (node number : ℕ) → has before node ≡ true → has before number ≡ (has before number || eqb node number)
-seen before node number is =
-    elim (cases_Bool (eqb node number)) [
-      | inl e ↦
-          (let same : node ≡ number = eqb-true node number e in
-          let there : has before number ≡ true = sym (ap (has before) same) ∙ is in
-          rw there refl)
-      | inr e ↦ rw e (sym (or-false (has before number)))
-    ]
+seen before node number is = grind (arith, nat_tests)
 
 -- the nodes that a node leads to, each once
 abbrev pub targets : Node → List ℕ
@@ -82,34 +67,14 @@ none_again : (wanted : ℕ) (before : List ℕ) (branches : List Next) → has b
 none_again wanted before [] is = refl
 none_again wanted before (End ∷ branches) is = none_again wanted before branches is
 none_again wanted before (To node ∷ branches) is =
-    elim (cases_Bool (has before node)) [
-      | inl e ↦ rw e (none_again wanted before branches is)
-      | inr e ↦
-          (let rest = none_again wanted (node ∷ before) branches (or_right (eqb node wanted) (has before wanted) is) in
-          rw (e, ne_eqb node wanted (λ same. true≢false (sym is ∙ ap (has before) (sym same) ∙ e))) (omega (arith, rest)))
-    ]
+    grind (arith, nat_tests, is, none_again wanted before branches, none_again wanted (node ∷ before) branches)
 
 nodes_times : (wanted : ℕ) (before : List ℕ) (branches : List Next) →
     times wanted (nodes_of before branches) ≤ cond (list_any (leads_to wanted) branches) 1 0
 nodes_times wanted before [] = omega arith
 nodes_times wanted before (End ∷ branches) = nodes_times wanted before branches
 nodes_times wanted before (To node ∷ branches) =
-    elim (cases_Bool (eqb node wanted)) [
-      | inl f ↦
-          elim (cases_Bool (has before node)) [
-            | inl e ↦
-                (let none = none_again wanted before branches (sym (ap (has before) (eqb-true node wanted f)) ∙ e) in
-                rw (e, f) (omega (arith, none)))
-            | inr e ↦
-                (let none = none_again wanted (node ∷ before) branches (ap (λ b. b || has before wanted) f) in
-                rw (e, f) (omega (arith, none)))
-          ]
-      | inr f ↦
-          elim (cases_Bool (has before node)) [
-            | inl e ↦ rw (e, f) (nodes_times wanted before branches)
-            | inr e ↦ rw (e, f) (omega (arith, nodes_times wanted (node ∷ before) branches))
-          ]
-    ]
+    grind (arith, nat_tests, none_again, nodes_times wanted before branches, nodes_times wanted (node ∷ before) branches)
 
 targets_times : (wanted : ℕ) (node : Node) → times wanted (targets node) ≤ cond (node_leads wanted node) 1 0
 targets_times wanted (Play card End) = omega arith
@@ -120,12 +85,4 @@ targets_times wanted (See branches) = nodes_times wanted [] branches
 pub plan_times : (wanted : ℕ) (nodes : List Node) → times wanted (flat_map targets nodes) ≤ count_by (node_leads wanted) nodes
 plan_times wanted [] = omega arith
 plan_times wanted (node ∷ nodes) =
-    let all : times wanted (targets node ++ flat_map targets nodes) ≤ count_by (node_leads wanted) (node ∷ nodes) =
-    omega (
-      arith,
-      times-append wanted (targets node) (flat_map targets nodes),
-      targets_times wanted node,
-      plan_times wanted nodes,
-      sum_by-cons (λ x. cond (node_leads wanted x) 1 0) node nodes,
-    ) in
-    all
+    omega (arith, times-append, targets_times wanted node, plan_times wanted nodes, sum_by-cons (λ x. cond (node_leads wanted x) 1 0) node nodes)

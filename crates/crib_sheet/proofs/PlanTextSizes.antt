@@ -1,13 +1,12 @@
 -- The text of a sheet of small rows is short, and so is each of its lines.
-use Rattle.std.proofs.Common.{◌≡◌, ℕ, zero, suc, ◌+◌, ◌-◌, ◌*◌, ◌<◌, ◌≤◌, max, true, not, eqb, List, [], ◌∷◌, ◌++◌, length, map}
-use Rattle.std.proofs.Common.{replicate, codes, decimal, flat_map, refl, sym, subst, ◌∙◌, arith, inl, inr, length-append, append_assoc}
+use Rattle.std.proofs.Common.{◌≡◌, ℕ, suc, ◌+◌, ◌-◌, ◌*◌, ◌<◌, ◌≤◌, max, true, eqb, List, [], ◌∷◌, ◌++◌, length, map}
+use Rattle.std.proofs.Common.{codes, decimal, flat_map, refl, arith, length-append, append_assoc}
 use Rattle.std.specs.List.{list_all, sum_by, AllByRecursion}
-use Rattle.std.proofs.lemmas.Bool.{and_parts, agree_below_at, cases_Bool, ne_eqb, not-true}
+use Rattle.std.proofs.lemmas.Bool.{and_parts, agree_below_at, ne_eqb, not-true}
 use Rattle.std.proofs.lemmas.List.{length-replicate}
 use Rattle.std.proofs.lemmas.List.Sums.{sum_by-cons}
 use Rattle.std.proofs.lemmas.Fmt.{length-decimal-le}
 use Rattle.crib_cards.specs.CardText.{card_text}
-use Rattle.crib_text.specs.Spelling.{space}
 use Rattle.crib_sheet.specs.PlanSheet.{Row, Lines, Paragraph, Sheet, Over, Plays, Looks, Named, NoLine, Line}
 use Rattle.crib_sheet.specs.PlanText.{label, label_width, label_column, indent, before_rest, row_text, lines_text, paragraph_text, sheet_text}
 use Rattle.crib_sheet.specs.PlanSheetSize.{line_count, lines_count, level_count, levels_below, longest_line, sheet_lines}
@@ -32,15 +31,11 @@ front_fits (byte ∷ front) rest used most none fits =
     let parts = and_parts (other_than 10 byte) (list_all (other_than 10) front) none in
     let e : used + suc (length front) ≡ used + 1 + length front = omega arith in
     let more = front_fits front rest (used + 1) most parts.1 (rw e at fits) in
-    let short = more.short in
-    record { narrow = rw (not-true (eqb byte 10) parts.0) more.narrow; short = omega (arith, short) }
+    record { narrow = rw (not-true (eqb byte 10) parts.0) more.narrow; short = omega (arith, more.short) }
 
 -- the end of a line
 end_fits : (rest : List ℕ) (used most more : ℕ) → used ≤ 75 → 76 + most ≤ more → Fits 0 most rest → Fits used more (10 ∷ rest)
-end_fits rest used most more low enough fits =
-    let narrow = fits.narrow in
-    let short = fits.short in
-    record { narrow = omega (arith, low, narrow); short = omega (arith, low, enough, short) }
+end_fits rest used most more low enough fits = record { narrow = omega (arith, low, fits.narrow); short = omega (arith, low, enough, fits.short) }
 
 number_fits : (number : ℕ) → number < 65535 → (list_all (other_than 10) (decimal number) ≡ true) × (length (decimal number) ≤ 5)
 number_fits number small = (
@@ -50,9 +45,7 @@ number_fits number small = (
 
 before_bytes : (row : Row) → list_all (other_than 10) (before_rest row) ≡ true
 before_bytes Over = refl
-before_bytes (Plays card row) = refl
-before_bytes (Looks lines) = refl
-before_bytes (Named number) = refl
+before_bytes _ = refl
 
 width_bound : (lines : Lines) → AreLines lines → label_width lines ≤ 20
 width_bound NoLine are = omega arith
@@ -65,55 +58,32 @@ regroup indented column row others rest = simp append_assoc
 mutual
   row_fits : (row : Row) (level before used most : ℕ) (rest : List ℕ) → IsRow row → level + level_count row ≤ 5 → most_cards before row ≤ 5 →
       used ≤ 42 + 3 * before + max 1 (length (before_rest row)) → Fits 0 most rest → Fits used (76 + 76 * line_count row + most) (row_text level row ++ rest)
-  row_fits Over level before used most rest is deep few low fits = end_fits rest used most (76 + 0 + most) (omega (arith, few, low)) (omega arith) fits
+  row_fits Over level before used most rest is deep few low fits = end_fits rest used most _ (omega (arith, few, low)) (omega arith) fits
   row_fits (Plays card row) level before used most rest is deep few low fits =
-      let after = 76 + 76 * line_count row + most in
-      front_fits (card_text card) ((before_rest row ++ row_text level row) ++ rest) used after
-      (agree_below_at (λ c. list_all (other_than 10) (card_text c)) (λ _. true) 52 card refl is.0)
-      (subst (Fits (used + 2) after) (sym (append_assoc (before_rest row) (row_text level row) rest))
-      (front_fits (before_rest row) (row_text level row ++ rest) (used + 2) after (before_bytes row)
+      front_fits (card_text card) _ used _ (agree_below_at (λ c. list_all (other_than 10) (card_text c)) (λ _. true) 52 card refl is.0)
+      (rw (append_assoc (before_rest row) (row_text level row) rest) (front_fits (before_rest row) _ (used + 2) _ (before_bytes row)
       (row_fits row level (before + 1) (used + 2 + length (before_rest row)) most rest is.1 deep few (omega (arith, low)) fits)))
   row_fits (Looks lines) level before used most rest is deep few low fits =
-      let below = lines_text (level + 1) (label_width lines) lines ++ rest in
-      let after = 76 * lines_count lines + most in
-      front_fits (codes "look:") (10 ∷ below) used (76 + 76 * lines_count lines + most) refl
-      (end_fits below (used + 5) after (76 + 76 * lines_count lines + most) (omega (arith, few, low)) (omega arith)
+      front_fits (codes "look:") _ used _ refl (end_fits _ (used + 5) (76 * lines_count lines + most) _ (omega (arith, few, low)) (omega arith)
       (lines_fit lines (level + 1) (label_width lines) most rest is (width_bound lines is) (omega (arith, deep)) (omega (arith, few)) fits))
   row_fits (Named number) level before used most rest is deep few low fits =
-      let after = 76 + 0 + most in
-      let digits = decimal number in
       let plain = number_fits number is in
-      let length_small = plain.1 in
-      front_fits (codes "see [") ((digits ++ codes "]\n") ++ rest) used after refl
-      (subst (Fits (used + 5) after) (sym (append_assoc digits (codes "]\n") rest))
-      (front_fits digits (93 ∷ 10 ∷ rest) (used + 5) after plain.0
-      (front_fits (93 ∷ []) (10 ∷ rest) (used + 5 + length digits) after refl
-      (end_fits rest (used + 5 + length digits + 1) most after (omega (arith, few, low, length_small)) (omega arith) fits))))
+      front_fits (codes "see [") _ used _ refl (rw (append_assoc (decimal number) (codes "]\n") rest) (front_fits (decimal number) _ (used + 5) _ plain.0
+      (front_fits (93 ∷ []) _ (used + 5 + length (decimal number)) _ refl
+      (end_fits rest (used + 5 + length (decimal number) + 1) most _ (omega (arith, few, low, plain.1)) (omega arith) fits))))
 
   lines_fit : (lines : Lines) (level column most : ℕ) (rest : List ℕ) → AreLines lines → column ≤ 20 → level + levels_below lines ≤ 5 →
       most_cards_below lines ≤ 5 → Fits 0 most rest → Fits 0 (76 * lines_count lines + most) (lines_text level column lines ++ rest)
   lines_fit NoLine level column most rest are narrow deep few fits = weaker 0 most (0 + most) rest (omega arith) fits
   lines_fit (Line set row others) level column most rest are narrow deep few fits =
-      let below = lines_text level column others ++ rest in
       let blank = column - length (label set) in
-      let after = 76 + 76 * line_count row + (76 * lines_count others + most) in
       let used = 0 + length (indent level) + length (label_column column set) in
-      let short : used ≤ 40 = omega (
-        arith,
-        deep,
-        narrow,
-        label_length set are.0,
-        length-append (label set) (replicate blank space),
-        length-replicate blank space,
-        length-replicate (4 * level) space,
-      ) in
-      weaker 0 after (76 * lines_count (Line set row others) + most) _ (omega arith)
-      (subst (Fits 0 after) (sym (regroup (indent level) (label_column column set) (row_text level row) (lines_text level column others) rest))
-      (front_fits (indent level) (label_column column set ++ (32 ∷ 58 ∷ 32 ∷ (row_text level row ++ below))) 0 after
-      (all_blanks (other_than 10) [] (4 * level) refl refl)
-      (front_fits (label_column column set) (32 ∷ 58 ∷ 32 ∷ (row_text level row ++ below)) (0 + length (indent level)) after (no_end set blank are.0)
-      (front_fits (codes " : ") (row_text level row ++ below) used after refl
-      (row_fits row level 0 (used + 3) (76 * lines_count others + most) below are.2 (omega (arith, deep)) (omega (arith, few)) (omega (arith, short))
+      let short : used ≤ 40 = omega (arith, deep, narrow, label_length set are.0, length-append {A = ℕ}, length-replicate {A = ℕ}) in
+      weaker 0 (76 + 76 * line_count row + (76 * lines_count others + most)) _ _ (omega arith)
+      (rw (regroup (indent level) (label_column column set) (row_text level row) (lines_text level column others) rest)
+      (front_fits (indent level) _ 0 _ (all_blanks (other_than 10) [] (4 * level) refl refl)
+      (front_fits (label_column column set) _ (0 + length (indent level)) _ (no_end set blank are.0) (front_fits (codes " : ") _ used _ refl
+      (row_fits row level 0 (used + 3) (76 * lines_count others + most) _ are.2 (omega (arith, deep)) (omega (arith, few)) (omega (arith, short))
       (lines_fit others level column most rest are.3 narrow (omega (arith, deep)) (omega (arith, few)) fits))))))
 
 -- ---- sheets
@@ -121,47 +91,30 @@ mutual
 -- a line is no shorter after one more byte
 wider : (bytes : List ℕ) (used : ℕ) → longest_line used bytes ≤ longest_line (used + 1) bytes
 wider [] used = omega arith
-wider (byte ∷ bytes) used =
-    elim (cases_Bool (eqb byte 10)) [
-      | inl e ↦ rw e (omega arith)
-      | inr e ↦ rw e (wider bytes (used + 1))
-    ]
+wider (byte ∷ bytes) used = grind (arith, wider bytes (used + 1))
 
 paragraphs_fit : (paragraphs : List Paragraph) → AllByRecursion IsParagraph paragraphs → AllByRecursion (λ paragraph. IsSmall 5 5 paragraph.row) paragraphs →
     Fits 0 (76 * (sum_by line_count (map (λ paragraph. paragraph.row) paragraphs) + length paragraphs)) (flat_map paragraph_text paragraphs)
 paragraphs_fit [] are small = record { narrow = omega arith; short = omega arith }
 paragraphs_fit (paragraph ∷ paragraphs) are small =
-    let number = paragraph.number in
     let row = paragraph.row in
     let rows = map (λ (p : Paragraph). p.row) paragraphs in
-    let more = flat_map paragraph_text paragraphs in
     let most = 76 * (sum_by line_count rows + length paragraphs) in
-    let after = 76 + 76 * line_count row + most in
-    let plain = number_fits number are.0.0 in
-    let length_small = plain.1 in
-    let depth = small.0.depth in
-    let numbered : List ℕ = decimal number ++ 93 ∷ 32 ∷ (row_text 0 row ++ more) in
-    let rest : Fits 1 after (91 ∷ numbered) =
-    front_fits (91 ∷ []) numbered 1 after refl
-    (front_fits (decimal number) (93 ∷ 32 ∷ (row_text 0 row ++ more)) 2 after plain.0
-    (front_fits (93 ∷ 32 ∷ []) (row_text 0 row ++ more) (2 + length (decimal number)) after refl
-    (row_fits row 0 0 (2 + length (decimal number) + 2) most more are.0.1 (omega (arith, depth)) (small.0.width 0 (omega arith)) (omega (arith, length_small))
+    let plain = number_fits paragraph.number are.0.0 in
+    let digits = decimal paragraph.number in
+    let numbered : List ℕ = 91 ∷ (digits ++ 93 ∷ 32 ∷ (row_text 0 row ++ flat_map paragraph_text paragraphs)) in
+    let rest : Fits 1 (76 + 76 * line_count row + most) numbered =
+    front_fits (91 ∷ []) _ 1 _ refl (front_fits digits _ 2 _ plain.0 (front_fits (93 ∷ 32 ∷ []) _ (2 + length digits) _ refl
+    (row_fits row 0 0 (2 + length digits + 2) most _ are.0.1 (omega (arith, small.0.depth)) (small.0.width 0 (omega arith)) (omega (arith, plain.1))
     (paragraphs_fit paragraphs are.1 small.1)))) in
-    let narrow = rest.narrow in
-    let short = rest.short in
-    let all : Fits 0 (76 * (sum_by line_count (row ∷ rows) + length (paragraph ∷ paragraphs))) (10 ∷ 91 ∷ numbered) = record {
-      narrow = omega (arith, narrow, wider (91 ∷ numbered) 0);
-      short = omega (arith, short, sum_by-cons line_count row rows);
-    } in
-    subst (Fits 0 (76 * (sum_by line_count (row ∷ rows) + length (paragraph ∷ paragraphs)))) (sym (paragraph_is paragraph more)) all
+    rw (paragraph_is paragraph (flat_map paragraph_text paragraphs))
+    (record { narrow = omega (arith, rest.narrow, wider numbered 0); short = omega (arith, rest.short, sum_by-cons line_count row rows) })
 
 pub small_text : (sheet : Sheet) → IsSheet sheet → IsSmallSheet sheet →
     (longest_line 0 (sheet_text sheet) ≤ 75) × (length (sheet_text sheet) ≤ 76 * (sheet_lines sheet + length sheet.paragraphs + 1))
 unfolding sheet_text
 small_text sheet is small =
     let rows = map (λ (p : Paragraph). p.row) sheet.paragraphs in
-    let depth = small.0.depth in
-    let fits = row_fits sheet.first 0 0 0 (76 * (sum_by line_count rows + length sheet.paragraphs)) (flat_map paragraph_text sheet.paragraphs) is.0
-    (omega (arith, depth)) (small.0.width 0 (omega arith)) (omega arith) (paragraphs_fit sheet.paragraphs is.1 small.1) in
-    let short = fits.short in
-    (fits.narrow, omega (arith, short, sum_by-cons line_count sheet.first rows))
+    let fits = row_fits sheet.first 0 0 0 (76 * (sum_by line_count rows + length sheet.paragraphs)) _ is.0 (omega (arith, small.0.depth))
+    (small.0.width 0 (omega arith)) (omega arith) (paragraphs_fit sheet.paragraphs is.1 small.1) in
+    (fits.narrow, omega (arith, fits.short, sum_by-cons line_count sheet.first rows))

@@ -1,8 +1,9 @@
 -- A sheet can be read back from its text: two different sheets have different texts.
-use Rattle.std.proofs.Common.{◌≡◌, ℕ, zero, suc, ◌+◌, ◌-◌, ◌*◌, ◌<◌, Bool, true, false, not, eqb, cond, List, [], ◌∷◌, ◌++◌, length, replicate, codes}
+use Rattle.std.proofs.Common.{◌≡◌, ℕ, zero, suc, ◌+◌, ◌-◌, ◌*◌, ◌<◌, Bool, true, false, eqb, List, [], ◌∷◌, ◌++◌, length, replicate, codes}
 use Rattle.std.proofs.Common.{decimal, flat_map, refl, sym, ap, ◌∙◌, arith, append_assoc}
 use Rattle.std.specs.List.{list_any, list_all, AllByRecursion}
-use Rattle.std.proofs.lemmas.Bool.{agree_below, agree_below_at, and_parts, true≢false, ne_eqb, eq-eqb}
+use Rattle.std.proofs.lemmas.Bool.Decides.{nat_tests}
+use Rattle.std.proofs.lemmas.Bool.{agree_below, agree_below_at, true≢false, ne_eqb, eq-eqb}
 use Rattle.std.proofs.lemmas.List.{append_cancel_left, replicate_more}
 use Rattle.std.proofs.lemmas.Fmt.{decimal_injective}
 use Rattle.crib_cards.specs.Cards.{IsCard, rank_of}
@@ -11,7 +12,7 @@ use Rattle.crib_cards.proofs.CardTextLemmas.{card_text-injective}
 use Rattle.crib_text.specs.Spelling.{space}
 use Rattle.crib_plan.proofs.WordLemmas.{IsDigit, decimal_digits}
 use Rattle.crib_sheet.specs.PlanSheet.{Row, Lines, Paragraph, Over, Plays, Looks, Named, NoLine, Line}
-use Rattle.crib_sheet.specs.PlanText.{label, label_width, indent, before_rest, row_text, lines_text, paragraph_text, sheet_text}
+use Rattle.crib_sheet.specs.PlanText.{label, indent, before_rest, row_text, lines_text, paragraph_text, sheet_text}
 use Rattle.crib_sheet.specs.PlanTextLaws.{IsRow, AreLines, IsParagraph, TextsHaveOneSheet}
 use Rattle.crib_sheet.proofs.PlanLabels.{other_than, blanks, same_labels, no_colon, label_first}
 
@@ -20,18 +21,10 @@ use Rattle.crib_sheet.proofs.PlanLabels.{other_than, blanks, same_labels, no_col
 cut_at : (byte : ℕ) (front front' rest rest' : List ℕ) → list_all (other_than byte) front ≡ true → list_all (other_than byte) front' ≡ true →
     front ++ byte ∷ rest ≡ front' ++ byte ∷ rest' → (front ≡ front') × (rest ≡ rest')
 cut_at byte [] [] rest rest' none none' same = (refl, cc)
-cut_at byte [] (first' ∷ front') rest rest' none none' same =
-    let e : first' ≡ byte = cc in
-    absurd (true≢false (sym (and_parts (other_than byte first') (list_all (other_than byte) front') none').0 ∙ ap not (eq-eqb first' byte e)))
-cut_at byte (first ∷ front) [] rest rest' none none' same =
-    let e : first ≡ byte = cc in
-    absurd (true≢false (sym (and_parts (other_than byte first) (list_all (other_than byte) front) none).0 ∙ ap not (eq-eqb first byte e)))
+cut_at byte [] (first' ∷ front') rest rest' none none' same = grind (arith, nat_tests, none', same)
+cut_at byte (first ∷ front) [] rest rest' none none' same = grind (arith, nat_tests, none, same)
 cut_at byte (first ∷ front) (first' ∷ front') rest rest' none none' same =
-    let e : first ≡ first' = cc in
-    let others : front ++ byte ∷ rest ≡ front' ++ byte ∷ rest' = cc in
-    let cut = cut_at byte front front' rest rest' (and_parts (other_than byte first) (list_all (other_than byte) front) none).1
-    (and_parts (other_than byte first') (list_all (other_than byte) front') none').1 others in
-    (let f : front ≡ front' = cut.0 in cc, cut.1)
+    grind (arith, nat_tests, none, none', same, cut_at byte front front' rest rest')
 
 -- ---- numbers
 
@@ -82,29 +75,10 @@ no_card byte card none is same =
 first_byte : (byte byte' : ℕ) (rest rest' : List ℕ) → byte ∷ rest ≡ byte' ∷ rest' → byte ≡ byte'
 first_byte byte byte' rest rest' same = cc
 
-clash : (byte byte' : ℕ) (rest rest' : List ℕ) → (byte ≡ byte' → ⊥) → byte ∷ rest ≡ byte' ∷ rest' → ⊥
-clash byte byte' rest rest' differ same = differ (first_byte byte byte' rest rest' same)
-
--- what a text after a card begins with, before its row: its first byte shows it
-abbrev front_of : List ℕ → List ℕ
-front_of [] = []
-front_of (byte ∷ bytes) = cond (eqb byte 10) [] (cond (eqb byte 32) (32 ∷ []) (codes ", then "))
-
-front_is : (level : ℕ) (row : Row) (rest : List ℕ) → before_rest row ≡ front_of (before_rest row ++ (row_text level row ++ rest))
-front_is level Over rest = refl
-front_is level (Plays card row) rest = refl
-front_is level (Looks lines) rest = refl
-front_is level (Named number) rest = refl
-
 after_card : (level : ℕ) (row row' : Row) (rest rest' : List ℕ) →
     (before_rest row ++ row_text level row) ++ rest ≡ (before_rest row' ++ row_text level row') ++ rest' →
     row_text level row ++ rest ≡ row_text level row' ++ rest'
-after_card level row row' rest rest' same =
-    let text : before_rest row ++ (row_text level row ++ rest) ≡ before_rest row' ++ (row_text level row' ++ rest') =
-    sym (append_assoc (before_rest row) (row_text level row) rest) ∙ same ∙ append_assoc (before_rest row') (row_text level row') rest' in
-    let front : before_rest row' ≡ before_rest row = front_is level row' rest' ∙ ap front_of (sym text) ∙ sym (front_is level row rest) in
-    append_cancel_left (before_rest row) (row_text level row ++ rest) (row_text level row' ++ rest')
-    (text ∙ ap (λ before. before ++ (row_text level row' ++ rest')) front)
+after_card level row row' rest rest' same = grind (arith, same)
 
 -- ---- a line
 
@@ -130,11 +104,9 @@ blanks_line : (level width : ℕ) (set : List Bool) (row : Row) (others : Lines)
     blanks (lines_text level width (Line set row others) ++ rest) ≡ 4 * level
 blanks_line level width set row others rest long some =
     let end : List ℕ = 58 ∷ 32 ∷ (row_text level row ++ (lines_text level width others ++ rest)) in
-    ap blanks (line_is level width set row others rest)
-    ∙ blanks_more (4 * level) ((label set ++ replicate (blanks_after width set) space) ++ end)
-    ∙ ap (λ k. 4 * level + k) (ap blanks (append_assoc (label set) (replicate (blanks_after width set) space) end)
-    ∙ label_first set (replicate (blanks_after width set) space ++ end) long some)
-    ∙ (omega arith)
+    let blank : List ℕ = replicate (blanks_after width set) space in
+    let name = label_first set (blank ++ end) long some in
+    omega (arith, ap blanks (line_is level width set row others rest), blanks_more, ap blanks (append_assoc (label set) blank end), name)
 
 blanks_lines : (level width : ℕ) (lines : Lines) (rest : List ℕ) → AreLines lines → blanks rest < 4 * level →
     blanks (lines_text level width lines ++ rest) < 4 * (level + 1)
@@ -148,32 +120,21 @@ mutual
       blanks rest < 4 * (level + 1) → blanks rest' < 4 * (level + 1) → row_text level row ++ rest ≡ row_text level row' ++ rest' →
       (row ≡ row') × (rest ≡ rest')
   same_rows Over level Over rest rest' is is' few few' same = (refl, append_cancel_left (10 ∷ []) rest rest' same)
-  same_rows Over level (Plays card' row') rest rest' is is' few few' same = absurd (no_card 10 card' refl is'.0 (sym (first_byte 10 _ _ _ same)))
-  same_rows Over level (Looks lines') rest rest' is is' few few' same = absurd (clash 10 108 _ _ (λ e. omega arith) same)
-  same_rows Over level (Named number') rest rest' is is' few few' same = absurd (clash 10 115 _ _ (λ e. omega arith) same)
-  same_rows (Plays card row) level Over rest rest' is is' few few' same = absurd (no_card 10 card refl is.0 (first_byte _ 10 _ _ same))
   same_rows (Plays card row) level (Plays card' row') rest rest' is is' few few' same =
-      let cut = same_cards card card' ((before_rest row ++ row_text level row) ++ rest) ((before_rest row' ++ row_text level row') ++ rest') is.0 is'.0 same in
+      let cut = same_cards card card' _ _ is.0 is'.0 same in
       let after = same_rows row level row' rest rest' is.1 is'.1 few few' (after_card level row row' rest rest' cut.1) in
       (let e : card ≡ card' = cut.0 in let f : row ≡ row' = after.0 in cc, after.1)
-  same_rows (Plays card row) level (Looks lines') rest rest' is is' few few' same = absurd (no_card 108 card refl is.0 (first_byte _ 108 _ _ same))
-  same_rows (Plays card row) level (Named number') rest rest' is is' few few' same = absurd (no_card 115 card refl is.0 (first_byte _ 115 _ _ same))
-  same_rows (Looks lines) level Over rest rest' is is' few few' same = absurd (clash 108 10 _ _ (λ e. omega arith) same)
-  same_rows (Looks lines) level (Plays card' row') rest rest' is is' few few' same = absurd (no_card 108 card' refl is'.0 (sym (first_byte 108 _ _ _ same)))
   same_rows (Looks lines) level (Looks lines') rest rest' is is' few few' same =
-      let below = same_lines lines (level + 1) (label_width lines) (label_width lines') lines' rest rest' is is' few few'
-      (append_cancel_left (codes "look:\n") (lines_text (level + 1) (label_width lines) lines ++ rest)
-      (lines_text (level + 1) (label_width lines') lines' ++ rest') same) in
+      let below = same_lines lines (level + 1) _ _ lines' rest rest' is is' few few' (append_cancel_left (codes "look:\n") _ _ same) in
       (ap Looks below.0, below.1)
-  same_rows (Looks lines) level (Named number') rest rest' is is' few few' same = absurd (clash 108 115 _ _ (λ e. omega arith) same)
-  same_rows (Named number) level Over rest rest' is is' few few' same = absurd (clash 115 10 _ _ (λ e. omega arith) same)
-  same_rows (Named number) level (Plays card' row') rest rest' is is' few few' same = absurd (no_card 115 card' refl is'.0 (sym (first_byte 115 _ _ _ same)))
-  same_rows (Named number) level (Looks lines') rest rest' is is' few few' same = absurd (clash 115 108 _ _ (λ e. omega arith) same)
   same_rows (Named number) level (Named number') rest rest' is is' few few' same =
-      let numbered = append_cancel_left (codes "see [") ((decimal number ++ codes "]\n") ++ rest) ((decimal number' ++ codes "]\n") ++ rest') same in
+      let numbered = append_cancel_left (codes "see [") _ _ same in
       let cut = same_numbers number number' (10 ∷ rest) (10 ∷ rest') is is'
       (sym (append_assoc (decimal number) (codes "]\n") rest) ∙ numbered ∙ append_assoc (decimal number') (codes "]\n") rest') in
       (ap Named cut.0, append_cancel_left (10 ∷ []) rest rest' cut.1)
+  same_rows (Plays card row) level _ rest rest' is is' few few' same = absurd (no_card _ card refl is.0 (first_byte _ _ _ _ same))
+  same_rows _ level (Plays card' row') rest rest' is is' few few' same = absurd (no_card _ card' refl is'.0 (sym (first_byte _ _ _ _ same)))
+  same_rows _ level _ rest rest' is is' few few' same = absurd (let e = first_byte _ _ _ _ same in omega (arith, e))
 
   same_lines : (lines : Lines) (level width width' : ℕ) (lines' : Lines) (rest rest' : List ℕ) → AreLines lines → AreLines lines' →
       blanks rest < 4 * level → blanks rest' < 4 * level → lines_text level width lines ++ rest ≡ lines_text level width' lines' ++ rest' →
@@ -186,12 +147,8 @@ mutual
   same_lines (Line set row others) level width width' (Line set' row' others') rest rest' are are' few few' same =
       let end : List ℕ = lines_text level width others ++ rest in
       let end' : List ℕ = lines_text level width' others' ++ rest' in
-      let front : List ℕ = label set ++ replicate (blanks_after width set) space in
-      let front' : List ℕ = label set' ++ replicate (blanks_after width' set') space in
-      let lined = append_cancel_left (indent level) (front ++ 58 ∷ 32 ∷ (row_text level row ++ end)) (front' ++ 58 ∷ 32 ∷ (row_text level row' ++ end'))
-      (sym (line_is level width set row others rest) ∙ same ∙ line_is level width' set' row' others' rest') in
-      let cut = cut_at 58 front front' (32 ∷ (row_text level row ++ end)) (32 ∷ (row_text level row' ++ end'))
-      (no_colon set (blanks_after width set) are.0) (no_colon set' (blanks_after width' set') are'.0) lined in
+      let lined = append_cancel_left (indent level) _ _ (sym (line_is level width set row others rest) ∙ same ∙ line_is level width' set' row' others' rest') in
+      let cut = cut_at 58 _ _ _ _ (no_colon set (blanks_after width set) are.0) (no_colon set' (blanks_after width' set') are'.0) lined in
       let colon : 32 ∷ (row_text level row ++ end) ≡ 32 ∷ (row_text level row' ++ end') = cut.1 in
       let e : set ≡ set' = same_labels set set' (blanks_after width set) (blanks_after width' set') are.0 are'.0 cut.0 in
       let here = same_rows row level row' end end' are.2 are'.2
@@ -218,27 +175,19 @@ blanks_paragraphs (paragraph ∷ paragraphs) =
 same_paragraphs : (paragraphs paragraphs' : List Paragraph) → AllByRecursion IsParagraph paragraphs → AllByRecursion IsParagraph paragraphs' →
     flat_map paragraph_text paragraphs ≡ flat_map paragraph_text paragraphs' → paragraphs ≡ paragraphs'
 same_paragraphs [] [] are are' same = refl
-same_paragraphs [] (paragraph' ∷ paragraphs') are are' same =
-    let e : 0 ≡ suc _ = ap length (same ∙ paragraph_is paragraph' (flat_map paragraph_text paragraphs')) in absurd (omega arith)
-same_paragraphs (paragraph ∷ paragraphs) [] are are' same =
-    let e : 0 ≡ suc _ = ap length (sym same ∙ paragraph_is paragraph (flat_map paragraph_text paragraphs)) in absurd (omega arith)
+same_paragraphs [] (paragraph' ∷ paragraphs') are are' same = absurd (omega (arith, ap length (same ∙ paragraph_is paragraph' _)))
+same_paragraphs (paragraph ∷ paragraphs) [] are are' same = absurd (omega (arith, ap length (sym same ∙ paragraph_is paragraph _)))
 same_paragraphs (paragraph ∷ paragraphs) (paragraph' ∷ paragraphs') are are' same =
-    let more : List ℕ = flat_map paragraph_text paragraphs in
-    let more' : List ℕ = flat_map paragraph_text paragraphs' in
-    let numbered = append_cancel_left (10 ∷ 91 ∷ [])
-    (decimal paragraph.number ++ 93 ∷ 32 ∷ (row_text 0 paragraph.row ++ more)) (decimal paragraph'.number ++ 93 ∷ 32 ∷ (row_text 0 paragraph'.row ++ more'))
-    (sym (paragraph_is paragraph more) ∙ same ∙ paragraph_is paragraph' more') in
-    let cut = same_numbers paragraph.number paragraph'.number (32 ∷ (row_text 0 paragraph.row ++ more)) (32 ∷ (row_text 0 paragraph'.row ++ more'))
-    are.0.0 are'.0.0 numbered in
-    let rows = same_rows paragraph.row 0 paragraph'.row more more' are.0.1 are'.0.1 (blanks_paragraphs paragraphs) (blanks_paragraphs paragraphs')
-    (append_cancel_left (32 ∷ []) (row_text 0 paragraph.row ++ more) (row_text 0 paragraph'.row ++ more') cut.1) in
+    let numbered = append_cancel_left (10 ∷ 91 ∷ []) _ _ (sym (paragraph_is paragraph _) ∙ same ∙ paragraph_is paragraph' _) in
+    let cut = same_numbers paragraph.number paragraph'.number _ _ are.0.0 are'.0.0 numbered in
+    let rows = same_rows paragraph.row 0 paragraph'.row _ _ are.0.1 are'.0.1 (blanks_paragraphs paragraphs) (blanks_paragraphs paragraphs')
+    (append_cancel_left (32 ∷ []) _ _ cut.1) in
     let others : paragraphs ≡ paragraphs' = same_paragraphs paragraphs paragraphs' are.1 are'.1 rows.1 in
     (λ i. record { number = cut.0 i; row = rows.0 i } ∷ others i)
 
 pub one_text : TextsHaveOneSheet
 unfolding sheet_text
 one_text sheet sheet' is is' same =
-    let rows = same_rows sheet.first 0 sheet'.first (flat_map paragraph_text sheet.paragraphs) (flat_map paragraph_text sheet'.paragraphs) is.0 is'.0
-    (blanks_paragraphs sheet.paragraphs) (blanks_paragraphs sheet'.paragraphs) same in
+    let rows = same_rows sheet.first 0 sheet'.first _ _ is.0 is'.0 (blanks_paragraphs sheet.paragraphs) (blanks_paragraphs sheet'.paragraphs) same in
     let others = same_paragraphs sheet.paragraphs sheet'.paragraphs is.1 is'.1 rows.1 in
     (λ i. record { first = rows.0 i; paragraphs = others i })

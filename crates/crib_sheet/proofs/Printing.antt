@@ -1,5 +1,5 @@
 -- Bytes put on a page, one after another.
-use Rattle.std.proofs.Common.{◌≡◌, ℕ, zero, suc, ◌+◌, ◌<◌, ◌∙◌, Bool, true, false, List, [], ◌∷◌, ◌++◌, length, take, flat_map, get_or, Option}
+use Rattle.std.proofs.Common.{◌≡◌, ℕ, ◌+◌, ◌<◌, ◌∙◌, Bool, true, false, List, [], ◌∷◌, ◌++◌, length, take, flat_map, get_or, Option}
 use Rattle.std.proofs.Common.{◌⊎◌, ◌-◌, ◌≤◌, codes, decimal, inl, inr, refl, ap, sym, subst, append_assoc, length-append, arith}
 use Rattle.std.specs.Io.KnownBytes.{Appends}
 use Rattle.std.proofs.KnownBytes.{Appends-nil, Appends-trans}
@@ -15,44 +15,32 @@ use Rattle.crib_sheet.specs.Private.Prints.{Stand, TakesAll, FailsWithin, Change
 
 -- a proper beginning of some bytes is one of them and more
 fails_sooner : (a b : List ℕ) (s t : Option (List ℕ)) (n m : ℕ) → FailsWithin a s t n m → FailsWithin (a ++ b) s t n m
-fails_sooner a b s t n m fails =
-    let less = fails.less in
-    record {
-      sent = fails.sent;
-      less = omega (arith, length-append a b);
-      part = subst (Appends s t) (sym (take-append-le fails.sent a b (omega arith))) fails.part;
-      failed = fails.failed;
-    }
+fails_sooner a b s t n m fails = record {
+  sent = fails.sent;
+  less = omega (arith, fails.less, length-append a b);
+  part = rw (take-append-le fails.sent a b (omega (arith, fails.less))) fails.part;
+  failed = fails.failed;
+}
 
 fails_later : (a b : List ℕ) (s t u : Option (List ℕ)) (n m k : ℕ) → TakesAll a s t n m → FailsWithin b t u m k → FailsWithin (a ++ b) s u n k
 fails_later a b s t u n m k takes fails =
-    let less = fails.less in
     record {
       sent = length a + fails.sent;
-      less = omega (arith, length-append a b);
-      part = subst (Appends s u) (sym (take-append-add a b fails.sent)) (Appends-trans s t u _ _ takes.whole fails.part);
-      failed = λ small. let more = fails.failed small in let before = takes.counted (omega arith) in omega arith;
+      less = omega (arith, fails.less, length-append a b);
+      part = rw (take-append-add a b fails.sent) (Appends-trans s t u _ _ takes.whole fails.part);
+      failed = λ small. grind (arith, fails.failed, takes.counted, small);
     }
 
 takes_both : (a b : List ℕ) (s t u : Option (List ℕ)) (n m k : ℕ) → TakesAll a s t n m → TakesAll b t u m k → TakesAll (a ++ b) s u n k
-takes_both a b s t u n m k first next = record {
-  whole = Appends-trans s t u _ _ first.whole next.whole;
-  counted = λ small. let more = next.counted small in let before = first.counted (omega arith) in omega arith;
-}
-
-not_both : {X : Type 0} (x : Bool) → x ≡ true → x ≡ false → X
-not_both x is isnt = let e : true ≡ false = sym is ∙ isnt in absurd cc
+takes_both a b s t u n m k first next =
+    record { whole = Appends-trans s t u _ _ first.whole next.whole; counted = λ small. grind (arith, next.counted, first.counted, small) }
 
 changes_both : (a b : List ℕ) (x y z : Bool) (s t u : Stand) → s.is_cut ≡ x → t.is_cut ≡ y → u.is_cut ≡ z → Changes x y a s t → Changes y z b t u
     → Changes x z (a ++ b) s u
 changes_both a b true true z s t u before between after first next = next ∙ first
-changes_both a b true false z s t u before between after first next =
-    not_both s.is_cut before (sym (ap (λ (p : Stand). p.is_cut) first) ∙ between)
-changes_both a b false true true s t u before between after first next =
-    subst (λ (p : Stand). FailsWithin (a ++ b) s.contents p.contents s.faults p.faults) (sym next)
-    (fails_sooner a b s.contents t.contents s.faults t.faults first)
-changes_both a b false true false s t u before between after first next =
-    not_both t.is_cut between (sym (ap (λ (p : Stand). p.is_cut) next) ∙ after)
+changes_both a b true false z s t u before between after first next = absurd (grind (arith, before, between, first))
+changes_both a b false true true s t u before between after first next = rw next (fails_sooner a b _ _ _ _ first)
+changes_both a b false true false s t u before between after first next = absurd (grind (arith, between, after, next))
 changes_both a b false false true s t u before between after first next = fails_later a b _ _ _ _ _ _ first next
 changes_both a b false false false s t u before between after first next = takes_both a b _ _ _ _ _ _ first next
 
@@ -148,6 +136,4 @@ pub column : (width number blanks : ℕ) (digits : List ℕ) → width ≤ 3 →
     → take blanks (codes "   ") ++ digits ≡ right_in width number
 unfolding right_in
 column width number blanks digits narrow is blank =
-    ap (λ (k : ℕ). take k (codes "   ") ++ digits) blank
-    ∙ ap (λ (bytes : List ℕ). take (width - length bytes) (codes "   ") ++ bytes) is
-    ∙ ap (λ (blank : List ℕ). blank ++ decimal number) (take-replicate (width - length (decimal number)) 3 space (omega arith))
+    rw (blank, is) (ap (λ (blank : List ℕ). blank ++ decimal number) (take-replicate (width - length (decimal number)) 3 space (omega arith)))

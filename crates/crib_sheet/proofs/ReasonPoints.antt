@@ -1,7 +1,6 @@
 -- The points of the reasons of a turn add up to the points that the turn counts.
 use Rattle.std.proofs.Common.{◌≡◌, ◌⊎◌, ℕ, zero, suc, ◌+◌, ◌-◌, ◌≤◌, Bool, true, false, cond, not, eqb, leb, ◌&&◌, List, [], ◌∷◌, ◌++◌, length}
-use Rattle.std.proofs.Common.{refl, sym, ap, ◌∙◌, inl, inr, arith}
-use Rattle.std.proofs.lemmas.Bool.{cases_Bool, cond-true, eqb-true, ne_eqb, le-leb, true≢false}
+use Rattle.std.proofs.Common.{refl, inl, arith}
 use Rattle.std.proofs.lemmas.Bool.Decides.{nat_tests}
 use Rattle.std.proofs.lemmas.List.{length-drop}
 use Rattle.std.proofs.lemmas.List.Sums.{sum_by-append}
@@ -9,10 +8,10 @@ use Rattle.crib_cards.specs.Runs.{is_run}
 use Rattle.crib_cards.specs.declared.letters.Letter.{Letter}
 use Rattle.crib_cards.specs.declared.letters.Letter.TheVariants as letter
 use Rattle.crib_play.specs.Record.{Record, cards_in, count_of, pile_of, closes}
-use Rattle.crib_play.specs.Points.{count_points, alike_points, are_alike, card_points, last_card_points, last_cards, most_last_cards, play_points}
+use Rattle.crib_play.specs.Points.{count_points, alike_points, card_points, last_card_points, last_cards, most_last_cards, play_points}
 use Rattle.crib_play.specs.Points.{turn_points}
 use Rattle.crib_sheet.specs.declared.game.reason.PlayReason.{PlayReason}
-use Rattle.crib_sheet.specs.declared.game.reason.PlayReason.TheVariants.{Fifteen, ThirtyOne, Alike, Run, Go, LastCard}
+use Rattle.crib_sheet.specs.declared.game.reason.PlayReason.TheVariants.{Alike, Run, Go, LastCard}
 use Rattle.crib_sheet.specs.GamePlay.{alike_reasons, card_reasons, count_reasons, last_card_reasons, pile_reasons_at, reason_if, reason_points}
 use Rattle.crib_sheet.specs.GamePlay.{reasons_points, run_reasons, turn_reasons}
 
@@ -24,32 +23,15 @@ pub points_append : (some more : List PlayReason) → reasons_points (some ++ mo
 points_append some more = sum_by-append reason_points some more
 
 -- ---- the parts of a card's points
-one_of_two : (a b : Bool) → (a ≡ true → b ≡ false) → cond a 2 0 + cond b 2 0 ≡ cond a 2 (cond b 2 0)
-one_of_two true true apart = absurd (true≢false (apart refl))
-one_of_two true false apart = refl
-one_of_two false true apart = refl
-one_of_two false false apart = refl
-
 points_of_count : (count : ℕ) → reasons_points (count_reasons count) ≡ count_points count
 points_of_count count =
-    points_append (reason_if (eqb count 15) Fifteen) (reason_if (eqb count 31) ThirtyOne)
-    ∙ (λ i. points_if (eqb count 15) Fifteen i + points_if (eqb count 31) ThirtyOne i)
-    ∙ one_of_two (eqb count 15) (eqb count 31)
-    (λ fifteen. ne_eqb count 31 (λ more. let is = eqb-true count 15 fifteen in let other : ◌≡◌ {A = ℕ} 15 31 = sym is ∙ more in absurd (omega (arith, other))))
+    grind (arith, nat_tests, points_append, points_if)
 
 points_of_alike : (cards : ℕ) → reasons_points (alike_reasons cards) ≡ alike_points cards
-points_of_alike zero = refl
-points_of_alike (suc zero) = refl
-points_of_alike (suc (suc more)) =
-    points_if (leb 2 (suc (suc more))) (Alike (suc (suc more)))
-    ∙ cond-true (leb 2 (suc (suc more))) (alike_points (suc (suc more))) 0 (le-leb 2 (suc (suc more)) (omega arith))
+points_of_alike cards = grind (arith, nat_tests, points_if (leb 2 cards) (Alike cards))
 
 points_of_run : (cards : ℕ) → (cards ≡ 0) ⊎ (3 ≤ cards) → reasons_points (run_reasons cards) ≡ cards
-points_of_run cards either =
-    elim either [
-      | inl none ↦ ap (λ n. reasons_points (run_reasons n)) none ∙ sym none
-      | inr three ↦ points_if (leb 3 cards) (Run cards) ∙ cond-true (leb 3 cards) cards 0 (le-leb 3 cards three)
-    ]
+points_of_run cards either = grind (arith, nat_tests, points_if (leb 3 cards) (Run cards), either)
 
 pub three_cards : (cards : List ℕ) → is_run cards ≡ true → 3 ≤ length cards
 three_cards cards is = grind (arith, nat_tests)
@@ -58,33 +40,19 @@ three_cards cards is = grind (arith, nat_tests)
 run_length : (n : ℕ) (pile : List ℕ) → (most_last_cards is_run n pile ≡ 0) ⊎ (3 ≤ most_last_cards is_run n pile)
 run_length zero pile = inl refl
 run_length (suc n) pile =
-    elim (cases_Bool (is_run (last_cards (suc n) pile))) [
-      | inl is ↦
-          let three = three_cards (last_cards (suc n) pile) is in
-          let few = length-drop (length pile - suc n) pile in
-          let long : 3 ≤ suc n = omega (arith, three, few) in
-          inr (rw is long)
-      | inr is ↦ rw is (run_length n pile)
-    ]
+    grind (arith, run_length n pile, three_cards (last_cards (suc n) pile), length-drop (length pile - suc n) pile)
 
 points_of_last_card : (before count : ℕ) → reasons_points (last_card_reasons before count) ≡ last_card_points before count
 points_of_last_card before count = points_if (eqb before 7 && not (eqb count 31)) LastCard
 
 points_of_pile : (pile : List ℕ) → reasons_points (pile_reasons_at (count_of pile) pile) ≡ play_points pile
 points_of_pile pile =
-    let counted = count_reasons (count_of pile) in
-    let alike = alike_reasons (most_last_cards are_alike (length pile) pile) in
-    let run = run_reasons (most_last_cards is_run (length pile) pile) in
-    points_append (counted ++ alike) run
-    ∙ ap (λ n. n + reasons_points run) (points_append counted alike)
-    ∙ (λ i.
-    points_of_count (count_of pile) i + points_of_alike (most_last_cards are_alike (length pile) pile) i
-    + points_of_run (most_last_cards is_run (length pile) pile) (run_length (length pile) pile) i)
+    let long = run_length (length pile) pile in
+    omega (arith, points_append, points_of_count, points_of_alike, points_of_run (most_last_cards is_run (length pile) pile) long)
 
 points_of_card : (before : ℕ) (pile : List ℕ) → reasons_points (card_reasons before pile) ≡ card_points before pile
 points_of_card before pile =
-    points_append (pile_reasons_at (count_of pile) pile) (last_card_reasons before (count_of pile))
-    ∙ (λ i. points_of_pile pile i + points_of_last_card before (count_of pile) i)
+    omega (arith, points_append, points_of_pile pile, points_of_last_card before (count_of pile))
 
 -- ---- the points of a turn, and of a record
 pub points_of_turn : (turn : Letter) (past : Record) → reasons_points (turn_reasons turn past) ≡ turn_points turn past

@@ -1,7 +1,7 @@
 -- The reasons that a visible turn adds: its own, and the go of a close that the silent gos after it bring.
-use Rattle.std.proofs.Common.{◌≡◌, ℕ, zero, suc, ◌+◌, Bool, true, false, cond, ◌&&◌, ◌||◌, List, [], ◌∷◌, ◌++◌, map, reverse}
-use Rattle.std.proofs.Common.{refl, sym, ap, subst, ◌∙◌, inl, inr, arith}
-use Rattle.std.proofs.lemmas.Bool.{cases_Bool, false≢true}
+use Rattle.std.proofs.Common.{◌≡◌, ℕ, zero, suc, ◌+◌, Bool, true, false, cond, ◌||◌, List, [], ◌∷◌, ◌++◌, map, reverse}
+use Rattle.std.proofs.Common.{refl, sym, ap, ◌∙◌, inl, inr, arith}
+use Rattle.std.proofs.lemmas.Bool.{cases_Bool}
 use Rattle.std.proofs.lemmas.List.{append-nil, append_assoc, map-append, reverse-append}
 use Rattle.crib_cards.specs.Letters.{letter_of}
 use Rattle.crib_cards.specs.Start.{Start}
@@ -17,7 +17,6 @@ use Rattle.crib_problem.specs.Setup.{Setup, start_of}
 use Rattle.crib_game.specs.declared.section.game.Game.{Game}
 use Rattle.crib_game.specs.declared.replaying.report.Row.{Row}
 use Rattle.crib_game.specs.Replay.{act_rows, acts_back, report_of}
-use Rattle.crib_sheet.specs.declared.game.reason.PlayReason.{PlayReason}
 use Rattle.crib_sheet.specs.declared.game.reason.PlayReason.TheVariants as reason
 use Rattle.crib_sheet.specs.GameLaws.{ReasonsAddedLaw, reasons_in}
 use Rattle.crib_sheet.specs.GamePlay.{act_reasons, game_reasons, reason_if, reasons_added, reasons_points, silent_gos_close, turn_reasons}
@@ -33,86 +32,34 @@ pub record GosAfter (past full : Record) (closed : Bool) : Type 0 where
   pub begun : closed ≡ true → is_begun (pile_of past) ≡ true
 
 no_gos : (past : Record) → GosAfter past past false
-no_gos past = record {
-  reasons = sym (append-nil (reasons_in past));
-  points = omega arith;
-  pile = refl;
-  cards = refl;
-  begun = λ e. absurd (false≢true e);
-}
+no_gos past = grind (arith, append-nil (reasons_in past))
 
 pub pile_after_go : (past : Record) → pile_of (Go ∷ past) ≡ cond (closes Go past) [] (pile_of past)
-pile_after_go past = step (closes Go past) (sequence_of past)
-  where
-    step : (b : Bool) (recent : List Letter) → cards_in (cond b [] (Go ∷ recent)) ≡ cond b [] (cards_in recent)
-    step true recent = refl
-    step false recent = refl
+pile_after_go past = grind (arith)
 
 pub pile_after_card : (rank : ℕ) (past : Record) → pile_of (Seen rank ∷ past) ≡ cond (closes (Seen rank) past) [] (pile_of past ++ rank ∷ [])
-pile_after_card rank past = step (closes (Seen rank) past) (sequence_of past)
-  where
-    step : (b : Bool) (recent : List Letter) → cards_in (cond b [] (Seen rank ∷ recent)) ≡ cond b [] (cards_in recent ++ rank ∷ [])
-    step true recent = refl
-    step false recent = refl
+pile_after_card rank past = grind (arith)
 
 -- a go that is a close comes after a card
 close_begun : (recent : List Letter) → is_close Go recent ≡ true → is_begun (cards_in recent) ≡ true
-close_begun [] e = absurd (false≢true e)
-close_begun (Seen rank ∷ recent) e = absurd (false≢true e)
-close_begun (Go ∷ recent) e = e
+close_begun recent e = grind (arith, e)
 
-open_go : (past full : Record) (closed : Bool) → closes Go past ≡ false → GosAfter (Go ∷ past) full closed → GosAfter past full closed
-open_go past full closed e gos =
-    let same : pile_of (Go ∷ past) ≡ pile_of past = pile_after_go past ∙ ap (λ (b : Bool). cond b [] (pile_of past)) e in
-    let none : ◌≡◌ {A = ℕ} (cond (closes Go past) 1 0) 0 = ap (λ (b : Bool). cond b 1 0) e in
-    record {
-      reasons = gos.reasons
-          ∙ ap (λ (b : Bool). reasons_in past ++ reason_if b reason.Go ++ reason_if closed reason.Go) e
-          ∙ ap (λ (some : List PlayReason). some ++ reason_if closed reason.Go) (append-nil (reasons_in past));
-      points = omega (arith, gos.points, none);
-      pile = gos.pile ∙ ap (λ (pile : List ℕ). cond closed [] pile) same;
-      cards = gos.cards;
-      begun = λ is. ap is_begun (sym same) ∙ gos.begun is;
-    }
-
-closing_go : (past full : Record) → closes Go past ≡ true → GosAfter (Go ∷ past) full false → GosAfter past full true
-closing_go past full e gos =
-    let one : ◌≡◌ {A = ℕ} (cond (closes Go past) 1 0) 1 = ap (λ (b : Bool). cond b 1 0) e in
-    record {
-      reasons = gos.reasons ∙ append-nil (reasons_in (Go ∷ past)) ∙ ap (λ (b : Bool). reasons_in past ++ reason_if b reason.Go) e;
-      points = omega (arith, gos.points, one);
-      pile = gos.pile ∙ pile_after_go past ∙ ap (λ (b : Bool). cond b [] (pile_of past)) e;
-      cards = gos.cards;
-      begun = λ _. close_begun (sequence_of past) e;
-    }
+-- one more go before them
+one_go : (past full : Record) (closed : Bool) → GosAfter (Go ∷ past) full closed → GosAfter past full (closes Go past || closed)
+one_go past full closed gos =
+    grind (arith, pile_after_go past, append-nil (reasons_in past), append-nil (reasons_in (Go ∷ past)), close_begun (sequence_of past))
 
 -- gos over an empty pile are no close
 pub not_closed : (past full : Record) (closed : Bool) → pile_of past ≡ [] → GosAfter past full closed → closed ≡ false
-not_closed past full true empty gos = absurd (false≢true (sym (ap is_begun empty) ∙ gos.begun refl))
-not_closed past full false empty gos = refl
+not_closed past full closed empty gos = grind (arith, gos.begun, empty)
 
 pub gos_after : (n : ℕ) (start : Start) (past : Record) → GosAfter past (with_silent_gos n start past) (silent_gos_close n start past)
 gos_after zero start past = no_gos past
 gos_after (suc n) start past =
-    let more = with_silent_gos n start (Go ∷ past) in
-    let later = silent_gos_close n start (Go ∷ past) in
     elim (cases_Bool (is_silent_next start past)) [
-      | inl silent ↦
-          subst (λ (b : Bool). GosAfter past (cond b more past) (b && (closes Go past || later))) (sym silent)
-          (with_go past more later (gos_after n start (Go ∷ past)))
-      | inr heard ↦ subst (λ (b : Bool). GosAfter past (cond b more past) (b && (closes Go past || later))) (sym heard) (no_gos past)
+      | inl silent ↦ rw silent (one_go past _ _ (gos_after n start (Go ∷ past)))
+      | inr heard ↦ rw heard (no_gos past)
     ]
-  where
-    with_go : (before full : Record) (closed : Bool) → GosAfter (Go ∷ before) full closed → GosAfter before full (closes Go before || closed)
-    with_go before full closed gos =
-        elim (cases_Bool (closes Go before)) [
-          | inl e ↦
-              let empty : pile_of (Go ∷ before) ≡ [] = pile_after_go before ∙ ap (λ (b : Bool). cond b [] (pile_of before)) e in
-              let none = not_closed (Go ∷ before) full closed empty gos in
-              subst (λ (b : Bool). GosAfter before full (b || closed)) (sym e)
-              (closing_go before full e (subst (GosAfter (Go ∷ before) full) none gos))
-          | inr e ↦ subst (λ (b : Bool). GosAfter before full (b || closed)) (sym e) (open_go before full closed e gos)
-        ]
 
 -- ---- one more visible turn
 -- what a visible turn adds, with the silent gos after it
@@ -140,12 +87,8 @@ reasons_added_law start turn seen =
 -- the points of the reasons that a visible turn adds are those that it adds
 pub points_of_added : (start : Start) (turn : Letter) (seen : List Letter) → reasons_points (reasons_added start turn seen) ≡ points_added start turn seen
 points_of_added start turn seen =
-    let past = filled_record start seen in
     let adds = turn_adds start turn seen in
-    ap reasons_points adds.1.reasons
-    ∙ points_append (turn_reasons turn past) (reason_if adds.0 reason.Go)
-    ∙ (λ i. points_of_turn turn past i + points_if adds.0 reason.Go i)
-    ∙ sym adds.1.points
+    omega (arith, ap reasons_points adds.1.reasons, points_append, points_of_turn turn (filled_record start seen), points_if, adds.1.points)
 
 -- ---- a game, row by row
 points_of_acts : (start : Start) (acts : List Act) → map reasons_points (act_reasons start acts) ≡ map (λ (row : Row). row.points) (act_rows start acts)
@@ -156,10 +99,7 @@ points_of_acts start (act ∷ before) =
 map_reverse : {X Y : Type 0} (f : X → Y) (xs : List X) → map f (reverse xs) ≡ reverse (map f xs)
 map_reverse f [] = refl
 map_reverse f (x ∷ xs) =
-    ap (map f) (reverse-append (x ∷ []) xs)
-    ∙ map-append f (reverse xs) (x ∷ [])
-    ∙ ap (λ ys. ys ++ f x ∷ []) (map_reverse f xs)
-    ∙ sym (reverse-append (f x ∷ []) (map f xs))
+    rw (reverse-append (x ∷ []) xs, map-append f (reverse xs) (x ∷ []), map_reverse f xs, reverse-append (f x ∷ []) (map f xs)) refl
 
 -- the points of the reasons of a game's acts are those of the rows of its report
 pub points_of_game : (problem : Setup) (game : Game) →
@@ -167,6 +107,5 @@ pub points_of_game : (problem : Setup) (game : Game) →
 points_of_game problem game =
     let start = start_of problem in
     let acts = acts_back game in
-    map_reverse reasons_points (act_reasons start acts)
-    ∙ ap reverse (points_of_acts start acts)
+    map_reverse reasons_points (act_reasons start acts) ∙ ap reverse (points_of_acts start acts)
     ∙ sym (map_reverse (λ (row : Row). row.points) (act_rows start acts))

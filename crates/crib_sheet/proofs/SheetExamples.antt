@@ -1,5 +1,5 @@
 -- Worked examples of the jobs, and of what a sheet means.
-use Rattle.std.proofs.Common.{◌≡◌, ℕ, true, false, List, [], ◌∷◌, ◌++◌, Ok, Err, codes, map, refl}
+use Rattle.std.proofs.Common.{◌≡◌, ◌⊎◌, inl, inr, ℕ, true, false, List, [], ◌∷◌, ◌++◌, Ok, Err, codes, map, refl}
 use Rattle.std.specs.Fmt.{digits}
 use Rattle.crib_check.specs.declared.verdict.Verdict.TheVariants.{Holds, Fails}
 use Rattle.crib_check.specs.Sure.{Ends}
@@ -20,23 +20,14 @@ use Rattle.crib_sheet.specs.PlanSheet.{sheet_with}
 use Rattle.crib_sheet.proofs.PlanPlays.{sure_is_reached}
 use Rattle.crib_sheet.proofs.PlanSheetRows.{plans_have_sheets}
 
--- ---- the jobs
-jobs_by_their_names : map job_called (codes "plan" ∷ codes "game" ∷ codes "beaten" ∷ codes "try" ∷ codes "check" ∷ codes "pplan" ∷ [])
-    ≡ Ok Plan ∷ Ok GameJob ∷ Ok Beaten ∷ Ok Try ∷ Err (record {}) ∷ Err (record {}) ∷ []
-jobs_by_their_names = refl
-
-what_jobs_read : map sections_of (Plan ∷ GameJob ∷ Beaten ∷ Try ∷ []) ≡ Question ∷ Played ∷ Question ∷ Problem ∷ []
-what_jobs_read = refl
-
--- ---- the status
-sure_is_yes : verdict_status Holds ≡ Yes
-sure_is_yes = refl
-
-unsure_is_no : (game : Game) → verdict_status (Fails Short game) ≡ No
-unsure_is_no game = refl
-
-a_game_is_yes : game_reply (codes "a") ≡ record { output = codes "a"; status = Yes }
-a_game_is_yes = refl
+-- ---- the jobs, what they read, and the statuses of their replies
+jobs_and_statuses : (game : Game) →
+    (map job_called (codes "plan" ∷ codes "game" ∷ codes "beaten" ∷ codes "try" ∷ codes "check" ∷ codes "pplan" ∷ [])
+    ≡ Ok Plan ∷ Ok GameJob ∷ Ok Beaten ∷ Ok Try ∷ Err (record {}) ∷ Err (record {}) ∷ [])
+    × (map sections_of (Plan ∷ GameJob ∷ Beaten ∷ Try ∷ []) ≡ Question ∷ Played ∷ Question ∷ Problem ∷ [])
+    × (map verdict_status (Holds ∷ Fails Short game ∷ []) ≡ Yes ∷ No ∷ [])
+    × (game_reply (codes "a") ≡ record { output = codes "a"; status = Yes })
+jobs_and_statuses game = (refl, refl, refl, refl)
 
 -- ---- what a sheet means. `Ends` is assumed here
 a_sure_plan : (input : List ℕ) → SpellsPlan input at_29 ace_or_two → Ends at_29 →
@@ -49,22 +40,17 @@ a_sure_plan input spelled ends = record {
   reaches = (sure_is_reached (λ node. false) at_29 ace_or_two spelled.plan_is).0 ace_or_two_is_sure;
 }
 
-no_yes_of_nothing : (text : List ℕ) → PlanMeans [] text Yes → ⊥
-no_yes_of_nothing text means = no_plan_in_nothing means.sure.problem means.sure.plan means.sure.spelled
+no_plan_of_nothing : (text : List ℕ) → PlanMeans [] text Yes ⊎ PlanMeans [] text No → ⊥
+no_plan_of_nothing text (inl means) = no_plan_in_nothing means.sure.problem means.sure.plan means.sure.spelled
+no_plan_of_nothing text (inr means) = no_plan_in_nothing means.unsure.problem means.unsure.plan means.unsure.spelled
 
-no_no_of_nothing : (text : List ℕ) → PlanMeans [] text No → ⊥
-no_no_of_nothing text means = no_plan_in_nothing means.unsure.problem means.unsure.plan means.unsure.spelled
-
-nothing_is_refused : (text : List ℕ) → PlanMeans [] text Refused
-nothing_is_refused text = no_plan_in_nothing
+nothing_is_refused : (text : List ℕ) → PlanMeans [] text Refused × BeatenMeans [] text Refused
+nothing_is_refused text = (no_plan_in_nothing, no_plan_in_nothing)
 
 without_memory : (input : List ℕ) →
     PlanMeans input (codes "fault 11\n") Fault × GameMeans input (codes "fault 11\n") Fault × BeatenMeans input (codes "fault 11\n") Fault
 unfolding digits
 without_memory input = (refl, refl, refl)
-
-nothing_is_refused_by_beaten : (text : List ℕ) → BeatenMeans [] text Refused
-nothing_is_refused_by_beaten text = no_plan_in_nothing
 
 a_game_is_never_no : (input text : List ℕ) → GameMeans input text No → ⊥
 a_game_is_never_no input text means = means

@@ -36,7 +36,7 @@ use Rattle.crib_sheet.specs.declared.plan.losses.Losses.{Losses}
 use Rattle.crib_sheet.specs.declared.answer.job.SheetJob.TheVariants.{Plan, Game as GameJob, Beaten, Try}
 use Rattle.crib_sheet.specs.Beaten.{beaten_reply}
 use Rattle.crib_sheet.specs.Sheet.{AnswersBeaten, AnswersPlan, AnswersTry, IsToTry, SheetAnswers, SheetMakes, game_reply, game_sheet_of_input, plan_reply}
-use Rattle.crib_sheet.specs.Meaning.{SheetMeans}
+use Rattle.crib_sheet.specs.Meaning.{HasUnsurePlan, SheetMeans}
 use Rattle.crib_sheet.specs.PlanSheet.{sheet_with}
 use Rattle.crib_sheet.proofs.PlanPlays.{sure_is_reached}
 use Rattle.crib_sheet.proofs.PlanSheetRows.{plans_have_sheets}
@@ -44,14 +44,11 @@ use Rattle.crib_sheet.proofs.PlanSheetRows.{plans_have_sheets}
 -- ---- a plan
 
 abbrev sure_plan : (input : List ℕ) (problem : Setup) (plan : List Node) → SpellsPlan input problem plan → IsSure problem plan → HasSurePlan input
-sure_plan input problem plan spelled sure = record {
-  problem = problem;
-  plan = plan;
-  spelled = spelled;
-  sure = sure;
-  goes_on = sure_goes_on problem plan sure;
-  ends = ends problem spelled.problem_is;
-}
+sure_plan input problem plan spelled sure =
+    record { problem = problem; plan = plan; spelled = spelled; sure = sure; goes_on = sure_goes_on problem plan sure; ends = ends problem spelled.problem_is }
+
+abbrev unsure_plan : (input : List ℕ) (problem : Setup) (plan : List Node) → SpellsPlan input problem plan → ¬ IsSure problem plan → HasUnsurePlan input
+unsure_plan input problem plan spelled unsure = record { problem = problem; plan = plan; spelled = spelled; unsure = unsure }
 
 -- what is refused spells no problem and plan
 no_question : (input : List ℕ) (refusal : Refusal) → question_of_input input ≡ Err refusal → (problem : Setup) (plan : List Node)
@@ -71,12 +68,8 @@ verdict_means input problem plan Holds losses apart spelled right figures =
       reaches = (sure_is_reached apart problem plan spelled.plan_is).0 right;
     }
 verdict_means input problem plan (Fails result game) losses apart spelled right figures = record {
-  unsure = record {
-    problem = problem;
-    plan = plan;
-    spelled = spelled;
-    unsure = λ sure. let holds : Fails result game ≡ Holds = (exact_law problem plan (Fails result game) right).1 sure in absurd cc;
-  };
+  unsure = unsure_plan input problem plan spelled
+      (λ sure. let holds : Fails result game ≡ Holds = (exact_law problem plan (Fails result game) right).1 sure in absurd cc);
   losses = losses;
   figures = figures;
   rest = _;
@@ -97,12 +90,8 @@ judged_means : (input : List ℕ) (problem : Setup) (game : Game) (first : ℕ) 
     → played_of_input input ≡ Ok (problem, game, first) → replay_result problem game ≡ report
     → report_of_input input ≡ judgement_of game first report
     → SheetMeans GameJob input (reply_by game_reply (judgement_of game first (sheet_for problem game report)))
-judged_means input problem game first (Ok report) asked replayed read = record {
-  problem = problem;
-  game = game;
-  spelled = played_accepted input (problem, game, first) asked;
-  sheet = ap (sheet_for problem game) replayed;
-}
+judged_means input problem game first (Ok report) asked replayed read =
+    record { problem = problem; game = game; spelled = played_accepted input (problem, game, first) asked; sheet = ap (sheet_for problem game) replayed }
 judged_means input problem game first (Err fault) asked replayed read = record { refusal = _; refused = read; line = refl }
 
 played_means : (input : List ℕ) (said : Result (Setup × Game × ℕ) Refusal) → played_of_input input ≡ said
@@ -111,11 +100,8 @@ unfolding report_of_input
 played_means input (Ok (problem, game, first)) asked =
     judged_means input problem game first (replay_result problem game) asked refl
     (ap (λ r. r >>= λ (problem, game, first). judgement_of game first (replay_result problem game)) asked)
-played_means input (Err refusal) asked = record {
-  refusal = refusal;
-  refused = ap (λ r. r >>= λ (problem, game, first). judgement_of game first (replay_result problem game)) asked;
-  line = refl;
-}
+played_means input (Err refusal) asked =
+    record { refusal = refusal; refused = ap (λ r. r >>= λ (problem, game, first). judgement_of game first (replay_result problem game)) asked; line = refl }
 
 game_means : (input : List ℕ) (reply : Reply) → reply ≡ reply_by game_reply (game_sheet_of_input input) → SheetMeans GameJob input reply
 unfolding game_sheet_of_input
@@ -130,12 +116,8 @@ counted_means input problem plan open_deals zero rows spelled right = (
   record { open_deals = open_deals; beaten = zero; rows = rows; right = right; printed = refl },
 )
 counted_means input problem plan open_deals (suc others) rows spelled right = (
-  record {
-    problem = problem;
-    plan = plan;
-    spelled = spelled;
-    unsure = λ sure. let e : suc others ≡ zero = (none_is_sure problem plan open_deals (suc others) rows spelled.problem_is right).1 sure in absurd cc;
-  },
+  unsure_plan input problem plan spelled
+      (λ sure. let e : suc others ≡ zero = (none_is_sure problem plan open_deals (suc others) rows spelled.problem_is right).1 sure in absurd cc),
   record { open_deals = open_deals; beaten = suc others; rows = rows; right = right; printed = refl },
 )
 
@@ -163,10 +145,8 @@ try_means input (Err refusal) reply asked is = subst (SheetMeans Try input) (sym
 -- ---- each job
 
 memory_means : (job : SheetJob) (input : List ℕ) → SheetMeans job input (fault_reply no_memory)
-memory_means Plan input = refl
-memory_means GameJob input = refl
-memory_means Beaten input = refl
 memory_means Try input = inl refl
+memory_means _ input = refl
 
 makes_means : (job : SheetJob) (input : List ℕ) (reply : Reply) → SheetMakes job input reply → SheetMeans job input reply
 makes_means Plan input reply (inl answers) = plan_means input (question_of_input input) reply refl answers
@@ -179,14 +159,10 @@ makes_means job input reply (inr want) = subst (SheetMeans job input) (sym want.
 long_answers : (job : SheetJob) (input : List ℕ) → most_bytes < length input
     → SheetAnswers job input (refusal_reply (record { line = 0; number = too_long }))
 unfolding problem_of_input question_of_input played_of_input game_sheet_of_input
-long_answers Plan input long = rw (read_of_long question_at input long) refl
 long_answers GameJob input long = rw (read_of_long played_at input long) refl
-long_answers Beaten input long = rw (read_of_long question_at input long) refl
 long_answers Try input long = rw (read_of_long problem_alone_at input long) refl
+long_answers _ input long = rw (read_of_long question_at input long) refl
 
 pub job_means : (job : SheetJob) → HaveMeaning (SheetMakes job) (SheetMeans job)
-job_means job = record {
-  answers = makes_means job;
-  long = λ input long. makes_means job input _ (inl (long_answers job input long));
-  memory = memory_means job;
-}
+job_means job =
+    record { answers = makes_means job; long = λ input long. makes_means job input _ (inl (long_answers job input long)); memory = memory_means job }

@@ -44,15 +44,12 @@ unfolding digits
 refused_problem_has_none reply is = is
 
 -- ---- what each status guarantees
-solved_by_the_text : (input text : List ℕ) → TryMeans input text Yes ≡ IsSolvedBy input text
-solved_by_the_text input text = refl
-
-none_and_a_plan : (input text : List ℕ) →
-    TryMeans input text No ≡ (HasNoPlan input × ((plan : List Node) × ArePlan plan × (text ≡ plan_text plan)))
-none_and_a_plan input text = refl
-
-refused_input : (input text : List ℕ) → TryMeans input text Refused ≡ ((problem : Setup) → SpellsProblem input problem → ⊥)
-refused_input input text = refl
+what_try_means : (input text : List ℕ) →
+    (TryMeans input text Yes ≡ IsSolvedBy input text)
+    × (TryMeans input text No ≡ (HasNoPlan input × ((plan : List Node) × ArePlan plan × (text ≡ plan_text plan))))
+    × (TryMeans input text Refused ≡ ((problem : Setup) → SpellsProblem input problem → ⊥))
+    × (SheetMeans Try input (record { output = text; status = No }) ≡ TryMeans input text No)
+what_try_means input text = (refl, refl, refl, refl)
 
 two_faults : (input : List ℕ) → TryMeans input (codes "fault 11\n") Fault × TryMeans input (codes "fault 50\n") Fault
 unfolding digits
@@ -61,6 +58,3 @@ two_faults input = (inl refl, inr refl)
 no_fault_without_a_line : (input : List ℕ) → TryMeans input [] Fault → ⊥
 no_fault_without_a_line input (inl text) = cc
 no_fault_without_a_line input (inr text) = cc
-
-reply_of_try : (input text : List ℕ) → SheetMeans Try input (record { output = text; status = No }) ≡ TryMeans input text No
-reply_of_try input text = refl

@@ -33,83 +33,38 @@ use Rattle.crib_sheet.specs.PlanSheetSize.{level_count, line_count}
 use Rattle.crib_sheet.specs.PlanText.{before_rest, go_words, indent, label, label_column, label_width, letter_byte, range_words, rank_words}
 
 -- ---- reasons
-points_of_reasons : map reason_points (Fifteen ∷ ThirtyOne ∷ Alike 2 ∷ Alike 3 ∷ Run 4 ∷ Go ∷ LastCard ∷ []) ≡ 2 ∷ 2 ∷ 2 ∷ 6 ∷ 4 ∷ 1 ∷ 1 ∷ []
-points_of_reasons = refl
-
-reasons_by_a_test : reason_if true Go ∷ reason_if false Go ∷ [] ≡ (Go ∷ []) ∷ [] ∷ []
-reasons_by_a_test = refl
-
-reasons_of_counts : map count_reasons (14 ∷ 15 ∷ 16 ∷ 30 ∷ 31 ∷ 32 ∷ []) ≡ [] ∷ (Fifteen ∷ []) ∷ [] ∷ [] ∷ (ThirtyOne ∷ []) ∷ [] ∷ []
-reasons_of_counts = refl
-
-reasons_of_cards_alike : map alike_reasons (0 ∷ 1 ∷ 2 ∷ 3 ∷ []) ≡ [] ∷ [] ∷ (Alike 2 ∷ []) ∷ (Alike 3 ∷ []) ∷ []
-reasons_of_cards_alike = refl
-
-reasons_of_runs : map run_reasons (0 ∷ 2 ∷ 3 ∷ 7 ∷ []) ≡ [] ∷ [] ∷ (Run 3 ∷ []) ∷ (Run 7 ∷ []) ∷ []
-reasons_of_runs = refl
-
-reasons_of_a_last_card : last_card_reasons 6 30 ∷ last_card_reasons 7 30 ∷ last_card_reasons 7 31 ∷ last_card_reasons 8 30 ∷ []
-    ≡ [] ∷ (LastCard ∷ []) ∷ [] ∷ [] ∷ []
-reasons_of_a_last_card = refl
-
-reasons_of_piles : pile_reasons_at 15 (4 ∷ 5 ∷ 6 ∷ []) ∷ pile_reasons_at 31 (5 ∷ 4 ∷ 4 ∷ []) ∷ pile_reasons_at 20 (6 ∷ 5 ∷ 9 ∷ []) ∷ []
-    ≡ (Fifteen ∷ Run 3 ∷ []) ∷ (ThirtyOne ∷ Alike 2 ∷ []) ∷ [] ∷ []
-reasons_of_piles = refl
-
-reasons_of_eighth_cards : card_reasons_at 7 20 (10 ∷ 10 ∷ []) ∷ card_reasons_at 6 20 (10 ∷ 10 ∷ []) ∷ card_reasons 7 (10 ∷ 5 ∷ []) ∷ []
-    ≡ (Alike 2 ∷ LastCard ∷ []) ∷ (Alike 2 ∷ []) ∷ (Fifteen ∷ LastCard ∷ []) ∷ []
-reasons_of_eighth_cards = refl
-
--- T T 5 make 25 and the opponent says go. The owner plays two aces and has no card left, so two silent gos close the pile
-closing_gos : map (λ more. silent_gos_close more (record { dealer = Opponent; scores = record { owner = 0; opponent = 0 }; target = 121 })
+-- of single numbers: a count, cards alike, the cards of a run, the cards before and the count. T T 5 make 25 and the opponent says go,
+-- and the owner plays two aces and has no card left, so two silent gos close the pile. Then piles, and a whole game
+reasons_in_numbers :
+    (map reason_points (Fifteen ∷ ThirtyOne ∷ Alike 2 ∷ Alike 3 ∷ Run 4 ∷ Go ∷ LastCard ∷ []) ≡ 2 ∷ 2 ∷ 2 ∷ 6 ∷ 4 ∷ 1 ∷ 1 ∷ [])
+    × (reason_if true Go ∷ reason_if false Go ∷ [] ≡ (Go ∷ []) ∷ [] ∷ [])
+    × (map count_reasons (14 ∷ 15 ∷ 16 ∷ 30 ∷ 31 ∷ 32 ∷ []) ≡ [] ∷ (Fifteen ∷ []) ∷ [] ∷ [] ∷ (ThirtyOne ∷ []) ∷ [] ∷ [])
+    × (map alike_reasons (0 ∷ 1 ∷ 2 ∷ 3 ∷ []) ≡ [] ∷ [] ∷ (Alike 2 ∷ []) ∷ (Alike 3 ∷ []) ∷ [])
+    × (map run_reasons (0 ∷ 2 ∷ 3 ∷ 7 ∷ []) ≡ [] ∷ [] ∷ (Run 3 ∷ []) ∷ (Run 7 ∷ []) ∷ [])
+    × (last_card_reasons 6 30 ∷ last_card_reasons 7 30 ∷ last_card_reasons 7 31 ∷ last_card_reasons 8 30 ∷ [] ≡ [] ∷ (LastCard ∷ []) ∷ [] ∷ [] ∷ [])
+    × (map (λ more. silent_gos_close more (record { dealer = Opponent; scores = record { owner = 0; opponent = 0 }; target = 121 })
     (reverse (letter.Seen 10 ∷ letter.Seen 10 ∷ letter.Seen 5 ∷ letter.Go ∷ letter.Seen 1 ∷ letter.Go ∷ letter.Seen 1 ∷ []))) (0 ∷ 1 ∷ 2 ∷ 3 ∷ [])
-    ≡ false ∷ false ∷ true ∷ true ∷ []
-closing_gos = refl
-
-reasons_of_a_game : game_reasons level (game_with level_deal level_acts)
-    ≡ [] ∷ (Alike 2 ∷ []) ∷ [] ∷ [] ∷ (ThirtyOne ∷ []) ∷ [] ∷ [] ∷ [] ∷ (Go ∷ []) ∷ (LastCard ∷ []) ∷ []
-reasons_of_a_game = refl
-
--- ---- combinations
-worth_of_kinds : map (λ its. worth its 4) (kind.Fifteen ∷ kind.Pair ∷ kind.Run ∷ kind.Flush ∷ kind.Jack ∷ []) ≡ 2 ∷ 2 ∷ 4 ∷ 4 ∷ 1 ∷ []
-worth_of_kinds = refl
-
-points_of_combinations : map points_of (combination kind.Run (4 ∷ 8 ∷ 12 ∷ []) ∷ combination kind.Jack (40 ∷ []) ∷ no_combination ∷ []) ≡ 3 ∷ 1 ∷ 2 ∷ []
-points_of_combinations = refl
-
--- 5D 5C TC: fifteens before the pair
-plain_parts : plain_combinations (17 ∷ 16 ∷ 36 ∷ []) ≡ combination kind.Fifteen (17 ∷ 36 ∷ []) ∷ combination kind.Fifteen (16 ∷ 36 ∷ []) ∷
-    combination kind.Pair (17 ∷ 16 ∷ []) ∷ []
-unfolding combinations_of
-plain_parts = refl
-
-flushes_in_a_crib : map (flush_in_crib (4 ∷ 12 ∷ 20 ∷ 28 ∷ [])) (36 ∷ 37 ∷ []) ≡ (combination kind.Flush (4 ∷ 12 ∷ 20 ∷ 28 ∷ 36 ∷ []) ∷ []) ∷ [] ∷ []
-flushes_in_a_crib = refl
-
-jacks_of_the_suit : map (jack_among (4 ∷ 45 ∷ 41 ∷ 44 ∷ 40 ∷ [])) (36 ∷ 37 ∷ 38 ∷ [])
-    ≡ (combination kind.Jack (40 ∷ []) ∷ []) ∷ (combination kind.Jack (41 ∷ []) ∷ []) ∷ [] ∷ []
-jacks_of_the_suit = refl
+    ≡ false ∷ false ∷ true ∷ true ∷ [])
+    × (pile_reasons_at 15 (4 ∷ 5 ∷ 6 ∷ []) ∷ pile_reasons_at 31 (5 ∷ 4 ∷ 4 ∷ []) ∷ pile_reasons_at 20 (6 ∷ 5 ∷ 9 ∷ []) ∷ []
+    ≡ (Fifteen ∷ Run 3 ∷ []) ∷ (ThirtyOne ∷ Alike 2 ∷ []) ∷ [] ∷ [])
+    × (card_reasons_at 7 20 (10 ∷ 10 ∷ []) ∷ card_reasons_at 6 20 (10 ∷ 10 ∷ []) ∷ card_reasons 7 (10 ∷ 5 ∷ []) ∷ []
+    ≡ (Alike 2 ∷ LastCard ∷ []) ∷ (Alike 2 ∷ []) ∷ (Fifteen ∷ LastCard ∷ []) ∷ [])
+    × (game_reasons level (game_with level_deal level_acts)
+    ≡ [] ∷ (Alike 2 ∷ []) ∷ [] ∷ [] ∷ (ThirtyOne ∷ []) ∷ [] ∷ [] ∷ [] ∷ (Go ∷ []) ∷ (LastCard ∷ []) ∷ [])
+reasons_in_numbers = (refl, refl, refl, refl, refl, refl, refl, refl, refl, refl)
 
 -- ---- words of games
-words_of_cards_alike : map alike_word (2 ∷ 3 ∷ 4 ∷ []) ≡ codes "pair" ∷ codes "three alike" ∷ codes "four alike" ∷ []
-words_of_cards_alike = refl
-
-words_of_runs : map run_word (3 ∷ 4 ∷ 5 ∷ 6 ∷ 7 ∷ []) ≡ codes "run of three" ∷ codes "run of four" ∷ codes "run of five" ∷ codes "run of six" ∷
-    codes "run of seven" ∷ []
-words_of_runs = refl
-
-words_of_reasons : map reason_word (Fifteen ∷ ThirtyOne ∷ Alike 2 ∷ Run 3 ∷ Go ∷ LastCard ∷ [])
-    ≡ codes "fifteen" ∷ codes "thirty-one" ∷ codes "pair" ∷ codes "run of three" ∷ codes "go" ∷ codes "last card" ∷ []
-words_of_reasons = refl
-
-one_more_reason : next_reason (Alike 2) ≡ codes ", pair 2"
+words_for_reasons :
+    (map alike_word (2 ∷ 3 ∷ 4 ∷ []) ≡ codes "pair" ∷ codes "three alike" ∷ codes "four alike" ∷ [])
+    × (map run_word (3 ∷ 4 ∷ 5 ∷ 6 ∷ 7 ∷ [])
+    ≡ codes "run of three" ∷ codes "run of four" ∷ codes "run of five" ∷ codes "run of six" ∷ codes "run of seven" ∷ [])
+    × (map reason_word (Fifteen ∷ ThirtyOne ∷ Alike 2 ∷ Run 3 ∷ Go ∷ LastCard ∷ [])
+    ≡ codes "fifteen" ∷ codes "thirty-one" ∷ codes "pair" ∷ codes "run of three" ∷ codes "go" ∷ codes "last card" ∷ [])
+    × (next_reason (Alike 2) ≡ codes ", pair 2")
+    × (taker_text Opponent Owner (move.Card 4) ∷ taker_text Opponent Owner move.Go ∷ taker_text Opponent Opponent move.Go ∷ taker_text Owner Owner move.Go ∷ []
+    ≡ [] ∷ codes " (to the pone)" ∷ codes " (to the dealer)" ∷ codes " (to the dealer)" ∷ [])
 unfolding digits reason_text
-one_more_reason = refl
-
-takers : taker_text Opponent Owner (move.Card 4) ∷ taker_text Opponent Owner move.Go ∷ taker_text Opponent Opponent move.Go ∷
-    taker_text Owner Owner move.Go ∷ []
-    ≡ [] ∷ codes " (to the pone)" ∷ codes " (to the dealer)" ∷ codes " (to the dealer)" ∷ []
-takers = refl
+words_for_reasons = (refl, refl, refl, refl, refl)
 
 abbrev go_of_opponent : Row
 go_of_opponent = record { act = says_go Opponent; count = 30; points = 1; scores = record { owner = 7; opponent = 121 } }
@@ -117,162 +72,105 @@ go_of_opponent = record { act = says_go Opponent; count = 30; points = 1; scores
 abbrev card_of_owner : Row
 card_of_owner = record { act = plays Owner 4; count = 8; points = 4; scores = record { owner = 12; opponent = 0 } }
 
-points_of_rows : points_text Opponent Owner go_of_opponent [] ∷ points_text Opponent Owner go_of_opponent (Go ∷ []) ∷
-    points_text Opponent Owner card_of_owner (Fifteen ∷ Alike 2 ∷ []) ∷ [] ≡ [] ∷ codes "  1: go 1 (to the pone)" ∷ codes "  4: fifteen 2, pair 2" ∷ []
-unfolding digits reason_text points_text
-points_of_rows = refl
+acts_in_words :
+    (map (points_text Opponent Owner go_of_opponent) ([] ∷ (Go ∷ []) ∷ []) ≡ [] ∷ codes "  1: go 1 (to the pone)" ∷ [])
+    × (points_text Opponent Owner card_of_owner (Fifteen ∷ Alike 2 ∷ []) ≡ codes "  4: fifteen 2, pair 2")
+    × (score_text (record { owner = 7; opponent = 121 }) ≡ codes "   7  121")
+    × (act_text Opponent 9 go_of_opponent ∷ act_text Owner 10 card_of_owner ∷ []
+    ≡ codes " 9 dealer go      30   7  121" ∷ codes "10 dealer 2C       8  12    0" ∷ [])
+    × (last_after Owner (move.Card 4) Opponent ∷ last_after Owner move.Go Opponent ∷ [] ≡ Owner ∷ Opponent ∷ [])
+    × (act_lines Opponent 1 Owner (card_of_owner ∷ []) [] ∷ act_lines Opponent 1 Owner [] ([] ∷ []) ∷ [] ≡ [] ∷ [] ∷ [])
+unfolding digits reason_text points_text right_in score_text act_text act_lines
+acts_in_words = (refl, refl, refl, refl, refl, refl)
 
-scores_in_columns : score_text (record { owner = 7; opponent = 121 }) ≡ codes "   7  121"
-unfolding digits right_in score_text
-scores_in_columns = refl
-
-acts_in_columns : act_text Opponent 9 go_of_opponent ∷ act_text Owner 10 card_of_owner ∷ []
-    ≡ codes " 9 dealer go      30   7  121" ∷ codes "10 dealer 2C       8  12    0" ∷ []
-unfolding digits right_in score_text act_text
-acts_in_columns = refl
-
-players_of_last_cards : last_after Owner (move.Card 4) Opponent ∷ last_after Owner move.Go Opponent ∷ [] ≡ Owner ∷ Opponent ∷ []
-players_of_last_cards = refl
-
-acts_without_reasons : act_lines Opponent 1 Owner (card_of_owner ∷ []) [] ∷ act_lines Opponent 1 Owner [] ([] ∷ []) ∷ [] ≡ [] ∷ [] ∷ []
-unfolding act_lines
-acts_without_reasons = refl
-
-words_of_kinds : map (λ its. kind_word its 4) (kind.Fifteen ∷ kind.Pair ∷ kind.Run ∷ kind.Flush ∷ kind.Jack ∷ [])
-    ≡ codes "fifteen" ∷ codes "pair" ∷ codes "run of four" ∷ codes "flush" ∷ codes "his nobs" ∷ []
-words_of_kinds = refl
+-- ---- combinations
+-- of 5D 5C TC the fifteens are before the pair
+combinations_in_numbers :
+    (map (λ its. worth its 4) (kind.Fifteen ∷ kind.Pair ∷ kind.Run ∷ kind.Flush ∷ kind.Jack ∷ []) ≡ 2 ∷ 2 ∷ 4 ∷ 4 ∷ 1 ∷ [])
+    × (map points_of (combination kind.Run (4 ∷ 8 ∷ 12 ∷ []) ∷ combination kind.Jack (40 ∷ []) ∷ no_combination ∷ []) ≡ 3 ∷ 1 ∷ 2 ∷ [])
+    × (map (λ its. kind_word its 4) (kind.Fifteen ∷ kind.Pair ∷ kind.Run ∷ kind.Flush ∷ kind.Jack ∷ [])
+    ≡ codes "fifteen" ∷ codes "pair" ∷ codes "run of four" ∷ codes "flush" ∷ codes "his nobs" ∷ [])
+    × (plain_combinations (17 ∷ 16 ∷ 36 ∷ [])
+    ≡ combination kind.Fifteen (17 ∷ 36 ∷ []) ∷ combination kind.Fifteen (16 ∷ 36 ∷ []) ∷ combination kind.Pair (17 ∷ 16 ∷ []) ∷ [])
+    × (map (flush_in_crib (4 ∷ 12 ∷ 20 ∷ 28 ∷ [])) (36 ∷ 37 ∷ []) ≡ (combination kind.Flush (4 ∷ 12 ∷ 20 ∷ 28 ∷ 36 ∷ []) ∷ []) ∷ [] ∷ [])
+    × (map (jack_among (4 ∷ 45 ∷ 41 ∷ 44 ∷ 40 ∷ [])) (36 ∷ 37 ∷ 38 ∷ [])
+    ≡ (combination kind.Jack (40 ∷ []) ∷ []) ∷ (combination kind.Jack (41 ∷ []) ∷ []) ∷ [] ∷ [])
+unfolding combinations_of
+combinations_in_numbers = (refl, refl, refl, refl, refl, refl)
 
 abbrev hand_of_opponent : ShowRow
 hand_of_opponent = record { crib = false; side = Opponent; points = 1; scores = record { owner = 11; opponent = 6 } }
 
-cards_that_count : counted_cards level level_deal hand_of_opponent ∷ counted_cards level level_deal (record hand_of_opponent { side = Owner }) ∷
-    counted_cards level level_deal (record hand_of_opponent { crib = true }) ∷ []
-    ≡ (37 ∷ 49 ∷ 50 ∷ 47 ∷ []) ∷ (36 ∷ 32 ∷ 4 ∷ 28 ∷ []) ∷ (15 ∷ 23 ∷ 18 ∷ 25 ∷ []) ∷ []
-cards_that_count = refl
-
-names_of_hands : counted_name level (4 ∷ []) hand_of_opponent ∷ counted_name level [] (record hand_of_opponent { crib = true; side = Owner }) ∷ []
-    ≡ codes "\nThe dealer's hand: 2C with 3H" ∷ codes "\nThe pone's crib: with 3H" ∷ []
-unfolding counted_name
-names_of_hands = refl
-
-points_of_hands : counted_points hand_of_opponent ∷ counted_points (record hand_of_opponent { points = 0 }) ∷ []
-    ≡ codes ", 1 point (you 11, they 6)\n" ∷ codes ", 0 points (you 11, they 6)\n" ∷ []
-unfolding digits counted_points
-points_of_hands = refl
-
-opponents_cards : dealt_line Owner level_deal ≡ codes "The pone holds TD KD KH QS and threw 5H 7D.\n"
-unfolding dealt_line
-opponents_cards = refl
-
-goals_reached : map (reached_line Owner) (Win ∷ Holes 3 ∷ Stop ∷ []) ≡ codes "\nThe deal is over: you win.\n" ∷
-    codes "\nYou have reached your goal; the deal isn't counted further.\n" ∷ codes "\nThe deal is over: you keep the pone from winning.\n" ∷ []
-goals_reached = refl
-
-deals_over : map (over_text Owner Stop) (outcome.Reached ∷ outcome.Lost ∷ outcome.Short ∷ [])
-    ≡ codes "\nThe deal is over: you keep the pone from winning.\n" ∷
-    codes "\nThe deal is over: the pone wins.\n" ∷ codes "\nThe deal is over: you fall short of your goal.\n" ∷ []
-deals_over = refl
-
-no_sheet_of_a_refused_game : sheet_for level (game_with level_deal []) (Err (NotTurn 3)) ≡ Err (NotTurn 3)
-no_sheet_of_a_refused_game = refl
+hands_and_deals_in_words :
+    (map (counted_cards level level_deal) (hand_of_opponent ∷ record hand_of_opponent { side = Owner } ∷ record hand_of_opponent { crib = true } ∷ [])
+    ≡ (37 ∷ 49 ∷ 50 ∷ 47 ∷ []) ∷ (36 ∷ 32 ∷ 4 ∷ 28 ∷ []) ∷ (15 ∷ 23 ∷ 18 ∷ 25 ∷ []) ∷ [])
+    × (counted_name level (4 ∷ []) hand_of_opponent ∷ counted_name level [] (record hand_of_opponent { crib = true; side = Owner }) ∷ []
+    ≡ codes "\nThe dealer's hand: 2C with 3H" ∷ codes "\nThe pone's crib: with 3H" ∷ [])
+    × (counted_points hand_of_opponent ∷ counted_points (record hand_of_opponent { points = 0 }) ∷ []
+    ≡ codes ", 1 point (you 11, they 6)\n" ∷ codes ", 0 points (you 11, they 6)\n" ∷ [])
+    × (dealt_line Owner level_deal ≡ codes "The pone holds TD KD KH QS and threw 5H 7D.\n")
+    × (map (reached_line Owner) (Win ∷ Holes 3 ∷ Stop ∷ []) ≡ codes "\nThe deal is over: you win.\n"
+    ∷ codes "\nYou have reached your goal; the deal isn't counted further.\n" ∷ codes "\nThe deal is over: you keep the pone from winning.\n" ∷ [])
+    × (map (over_text Owner Stop) (outcome.Reached ∷ outcome.Lost ∷ outcome.Short ∷ [])
+    ≡ codes "\nThe deal is over: you keep the pone from winning.\n" ∷ codes "\nThe deal is over: the pone wins.\n"
+    ∷ codes "\nThe deal is over: you fall short of your goal.\n" ∷ [])
+    × (sheet_for level (game_with level_deal []) (Err (NotTurn 3)) ≡ Err (NotTurn 3))
+unfolding counted_name digits counted_points dealt_line
+hands_and_deals_in_words = (refl, refl, refl, refl, refl, refl, refl)
 
 -- ---- words of problems
-roles : role_word Owner Owner ∷ role_word Owner Opponent ∷ role_word Opponent Owner ∷ role_word Opponent Opponent ∷ []
-    ≡ codes "dealer" ∷ codes "pone" ∷ codes "pone" ∷ codes "dealer" ∷ []
-roles = refl
-
-cards_after_spaces : spaced_card 36 ∷ spaced_cards [] ∷ spaced_cards (4 ∷ 51 ∷ 4 ∷ []) ∷ [] ≡ codes " TC" ∷ [] ∷ codes " 2C KS 2C" ∷ []
-cards_after_spaces = refl
-
-cards_left : map (is_left after_two.played) (4 ∷ 5 ∷ 0 ∷ []) ≡ false ∷ true ∷ false ∷ []
-cards_left = refl
-
-cards_held : held_after four_twos after_two.played ∷ held_after four_twos [] ∷ [] ≡ (5 ∷ 6 ∷ 7 ∷ []) ∷ (4 ∷ 5 ∷ 6 ∷ 7 ∷ []) ∷ []
-cards_held = refl
-
-words_for_cards_held : held_words four_twos after_two.played ∷
-    held_words four_twos (plays Owner 7 ∷ plays Owner 6 ∷ plays Owner 5 ∷ plays Owner 4 ∷ []) ∷
-    held_words four_twos (plays Owner 6 ∷ plays Owner 5 ∷ plays Owner 4 ∷ []) ∷ [] ≡ codes " 2D 2H 2S" ∷ codes " no card" ∷ codes " 2S" ∷ []
-words_for_cards_held = refl
-
--- own 2C, opp 2D, a pair
-scores_after_a_pair : scores_now (record four_twos { played = plays Owner 4 ∷ plays Opponent 5 ∷ [] }) ≡ record { owner = 0; opponent = 2 }
-scores_after_a_pair = refl
-
-nothing_now_at_the_lead : now_text four_twos ≡ []
-nothing_now_at_the_lead = refl
-
-turns_with_roles : turn_line Opponent (plays Owner 36) ∷ turn_line Opponent (says_go Opponent) ∷ turn_lines Owner (plays Opponent 4 ∷ plays Owner 0 ∷ []) ∷ []
-    ≡ codes "  pone TC\n" ∷ codes "  dealer go\n" ∷ codes "  pone 2C\n  dealer AC\n" ∷ []
+-- the last row: own 2C, opp 2D, a pair
+problems_in_words :
+    (role_word Owner Owner ∷ role_word Owner Opponent ∷ role_word Opponent Owner ∷ role_word Opponent Opponent ∷ []
+    ≡ codes "dealer" ∷ codes "pone" ∷ codes "pone" ∷ codes "dealer" ∷ [])
+    × (spaced_card 36 ∷ spaced_cards [] ∷ spaced_cards (4 ∷ 51 ∷ 4 ∷ []) ∷ [] ≡ codes " TC" ∷ [] ∷ codes " 2C KS 2C" ∷ [])
+    × (turn_line Opponent (plays Owner 36) ∷ turn_line Opponent (says_go Opponent) ∷ turn_lines Owner (plays Opponent 4 ∷ plays Owner 0 ∷ []) ∷ []
+    ≡ codes "  pone TC\n" ∷ codes "  dealer go\n" ∷ codes "  pone 2C\n  dealer AC\n" ∷ [])
+    × (map (is_left after_two.played) (4 ∷ 5 ∷ 0 ∷ []) ≡ false ∷ true ∷ false ∷ [])
+    × (held_after four_twos after_two.played ∷ held_after four_twos [] ∷ [] ≡ (5 ∷ 6 ∷ 7 ∷ []) ∷ (4 ∷ 5 ∷ 6 ∷ 7 ∷ []) ∷ [])
+    × (map (held_words four_twos) (after_two.played ∷ map (plays Owner) (7 ∷ 6 ∷ 5 ∷ 4 ∷ []) ∷ map (plays Owner) (6 ∷ 5 ∷ 4 ∷ []) ∷ [])
+    ≡ codes " 2D 2H 2S" ∷ codes " no card" ∷ codes " 2S" ∷ [])
+    × (now_text four_twos ≡ [])
+    × (scores_now (record four_twos { played = plays Owner 4 ∷ plays Opponent 5 ∷ [] }) ≡ record { owner = 0; opponent = 2 })
 unfolding turn_line
-turns_with_roles = refl
+problems_in_words = (refl, refl, refl, refl, refl, refl, refl, refl)
+
+-- the widths are of the labels `A` and `2 3`
+labels_of_lines :
+    (map letter_byte (0 ∷ 1 ∷ 9 ∷ 12 ∷ 13 ∷ 14 ∷ []) ≡ codes "A2TKg" ++ 0 ∷ [])
+    × (map (range_words 5) (0 ∷ 1 ∷ 2 ∷ 3 ∷ 5 ∷ []) ≡ [] ∷ (codes "5" ∷ []) ∷ (codes "4" ∷ codes "5" ∷ []) ∷ (codes "3-5" ∷ []) ∷ (codes "A-5" ∷ []) ∷ [])
+    × (go_words [] ∷ go_words (true ∷ []) ∷ go_words (false ∷ []) ∷ [] ≡ [] ∷ (codes "go" ∷ []) ∷ [] ∷ [])
+    × (map label_width (NoLine ∷ Line (true ∷ []) Over NoLine ∷ []) ≡ 0 ∷ 1 ∷ [])
+    × (label_width (Line (true ∷ []) Over (Line (false ∷ true ∷ true ∷ []) Over (Line (true ∷ []) Over NoLine))) ≡ 3)
+    × (label_column 4 (false ∷ true ∷ true ∷ []) ∷ label_column 2 (false ∷ true ∷ true ∷ []) ∷ [] ≡ codes "2 3 " ∷ codes "2 3" ∷ [])
+    × (map indent (0 ∷ 1 ∷ 3 ∷ []) ≡ [] ∷ replicate 4 32 ∷ replicate 12 32 ∷ [])
+unfolding label rank_words
+labels_of_lines = (refl, refl, refl, refl, refl, refl, refl)
 
 -- ---- words of plans
-lines_of_endings : map failing_line (ending.Open ∷ ending.Lost ∷ ending.Reached ∷ [])
-    ≡ [] ∷ codes "In this game you lose:\n" ∷ [] ∷ []
-lines_of_endings = refl
-
-sheets_after_a_line : game_lines (Ok (codes "bab\n")) ∷ game_lines (Err (NotTurn 1)) ∷ [] ≡ codes "\nbab\n" ∷ [] ∷ []
-sheets_after_a_line = refl
-
-only_stuck_has_a_reason :
-    map (λ result. why_text four_twos [] result (game_with level_deal [])) (ending.Open ∷ ending.Lost ∷ ending.Short ∷ ending.Reached ∷ [])
-    ≡ [] ∷ [] ∷ [] ∷ [] ∷ []
-only_stuck_has_a_reason = refl
-
-sure_statuses : map is_sure (Yes ∷ No ∷ Refused ∷ Fault ∷ []) ≡ true ∷ false ∷ false ∷ false ∷ []
-sure_statuses = refl
-
-rows_without_a_card : map (no_card true) (Over ∷ Plays 4 Over ∷ Looks NoLine ∷ Named 1 ∷ []) ∷ map (no_card false) (Over ∷ Plays 4 Over ∷ []) ∷ []
-    ≡ (codes "No card is needed." ∷ [] ∷ [] ∷ [] ∷ []) ∷ (codes "The plan states no card." ∷ [] ∷ []) ∷ []
-rows_without_a_card = refl
-
-ends_of_rows : end_of_row false ≡ codes "At the end of a row, or if there is no line, the plan states nothing more.\n"
-ends_of_rows = refl
-
-bytes_of_letters : map letter_byte (0 ∷ 1 ∷ 9 ∷ 12 ∷ 13 ∷ 14 ∷ []) ≡ codes "A2TKg" ++ 0 ∷ []
-bytes_of_letters = refl
-
-ranges : map (range_words 5) (0 ∷ 1 ∷ 2 ∷ 3 ∷ 5 ∷ []) ≡ [] ∷ (codes "5" ∷ []) ∷ (codes "4" ∷ codes "5" ∷ []) ∷ (codes "3-5" ∷ []) ∷ (codes "A-5" ∷ []) ∷ []
-ranges = refl
-
-gos_in_sets : go_words [] ∷ go_words (true ∷ []) ∷ go_words (false ∷ []) ∷ [] ≡ [] ∷ (codes "go" ∷ []) ∷ [] ∷ []
-gos_in_sets = refl
-
--- the labels `A` and `2 3`
-widths_of_labels : label_width NoLine ∷ label_width (Line (true ∷ []) Over NoLine) ∷
-    label_width (Line (true ∷ []) Over (Line (false ∷ true ∷ true ∷ []) Over (Line (true ∷ []) Over NoLine))) ∷ [] ≡ 0 ∷ 1 ∷ 3 ∷ []
-unfolding label rank_words
-widths_of_labels = refl
-
-labels_in_columns : label_column 4 (false ∷ true ∷ true ∷ []) ∷ label_column 2 (false ∷ true ∷ true ∷ []) ∷ [] ≡ codes "2 3 " ∷ codes "2 3" ∷ []
-unfolding label rank_words
-labels_in_columns = refl
-
-blanks_of_levels : map indent (0 ∷ 1 ∷ 3 ∷ []) ≡ [] ∷ replicate 4 32 ∷ replicate 12 32 ∷ []
-blanks_of_levels = refl
-
-words_before_a_rest : map before_rest (Over ∷ Plays 4 Over ∷ Looks NoLine ∷ Named 1 ∷ []) ≡ [] ∷ codes " " ∷ codes ", then " ∷ codes ", then " ∷ []
-words_before_a_rest = refl
+plans_in_words :
+    (map failing_line (ending.Open ∷ ending.Lost ∷ ending.Reached ∷ []) ≡ [] ∷ codes "In this game you lose:\n" ∷ [] ∷ [])
+    × (game_lines (Ok (codes "bab\n")) ∷ game_lines (Err (NotTurn 1)) ∷ [] ≡ codes "\nbab\n" ∷ [] ∷ [])
+    × (map (λ result. why_text four_twos [] result (game_with level_deal [])) (ending.Open ∷ ending.Lost ∷ ending.Short ∷ ending.Reached ∷ [])
+    ≡ [] ∷ [] ∷ [] ∷ [] ∷ [])
+    × (map is_sure (Yes ∷ No ∷ Refused ∷ Fault ∷ []) ≡ true ∷ false ∷ false ∷ false ∷ [])
+    × (map (no_card true) (Over ∷ Plays 4 Over ∷ Looks NoLine ∷ Named 1 ∷ []) ∷ map (no_card false) (Over ∷ Plays 4 Over ∷ []) ∷ []
+    ≡ (codes "No card is needed." ∷ [] ∷ [] ∷ [] ∷ []) ∷ (codes "The plan states no card." ∷ [] ∷ []) ∷ [])
+    × (end_of_row false ≡ codes "At the end of a row, or if there is no line, the plan states nothing more.\n")
+    × (map before_rest (Over ∷ Plays 4 Over ∷ Looks NoLine ∷ Named 1 ∷ []) ≡ [] ∷ codes " " ∷ codes ", then " ∷ codes ", then " ∷ [])
+plans_in_words = (refl, refl, refl, refl, refl, refl, refl)
 
 -- ---- rows of nodes: node 3 has a paragraph of its own
-rows_to_places : map (row_to (λ node. node == 3) (record { number = 3; row = Plays 8 Over } ∷ record { number = 4; row = Plays 9 Over } ∷ []))
-    (End ∷ To 3 ∷ To 4 ∷ []) ≡ Over ∷ Named 3 ∷ Plays 9 Over ∷ []
-rows_to_places = refl
-
-row_of_a_card : row_of (λ node. false) (record { number = 3; row = Plays 8 Over } ∷ []) (Play 7 (To 3)) ≡ Plays 7 (Plays 8 Over)
-row_of_a_card = refl
-
--- ace and three lead to node 3, and two to the end
-row_of_a_look : row_of (λ node. true) [] (See (To 3 ∷ End ∷ To 3 ∷ To 4 ∷ []))
-    ≡ Looks (Line (true ∷ false ∷ true ∷ false ∷ []) (Named 3) (Line (false ∷ false ∷ false ∷ true ∷ []) (Named 4) NoLine))
-row_of_a_look = refl
-
-lines_that_are_ahead : lines_to (λ node. true) [] (To 3 ∷ To 3 ∷ To 4 ∷ []) 1 (To 3 ∷ To 4 ∷ []) ≡ Line (false ∷ false ∷ true ∷ []) (Named 4) NoLine
-lines_that_are_ahead = refl
-
-sizes_of_rows : map line_count (Over ∷ Plays 4 (Looks (Line [] (Looks (Line [] Over NoLine)) (Line [] Over NoLine))) ∷ Named 1 ∷ []) ∷
+-- of the look, ace and three lead to node 3, and two to the end
+rows_and_their_sizes :
+    (map (row_to (λ node. node == 3) (record { number = 3; row = Plays 8 Over } ∷ record { number = 4; row = Plays 9 Over } ∷ [])) (End ∷ To 3 ∷ To 4 ∷ [])
+    ≡ Over ∷ Named 3 ∷ Plays 9 Over ∷ [])
+    × (row_of (λ node. false) (record { number = 3; row = Plays 8 Over } ∷ []) (Play 7 (To 3)) ≡ Plays 7 (Plays 8 Over))
+    × (row_of (λ node. true) [] (See (To 3 ∷ End ∷ To 3 ∷ To 4 ∷ []))
+    ≡ Looks (Line (true ∷ false ∷ true ∷ false ∷ []) (Named 3) (Line (false ∷ false ∷ false ∷ true ∷ []) (Named 4) NoLine)))
+    × (lines_to (λ node. true) [] (To 3 ∷ To 3 ∷ To 4 ∷ []) 1 (To 3 ∷ To 4 ∷ []) ≡ Line (false ∷ false ∷ true ∷ []) (Named 4) NoLine)
+    × (map line_count (Over ∷ Plays 4 (Looks (Line [] (Looks (Line [] Over NoLine)) (Line [] Over NoLine))) ∷ Named 1 ∷ []) ∷
     map level_count (Over ∷ Plays 4 (Looks (Line [] (Looks (Line [] Over NoLine)) (Line [] Over NoLine))) ∷ Looks NoLine ∷ Named 1
     ∷ Looks (Line [] Over (Line [] (Looks NoLine) NoLine)) ∷ []) ∷ []
-    ≡ (0 ∷ 3 ∷ 0 ∷ []) ∷ (0 ∷ 2 ∷ 1 ∷ 0 ∷ 2 ∷ []) ∷ []
-sizes_of_rows = refl
+    ≡ (0 ∷ 3 ∷ 0 ∷ []) ∷ (0 ∷ 2 ∷ 1 ∷ 0 ∷ 2 ∷ []) ∷ [])
+rows_and_their_sizes = (refl, refl, refl, refl, refl)

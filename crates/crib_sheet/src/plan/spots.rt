@@ -15,7 +15,7 @@ const DEEPEST: u8 = 4;
 const LONGEST: u8 = 4;
 
 /// What is known of a node.
-#[derive(Clone, Copy, Debug)]
+#[derive(Clone, Copy)]
 pub(crate) struct Spot {
     // Whether the node has a paragraph of its own.
     pub(crate) is_apart: bool,

@@ -16,7 +16,7 @@ use crib_problem::Problem;
 use std::alloc::Allocator;
 
 /// Where a plan is after some turns.
-#[derive(Clone, Copy, Debug)]
+#[derive(Clone, Copy)]
 pub(crate) enum Halt {
     /// The plan has no node.
     NoNode,

@@ -2,7 +2,7 @@ use Rattle.std.proofs.Common.{◌≡◌, List, [], refl, rules, sym}
 use Rattle.crib_problem.specs.Setup.{Setup}
 use Rattle.crib_plan.specs.declared.plan.Node.{Node}
 use Rattle.crib_game.specs.declared.following.ending.Ending.{Ending}
-use Rattle.crib_game.specs.declared.following.ending.Ending.TheVariants.{Open, Stuck, Lost, Short, Reached}
+use Rattle.crib_game.specs.declared.following.ending.Ending.TheVariants.{Stuck}
 use Rattle.crib_game.specs.declared.section.game.Game.{Game}
 use Rattle.crib_sheet.specs.PlanHead.{why_text}
 use Rattle.crib_sheet.proofs.Printing.{as_text, more, nothing}
@@ -10,11 +10,8 @@ use Rattle.crib_sheet.proofs.plan.head.put_why.Goals as goal
 
 -- a game with another ending has no line
 no_line : (problem : Setup) (plan : List Node) (ending : Ending) (game : Game) → (ending ≡ Stuck → ⊥) → why_text problem plan ending game ≡ []
-no_line problem plan Open game other = refl
 no_line problem plan Stuck game other = absurd (other refl)
-no_line problem plan Lost game other = refl
-no_line problem plan Short game other = refl
-no_line problem plan Reached game other = refl
+no_line problem plan _ game other = refl
 
 pub returns-in-Stuck : goal.returns-in-Stuck
 returns-in-Stuck g c = rw c.in-Stuck.is (as_text (more c.put.ensures c.put_stuck.ensures) (search rules))

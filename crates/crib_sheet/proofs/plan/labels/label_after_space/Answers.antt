@@ -1,4 +1,4 @@
-use Rattle.std.proofs.Common.{◌≡◌, ◌∙◌, ◌+◌, ◌<◌, ◌++◌, ◌∷◌, List, ℕ, Bool, drop, take, length, ap, sym, append_assoc, arith}
+use Rattle.std.proofs.Common.{◌∙◌, ◌+◌, ◌<◌, ◌∷◌, List, ℕ, Bool, drop, take, length, append_assoc, arith}
 use Rattle.std.proofs.lemmas.Grind.{flat_map-append}
 use Rattle.crib_text.specs.Spelling.{space}
 use Rattle.crib_sheet.specs.PlanText.{range_words, rank_words}
@@ -15,8 +15,7 @@ loop-place-preserved c =
     let inside : place < length ranks = omega (arith, thirteen c.args.set.now c.told-set, c.loop-place-test.true) in
     elim c.if-ranks-place.branch [
       | then-ranks-place w ↦ rw (w.text-is, w.before-is) (record {
-        items = ap (λ (words : List (List ℕ)). c.loop-place.text.items ++ spaced words)
-            (sym (ranks_in ranks place before _ inside w.if-ranks-place.true)) ∙ c.loop-place.invariant.items;
+        items = rw (← ranks_in ranks place before _ inside w.if-ranks-place.true) c.loop-place.invariant.items;
         within = omega (arith, c.loop-place.invariant.within);
         len = omega (arith, c.loop-place.invariant.len);
       })
@@ -24,12 +23,9 @@ loop-place-preserved c =
           (let words : List (List ℕ) = range_words place before in
           let rest : List (List ℕ) = rank_words (place + 1) 0 (drop (place + 1) ranks) in
           rw (w.text-is, w.before-is) (record {
-            items = ap (λ (items : List ℕ). items ++ spaced rest) w.add_range.ensures.items
-                ∙ append_assoc c.loop-place.text.items (spaced words) (spaced rest)
-                ∙ ap (λ (more : List ℕ). c.loop-place.text.items ++ more) (sym (flat_map-append (λ (word : List ℕ). space ∷ word) words rest))
-                ∙ ap (λ (all : List (List ℕ)). c.loop-place.text.items ++ spaced all)
-                (sym (ranks_out ranks place before _ inside w.if-ranks-place.false))
-                ∙ c.loop-place.invariant.items;
+            items = rw (w.add_range.ensures.items, append_assoc c.loop-place.text.items (spaced words) (spaced rest))
+                (rw (← flat_map-append (λ (word : List ℕ). space ∷ word) words rest, ← ranks_out ranks place before _ inside w.if-ranks-place.false)
+                c.loop-place.invariant.items);
             within = omega arith;
             len = omega (arith, w.add_range.ensures.len, c.loop-place.invariant.len);
           }))
@@ -38,11 +34,9 @@ loop-place-preserved c =
 pub returns-then-set-offset13-clause-items : goal.returns-then-set-offset13-clause-items
 returns-then-set-offset13-clause-items c =
     c.add.ensures.items ∙ with_go c.args.set.now _ c.add_range-2.new.text.items c.told-set c.if-set-offset13.true
-    (ranks_done c.args.set.now c.loop-place.place c.loop-place.before c.loop-place.text.items _ (omega arith) c.told-set c.add_range-2.ensures.items
-    c.loop-place.invariant.items)
+    (ranks_done c.args.set.now c.loop-place.place _ _ _ (omega arith) c.told-set c.add_range-2.ensures.items c.loop-place.invariant.items)
 
 pub returns-else-set-offset13-clause-items : goal.returns-else-set-offset13-clause-items
 returns-else-set-offset13-clause-items c =
     without_go c.args.set.now _ c.add_range-2.new.text.items c.told-set c.if-set-offset13.false
-    (ranks_done c.args.set.now c.loop-place.place c.loop-place.before c.loop-place.text.items _ (omega arith) c.told-set c.add_range-2.ensures.items
-    c.loop-place.invariant.items)
+    (ranks_done c.args.set.now c.loop-place.place _ _ _ (omega arith) c.told-set c.add_range-2.ensures.items c.loop-place.invariant.items)

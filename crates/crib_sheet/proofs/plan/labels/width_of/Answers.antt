@@ -24,14 +24,11 @@ loop-place-preserved c =
             narrow = omega (arith, greatest, c.loop-place.invariant.narrow, w.saturating_sub.ensures, w.len.ensures.value, w.len.ensures.fits);
           }))
       | in_default w ↦ rw w.width-is (record {
-        width = ap (λ (n : ℕ). max c.loop-place.width n)
-            (sym (width_none all c.loop-place.place _ inside (sym c.new_node.ensures ∙ w.in_default.is))) ∙ c.loop-place.invariant.width;
+        width = rw (width_none all c.loop-place.place _ inside (sym c.new_node.ensures ∙ w.in_default.is)) at c.loop-place.invariant.width;
         narrow = c.loop-place.invariant.narrow;
       })
     ]
 
 pub returns-clause-width : goal.returns-clause-width
 returns-clause-width c =
-    let none = width_end c.args.branches.now c.loop-place.place (omega arith) in
-    let so_far = c.loop-place.invariant.width in
-    omega (arith, none, so_far)
+    omega (arith, width_end c.args.branches.now c.loop-place.place (omega arith), c.loop-place.invariant.width)

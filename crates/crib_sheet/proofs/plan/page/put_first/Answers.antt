@@ -1,7 +1,5 @@
-use Rattle.std.proofs.Common.{◌∙◌, ◌++◌, Bool, List, ap, sym, arith, codes, length}
+use Rattle.std.proofs.Common.{List, ap, arith, length}
 use Rattle.crib_plan.specs.declared.plan.Node.{Node}
-use Rattle.crib_sheet.specs.PlanPage.{no_card}
-use Rattle.crib_sheet.specs.PlanSheet.{Over}
 use Rattle.crib_sheet.proofs.Printing.{as_text}
 use Rattle.crib_sheet.proofs.PutRows.{first_of_none, first_of_some}
 use Rattle.crib_sheet.proofs.plan.page.put_first.Goals as goal
@@ -9,16 +7,14 @@ use Rattle.crib_sheet.proofs.plan.page.put_first.Goals as goal
 pub returns-then-nodes-ne0 : goal.returns-then-nodes-ne0
 returns-then-nodes-ne0 g c =
     let same = ap (λ (nodes : List Node). length nodes) c.nodes.ensures.nodes in
-    as_text c.put_row.ensures (first_of_some c.args.sure c.args.walk.now.outline.now c.args.walk.now.plan.now c.nodes.ensures.sound (omega (arith, same)))
+    as_text c.put_row.ensures (first_of_some c.args.sure c.args.walk.now.outline.now c.args.walk.now.plan.now (omega (arith, same)))
 
 pub returns-then-sure : goal.returns-then-sure
 returns-then-sure g c =
     let same = ap (λ (nodes : List Node). length nodes) c.nodes.ensures.nodes in
-    as_text c.put.ensures (ap (λ (sure : Bool). no_card sure Over ++ codes "\n") (sym c.if-sure.true)
-    ∙ first_of_none c.args.sure c.args.walk.now.outline.now c.args.walk.now.plan.now (omega (arith, same)))
+    rw (← first_of_none c.args.sure c.args.walk.now.outline.now c.args.walk.now.plan.now (omega (arith, same)), c.if-sure.true) c.put.ensures
 
 pub returns-else-sure : goal.returns-else-sure
 returns-else-sure g c =
     let same = ap (λ (nodes : List Node). length nodes) c.nodes.ensures.nodes in
-    as_text c.put-else-sure.ensures (ap (λ (sure : Bool). no_card sure Over ++ codes "\n") (sym c.if-sure.false)
-    ∙ first_of_none c.args.sure c.args.walk.now.outline.now c.args.walk.now.plan.now (omega (arith, same)))
+    rw (← first_of_none c.args.sure c.args.walk.now.outline.now c.args.walk.now.plan.now (omega (arith, same)), c.if-sure.false) c.put-else-sure.ensures

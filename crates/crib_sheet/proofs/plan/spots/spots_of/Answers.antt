@@ -1,9 +1,8 @@
-use Rattle.std.proofs.Common.{◌≡◌, ℕ, ◌+◌, ◌-◌, ◌<◌, List, length, refl, sym, subst, arith, ◌∙◌}
+use Rattle.std.proofs.Common.{◌≡◌, ℕ, ◌+◌, ◌-◌, ◌<◌, length, refl, sym, subst, arith, ◌∙◌}
 use Rattle.std.proofs.lemmas.List.{length-set}
 use Rattle.std.proofs.lemmas.Option.{slice_get_read}
-use Rattle.crib_sheet.specs.Private.Spots.{AreSized, IsWhole, IsBroken}
+use Rattle.crib_sheet.specs.Private.Spots.{AreSized}
 use Rattle.crib_sheet.specs.Private.Ways.{ways_to}
-use Rattle.crib_sheet.specs.declared.plan.spots.Spot.{Spot}
 use Rattle.crib_sheet.proofs.PlanSpots.{low_set, sized_set, sized_later, first_set}
 use Rattle.crib_sheet.proofs.PlanWays.{at_entry}
 use Rattle.crib_sheet.proofs.plan.spots.spots_of.Goals as goal
@@ -30,12 +29,8 @@ loop-place-preserved g c =
       length-set spots place spot ∙ inv.1,
       low_set spots place spot inv.2 c.settled-spot.ensures.low.0 c.settled-spot.ensures.low.1,
       sized_set place nodes spots node spot c.requires.1 among node_is old
-          (λ inline. subst (λ (n : ℕ). IsWhole spots spot.levels spot.cards n node) ways_are
-          (subst (λ (known : List Spot). IsWhole known spot.levels spot.cards c.index.result.now node) c.as_slice.ensures.value
-          (c.settled-spot.ensures.whole inline)))
-          (λ apart. subst (λ (n : ℕ). IsBroken spots spot.levels spot.cards n node) ways_are
-          (subst (λ (known : List Spot). IsBroken known spot.levels spot.cards c.index.result.now node) c.as_slice.ensures.value
-          (c.settled-spot.ensures.broken apart))),
+          (λ inline. rw (c.as_slice.ensures.value, ways_are) at (c.settled-spot.ensures.whole inline))
+          (λ apart. rw (c.as_slice.ensures.value, ways_are) at (c.settled-spot.ensures.broken apart)),
       first_set spots place spot (omega (arith, c.loop-place-test.true)) ∙ inv.4,
     )
 

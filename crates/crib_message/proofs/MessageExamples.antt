@@ -13,7 +13,7 @@ use Rattle.crib_input.specs.declared.reason.FaultCause.TheVariants.{NoMemory}
 use Rattle.crib_input.specs.declared.reason.Reason.TheVariants.{Refused, Fault}
 use Rattle.crib_message.specs.declared.scene.Place.{Place}
 use Rattle.crib_message.specs.declared.scene.Section.TheVariants.{Problem, Plan, Game, After}
-use Rattle.crib_message.specs.Message.{IsExcerpt, IsFaultMessage, IsMark, IsMessage, IsRefusalMessage, Says}
+use Rattle.crib_message.specs.Message.{IsExcerpt, IsFaultMessage, IsMark, IsMessage, IsRefusalMessage}
 use Rattle.crib_message.specs.Message.{blanks, carets, dots, heading, hex_digit, is_plain, mark_line, marks_below, numbered_line, place_words}
 use Rattle.crib_message.specs.Message.{section_words, shown_byte, shown_line}
 
@@ -104,18 +104,8 @@ a_card_with_10 = record {
 pub no_memory : IsFaultMessage (codes "cribplan") (codes "cribplan: out of memory\n")
 no_memory = record { sentence = codes "out of memory"; is = refl; plain = all_plain (codes "out of memory") refl }
 
--- ---- what a device has of a message: all of it, or a beginning of it if the device failed
-abbrev SaysOf : List ℕ → Type 0 → Type 0
-SaysOf after failed = Says (codes "cribplan") (codes "problem 1\n") (Fault NoMemory) (Some (codes "a")) (Some after) failed
-
-pub of_a_fault : SaysOf (codes "acribplan: out of memory\n") ⊥
-of_a_fault = (codes "cribplan: out of memory\n", no_memory, inl refl)
-
-pub of_a_failing_device : {failed : Type 0} → failed → SaysOf (codes "acribplan: out") failed × SaysOf (codes "acribplan: out of memory") failed
-of_a_failing_device fails = (
-  (codes "cribplan: out of memory\n", no_memory, inr (13, omega arith, refl, fails)),
-  (codes "cribplan: out of memory\n", no_memory, inr (23, omega arith, refl, fails)),
-)
+pub message_of_a_fault : IsMessage (codes "cribplan") (codes "problem 1\n") (Fault NoMemory) (codes "cribplan: out of memory\n")
+message_of_a_fault = no_memory
 
 -- ---- the parts of an excerpt
 pub hexadecimal_digits : map hex_digit (0 ∷ 9 ∷ 10 ∷ 15 ∷ []) ≡ codes "09af"
@@ -212,12 +202,3 @@ excerpt_of_no_line program text is e = (let none : codes "x" ≡ [] = sym e ∙ 
 pub line_without_an_excerpt : (program text : List ℕ) (is : IsRefusalMessage program two_lines 2 text) → is.excerpt ≡ [] → ⊥
 unfolding lines_of
 line_without_an_excerpt program text is e = (let excerpt = sym e ∙ is.shows.is in cc)
-
-pub another_text : (text : List ℕ) → {failed : Type 0} → ((text : List ℕ) → IsMessage (codes "cribplan") [] (Fault NoMemory) text → ⊥) →
-    Says (codes "cribplan") [] (Fault NoMemory) (Some []) (Some text) failed → ⊥
-another_text text none says = none says.0 says.1
-
--- a device that had an `a` has more afterwards, and not another letter, whether it failed or not
-pub another_letter : {failed : Type 0} → Says (codes "cribplan") [] (Fault NoMemory) (Some (codes "a")) (Some (codes "b")) failed → ⊥
-another_letter (text, is, inl all) = (let byte : 98 ≡ 97 = ap byte_of all in absurd (omega (arith, byte)))
-another_letter (text, is, inr (sent, below, some, failing)) = (let byte : 98 ≡ 97 = ap byte_of some in absurd (omega (arith, byte)))

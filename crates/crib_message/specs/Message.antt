@@ -1,8 +1,7 @@
 -- The message of a refusal or a fault.
-use Rattle.std.specs.Prelude.{◌≡◌, ◌⊎◌, ◌<◌, ◌-◌, ◌/◌, ◌%◌, ℕ, Bool, true, List, [], ◌∷◌, ◌++◌, codes}
+use Rattle.std.specs.Prelude.{◌≡◌, ◌⊎◌, ◌-◌, ◌/◌, ◌%◌, ℕ, Bool, true, List, [], ◌∷◌, ◌++◌, codes}
 use Rattle.std.specs.Prelude.{decimal, flat_map, Option, None, MatchOption, All, nat_le, ◌&&◌, ◌==◌, if◌then◌else◌}
-use Rattle.std.specs.Prelude.{length, min, slice_get, slice_index, take}
-use Rattle.std.specs.Io.KnownBytes.{Appends}
+use Rattle.std.specs.Prelude.{length, min, slice_get, slice_index}
 use Rattle.crib_text.specs.Spelling.{line_feed}
 use Rattle.crib_text.specs.Words.{lines_of}
 use Rattle.crib_input.specs.Refusals.{refusal_of}
@@ -125,9 +124,3 @@ abbrev pub IsMessage : List ℕ → List ℕ → Reason → List ℕ → Type 0
 IsMessage program input (Refused refusal) text =
     IsRefusalMessage program input (refusal_of refusal).line text
 IsMessage program input (Fault _) text = IsFaultMessage program text
-
--- a message is written whole to a device, or the device failed after a proper beginning of it
-abbrev pub Says : List ℕ → List ℕ → Reason → Option (List ℕ) → Option (List ℕ) → Type 0 → Type 0
-Says program input reason old new failed =
-    (text : List ℕ) × IsMessage program input reason text × (Appends old new text
-    ⊎ ((sent : ℕ) × (sent < length text) × Appends old new (take sent text) × failed))

@@ -4,6 +4,7 @@
 //! memory.
 #![tactic(auto)]
 
+mod asked;
 mod branches;
 mod bytes;
 mod cards;
@@ -14,7 +15,6 @@ mod hints;
 mod message;
 mod misfit;
 mod order;
-mod saying;
 mod scene;
 mod sentence;
 mod spelling;
@@ -22,8 +22,8 @@ mod state;
 mod strays;
 mod turns;
 
+pub use asked::Asked;
 pub use message::{Message, message_of};
-pub use saying::say;
 
 #[cfg(test)]
 mod tests;

@@ -11,7 +11,7 @@ mod text;
 
 pub use answer::Answer;
 pub use making::{line_answer, reason_answer, section_answer};
-pub use sending::{Asked, Explain, Sendable, deliver, deliver_reason, unread_reason};
+pub use sending::{Explain, Sendable, deliver, deliver_reason, unread_reason};
 pub use status::Status;
 pub use text::{ShortText, Text, add, add_number};
 

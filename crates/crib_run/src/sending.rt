@@ -1,9 +1,8 @@
 //! Sends an answer to a device, or the reason why there is none, and then says the reason in words.
-ghost use Rattle.std.specs.Prelude.{◌≡◌, ◌≤◌, ℕ, List, IfOk, length};
+ghost use Rattle.std.specs.Prelude.{◌≡◌, ℕ, List, IfOk};
 ghost use Rattle.crib_text.specs.Device.{HasFailed};
 ghost use Rattle.crib_text.specs.Transfer.{IsReadingFault};
 ghost use Rattle.crib_input.specs.declared.reason.Reason.{Reason};
-ghost use Rattle.crib_message.specs.Message.{IsMessage};
 ghost use Rattle.crib_run.specs.Beside.{Explains, Writes};
 ghost use Rattle.crib_run.specs.Reply.{IsAnswer, Reply, outcome_reply, reason_reply, reply_of};
 ghost use Rattle.crib_run.specs.Run.{Sends, unread_reply};
@@ -11,8 +10,7 @@ ghost use Rattle.crib_run.specs.Run.{Sends, unread_reply};
 use crate::answer::Answer;
 use crate::making::reason_answer;
 use crate::status::Status;
-use crib_input::{FaultCause, Reason, Refusal, Sections};
-use crib_message::say;
+use crib_input::{FaultCause, Reason, Refusal};
 use crib_text::{Sink, TextCause, TextFault, put};
 use std::alloc::{Allocator, Global};
 
@@ -59,24 +57,6 @@ pub trait Explain {
     fn explain<E: Sink>(&self, words: &mut E, reason: &Reason)
         ensures { Writes (says self.now reason.now) (E.contents words.old) (E.contents words.new)
             (HasFailed (E.faults words.old) (E.faults words.new)) };
-}
-
-/// What a message is about: the program, whose name has at most 20 bytes, the sections that its input has to have, and
-/// the input. The input is empty if it was not read.
-#[derive(Clone, Copy, Debug)]
-pub struct Asked<'a> {
-    pub program: &'a [u8],
-    pub sections: Sections,
-    pub input: &'a [u8],
-    ghost short: { length program.now ≤ 20 },
-}
-
-impl Explain for Asked<'_> {
-    ghost says = { λ asked reason text. IsMessage asked.program.now asked.input.now reason text };
-
-    fn explain<E: Sink>(&self, words: &mut E, reason: &Reason) {
-        say(words, self.program, self.sections, self.input, reason);
-    }
 }
 
 /// Sends an answer, or the line of the reason why there is none. After that it writes to `words` why there is none, or

@@ -5,7 +5,8 @@ ghost use Rattle.std.specs.Prelude.{◌≡◌, ◌⊎◌, ◌≤◌, ℕ, List, 
 ghost use Rattle.std.specs.Io.KnownBytes.{Appends};
 ghost use Rattle.crib_text.specs.Device.{HasFailed};
 ghost use Rattle.crib_run.specs.Beside.{Explains, input_of};
-ghost use Rattle.crib_run.specs.Run.{Delivers, RunMeans};
+ghost use Rattle.crib_run.specs.Reply.{Reply};
+ghost use Rattle.crib_run.specs.Run.{Delivers, RunMeans, Sends};
 ghost use Rattle.crib_sheet.specs.Acts.{IsSaid};
 ghost use Rattle.crib_sheet.specs.Meaning.{SheetMeans};
 ghost use Rattle.crib_sheet.specs.Sheet.{SheetMakes};
@@ -94,18 +95,32 @@ pub fn run_with_words<A: Allocator + Copy, S: Source, W: Sink, E: Sink>(
     ensures silent { (result ≡ Status.Yes) ⊎ (result ≡ Status.No)
         → Appends (E.contents words.old) (E.contents words.new) [] }
 {
-    let sections = job.sections();
     match read_all(alloc, source) {
-        Ok(input) => {
-            let input = input.as_slice();
-            let outcome = sheet_of(alloc, job, input);
-            deliver(&outcome, &asked(sections, input), sink, words)
-        }
+        Ok(input) => answer(alloc, job, input.as_slice(), sink, words),
         Err(fault) => {
             let reason = unread_reason(fault);
-            deliver_reason(reason, &asked(sections, b""), sink, words)
+            deliver_reason(reason, &asked(job.sections(), b""), sink, words)
         }
     }
+}
+
+// Answers an input that was read, and says why there is no sheet.
+fn answer<A: Allocator + Copy, W: Sink, E: Sink>(
+    alloc: A,
+    job: SheetJob,
+    input: &[u8],
+    sink: &mut W,
+    words: &mut E,
+) -> Status
+    requires { length input.now ≤ MAX_INPUT }
+    ensures { (reply : Reply) × SheetMakes job input.now reply
+        × Sends reply (W.contents sink.old) (W.contents sink.new)
+        (HasFailed (W.faults sink.old) (W.faults sink.new)) result
+        × Explains (IsSaid input.now) reply result (E.contents words.old) (E.contents words.new)
+        (HasFailed (E.faults words.old) (E.faults words.new)) }
+{
+    let outcome = sheet_of(alloc, job, input);
+    deliver(&outcome, &asked(job.sections(), input), sink, words)
 }
 
 // What the words beside a sheet are about.

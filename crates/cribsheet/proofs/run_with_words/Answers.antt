@@ -1,23 +1,21 @@
 use Rattle.std.proofs.Common.{Ok, Err, rules}
-use Rattle.crib_run.specs.Reply.{outcome_reply}
 use Rattle.crib_run.specs.Run.{Delivers}
-use Rattle.crib_run.proofs.Delivery.{outcome_made, silent}
+use Rattle.crib_run.proofs.Delivery.{silent}
 use Rattle.crib_run.proofs.Runs.{run_means}
-use Rattle.crib_sheet.specs.Sheet.{SheetMakes, sheet_reply}
 use Rattle.crib_sheet.proofs.SheetMeanings.{job_means}
 use Rattle.cribsheet.proofs.Runs.{of_asked}
 use Rattle.cribsheet.proofs.run_with_words.Goals as goal
 
 pub returns-in-Ok : goal.returns-in-Ok
 returns-in-Ok g c =
+    let (reply, makes, sent, words) = c.answer.ensures in
     let run : Delivers _ _ _ _ _ _ _ = record {
-      read = Ok c.as_slice-input.result.now;
+      read = Ok c.as_slice.result.now;
       gave = search rules;
-      reply = outcome_reply sheet_reply c.sheet_of-outcome.result;
-      answers = outcome_made sheet_reply (SheetMakes c.args.job c.as_slice-input.result.now) c.sheet_of-outcome.result c.sheet_of-outcome.ensures;
-      sent = c.deliver.ensures.sent;
+      reply = reply;
+      answers = makes;
+      sent = sent;
     } in
-    let words = of_asked _ _ _ _ _ _ _ c.asked.ensures c.deliver.ensures.words in
     record {
       answers = run;
       means = run_means _ _ (job_means c.args.job) _ _ _ _ _ _ run;
@@ -34,7 +32,7 @@ returns-in-Err g c =
       answers = c.unread_reason-reason.ensures;
       sent = c.deliver_reason.ensures.sent;
     } in
-    let words = of_asked _ _ _ _ _ _ _ c.asked-in-Err.ensures c.deliver_reason.ensures.words in
+    let words = of_asked _ _ _ _ _ _ _ c.asked.ensures c.deliver_reason.ensures.words in
     record {
       answers = run;
       means = run_means _ _ (job_means c.args.job) _ _ _ _ _ _ run;

@@ -10,6 +10,7 @@ use Rattle.crib_play.specs.Score.{is_done}
 use Rattle.crib_play.specs.Filled.{is_visible, visible_turns, is_silent_next, with_silent_gos, filled_record}
 use Rattle.crib_play.specs.Standing.{MayShow, AreTaken, IsStart}
 use Rattle.crib_play.proofs.FilledAndVisible.{heard-filled_record}
+use Rattle.crib_play.proofs.RecordStates.{chosen}
 use Rattle.crib_cards.specs.declared.moves.Move.{Move}
 use Rattle.crib_cards.specs.declared.moves.Move.TheVariants as move
 use Rattle.crib_cards.specs.Letters.{letter_of}
@@ -39,11 +40,13 @@ acts_fewer pone (turn ∷ past) = search (rules, acts_fewer pone past, acts_visi
 -- ---- the letters of moves
 pub letters_silent : (n : ℕ) (start : Start) (past : List Move) → letters_of (with_silent_moves n start past) ≡ with_silent_gos n start (letters_of past)
 letters_silent zero start past = refl
-letters_silent (suc n) start past = search (rules, letters_silent n start (move.Go ∷ past))
+letters_silent (suc n) start past = chosen letters_of _ _ _ _ _ refl (letters_silent n start (move.Go ∷ past))
 
 pub letters_filled : (start : Start) (seen : List Move) → letters_of (filled_moves start seen) ≡ filled_record start (letters_of seen)
 letters_filled start [] = refl
-letters_filled start (turn ∷ seen) = search (rules, letters_silent 3 start (turn ∷ filled_moves start seen), letters_filled start seen)
+letters_filled start (turn ∷ seen) =
+    letters_silent 3 start (turn ∷ filled_moves start seen)
+    ∙ ap (λ (past : Record). with_silent_gos 3 start (letter_of turn ∷ past)) (letters_filled start seen)
 
 pub letters_visible : (pone : Side) (past : List Move) → letters_of (visible_moves pone past) ≡ visible_turns pone (letters_of past)
 letters_visible pone [] = refl
@@ -91,7 +94,10 @@ silent_go n start past e = cond-true (is_silent_next start (letters_of past)) (w
 pub silent_more : (n : ℕ) (start : Start) (past : List Move) → is_silent_next start (letters_of (with_silent_moves n start past)) ≡ false →
     with_silent_moves (suc n) start past ≡ with_silent_moves n start past
 silent_more zero start past e = silent_stop 1 start past e
-silent_more (suc n) start past e = search (rules, silent_more n start (move.Go ∷ past))
+silent_more (suc n) start past e = elim (cases_Bool (is_silent_next start (letters_of past))) [
+  | inl s ↦ rw s (silent_more n start (move.Go ∷ past) (rw s at e))
+  | inr s ↦ rw s refl
+]
 
 -- no silent go follows a filled record
 pub filled_stops : (start : Start) (seen : List Move) → IsStart start → AreTaken start (letters_of seen) →
@@ -141,7 +147,10 @@ fills_visible start hands turn past p may f v =
 fills_silent : (start : Start) (past : List Move) → IsStart start → is_done start (letters_of past) ≡ false → Fills start past →
     is_visible (pone_of start) Go (letters_of past) ≡ false → Fills start (move.Go ∷ past)
 fills_silent start past is d f v =
-    search (rules, moves_silent, silent_is start (letters_of past) v d, filled_stops start, silent_more 3 start past, silent_go 3 start past)
+    let stops = ap (λ (moves : List Move). is_silent_next start (letters_of moves)) (sym f.filled) ∙ filled_stops start _ is f.taken in
+    let filled = f.filled ∙ sym (silent_more 3 start past stops) ∙ silent_go 3 start past (silent_is start (letters_of past) v d) in
+    let shows = moves_silent (pone_of start) move.Go past v in
+    record { taken = rw shows f.taken; filled = rw shows filled }
 
 fills_turn : (start : Start) (hands : Hands) (turn : Move) (past : List Move) → IsStart start → Play start hands past → MayCome start hands turn past →
     Fills start past → Fills start (turn ∷ past)
@@ -153,7 +162,7 @@ fills_turn start hands move.Go past is p may f =
     ]
 
 fills_start : (start : Start) → IsStart start → Fills start []
-fills_start start is = search (rules, filled_stops start [] is tt, silent_stop 3 start [])
+fills_start start is = record { taken = tt; filled = sym (silent_stop 3 start [] (filled_stops start [] is tt)) }
 
 pub fills : (start : Start) (hands : Hands) (played : List Move) → IsStart start → IsDealt hands → IsLegal start hands played → Fills start played
 fills start hands [] is dealt legal = fills_start start is

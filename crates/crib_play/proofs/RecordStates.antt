@@ -186,9 +186,15 @@ standing_after-state start past = search (rules, heard_after start Owner past, h
 silent_after : (start : Start) (past : Record) → is_silent_next start past ≡ is_silent start.target (state_after start past)
 silent_after start past = ap (λ (b : Bool). not b && not (is_done start past)) (heard_after start (mover (pone_of start) past) past)
 
+-- what is found of a choice, as a choice of what is found
+pub chosen : {A B : Type 0} (of : A → B) (b c : Bool) (more past : A) (found : B) → b ≡ c → of more ≡ found → of (cond b more past) ≡ cond c found (of past)
+chosen of true c more past found is same = same ∙ ap (λ (d : Bool). cond d found (of past)) is
+chosen of false c more past found is same = ap (λ (d : Bool). cond d found (of past)) is
+
 pub state_after-gos : (n : ℕ) (start : Start) (past : Record) → state_after start (with_silent_gos n start past) ≡ gos n start.target (state_after start past)
 state_after-gos zero start past = refl
-state_after-gos (suc n) start past = grind (arith, nat_tests, silent_after start past, state_after-gos n start (Go ∷ past), state_after-go start past)
+state_after-gos (suc n) start past =
+    chosen (state_after start) _ _ _ _ _ (silent_after start past) (state_after-gos n start (Go ∷ past) ∙ ap (gos n start.target) (state_after-go start past))
 
 pub points_in-gos : (n : ℕ) (start : Start) (past : Record) →
     points_in (with_silent_gos n start past) ≡ gos_points n start.target (state_after start past) + points_in past

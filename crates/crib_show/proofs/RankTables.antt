@@ -92,9 +92,12 @@ allows_counts fifteens with_jack counts = allows (pairs_in counts) with_jack (co
 abbrev pub is_allowed : List ℕ → Bool
 is_allowed ranks = allows_counts (fifteen_points ranks) (has_jack ranks) (rank_counts ranks)
 
--- both are tried of all ranks at once
+-- both are tried of all ranks at once, with the numbers of cards of each rank computed once
+abbrev is_good_with : List ℕ → List ℕ → Bool
+is_good_with ranks counts = agree_with ranks counts && allows_counts (fifteen_points ranks) (has_jack ranks) counts
+
 abbrev is_good : List ℕ → Bool
-is_good ranks = agree ranks && is_allowed ranks
+is_good ranks = is_good_with ranks (rank_counts ranks)
 
 abbrev GoodFrom : ℕ → Type 0
 GoodFrom rank = each_rising 4 rank (λ ranks. is_good (rank ∷ ranks)) ≡ true

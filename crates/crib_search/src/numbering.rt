@@ -105,9 +105,7 @@ impl<'a, A: Allocator + Copy> Numbering<'a, A> {
         ensures walk { IfOk result (λ _. IsWalkBelow self.old.draft_nodes place self.old.left self.new.left) }
     {
         match self.nodes.draft_node(place) {
-            DraftNode::Play { card: _, next } => {
-                self.number_from(next)?;
-            }
+            DraftNode::Play { card: _, next } => self.number_from(next)?,
             DraftNode::See { next } => {
                 for draft_place in next {
                     self.number_from(draft_place)?;

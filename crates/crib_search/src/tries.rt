@@ -50,13 +50,10 @@ pub fn try_plan<A: Allocator + Copy>(alloc: A, problem: &Problem) -> Result<Trie
             plan,
             is_sure: true,
         }),
-        Found::None => {
-            let plan = greedy_plan(alloc, problem)?;
-            Ok(Tried {
-                plan,
-                is_sure: false,
-            })
-        }
+        Found::None => Ok(Tried {
+            plan: greedy_plan(alloc, problem)?,
+            is_sure: false,
+        }),
     }
 }
 

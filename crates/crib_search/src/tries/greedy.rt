@@ -106,9 +106,8 @@ impl<A: Allocator + Copy> Greedy<'_, A> {
         for card in &cards[..len] {
             let mut other = start.copy(self.alloc, trial.lost())?;
             let other_place = self.place_with(nodes, know, *card, &mut other)?;
-            if other.lost() < trial.lost() {
+            if trial.adopt(other) {
                 place = other_place;
-                trial.adopt(other);
             }
             if trial.lost() == start.lost() {
                 break;

@@ -146,10 +146,14 @@ impl<A: Allocator + Copy> Trial<A> {
         self.lost = self.limit;
     }
 
-    /// Takes over the choices of another trial and what it has lost.
-    pub(crate) fn adopt(&mut self, other: Trial<A>) {
+    /// Takes over the choices of another trial and what it has lost, if this is less. Returns whether it is.
+    pub(crate) fn adopt(&mut self, other: Trial<A>) -> bool {
+        if other.lost >= self.lost {
+            return false;
+        }
         self.choices = other.choices;
         self.lost = other.lost;
+        true
     }
 
     /// A copy that may lose fewer deals than the limit. It fails if an allocation fails.

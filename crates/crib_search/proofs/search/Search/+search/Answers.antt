@@ -35,8 +35,7 @@ branch-search-requires g t c κs within =
     search (rules, on)
 
 pub branch-returns-then-not-can_show-clause-found : goal.branch-returns-then-not-can_show-clause-found
-branch-returns-then-not-can_show-clause-found g t c =
-    branch_end _ _ _ _ c.can_show.result (c.can_show.ensures.exact c.args.problem.now) c.if-not-can_show.true
+branch-returns-then-not-can_show-clause-found g t c = branch_end _ _ _ _ c.can_show.result (c.can_show.ensures.exact c.args.problem.now) c.if-not-can_show.true
 
 pub branch-returns-clause-found : goal.branch-returns-clause-found
 branch-returns-clause-found g t c =
@@ -115,8 +114,7 @@ search_theirs-returns-clause-later g t c =
     search (rules, answers)
 
 pub search_all-returns-in_default-clause-found : goal.search_all-returns-in_default-clause-found
-search_all-returns-in_default-clause-found g t c =
-    theirs_none _ _ _ c.requires.asked c.at-letter.result (rw c.in_default.is at c.in_ok-next.ensures.found)
+search_all-returns-in_default-clause-found g t c = theirs_none _ _ _ c.requires.asked c.at-letter.result (rw c.in_default.is at c.in_ok-next.ensures.found)
 
 pub search_all-loop-place-preserved : goal.search_all-loop-place-preserved
 search_all-loop-place-preserved g t c = record {

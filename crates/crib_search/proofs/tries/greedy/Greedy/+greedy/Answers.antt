@@ -13,9 +13,9 @@ use Rattle.crib_search.proofs.JoinedTrees.{draft_place_earlier}
 use Rattle.crib_search.proofs.PlannedPlaces.{left_is_card, more_trans, planned_end, planned_more, planned_play, planned_push}
 use Rattle.crib_search.proofs.PlannedPlaces.{trees_planned, planned_joined}
 use Rattle.crib_search.proofs.tries.greedy.Greedy.+greedy.Goals as goal
-use Rattle.crib_search.proofs.tries.greedy.Greedy.+greedy.Goals.{own_place-then-lost, own_place-else-lost}
+use Rattle.crib_search.proofs.tries.greedy.Greedy.+greedy.Goals.{own_place-then-adopt, own_place-else-adopt}
 use Rattle.crib_search.proofs.tries.greedy.Greedy.+greedy.Goals.{own_place-else-loop-card-test}
-use Rattle.crib_search.proofs.tries.greedy.Greedy.+greedy.Goals.{own_place-then-loop-card-test+in_ok-other+in_ok-other_place+then-lost-2}
+use Rattle.crib_search.proofs.tries.greedy.Greedy.+greedy.Goals.{own_place-then-loop-card-test+in_ok-other+in_ok-other_place+then-lost}
 
 -- ---- the deal is done, or nothing is left to play for
 pub place_at-returns-then-is_over-clause-planned : goal.place_at-returns-then-is_over-clause-planned
@@ -63,9 +63,9 @@ own_place-place_with-requires-in-loop-card g t c κs within =
 pub own_place-loop-card-preserved : goal.own_place-loop-card-preserved
 own_place-loop-card-preserved g t c = record {
   kept = more_trans c.args.nodes.now c.loop-card.nodes c.place_with-in-loop-card.new.nodes c.loop-card.invariant.kept c.place_with-in-loop-card.ensures.kept;
-  planned = elim c.if-lost.branch [
-    | own_place-then-lost w ↦ rw w.place-is c.in_ok-other_place.ensures.planned
-    | own_place-else-lost w ↦ rw w.place-is
+  planned = elim c.if-adopt.branch [
+    | own_place-then-adopt w ↦ rw w.place-is c.in_ok-other_place.ensures.planned
+    | own_place-else-adopt w ↦ rw w.place-is
         (planned_more c.loop-card.nodes c.place_with-in-loop-card.new.nodes c.place_with-in-loop-card.ensures.kept c.loop-card.place
         c.loop-card.invariant.planned)
   ];
@@ -74,7 +74,7 @@ own_place-loop-card-preserved g t c = record {
 pub own_place-returns-clause-kept : goal.own_place-returns-clause-kept
 own_place-returns-clause-kept g t c = elim c.loop-card-test.branch [
   | own_place-else-loop-card-test w ↦ rw w.nodes-is c.loop-card.invariant.kept
-  | own_place-then-loop-card-test+in_ok-other+in_ok-other_place+then-lost-2 w ↦ rw w.nodes-is
+  | own_place-then-loop-card-test+in_ok-other+in_ok-other_place+then-lost w ↦ rw w.nodes-is
       (more_trans c.args.nodes.now c.loop-card.nodes w.place_with-in-loop-card.new.nodes c.loop-card.invariant.kept
       w.place_with-in-loop-card.ensures.kept)
 ]
@@ -82,9 +82,9 @@ own_place-returns-clause-kept g t c = elim c.loop-card-test.branch [
 pub own_place-returns-clause-planned : goal.own_place-returns-clause-planned
 own_place-returns-clause-planned g t c = elim c.loop-card-test.branch [
   | own_place-else-loop-card-test w ↦ rw (w.nodes-is, w.place-is) c.loop-card.invariant.planned
-  | own_place-then-loop-card-test+in_ok-other+in_ok-other_place+then-lost-2 w ↦ rw (w.nodes-is, w.place-is) (elim w.if-lost.branch [
-    | own_place-then-lost v ↦ rw v.place-is w.in_ok-other_place.ensures.planned
-    | own_place-else-lost v ↦ rw v.place-is
+  | own_place-then-loop-card-test+in_ok-other+in_ok-other_place+then-lost w ↦ rw (w.nodes-is, w.place-is) (elim w.if-adopt.branch [
+    | own_place-then-adopt v ↦ rw v.place-is w.in_ok-other_place.ensures.planned
+    | own_place-else-adopt v ↦ rw v.place-is
         (planned_more c.loop-card.nodes w.place_with-in-loop-card.new.nodes w.place_with-in-loop-card.ensures.kept c.loop-card.place
         c.loop-card.invariant.planned)
   ])
@@ -105,8 +105,7 @@ place_with-returns-in_err-place-clause-kept g t c =
     more_trans c.args.nodes.now c.place_at.new.nodes c.place_of.new.self c.place_at.ensures.kept c.place_of.ensures.kept
 
 pub place_with-returns-clause-kept : goal.place_with-returns-clause-kept
-place_with-returns-clause-kept g t c =
-    more_trans c.args.nodes.now c.place_at.new.nodes c.place_of.new.self c.place_at.ensures.kept c.place_of.ensures.kept
+place_with-returns-clause-kept g t c = more_trans c.args.nodes.now c.place_at.new.nodes c.place_of.new.self c.place_at.ensures.kept c.place_of.ensures.kept
 
 pub place_with-returns-clause-planned : goal.place_with-returns-clause-planned
 place_with-returns-clause-planned g t c =

@@ -17,15 +17,18 @@ pub fn joined_with<A: Allocator + Copy>(
     number: usize,
     changed: &str,
 ) -> Result<String<A>, AllocError> {
-    let whole = joined(alloc, sections)?;
     let mut text = String::new(alloc);
-    for (place, line) in (1..100usize).zip(whole.lines()) {
-        if place == number {
-            text.push_str(changed)?;
-        } else {
-            text.push_str(line)?;
+    let mut place = 0usize;
+    for section in sections {
+        for line in section.lines() {
+            place = place.saturating_add(1);
+            if place == number {
+                text.push_str(changed)?;
+            } else {
+                text.push_str(line)?;
+            }
+            text.push('\n')?;
         }
-        text.push('\n')?;
     }
     Ok(text)
 }

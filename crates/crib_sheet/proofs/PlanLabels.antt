@@ -54,9 +54,12 @@ is_plain bytes = list_all (other_than 58) bytes && (list_all (other_than 10) byt
 abbrev is_told : List Bool → Bool
 is_told set = pointwise beq (set_told (label set)) set && ((not (list_any (λ flag. flag) set) || is_begun (label set)) && is_plain (label set))
 
-all_told : (set : List Bool) → length set ≡ 14 → is_told set ≡ true
+every_told : every 14 is_told ≡ true
 unfolding label rank_words place_of
-all_told set long = every_at set is_told (rw long refl)
+every_told = refl
+
+all_told : (set : List Bool) → length set ≡ 14 → is_told set ≡ true
+all_told set long = every_at set is_told (ap (λ (count : ℕ). every count is_told) long ∙ every_told)
 
 begun : (set : List Bool) → length set ≡ 14 → (not (list_any (λ flag. flag) set) || is_begun (label set)) ≡ true
 begun set long = (and_parts _ _ (and_parts _ _ (all_told set long)).1).0

@@ -1,8 +1,14 @@
-use Rattle.std.proofs.Common.{rules, ◌≡◌, None, refl, arith}
+use Rattle.std.proofs.Common.{rules, ◌≡◌, ◌∙◌, ◌∷◌, ◌++◌, ◌*◌, ◌+◌, ◌-◌, ◌<◌, ℕ, List, [], false, length, length-append, None, refl, sym, ap, arith}
 use Rattle.std.proofs.lemmas.Bool.{both_ways}
+use denote.Enum.Bare.{sameb, same_true}
 use Rattle.crib_cards.specs.declared.letters.Letter.TheVariants.{Go}
+use Rattle.crib_play.specs.contracts.turns.Turn.{the_type}
+use Rattle.crib_play.specs.declared.turns.Turn.TheVariants as turns
+use Rattle.crib_play.specs.declared.turns.Turn.{Turn}
 use Rattle.crib_check.specs.Private.Histories.{as_event}
-use Rattle.crib_check.specs.Private.Walks.{HasWalked, IsKept, history_at}
+use Rattle.crib_check.specs.declared.trails.Event.{Event as TrailEvent}
+use Rattle.crib_check.specs.declared.trails.Event.TheVariants.{Own, Theirs}
+use Rattle.crib_check.specs.Private.Walks.{HasWalked, IsKept, MayWalk, history_at}
 use Rattle.crib_check.proofs.WalkSteps.{failed, gone_as, shown_next, stays}
 use Rattle.crib_check.proofs.TrailLengths.{trail_more, trail_back, trail_room}
 use Rattle.crib_check.proofs.FoundAtPosition.{own_found, theirs_found, found_from, one_more_settled}
@@ -12,6 +18,25 @@ use Rattle.crib_check.proofs.walk.Walk.+walk.Goals as goal
 use Rattle.crib_check.proofs.walk.Walk.+walk.Goals.{walk-then-eq-2, walk-else-eq-2}
 
 -- ---- at a position
+is_theirs : (turn : Turn) → sameb the_type turn turns.Over ≡ false → sameb the_type turn turns.Owner ≡ false → turn ≡ turns.Opponent
+is_theirs turns.Owner over owner = cc
+is_theirs turns.Opponent over owner = refl
+is_theirs turns.Over over owner = cc
+
+pub walk-over-requires : goal.walk-over-requires
+walk-over-requires g t c = record { over = sym c.turn-turn.ensures ∙ same_true the_type tt _ _ (sym c.eq.ensures ∙ c.if-eq.true); here = c.requires }
+
+pub walk-own_turn-requires : goal.walk-own_turn-requires
+walk-own_turn-requires g t c κs within =
+    let asked : c.args.key.now.know.round.asked ≡ turns.Owner = sym c.turn-turn.ensures ∙ same_true the_type tt _ _ (sym c.eq-2.ensures ∙ c.if-eq-2.true) in
+    (omega arith, (within.0, (within.1, (asked, c.requires))))
+
+pub walk-their_turn-requires : goal.walk-their_turn-requires
+walk-their_turn-requires g t c κs within =
+    let asked : c.args.key.now.know.round.asked ≡ turns.Opponent =
+    sym c.turn-turn.ensures ∙ is_theirs _ (sym c.eq.ensures ∙ c.if-eq.false) (sym c.eq-2.ensures ∙ c.if-eq-2.false) in
+    (omega arith, (within.0, (within.1, (asked, c.requires))))
+
 pub walk-returns-then-has : goal.walk-returns-then-has
 walk-returns-then-has g t c = stays c.requires.kept (rw c.requires.none (c.requires.kept.settled c.args.key.now (c.has.ensures c.if-has.true)))
 
@@ -29,6 +54,14 @@ walk-returns-then-is_none g t c =
     record { kept = assumption; back = walked.back; found = walked.found }
 
 -- ---- the owner's turn
+pub own_turn-take-requires : goal.own_turn-take-requires
+own_turn-take-requires g t c κs within =
+    let walk = c.args.self.now in
+    let next = rw c.copy-next.ensures at c.go_by_own.ensures in
+    let may : MayWalk g.T.Settled.holds walk c.go_by_own.new.key (as_event (Own c.in-Some.what) ∷ history_at walk) =
+    record { kept = c.requires.here.kept; none = c.requires.here.none; here = next walk.problem.now (history_at walk) c.requires.here.here } in
+    (omega arith, (within.0, (within.1, may)))
+
 pub own_turn-returns-in-Some : goal.own_turn-returns-in-Some
 own_turn-returns-in-Some g t c =
     gone_as c.take.ensures (own_found c.take.new.self.trail.items c.in-Some.what c.take.new.self.failure c.requires.here.here c.in-Some.ensures
@@ -63,9 +96,11 @@ they_show-go_by_theirs-requires g t c = rw c.copy-next.ensures (c.can_show.ensur
 
 pub they_show-take-requires : goal.they_show-take-requires
 they_show-take-requires g t c κs within =
+    let walk = c.args.self.now in
     let next = rw c.copy-next.ensures at c.go_by_theirs.ensures in
-    let here = next c.args.self.now.problem.now (history_at c.args.self.now) c.requires.here.here in
-    search (rules, here)
+    let may : MayWalk g.T.Settled.holds walk c.go_by_theirs.new.key (as_event (Theirs c.args.letter.now) ∷ history_at walk) =
+    record { kept = c.requires.here.kept; none = c.requires.here.none; here = next walk.problem.now (history_at walk) c.requires.here.here } in
+    (omega arith, (within.0, (within.1, may)))
 
 pub they_show-returns-then-can_show : goal.they_show-returns-then-can_show
 they_show-returns-then-can_show g t c =
@@ -78,6 +113,10 @@ they_show-returns-else-can_show g t c = stays c.requires.here.kept (λ below.
     absurd (both_ways _ c.if-can_show.false ((c.can_show.ensures.exact c.args.self.now.problem.now h stands.knows).1 can)))))
 
 -- ---- a turn
+falls_by_one : (before after : List TrailEvent) (event : TrailEvent) {t : ℕ} → after ≡ before ++ event ∷ [] → length before < 29 →
+    4 * (29 - length before) ≡ t → 4 * (29 - length after) + 3 < t
+falls_by_one before after event is room all = omega (arith, room, all, simp length-append at (ap length is))
+
 pub take-returns-then-ends_well : goal.take-returns-then-ends_well
 take-returns-then-ends_well g t c = stays (assumption) (rw c.requires.none (settled_over (c.ends_well.ensures.over c.if-ends_well.true)
     (λ history knows. all_reach knows (c.ends_well.ensures.reached c.if-ends_well.true history knows))))
@@ -93,8 +132,8 @@ take-walk-requires g t c κs within =
     let room = trail_room c.args.key.now.know walk.problem.now (as_event c.args.event) walk.trail.items c.requires.here.knows in
     let more = trail_more walk.problem.now walk.trail.items c.push.new.self.items c.args.event c.push.ensures.items in
     let kept : IsKept g.T.Settled.holds walk.problem.now walk.problem.now walk.plan.now walk.plan.now walk.table.now c.ends_well.new.shows = assumption in
-    let here = rw (← more) at c.requires.here in
-    search (rules, kept, here)
+    let falls = falls_by_one walk.trail.items c.push.new.self.items c.args.event c.push.ensures.items room c.decreases in
+    (falls, (within.0, (within.1, record { kept = kept; none = c.requires.none; here = rw (← more) at c.requires.here })))
 
 pub take-returns-then-is_none : goal.take-returns-then-is_none
 take-returns-then-is_none g t c =

@@ -1,4 +1,4 @@
-use Rattle.std.proofs.Common.{rules, refl, ◌≡◌, ◌*◌, ◌≤◌, ◌<◌, length, take, sym, arith}
+use Rattle.std.proofs.Common.{rules, refl, ◌≡◌, ◌*◌, ◌+◌, ◌≤◌, ◌<◌, ℕ, length, take, sym, arith}
 use Rattle.std.specs.List.{All}
 use Rattle.std.proofs.lemmas.Bool.{both_ways}
 use Rattle.std.proofs.lemmas.List.{length-take}
@@ -12,6 +12,16 @@ use Rattle.crib_check.proofs.JoinedDemands.{both, joined_as, joined_both, joined
 use Rattle.crib_check.proofs.JoinedDemands.{room_after}
 use Rattle.crib_check.proofs.beaten.plays.Plays.+demand.Goals as goal
 
+-- the measure falls with a turn, and the room is enough for what comes after
+fall : {before after t : ℕ} → after < before → 3 * before ≡ t → 3 * after + 2 < t
+fall less is = omega (arith, less, is)
+
+fall_more : {before after t : ℕ} → after < before → 3 * before + 1 ≡ t → 3 * after + 2 < t
+fall_more less is = omega (arith, less, is)
+
+rooms : {before after room : ℕ} (many : ℕ) → many * before ≤ room → after < before → (many ≤ room) × (many * after ≤ room)
+rooms many enough falls = (omega (arith, (room_after 0 enough falls (omega arith)).0), (room_after many enough falls (omega arith)).1)
+
 -- ---- the deal is done
 pub join_from-returns-in-Over : goal.join_from-returns-in-Over
 join_from-returns-in-Over g t c = joined_as (λ counts demand is. rw is (over_demand _ (sym c.in-Over.ensures) c.demand_at_end.ensures)) (c.join.ensures _)
@@ -23,7 +33,7 @@ join_by_own-returns-in_default g t c = joined_as (λ counts demand is. rw is (st
 pub join_by_own-join_from-requires : goal.join_by_own-join_from-requires
 join_by_own-join_from-requires g t c κs within =
     let next = goes_on c.requires.here (rw c.copy-next.ensures at c.go_by_own.ensures c.args.self.now.problem.now) in
-    search (rules, next.0, next.1, (room_after (length c.args.places.now) c.requires.room next.1 (omega arith)).1)
+    (fall_more next.1 c.decreases, (within, (c.requires.own, (next.0, (c.requires.places, (rooms (length c.args.places.now) c.requires.room next.1).1)))))
 
 pub join_by_own-returns : goal.join_by_own-returns
 join_by_own-returns g t c =
@@ -42,7 +52,7 @@ join_after-go_by_theirs-requires g t c = rw c.copy-next.ensures (c.can_show.ensu
 pub join_after-split_at_mut-left-requires : goal.join_after-split_at_mut-left-requires
 join_after-split_at_mut-left-requires g t c =
     let next = goes_on c.requires.here (rw c.copy-next.ensures at c.go_by_theirs.ensures c.args.self.now.problem.now) in
-    omega (arith, (room_after 0 c.requires.room next.1 (omega arith)).0)
+    (rooms (length c.args.places.now) c.requires.room next.1).0
 
 pub join_after-join_from-requires : goal.join_after-join_from-requires
 join_after-join_from-requires g t c κs within =
@@ -53,7 +63,7 @@ join_after-join_from-requires g t c κs within =
     omega (arith, length-take c.keep_places-count.result c.keep_places-count.new.left, c.keep_places-count.ensures.few) in
     let room : length left * turns_ahead c.go_by_theirs.new.key.know ≤ length c.split_at_mut-left.result.1.now =
     omega (arith, (room_after (length left) c.requires.room next.1 few).0, c.split_at_mut-left.ensures.back_len) in
-    search (rules, next.0, next.1, small, room)
+    (fall next.1 c.decreases, (within, (c.requires.own, (next.0, (small, room)))))
 
 pub join_after-returns-then-count-gt0-clause-joined : goal.join_after-returns-then-count-gt0-clause-joined
 join_after-returns-then-count-gt0-clause-joined g t c =

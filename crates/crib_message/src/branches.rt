@@ -1,8 +1,8 @@
 //! The branches of a see line, and what may be wrong with one.
 use crate::grammar::Slot;
 use crate::misfit::{BAD_LINE, BAD_NEXT, BAD_SET, number_cause};
-use crate::scene::{Scene, Word};
-use crate::sentence::{Hint, Sentence, Typed, tell};
+use crate::scene::{Scene, Word, is_blank, is_colon};
+use crate::sentence::{Hint, Sentence, tell, typed};
 use crate::spelling::is_word;
 use crib_input::Cause;
 use crib_text::read_number;
@@ -12,27 +12,27 @@ pub(crate) const LETTERS: &[u8; 14] = b"A23456789TJQKg";
 
 /// Returns why a branch does not fit, if it doesn't: for its letters first, then for its node.
 pub(crate) fn branch_cause(scene: &Scene<'_>, branch: &Word<'_>) -> Option<Cause> {
-    if branch.bytes.iter().filter(|byte| **byte == b':').count() != 1 {
+    if branch.bytes.split(is_colon).count() != 2 {
         return Some(BAD_LINE);
     }
     if branch_fault(scene, branch).is_some() {
         return Some(BAD_SET);
     }
     match target_of(branch) {
-        b"end" => Some(BAD_NEXT),
+        target if target == b"end".as_slice() => Some(BAD_NEXT),
         target => number_cause(scene, Slot::Target, read_number(target)),
     }
 }
 
 /// Returns what is wrong with the letters of a branch with one colon, or that an earlier branch has its node.
-pub(crate) fn branch_fault<'a>(scene: &Scene<'a>, branch: &Word<'a>) -> Hint {
+pub(crate) fn branch_fault(scene: &Scene<'_>, branch: &Word<'_>) -> Hint {
     let mut last = (' ', None);
     for byte in branch.letters() {
-        let (letter, place) = (char::from(*byte), place_of(*byte));
+        let (letter, place) = (char::from(*byte), place_of(Some(byte)));
         let (before, least) = last;
         match place {
             None => {
-                let (typed, hint) = (Typed(&[*byte]), letter_hint(branch, *byte));
+                let (typed, hint) = (typed(&[*byte]), letter_hint(branch, *byte));
                 return tell(format_args!("{typed} is none of the letters A23456789TJQKg; {hint}"));
             }
             _ if place == least => return tell(format_args!("{letter} stands in it twice")),
@@ -44,77 +44,69 @@ pub(crate) fn branch_fault<'a>(scene: &Scene<'a>, branch: &Word<'a>) -> Hint {
     }
     match branch.letters() {
         [] => tell("no letter stands before its colon"),
-        _ => fault_beside(scene, branch),
+        _ => repeated_letter(scene, branch).or(fault_beside(scene, branch)),
     }
 }
 
-// Returns what is wrong with a branch beside the branches before it.
-fn fault_beside<'a>(scene: &Scene<'a>, branch: &Word<'a>) -> Hint {
-    let fault = repeated_letter(scene, branch).or(out_of_order(scene, branch));
-    fault.or(same_node(scene, branch))
-}
-
-fn repeated_letter<'a>(scene: &Scene<'a>, branch: &Word<'a>) -> Hint {
+// Returns which letter of a branch is in a branch before it too.
+fn repeated_letter(scene: &Scene<'_>, branch: &Word<'_>) -> Hint {
     for byte in branch.letters() {
-        if let Some(old) = earlier(scene, branch, |old| old.letters().contains(byte)) {
-            let (letter, old) = (char::from(*byte), Typed(old.bytes));
-            return tell(format_args!("{letter} stood in the branch {old} already"));
+        for old in scene.text().split(is_blank).take(branch.index).skip(2) {
+            if Word::of(old).letters().contains(byte) {
+                let (letter, old) = (char::from(*byte), typed(old));
+                return tell(format_args!("{letter} stood in the branch {old} already"));
+            }
         }
     }
     None
 }
 
-fn out_of_order<'a>(scene: &Scene<'a>, branch: &Word<'a>) -> Hint {
-    let old = earlier(scene, branch, |old| first_place(old) > first_place(branch))?;
-    let old = Typed(old.bytes);
-    tell(format_args!("it belongs before {old}: branches are sorted by their first letters"))
+// Returns which branch before a branch belongs behind it, or else which one leads to its node.
+fn fault_beside(scene: &Scene<'_>, branch: &Word<'_>) -> Hint {
+    let mut same = None;
+    for word in scene.text().split(is_blank).take(branch.index).skip(2) {
+        let old = Word::of(word);
+        if place_of(old.letters().first()) > place_of(branch.letters().first()) {
+            let old = typed(word);
+            return tell(format_args!(
+                "it belongs before {old}: branches are sorted by their first letters"
+            ));
+        }
+        same = same.or(same_node(&old, branch));
+    }
+    same
 }
 
-fn same_node<'a>(scene: &Scene<'a>, branch: &Word<'a>) -> Hint {
+fn same_node(old: &Word<'_>, branch: &Word<'_>) -> Hint {
     let node = read_number(target_of(branch))?;
-    let old = earlier(scene, branch, |old| target_of(old) == target_of(branch))?;
-    let both = letters_of_both(&old, branch);
-    let old = Typed(old.bytes);
+    if target_of(old) != target_of(branch) {
+        return None;
+    }
+    let mut both = Sentence::of("");
+    for letter in LETTERS {
+        if old.letters().contains(letter) || branch.letters().contains(letter) {
+            both.add(char::from(*letter));
+        }
+    }
+    let old = typed(old.bytes);
     tell(format_args!(
         "the branch {old} leads to the same node; write both as one branch, \"{both}:{node}\""
     ))
 }
 
-fn letters_of_both(first: &Word<'_>, second: &Word<'_>) -> Sentence {
-    let mut both = Sentence::of("");
-    for letter in LETTERS {
-        if first.letters().contains(letter) || second.letters().contains(letter) {
-            both.add(char::from(*letter));
+fn place_of(letter: Option<&u8>) -> Option<usize> {
+    for (place, byte) in LETTERS.iter().enumerate() {
+        if letter == Some(byte) {
+            return Some(place);
         }
     }
-    both
-}
-
-// Returns the first of the branches before this one that passes a test.
-fn earlier<'a, F: Fn(&Word<'a>) -> bool>(
-    scene: &Scene<'a>,
-    branch: &Word<'a>,
-    passes: F,
-) -> Option<Word<'a>>
-    requires { F.IsAlwaysCallable passes }
-{
-    let words = scene.text().split(|byte| *byte == b' ');
-    words.take(branch.index).skip(2).map(Word::of).find(passes)
-}
-
-fn place_of(letter: u8) -> Option<usize> {
-    LETTERS.iter().position(|byte| *byte == letter)
-}
-
-fn first_place(branch: &Word<'_>) -> Option<usize> {
-    place_of(*branch.letters().first()?)
+    None
 }
 
 /// Returns the node of a branch, or none.
 pub(crate) fn target_of<'a>(branch: &Word<'a>) -> &'a [u8] {
-    branch
-        .target()
-        .map_or(b"".as_slice(), |target| target.bytes)
+    let from = branch.letters().len().saturating_add(1);
+    branch.bytes.get(from..).unwrap_or(b"")
 }
 
 // Returns what to write in place of a letter that no branch has.
@@ -128,7 +120,7 @@ fn letter_hint(branch: &Word<'_>, letter: u8) -> &'static str {
         b'G' => "a go is a small g alone",
         b'o' | b'O' if is_word(letters, b"go") => "a go is a small g alone",
         b'0' | b'1' => "a ten is T, and an ace A",
-        _ if letters.iter().any(|byte| is_of_no_card(*byte)) => "write each rank by its letter",
+        _ if letters.iter().any(is_of_no_card) => "write each rank by its letter",
         b'a' | b't' | b'j' | b'q' | b'k' => "a rank is a capital",
         _ if letter.is_ascii_alphanumeric() => "a branch has ranks and no suits",
         _ => "write each letter, with no sign between two, as in A23:1",
@@ -137,10 +129,15 @@ fn letter_hint(branch: &Word<'_>, letter: u8) -> &'static str {
 
 /// Whether a word is some letters of branches.
 pub(crate) fn are_letters(word: &[u8]) -> bool {
-    !word.is_empty() && word.iter().all(|byte| place_of(*byte).is_some())
+    for byte in word {
+        if !LETTERS.contains(byte) {
+            return false;
+        }
+    }
+    !word.is_empty()
 }
 
 // Whether a byte is a letter that names neither a rank nor a suit nor a go, in small letters or in capitals.
-fn is_of_no_card(byte: u8) -> bool {
+fn is_of_no_card(byte: &u8) -> bool {
     byte.is_ascii_alphabetic() && !b"ATJQKGCDHS".contains(&byte.to_ascii_uppercase())
 }

@@ -1,21 +1,23 @@
 //! Bytes that no text has.
+use crate::excerpt::is_plain;
 use crate::explained::{Explained, said};
 use crate::scene::{Mark, Scene};
-use crate::sentence::{Sentence, Typed, tell};
+use crate::sentence::{Sentence, tell, typed};
 use crib_text::TextCause;
 
 /// Explains a line with a byte that is neither LF nor 32 to 126. Returns nothing if there is no such byte.
 pub(crate) fn bad_byte(scene: &Scene<'_>) -> Option<Explained> {
     let line = scene.text();
-    let from = line.iter().position(|byte| !matches!(*byte, 32..=126))?;
+    let from = line.iter().position(is_strange)?;
     let rest = line.get(from..)?;
-    let bytes = character(rest)?;
+    let bytes = rest.get(..character_len(rest)).or(rest.get(..1))?;
     let file = file_hint(scene);
-    let found = match (file, rest) {
-        (None, [b'\r']) => Sentence::of("a Windows line end (CR)"),
-        (None, [b'\r', ..]) => Sentence::of("a carriage return (CR)"),
-        (None, [b'\t', ..]) => Sentence::of("a tab"),
-        _ => Sentence::of(Typed(bytes)),
+    let found = match rest {
+        _ if file.is_some() => typed(bytes),
+        [b'\r'] => Sentence::of("a Windows line end (CR)"),
+        [b'\r', ..] => Sentence::of("a carriage return (CR)"),
+        [b'\t', ..] => Sentence::of("a tab"),
+        _ => typed(bytes),
     };
     let mark = Some(Mark::of(from, bytes.len()));
     let hint = tell(file.unwrap_or(byte_hint(rest)));
@@ -23,27 +25,30 @@ pub(crate) fn bad_byte(scene: &Scene<'_>) -> Option<Explained> {
     Some(said(text, mark, hint))
 }
 
-// Returns the bytes of the first character: one byte, or those of a sign in UTF-8.
-fn character(rest: &[u8]) -> Option<&[u8]> {
-    let length = match *rest.first()? {
-        0xC2..=0xDF => 2,
-        0xE0..=0xEF => 3,
-        0xF0..=0xF4 => 4,
-        _ => 1,
-    };
-    let sign = rest.get(..length).filter(|sign| is_continued(sign));
-    sign.or(rest.get(..1))
+// Whether a byte is neither LF nor 32 to 126.
+fn is_strange(byte: &u8) -> bool {
+    !is_plain(*byte)
 }
 
-// Whether each byte but the first goes on with a sign in UTF-8.
-fn is_continued(sign: &[u8]) -> bool {
-    sign.iter().skip(1).all(|byte| matches!(*byte, 0x80..=0xBF))
+// Returns the number of bytes of the first character: one byte, or a sign in UTF-8.
+fn character_len(rest: &[u8]) -> usize {
+    let len = match rest {
+        [0xC2..=0xDF, ..] => 2,
+        [0xE0..=0xEF, ..] => 3,
+        [0xF0..=0xF4, ..] => 4,
+        _ => 1,
+    };
+    for byte in rest.iter().take(len).skip(1) {
+        if !(0x80..=0xBF).contains(byte) {
+            return 1;
+        }
+    }
+    len
 }
 
 // Returns the hint for a file that is no plain text: the marks with which it may begin, or three bytes that no text
 // file has.
 fn file_hint(scene: &Scene<'_>) -> Option<&'static str> {
-    let is_control = |byte: &&u8| matches!(**byte, 0..=8 | 14..=26 | 28..=31);
     let controls = scene.input.iter().take(512).filter(is_control).count();
     match (scene.number, scene.text()) {
         (1, [0xEF, 0xBB, 0xBF, ..]) => {
@@ -54,6 +59,10 @@ fn file_hint(scene: &Scene<'_>) -> Option<&'static str> {
         }
         _ => (controls >= 3).then_some("The input is no text."),
     }
+}
+
+fn is_control(byte: &&u8) -> bool {
+    matches!(**byte, 0..=8 | 14..=26 | 28..=31)
 }
 
 fn byte_hint(rest: &[u8]) -> &'static str {

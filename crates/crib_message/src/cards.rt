@@ -22,37 +22,16 @@ const CAPITALS: &str = "Write a card in capital letters: ";
 
 /// Returns the hint for a word that should be a card, if it is like one.
 pub(crate) fn card_hint(word: &[u8]) -> Hint {
-    match read_card(word) {
-        Some(_) => None,
-        None => spelled_hint(word).or(ranked(word)),
-    }
-}
-
-// A rank or a suit alone, both in another spelling, or more signs than two.
-fn spelled_hint(word: &[u8]) -> Hint {
-    match word {
-        b"10" => meant(TEN, b'T', b'S'),
-        [letter] => either((NO_SUIT, *letter, b'S'), (NO_RANK, b'T', *letter)),
-        [first, last] => either((CAPITALS, *first, *last), (RANK_FIRST, *last, *first)),
-        _ => signs_hint(word),
-    }
-}
-
-// One sign more than a card has, or two cards.
-fn signs_hint(word: &[u8]) -> Hint {
-    if let [rank, suit] = bare(word) {
-        return meant(NO_SIGN, *rank, *suit);
-    }
-    match word {
-        [rank, sign, suit] if !sign.is_ascii_alphanumeric() => meant(NO_SIGN, *rank, *suit),
+    let hint = match (word, bare(word)) {
+        _ if read_card(word).is_some() => return None,
+        ([b'1', b'0'], _) => meant(TEN, b'T', b'S'),
+        ([letter], _) => meant(NO_SUIT, *letter, b'S').or(meant(NO_RANK, b'T', *letter)),
+        ([first, last], _) => meant(CAPITALS, *first, *last).or(meant(RANK_FIRST, *last, *first)),
+        (_, [rank, suit]) => meant(NO_SIGN, *rank, *suit),
+        ([rank, sign, suit], _) if !sign.is_ascii_alphanumeric() => meant(NO_SIGN, *rank, *suit),
         _ => apart(word),
-    }
-}
-
-// Returns the first of two hints whose rank and suit are a card.
-fn either(first: (&str, u8, u8), second: (&str, u8, u8)) -> Hint {
-    let hint = meant(first.0, first.1, first.2);
-    hint.or(meant(second.0, second.1, second.2))
+    };
+    hint.or(ranked(word))
 }
 
 /// Returns the card of a rank and a suit, in small letters or in capitals.

@@ -5,8 +5,8 @@ use crate::grammar::{Row, Slot};
 use crate::hints::hint_of;
 use crate::misfit::{BAD_CARD, BAD_LINE, BAD_NEXT, BAD_SET, SAME_CARD, earlier_line, first_misfit};
 use crate::order::{NEEDS_PLAYED, count_hint, order_hint, sections_hint};
-use crate::scene::{Mark, Scene, Word};
-use crate::sentence::{Hint, Sentence, Typed, named, tell};
+use crate::scene::{Mark, Scene, Word, is_blank};
+use crate::sentence::{Hint, Sentence, named, tell, typed};
 use crate::turns::explain_turn;
 use crib_cards::read_card;
 use crib_input::Cause;
@@ -60,29 +60,25 @@ pub(crate) fn said<T: Display + Drop>(text: T, mark: Option<Mark>, hint: Hint) -
 
 // Explains an input that is cut short: its last line has no LF, or a line is missing.
 fn cut_short(scene: &Scene<'_>) -> Explained {
-    if scene.input.is_empty() || scene.input.ends_with(b"\n") {
-        let pattern = scene.pattern();
-        let text = format_args!("the input ends here; expected: {pattern}");
-        return said(text, None, end_hint(scene));
+    if !scene.input.is_empty() && !scene.input.ends_with(b"\n") {
+        let mark = Some(Mark::of(scene.text().len(), 1));
+        let hint = tell("Every line ends with LF, the last one too: press Enter behind it.");
+        let text = "the last line is cut short; expected: LF at its end";
+        return said(text, mark, hint);
     }
-    let mark = Some(Mark::of(scene.text().len(), 1));
-    let hint = tell("Every line ends with LF, the last one too: press Enter behind it.");
-    said(
-        "the last line is cut short; expected: LF at its end",
-        mark,
-        hint,
-    )
-}
-
-// Returns the hint for an input that ends before this row.
-fn end_hint(scene: &Scene<'_>) -> Hint {
-    match scene.row {
+    let hint = match scene.row {
         _ if scene.input.is_empty() => tell("The input is empty."),
         Row::Act | Row::Node => count_hint(scene),
         Row::Played => tell(NEEDS_PLAYED),
         Row::Plan | Row::Game => Some(sections_hint(scene.sections)),
         _ => None,
-    }
+    };
+    let pattern = scene.pattern();
+    said(
+        format_args!("the input ends here; expected: {pattern}"),
+        None,
+        hint,
+    )
 }
 
 // Explains a line behind the last section, or one with a word that does not fit or with too few words.
@@ -95,7 +91,7 @@ fn bad_line(scene: &Scene<'_>, cause: Cause) -> Option<Explained> {
         return Some(said(text, None, tell("Remove the empty line.")));
     }
     if is_behind {
-        let typed = Typed(first.bytes);
+        let typed = typed(first.bytes);
         let text = format_args!("{typed} is {cause}; expected: {pattern}");
         return Some(said(text, first.mark(), order_hint(scene)));
     }
@@ -110,13 +106,16 @@ fn bad_line(scene: &Scene<'_>, cause: Cause) -> Option<Explained> {
 // Returns a blank at an end of a line, or of two blanks side by side the second, and its place.
 fn blank(scene: &Scene<'_>) -> Option<(&'static str, usize)> {
     let line = scene.text();
-    let last = line.len().saturating_sub(1);
-    match line.windows(2).position(|two| two == b"  ".as_slice()) {
-        _ if line.starts_with(b" ") => Some(("a blank at the beginning of a line", 0)),
-        Some(at) => Some(("a second blank", at.saturating_add(1))),
-        None if line.ends_with(b" ") => Some(("a blank at the end of a line", last)),
-        None => None,
+    let mut from = 0usize;
+    for word in line.split(is_blank) {
+        match word.is_empty() {
+            true if from == 0 => return Some(("a blank at the beginning of a line", 0)),
+            true if from < line.len() => return Some(("a second blank", from)),
+            true => return Some(("a blank at the end of a line", from.saturating_sub(1))),
+            false => from = from.saturating_add(word.len()).saturating_add(1),
+        }
     }
+    None
 }
 
 // Explains a word that does not fit, or the end of a line with too few words.
@@ -127,7 +126,7 @@ fn bad_word(scene: &Scene<'_>, cause: Cause) -> Option<Explained> {
         Some(node) if is_node && !node.bytes.is_empty() => node,
         _ => misfit.word,
     };
-    let typed = Typed(word.bytes);
+    let typed = typed(word.bytes);
     let (why, hint) = match cause {
         SAME_CARD => return same_card(scene, &word),
         BAD_SET => (branch_fault(scene, &word)?, None),
@@ -145,13 +144,16 @@ fn bad_word(scene: &Scene<'_>, cause: Cause) -> Option<Explained> {
 // Explains a card of a problem that is already used.
 fn same_card(scene: &Scene<'_>, card: &Word<'_>) -> Option<Explained> {
     let name = named(read_card(card.bytes)?);
-    let text = match earlier_line(scene, card)? {
-        line if line == scene.number => Sentence::of(format_args!(
-            "{name} is {SAME_CARD} on this line"
-        )),
-        line => Sentence::of(format_args!("{name} is {SAME_CARD}, on line {line}")),
+    let line = earlier_line(scene, card)?;
+    let place = match line == scene.number {
+        true => Sentence::of(" on this line"),
+        false => Sentence::of(format_args!(", on line {line}")),
     };
-    Some(said(text, card.mark(), None))
+    Some(said(
+        format_args!("{name} is {SAME_CARD}{place}"),
+        card.mark(),
+        None,
+    ))
 }
 
 // Returns what is expected in place of a misfit.
@@ -160,12 +162,12 @@ fn wanted_at(scene: &Scene<'_>, slot: Slot, cause: Cause, has_hint: bool) -> Sen
     let (own, left) = (scene.node(), scene.holes_left());
     let score = 121u32.saturating_sub(left);
     let words = words_at(scene, slot, cause);
-    match (slot, cause) {
-        (_, BAD_CARD) if has_hint => Sentence::of(""),
-        (Slot::Own, _) if is_number => Sentence::of(format_args!(
+    match slot {
+        _ if has_hint && cause == BAD_CARD => Sentence::of(""),
+        Slot::Own if is_number => Sentence::of(format_args!(
             "; expected: {own}, the number of this node"
         )),
-        (Slot::Holes, _) => Sentence::of(format_args!(
+        Slot::Holes => Sentence::of(format_args!(
             "; expected: 1 to {left}, what is left from {score} to hole 121"
         )),
         _ => Sentence::of(format_args!("; expected: {words}")),
@@ -174,18 +176,19 @@ fn wanted_at(scene: &Scene<'_>, slot: Slot, cause: Cause, has_hint: bool) -> Sen
 
 // Returns the words for what is expected in place of a misfit.
 fn words_at(scene: &Scene<'_>, slot: Slot, cause: Cause) -> &'static str {
-    match (slot, cause) {
-        (Slot::Move, BAD_CARD) => "go, or a card such as TS",
-        (_, BAD_CARD) => "a rank of A23456789TJQK and then a suit of CDHS, such as TS",
-        (Slot::Branch, BAD_LINE) => "letters, one colon and a later node, such as A23:1",
-        (Slot::Branch, _) => "the number of a later node behind the colon",
-        (Slot::Many, Cause::Plan(_)) => "the number of nodes, 0 to 65535",
-        (Slot::Target, _) => "the number of a later node, or end",
-        (Slot::Stated, _) => "a card, and then a later node or end",
-        (Slot::Extra, _) if scene.row == Row::Node =>
+    let (is_card, is_form) = (cause == BAD_CARD, cause == BAD_LINE);
+    match slot {
+        Slot::Move if is_card => "go, or a card such as TS",
+        _ if is_card => "a rank of A23456789TJQK and then a suit of CDHS, such as TS",
+        Slot::Branch if is_form => "letters, one colon and a later node, such as A23:1",
+        Slot::Branch => "the number of a later node behind the colon",
+        Slot::Many if matches!(cause, Cause::Plan(_)) => "the number of nodes, 0 to 65535",
+        Slot::Target => "the number of a later node, or end",
+        Slot::Stated => "a card, and then a later node or end",
+        Slot::Extra if scene.row == Row::Node =>
             "the end of the line, since a play node has a card and one later node or end",
-        (Slot::Points, cause) if cause != BAD_LINE => "a number from 0 to 120",
-        (Slot::Count, cause) if cause != BAD_LINE => "a number from 0 to 32",
+        Slot::Points if !is_form => "a number from 0 to 120",
+        Slot::Count if !is_form => "a number from 0 to 32",
         _ => scene.pattern(),
     }
 }

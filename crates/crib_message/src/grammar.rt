@@ -94,22 +94,22 @@ impl Row {
 
     /// Returns what is at the word with this index, from 0, of a line with this second word.
     pub(crate) fn slot(self, second: &[u8], index: usize) -> Slot {
-        let slots: &[Slot] = match (self, second) {
-            (Problem | Plan | Game, _) => &[Keyword, Version],
-            (Dealer, _) => &[Keyword, Side],
-            (Score, _) => &[Keyword, Points, Points],
-            (Starter, _) => &[Keyword, Card],
-            (Hold, _) => &[Keyword, Card, Card, Card, Card],
-            (Throw, _) => &[Keyword, Card, Card],
-            (Goal, b"holes") => &[Keyword, Aim, Holes],
-            (Goal, _) => &[Keyword, Aim],
-            (Played | Acts, _) => &[Keyword, Count],
-            (Nodes, _) => &[Keyword, Many],
-            (Node, b"play") => &[Own, Kind, Stated, Target],
-            (Node, b"see") if index > 1 => return Branch,
-            (Node, _) => &[Own, Kind],
-            (Act, _) => &[Actor, Move],
-            (End, _) => &[],
+        let slots: &[Slot] = match self {
+            Problem | Plan | Game => &[Keyword, Version],
+            Dealer => &[Keyword, Side],
+            Score => &[Keyword, Points, Points],
+            Starter => &[Keyword, Card],
+            Hold => &[Keyword, Card, Card, Card, Card],
+            Throw => &[Keyword, Card, Card],
+            Goal if second == b"holes".as_slice() => &[Keyword, Aim, Holes],
+            Goal => &[Keyword, Aim],
+            Played | Acts => &[Keyword, Count],
+            Nodes => &[Keyword, Many],
+            Node if second == b"play".as_slice() => &[Own, Kind, Stated, Target],
+            Node if second == b"see".as_slice() && index > 1 => return Branch,
+            Node => &[Own, Kind],
+            Act => &[Actor, Move],
+            End => &[],
         };
         slots.get(index).copied().unwrap_or(Extra)
     }
@@ -124,9 +124,12 @@ impl Row {
 
     /// Returns the line with this keyword.
     pub(crate) fn of_keyword(word: &[u8]) -> Option<Row> {
-        KEYWORDS
-            .into_iter()
-            .find(|row| row.keyword().as_bytes() == word)
+        for row in KEYWORDS {
+            if row.keyword().as_bytes() == word {
+                return Some(row);
+            }
+        }
+        None
     }
 
     /// Whether cards are behind the keyword.

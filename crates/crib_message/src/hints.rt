@@ -4,9 +4,9 @@ use crate::cards::{card_hint, card_meant, is_like_card, suitless};
 use crate::grammar::{Row, Slot};
 use crate::misfit::{BAD_LINE, Misfit};
 use crate::order::{COMMENT, is_act, is_comment, is_node, order_hint};
-use crate::scene::{Scene, Word};
+use crate::scene::{Scene, Word, is_blank};
 use crate::sentence::{Hint, tell};
-use crate::spelling::{bare, is_word, number_hint, two_numbers_hint, word_hint};
+use crate::spelling::{bare, is_either, is_word, number_hint, two_numbers_hint, word_hint};
 use crib_cards::read_card;
 use crib_input::Cause;
 use crib_text::read_number;
@@ -45,35 +45,37 @@ pub(crate) fn hint_of(scene: &Scene<'_>, misfit: &Misfit<'_>, cause: Cause) -> H
         (Slot::Points, b"121") if cause != BAD_LINE => tell("The game is over at 121."),
         (Slot::Points, word) if scene.word_count() < 3 && two_numbers_hint(word).is_some() =>
             two_numbers_hint(word),
-        (_, word) if cause == BAD_LINE && !word.iter().any(|byte| byte.is_ascii_digit()) => None,
+        (_, word) if cause == BAD_LINE && !word.iter().any(u8::is_ascii_digit) => None,
         (_, word) => number_hint(word),
     }
 }
 
 // A word behind the last one of its line.
 fn extra_hint(scene: &Scene<'_>, word: &[u8]) -> Hint {
-    tell(match (word, Row::of_keyword(word)) {
-        (_, Some(row)) => {
-            let keyword = row.keyword();
-            return tell(format_args!("Begin a new line at the word {keyword}."));
-        }
-        (b"own" | b"opp", _) => ACT_A_LINE,
+    if let Some(row) = Row::of_keyword(word) {
+        let keyword = row.keyword();
+        return tell(format_args!("Begin a new line at the word {keyword}."));
+    }
+    tell(match scene.row {
+        _ if is_either(word, b"own", b"opp") => ACT_A_LINE,
         _ if is_comment(word) => COMMENT,
-        _ if scene.row == Row::Goal && read_number(word).is_some() =>
-            "Only goal holes has a number behind it.",
+        Row::Goal if read_number(word).is_some() => "Only goal holes has a number behind it.",
         _ => return cards_hint(scene),
     })
 }
 
 // Returns how many cards the line has, if each word behind its keyword is one.
 fn cards_hint(scene: &Scene<'_>) -> Hint {
-    let mut words = scene.text().split(|byte| *byte == b' ').skip(1);
-    if !scene.row.has_cards() || !words.all(|word| read_card(word).is_some()) {
+    let mut has_cards = scene.row.has_cards();
+    for word in scene.text().split(is_blank).skip(1) {
+        has_cards = has_cards && read_card(word).is_some();
+    }
+    if !has_cards {
         return None;
     }
     let cards = scene.word_count().saturating_sub(1);
-    let more = match (scene.row, cards) {
-        (Row::Hold, 6) => ": hold has four, and throw has the other two",
+    let more = match scene.row {
+        Row::Hold if cards == 6 => ": hold has four, and throw has the other two",
         _ => "",
     };
     tell(format_args!("The number of cards here is {cards}{more}."))
@@ -89,27 +91,31 @@ fn keyword_hint(scene: &Scene<'_>, word: &[u8]) -> Hint {
 }
 
 fn aim_hint(word: &[u8]) -> Hint {
-    tell(match (word, read_number(bare(word))) {
-        (b"stop", _) =>
+    tell(match read_number(bare(word)) {
+        Some(number @ 1..) => return tell(format_args!("Write goal holes {number}.")),
+        None if word == b"stop".as_slice() =>
             "The goal stop needs problem 2 on line 1, and a line played 0 behind the goal.",
-        (b"holes", _) | (_, Some(0)) => "Write goal holes and the number of holes.",
-        (_, Some(number)) => return tell(format_args!("Write goal holes {number}.")),
-        _ => return word_hint(word, &["win", "holes", "stop"]),
+        None if word != b"holes".as_slice() => return word_hint(word, &["win", "holes", "stop"]),
+        _ => "Write goal holes and the number of holes.",
     })
 }
 
 // Whether a word is one of these, with signs around it or not.
 fn is_among(word: &[u8], words: &str) -> bool {
-    let mut words = words.split(' ');
-    words.any(|one| is_word(bare(word), one.as_bytes()))
+    for one in words.split(' ') {
+        if is_word(bare(word), one.as_bytes()) {
+            return true;
+        }
+    }
+    false
 }
 
 fn actor_hint(scene: &Scene<'_>, word: &[u8]) -> Hint {
     let near = word_hint(word, &["own", "opp"]);
-    let is_number = read_number(bare(word)).is_some();
-    tell(match scene.word(1) {
+    tell(match read_number(bare(word)) {
         _ if is_comment(word) => COMMENT,
-        b"own" | b"opp" if is_number => "Write no number in front of an act.",
+        Some(_) if is_either(scene.word(1), b"own", b"opp") =>
+            "Write no number in front of an act.",
         _ if is_word(word, b"go") || read_card(word).is_some() =>
             "Write whose act it is in front: own or opp.",
         _ if near.is_some() => return near,
@@ -134,13 +140,15 @@ fn move_hint(scene: &Scene<'_>, misfit: &Misfit<'_>) -> Hint {
     let Word { bytes, index, .. } = misfit.word;
     let is_target = read_number(bytes).is_some() || bytes == b"end".as_slice();
     let next = scene.word(index.saturating_add(1));
-    tell(match (misfit.slot, bytes, next) {
-        (Slot::Move, _, _) if is_among(bytes, GOES) => "Write a go as go.",
-        _ if is_among(bytes, GOES) => "A plan states no go of the owner: leave this node out.",
-        (Slot::Stated, _, _) if is_target && is_like_card(next) =>
+    let is_stated = misfit.slot == Slot::Stated;
+    tell(match (bytes, next) {
+        _ if is_among(bytes, GOES) && is_stated =>
+            "A plan states no go of the owner: leave this node out.",
+        _ if is_among(bytes, GOES) => "Write a go as go.",
+        _ if is_stated && is_target && is_like_card(next) =>
             "Write the card in front of the node to go on at: 0 play 2C 1.",
-        (_, b"own" | b"opp", _) => ACT_A_LINE,
-        (_, [rank], [suit]) if card_meant(*rank, *suit).is_some() => ONE_CARD,
+        _ if is_either(bytes, b"own", b"opp") => ACT_A_LINE,
+        ([rank], [suit]) if card_meant(*rank, *suit).is_some() => ONE_CARD,
         _ => return suitless(bytes).or(card_hint(bytes)),
     })
 }
@@ -174,7 +182,7 @@ fn branch_hint(scene: &Scene<'_>, branch: &Word<'_>, cause: Cause) -> Hint {
 
 // Whether a word is a name: letters alone, and not only one, which may be a mistyped digit.
 fn is_name(word: &[u8]) -> bool {
-    word.len() > 1 && word.iter().all(|byte| byte.is_ascii_alphabetic())
+    word.len() > 1 && word.iter().all(u8::is_ascii_alphabetic)
 }
 
 // The node behind the card of a play node.

@@ -1,7 +1,8 @@
 //! The first word of a line that does not fit the grammar.
 use crate::branches::branch_cause;
 use crate::grammar::{Row, Slot};
-use crate::scene::{Scene, Section, Word, line_at, word_in};
+use crate::scene::{Scene, Section, Word, is_blank, line_at, word_in};
+use crate::spelling::is_either;
 use crib_cards::read_card;
 use crib_input::Cause;
 use crib_plan::PlanCause;
@@ -32,7 +33,7 @@ pub(crate) struct Misfit<'a> {
 /// this is the first word that no line of its form has there.
 pub(crate) fn first_misfit<'a>(scene: &Scene<'a>, cause: Cause) -> Option<Misfit<'a>> {
     let mut from = 0usize;
-    for (index, bytes) in scene.text().split(|byte| *byte == b' ').enumerate() {
+    for (index, bytes) in scene.text().split(is_blank).enumerate() {
         let word = Word { bytes, index, from };
         let slot = scene.slot(index);
         if let Some(found) = refusal(scene, slot, &word)
@@ -58,7 +59,8 @@ fn refusal(scene: &Scene<'_>, slot: Slot, word: &Word<'_>) -> Option<Cause> {
         Slot::Branch => branch_cause(scene, word),
         Slot::Move if word.bytes == b"go".as_slice() => None,
         Slot::Target if word.bytes == b"end".as_slice() => None,
-        Slot::Card | Slot::Stated | Slot::Move => card_cause(scene, word),
+        Slot::Card | Slot::Stated | Slot::Move if read_card(word.bytes).is_none() => Some(BAD_CARD),
+        Slot::Card | Slot::Stated | Slot::Move => earlier_line(scene, word).and(Some(SAME_CARD)),
         Slot::Keyword | Slot::Aim | Slot::Side | Slot::Kind | Slot::Actor | Slot::Extra =>
             (!is_fitting(scene, slot, word.bytes)).then_some(BAD_LINE),
         _ => number_cause(scene, slot, read_number(word.bytes)),
@@ -69,32 +71,13 @@ fn refusal(scene: &Scene<'_>, slot: Slot, word: &Word<'_>) -> Option<Cause> {
 fn is_fitting(scene: &Scene<'_>, slot: Slot, word: &[u8]) -> bool {
     match slot {
         Slot::Keyword => word == scene.row.keyword().as_bytes(),
-        Slot::Aim => is_aim(scene, word),
-        Slot::Side => is_one_of(word, "owner opponent"),
-        Slot::Kind => is_one_of(word, "play see"),
-        Slot::Actor => is_one_of(word, "own opp"),
+        Slot::Aim if word == b"stop".as_slice() => scene.is_second(),
+        Slot::Aim if !scene.word(2).is_empty() => is_either(word, b"win", b"holes"),
+        Slot::Aim => word == b"win".as_slice(),
+        Slot::Side => is_either(word, b"owner", b"opponent"),
+        Slot::Kind => is_either(word, b"play", b"see"),
+        Slot::Actor => is_either(word, b"own", b"opp"),
         _ => false,
-    }
-}
-
-// Whether a word is one of these.
-fn is_one_of(word: &[u8], words: &str) -> bool {
-    words.split(' ').any(|one| word == one.as_bytes())
-}
-
-fn is_aim(scene: &Scene<'_>, word: &[u8]) -> bool {
-    match word {
-        b"holes" => !scene.word(2).is_empty(),
-        b"stop" => scene.is_second(),
-        _ => word == b"win".as_slice(),
-    }
-}
-
-// Returns why a word is no card, or no other card than those before it.
-fn card_cause(scene: &Scene<'_>, word: &Word<'_>) -> Option<Cause> {
-    match read_card(word.bytes) {
-        Some(_) => earlier_line(scene, word).map(|_| SAME_CARD),
-        None => Some(BAD_CARD),
     }
 }
 
@@ -103,12 +86,16 @@ pub(crate) fn earlier_line(scene: &Scene<'_>, card: &Word<'_>) -> Option<u32> {
     if scene.place.section != Section::Problem || !scene.row.has_cards() {
         return None;
     }
-    (1..=scene.number).find(|number| {
-        let line = line_at(scene.input, *number).unwrap_or(b"");
-        (1..5).any(|index| {
-            (*number < scene.number || index < card.index) && word_in(line, index) == card.bytes
-        })
-    })
+    for number in 1..=scene.number {
+        let line = line_at(scene.input, number).unwrap_or(b"");
+        let end = if number < scene.number { 5 } else { card.index };
+        for index in 1..end {
+            if word_in(line, index) == card.bytes {
+                return Some(number);
+            }
+        }
+    }
+    None
 }
 
 /// Returns why a number does not fit its slot, if it doesn't.

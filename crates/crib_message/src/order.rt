@@ -1,8 +1,8 @@
 //! The order of lines and sections, and how many lines are announced.
 use crate::grammar::Row;
-use crate::scene::{Scene, Section, word_in};
+use crate::scene::{Scene, Section, is_line_feed, word_in};
 use crate::sentence::{Hint, Sentence, tell};
-use crate::spelling::is_word;
+use crate::spelling::{is_either, is_word};
 use crib_input::Sections;
 use crib_text::read_number;
 
@@ -10,8 +10,6 @@ pub(crate) const COMMENT: &str = "Comments are not allowed.";
 
 pub(crate) const NEEDS_PLAYED: &str =
     "In a problem 2 the line played follows the goal; at the first lead it is played 0.";
-
-const FIRST: &str = "The problem comes first.";
 
 /// Whether a line looks like an act or a turn.
 pub(crate) fn is_act(line: &[u8]) -> bool {
@@ -36,7 +34,7 @@ pub(crate) fn is_comment(word: &[u8]) -> bool {
 pub(crate) fn count_hint(scene: &Scene<'_>) -> Hint {
     let (row, line, count) = announced(scene)?;
     let above = scene.number.saturating_sub(1).saturating_sub(line);
-    let found = above.saturating_add(items_from(scene, row)?);
+    let found = above.saturating_add(items_from(scene, row));
     if count == found {
         return None;
     }
@@ -48,7 +46,7 @@ pub(crate) fn count_hint(scene: &Scene<'_>) -> Hint {
 
 // Returns the last row above the refused line that announces lines, the number of its line, and how many it announces.
 fn announced(scene: &Scene<'_>) -> Option<(Row, u32, u32)> {
-    let lines = scene.input.split(|byte| *byte == b'\n');
+    let lines = scene.input.split(is_line_feed);
     let mut announced = None;
     for (line, number) in lines.zip(1..scene.number) {
         let row = Row::of_keyword(word_in(line, 0));
@@ -60,14 +58,21 @@ fn announced(scene: &Scene<'_>) -> Option<(Row, u32, u32)> {
 }
 
 // Returns how many lines of a row follow each other from the refused line on.
-fn items_from(scene: &Scene<'_>, row: Row) -> Option<u32> {
-    let lines = scene.input.split(|byte| *byte == b'\n');
-    let rest = lines.skip(scene.number.saturating_sub(1) as usize);
-    let items = rest.take_while(|line| match row {
-        Row::Nodes => is_node(line),
-        _ => is_act(line),
-    });
-    u32::try_from(items.count()).ok()
+fn items_from(scene: &Scene<'_>, row: Row) -> u32 {
+    let above = scene.number.saturating_sub(1) as usize;
+    let mut items = 0u32;
+    for line in scene.input.split(is_line_feed).skip(above) {
+        let is_item = if row == Row::Nodes {
+            is_node(line)
+        } else {
+            is_act(line)
+        };
+        if !is_item {
+            break;
+        }
+        items = items.saturating_add(1);
+    }
+    items
 }
 
 /// Returns the hint for a line that is another one than was expected.
@@ -88,52 +93,26 @@ pub(crate) fn order_hint(scene: &Scene<'_>) -> Hint {
 
 // A line in place of the first line of a section, or behind the last section.
 fn header_hint(scene: &Scene<'_>, row: Option<Row>) -> Hint {
-    match header_text(scene, row) {
-        Some(text) => count_hint(scene).or(tell(text)),
-        None => moved_hint(scene, row),
-    }
-}
-
-// Returns what to do with a line of another section, or with one that is no line of an input.
-fn header_text(scene: &Scene<'_>, row: Option<Row>) -> Option<&'static str> {
-    let is_opening = row == Some(Row::Played) || is_act(scene.text());
-    match (scene.row, row) {
-        (_, None) if answer_text(scene).is_some() => answer_text(scene),
-        (Row::Problem, Some(Row::Plan | Row::Game)) => Some(FIRST),
-        (Row::Problem, _) => None,
-        (_, Some(Row::Problem)) => Some("An input has one problem."),
-        _ if is_opening && !scene.is_second() => Some(
-            "Turns that were played already need problem 2 on line 1.",
-        ),
-        _ => None,
-    }
-}
-
-// Returns what to do with the first line of an answer.
-fn answer_text(scene: &Scene<'_>) -> Option<&'static str> {
-    let is_verdict = matches!(scene.word(0), b"fails" | b"holds");
-    match scene.row {
-        Row::Problem | Row::Plan | Row::Game if scene.word(0) == b"none".as_slice() => Some(
-            "Where no plan is sure, solve writes none, and there is no plan to read.",
-        ),
-        Row::Problem if is_verdict => Some(FIRST),
-        Row::Game if is_verdict => Some(
-            "Leave out this line of an answer: a game begins with game 1.",
-        ),
-        _ => None,
-    }
-}
-
-// The order of the section for one of its lines, or what the command reads.
-fn moved_hint(scene: &Scene<'_>, row: Option<Row>) -> Hint {
     let order = Some(section_order(scene.place.section));
-    match (scene.row, row) {
-        (Row::Problem, _) => row.and(order),
-        (_, Some(Row::Plan | Row::Game)) => Some(sections_hint(scene.sections)),
-        (Row::Plan, Some(Row::Nodes)) => order,
-        (Row::Game, Some(Row::Hold | Row::Throw | Row::Acts)) => order,
-        _ => count_hint(scene),
-    }
+    let is_verdict = is_either(scene.word(0), b"fails", b"holds");
+    let is_opening = row == Some(Row::Played) || is_act(scene.text());
+    let text = match (scene.row, row) {
+        (Row::Problem | Row::Plan | Row::Game, None) if scene.word(0) == b"none".as_slice() =>
+            "Where no plan is sure, solve writes none, and there is no plan to read.",
+        (Row::Problem, Some(Row::Plan | Row::Game)) => "The problem comes first.",
+        (Row::Problem, None) if is_verdict => "The problem comes first.",
+        (Row::Problem, _) => return row.and(order),
+        (_, Some(Row::Problem)) => "An input has one problem.",
+        (_, Some(Row::Plan | Row::Game)) => return Some(sections_hint(scene.sections)),
+        (Row::Game, _) if is_verdict =>
+            "Leave out this line of an answer: a game begins with game 1.",
+        (Row::Plan, Some(Row::Nodes)) => return order,
+        (Row::Game, Some(Row::Hold | Row::Throw | Row::Acts)) => return order,
+        _ if is_opening && !scene.is_second() =>
+            "Turns that were played already need problem 2 on line 1.",
+        _ => return count_hint(scene),
+    };
+    count_hint(scene).or(tell(text))
 }
 
 /// Returns what the command reads.
@@ -150,13 +129,16 @@ pub(crate) fn sections_hint(sections: Sections) -> Sentence {
 fn missing_or_moved(scene: &Scene<'_>) -> Sentence {
     let keyword = scene.row.keyword();
     let above = scene.number.saturating_sub(1) as usize;
-    let lines = scene.input.split(|byte| *byte == b'\n').skip(above);
-    let words = lines.map(|line| word_in(line, 0));
-    let mut words = words.take_while(|word| !matches!(*word, b"plan" | b"game"));
-    match words.any(|word| word == keyword.as_bytes()) {
-        true => section_order(scene.place.section),
-        false => Sentence::of(format_args!("The line {keyword} is missing.")),
+    for line in scene.input.split(is_line_feed).skip(above) {
+        let word = word_in(line, 0);
+        if is_either(word, b"plan", b"game") {
+            break;
+        }
+        if word == keyword.as_bytes() {
+            return section_order(scene.place.section);
+        }
     }
+    Sentence::of(format_args!("The line {keyword} is missing."))
 }
 
 fn section_order(section: Section) -> Sentence {

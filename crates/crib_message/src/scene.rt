@@ -1,5 +1,5 @@
 //! A refused line: its section, its place there, and its words.
-ghost use Rattle.std.specs.Prelude.{◌≡◌, option_map};
+ghost use Rattle.std.specs.Prelude.{◌≡◌, ◌==◌, option_map};
 ghost use Rattle.crib_message.specs.Message.{numbered_line};
 
 use crate::grammar::{Row, Slot};
@@ -18,16 +18,30 @@ pub(crate) fn line_at(input: &[u8], number: u32) -> Option<&[u8]>
         Some(text) => text,
         None => input,
     };
-    text.split(|byte| *byte == b'\n').nth(number as usize - 1)
+    text.split(is_line_feed).nth(number as usize - 1)
 }
 
 /// Returns the bytes of the word with this index, from 0, or none. Words are separated by single spaces.
 pub(crate) fn word_in(line: &[u8], index: usize) -> &[u8] {
-    line.split(|byte| *byte == b' ').nth(index).unwrap_or(b"")
+    line.split(is_blank).nth(index).unwrap_or(b"")
+}
+
+pub(crate) fn is_blank(byte: &u8) -> bool {
+    *byte == b' '
+}
+
+pub(crate) fn is_colon(byte: &u8) -> bool {
+    *byte == b':'
+}
+
+pub(crate) fn is_line_feed(byte: &u8) -> bool
+    ensures { result ≡ (byte.now == 10) }
+{
+    *byte == b'\n'
 }
 
 /// A stretch of the bytes of a line.
-#[derive(Clone, Copy, PartialEq, Eq)]
+#[derive(Clone, Copy)]
 pub(crate) struct Mark {
     pub(crate) from: usize,
     pub(crate) to: usize,
@@ -63,7 +77,7 @@ impl<'a> Word<'a> {
 
     /// Returns the part in front of the first colon.
     pub(crate) fn letters(&self) -> &'a [u8] {
-        self.bytes.split(|byte| *byte == b':').next().unwrap_or(b"")
+        self.bytes.split(is_colon).next().unwrap_or(b"")
     }
 
     /// Returns the part behind the first colon.
@@ -86,7 +100,7 @@ pub(crate) enum Section {
 }
 
 /// The place of a line: its section, and its number there, from 1.
-#[derive(Clone, Copy, PartialEq, Eq)]
+#[derive(Clone, Copy)]
 pub(crate) struct Place {
     pub(crate) section: Section,
     pub(crate) number: u32,
@@ -168,7 +182,7 @@ impl<'a> Scene<'a> {
 
     /// Returns the number of words.
     pub(crate) fn word_count(&self) -> usize {
-        self.text().split(|byte| *byte == b' ').count()
+        self.text().split(is_blank).count()
     }
 
     /// Returns what the grammar has at this word.

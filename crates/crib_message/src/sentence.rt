@@ -3,7 +3,6 @@ use arrayvec::ArrayString;
 use crib_cards::{Card, CardSet, Move, Side, card_text};
 use crib_play::fits;
 use std::fmt::{self, Display, Write};
-use thiserror::Error;
 
 // The most bytes of a word that are shown as it was typed.
 const TYPED: usize = 24;
@@ -12,8 +11,7 @@ const TYPED: usize = 24;
 pub(crate) type Named = ArrayString<2>;
 
 /// A sentence, or a part of one, of at most 400 bytes.
-#[derive(Clone, Copy, Debug, PartialEq, Eq, Error)]
-#[error("{0}")]
+#[derive(Clone, Copy)]
 pub(crate) struct Sentence(pub(crate) ArrayString<400>);
 
 impl Sentence {
@@ -30,6 +28,12 @@ impl Sentence {
     }
 }
 
+impl Display for Sentence {
+    fn fmt<W: Write>(&self, f: &mut fmt::Formatter<W>) -> fmt::Result {
+        f.write_str(self.0.as_str())
+    }
+}
+
 /// What to write in place of a word or a line, if anything is known.
 pub(crate) type Hint = Option<Sentence>;
 
@@ -38,30 +42,21 @@ pub(crate) fn tell<D: Display + Drop>(text: D) -> Hint {
     Some(Sentence::of(text))
 }
 
-/// A word as it was typed, in double quotes. Bytes other than 32 to 126 are written as `\xNN`, and a word of more than
-/// 24 bytes is cut. Without a word it is the end of the line.
-#[derive(Clone, Copy)]
-pub(crate) struct Typed<'a>(pub(crate) &'a [u8]);
-
-impl Display for Typed<'_> {
-    fn fmt<W: Write>(&self, f: &mut fmt::Formatter<W>) -> fmt::Result {
-        if self.0.is_empty() {
-            return write!(f, "the end of the line");
-        }
-        write!(f, "\"")?;
-        for byte in self.0.iter().take(TYPED) {
-            write_byte(f, *byte)?;
-        }
-        let end = if self.0.len() > TYPED { "...\"" } else { "\"" };
-        write!(f, "{end}")
+/// Returns a word as it was typed, in double quotes. Bytes other than 32 to 126 are written as `\xNN`, and a word of
+/// more than 24 bytes is cut. Without a word it is the end of the line.
+pub(crate) fn typed(word: &[u8]) -> Sentence {
+    if word.is_empty() {
+        return Sentence::of("the end of the line");
     }
-}
-
-fn write_byte<W: Write>(f: &mut fmt::Formatter<W>, byte: u8) -> fmt::Result {
-    match byte {
-        b' '..=b'~' => write!(f, "{}", char::from(byte)),
-        _ => write!(f, "\\x{byte:02x}"),
+    let mut typed = Sentence::of("\"");
+    for byte in word.iter().take(TYPED) {
+        match *byte {
+            b' '..=b'~' => typed.add(char::from(*byte)),
+            _ => typed.add(format_args!("\\x{byte:02x}")),
+        }
     }
+    typed.add(if word.len() > TYPED { "...\"" } else { "\"" });
+    typed
 }
 
 /// Returns the text of a move.
@@ -96,34 +91,29 @@ fn cards_of(set: CardSet, count: u8) -> Sentence {
     cards
 }
 
-/// The cards that a side holds, and those of them that fit.
+/// The cards that a side holds.
 #[derive(Clone, Copy)]
 pub(crate) struct Held {
     pub(crate) cards: Sentence,
-    fitting: Sentence,
+    /// The cards, and those of them that fit.
+    pub(crate) text: Sentence,
+    pub(crate) has_fitting: bool,
 }
 
 impl Held {
     /// Returns the cards of a set, of which some fit at a count.
     pub(crate) fn of(set: CardSet, count: u8) -> Held {
         let (cards, fitting) = (cards_of(set, 0), cards_of(set, count));
-        Held { cards, fitting }
-    }
-
-    /// Whether some card fits.
-    pub(crate) fn has_fitting(&self) -> bool {
-        self.fitting.0.as_str() != "no card"
-    }
-}
-
-impl Display for Held {
-    fn fmt<W: Write>(&self, f: &mut fmt::Formatter<W>) -> fmt::Result {
-        let Held { cards, fitting } = *self;
+        let has_fitting = fitting.0.as_str() != "no card";
         let s = if fitting.0.len() == 2 { "s" } else { "" };
-        if fitting == cards {
-            write!(f, "{cards}, which fit{s}")
-        } else {
-            write!(f, "{cards}, of which {fitting} fit{s}")
+        let text = match fitting.0 == cards.0 {
+            true => Sentence::of(format_args!("{cards}, which fit{s}")),
+            false => Sentence::of(format_args!("{cards}, of which {fitting} fit{s}")),
+        };
+        Held {
+            cards,
+            text,
+            has_fitting,
         }
     }
 }

@@ -4,7 +4,11 @@ use crib_text::read_number;
 
 /// Returns the hint for a word that should be one of these, if it is like one.
 pub(crate) fn word_hint(word: &[u8], choices: &[&'static str]) -> Hint {
-    choices.iter().find_map(|choice| choice_hint(word, choice))
+    let mut hint = None;
+    for choice in choices {
+        hint = hint.or(choice_hint(word, choice));
+    }
+    hint
 }
 
 fn choice_hint(word: &[u8], choice: &str) -> Hint {
@@ -28,11 +32,18 @@ pub(crate) fn is_word(word: &[u8], wanted: &[u8]) -> bool {
     word.eq_ignore_ascii_case(wanted)
 }
 
+/// Whether a word is one of two.
+pub(crate) fn is_either(word: &[u8], first: &[u8], second: &[u8]) -> bool {
+    word == first || word == second
+}
+
 fn is_with_zeros(word: &[u8], wanted: &[u8]) -> bool {
+    for (byte, letter) in word.iter().zip(wanted) {
+        if byte.to_ascii_lowercase() != *letter && (*byte, *letter) != (b'0', b'o') {
+            return false;
+        }
+    }
     word.len() == wanted.len()
-        && word.iter().zip(wanted.iter()).all(|(byte, letter)| {
-            byte.to_ascii_lowercase() == *letter || (*byte == b'0' && *letter == b'o')
-        })
 }
 
 /// Returns a word without the signs around it that are neither letters nor digits.
@@ -55,21 +66,27 @@ fn is_joined(word: &[u8], wanted: &[u8]) -> bool {
 
 // Whether one letter is missing, wrong or too many, or two neighbours are in the wrong order.
 fn is_near(word: &[u8], wanted: &[u8]) -> bool {
-    let pairs = word.iter().zip(wanted.iter());
-    let same = pairs.take_while(|(byte, letter)| *byte == *letter).count();
-    if wanted.len() < 3 || word.len() < 2 {
-        return false;
+    let same = same_len(word, wanted);
+    let rest = word.get(same..).unwrap_or(b"");
+    let others = wanted.get(same..).unwrap_or(b"");
+    let tail = rest.get(1..).unwrap_or(b"");
+    let other_tail = others.get(1..).unwrap_or(b"");
+    let is_swapped = rest.first() == other_tail.first() && tail.first() == others.first();
+    let is_same_behind = tail == other_tail || tail == others || rest == other_tail;
+    let is_near = is_same_behind || is_swapped && tail.get(1..) == other_tail.get(1..);
+    is_near && wanted.len() > 2 && word.len() > 1
+}
+
+// Returns the number of bytes with which both words begin.
+fn same_len(word: &[u8], wanted: &[u8]) -> usize {
+    let mut same = 0usize;
+    for (byte, letter) in word.iter().zip(wanted) {
+        if byte != letter {
+            break;
+        }
+        same = same.saturating_add(1);
     }
-    match (
-        word.get(same..).unwrap_or(b""),
-        wanted.get(same..).unwrap_or(b""),
-    ) {
-        ([_, rest @ ..], [_, others @ ..]) if rest == others => true,
-        ([_, rest @ ..], others) if rest == others => true,
-        (rest, [_, others @ ..]) if rest == others => true,
-        ([a, b, rest @ ..], [c, d, others @ ..]) => a == d && b == c && rest == others,
-        _ => false,
-    }
+    same
 }
 
 /// Returns the hint for a word that should be a number.
@@ -81,25 +98,28 @@ pub(crate) fn number_hint(word: &[u8]) -> Hint {
         _ if read_number(word).is_some() => return None,
         _ if are_digits(word) => "The greatest number is 4294967295.",
         _ if are_digits(bare(word)) => "Write no other sign at a number.",
-        _ if word.iter().all(|byte| is_like_digit(*byte)) => {
-            "Write 0 and 1 as digits, not as letters."
-        }
+        _ if word.iter().all(is_like_digit) => "Write 0 and 1 as digits, not as letters.",
         _ => "Write a number in digits alone.",
     })
 }
 
 fn are_digits(word: &[u8]) -> bool {
-    !word.is_empty() && word.iter().all(|byte| byte.is_ascii_digit())
+    !word.is_empty() && word.iter().all(u8::is_ascii_digit)
 }
 
 // Whether a byte is a digit, or a letter that looks like 0 or 1.
-fn is_like_digit(byte: u8) -> bool {
-    matches!(byte, b'0'..=b'9' | b'O' | b'o' | b'l' | b'I' | b'i')
+fn is_like_digit(byte: &u8) -> bool {
+    matches!(*byte, b'0'..=b'9' | b'O' | b'o' | b'l' | b'I' | b'i')
 }
 
 /// Returns the hint for numbers with one sign between two in place of a blank, as `109-110`.
 pub(crate) fn two_numbers_hint(word: &[u8]) -> Hint {
-    let sign = *word.iter().find(|byte| !byte.is_ascii_digit())?;
+    let mut sign = b'0';
+    for byte in word {
+        if sign.is_ascii_digit() {
+            sign = *byte;
+        }
+    }
     if sign.is_ascii_alphanumeric() || !word.split(|byte| *byte == sign).all(are_digits) {
         return None;
     }

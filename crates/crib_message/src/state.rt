@@ -1,8 +1,8 @@
 //! The state of the play before a refused act: the turns before it are replayed.
-use crate::scene::{Scene, Section};
+use crate::scene::{Scene, Section, is_line_feed};
 use crate::sentence::Held;
 use arrayvec::ArrayVec;
-use crib_cards::{Act, Card, CardSet, Dealt, Move, Side};
+use crib_cards::{Act, CardSet, Dealt, Move, Side};
 use crib_game::{Game, read_game};
 use crib_play::{Round, Turn};
 use crib_problem::{Problem, act_of, read_problem};
@@ -41,21 +41,13 @@ impl State {
         let mut lines = Lines::new(text.as_slice()).ok()?;
         let problem = read_problem(&mut lines).ok()?;
         let (dealt, acts) = match is_game {
-            true => game_acts(&mut lines)?,
-            false => (
-                None,
-                opening_acts(&mut lines, scene.number.saturating_sub(head))?,
-            ),
+            true => {
+                let Game { opp, acts } = read_game(&mut lines).ok()?;
+                (Some(opp), acts)
+            }
+            false => opening_acts(&mut lines, scene.number.saturating_sub(head))?,
         };
-        let mut state = State::at_lead(
-            problem,
-            dealt,
-            if is_game {
-                head.saturating_add(4)
-            } else {
-                head
-            },
-        );
+        let mut state = State::at_lead(problem, dealt, head);
         let place = scene.number.saturating_sub(state.line).saturating_sub(1) as usize;
         state.act = acts.get(place).copied().unwrap_or_default();
         for act in acts.iter().take(place.saturating_add(further)) {
@@ -64,8 +56,13 @@ impl State {
         Some(state)
     }
 
-    // Returns the state at the first lead, behind the line with this number.
-    fn at_lead(problem: Problem, dealt: Option<Dealt>, line: u32) -> State {
+    // Returns the state at the first lead. A game has four lines before it, behind the line `head`.
+    fn at_lead(problem: Problem, dealt: Option<Dealt>, head: u32) -> State {
+        let line = if dealt.is_some() {
+            head.saturating_add(4)
+        } else {
+            head
+        };
         State {
             round: Round::new(problem.dealer(), problem.scores(), problem.target()),
             problem,
@@ -85,16 +82,25 @@ impl State {
             Side::Owner => self.problem.hold(),
             Side::Opponent => self.dealt?.hold,
         };
-        let is_left = |card: &&Card| self.line_of(&Move::Card(**card)).is_none();
-        let left = hold.iter().filter(is_left);
-        let left = left.fold(CardSet::new(), |set, card| set.with(*card));
+        let mut left = CardSet::new();
+        for card in hold {
+            if self.line_of(&Move::Card(card)).is_none() {
+                left = left.with(card);
+            }
+        }
         Some(Held::of(left, self.round.count()))
     }
 
     /// Returns the line of the last act with this move.
     pub(crate) fn line_of(&self, what: &Move) -> Option<u32> {
-        let back = self.acts.iter().rev().position(|act| act.what == *what)?;
-        Some(self.line.saturating_sub(back.min(32) as u32))
+        let mut line = self.line;
+        for act in self.acts.iter().rev() {
+            if act.what == *what {
+                return Some(line);
+            }
+            line = line.saturating_sub(1);
+        }
+        None
     }
 
     // Takes the next act. One that the rules don't allow changes nothing but the list of acts.
@@ -122,25 +128,19 @@ impl State {
     }
 }
 
-// Reads a game: the opponent's cards, and the acts.
-fn game_acts(lines: &mut Lines<'_>) -> Option<(Option<Dealt>, Acts)> {
-    let Game { opp, acts } = read_game(lines).ok()?;
-    Some((Some(opp), acts))
-}
-
 // Reads so many turns of an opening.
-fn opening_acts(lines: &mut Lines<'_>, count: u32) -> Option<Acts> {
+fn opening_acts(lines: &mut Lines<'_>, count: u32) -> Option<(Option<Dealt>, Acts)> {
     let mut acts = ArrayVec::new();
     for _ in 0..count {
-        acts.try_push(act_of(&lines.next_line().ok()?).ok()?).ok()?;
+        let _full = acts.try_push(act_of(&lines.next_line().ok()?).ok()?);
     }
-    Some(acts)
+    Some((None, acts))
 }
 
 // Returns the first seven lines with an empty opening, and the lines after `head`, as far as there is room.
 fn text_of(scene: &Scene<'_>, head: usize) -> ArrayVec<u8, 512> {
     let mut text = ArrayVec::new();
-    let lines = scene.input.split_inclusive(|byte| *byte == b'\n');
+    let lines = scene.input.split_inclusive(is_line_feed);
     for (index, line) in lines.enumerate() {
         let _full = match index {
             7 if scene.is_second() => text.try_extend_from_slice(b"played 0\n"),

@@ -1,6 +1,6 @@
 //! The place of a plan at an act that strays from it.
-use crate::branches::LETTERS;
-use crate::scene::{Word, count_at, line_at, problem_len, word_in};
+use crate::branches::{LETTERS, target_of};
+use crate::scene::{Word, count_at, is_blank, line_at, problem_len, word_in};
 use crate::sentence::{Sentence, named};
 use crib_cards::{Act, Move, Side, read_card};
 use crib_text::read_number;
@@ -9,9 +9,10 @@ use crib_text::read_number;
 pub(crate) fn add_stray(to: &mut Sentence, input: &[u8], acts: &[Act]) {
     let first = problem_len(input).saturating_add(3);
     let nodes = count_at(input, first.saturating_sub(1));
-    let Some(node) = node_after(input, first, acts).filter(|node| *node < nodes) else {
+    let node = node_after(input, first, acts).unwrap_or(nodes);
+    if node >= nodes {
         return to.add("the plan is at its end there, and states no card");
-    };
+    }
     let number = first.saturating_add(node);
     to.add(format_args!("node {node} of the plan (line {number}) "));
     match read_card(word_in(line_at(input, number).unwrap_or(b""), 2)) {
@@ -38,7 +39,11 @@ fn node_after(input: &[u8], first: u32, acts: &[Act]) -> Option<u32> {
 // Returns the node behind the branch of a see line that has a move.
 fn node_behind(line: &[u8], what: &Move) -> Option<u32> {
     let letter = LETTERS.get(usize::from(what.letter().place()))?;
-    let mut branches = line.split(|byte| *byte == b' ').skip(2).map(Word::of);
-    let branch = branches.find(|branch| branch.letters().contains(letter))?;
-    read_number(branch.target()?.bytes)
+    for word in line.split(is_blank).skip(2) {
+        let branch = Word::of(word);
+        if branch.letters().contains(letter) {
+            return read_number(target_of(&branch));
+        }
+    }
+    None
 }

@@ -2,10 +2,10 @@
 use crate::explained::Explained;
 use crate::grammar::Row;
 use crate::scene::{Mark, Scene, line_at};
-use crate::sentence::{Held, Sentence, Typed, go_of, moved, named, the};
+use crate::sentence::{Held, Sentence, go_of, moved, named, the, typed};
 use crate::state::State;
 use crate::strays::add_stray;
-use crib_cards::{Card, Dealt, GAME_HOLE, Move, Scores};
+use crib_cards::{Card, GAME_HOLE, Move, Scores};
 use crib_game::GameFault as Fault;
 use crib_input::Cause;
 use crib_input::Cause::{Game, Problem};
@@ -77,7 +77,7 @@ fn add_told(to: &mut Sentence, state: &State) {
 // Appends which turn the opening has at a place.
 fn add_as_played(to: &mut Sentence, scene: &Scene<'_>, place: u8) -> Option<()> {
     let line = u32::from(place).saturating_add(8);
-    let turn = Typed(line_at(scene.input, line)?);
+    let turn = typed(line_at(scene.input, line)?);
     match scene.row {
         Row::Acts => to.add(format_args!("{ALL_TURNS}{turn} (line {line}) is missing")),
         _ => to.add(format_args!("the opening has {turn} (line {line}) there")),
@@ -90,21 +90,20 @@ fn add_not_turn(to: &mut Sentence, state: &State) {
     let (side, mover) = (the(state.act.side), the(state.act.side.other()));
     let is_go = state.act.what == Move::Go;
     let is_idle = is_go && state.round.cards_left(state.act.side) == 0;
-    let said = state.line_of(&Move::Go).filter(|line| *line > state.closed);
-    match said {
-        Some(line) if is_go => to.add(format_args!(
+    let line = state.line_of(&Move::Go).unwrap_or(0);
+    let is_said = is_go && line > state.closed;
+    match is_idle {
+        _ if is_said => to.add(format_args!(
             "{side} said go already (line {line}), and each side says go once a count; "
         )),
-        _ if is_idle => to.add(format_args!(
-            "{side} has no card left, and such a go isn't written; "
-        )),
-        _ => add_closed(to, state),
+        true => to.add(format_args!("{side} has no card left, and such a go isn't written; ")),
+        false => add_closed(to, state),
     }
     let (go, count) = (go_of(state.act.side.other()), state.round.count());
     to.add(format_args!("it is {mover}'s turn, and the count is {count}"));
     match state.held(state.act.side.other()) {
-        _ if is_idle || is_go && said.is_some() => to.add("; leave this line out"),
-        Some(held) if held.has_fitting() => to.add(format_args!("; they hold {held}")),
+        _ if is_idle || is_said => to.add("; leave this line out"),
+        Some(held) if held.has_fitting => to.add(format_args!("; they hold {}", held.text)),
         Some(Held { cards, .. }) => to.add(format_args!(
             "; none of their cards fits ({cards}), so {go} is missing before this line"
         )),
@@ -136,7 +135,7 @@ fn add_go(to: &mut Sentence, state: &State) {
         left => to.add(format_args!("a card fits if it counts {left} or less")),
     }
     match state.held(state.act.side) {
-        Some(held) => to.add(format_args!("; {side} holds {held}")),
+        Some(held) => to.add(format_args!("; {side} holds {}", held.text)),
         None => to.add("; a go is said at a count of 22 or more"),
     }
 }
@@ -152,7 +151,7 @@ fn add_too_high(to: &mut Sentence, state: &State, card: Card) {
         state.round.cards_left(state.act.side.other()) == 0,
     );
     match state.held(state.act.side) {
-        Some(held) if held.has_fitting() => to.add(format_args!("{side} holds {held}")),
+        Some(held) if held.has_fitting => to.add(format_args!("{side} holds {}", held.text)),
         Some(_) => to.add(format_args!(
             "{side} holds no card that fits, so {go} is missing before this line"
         )),
@@ -177,8 +176,10 @@ fn place_of(state: &State, card: Card) -> Option<(&'static str, u32)> {
 fn add_not_held(to: &mut Sentence, state: &State, card: Card) {
     let (side, other) = (the(state.act.side), the(state.act.side.other()));
     let name = named(card);
-    let is_held = state.dealt.is_some_and(|dealt| dealt.hold.contains(&card));
-    let is_thrown = state.dealt.is_some_and(|dealt| dealt.throw.contains(&card));
+    let (is_held, is_thrown) = match state.dealt {
+        Some(dealt) => (dealt.hold.contains(&card), dealt.throw.contains(&card)),
+        None => (false, false),
+    };
     let mut joint = "; ";
     match place_of(state, card) {
         Some((_, 5)) => to.add(format_args!("the owner holds {name}")),
@@ -198,7 +199,11 @@ fn add_not_held(to: &mut Sentence, state: &State, card: Card) {
 // Appends where a card of the opponent is before, from its place among the six.
 fn add_seen(to: &mut Sentence, state: &State, place: u8) -> Option<()> {
     let dealt = state.dealt?;
-    let card = dealt_at(&dealt, place)?;
+    let at = usize::from(place).checked_sub(1)?;
+    let card = *dealt
+        .hold
+        .get(at)
+        .or(dealt.throw.get(at.saturating_sub(4)))?;
     let (name, line) = (named(card), state.line.saturating_sub(2));
     let is_held = place > 4 && dealt.hold.contains(&card);
     match place_of(state, card) {
@@ -207,12 +212,6 @@ fn add_seen(to: &mut Sentence, state: &State, place: u8) -> Option<()> {
         None => to.add(format_args!("{name} stands twice in this line")),
     }
     Some(())
-}
-
-// Returns the card at a place among the six, from 1.
-fn dealt_at(dealt: &Dealt, place: u8) -> Option<Card> {
-    let mut cards = dealt.hold.iter().chain(dealt.throw.iter());
-    cards.nth(usize::from(place).checked_sub(1)?).copied()
 }
 
 // Appends how the deal ended.

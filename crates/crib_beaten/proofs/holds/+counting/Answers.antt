@@ -1,16 +1,27 @@
-use Rattle.std.proofs.Common.{rules, ◌≡◌, ◌+◌, ◌-◌, sym, ◌∙◌, arith}
+use Rattle.std.proofs.Common.{rules, ◌≡◌, ◌+◌, ◌-◌, ◌*◌, ◌^◌, ◌≤◌, ◌<◌, ℕ, sym, ◌∙◌, arith}
+use Rattle.std.proofs.Math.Nat.{mul-le-mul}
 use Rattle.crib_check.specs.Beaten.{IsOpen}
 use Rattle.crib_beaten.specs.Private.ByRanks.{IsMissing}
-use Rattle.crib_beaten.proofs.HoldEnds.{next_suit, no_end, none_end, numbered}
+use Rattle.crib_beaten.proofs.HoldEnds.{few_suits, next_suit, no_end, none_end, numbered}
 use Rattle.crib_beaten.proofs.NumberedDeals.{all_below}
 use Rattle.crib_beaten.proofs.holds.+counting.Goals as goal
 
-pub count_before-count_from-more-requires : goal.count_before-count_from-more-requires
-count_before-count_from-more-requires t c =
-    let whole : c.args.place - 1 + 1 ≡ c.args.place = omega arith in
-    let longer = c.with_suit-longer.ensures in
-    let here = c.requires.here in
-    (omega (arith, c.decreases), (omega arith, (rw (longer.later, whole) c.requires.later, (here.0, here.1, here.2, longer.ranks ∙ here.3))))
+sum_small : (most before suit : ℕ) {all more : ℕ} → most ≤ 2132 → before < 4 → suit < 4 → all ≤ most * 4 ^ before * suit → more ≤ most * 4 ^ before →
+    all + more < 4294967296
+sum_small most before suit few less next all more =
+    let part : most * 4 ^ before ≤ 2132 * 64 = mul-le-mul few (few_suits before less) in
+    let whole : most * 4 ^ before * suit ≤ 2132 * 64 * 4 = mul-le-mul {m₂ = 4} part (omega (arith, next)) in
+    omega (arith, part, whole, all, more)
+
+pub count_before-overflow_add-open_deals : goal.count_before-overflow_add-open_deals
+count_before-overflow_add-open_deals t c =
+    let less : c.args.place - 1 < 4 = omega arith in
+    omega (arith, sum_small 820 _ _ (omega arith) less c.loop-suit-test.true c.loop-suit.invariant.few.0 c.count_from-more.ensures.few.0)
+
+pub count_before-overflow_add-missing : goal.count_before-overflow_add-missing
+count_before-overflow_add-missing t c =
+    let less : c.args.place - 1 < 4 = omega arith in
+    omega (arith, sum_small 2132 _ _ (omega arith) less c.loop-suit-test.true c.loop-suit.invariant.few.1 c.count_from-more.ensures.few.1)
 
 pub count_before-loop-suit-preserved : goal.count_before-loop-suit-preserved
 count_before-loop-suit-preserved t c = record {
@@ -38,16 +49,3 @@ count_from-returns-then-not-may_begin-clause-exact t c = λ problem ranks of sam
 
 pub count_from-returns : goal.count_from-returns
 count_from-returns t c = let none : c.args.place ≡ 0 = omega (arith, c.if-place-gt0.false) in rw none c.count_with.ensures
-
-pub count_from-count_before-requires : goal.count_from-count_before-requires
-count_from-count_before-requires t c =
-    (omega (arith, c.decreases), ((omega arith, omega arith), (sym c.may_begin.ensures ∙ c.if-not-may_begin.false, c.requires.here)))
-
-pub count_from-returns-then-place-gt0 : goal.count_from-returns-then-place-gt0
-count_from-returns-then-place-gt0 t c = c.count_before.ensures
-
-pub count_from-count_with-requires : goal.count_from-count_with-requires
-count_from-count_with-requires t c =
-    let none : c.args.place ≡ 0 = omega (arith, c.if-place-gt0.false) in
-    let here = c.requires.here in
-    record { here = (here.0, here.1, here.2); rising = rw none at (sym c.may_begin.ensures ∙ c.if-not-may_begin.false) }

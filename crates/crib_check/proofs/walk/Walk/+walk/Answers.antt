@@ -1,10 +1,6 @@
-use Rattle.std.proofs.Common.{rules, ◌≡◌, ◌∙◌, ◌∷◌, ◌++◌, ◌*◌, ◌+◌, ◌-◌, ◌<◌, ℕ, List, [], false, length, length-append, None, refl, sym, ap, arith}
+use Rattle.std.proofs.Common.{rules, ◌≡◌, ◌∷◌, ◌++◌, ◌*◌, ◌+◌, ◌-◌, ◌<◌, ℕ, List, [], length, length-append, None, refl, ap, arith}
 use Rattle.std.proofs.lemmas.Bool.{both_ways}
-use denote.Enum.Bare.{sameb, same_true}
 use Rattle.crib_cards.specs.declared.letters.Letter.TheVariants.{Go}
-use Rattle.crib_play.specs.contracts.turns.Turn.{the_type}
-use Rattle.crib_play.specs.declared.turns.Turn.TheVariants as turns
-use Rattle.crib_play.specs.declared.turns.Turn.{Turn}
 use Rattle.crib_check.specs.Private.Histories.{as_event}
 use Rattle.crib_check.specs.declared.trails.Event.{Event as TrailEvent}
 use Rattle.crib_check.specs.declared.trails.Event.TheVariants.{Own, Theirs}
@@ -18,25 +14,6 @@ use Rattle.crib_check.proofs.walk.Walk.+walk.Goals as goal
 use Rattle.crib_check.proofs.walk.Walk.+walk.Goals.{walk-then-eq-2, walk-else-eq-2}
 
 -- ---- at a position
-is_theirs : (turn : Turn) → sameb the_type turn turns.Over ≡ false → sameb the_type turn turns.Owner ≡ false → turn ≡ turns.Opponent
-is_theirs turns.Owner over owner = cc
-is_theirs turns.Opponent over owner = refl
-is_theirs turns.Over over owner = cc
-
-pub walk-over-requires : goal.walk-over-requires
-walk-over-requires g t c = record { over = sym c.turn-turn.ensures ∙ same_true the_type tt _ _ (sym c.eq.ensures ∙ c.if-eq.true); here = c.requires }
-
-pub walk-own_turn-requires : goal.walk-own_turn-requires
-walk-own_turn-requires g t c κs within =
-    let asked : c.args.key.now.know.round.asked ≡ turns.Owner = sym c.turn-turn.ensures ∙ same_true the_type tt _ _ (sym c.eq-2.ensures ∙ c.if-eq-2.true) in
-    (omega arith, (within.0, (within.1, (asked, c.requires))))
-
-pub walk-their_turn-requires : goal.walk-their_turn-requires
-walk-their_turn-requires g t c κs within =
-    let asked : c.args.key.now.know.round.asked ≡ turns.Opponent =
-    sym c.turn-turn.ensures ∙ is_theirs _ (sym c.eq.ensures ∙ c.if-eq.false) (sym c.eq-2.ensures ∙ c.if-eq-2.false) in
-    (omega arith, (within.0, (within.1, (asked, c.requires))))
-
 pub walk-returns-then-has : goal.walk-returns-then-has
 walk-returns-then-has g t c = stays c.requires.kept (rw c.requires.none (c.requires.kept.settled c.args.key.now (c.has.ensures c.if-has.true)))
 

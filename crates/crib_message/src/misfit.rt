@@ -83,7 +83,7 @@ fn is_fitting(scene: &Scene<'_>, slot: Slot, word: &[u8]) -> bool {
 
 /// Returns the first line of a problem that has a card before this word, if there is one.
 pub(crate) fn earlier_line(scene: &Scene<'_>, card: &Word<'_>) -> Option<u32> {
-    if scene.place.section != Section::Problem || !scene.row.has_cards() {
+    if !matches!(scene.place.section, Section::Problem) || !scene.row.has_cards() {
         return None;
     }
     for number in 1..=scene.number {

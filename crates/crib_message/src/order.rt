@@ -80,7 +80,7 @@ pub(crate) fn order_hint(scene: &Scene<'_>) -> Hint {
     let line = scene.text();
     let row = Row::of_keyword(scene.word(0));
     let is_item = is_act(line) || is_node(line);
-    let is_played = row == Some(Row::Played) && scene.place.section == Section::Problem;
+    let is_played = row == Some(Row::Played) && matches!(scene.place.section, Section::Problem);
     match (scene.row, row) {
         _ if is_comment(line) => tell(COMMENT),
         (Row::Act | Row::Node, row) => row.and(count_hint(scene)),

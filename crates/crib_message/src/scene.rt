@@ -90,7 +90,7 @@ impl<'a> Word<'a> {
 }
 
 /// A section of an input.
-#[derive(Clone, Copy, PartialEq, Eq)]
+#[derive(Clone, Copy)]
 pub(crate) enum Section {
     Problem,
     Plan,

@@ -18,7 +18,8 @@ fn choice_hint(word: &[u8], choice: &str) -> Hint {
         _ if is_word(word, wanted) => "Write small letters: ",
         _ if is_with_zeros(word, wanted) => "Write the letter o, not a zero: ",
         _ if is_word(bare(word), wanted) => "Write no other sign at the word ",
-        _ if is_joined(word, wanted) => "Write a blank behind the word ",
+        _ if matches!(word.strip_prefix(wanted), Some([next, ..]) if !next.is_ascii_lowercase()) =>
+            "Write a blank behind the word ",
         _ if is_near(word, wanted) => {
             return tell(format_args!("Did you mean {choice}?"));
         }
@@ -57,11 +58,6 @@ pub(crate) fn bare(word: &[u8]) -> &[u8] {
         .rposition(u8::is_ascii_alphanumeric)
         .unwrap_or(0);
     word.get(from..=last).unwrap_or(b"")
-}
-
-// Whether a word begins with this one, and something other than a small letter follows at once.
-fn is_joined(word: &[u8], wanted: &[u8]) -> bool {
-    matches!(word.strip_prefix(wanted), Some([next, ..]) if !next.is_ascii_lowercase())
 }
 
 // Whether one letter is missing, wrong or too many, or two neighbours are in the wrong order.
@@ -114,17 +110,21 @@ fn is_like_digit(byte: &u8) -> bool {
 
 /// Returns the hint for numbers with one sign between two in place of a blank, as `109-110`.
 pub(crate) fn two_numbers_hint(word: &[u8]) -> Hint {
-    let mut sign = b'0';
+    let mut sign = None;
+    let mut is_number = false;
     for byte in word {
-        if sign.is_ascii_digit() {
-            sign = *byte;
+        let is_digit = byte.is_ascii_digit();
+        if !is_digit {
+            if !is_number || byte.is_ascii_alphanumeric() || sign.unwrap_or(*byte) != *byte {
+                return None;
+            }
+            sign = Some(*byte);
         }
+        is_number = is_digit;
     }
-    if sign.is_ascii_alphanumeric() || !word.split(|byte| *byte == sign).all(are_digits) {
-        return None;
+    match sign {
+        Some(b'.') if is_number => tell("Write whole numbers, with a blank between two."),
+        Some(_) if is_number => tell("Write a blank between two numbers."),
+        _ => None,
     }
-    tell(match sign {
-        b'.' => "Write whole numbers, with a blank between two.",
-        _ => "Write a blank between two numbers.",
-    })
 }

@@ -35,7 +35,7 @@ impl State {
     /// Returns the state before the refused act, or after so many further acts. Returns `None` if the lines above are
     /// refused themselves.
     pub(crate) fn before(scene: &Scene<'_>, further: usize) -> Option<State> {
-        let is_game = scene.place.section == Section::Game;
+        let is_game = matches!(scene.place.section, Section::Game);
         let head = if is_game { scene.before() } else { 8 };
         let text = text_of(scene, head as usize);
         let mut lines = Lines::new(text.as_slice()).ok()?;

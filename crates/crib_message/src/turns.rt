@@ -52,7 +52,12 @@ fn add_reason(to: &mut Sentence, state: &State, scene: &Scene<'_>, cause: Cause)
         (Problem(Rule::NotHeld | Rule::SameCard) | Game(Fault::NotHeld(_)), Move::Card(card)) => {
             add_not_held(to, state, card);
         }
-        (Problem(Rule::NoDeal), Move::Card(_)) => add_told(to, state),
+        (Problem(Rule::NoDeal), Move::Card(_)) => {
+            let (count, line) = state.told;
+            let least = 32u8.saturating_sub(count);
+            to.add(format_args!("the opponent said go at a count of {count} (line {line}), "));
+            to.add(format_args!("so each of their cards counts {least} or more"));
+        }
         (Problem(Rule::MustPlay | Rule::NoDeal) | Game(Fault::MustPlay(_)), _) => add_go(to, state),
         (Problem(Rule::AlreadyOver) | Game(Fault::AfterEnd(_)), _) => add_end(to, state, cause),
         (Game(Fault::NotUnseen(place)), _) => add_seen(to, state, place)?,
@@ -64,14 +69,6 @@ fn add_reason(to: &mut Sentence, state: &State, scene: &Scene<'_>, cause: Cause)
         _ => return None,
     }
     Some(())
-}
-
-// Appends what a go of the opponent says of their cards.
-fn add_told(to: &mut Sentence, state: &State) {
-    let (count, line) = state.told;
-    let least = 32u8.saturating_sub(count);
-    to.add(format_args!("the opponent said go at a count of {count} (line {line}), "));
-    to.add(format_args!("so each of their cards counts {least} or more"));
 }
 
 // Appends which turn the opening has at a place.

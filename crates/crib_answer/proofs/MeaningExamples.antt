@@ -8,7 +8,7 @@ use Rattle.crib_plan.specs.Nodes.{most_nodes}
 use Rattle.crib_plan.specs.Spelling.{plan_lines, plan_text}
 use Rattle.crib_check.specs.declared.verdict.Verdict.{Verdict}
 use Rattle.crib_check.specs.declared.verdict.Verdict.TheVariants.{Holds, Fails}
-use Rattle.crib_check.specs.Sure.{Ends, GoesOn, IsSure}
+use Rattle.crib_sure.specs.Sure.{Ends, GoesOn, IsSure}
 use Rattle.crib_check.specs.Verdicts.{IsRight}
 use Rattle.crib_search.specs.Finder.{ExceedsLimit, IsFound}
 use Rattle.crib_search.specs.Winnable.{IsWinnable}

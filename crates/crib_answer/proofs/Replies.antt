@@ -13,7 +13,7 @@ use Rattle.crib_game.specs.declared.following.ending.Ending.{Ending}
 use Rattle.crib_game.specs.declared.following.ending.Ending.TheVariants as ending
 use Rattle.crib_game.specs.Spelling.{game_text}
 use Rattle.crib_check.specs.declared.verdict.Verdict.TheVariants.{Holds, Fails}
-use Rattle.crib_check.specs.Sure.{IsSure}
+use Rattle.crib_sure.specs.Sure.{IsSure}
 use Rattle.crib_check.specs.Failing.{IsFirstFailing}
 use Rattle.crib_check.proofs.VerdictAtStart.{ends, sure_goes_on}
 use Rattle.crib_check.proofs.OneFirstGame.{same_law}

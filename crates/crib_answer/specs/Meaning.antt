@@ -8,7 +8,7 @@ use Rattle.crib_plan.specs.Spelling.{plan_text}
 use Rattle.crib_game.specs.declared.section.game.Game.{Game}
 use Rattle.crib_game.specs.declared.following.ending.Ending.{Ending}
 use Rattle.crib_game.specs.Spelling.{game_text}
-use Rattle.crib_check.specs.Sure.{IsSure, GoesOn, Ends}
+use Rattle.crib_sure.specs.Sure.{IsSure, GoesOn, Ends}
 use Rattle.crib_check.specs.Failing.{IsFirstFailing}
 use Rattle.crib_search.specs.Winnable.{IsWinnable}
 use Rattle.crib_input.specs.Spelled.{SpellsProblem, SpellsPlan}

@@ -1,6 +1,6 @@
 //! Plans that the checker found to be sure.
 ghost use Rattle.std.specs.Prelude.{◌≡◌, ◌≢◌, None, IfSome};
-ghost use Rattle.crib_check.specs.Sure.{IsSure};
+ghost use Rattle.crib_sure.specs.Sure.{IsSure};
 
 use crib_check::{Verdict, verdict_on};
 use crib_plan::Plan;

@@ -4,7 +4,7 @@ use crib_run::{Answer, Status};
 use example_texts::boards::LAST_CARD_BOARD;
 use example_texts::games::{LAST_CARD, LAST_CARD_ANSWER, OWNER_LEADS};
 use example_texts::plans::TWOS;
-use example_texts::problems::{TENS, THIRTEEN, TWELVE};
+use example_texts::problems::{LAST_TWO, TENS, THIRTEEN, TWELVE, WHOLE_PLAY};
 use std::alloc::Global;
 use std::process::Abort;
 
@@ -55,6 +55,20 @@ fn answers_each_job(rt: HostRuntime) {
         }
         let answer = answer_of(rt.alloc(), job, input.as_bytes());
         is_answer(&rt, &answer, wanted, status);
+    }
+}
+
+// The checker, which shares nothing with the search, checks the plans that are found.
+#[test]
+fn plans_that_are_found_hold(rt: HostRuntime) {
+    for problem in [LAST_TWO, WHOLE_PLAY] {
+        let found = answer_of(rt.alloc(), Job::Solve, problem.as_bytes());
+        let mut input = Vec::new(rt.alloc());
+        for section in [problem.as_bytes(), found.as_slice()] {
+            input.extend_from_slice(section).expect(&rt, "memory");
+        }
+        let answer = answer_of(rt.alloc(), Job::Check, &input);
+        is_answer(&rt, &answer, "holds\n", Status::Yes);
     }
 }
 

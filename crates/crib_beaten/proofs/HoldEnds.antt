@@ -11,7 +11,7 @@ use Rattle.crib_cards.specs.declared.sides.Dealt.{Dealt}
 use Rattle.crib_cards.proofs.SetFacts.{rising_rest}
 use Rattle.crib_problem.specs.Setup.{Setup}
 use Rattle.crib_check.specs.Beaten.{IsOpen}
-use Rattle.crib_check.specs.declared.beaten.demands.Demand.{Demand}
+use Rattle.crib_show.specs.declared.demands.Demand.{Demand}
 use Rattle.crib_beaten.specs.declared.throws.Cribs.{Cribs}
 use Rattle.crib_beaten.specs.Exact.{AreExactly}
 use Rattle.crib_beaten.specs.Tally.{ranks_held}

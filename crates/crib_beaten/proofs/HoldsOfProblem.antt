@@ -10,8 +10,9 @@ use Rattle.crib_cards.proofs.SetFacts.{are_rising-set_where}
 use Rattle.crib_cards.proofs.SetLemmas.{IsCardSet-set_where}
 use Rattle.crib_problem.specs.Setup.{Setup, unseen_of, fixed_cards}
 use Rattle.crib_show.specs.Show.{crib_points, hand_flush, hand_points, jack_points, plain_of_ranks}
-use Rattle.crib_check.specs.declared.beaten.demands.Demand.{Demand}
-use Rattle.crib_check.specs.Beaten.{IsOpen, is_met}
+use Rattle.crib_show.specs.declared.demands.Demand.{Demand}
+use Rattle.crib_show.specs.Demands.{is_met}
+use Rattle.crib_check.specs.Beaten.{IsOpen}
 use Rattle.crib_check.proofs.BeatingDeals.{few_crib, few_hand}
 use Rattle.crib_beaten.specs.declared.throws.Cribs.{Cribs}
 use Rattle.crib_beaten.specs.Exact.{AreExactly}

@@ -12,7 +12,7 @@ use Rattle.crib_cards.specs.declared.sides.Dealt.{Dealt}
 use Rattle.crib_problem.specs.Setup.{Setup, IsSetup}
 use Rattle.crib_plan.specs.declared.plan.Node.{Node}
 use Rattle.crib_know.proofs.Deals.{hold_cards}
-use Rattle.crib_check.specs.declared.beaten.demands.Demand.{Demand}
+use Rattle.crib_show.specs.declared.demands.Demand.{Demand}
 use Rattle.crib_check.specs.Beaten.{Beats, Decides, IsOpen}
 use Rattle.crib_check.proofs.DemandsAfterOpening.{beats_open}
 use Rattle.crib_beaten.specs.declared.tally.RanksTally.{RanksTally}

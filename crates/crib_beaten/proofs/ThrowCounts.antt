@@ -15,8 +15,8 @@ use Rattle.crib_know.proofs.CardLists.{count_sum, none_counted, one_if}
 use Rattle.crib_know.proofs.DealLists.{count_rest}
 use Rattle.crib_show.proofs.RankLaw.{reordered_from_times}
 use Rattle.crib_show.proofs.ReorderedLists.{Reordered, nothing, behind, front, both, count_by-reordered}
-use Rattle.crib_check.specs.declared.beaten.demands.Demand.{Demand}
-use Rattle.crib_check.specs.Beaten.{is_met}
+use Rattle.crib_show.specs.declared.demands.Demand.{Demand}
+use Rattle.crib_show.specs.Demands.{is_met}
 use Rattle.crib_beaten.specs.Private.Throws.{AreFew, IsHeld, is_missing, are_two, crib_with, is_below, partners, passing_throws, throws_with}
 
 module _ (test : List ℕ → Bool) (turned : (a b : ℕ) → test (a ∷ b ∷ []) ≡ test (b ∷ a ∷ [])) (alone : (a : ℕ) → test (a ∷ a ∷ []) ≡ false) where

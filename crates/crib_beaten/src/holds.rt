@@ -11,13 +11,13 @@ ghost use Rattle.crib_beaten.specs.Private.ByRanks.{AreCountedFrom, AreOfProblem
 ghost use Rattle.crib_beaten.specs.Tally.{ranks_held};
 ghost use Rattle.crib_problem.specs.Setup.{Setup};
 ghost use Rattle.crib_beaten.specs.Private.Open.{is_empty, may_end, suited};
-ghost use Rattle.crib_check.specs.Beaten.{IsOpen, is_met};
+ghost use Rattle.crib_show.specs.Demands.{is_met};
+ghost use Rattle.crib_check.specs.Beaten.{IsOpen};
 ghost use Rattle.crib_beaten.specs.Private.Throws.{AreThrowsCounted, IsHeld, is_missing, passing_throws};
 
 use crate::throws::{Cribs, MOST_POINTS, THROWS, suit_at};
 use crib_cards::{Card, CardSet, Rank, Suit};
-use crib_check::Demand;
-use crib_show::hand_points;
+use crib_show::{Demand, hand_points};
 
 #[tactic(auto, unfolding(crate::specs::Private::Open::is_empty))]
 fn is_empty(cards: CardSet) -> bool

@@ -28,7 +28,7 @@ pub type Slot = [bool; 13];
 pub type Term = [Slot; 4];
 
 /// A term, and how many deals that beat the plan meet it and none of the terms above.
-#[derive(Clone, Copy, PartialEq, Eq, Debug)]
+#[derive(Clone, Copy)]
 pub struct Row {
     pub term: Term,
     pub deals: u32,

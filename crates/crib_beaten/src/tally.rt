@@ -1,5 +1,5 @@
 //! Which deals beat a plan, counted.
-ghost use Rattle.std.specs.Prelude.{◌≡◌, ◌≤◌, ◌<◌, ◌+◌, ◌*◌, ◌^◌, ℕ, List, ◌∷◌, [], ◌++◌, IfOk};
+ghost use Rattle.std.specs.Prelude.{◌≡◌, ◌≤◌, ◌<◌, ◌+◌, ◌*◌, ◌^◌, ℕ, List, IfOk};
 ghost use Rattle.std.specs.List.{All};
 ghost use Rattle.crib_cards.specs.Cards.{IsRank};
 ghost use Rattle.crib_problem.specs.Setup.{Setup};
@@ -11,15 +11,15 @@ ghost use Rattle.crib_beaten.specs.Private.Rows.{AreChoices, AreCounted, IsFor, 
 use crate::holds::{are_in_order, count_by_ranks, ranks_at};
 use crate::throws::Cribs;
 use crib_cards::{Card, CardSet, Rank, RankCounts};
-use crib_check::{CHOICES, Demand, NoMemory, Plays};
+use crib_check::{CHOICES, NoMemory, Plays};
 use crib_know::Know;
 use crib_plan::Plan;
 use crib_problem::Problem;
-use crib_show::count_ranks;
+use crib_show::{Demand, count_ranks};
 use std::alloc::{Allocator, Global};
 
 /// The open deals whose hold has four ranks, and how many of them beat a plan.
-#[derive(Clone, Copy, PartialEq, Eq, Debug)]
+#[derive(Clone, Copy)]
 pub struct RanksTally {
     /// The ranks of the four cards that the opponent held at the first lead, in order.
     pub ranks: [Rank; 4],
@@ -76,19 +76,11 @@ impl<A: Allocator> Tally<A> {
         self.open_deals += row.open_deals;
         self.beaten += row.beaten;
         if row.beaten > 0 {
-            push(&mut self.rows, row)?;
+            let Ok(()) = self.rows.push(row) else {
+                return Err(NoMemory);
+            };
         }
         Ok(())
-    }
-}
-
-// Appends a row. It fails if the rows cannot grow.
-fn push<A: Allocator>(rows: &mut Vec<RanksTally, A>, row: RanksTally) -> Result<(), NoMemory>
-    ensures { IfOk result (λ _. rows.new.items ≡ rows.old.items ++ row ∷ []) }
-{
-    match rows.push(row) {
-        Ok(()) => Ok(()),
-        Err(_) => Err(NoMemory),
     }
 }
 

@@ -1,14 +1,13 @@
--- Worked examples of deals that beat a plan, and of what a deal must count in the show.
-use Rattle.std.proofs.Common.{◌≡◌, ℕ, Bool, true, false, List, [], ◌∷◌, ◌++◌, ◌≤◌, refl, subst}
+-- Worked examples of deals that beat a plan, and of demands that decide it.
+use Rattle.std.proofs.Common.{◌≡◌, ℕ, true, false, List, [], ◌∷◌, ◌≤◌, refl, subst}
 use Rattle.std.specs.Prelude.{IsFalse, IsTrue, map}
 use Rattle.std.proofs.lemmas.Bool.{both_ways, false_from_ne_true}
 use Rattle.crib_cards.specs.Cards.{rank_of}
 use Rattle.crib_cards.specs.Sets.{rank_counts, set_where}
 use Rattle.crib_cards.specs.declared.sides.Dealt.{Dealt}
-use Rattle.crib_cards.specs.declared.sides.Scores.{Scores}
-use Rattle.crib_cards.specs.declared.sides.Side.{Side}
 use Rattle.crib_show.specs.Show.{hand_points, crib_points}
-use Rattle.crib_show.specs.declared.deals.Full.{Full}
+use Rattle.crib_show.specs.declared.demands.Demand.{Demand}
+use Rattle.crib_show.proofs.DemandExamples.{of_three}
 use Rattle.crib_problem.specs.Setup.{Setup, IsDealOf}
 use Rattle.crib_plan.specs.declared.plan.Node.{Node}
 use Rattle.crib_plan.specs.Places.{plan_start}
@@ -16,21 +15,11 @@ use Rattle.crib_know.specs.Knowledge.{played_events}
 use Rattle.crib_know.specs.Hidden.{KnowsAfter}
 use Rattle.crib_game.specs.declared.following.ending.Ending.TheVariants as ending
 use Rattle.crib_problem.proofs.ExampleProblems.{four_twos, aces}
-use Rattle.crib_check.specs.declared.beaten.demands.Demand.{Demand}
 use Rattle.crib_check.specs.declared.beaten.plays.Plays.{Plays}
-use Rattle.crib_check.specs.Beaten.{ArePlays, Beats, Decides, IsOpen, IsShowAt, counts_of, demand_of, is_met, meets, passes_opening}
+use Rattle.crib_check.specs.Beaten.{ArePlays, Beats, Decides, IsOpen, counts_of, demand_of, meets, passes_opening}
 use Rattle.crib_check.specs.Failing.{IsFailing}
 use Rattle.crib_check.proofs.Examples.{aces_are_a_deal, no_acts, stuck_at_once}
-use Rattle.crib_check.proofs.SureExamples.{at_29}
-
--- at most 12 points of the hand, at most 20 with the crib, and at least 2 of the crib
-abbrev of_three : Demand
-of_three = record { hand = 12; total = 20; crib = 2 }
-
--- a hand that is too good, both together too good, and a crib that is too poor
-points_of_three : map (λ (points : ℕ × ℕ). is_met of_three points.0 points.1) ((12, 8) ∷ (13, 2) ∷ (12, 9) ∷ (10, 10) ∷ (0, 2) ∷ (0, 1) ∷ [])
-    ≡ true ∷ false ∷ false ∷ true ∷ true ∷ false ∷ []
-points_of_three = refl
+use Rattle.crib_sure.proofs.ExampleOpening.{at_29}
 
 -- four aces with the starter KD count 12, and 4C 6D 3C 3D in the crib count 2
 aces_meet : map (λ (demand : ℕ × ℕ × ℕ). meets four_twos (record { hand = demand.0; total = demand.1; crib = demand.2 }) aces)
@@ -45,18 +34,6 @@ clubs = record { hold = 0 ∷ 16 ∷ 32 ∷ 44 ∷ []; throw = 8 ∷ 9 ∷ [] }
 clubs_meet : map (λ (points : ℕ). meets four_twos (record { hand = points; total = 99; crib = 0 }) clubs) (10 ∷ 9 ∷ []) ≡ true ∷ false ∷ []
 unfolding hand_points crib_points
 clubs_meet = refl
-
--- ---- the show
-module _ {dealer : Side} {scores : Scores} {target own_hand : ℕ} {is_to_stop : Bool} {full : Full} where
-  show_of_a_deal : IsShowAt dealer scores target is_to_stop own_hand full → (full.dealer ≡ dealer) × (full.scores ≡ scores) × (full.target ≡ target)
-      × (full.stop ≡ is_to_stop) × (hand_points full.own_hold full.starter ≡ own_hand)
-  show_of_a_deal is = (is.dealer_is, is.scores_are, is.target_is, is.stop_is, is.own_hand_is)
-
-  opponent_has_102 : IsShowAt dealer scores target is_to_stop own_hand full → hand_points full.opp.hold full.starter ≤ 102
-  opponent_has_102 is = is.few_hand
-
-  crib_has_102 : IsShowAt dealer scores target is_to_stop own_hand full → crib_points (full.own_throw ++ full.opp.throw) full.starter ≤ 102
-  crib_has_102 is = is.few_crib
 
 -- ---- open deals
 aces_are_open : IsOpen four_twos aces

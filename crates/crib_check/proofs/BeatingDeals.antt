@@ -27,7 +27,7 @@ use Rattle.crib_check.specs.declared.keys.Key.{Key}
 use Rattle.crib_check.specs.Failing.{IsFailingEnding}
 use Rattle.crib_check.specs.Private.Demands.{BeatsFrom}
 use Rattle.crib_check.specs.Private.Positions.{StandsAt}
-use Rattle.crib_check.specs.Private.Suits.{acts_in_suits}
+use Rattle.crib_sure.specs.Private.Suits.{acts_in_suits}
 use Rattle.crib_check.proofs.ExtendedGames.{agrees_earlier, extends_less, failing_agrees}
 use Rattle.crib_check.proofs.NamedGames.{fails_here, history_is}
 

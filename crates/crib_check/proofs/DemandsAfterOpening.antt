@@ -9,9 +9,10 @@ use Rattle.crib_plan.specs.declared.plan.Node.{Node}
 use Rattle.crib_know.specs.Knowledge.{played_events}
 use Rattle.crib_know.proofs.AgreeingIsPassing.{passes_from}
 use Rattle.crib_know.proofs.PassingIsAgreeing.{agrees_passes}
-use Rattle.crib_check.specs.declared.beaten.demands.Demand.{Demand}
+use Rattle.crib_show.specs.declared.demands.Demand.{Demand}
 use Rattle.crib_check.specs.declared.beaten.plays.Plays.{Plays}
-use Rattle.crib_check.specs.Beaten.{ArePlays, Beats, Decides, IsOpen, is_met, meets, passes_opening}
+use Rattle.crib_show.specs.Demands.{is_met}
+use Rattle.crib_check.specs.Beaten.{ArePlays, Beats, Decides, IsOpen, meets, passes_opening}
 use Rattle.crib_check.specs.Private.Demands.{BeatsFrom, IsDemandFrom, IsJoined, passes_counts}
 use Rattle.crib_check.specs.Private.Positions.{StandsAt}
 use Rattle.crib_check.proofs.BeatingDeals.{beats_agrees, few_crib, few_hand}

@@ -1,7 +1,7 @@
 -- What a demand at a position decides, from what those after the turns that may be next decide.
 use Rattle.std.proofs.Common.{Bool, ◌≡◌, ℕ, ◌+◌, ◌<◌, ◌≤◌, true, false, eqb, ltb, ◌&&◌, List, ◌∷◌, map, ◌↔◌}
 use Rattle.std.proofs.Common.{refl, sym, subst, ◌∙◌, inl, inr, arith}
-use Rattle.std.proofs.lemmas.Bool.{and_cases, and_left, and_parts, and_right, both_ways, cases_lt, eqb-true, false_from_ne_true, ltb-true}
+use Rattle.std.proofs.lemmas.Bool.{and_cases, and_left, and_right, both_ways, cases_lt, eqb-true, false_from_ne_true, ltb-true}
 use Rattle.std.proofs.lemmas.Bool.Decides.{nat_tests}
 use Rattle.crib_cards.specs.Cards.{IsRank, rank_of}
 use Rattle.crib_cards.specs.Letters.{IsLetter, letter_place}
@@ -29,11 +29,12 @@ use Rattle.crib_know.proofs.Deals.{least_after_card, least_after_own}
 use Rattle.crib_know.proofs.PassingIsAgreeing.{agrees_passes, passing_agrees, theirs_letter}
 use Rattle.crib_know.proofs.TurnsAhead.{know_falls}
 use Rattle.crib_game.specs.Private.Judging.{full_at}
-use Rattle.crib_check.specs.declared.beaten.demands.Demand.{Demand}
+use Rattle.crib_show.specs.declared.demands.Demand.{Demand}
 use Rattle.crib_check.specs.declared.keys.Key.{Key}
-use Rattle.crib_check.specs.Beaten.{is_met, meets}
+use Rattle.crib_show.specs.Demands.{is_met}
+use Rattle.crib_check.specs.Beaten.{meets}
 use Rattle.crib_check.specs.Failing.{IsFailingEnding}
-use Rattle.crib_check.specs.Private.Demands.{BeatsFrom, IsAfterSome, IsDemandAfter, IsDemandAt, IsDemandFrom, has_left, may_show}
+use Rattle.crib_check.specs.Private.Demands.{BeatsFrom, IsAfterSome, IsDemandAfter, IsDemandAt, IsDemandFrom, may_show}
 use Rattle.crib_check.specs.Private.Positions.{IsStuckAt, MayTakeAt, StandsAt}
 use Rattle.crib_check.proofs.BeatingDeals.{beats_agrees, beats_earlier, beats_here, few_crib, few_hand}
 use Rattle.crib_check.proofs.JoinedDemands.{met_by_any, no_demand}
@@ -51,7 +52,8 @@ module _ {problem : Setup} {plan : List Node} {key : Key} {history : List Event}
   setup : IsSetup problem
   setup = stands.knows.setup
 
-  left_is : (rank : ℕ) → IsRank rank → has_left key.know.ranks_seen counts (Seen rank) ≡ ltb (ranks_of (their_ranks history) rank) (count_rank rank dealt.hold)
+  left_is : (rank : ℕ) → IsRank rank →
+      ltb (count_at key.know.ranks_seen rank) (count_at counts rank) ≡ ltb (ranks_of (their_ranks history) rank) (count_rank rank dealt.hold)
   left_is rank is =
       (λ i. ltb (count_at ((stands.knows.knowledge i).ranks_seen) rank) (count_at (sym same i) rank))
       ∙ (λ i. ltb (count_at-rank_counts (their_ranks history) rank is i)
@@ -73,7 +75,7 @@ module _ {problem : Setup} {plan : List Node} {key : Key} {history : List Event}
   theirs_agrees (Seen rank) next after may agrees =
       passing_agrees problem setup dealt agrees.0 (Theirs (Seen rank) ∷ history) (led_of next.know problem (Theirs (Seen rank) ∷ history) after.knows)
       (λ other is_rank.
-      let left = sym (left_is rank (theirs_letter problem setup history (Seen rank) after.knows.possible)) ∙ (and_parts _ _ may).0 in
+      let left = sym (left_is rank (theirs_letter problem setup history (Seen rank) after.knows.possible)) ∙ may in
       let before = agrees_passes problem setup dealt agrees.0 history agrees other is_rank in
       let seen = count_cons (λ r. eqb r other) rank (their_ranks history) in
       let room : eqb rank other ≡ true → ranks_of (their_ranks history) other < count_rank other dealt.hold =

@@ -1,8 +1,7 @@
 -- The ending of a failing game that stops at a position.
 use Rattle.std.proofs.Common.{◌≡◌, ℕ, Bool, true, false, cond, not, ◌||◌, List, [], ◌∷◌, map, Some, None, Result, Ok, refl, sym, ap, subst, ◌∙◌, arith}
-use Rattle.std.specs.List.{list_all, filter, AllByRecursion}
+use Rattle.std.specs.List.{list_all, AllByRecursion}
 use Rattle.std.proofs.lemmas.Bool.{and_parts}
-use Rattle.crib_cards.proofs.Members.{has_here, has_there}
 use Rattle.crib_cards.specs.Cards.{IsCard}
 use Rattle.crib_cards.specs.Deals.{six_cards}
 use Rattle.crib_cards.specs.Sets.{has, set_of, set_where}
@@ -45,16 +44,13 @@ use Rattle.crib_cards.proofs.SetFacts.{in_set_where}
 use Rattle.crib_game.specs.Private.Judging.{left_by}
 use Rattle.crib_check.specs.declared.keys.Key.{Key}
 use Rattle.crib_check.specs.Failing.{IsFailingEnding, IsFailing}
-use Rattle.crib_check.specs.Private.Histories.{place_by, history_of_game}
+use Rattle.crib_sure.specs.Private.Histories.{place_by, history_of_game}
 use Rattle.crib_check.specs.Private.Positions.{StandsAt}
-use Rattle.crib_check.proofs.PlaceByHistory.{place_history}
+use Rattle.crib_sure.proofs.PlaceByHistory.{place_history}
 use Rattle.crib_know.proofs.OpeningLawProofs.{letters_same}
+use Rattle.crib_sure.proofs.AgreeingInSuitOrder.{filter_same}
 
 -- ---- lists
-pub filter_same : (p q : ℕ → Bool) (xs : List ℕ) → ((x : ℕ) → has xs x ≡ true → p x ≡ q x) → filter p xs ≡ filter q xs
-filter_same p q [] same = refl
-filter_same p q (x ∷ xs) same =
-    let rest = filter_same p q xs (λ y h. same y (has_there x y xs h)) in λ i. cond (same x (has_here x xs) i) (x ∷ rest i) (rest i)
 
 all_cards : (p : ℕ → Bool) (xs : List ℕ) → list_all (has (set_where p)) xs ≡ true → AllByRecursion IsCard xs
 all_cards p [] all = tt

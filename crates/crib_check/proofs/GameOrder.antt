@@ -18,14 +18,8 @@ use Rattle.crib_cards.specs.declared.moves.Act.{Act}
 use Rattle.crib_play.specs.History.{Event, Own, Theirs, event_by, event_of}
 use Rattle.crib_game.specs.declared.section.game.Game.{Game}
 use Rattle.crib_check.specs.Failing.{opponent_letters, comes_before}
-use Rattle.crib_check.specs.Private.Histories.{Extends, history_of_game}
+use Rattle.crib_sure.specs.Private.Histories.{Extends, history_of_game}
 use Rattle.crib_cards.proofs.DictionaryOrder.{before_first, before_rest, not_before_rest, not_before_self}
-
--- an event shows whose turn it was
-pub same_side_of : (side other : Side) (what move : Move) → event_by side what ≡ event_by other move → side ≡ other
-same_side_of Owner Owner what move e = refl
-same_side_of Opponent Opponent what move e = refl
-same_side_of side other what move e = absurd cc
 
 -- the places of the opponent's letters in a history, the last one first
 abbrev pub letter_in : Event → List ℕ → List ℕ

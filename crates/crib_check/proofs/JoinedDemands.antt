@@ -9,8 +9,9 @@ use Rattle.std.proofs.lemmas.List.Elements.{filter_more}
 use Rattle.crib_cards.specs.Sets.{has}
 use Rattle.crib_cards.proofs.SetFacts.{has-filter}
 use Rattle.crib_cards.proofs.SetLemmas.{has_push}
-use Rattle.crib_check.specs.declared.beaten.demands.Demand.{Demand}
-use Rattle.crib_check.specs.Beaten.{counts_of, demand_of, is_met}
+use Rattle.crib_show.specs.declared.demands.Demand.{Demand}
+use Rattle.crib_show.specs.Demands.{is_met}
+use Rattle.crib_check.specs.Beaten.{counts_of, demand_of}
 use Rattle.crib_check.specs.Private.Demands.{AreJoined, IsJoined}
 
 -- ---- two demands, and the one that all deals meet
@@ -61,19 +62,22 @@ module _ {choices : List (List ℕ)} {places : List ℕ} where
   }
 
   -- at those that pass a test, where the others have nothing to join
-  pub joined_kept : {Kind Also : List ℕ → Demand → Type 0} {old new : List Demand} (test : List ℕ → Bool) →
+  pub joined_kept : {Kind Also : List ℕ → Demand → Type 0} {old new : List Demand} {left : List ℕ} (test : List ℕ → Bool) →
       ((counts : List ℕ) (demand : Demand) → test counts ≡ true → Kind counts demand → Also counts demand) →
-      ((counts : List ℕ) → test counts ≡ false → Also counts no_demand) →
-      AreJoined Kind choices (filter (λ place. test (counts_of choices place)) places) old new → AreJoined Also choices places old new
-  joined_kept test some none are = record {
+      ((counts : List ℕ) → test counts ≡ false → Also counts no_demand) → left ≡ filter (λ place. test (counts_of choices place)) places →
+      AreJoined Kind choices left old new → AreJoined Also choices places old new
+  joined_kept {left = left} test some none kept are = record {
     here = λ place h. elim (cases_Bool (test (counts_of choices place))) [
       | inl passed ↦
-          let is = are.here place (has-filter _ places place ∙ (λ i. h i && passed i)) in
+          let is = are.here place (has_left place ∙ (λ i. h i && passed i)) in
           record { more = is.more; kind = some _ _ passed is.kind; joins = is.joins }
-      | inr failed ↦ unjoined (none _ failed) (are.elsewhere place (has-filter _ places place ∙ (λ i. h i && failed i)))
+      | inr failed ↦ unjoined (none _ failed) (are.elsewhere place (has_left place ∙ (λ i. h i && failed i)))
     ];
-    elsewhere = λ place h. are.elsewhere place (has-filter _ places place ∙ ap (λ (b : Bool). b && test (counts_of choices place)) h);
+    elsewhere = λ place h. are.elsewhere place (has_left place ∙ ap (λ (b : Bool). b && test (counts_of choices place)) h);
   }
+    where
+      has_left : (place : ℕ) → has left place ≡ (has places place && test (counts_of choices place))
+      has_left place = ap (λ (listed : List ℕ). has listed place) kept ∙ has-filter _ places place
 
 -- ---- places kept in a walk over some places
 module _ (test : ℕ → Bool) (places : List ℕ) (i count : ℕ) (kept : List ℕ) (inside : i < length places)

@@ -26,14 +26,14 @@ use Rattle.crib_game.specs.Private.Judging.{full_at}
 use Rattle.crib_game.specs.Private.Tracing.{ending_at}
 use Rattle.crib_check.specs.declared.keys.Key.{Key}
 use Rattle.crib_check.specs.Failing.{IsFailingEnding, IsFailing, is_suited}
-use Rattle.crib_check.specs.Private.Histories.{history_of_game}
+use Rattle.crib_sure.specs.Private.Histories.{history_of_game}
 use Rattle.crib_check.specs.Private.Positions.{StandsAt, IsFirstFrom, IsStuckAt, IsFirstShortfall}
-use Rattle.crib_check.specs.Private.Suits.{acts_in_suits}
-use Rattle.crib_check.proofs.PlaceByHistory.{follows_from}
+use Rattle.crib_sure.specs.Private.Suits.{acts_in_suits}
+use Rattle.crib_sure.proofs.PlaceByHistory.{follows_from}
 use Rattle.crib_check.proofs.FailureEndings.{record_ends, reached_is_none}
 use Rattle.crib_check.proofs.WalkConclusions.{stuck_ends, over_ends, leaf_first}
-use Rattle.crib_check.proofs.AgreeingInSuitOrder.{Suited}
-use Rattle.crib_check.proofs.RecordsFromOpening.{acts_later, suited_turns, suited_legal, suited_shows, suited_acts}
+use Rattle.crib_sure.proofs.AgreeingInSuitOrder.{Suited}
+use Rattle.crib_sure.proofs.RecordsFromOpening.{acts_later, suited_turns, suited_legal, suited_shows, suited_acts}
 
 pub failed_outcome : (o : Outcome) → (o ≡ outcome.Reached → ⊥) → IsFailingEnding (ending_with o)
 failed_outcome outcome.Reached not_reached = absurd (not_reached refl)

@@ -20,9 +20,9 @@ use Rattle.crib_play.proofs.CardLemmas.{none_passes}
 use Rattle.crib_problem.specs.Played.{cards_by}
 use Rattle.crib_know.proofs.Events.{events}
 use Rattle.crib_know.proofs.CardsLeft.{left_remaining, has-filter_parts}
-use Rattle.crib_check.specs.Failing.{is_in_turn, is_in_suit_order}
-use Rattle.crib_check.proofs.GameOrder.{same_side_of}
-use Rattle.crib_check.proofs.AgreeingInSuitOrder.{theirs_with}
+use Rattle.crib_sure.specs.SuitOrder.{is_in_turn, is_in_suit_order}
+use Rattle.crib_sure.proofs.AgreeingInSuitOrder.{same_side_of}
+use Rattle.crib_sure.proofs.AgreeingInSuitOrder.{theirs_with}
 
 -- ---- at each turn there is one card to play
 module _ (few : ℕ) (start : Start) (hands : Hands) where

@@ -20,32 +20,18 @@ use Rattle.crib_play.specs.Record.{mover}
 use Rattle.crib_cards.specs.Letters.{letter_of}
 use Rattle.crib_show.specs.Outcome.{outcome_of}
 use Rattle.crib_show.specs.declared.show.outcomes.Outcome.TheVariants.{Reached}
-use Rattle.crib_problem.specs.declared.problem.Goal.TheVariants.{Holes}
-use Rattle.crib_problem.specs.declared.problem.Version.TheVariants.{Two}
-use Rattle.crib_problem.specs.Setup.{Setup, IsDealOf, start_of, hands_of, played_back, unseen_of}
+use Rattle.crib_problem.specs.Setup.{IsDealOf, start_of, hands_of, played_back, unseen_of}
 use Rattle.crib_plan.specs.declared.plan.Next.TheVariants.{End, To}
 use Rattle.crib_plan.specs.declared.plan.Node.{Node}
 use Rattle.crib_plan.specs.declared.plan.Node.TheVariants.{Play, See}
 use Rattle.crib_game.specs.Replay.{is_done_for, full_of}
 use Rattle.crib_game.specs.Following.{opening_is_over, IsAsStated, Follows, is_stuck, place_of}
-use Rattle.crib_check.specs.Sure.{IsSure, IsFollowed, GoesOn, Ends}
+use Rattle.crib_sure.specs.Sure.{IsSure, IsFollowed, GoesOn, Ends}
 use Rattle.crib_check.specs.Verdicts.{KeepsOn}
 use Rattle.crib_check.specs.declared.verdict.Verdict.TheVariants.{Fails}
 use Rattle.crib_game.specs.declared.section.game.Game.{Game}
 use Rattle.crib_game.specs.declared.following.ending.Ending.TheVariants as ending
-
--- the owner holds TC 9C 2C AC and threw 2D 2H; the starter is 2S and the goal is two holes
-abbrev pub at_29 : Setup
-at_29 = record {
-  version = Two;
-  dealer = Opponent;
-  scores = record { owner = 0; opponent = 0 };
-  starter = 7;
-  hold = 36 ∷ 32 ∷ 4 ∷ 0 ∷ [];
-  thrown = 5 ∷ 6 ∷ [];
-  goal = Holes 2;
-  played = record { side = Owner; what = Card 36 } ∷ record { side = Opponent; what = Card 37 } ∷ record { side = Owner; what = Card 32 } ∷ [];
-}
+use Rattle.crib_sure.proofs.ExampleOpening.{at_29}
 
 -- AC after an ace, 2C after a go
 abbrev pub ace_or_two : List Node

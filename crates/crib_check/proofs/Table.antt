@@ -99,6 +99,9 @@ module _ (before now after : Table) (seen : before ≡ now) (inside : AreInside 
   inside_more = all_inside _ _ before.entries (omega (arith, ap length more.parts, length-append before.sights more.more)) inside
 
   -- a refused put: the entries are as they were
+  pub inside_refused : after.entries ≡ before.entries → AreInside after
+  inside_refused same = subst (AllByRecursion (IsInside (length after.sights))) (sym same) inside_more
+
   pub refused_same : after.entries ≡ before.entries → (other : Key) → Holds after other ↔ Holds now other
   refused_same same other =
       let alike : found after other ≡ found now other =
@@ -142,6 +145,9 @@ module _ (before now after : Table) (seen : before ≡ now) (inside : AreInside 
       pub put_stays : (other : Key) → Holds now other → Holds after other
       put_stays other is = found_after other
           ∙ cond_both (same_entry entry (entry_in after other)) true (found now other) (λ (b : Bool). b ≡ true) (λ _. refl) (λ _. is)
+
+      pub put_kept : Holds after key
+      put_kept = found_after key ∙ ap (λ (c : Bool). cond c true (found now key)) ((same_entries entry (entry_in after key)).1 is_entry)
 
       pub put_held : IsKnown key.know → (other : Key) → IsKnown other.know → Holds after other → Holds now other ⊎ (other ≡ key)
       put_held known other known_other is = elim (cases_Bool (same_entry entry (entry_in after other))) [

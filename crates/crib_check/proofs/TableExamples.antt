@@ -13,8 +13,8 @@ use Rattle.crib_show.specs.Worst.{AreOwnPoints}
 use Rattle.crib_plan.specs.declared.plan.Next.TheVariants.{End, To}
 use Rattle.crib_problem.proofs.ExampleProblems.{after_tens}
 use Rattle.crib_know.specs.Knowledge.{knowledge_after, sight_of}
-use Rattle.crib_check.specs.Shows.{AreExtremesOf, AreShowsOf, worst_of}
-use Rattle.crib_check.specs.declared.deals.Shows.{Shows}
+use Rattle.crib_sure.specs.Shows.{AreExtremesOf, AreShowsOf, worst_of}
+use Rattle.crib_sure.specs.declared.shows.Shows.{Shows}
 use Rattle.crib_show.specs.declared.worst.extremes.ExtremesByRanks.{ExtremesByRanks}
 use Rattle.crib_check.specs.Table.{AreInside, IsInside, Table, entry_of}
 use Rattle.crib_know.specs.declared.knowledge.Shown.{Shown}

@@ -12,7 +12,7 @@ use Rattle.crib_know.specs.Knowledge.{Knowledge, played_events}
 use Rattle.crib_know.specs.Hidden.{KnowsAfter}
 use Rattle.crib_know.proofs.Deals.{dealt_is}
 use Rattle.crib_check.specs.declared.trails.Event.{Event as TrailEvent}
-use Rattle.crib_check.specs.Private.Histories.{as_event, later_of_trail, history_of_trail}
+use Rattle.crib_check.specs.Private.Trails.{as_event, later_of_trail, history_of_trail}
 
 pub trail_more : (problem : Setup) (events more : List TrailEvent) (event : TrailEvent) → more ≡ events ++ event ∷ [] →
     history_of_trail problem more ≡ as_event event ∷ history_of_trail problem events

@@ -36,16 +36,13 @@ use Rattle.crib_game.specs.Followed.{IsRecordUnder, ending_of, ending_with, endi
 use Rattle.crib_check.specs.declared.keys.Key.{Key}
 use Rattle.crib_check.specs.declared.verdict.Verdict.{Verdict}
 use Rattle.crib_check.specs.declared.verdict.Verdict.TheVariants.{Holds, Fails}
-use Rattle.crib_check.specs.Sure.{IsFollowed, IsSure, GoesOn, Ends}
+use Rattle.crib_sure.specs.Sure.{IsFollowed, IsSure, GoesOn, Ends}
 use Rattle.crib_check.specs.Failing.{IsFailing, IsFailingEnding, IsFirstFailing}
 use Rattle.crib_check.specs.Private.Positions.{StandsAt, HoldsFrom, IsSettled, IsFirstFrom}
 use Rattle.crib_check.specs.Verdicts.{IsRight, IsSoFollowed, KeepsOn}
 use Rattle.crib_check.proofs.ExtendedGames.{failing_begins}
 use Rattle.crib_check.proofs.FailureEndings.{failing_followed}
-
--- a place that is not stuck, where the owner is asked and a card fits, states a card that he may play
-pub not_stuck : (d who any playable : Bool) → (not d && who && any && not playable) ≡ false → d ≡ false → who ≡ true → any ≡ true → playable ≡ true
-not_stuck d who any playable e going asked some = grind (arith, nat_tests, e, going, asked, some)
+use Rattle.crib_sure.proofs.PlaceByHistory.{not_stuck}
 
 pub first_of_all : (problem : Setup) (plan : List Node) (game : Game) (result : Ending) → IsFirstFrom problem plan (played_events problem) game result →
     IsFirstFailing problem plan game result

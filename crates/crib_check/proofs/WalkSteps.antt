@@ -1,5 +1,7 @@
 -- What a walk may do for a turn, and what it has done after one.
-use Rattle.std.proofs.Common.{◌≡◌, ◌+◌, ℕ, List, None, Option, refl, sym, subst}
+use Rattle.std.proofs.Common.{◌≡◌, ◌+◌, ℕ, true, false, List, None, Some, Option, refl, sym, subst}
+use Rattle.std.specs.Option.{is_some}
+use Rattle.std.proofs.lemmas.Option.{none-some}
 use Rattle.crib_cards.specs.Letters.{letter_place}
 use Rattle.crib_cards.specs.declared.letters.Letter.{Letter}
 use Rattle.crib_problem.specs.Setup.{Setup}
@@ -8,10 +10,13 @@ use Rattle.crib_check.specs.declared.failure.Failure.{Failure}
 use Rattle.crib_check.specs.declared.keys.Key.{Key}
 use Rattle.crib_check.specs.declared.trails.Event.{Event as TrailEvent}
 use Rattle.crib_check.specs.declared.walk.Walk.{Walk}
-use Rattle.crib_check.specs.Private.Found.{IsFoundBelow, IsSettledBelow}
-use Rattle.crib_check.specs.Private.Histories.{history_of_trail}
+use Rattle.crib_check.specs.Private.Found.{IsFoundBelow, IsFoundFrom, IsSettledBelow}
+use Rattle.crib_check.specs.Private.Trails.{history_of_trail}
 use Rattle.crib_check.specs.Private.Positions.{StandsAt}
-use Rattle.crib_check.specs.Private.Walks.{IsWalkOf, MayWalk, HasGone, HasShown, history_at}
+use Rattle.crib_check.specs.Private.Walks.{IsKept, IsWalkOf, MayWalk, HasGone, HasShown, history_at}
+use Rattle.crib_sure.specs.Shows.{AreShowsOf}
+use Rattle.crib_sure.specs.declared.shows.Shows.{Shows}
+use Rattle.crib_play.specs.History.{Event}
 
 module _ {A T : Type 0} {holds : T → Key → Type 0} {problem : Setup} {plan : List Node} {Found : List TrailEvent → Option Failure → Type 0}
     {walk : Walk A T} where
@@ -28,6 +33,28 @@ module _ {A T : Type 0} {holds : T → Key → Type 0} {problem : Setup} {plan :
   pub gone_as : {trail : List TrailEvent} {Also : List TrailEvent → Option Failure → Type 0} → HasGone holds problem plan trail Found walk →
       (Found walk.trail.items walk.failure → Also walk.trail.items walk.failure) → HasGone holds problem plan trail Also walk
   gone_as gone more = record { kept = gone.kept; back = gone.back; found = more gone.found }
+
+-- no failure is found, if a test says so
+pub no_failure : (found : Option Failure) → is_some found ≡ false → found ≡ None
+no_failure None none = refl
+no_failure (Some failure) none = absurd cc
+
+-- some failure is found, if a test says so
+pub some_failure : (found : Option Failure) → is_some found ≡ true → found ≡ None → ⊥
+some_failure None some none = cc
+some_failure (Some failure) some none = none-some failure (sym none)
+
+-- a walk with other shows
+pub kept_with : {T : Type 0} {holds : T → Key → Type 0} {problem of : Setup} {plan by : List Node} {table : T} {counted more : Shows} →
+    IsKept holds problem of plan by table counted → AreShowsOf problem more → IsKept holds problem of plan by table more
+kept_with kept shows = record { same_problem = kept.same_problem; same_plan = kept.same_plan; settled = kept.settled; shows = shows }
+
+-- a walk that has failed after a turn has failed from before it
+pub failed_from : {A T : Type 0} {holds : T → Key → Type 0} {problem : Setup} {plan : List Node} {key : Key} {history more : List Event}
+    {trail longer : List TrailEvent} {walk : Walk A T} → more ≡ history → HasGone holds problem plan longer (IsFoundFrom problem plan key more) walk →
+    is_some walk.failure ≡ true → HasGone holds problem plan trail (IsFoundFrom problem plan key history) walk
+failed_from {problem = problem} {plan} {key} {walk = walk} same gone some =
+    failed gone.kept (some_failure walk.failure some) (subst (λ h. IsFoundFrom problem plan key h walk.trail.items walk.failure) same gone.found)
 
 -- a walk after the letters below a place, none of which led to a failure
 pub record HasShownBelow {A T : Type 0} (holds : T → Key → Type 0) (start : Walk A T) (key : Key) (place : ℕ) (walk : Walk A T) : Type 0 where

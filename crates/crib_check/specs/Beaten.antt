@@ -1,14 +1,13 @@
--- Deals that beat a plan, and what a deal must count in the show so that it does not. The opening is the visible turns
--- that the problem lists as played.
-use Rattle.std.specs.Prelude.{◌≡◌, ℕ, ◌+◌, ◌≤◌, nat_le, Bool, ◌&&◌, List, [], ◌++◌, map, get_or}
+-- Deals that beat a plan, and demands that decide which of the open deals do. The opening is the visible turns that the
+-- problem lists as played.
+use Rattle.std.specs.Prelude.{◌≡◌, ℕ, ◌≤◌, Bool, List, [], ◌++◌, map, get_or}
 use Rattle.std.specs.Prelude.{IsTrue, IsFalse}
 use Rattle.crib_cards.specs.Cards.{rank_of}
 use Rattle.crib_cards.specs.Sets.{rank_counts}
-use Rattle.crib_cards.specs.declared.sides.Side.{Side}
-use Rattle.crib_cards.specs.declared.sides.Scores.{Scores}
 use Rattle.crib_cards.specs.declared.sides.Dealt.{Dealt}
+use Rattle.crib_show.specs.Demands.{is_met}
 use Rattle.crib_show.specs.Show.{hand_points, crib_points}
-use Rattle.crib_show.specs.declared.deals.Full.{Full}
+use Rattle.crib_show.specs.declared.demands.Demand.{Demand}
 use Rattle.crib_problem.specs.Setup.{Setup}
 use Rattle.crib_plan.specs.declared.plan.Node.{Node}
 use Rattle.crib_plan.specs.Places.{plan_start}
@@ -16,7 +15,6 @@ use Rattle.crib_know.specs.Knowledge.{least_value, played_events, their_ranks}
 use Rattle.crib_know.specs.Hidden.{AgreesWith, KnowsAfter, passes}
 use Rattle.crib_game.specs.declared.section.game.Game.{Game}
 use Rattle.crib_game.specs.declared.following.ending.Ending.{Ending}
-use Rattle.crib_check.specs.declared.beaten.demands.Demand.{Demand}
 use Rattle.crib_check.specs.declared.beaten.plays.Plays.{Plays}
 use Rattle.crib_check.specs.Failing.{IsFailing}
 
@@ -30,22 +28,6 @@ pub record Beats (problem : Setup) (plan : List Node) (dealt : Dealt) : Type 0 w
   pub result : Ending
   pub failing : IsFailing problem plan game result
   pub of_deal : game.opp ≡ dealt
-
--- whether a hand of the opponent and a crib of so many points meet a demand
-abbrev pub is_met : Demand → ℕ → ℕ → Bool
-is_met demand hand crib = nat_le hand demand.hand && (nat_le (hand + crib) demand.total && nat_le demand.crib crib)
-
--- a show: its dealer, the scores before it, the target, whether the goal is `stop`, and the points of the owner's hand.
--- The opponent's hand and the crib have at most 102 points each
-pub record IsShowAt
-    (dealer : Side) (scores : Scores) (target : ℕ) (is_to_stop : Bool) (own_hand : ℕ) (full : Full) : Type 0 where
-  pub dealer_is : full.dealer ≡ dealer
-  pub scores_are : full.scores ≡ scores
-  pub target_is : full.target ≡ target
-  pub stop_is : full.stop ≡ is_to_stop
-  pub own_hand_is : hand_points full.own_hold full.starter ≡ own_hand
-  pub few_hand : hand_points full.opp.hold full.starter ≤ 102
-  pub few_crib : crib_points (full.own_throw ++ full.opp.throw) full.starter ≤ 102
 
 -- whether a deal of a problem meets a demand
 abbrev pub meets : Setup → Demand → Dealt → Bool

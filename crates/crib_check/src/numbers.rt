@@ -1,9 +1,8 @@
 //! Values that a set stores once each, with their indices.
-ghost use Rattle.std.specs.Prelude.{IfSome, IfNone, IfOk};
+ghost use Rattle.std.specs.Prelude.{IfSome, IfNone};
 ghost use Rattle.std.specs.List.{position_or_len};
 ghost use Rattle.crib_check.specs.Private.Numbers.{IsMore, IsNumber};
 
-use crate::tables::NoMemory;
 use indexmap::IndexSet;
 use std::alloc::Allocator;
 use std::hash::{BuildHasherDefault, FoldHasher, Hash};
@@ -20,14 +19,16 @@ pub(crate) fn number_of<T: Eq + Hash, A: Allocator>(kept: &Numbered<T, A>, value
     u32::try_from(kept.get_index_of(value)?).ok()
 }
 
-// Stores a value, and returns its index. It fails if an allocation fails, or if the index would be 2^32 or more.
+// Stores a value, and returns its index. There is none if an allocation fails, or if it would be 2^32 or more.
 pub(crate) fn keep<T: Eq + Hash + Drop, A: Allocator>(
     kept: &mut Numbered<T, A>,
     value: T,
-) -> Result<u32, NoMemory>
+) -> Option<u32>
     ensures more { IsMore kept.old.keys kept.new.keys }
-    ensures number { IfOk result (IsNumber (T.eq value) kept.new.keys) }
+    ensures number { IfSome result (IsNumber (T.eq value) kept.new.keys) }
 {
-    let (number, _) = kept.insert_full(value).map_err(|_| NoMemory)?;
-    u32::try_from(number).map_err(|_| NoMemory)
+    let Ok((number, _)) = kept.insert_full(value) else {
+        return None;
+    };
+    u32::try_from(number).ok()
 }

@@ -44,7 +44,7 @@ pub record IsRight (judge : Judge) (start : Start) (hands : Hands) (act : Act) (
   pub may : MayCome start hands act.what past
   pub follows : judge act past ≡ Fine
 
-first_none : (remark : Remark) (done asked : Bool) (wrong : Option GameFault) (place : ℕ) → first_fault remark done asked wrong place ≡ None →
+pub first_none : (remark : Remark) (done asked : Bool) (wrong : Option GameFault) (place : ℕ) → first_fault remark done asked wrong place ≡ None →
     (remark ≡ Fine) × (done ≡ false) × (asked ≡ true) × (wrong ≡ None)
 first_none remark done asked wrong place e = grind (arith, e)
 

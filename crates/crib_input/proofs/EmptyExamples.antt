@@ -1,23 +1,25 @@
 -- Worked examples of an empty input: it spells nothing.
-use Rattle.std.specs.Prelude.{List, []}
+use Rattle.std.specs.Prelude.{◌≡◌, List, [], ◌++◌, ℕ}
+use Rattle.std.proofs.Common.{sym, ◌∙◌, append_assoc}
+use Rattle.std.proofs.lemmas.List.{append-nil}
 use Rattle.crib_problem.specs.Setup.{Setup}
 use Rattle.crib_problem.specs.Spelling.{problem_lines, problem_text}
 use Rattle.crib_plan.specs.declared.plan.Node.{Node}
 use Rattle.crib_game.specs.declared.section.game.Game.{Game}
 use Rattle.crib_input.specs.Spelled.{SpellsGame, SpellsPlan, SpellsPlannedGame, SpellsProblem}
 
-pub no_problem_in_nothing : (problem : Setup) → SpellsProblem [] problem → ⊥
+begins : (problem : Setup) (rest : List ℕ) → [] ≡ problem_text problem ++ rest → ⊥
 unfolding problem_text problem_lines
-no_problem_in_nothing problem is = (let text = is.text in cc)
+begins problem rest text = cc
+
+pub no_problem_in_nothing : (problem : Setup) → SpellsProblem [] problem → ⊥
+no_problem_in_nothing problem is = begins problem [] (is.text ∙ sym (append-nil (problem_text problem)))
 
 pub no_plan_in_nothing : (problem : Setup) (plan : List Node) → SpellsPlan [] problem plan → ⊥
-unfolding problem_text problem_lines
-no_plan_in_nothing problem plan is = (let text = is.text in cc)
+no_plan_in_nothing problem plan is = begins problem _ is.text
 
 pub no_game_in_nothing : (problem : Setup) (game : Game) → SpellsGame [] problem game → ⊥
-unfolding problem_text problem_lines
-no_game_in_nothing problem game is = (let text = is.text in cc)
+no_game_in_nothing problem game is = begins problem _ is.text
 
 pub no_planned_game_in_nothing : (problem : Setup) (plan : List Node) (game : Game) → SpellsPlannedGame [] problem plan game → ⊥
-unfolding problem_text problem_lines
-no_planned_game_in_nothing problem plan game is = (let text = is.text in cc)
+no_planned_game_in_nothing problem plan game is = begins problem _ (rw append_assoc at is.text)

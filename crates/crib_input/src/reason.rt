@@ -8,22 +8,19 @@ use crate::refusal::{Cause, Refusal};
 use crib_plan::PlanFault;
 use crib_problem::ProblemFault;
 use crib_text::{TextCause, TextFault};
+use std::fmt::{self, Display, Formatter, Write};
 use thiserror::Error;
 
 /// The cause of a fault.
 #[derive(Clone, Copy, Debug, PartialEq, Eq, Error)]
 pub enum FaultCause {
     /// 9: the reader failed, or the limit of 8,400,000 calls of the reader was reached.
-    #[error("the input can't be read")]
     ReadFailed,
     /// 10: the writer failed, or the 8,400,000 calls of writing ran out. The number is not printed.
-    #[error("the answer can't be written")]
     WriteFailed,
     /// 11: an allocation failed.
-    #[error("out of memory")]
     NoMemory,
     /// 50: the plan that was found has more than 65,535 nodes.
-    #[error("the plan that was found has too many nodes")]
     TooLarge,
 }
 
@@ -38,6 +35,17 @@ impl FaultCause {
             FaultCause::NoMemory => 11,
             FaultCause::TooLarge => 50,
         }
+    }
+}
+
+impl Display for FaultCause {
+    fn fmt<W: Write>(&self, f: &mut Formatter<W>) -> fmt::Result {
+        f.write_str(match self {
+            FaultCause::ReadFailed => "the input can't be read",
+            FaultCause::WriteFailed => "the answer can't be written",
+            FaultCause::NoMemory => "out of memory",
+            FaultCause::TooLarge => "the plan that was found has too many nodes",
+        })
     }
 }
 

@@ -7,7 +7,7 @@ use crib_play::Round;
 /// What the owner sees: the round, the owner's cards left, the unseen cards and the fixed cards.
 ///
 /// Only the round and the owner's cards left are hashed, because the others are the same throughout a problem.
-#[derive(PartialEq, Eq, Drop, Debug)]
+#[derive(PartialEq, Eq, Drop)]
 #[derive_where(Hash)]
 pub struct Sight {
     /// What lies on the table, and the player to move.
@@ -23,7 +23,7 @@ pub struct Sight {
 }
 
 /// What the opponent has shown of their four cards.
-#[derive(Clone, Copy, PartialEq, Eq, Debug)]
+#[derive(Clone, Copy, PartialEq, Eq)]
 #[derive_where(Hash)]
 pub struct Shown {
     /// How many cards of each rank the opponent has played.

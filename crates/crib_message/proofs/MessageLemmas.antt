@@ -1,7 +1,6 @@
 -- Lemmas about the text of a message, which is appended piece by piece.
-use Rattle.std.proofs.Common.{◌≡◌, ℕ, ◌<◌, ◌⊎◌, ◌++◌, List, [], ◌∷◌, length, take, Option, Result, Ok, Err, OnOk, OnErr}
-use Rattle.std.proofs.Common.{IfErr, inl, inr, refl, ap, ◌∙◌, append_assoc}
-use Rattle.std.specs.Io.KnownBytes.{Appends}
+use Rattle.std.proofs.Common.{◌≡◌, ℕ, ◌<◌, ◌⊎◌, ◌++◌, List, [], ◌∷◌}
+use Rattle.std.proofs.Common.{refl, ap, ◌∙◌, append_assoc}
 use Rattle.std.specs.Prelude.{Some, None, MatchOption}
 use Rattle.crib_text.specs.Spelling.{line_feed}
 use Rattle.crib_message.specs.Message.{numbered_line, IsExcerpt}
@@ -37,11 +36,3 @@ shows_none input excerpt number e is = rw e is
 pub nothing_added : (bytes : List ℕ) → bytes ≡ bytes ++ []
 nothing_added [] = refl
 nothing_added (byte ∷ bytes) = ap (λ (xs : List ℕ). byte ∷ xs) (nothing_added bytes)
-
--- bytes were sent whole, or a proper beginning of them
-pub sent_part : {E : Type 0} (sent : E → ℕ) (result : Result (Unit {0}) E) (old new : Option (List ℕ)) (bytes : List ℕ) (failed : Type 0) →
-    OnOk result (Appends old new bytes) → IfErr result (λ stopped. Appends old new (take (sent stopped) bytes)) →
-    IfErr result (λ stopped. sent stopped < length bytes) → OnErr result failed →
-    Appends old new bytes ⊎ ((count : ℕ) × (count < length bytes) × Appends old new (take count bytes) × failed)
-sent_part sent (Ok done) old new bytes failed all part cut stop = inl all
-sent_part sent (Err stopped) old new bytes failed all part cut stop = inr (sent stopped, cut, part, stop)

@@ -51,11 +51,20 @@ pub(crate) fn branch_fault(scene: &Scene<'_>, branch: &Word<'_>) -> Hint {
 // Returns which letter of a branch is in a branch before it too.
 fn repeated_letter(scene: &Scene<'_>, branch: &Word<'_>) -> Hint {
     for byte in branch.letters() {
-        for old in scene.text().split(is_blank).take(branch.index).skip(2) {
-            if Word::of(old).letters().contains(byte) {
-                let (letter, old) = (char::from(*byte), typed(old));
-                return tell(format_args!("{letter} stood in the branch {old} already"));
-            }
+        if let Some(old) = branch_with(scene.text(), branch.index, *byte) {
+            let (letter, old) = (char::from(*byte), typed(old.bytes));
+            return tell(format_args!("{letter} stood in the branch {old} already"));
+        }
+    }
+    None
+}
+
+/// Returns the first branch of a see line that has a letter, if it is among so many words.
+pub(crate) fn branch_with(line: &[u8], words: usize, letter: u8) -> Option<Word<'_>> {
+    for word in line.split(is_blank).take(words).skip(2) {
+        let branch = Word::of(word);
+        if branch.letters().contains(&letter) {
+            return Some(branch);
         }
     }
     None
@@ -120,7 +129,7 @@ fn letter_hint(branch: &Word<'_>, letter: u8) -> &'static str {
         b'G' => "a go is a small g alone",
         b'o' | b'O' if is_word(letters, b"go") => "a go is a small g alone",
         b'0' | b'1' => "a ten is T, and an ace A",
-        _ if letters.iter().any(is_of_no_card) => "write each rank by its letter",
+        _ if has_other_letter(letters) => "write each rank by its letter",
         b'a' | b't' | b'j' | b'q' | b'k' => "a rank is a capital",
         _ if letter.is_ascii_alphanumeric() => "a branch has ranks and no suits",
         _ => "write each letter, with no sign between two, as in A23:1",
@@ -137,7 +146,12 @@ pub(crate) fn are_letters(word: &[u8]) -> bool {
     !word.is_empty()
 }
 
-// Whether a byte is a letter that names neither a rank nor a suit nor a go, in small letters or in capitals.
-fn is_of_no_card(byte: &u8) -> bool {
-    byte.is_ascii_alphabetic() && !b"ATJQKGCDHS".contains(&byte.to_ascii_uppercase())
+// Whether a letter names neither a rank nor a suit nor a go, in small letters or in capitals.
+fn has_other_letter(letters: &[u8]) -> bool {
+    for byte in letters {
+        if byte.is_ascii_alphabetic() && !b"ATJQKGCDHS".contains(&byte.to_ascii_uppercase()) {
+            return true;
+        }
+    }
+    false
 }

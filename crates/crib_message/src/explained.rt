@@ -133,12 +133,18 @@ fn bad_word(scene: &Scene<'_>, cause: Cause) -> Option<Explained> {
         BAD_NEXT => not_later(scene, word.bytes),
         _ => {
             let hint = hint_of(scene, &misfit, cause);
-            let wanted = wanted_at(scene, misfit.slot, cause, hint.is_some());
-            let text = format_args!("{typed} is {cause}{wanted}");
-            return Some(said(text, word.mark(), hint));
+            (wanted_at(scene, misfit.slot, cause, hint.is_some()), hint)
         }
     };
-    Some(said(format_args!("{typed} is {cause}: {why}"), word.mark(), hint))
+    let joint = match cause {
+        BAD_SET | BAD_NEXT => ": ",
+        _ => "",
+    };
+    Some(said(
+        format_args!("{typed} is {cause}{joint}{why}"),
+        word.mark(),
+        hint,
+    ))
 }
 
 // Explains a card of a problem that is already used.
@@ -159,7 +165,8 @@ fn same_card(scene: &Scene<'_>, card: &Word<'_>) -> Option<Explained> {
 // Returns what is expected in place of a misfit.
 fn wanted_at(scene: &Scene<'_>, slot: Slot, cause: Cause, has_hint: bool) -> Sentence {
     let is_number = cause != BAD_LINE || read_number(scene.word(0)).is_some();
-    let (own, left) = (scene.node(), scene.holes_left());
+    let own = scene.node();
+    let left = scene.holes_left();
     let score = 121u32.saturating_sub(left);
     let words = words_at(scene, slot, cause);
     match slot {
@@ -195,18 +202,23 @@ fn words_at(scene: &Scene<'_>, slot: Slot, cause: Cause) -> &'static str {
 
 // Returns why a target isn't a later node, and the hint for it.
 fn not_later(scene: &Scene<'_>, target: &[u8]) -> (Sentence, Hint) {
-    let (own, count) = (scene.node(), scene.node_count());
+    let own = scene.node();
+    let count = scene.node_count();
     let why = match read_number(target) {
         None => return (Sentence::of(NO_END), None),
         Some(number) if number < count => Sentence::of(format_args!(
             "this is the line of node {own}, and a target has a greater number"
         )),
-        Some(number) if count == 1 => Sentence::of(format_args!(
-            "node {number} isn't there, since the plan has 1 node, number 0"
-        )),
-        Some(number) => Sentence::of(format_args!(
-            "node {number} isn't there, since the plan has {count} nodes, numbered from 0"
-        )),
+        Some(number) => {
+            let nodes = if count == 1 {
+                "node, number 0"
+            } else {
+                "nodes, numbered from 0"
+            };
+            Sentence::of(format_args!(
+                "node {number} isn't there, since the plan has {count} {nodes}"
+            ))
+        }
     };
     (why, count_hint(scene))
 }

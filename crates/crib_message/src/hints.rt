@@ -27,27 +27,51 @@ const GOES: &str = "go g0 g goes says say pass gos no";
 
 /// Returns the hint for a misfit of a line that is refused for a cause.
 pub(crate) fn hint_of(scene: &Scene<'_>, misfit: &Misfit<'_>, cause: Cause) -> Hint {
-    match (misfit.slot, misfit.word.bytes) {
-        (_, []) => cards_hint(scene),
-        (Slot::Extra, word) => extra_hint(scene, word),
-        (Slot::Keyword, word) => keyword_hint(scene, word),
-        (Slot::Side, _) if scene.word_count() > 2 => None,
-        (Slot::Side, word) => word_hint(word, &["owner", "opponent"]).or(tell(SIDES)),
-        (Slot::Aim, word) => aim_hint(word),
-        (Slot::Kind, word) => word_hint(word, &["play", "see"]),
-        (Slot::Actor, word) => actor_hint(scene, word),
-        (Slot::Card, word) if cause != BAD_LINE => card_hint(word),
-        (Slot::Card, word) => card_slot_hint(scene, word),
-        (Slot::Move | Slot::Stated, _) => move_hint(scene, misfit),
-        (Slot::Own, word) if cause == BAD_LINE => own_hint(scene, word),
-        (Slot::Branch, _) => branch_hint(scene, &misfit.word, cause),
-        (Slot::Target, word) => target_hint(word),
-        (Slot::Points, b"121") if cause != BAD_LINE => tell("The game is over at 121."),
-        (Slot::Points, word) if scene.word_count() < 3 && two_numbers_hint(word).is_some() =>
-            two_numbers_hint(word),
-        (_, word) if cause == BAD_LINE && !word.iter().any(u8::is_ascii_digit) => None,
-        (_, word) => number_hint(word),
+    let word = misfit.word.bytes;
+    match misfit.slot {
+        _ if word.is_empty() => cards_hint(scene),
+        Slot::Extra => extra_hint(scene, word),
+        Slot::Keyword => keyword_hint(scene, word),
+        Slot::Side if scene.word_count() > 2 => None,
+        Slot::Side => word_hint(word, &["owner", "opponent"]).or(tell(SIDES)),
+        Slot::Aim => aim_hint(word),
+        Slot::Kind => word_hint(word, &["play", "see"]),
+        Slot::Actor => actor_hint(scene, word),
+        Slot::Card if cause != BAD_LINE => card_hint(word),
+        Slot::Card => card_slot_hint(scene, word),
+        Slot::Move | Slot::Stated => move_hint(scene, misfit),
+        Slot::Own if cause == BAD_LINE => own_hint(scene, word),
+        Slot::Branch => branch_hint(scene, &misfit.word, cause),
+        Slot::Target => target_hint(word),
+        slot => figure_hint(scene, slot, word, cause == BAD_LINE),
     }
+}
+
+// A number, or a word in the place of one.
+fn figure_hint(scene: &Scene<'_>, slot: Slot, word: &[u8], is_form: bool) -> Hint {
+    let is_score = slot == Slot::Points;
+    if is_score && !is_form && word == b"121".as_slice() {
+        return tell("The game is over at 121.");
+    }
+    let numbers = if is_score && scene.word_count() < 3 {
+        two_numbers_hint(word)
+    } else {
+        None
+    };
+    match numbers {
+        None if is_form && !has_digit(word) => None,
+        None => number_hint(word),
+        hint => hint,
+    }
+}
+
+fn has_digit(word: &[u8]) -> bool {
+    for byte in word {
+        if byte.is_ascii_digit() {
+            return true;
+        }
+    }
+    false
 }
 
 // A word behind the last one of its line.
@@ -66,14 +90,16 @@ fn extra_hint(scene: &Scene<'_>, word: &[u8]) -> Hint {
 
 // Returns how many cards the line has, if each word behind its keyword is one.
 fn cards_hint(scene: &Scene<'_>) -> Hint {
-    let mut has_cards = scene.row.has_cards();
-    for word in scene.text().split(is_blank).skip(1) {
-        has_cards = has_cards && read_card(word).is_some();
-    }
-    if !has_cards {
+    if !scene.row.has_cards() {
         return None;
     }
-    let cards = scene.word_count().saturating_sub(1);
+    let mut cards = 0usize;
+    for word in scene.text().split(is_blank).skip(1) {
+        if read_card(word).is_none() {
+            return None;
+        }
+        cards = cards.saturating_add(1);
+    }
     let more = match scene.row {
         Row::Hold if cards == 6 => ": hold has four, and throw has the other two",
         _ => "",
@@ -182,7 +208,12 @@ fn branch_hint(scene: &Scene<'_>, branch: &Word<'_>, cause: Cause) -> Hint {
 
 // Whether a word is a name: letters alone, and not only one, which may be a mistyped digit.
 fn is_name(word: &[u8]) -> bool {
-    word.len() > 1 && word.iter().all(u8::is_ascii_alphabetic)
+    for byte in word {
+        if !byte.is_ascii_alphabetic() {
+            return false;
+        }
+    }
+    word.len() > 1
 }
 
 // The node behind the card of a play node.

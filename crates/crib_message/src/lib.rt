@@ -4,7 +4,6 @@
 //! memory.
 #![tactic(auto)]
 
-mod asked;
 mod branches;
 mod bytes;
 mod cards;
@@ -22,7 +21,6 @@ mod state;
 mod strays;
 mod turns;
 
-pub use asked::Asked;
 pub use message::{Message, message_of};
 
 #[cfg(test)]

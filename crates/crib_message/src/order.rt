@@ -93,26 +93,35 @@ pub(crate) fn order_hint(scene: &Scene<'_>) -> Hint {
 
 // A line in place of the first line of a section, or behind the last section.
 fn header_hint(scene: &Scene<'_>, row: Option<Row>) -> Hint {
-    let order = Some(section_order(scene.place.section));
     let is_verdict = is_either(scene.word(0), b"fails", b"holds");
     let is_opening = row == Some(Row::Played) || is_act(scene.text());
-    let text = match (scene.row, row) {
-        (Row::Problem | Row::Plan | Row::Game, None) if scene.word(0) == b"none".as_slice() =>
+    let text = match row {
+        None if scene.word(0) == b"none".as_slice() && scene.row != Row::End =>
             "Where no plan is sure, solve writes none, and there is no plan to read.",
-        (Row::Problem, Some(Row::Plan | Row::Game)) => "The problem comes first.",
-        (Row::Problem, None) if is_verdict => "The problem comes first.",
-        (Row::Problem, _) => return row.and(order),
-        (_, Some(Row::Problem)) => "An input has one problem.",
-        (_, Some(Row::Plan | Row::Game)) => return Some(sections_hint(scene.sections)),
-        (Row::Game, _) if is_verdict =>
+        _ if scene.row == Row::Problem => return problem_hint(row, is_verdict),
+        Some(Row::Problem) => "An input has one problem.",
+        Some(Row::Plan | Row::Game) => return Some(sections_hint(scene.sections)),
+        _ if scene.row == Row::Game && is_verdict =>
             "Leave out this line of an answer: a game begins with game 1.",
-        (Row::Plan, Some(Row::Nodes)) => return order,
-        (Row::Game, Some(Row::Hold | Row::Throw | Row::Acts)) => return order,
+        Some(Row::Nodes) if scene.row == Row::Plan => return Some(section_order(Section::Plan)),
+        Some(Row::Hold | Row::Throw | Row::Acts) if scene.row == Row::Game => return Some(
+            section_order(Section::Game),
+        ),
         _ if is_opening && !scene.is_second() =>
             "Turns that were played already need problem 2 on line 1.",
         _ => return count_hint(scene),
     };
     count_hint(scene).or(tell(text))
+}
+
+// A line in place of the first line of an input.
+fn problem_hint(row: Option<Row>, is_verdict: bool) -> Hint {
+    match row {
+        Some(Row::Plan | Row::Game) => tell("The problem comes first."),
+        None if is_verdict => tell("The problem comes first."),
+        None => None,
+        Some(_) => Some(section_order(Section::Problem)),
+    }
 }
 
 /// Returns what the command reads.

@@ -39,9 +39,11 @@ pub(crate) fn is_either(word: &[u8], first: &[u8], second: &[u8]) -> bool {
 }
 
 fn is_with_zeros(word: &[u8], wanted: &[u8]) -> bool {
-    for (byte, letter) in word.iter().zip(wanted) {
-        if byte.to_ascii_lowercase() != *letter && (*byte, *letter) != (b'0', b'o') {
-            return false;
+    for (index, letter) in wanted.iter().enumerate() {
+        match word.get(index) {
+            Some(b'0') if *letter == b'o' => {}
+            Some(byte) if byte.to_ascii_lowercase() == *letter => {}
+            _ => return false,
         }
     }
     word.len() == wanted.len()
@@ -49,40 +51,48 @@ fn is_with_zeros(word: &[u8], wanted: &[u8]) -> bool {
 
 /// Returns a word without the signs around it that are neither letters nor digits.
 pub(crate) fn bare(word: &[u8]) -> &[u8] {
-    let from = word
-        .iter()
-        .position(u8::is_ascii_alphanumeric)
-        .unwrap_or(word.len());
-    let last = word
-        .iter()
-        .rposition(u8::is_ascii_alphanumeric)
-        .unwrap_or(0);
-    word.get(from..=last).unwrap_or(b"")
+    let (mut from, mut to) = (word.len(), 0usize);
+    for (index, byte) in word.iter().enumerate() {
+        if byte.is_ascii_alphanumeric() {
+            from = from.min(index);
+            to = index.saturating_add(1);
+        }
+    }
+    word.get(from..to).unwrap_or(b"")
 }
 
 // Whether one letter is missing, wrong or too many, or two neighbours are in the wrong order.
 fn is_near(word: &[u8], wanted: &[u8]) -> bool {
     let same = same_len(word, wanted);
-    let rest = word.get(same..).unwrap_or(b"");
-    let others = wanted.get(same..).unwrap_or(b"");
-    let tail = rest.get(1..).unwrap_or(b"");
-    let other_tail = others.get(1..).unwrap_or(b"");
-    let is_swapped = rest.first() == other_tail.first() && tail.first() == others.first();
-    let is_same_behind = tail == other_tail || tail == others || rest == other_tail;
-    let is_near = is_same_behind || is_swapped && tail.get(1..) == other_tail.get(1..);
-    is_near && wanted.len() > 2 && word.len() > 1
+    let (rest, others) = (behind(word, same), behind(wanted, same));
+    let (tail, other_tail) = (behind(rest, 1), behind(others, 1));
+    let is_near = tail == other_tail || tail == others || rest == other_tail;
+    (is_near || are_swapped(rest, others)) && wanted.len() > 2 && word.len() > 1
+}
+
+// Returns what is behind so many bytes.
+fn behind(word: &[u8], len: usize) -> &[u8] {
+    word.get(len..).unwrap_or(b"")
+}
+
+// Whether two words differ in the order of their first two letters, and in nothing else.
+fn are_swapped(word: &[u8], wanted: &[u8]) -> bool {
+    match (word, wanted) {
+        ([first, second, rest @ ..], [other, next, others @ ..]) => {
+            first == next && second == other && rest == others
+        }
+        _ => false,
+    }
 }
 
 // Returns the number of bytes with which both words begin.
 fn same_len(word: &[u8], wanted: &[u8]) -> usize {
-    let mut same = 0usize;
-    for (byte, letter) in word.iter().zip(wanted) {
-        if byte != letter {
-            break;
+    for (same, letter) in wanted.iter().enumerate() {
+        if word.get(same) != Some(letter) {
+            return same;
         }
-        same = same.saturating_add(1);
     }
-    same
+    wanted.len()
 }
 
 /// Returns the hint for a word that should be a number.
@@ -94,18 +104,28 @@ pub(crate) fn number_hint(word: &[u8]) -> Hint {
         _ if read_number(word).is_some() => return None,
         _ if are_digits(word) => "The greatest number is 4294967295.",
         _ if are_digits(bare(word)) => "Write no other sign at a number.",
-        _ if word.iter().all(is_like_digit) => "Write 0 and 1 as digits, not as letters.",
+        _ if are_like_digits(word) => "Write 0 and 1 as digits, not as letters.",
         _ => "Write a number in digits alone.",
     })
 }
 
 fn are_digits(word: &[u8]) -> bool {
-    !word.is_empty() && word.iter().all(u8::is_ascii_digit)
+    for byte in word {
+        if !byte.is_ascii_digit() {
+            return false;
+        }
+    }
+    !word.is_empty()
 }
 
-// Whether a byte is a digit, or a letter that looks like 0 or 1.
-fn is_like_digit(byte: &u8) -> bool {
-    matches!(*byte, b'0'..=b'9' | b'O' | b'o' | b'l' | b'I' | b'i')
+// Whether each byte is a digit, or a letter that looks like 0 or 1.
+fn are_like_digits(word: &[u8]) -> bool {
+    for byte in word {
+        if !matches!(*byte, b'0'..=b'9' | b'O' | b'o' | b'l' | b'I' | b'i') {
+            return false;
+        }
+    }
+    true
 }
 
 /// Returns the hint for numbers with one sign between two in place of a blank, as `109-110`.

@@ -35,25 +35,27 @@ impl State {
     /// Returns the state before the refused act, or after so many further acts. Returns `None` if the lines above are
     /// refused themselves.
     pub(crate) fn before(scene: &Scene<'_>, further: usize) -> Option<State> {
-        let is_game = matches!(scene.place.section, Section::Game);
-        let head = if is_game { scene.before() } else { 8 };
-        let text = text_of(scene, head as usize);
-        let mut lines = Lines::new(text.as_slice()).ok()?;
-        let problem = read_problem(&mut lines).ok()?;
-        let (dealt, acts) = match is_game {
-            true => {
-                let Game { opp, acts } = read_game(&mut lines).ok()?;
-                (Some(opp), acts)
-            }
-            false => opening_acts(&mut lines, scene.number.saturating_sub(head))?,
-        };
-        let mut state = State::at_lead(problem, dealt, head);
+        let (mut state, acts) = State::read(scene)?;
         let place = scene.number.saturating_sub(state.line).saturating_sub(1) as usize;
         state.act = acts.get(place).copied().unwrap_or_default();
         for act in acts.iter().take(place.saturating_add(further)) {
             state.take(act);
         }
         Some(state)
+    }
+
+    // Reads the problem and the acts: those of the game, or the turns up to the refused line.
+    fn read(scene: &Scene<'_>) -> Option<(State, Acts)> {
+        let is_game = matches!(scene.place.section, Section::Game);
+        let head = if is_game { scene.before() } else { 8 };
+        let text = text_of(scene, head as usize);
+        let mut lines = Lines::new(text.as_slice()).ok()?;
+        let problem = read_problem(&mut lines).ok()?;
+        let (dealt, acts) = match is_game {
+            true => game_acts(&mut lines)?,
+            false => opening_acts(&mut lines, scene.number.saturating_sub(head))?,
+        };
+        Some((State::at_lead(problem, dealt, head), acts))
     }
 
     // Returns the state at the first lead. A game has four lines before it, behind the line `head`.
@@ -126,6 +128,12 @@ impl State {
             self.closed = self.line;
         }
     }
+}
+
+// Reads a game.
+fn game_acts(lines: &mut Lines<'_>) -> Option<(Option<Dealt>, Acts)> {
+    let Game { opp, acts } = read_game(lines).ok()?;
+    Some((Some(opp), acts))
 }
 
 // Reads so many turns of an opening.

@@ -1,6 +1,6 @@
 //! The place of a plan at an act that strays from it.
-use crate::branches::{LETTERS, target_of};
-use crate::scene::{Word, count_at, is_blank, line_at, problem_len, word_in};
+use crate::branches::{LETTERS, branch_with, target_of};
+use crate::scene::{count_at, line_at, problem_len, word_in};
 use crate::sentence::{Sentence, named};
 use crib_cards::{Act, Move, Side, read_card};
 use crib_text::read_number;
@@ -38,12 +38,6 @@ fn node_after(input: &[u8], first: u32, acts: &[Act]) -> Option<u32> {
 
 // Returns the node behind the branch of a see line that has a move.
 fn node_behind(line: &[u8], what: &Move) -> Option<u32> {
-    let letter = LETTERS.get(usize::from(what.letter().place()))?;
-    for word in line.split(is_blank).skip(2) {
-        let branch = Word::of(word);
-        if branch.letters().contains(letter) {
-            return read_number(target_of(&branch));
-        }
-    }
-    None
+    let letter = *LETTERS.get(usize::from(what.letter().place()))?;
+    read_number(target_of(&branch_with(line, usize::MAX, letter)?))
 }

@@ -17,7 +17,8 @@ const ALL_TURNS: &str = "a game begins with all turns of the opening, and here "
 pub(crate) fn explain_turn(scene: &Scene<'_>, cause: Cause) -> Option<Explained> {
     let state = State::before(scene, usize::from(cause == Problem(Rule::AlreadyOver)))?;
     let mut sentence = Sentence::of("");
-    let (side, moved) = (the(state.act.side), moved(&state.act.what));
+    let side = the(state.act.side);
+    let moved = moved(&state.act.what);
     match cause {
         Problem(Rule::NotTurn) => sentence.add(format_args!("{side} is {cause}: ")),
         Problem(Rule::AlreadyOver) => sentence.add(format_args!("{cause}: with {moved} ")),
@@ -84,7 +85,7 @@ fn add_as_played(to: &mut Sentence, scene: &Scene<'_>, place: u8) -> Option<()> 
 
 // Appends why it isn't the turn of the act's side.
 fn add_not_turn(to: &mut Sentence, state: &State) {
-    let (side, mover) = (the(state.act.side), the(state.act.side.other()));
+    let side = the(state.act.side);
     let is_go = state.act.what == Move::Go;
     let is_idle = is_go && state.round.cards_left(state.act.side) == 0;
     let line = state.line_of(&Move::Go).unwrap_or(0);
@@ -96,9 +97,12 @@ fn add_not_turn(to: &mut Sentence, state: &State) {
         true => to.add(format_args!("{side} has no card left, and such a go isn't written; ")),
         false => add_closed(to, state),
     }
-    let (go, count) = (go_of(state.act.side.other()), state.round.count());
+    let other = state.act.side.other();
+    let mover = the(other);
+    let go = go_of(other);
+    let count = state.round.count();
     to.add(format_args!("it is {mover}'s turn, and the count is {count}"));
-    match state.held(state.act.side.other()) {
+    match state.held(other) {
         _ if is_idle || is_said => to.add("; leave this line out"),
         Some(held) if held.has_fitting => to.add(format_args!("; they hold {}", held.text)),
         Some(Held { cards, .. }) => to.add(format_args!(
@@ -125,7 +129,8 @@ fn add_closed(to: &mut Sentence, state: &State) {
 // Appends which cards fit, instead of a go.
 fn add_go(to: &mut Sentence, state: &State) {
     add_closed(to, state);
-    let (side, count) = (the(state.act.side), state.round.count());
+    let side = the(state.act.side);
+    let count = state.round.count();
     to.add(format_args!("the count is {count}, so "));
     match 31u8.saturating_sub(count) {
         10.. => to.add("every card fits"),
@@ -139,20 +144,23 @@ fn add_go(to: &mut Sentence, state: &State) {
 
 // Appends what fits, instead of a card that is too high.
 fn add_too_high(to: &mut Sentence, state: &State, card: Card) {
-    let (name, value, count) = (named(card), card.rank().value(), state.round.count());
+    let name = named(card);
+    let value = card.rank().value();
+    let count = state.round.count();
     let left = 31u8.saturating_sub(count);
     to.add(format_args!("{name} counts {value}, the count is {count}, and {left} is left to 31; "));
-    let (side, other) = (the(state.act.side), the(state.act.side.other()));
-    let (go, is_alone) = (
-        go_of(state.act.side),
-        state.round.cards_left(state.act.side.other()) == 0,
-    );
+    let side = the(state.act.side);
+    let go = go_of(state.act.side);
+    let mover = state.act.side.other();
+    let other = the(mover);
     match state.held(state.act.side) {
         Some(held) if held.has_fitting => to.add(format_args!("{side} holds {}", held.text)),
         Some(_) => to.add(format_args!(
             "{side} holds no card that fits, so {go} is missing before this line"
         )),
-        None if is_alone => to.add(format_args!("{go} may be missing before this line")),
+        None if state.round.cards_left(mover) == 0 => to.add(format_args!(
+            "{go} may be missing before this line"
+        )),
         None => to.add(format_args!("{go} would pass the turn to {other}")),
     }
 }
@@ -171,12 +179,14 @@ fn place_of(state: &State, card: Card) -> Option<(&'static str, u32)> {
 
 // Appends where a card is that the act's side doesn't hold, and what this side holds or whose turn it is.
 fn add_not_held(to: &mut Sentence, state: &State, card: Card) {
-    let (side, other) = (the(state.act.side), the(state.act.side.other()));
+    let side = the(state.act.side);
     let name = named(card);
-    let (is_held, is_thrown) = match state.dealt {
-        Some(dealt) => (dealt.hold.contains(&card), dealt.throw.contains(&card)),
-        None => (false, false),
-    };
+    let mut is_held = false;
+    let mut is_thrown = false;
+    if let Some(dealt) = state.dealt {
+        is_held = dealt.hold.contains(&card);
+        is_thrown = dealt.throw.contains(&card);
+    }
     let mut joint = "; ";
     match place_of(state, card) {
         Some((_, 5)) => to.add(format_args!("the owner holds {name}")),
@@ -185,10 +195,13 @@ fn add_not_held(to: &mut Sentence, state: &State, card: Card) {
         None if is_thrown => to.add(format_args!("{name} is in the opponent's throw")),
         None => joint = "",
     }
-    let is_turn = state.round.next().asks(state.act.side.other());
+    let mover = state.act.side.other();
+    let other = the(mover);
     match state.held(state.act.side) {
         Some(Held { cards, .. }) => to.add(format_args!("{joint}{side} still holds {cards}")),
-        None if is_turn => to.add(format_args!("{joint}it is {other}'s turn")),
+        None if state.round.next().asks(mover) => to.add(format_args!(
+            "{joint}it is {other}'s turn"
+        )),
         None => {}
     }
 }
@@ -201,7 +214,8 @@ fn add_seen(to: &mut Sentence, state: &State, place: u8) -> Option<()> {
         .hold
         .get(at)
         .or(dealt.throw.get(at.saturating_sub(4)))?;
-    let (name, line) = (named(card), state.line.saturating_sub(2));
+    let name = named(card);
+    let line = state.line.saturating_sub(2);
     let is_held = place > 4 && dealt.hold.contains(&card);
     match place_of(state, card) {
         Some((at, line)) => to.add(format_args!("{name} {at} (line {line})")),

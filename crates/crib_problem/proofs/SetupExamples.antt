@@ -21,6 +21,7 @@ use Rattle.crib_problem.specs.declared.problem.Version.TheVariants.{One, Two}
 use Rattle.crib_problem.specs.Setup.{Setup, IsSetup, IsGoal, CanSay, IsMove, IsDealOf, BeginsAsPlayed, setup_by, target_of, known_cards, start_of}
 use Rattle.crib_problem.specs.Setup.{at_lead, fixed_cards, goal_hole, hands_of, is_stop, opening_basis_of, played_back}
 use Rattle.crib_problem.specs.Spelling.{problem_text, problem_lines}
+use Rattle.crib_problem.proofs.Setups.{setup_from}
 use Rattle.crib_problem.proofs.ExampleProblems.{plays, says_go, level, four_twos, after_two, aces}
 
 -- the owner deals and holds four twos, the scores are 61 to 70, and the goal is twelve holes
@@ -50,10 +51,10 @@ reached_in_the_play = refl
 
 -- ---- the conditions of a problem
 pub owner_at_120 : IsSetup (record midway { scores = record { owner = 120; opponent = 119 }; goal = Holes 1 })
-owner_at_120 = search arith
+owner_at_120 = setup_from _ refl (omega arith, omega arith) tt (omega arith) tt tt
 
 pub opponent_at_120 : IsSetup (record midway { scores = record { owner = 119; opponent = 120 }; goal = Holes 2 })
-opponent_at_120 = search arith
+opponent_at_120 = setup_from _ refl (omega arith, omega arith) tt (omega arith) tt tt
 
 -- a score above 120, a goal of no holes, a card too few, and more than 32 turns
 pub not_in_bounds :

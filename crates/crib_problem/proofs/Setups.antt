@@ -1,7 +1,7 @@
 -- How a problem is shown to be valid: by a test of its cards and scores, or from one with another opening.
 use Rattle.std.proofs.Common.{◌≡◌, ℕ, ◌≤◌, Bool, true, eqb, leb, ltb, ◌&&◌, List, [], ◌∷◌, length, reverse, refl, arith}
 use Rattle.std.specs.List.{AllByRecursion, list_all}
-use Rattle.std.proofs.lemmas.Bool.Decides.{nat_tests}
+use Rattle.std.proofs.lemmas.Bool.{and_parts, eqb-true, leb-true}
 use Rattle.crib_cards.specs.Cards.{IsCard}
 use Rattle.crib_cards.specs.Sets.{are_distinct}
 use Rattle.crib_cards.specs.declared.moves.Act.{Act}
@@ -29,8 +29,7 @@ without_opening problem is = with_opening problem [] is (says_goal problem.versi
 -- ---- by a test
 all_cards : (cards : List ℕ) → list_all (λ card. ltb card 52) cards ≡ true → AllByRecursion IsCard cards
 all_cards [] all = tt
-all_cards (card ∷ cards) all =
-    (grind (arith, nat_tests, all), all_cards cards (grind (arith, nat_tests, all)))
+all_cards (card ∷ cards) all = let parts = and_parts (ltb card 52) _ all in (leb-true _ _ parts.0, all_cards cards parts.1)
 
 -- whether the cards and the scores of a problem are possible
 abbrev pub is_dealt : Setup → Bool
@@ -43,7 +42,21 @@ pub setup_from : (problem : Setup) → is_dealt problem ≡ true → IsGoal prob
     CanSay problem.version problem.goal problem.played → length problem.played ≤ 32 → AllMoves problem.played →
     AreAllowed (opening_basis_of problem) (played_back problem) → IsSetup problem
 setup_from problem dealt goal can few moves allowed =
-    let parts : (length problem.hold ≡ 4) × (length problem.thrown ≡ 2) × (list_all (λ card. ltb card 52) (known_cards problem) ≡ true)
-    × (are_distinct (known_cards problem) ≡ true) × (problem.scores.owner ≤ 120) × (problem.scores.opponent ≤ 120) = grind (arith, nat_tests) in
-    let cards = all_cards (known_cards problem) parts.2 in
-    assumption
+    let parts = and_parts _ _ dealt in
+    let lengths = and_parts _ _ parts.0 in
+    let others = and_parts _ _ parts.1 in
+    let cards = and_parts _ _ others.0 in
+    let scores = and_parts _ _ others.1 in
+    record {
+      held = eqb-true _ _ lengths.0;
+      two_thrown = eqb-true _ _ lengths.1;
+      cards = all_cards (known_cards problem) cards.0;
+      distinct = cards.1;
+      owner_score = leb-true _ _ scores.0;
+      opponent_score = leb-true _ _ scores.1;
+      goal_in_range = goal;
+      of_version = can;
+      few = few;
+      moves = moves;
+      allowed = allowed;
+    }

@@ -10,7 +10,7 @@ ghost use Rattle.crib_text.specs.Refusals.{cause_number};
 ghost use Rattle.crib_text.specs.Reading.{Gives};
 ghost use Rattle.crib_text.specs.Spelling.{line_text};
 ghost use Rattle.crib_text.specs.Private.Writing.{Appended};
-ghost use Rattle.crib_problem.specs.Reading.{act_in, actor_in, acts_count_in, card_in, most_acts, move_in, side_called};
+ghost use Rattle.crib_problem.specs.Reading.{act_in, acts_count_in, card_in, most_acts, move_in, side_called};
 ghost use Rattle.crib_problem.specs.Spelling.{act_line, acts_lines};
 ghost use Rattle.crib_problem.specs.Private.Spelling.{spaced_card};
 
@@ -70,7 +70,7 @@ fn move_of(word: &[u8]) -> Result<Move, TextCause>
 
 /// Returns the act of a line such as `own 2C` or `opp go`. The line is refused with 4 if it has not two words or the
 /// first is neither `own` nor `opp`. It is refused with 5 if the second word is neither `go` nor a card.
-#[tactic(auto, using(crate::proofs::ActLemmas::two_in_act), unfolding(crate::specs::Reading::actor_in))]
+#[tactic(auto, using(crate::proofs::ActLemmas::two_in_act))]
 pub fn act_of(line: &Line<'_>) -> Result<Act, TextCause>
     ensures { Gives (λ act. act) cause_number result (act_in (line_of line.now).words) }
 {
@@ -91,10 +91,11 @@ pub fn append_acts<A: Allocator>(text: &mut Vec<u8, A>, keyword: &[u8], acts: &[
     ensures len { vec_len text.new ≤ vec_len text.old + length keyword.now + 4 + 7 * length acts.now }
 {
     append_count(text, keyword, acts.len() as u32);
-    append_act_lines(text, acts);
+    for act in acts {
+        append_act(text, act);
+    }
 }
 
-#[tactic(auto, using(crib_text::proofs::RoomLemmas::short))]
 fn append_count<A: Allocator>(text: &mut Vec<u8, A>, keyword: &[u8], count: u32)
     requires few { count ≤ most_acts }
     requires fits { vec_len text.old + length keyword.now + 4 ≤ vec_capacity text.old }
@@ -106,16 +107,6 @@ fn append_count<A: Allocator>(text: &mut Vec<u8, A>, keyword: &[u8], count: u32)
     append(text, b" ");
     append_number(text, count);
     append(text, b"\n");
-}
-
-// Appends a line for each act.
-fn append_act_lines<A: Allocator>(text: &mut Vec<u8, A>, acts: &[Act])
-    requires { vec_len text.old + 7 * length acts.now ≤ vec_capacity text.old }
-    ensures { Appended text.old text.new (flat_map line_text (map act_line acts.now)) (7 * length acts.now) }
-{
-    for act in acts {
-        append_act(text, act);
-    }
 }
 
 fn append_act<A: Allocator>(text: &mut Vec<u8, A>, act: &Act)

@@ -34,8 +34,8 @@ impl<A: Allocator> Text<A> {
 }
 
 /// Appends bytes to a text that has room for them.
-pub fn add(text: &mut ShortText, bytes: &[u8])
-    requires { array_vec_len text.old + length bytes.now ≤ 282 }
+pub fn add<const N: usize>(text: &mut ArrayVec<u8, N>, bytes: &[u8])
+    requires { array_vec_len text.old + length bytes.now ≤ N }
     ensures items { text.new.items ≡ text.old.items ++ bytes.now }
     ensures len { array_vec_len text.new ≡ array_vec_len text.old + length bytes.now }
 {

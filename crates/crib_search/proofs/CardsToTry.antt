@@ -22,7 +22,7 @@ use Rattle.crib_know.proofs.CardsLeft.{has-filter_parts}
 use Rattle.crib_search.specs.Finder.{one_of_each_rank, options}
 use Rattle.crib_search.specs.Private.Search.{may_play}
 use Rattle.crib_search.proofs.Options.{other_rank, first_has, no_option, option_left, IsOption}
-use Rattle.crib_check.proofs.FailureEndings.{filter_same}
+use Rattle.crib_sure.proofs.AgreeingInSuitOrder.{filter_same}
 use Rattle.crib_problem.proofs.HonestTurns.{none_any}
 
 -- ---- filters

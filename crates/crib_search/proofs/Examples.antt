@@ -4,7 +4,7 @@ use Rattle.crib_plan.specs.declared.plan.Next.TheVariants.{End, To}
 use Rattle.crib_plan.specs.declared.plan.Node.TheVariants.{Play, See}
 use Rattle.crib_problem.specs.Setup.{Setup}
 use Rattle.crib_plan.specs.declared.plan.Node.{Node}
-use Rattle.crib_check.specs.Sure.{IsSure}
+use Rattle.crib_sure.specs.Sure.{IsSure}
 use Rattle.crib_search.specs.Finder.{one_of_each_rank}
 use Rattle.crib_search.specs.Trees.{Tree, Finish, NoBranch, Plays, Sees, branches_of, is_play, joined_tree, trees_with, trees_after_walk}
 use Rattle.crib_search.specs.Winnable.{IsWinnable}

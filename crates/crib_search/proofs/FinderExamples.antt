@@ -19,8 +19,8 @@ use Rattle.crib_know.specs.Knowledge.{played_events}
 use Rattle.crib_know.specs.Hidden.{CanShow}
 use Rattle.crib_problem.specs.declared.problem.Goal.TheVariants.{Holes}
 use Rattle.crib_problem.proofs.ExampleProblems.{level, level_deal}
-use Rattle.crib_check.proofs.SureExamples.{at_29}
-use Rattle.crib_check.specs.Shows.{IsReachedBehind, full_behind}
+use Rattle.crib_sure.proofs.ExampleOpening.{at_29}
+use Rattle.crib_sure.specs.Shows.{IsReachedBehind, full_behind}
 use Rattle.crib_search.specs.Trees.{Tree, Finish, Plays, Sees, branches_of, joined_tree, same_tree, plan_of_tree}
 use Rattle.crib_search.specs.Finder.{Found, Tries, OwnerFinds, LacksBranch, BranchFinds, FindsFor, FindsTree, Finds, IsFound}
 use Rattle.crib_search.specs.Finder.{ExceedsLimit, options, letters}

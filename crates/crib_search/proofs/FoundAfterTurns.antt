@@ -1,6 +1,6 @@
 -- The answer for a knowledge, put together from the answers after each turn.
 use Rattle.std.proofs.Common.{◌≡◌, ◌⊎◌, ◌↔◌, ℕ, zero, suc, ◌+◌, ◌<◌, ◌≤◌, Bool, true, false, cond, List, [], ◌∷◌, ◌++◌, length, drop, get_or}
-use Rattle.std.proofs.Common.{Option, Some, None, slice_get, refl, sym, ap, ◌∙◌, inl, inr, arith}
+use Rattle.std.proofs.Common.{Option, Some, None, refl, sym, ap, ◌∙◌, inl, inr, arith}
 use Rattle.std.specs.Prelude.{Result, Ok, Err, IfOk, OnOk, OnErr}
 use Rattle.std.specs.Bool.{then_some}
 use Rattle.std.specs.List.{AllZip}
@@ -15,14 +15,14 @@ use Rattle.crib_problem.specs.Setup.{Setup}
 use Rattle.crib_know.specs.Knowledge.{Knowledge, asked_now}
 use Rattle.crib_know.specs.Hidden.{CanShow, IsKnown, KnowsAfter}
 use Rattle.crib_know.proofs.OwnCalls.{moved}
-use Rattle.crib_check.specs.Shows.{IsReachedBehind}
+use Rattle.crib_sure.specs.Shows.{IsReachedBehind}
 use Rattle.crib_search.specs.declared.nodes.DraftPlace.{DraftPlace}
-use Rattle.crib_search.specs.declared.nodes.DraftPlace.TheVariants.{End, At}
+use Rattle.crib_search.specs.declared.nodes.DraftPlace.TheVariants.{End}
 use Rattle.crib_search.specs.declared.nodes.DraftNode.{DraftNode}
 use Rattle.crib_search.specs.declared.nodes.DraftNode.TheVariants.{Play}
 use Rattle.crib_search.specs.declared.search.Search.{Search}
 use Rattle.crib_search.specs.Trees.{Tree, Finish, Plays, joined_tree}
-use Rattle.crib_search.specs.Private.Nodes.{IsEarlier, IsMore, Names, NamesFound}
+use Rattle.crib_search.specs.Private.Nodes.{IsEarlier, IsMore, IsPlaceOf, Names, NamesFound}
 use Rattle.crib_search.specs.Finder.{Found, FindsFor, Tries, BranchFinds, Finds, letters, options}
 use Rattle.crib_know.specs.Private.Ahead.{turns_ahead}
 use Rattle.crib_search.specs.Private.Search.{AreAnswers, IsAfter, IsAnswer, IsBranch, IsHere, IsLater, Tells}
@@ -146,14 +146,14 @@ module _ (problem : Setup) (draft_nodes : List DraftNode) (know : Knowledge) whe
         answer_for problem draft_nodes know found turns.Owner asked _ (λ history more tree knows names tries. rw (← same history knows) tries)
 
   module _ (cards : List ℕ) (index card : ℕ) (within : index < length cards) (is : card ≡ get_or cards index card) (before : List DraftNode) where
-    pub tried_some : IsMore before draft_nodes → (next : DraftPlace) (place : ℕ) → IsAfter problem before know (Own (move.Card card)) (Some next) →
-        slice_get draft_nodes place ≡ Some (Play card next) → IsTried problem draft_nodes know (drop index cards) (Some (At place))
-    tried_some more next place told there = rw (drop_more cards index card within, ← is) (record {
+    pub tried_some : IsMore before draft_nodes → (next draft_place : DraftPlace) → IsAfter problem before know (Own (move.Card card)) (Some next) →
+        IsPlaceOf draft_nodes (Play card next) draft_place → IsTried problem draft_nodes know (drop index cards) (Some draft_place)
+    tried_some more next draft_place told at = rw (drop_more cards index card within, ← is) (record {
       each = λ history further knows less.
           let after = told.each history further knows less in
           let named = some_named before after.0 next after.1 in (
             Some (Plays card named.0),
-            (At place, refl, (place, next, refl, there, names_more before draft_nodes more named.0 next named.2)),
+            (draft_place, refl, (at.0, next, at.1, at.2, names_more before draft_nodes more named.0 next named.2)),
             (Some named.0, rw named.1 at after.2, refl),
           );
     })

@@ -8,7 +8,7 @@ use Rattle.crib_search.specs.declared.nodes.DraftPlace.TheVariants.{End, At}
 use Rattle.crib_search.specs.declared.nodes.DraftNode.{DraftNode}
 use Rattle.crib_search.specs.declared.nodes.DraftNode.TheVariants.{See}
 use Rattle.crib_search.specs.Trees.{Tree, Finish, Sees, branches_of, same_tree, is_play, joined_tree}
-use Rattle.crib_search.specs.Private.Nodes.{IsEarlier, AreKept, IsMore, Names, NameAll, first_place, goes_to, is_play_at}
+use Rattle.crib_search.specs.Private.Nodes.{IsEarlier, AreKept, IsMore, IsPlaceOf, Names, NameAll, first_place, goes_to, is_play_at}
 use Rattle.crib_search.proofs.Trees.{goes_on, same_self}
 use Rattle.crib_search.proofs.KeptNodes.{all_more, same_for}
 
@@ -97,8 +97,8 @@ module _ (draft_nodes : List DraftNode) where
       joined_play b = let first = first_of trees nexts place zip e in rw (joined_is first, b) first.names
 
       -- otherwise the plan looks at the letter
-      pub joined_see : one_play ≡ false → (after : List DraftNode) → IsMore draft_nodes after → (at : ℕ) → slice_get after at ≡ Some (See nexts) →
-          Names after (joined_tree trees) (At at)
-      joined_see b after more at there =
+      pub joined_see : one_play ≡ false → (after : List DraftNode) → IsMore draft_nodes after → (draft_place : DraftPlace) →
+          IsPlaceOf after (See nexts) draft_place → Names after (joined_tree trees) draft_place
+      joined_see b after more draft_place at =
           rw (joined_is (first_of trees nexts place zip e), b)
-          (at, nexts, refl, there, all_more draft_nodes after more (branches_of trees) nexts (all_named trees nexts zip))
+          (at.0, nexts, at.1, at.2, all_more draft_nodes after more (branches_of trees) nexts (all_named trees nexts zip))

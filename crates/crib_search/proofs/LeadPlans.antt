@@ -32,7 +32,7 @@ use Rattle.crib_plan.proofs.LeadsTo.{or_rest}
 use Rattle.crib_know.proofs.CardsLeft.{has-filter_parts, has-filter_from}
 use Rattle.crib_game.specs.Replay.{is_done_for, full_of}
 use Rattle.crib_game.specs.Following.{Follows, is_stuck, opening_is_over, place_of}
-use Rattle.crib_check.specs.Sure.{IsSure, IsFollowed}
+use Rattle.crib_sure.specs.Sure.{IsSure, IsFollowed}
 use Rattle.crib_search.proofs.LeadExamples.{before_the_lead, after_lead, leads, first_after, second_after, plan_after, tens}
 use Rattle.crib_search.proofs.LeadExamples.{each_lead, each_last, left_with, left_after, is_over, left_visible, the_card, four_turns}
 use Rattle.crib_search.proofs.LeadExamples.{to_lead, to_first, to_last, to_close, to_end, free, goes_on, can_play, is_second, is_reached, with_last}

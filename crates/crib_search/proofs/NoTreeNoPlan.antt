@@ -39,18 +39,18 @@ use Rattle.crib_know.proofs.PassingIsAgreeing.{agrees_passes, passing_plays}
 use Rattle.crib_know.proofs.Deals.{dealt_is}
 use Rattle.crib_know.proofs.KnowledgeFacts.{begin_more, first_deal_is}
 use Rattle.crib_know.proofs.OpeningLawProofs.{played_led}
-use Rattle.crib_check.specs.Sure.{IsFollowed, IsSure}
-use Rattle.crib_check.specs.Shows.{full_behind}
+use Rattle.crib_sure.specs.Sure.{IsFollowed, IsSure}
+use Rattle.crib_sure.specs.Shows.{full_behind}
 use Rattle.crib_search.specs.Finder.{Found, options, OwnerFinds, Tries, Finds}
-use Rattle.crib_check.specs.Private.Histories.{place_by, IsStatedEvent, FollowsBy}
-use Rattle.crib_check.proofs.PlaceByHistory.{follows_at_start, place_history, follows_from}
-use Rattle.crib_check.proofs.RecordsFromOpening.{begun_plays}
+use Rattle.crib_sure.specs.Private.Histories.{place_by, IsStatedEvent, FollowsBy}
+use Rattle.crib_sure.proofs.PlaceByHistory.{follows_at_start, place_history, follows_from}
+use Rattle.crib_sure.proofs.RecordsFromOpening.{begun_plays}
 use Rattle.crib_search.proofs.Options.{IsOption, option_is, option_from, no_option, option_left, left_option}
 use Rattle.crib_search.proofs.RecordHistories.{letters_past, left_of, fits_past, led_by_record}
 use Rattle.crib_search.proofs.FoundBySide.{for_turn, tries_there, opponent_none}
 use Rattle.crib_search.proofs.AlikeHistories.{AreAlike, sight_of, alike_more, letters_alike, asked_alike, theirs_alike, least_alike, option_alike, show_alike}
 use Rattle.crib_cards.proofs.Members.{has_here, any_from}
-use Rattle.crib_check.proofs.VerdictAtStart.{not_stuck}
+use Rattle.crib_sure.proofs.PlaceByHistory.{not_stuck}
 use Rattle.crib_search.proofs.CardsToTry.{none_left_fits}
 
 -- a deal whose play is over is done

@@ -1,5 +1,5 @@
 -- The places of a plan that is made from its beginning on.
-use Rattle.std.proofs.Common.{◌≡◌, ℕ, suc, List, [], ◌∷◌, ◌++◌, length, Some, slice_get, refl, sym, ap, subst, ◌∙◌, IsTrue}
+use Rattle.std.proofs.Common.{◌≡◌, ℕ, suc, List, [], ◌∷◌, ◌++◌, length, refl, sym, ap, subst, ◌∙◌, IsTrue}
 use Rattle.std.specs.List.{AllByRecursion, AllZip}
 use Rattle.crib_cards.specs.Cards.{IsCard}
 use Rattle.crib_cards.specs.Sets.{IsCardSet, has}
@@ -8,11 +8,11 @@ use Rattle.crib_cards.proofs.SetFacts.{IsCardSet-set_of}
 use Rattle.crib_problem.specs.Setup.{Setup}
 use Rattle.crib_know.specs.Knowledge.{Knowledge}
 use Rattle.crib_search.specs.declared.nodes.DraftPlace.{DraftPlace}
-use Rattle.crib_search.specs.declared.nodes.DraftPlace.TheVariants.{End, At}
+use Rattle.crib_search.specs.declared.nodes.DraftPlace.TheVariants.{End}
 use Rattle.crib_search.specs.declared.nodes.DraftNode.{DraftNode}
 use Rattle.crib_search.specs.declared.nodes.DraftNode.TheVariants.{Play}
 use Rattle.crib_search.specs.Trees.{Tree, Finish, Plays, joined_tree}
-use Rattle.crib_search.specs.Private.Nodes.{IsMore, Names, IsPlanned}
+use Rattle.crib_search.specs.Private.Nodes.{IsMore, IsPlaceOf, Names, IsPlanned}
 use Rattle.crib_search.specs.Private.Search.{IsHere}
 use Rattle.crib_search.proofs.KeptNodes.{names_more}
 use Rattle.crib_search.proofs.FoundIsPlan.{AllWhole, joined_whole}
@@ -39,11 +39,11 @@ module _ (before after : List DraftNode) (more : IsMore before after) where
     whole = planned.whole;
   }
 
-  pub planned_play : (card : ℕ) → IsCard card → (next : DraftPlace) → IsPlanned before next → (place : ℕ) →
-      slice_get after place ≡ Some (Play card next) → IsPlanned after (At place)
-  planned_play card is_card next planned place there =
+  pub planned_play : (card : ℕ) → IsCard card → (next : DraftPlace) → IsPlanned before next → (draft_place : DraftPlace) →
+      IsPlaceOf after (Play card next) draft_place → IsPlanned after draft_place
+  planned_play card is_card next planned draft_place at =
       let later = planned_more next planned in
-      record { tree = Plays card later.tree; names = (place, next, refl, there, later.names); whole = (is_card, later.whole) }
+      record { tree = Plays card later.tree; names = (at.0, next, at.1, at.2, later.names); whole = (is_card, later.whole) }
 
   -- ---- the places of some letters
   pub planned_push : (nexts : List DraftPlace) (next : DraftPlace) → AllByRecursion (IsPlanned before) nexts → IsPlanned after next →

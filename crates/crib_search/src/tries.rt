@@ -1,14 +1,10 @@
 //! A plan to try: a sure one if there is one, otherwise one that few deals beat.
 ghost use Rattle.std.specs.Prelude.{◌≡◌, ◌⊎◌, IfOk, IsErr, Err, Some, IsTrue, IsFalse};
-ghost use Rattle.crib_check.specs.Sure.{IsSure};
+ghost use Rattle.crib_sure.specs.Sure.{IsSure};
 ghost use Rattle.crib_search.specs.Finder.{ExceedsLimit, IsFound};
 ghost use Rattle.crib_search.specs.Winnable.{IsWinnable};
 
 mod greedy;
-mod holds;
-mod tallies;
-mod throws;
-mod trials;
 
 use crate::finder::{Found, SearchFault, find, plan_from};
 use crate::nodes::Nodes;

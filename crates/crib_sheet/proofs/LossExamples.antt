@@ -10,8 +10,8 @@ use Rattle.crib_check.specs.Beaten.{Beats, IsOpen}
 use Rattle.crib_beaten.specs.Exact.{AreExactly}
 use Rattle.crib_beaten.specs.Terms.{AreRows}
 use Rattle.crib_beaten.specs.declared.rows.Row.{Row}
-use Rattle.crib_sheet.specs.declared.plan.losses.Losses.{Losses}
-use Rattle.crib_sheet.specs.PlanText.{label, rank_words}
+use Rattle.crib_sheet.specs.declared.verdict.losses.Losses.{Losses}
+use Rattle.crib_plan_sheet.specs.PlanText.{label, rank_words}
 use Rattle.crib_sheet.specs.PlanLosses.{AreLosses, AreLossesOf}
 use Rattle.crib_sheet.specs.PlanLosses.{grouped, hands_text, loss_line, losses_text, others_line, rows_lines, slot_part, slot_text}
 

@@ -7,9 +7,8 @@ use Rattle.std.proofs.lemmas.List.{take-replicate, take_all}
 use Rattle.crib_beaten.specs.declared.rows.Row.{Row}
 use Rattle.crib_text.specs.Spelling.{space}
 use Rattle.crib_sheet.specs.PlanLosses.{grouped, hands_text, loss_line, others_line, row_lines, rows_lines, slot_part, slot_text, term_text}
-use Rattle.crib_sheet.specs.Private.Pages.{spaced_label}
-use Rattle.crib_sheet.specs.declared.plan.losses.Losses.{Losses}
-use Rattle.crib_sheet.proofs.Labels.{label_is}
+use Rattle.crib_plan_sheet.specs.PlanText.{label}
+use Rattle.crib_sheet.specs.declared.verdict.losses.Losses.{Losses}
 
 pub loss_line_is : (front figure word : List ℕ) (deals blank gap : ℕ) → figure ≡ grouped deals → blank ≡ 25 - length front → gap ≡ 11 - length figure →
     (((((codes "   " ++ front) ++ take blank (replicate 25 space)) ++ take gap (replicate 11 space)) ++ figure) ++ word) ++ codes "\n"
@@ -21,18 +20,17 @@ loss_line_is front figure word deals blank gap is left right =
 
 -- ---- slots
 
-pub slot_single : (text label written : List ℕ) (slot : List Bool) → list_all (λ flag. flag) slot ≡ false → count_by (λ flag. flag) slot ≡ 1 →
-    label ≡ spaced_label (slot ++ false ∷ []) → written ≡ drop 1 label → (text ++ codes " ") ++ written ≡ text ++ slot_part slot
+pub slot_single : (text written : List ℕ) (slot : List Bool) → list_all (λ flag. flag) slot ≡ false → count_by (λ flag. flag) slot ≡ 1 →
+    written ≡ label (slot ++ false ∷ []) → (text ++ codes " ") ++ written ≡ text ++ slot_part slot
 unfolding slot_text
-slot_single text label written slot several one spaced is =
-    rw (several, one, is, spaced, label_is (slot ++ false ∷ [])) (append_assoc text (codes " ") (drop 1 (spaced_label (slot ++ false ∷ []))))
+slot_single text written slot several one is = rw (several, one, is) (append_assoc text (codes " ") (label (slot ++ false ∷ [])))
 
-pub slot_several : (text label written : List ℕ) (slot : List Bool) → list_all (λ flag. flag) slot ≡ false → count_by (λ flag. flag) slot ≢ 1 →
-    label ≡ spaced_label (slot ++ false ∷ []) → written ≡ drop 1 label → ((text ++ codes " (") ++ written) ++ codes ")" ≡ text ++ slot_part slot
+pub slot_several : (text written : List ℕ) (slot : List Bool) → list_all (λ flag. flag) slot ≡ false → count_by (λ flag. flag) slot ≢ 1 →
+    written ≡ label (slot ++ false ∷ []) → ((text ++ codes " (") ++ written) ++ codes ")" ≡ text ++ slot_part slot
 unfolding slot_text
-slot_several text label written slot several more spaced is =
-    let its = drop 1 (spaced_label (slot ++ false ∷ [])) in
-    rw (several, ne_eqb (count_by (λ flag. flag) slot) 1 more, is, spaced, label_is (slot ++ false ∷ []))
+slot_several text written slot several more is =
+    let its = label (slot ++ false ∷ []) in
+    rw (several, ne_eqb (count_by (λ flag. flag) slot) 1 more, is)
     (append_assoc (text ++ codes " (") its (codes ")") ∙ append_assoc text (codes " (") (its ++ codes ")"))
 
 -- ---- rows

@@ -1,5 +1,5 @@
 -- What the readers and the writers of sheets return is a right reply of the job to the input.
-use Rattle.std.proofs.Common.{◌≡◌, ◌⊎◌, inl, inr, ℕ, zero, suc, Bool, List, ◌++◌, Ok, Err, length, refl, ap, codes}
+use Rattle.std.proofs.Common.{◌≡◌, ◌⊎◌, inl, inr, ℕ, zero, suc, Bool, List, Ok, Err, length, refl, ap}
 use Rattle.std.proofs.Common.{true, false, Some, IsTrue, IsFalse}
 use Rattle.crib_text.specs.Refusals.{no_memory}
 use Rattle.crib_problem.specs.Setup.{Setup}
@@ -11,23 +11,18 @@ use Rattle.crib_check.specs.declared.verdict.Verdict.{Verdict}
 use Rattle.crib_check.specs.Verdicts.{IsRight}
 use Rattle.crib_input.specs.declared.refusal.Refusal.{Refusal as Refused}
 use Rattle.crib_input.specs.declared.reason.FaultCause.TheVariants.{NoMemory}
-use Rattle.crib_input.specs.declared.reason.Reason.{Reason}
 use Rattle.crib_input.specs.declared.reason.Reason.TheVariants as reasons
 use Rattle.crib_input.specs.Input.{played_of_input, problem_of_input, question_of_input}
 use Rattle.crib_input.specs.Refusals.{refusal_of}
 use Rattle.crib_input.proofs.Inputs.{counted}
 use Rattle.crib_run.specs.Reply.{IsAnswer, Reply, fault_reply, reason_reply, refusal_reply}
-use Rattle.crib_message.specs.Message.{IsMessage}
-use Rattle.crib_sheet.specs.Acts.{AreShown, IsSaid}
 use Rattle.crib_sheet.specs.declared.answer.job.SheetJob.TheVariants.{Plan, Game as GameJob, Beaten, Try}
 use Rattle.crib_game.specs.declared.replaying.report.Report.{Report}
 use Rattle.crib_game.specs.Replay.{replay_result}
-use Rattle.crib_sheet.specs.GamePlay.{game_reasons}
-use Rattle.crib_sheet.specs.GameText.{sheet_of}
-use Rattle.crib_sheet.specs.Private.Prints.{Prints, Stand}
-use Rattle.crib_sheet.proofs.Printing.{Written, more, written}
+use Rattle.crib_game_sheet.specs.GamePlay.{game_reasons}
+use Rattle.crib_game_sheet.specs.GameText.{sheet_of}
 use Rattle.crib_sheet.specs.PlanLosses.{AreLossesOf}
-use Rattle.crib_sheet.specs.declared.plan.losses.Losses.{Losses}
+use Rattle.crib_sheet.specs.declared.verdict.losses.Losses.{Losses}
 use Rattle.crib_plan.specs.Nodes.{ArePlan, most_nodes}
 use Rattle.crib_plan.specs.Spelling.{plan_text}
 use Rattle.crib_search.specs.Finder.{ExceedsLimit, IsFound}
@@ -113,15 +108,6 @@ pub try_made : (input : List ℕ) (problem : Setup) (plan : List Node) (sure : B
     → (reply ≡ record { output = plan_text plan; status = tried_status sure }) ⊎ (reply ≡ fault_reply no_memory) → SheetMakes Try input reply
 try_made input problem plan sure reply asked tried (inl is) = inl (rw (asked, is) (inl (to_try problem plan sure tried)))
 try_made input problem plan sure reply asked tried (inr want) = inr (rw asked refl, want)
-
--- ---- beside a refusal
-
--- the message and the acts beside it are what is said
-pub said : (input : List ℕ) (reason : Reason) (message : List ℕ) {s t u : Stand} → IsMessage (codes "cribsheet") input reason message
-    → Prints message s t → (acts : List ℕ) × AreShown input reason acts × Prints acts t u → s.is_cut ≡ false
-    → (u.name ≡ t.name) × ((text : List ℕ) × IsSaid input reason text × Written text s u)
-said input reason message is puts (acts, shown, prints) whole =
-    (prints.same, (message ++ acts, (message, acts, is, shown, refl), written (more puts prints) whole))
 
 pub ruleset made_plans = (plan_refused, plan_without_memory, plan_made, beaten_refused, beaten_without_memory, beaten_made, beaten_answers)
 

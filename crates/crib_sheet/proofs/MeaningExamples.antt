@@ -9,7 +9,7 @@ use Rattle.crib_game.specs.declared.section.game.Game.{Game}
 use Rattle.crib_game.specs.declared.following.ending.Ending.TheVariants.{Short}
 use Rattle.crib_check.specs.declared.verdict.Verdict.{Verdict}
 use Rattle.crib_check.specs.declared.verdict.Verdict.TheVariants.{Holds, Fails}
-use Rattle.crib_check.specs.Sure.{IsSure}
+use Rattle.crib_sure.specs.Sure.{IsSure}
 use Rattle.crib_check.specs.Verdicts.{IsRight}
 use Rattle.crib_input.specs.Spelled.{SpellsGame, SpellsPlan}
 use Rattle.crib_input.proofs.InputReaders.{read_count, read_played, read_question, refused}
@@ -17,16 +17,16 @@ use Rattle.crib_run.specs.declared.status.Status.TheVariants.{Yes, No, Refused, 
 use Rattle.crib_run.specs.Reply.{Reply}
 use Rattle.crib_answer.specs.Input.{report_of_input}
 use Rattle.crib_answer.specs.Meaning.{HasSurePlan}
-use Rattle.crib_sheet.specs.declared.answer.job.SheetJob.TheVariants.{Plan, Game as GameJob}
-use Rattle.crib_sheet.specs.GameText.{game_sheet_text}
-use Rattle.crib_sheet.specs.Meaning.{GameMeans, HasGameSheet, HasSureSheet, HasUnsurePlan, HasUnsureSheet, IsRefusedByReplay, PlanMeans, SheetMeans}
+use Rattle.crib_game_sheet.specs.GameText.{game_sheet_text}
 use Rattle.crib_sheet.specs.PlanHead.{failing_text, sure_text}
 use Rattle.crib_sheet.specs.PlanLosses.{AreLosses, AreLossesOf, losses_text}
-use Rattle.crib_sheet.specs.declared.plan.losses.Losses.{Losses}
-use Rattle.crib_sheet.specs.PlanPage.{page_text}
-use Rattle.crib_sheet.specs.PlanPlay.{ReachesGoal}
-use Rattle.crib_sheet.specs.PlanSheet.{Over, Sheet, sheet_with}
-use Rattle.crib_sheet.specs.PlanTextLaws.{IsSheet}
+use Rattle.crib_sheet.specs.declared.verdict.losses.Losses.{Losses}
+use Rattle.crib_plan_sheet.specs.PlanPage.{page_text}
+use Rattle.crib_plan_sheet.specs.PlanPlay.{ReachesGoal}
+use Rattle.crib_plan_sheet.specs.PlanSheet.{Over, Sheet, sheet_with}
+use Rattle.crib_plan_sheet.specs.PlanTextLaws.{IsSheet}
+use Rattle.crib_sheet.specs.declared.answer.job.SheetJob.TheVariants.{Plan, Game as GameJob}
+use Rattle.crib_sheet.specs.Meaning.{GameMeans, HasGameSheet, HasSureSheet, HasUnsurePlan, HasUnsureSheet, IsRefusedByReplay, PlanMeans, SheetMeans}
 use Rattle.crib_sheet.specs.Sheet.{AnswersPlan, SheetAnswers, SheetAsksForMemory, SheetMakes, game_sheet_of_input, plan_reply}
 
 -- ---- the sections: a problem of seven lines, the beginning of a plan, and a game with a card that isn't held

@@ -1,28 +1,24 @@
--- Worked examples of what comes before the sheet of a plan, and of whole pages.
-use Rattle.std.specs.Prelude.{◌≡◌, ℕ, true, false, List, refl, [], ◌∷◌, ◌++◌, codes}
+-- Worked examples of what comes before the sheet of a plan.
+use Rattle.std.specs.Prelude.{◌≡◌, true, false, refl, [], ◌∷◌, ◌++◌, codes, map, Ok, Err}
 use Rattle.std.specs.Fmt.{digits}
-use Rattle.crib_cards.specs.declared.moves.Act.{Act}
 use Rattle.crib_cards.specs.declared.sides.Side.TheVariants.{Owner, Opponent}
-use Rattle.crib_plan.specs.declared.plan.Next.TheVariants.{End, To}
-use Rattle.crib_plan.specs.declared.plan.Node.{Node}
-use Rattle.crib_plan.specs.declared.plan.Node.TheVariants.{Play, See}
 use Rattle.crib_show.specs.Show.{hand_points, crib_points}
 use Rattle.crib_show.specs.Outcome.{outcome_of, show_of}
-use Rattle.crib_game.specs.declared.following.ending.Ending.TheVariants.{Lost, Short, Stuck}
+use Rattle.crib_game.specs.declared.fault.GameFault.TheVariants.{NotTurn}
+use Rattle.crib_game.specs.declared.following.ending.Ending.TheVariants.{Open, Stuck, Lost, Short, Reached}
 use Rattle.crib_check.specs.declared.verdict.Verdict.TheVariants.{Holds, Fails}
-use Rattle.crib_problem.proofs.ExampleProblems.{plays, after_tens, close_to_lost, pairing}
+use Rattle.crib_problem.proofs.ExampleProblems.{plays, says_go, level_deal, four_twos, after_tens, close_to_lost, pairing}
 use Rattle.crib_game.proofs.ExampleGames.{game_with}
+use Rattle.crib_run.specs.declared.status.Status.TheVariants.{Yes, No, Refused, Fault}
 use Rattle.crib_board.specs.Board.{right_in}
-use Rattle.crib_sheet.specs.Heading.{goal_line, heading_text, opening_line, other_score, own_line, scores_line}
-use Rattle.crib_sheet.specs.GameText.{act_line, act_lines, act_text, dealt_line, points_text, reason_text, score_text, sheet_of}
-use Rattle.crib_sheet.specs.PlanSheet.{Over, Plays}
-use Rattle.crib_sheet.specs.PlanText.{sheet_text}
-use Rattle.crib_sheet.specs.PlanHead.{failing_line, failing_text, head_text, sure_text, turn_line}
+use Rattle.crib_game_sheet.specs.Heading.{goal_line, heading_text, opening_line, other_score, own_line, scores_line}
+use Rattle.crib_game_sheet.specs.GameText.{act_line, act_lines, act_text, dealt_line, points_text, reason_text, score_text, sheet_of}
+use Rattle.crib_sheet.specs.PlanHead.{failing_line, failing_text, game_lines, head_text, is_sure, sure_text, turn_line, turn_lines, why_text}
 use Rattle.crib_sheet.specs.PlanLosses.{losses_text}
-use Rattle.crib_sheet.specs.declared.plan.losses.Losses.{Losses}
-use Rattle.crib_sheet.specs.PlanNow.{now_line}
-use Rattle.crib_sheet.specs.PlanStuck.{stuck_text, stuck_words}
-use Rattle.crib_sheet.specs.PlanPage.{legend_text, page_text}
+use Rattle.crib_sheet.specs.declared.verdict.losses.Losses.{Losses}
+use Rattle.crib_plan_sheet.specs.PlanNow.{now_line}
+use Rattle.crib_plan_sheet.specs.PlanStuck.{stuck_text, stuck_words}
+use Rattle.crib_plan_sheet.proofs.PlanWordExamples.{kings, one_line}
 
 sure_head : (losses : Losses) → head_text after_tens [] Holds losses ≡
     codes "You are the pone at 0, and the dealer is at 0. The starter is 3H.\nYou hold TC 9C 2C 8C and threw 4S 6S.\nYou want to win.\n"
@@ -31,37 +27,6 @@ sure_head : (losses : Losses) → head_text after_tens [] Holds losses ≡
     ++ codes "This plan is sure: it reaches your goal against every hand and every play.\n\n"
 unfolding digits heading_text scores_line other_score own_line goal_line opening_line sure_text turn_line now_line
 sure_head losses = refl
-
--- ---- pages
-
--- how to read each sheet
-abbrev how_to_read : List ℕ
-how_to_read =
-    codes "\nPlay a row in order, one card at each of your turns. If none of your cards\nfits, say go and stay there. "
-    ++ codes "At \"look\", go on in the line of what they show\nnext: a rank, or a go, even after yours. At \"see [n]\", go on in paragraph [n].\n"
-    ++ codes "At the end of a row, or if there is no line, "
-
-unfoldable pub if_sure : List ℕ
-if_sure = codes "nothing is left to decide, or\nyour goal is reached: then play as you like.\n"
-
-unfoldable pub otherwise : List ℕ
-otherwise = codes "the plan states nothing more.\n"
-
-pages_without_a_look :
-    (page_text true (record { first = Over; paragraphs = [] }) ≡ codes "No card is needed.\n" ++ how_to_read ++ if_sure)
-    × (page_text false (record { first = Over; paragraphs = [] }) ≡ codes "The plan states no card.\n" ++ how_to_read ++ otherwise)
-    × (page_text true (record { first = Plays 31 Over; paragraphs = [] }) ≡ codes "8S\n" ++ how_to_read ++ if_sure)
-unfolding page_text sheet_text legend_text if_sure otherwise
-pages_without_a_look = (refl, refl, refl)
-
--- ---- why a plan is stuck
-
-unfoldable pub kings : List Act
-kings = plays Owner 0 ∷ plays Opponent 48 ∷ []
-
--- the plan leads an ace, and has a line for a two alone
-unfoldable pub one_line : List Node
-one_line = Play 0 (To 1) ∷ See (End ∷ To 2 ∷ End ∷ End ∷ End ∷ End ∷ End ∷ End ∷ End ∷ End ∷ End ∷ End ∷ End ∷ End ∷ []) ∷ Play 4 End ∷ []
 
 heads_of_failing_plans :
     (failing_text close_to_lost [] Lost (game_with pairing (plays Owner 0 ∷ plays Opponent 1 ∷ [])) ≡
@@ -85,12 +50,14 @@ unsure_head losses = refl
 why_plans_fail :
     (failing_line Stuck ≡ codes "In this game it states no card that you can play:\n")
     × (failing_line Short ≡ codes "In this game you fall short of your goal:\n")
-    × (stuck_text close_to_lost one_line kings ≡ codes "They show K, and node 1 has no line for it.\n")
-    × (stuck_text close_to_lost (Play 28 End ∷ []) [] ≡ codes "Node 0 states 8C, which you don't hold.\n")
-    × (stuck_text close_to_lost (Play 0 (To 1) ∷ Play 0 End ∷ []) kings ≡ codes "Node 1 states AC, which you don't hold.\n")
-    × (stuck_text close_to_lost (Play 0 End ∷ []) kings ≡ codes "The plan ends at node 0.\n")
-    × (stuck_text close_to_lost (Play 0 (To 1) ∷ Play 4 (To 2) ∷ See [] ∷ []) (plays Owner 0 ∷ plays Owner 4 ∷ [])
-    ≡ codes "Node 2 looks at what they show next, and it is your turn.\n")
-    × (stuck_text close_to_lost [] [] ≡ codes "The plan has no node.\n")
-unfolding digits stuck_text stuck_words kings one_line
-why_plans_fail = (refl, refl, refl, refl, refl, refl, refl, refl)
+    × (map failing_line (Open ∷ Lost ∷ Reached ∷ []) ≡ [] ∷ codes "In this game you lose:\n" ∷ [] ∷ [])
+    × (game_lines (Ok (codes "bab\n")) ∷ game_lines (Err (NotTurn 1)) ∷ [] ≡ codes "\nbab\n" ∷ [] ∷ [])
+    × (map (λ result. why_text four_twos [] result (game_with level_deal [])) (Open ∷ Lost ∷ Short ∷ Reached ∷ []) ≡ [] ∷ [] ∷ [] ∷ [] ∷ [])
+why_plans_fail = (refl, refl, refl, refl, refl)
+
+words_of_heads :
+    (turn_line Opponent (plays Owner 36) ∷ turn_line Opponent (says_go Opponent) ∷ turn_lines Owner (plays Opponent 4 ∷ plays Owner 0 ∷ []) ∷ []
+    ≡ codes "  pone TC\n" ∷ codes "  dealer go\n" ∷ codes "  pone 2C\n  dealer AC\n" ∷ [])
+    × (map is_sure (Yes ∷ No ∷ Refused ∷ Fault ∷ []) ≡ true ∷ false ∷ false ∷ false ∷ [])
+unfolding turn_line
+words_of_heads = (refl, refl)

@@ -2,23 +2,24 @@
 use Rattle.std.proofs.Common.{◌≡◌, ◌⊎◌, inl, inr, ℕ, true, false, List, [], ◌∷◌, ◌++◌, Ok, Err, codes, map, refl}
 use Rattle.std.specs.Fmt.{digits}
 use Rattle.crib_check.specs.declared.verdict.Verdict.TheVariants.{Holds, Fails}
-use Rattle.crib_check.specs.Sure.{Ends}
-use Rattle.crib_check.proofs.SureExamples.{at_29, ace_or_two, ace_or_two_is_sure, ace_or_two_goes_on}
+use Rattle.crib_sure.specs.Sure.{Ends}
+use Rattle.crib_check.proofs.SureExamples.{ace_or_two, ace_or_two_is_sure, ace_or_two_goes_on}
+use Rattle.crib_sure.proofs.ExampleOpening.{at_29}
 use Rattle.crib_game.specs.declared.section.game.Game.{Game}
 use Rattle.crib_game.specs.declared.following.ending.Ending.TheVariants.{Short}
 use Rattle.crib_input.specs.Spelled.{SpellsPlan}
 use Rattle.crib_input.specs.declared.sections.Sections.TheVariants.{Problem, Question, Played}
 use Rattle.crib_run.specs.declared.status.Status.TheVariants.{Yes, No, Refused, Fault}
 use Rattle.crib_input.proofs.EmptyExamples.{no_plan_in_nothing}
+use Rattle.crib_sheet.specs.PlanHead.{sure_text}
+use Rattle.crib_plan_sheet.specs.PlanPage.{page_text}
+use Rattle.crib_plan_sheet.specs.PlanSheet.{sheet_with}
+use Rattle.crib_plan_sheet.proofs.PlanPlays.{sure_is_reached}
+use Rattle.crib_plan_sheet.proofs.PlanSheetRows.{plans_have_sheets}
 use Rattle.crib_sheet.specs.declared.answer.job.SheetJob.TheVariants.{Plan, Game as GameJob, Beaten, Try}
 use Rattle.crib_sheet.specs.Job.{job_called, sections_of}
 use Rattle.crib_sheet.specs.Sheet.{game_reply, verdict_status}
 use Rattle.crib_sheet.specs.Meaning.{BeatenMeans, GameMeans, PlanMeans}
-use Rattle.crib_sheet.specs.PlanHead.{sure_text}
-use Rattle.crib_sheet.specs.PlanPage.{page_text}
-use Rattle.crib_sheet.specs.PlanSheet.{sheet_with}
-use Rattle.crib_sheet.proofs.PlanPlays.{sure_is_reached}
-use Rattle.crib_sheet.proofs.PlanSheetRows.{plans_have_sheets}
 
 -- ---- the jobs, what they read, and the statuses of their replies
 jobs_and_statuses : (game : Game) →

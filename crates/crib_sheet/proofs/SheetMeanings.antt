@@ -11,7 +11,7 @@ use Rattle.crib_game.specs.declared.replaying.report.Report.{Report}
 use Rattle.crib_game.specs.Replay.{replay_result}
 use Rattle.crib_check.specs.declared.verdict.Verdict.{Verdict}
 use Rattle.crib_check.specs.declared.verdict.Verdict.TheVariants.{Holds, Fails}
-use Rattle.crib_check.specs.Sure.{IsSure}
+use Rattle.crib_sure.specs.Sure.{IsSure}
 use Rattle.crib_check.specs.Verdicts.{IsRight}
 use Rattle.crib_check.proofs.OneFirstGame.{exact_law}
 use Rattle.crib_check.proofs.VerdictAtStart.{ends, sure_goes_on}
@@ -28,18 +28,18 @@ use Rattle.crib_answer.specs.Input.{judgement_of, report_of_input}
 use Rattle.crib_beaten.specs.Tally.{AreFigures}
 use Rattle.crib_beaten.specs.declared.tally.RanksTally.{RanksTally}
 use Rattle.crib_beaten.proofs.TallyLaws.{none_is_sure}
-use Rattle.crib_sheet.specs.GameText.{game_sheet_text, sheet_for}
-use Rattle.crib_sheet.specs.declared.answer.job.SheetJob.{SheetJob}
+use Rattle.crib_game_sheet.specs.GameText.{game_sheet_text, sheet_for}
 use Rattle.crib_sheet.specs.PlanHead.{failing_text}
 use Rattle.crib_sheet.specs.PlanLosses.{AreLossesOf, losses_text}
-use Rattle.crib_sheet.specs.declared.plan.losses.Losses.{Losses}
-use Rattle.crib_sheet.specs.declared.answer.job.SheetJob.TheVariants.{Plan, Game as GameJob, Beaten, Try}
+use Rattle.crib_sheet.specs.declared.verdict.losses.Losses.{Losses}
 use Rattle.crib_sheet.specs.Beaten.{beaten_reply}
+use Rattle.crib_plan_sheet.specs.PlanSheet.{sheet_with}
+use Rattle.crib_plan_sheet.proofs.PlanPlays.{sure_is_reached}
+use Rattle.crib_plan_sheet.proofs.PlanSheetRows.{plans_have_sheets}
+use Rattle.crib_sheet.specs.declared.answer.job.SheetJob.{SheetJob}
+use Rattle.crib_sheet.specs.declared.answer.job.SheetJob.TheVariants.{Plan, Game as GameJob, Beaten, Try}
 use Rattle.crib_sheet.specs.Sheet.{AnswersBeaten, AnswersPlan, AnswersTry, IsToTry, SheetAnswers, SheetMakes, game_reply, game_sheet_of_input, plan_reply}
 use Rattle.crib_sheet.specs.Meaning.{HasUnsurePlan, SheetMeans}
-use Rattle.crib_sheet.specs.PlanSheet.{sheet_with}
-use Rattle.crib_sheet.proofs.PlanPlays.{sure_is_reached}
-use Rattle.crib_sheet.proofs.PlanSheetRows.{plans_have_sheets}
 
 -- ---- a plan
 

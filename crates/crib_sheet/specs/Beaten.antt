@@ -6,7 +6,7 @@ use Rattle.crib_run.specs.declared.status.Status.TheVariants.{Yes, No}
 use Rattle.crib_run.specs.Reply.{Reply}
 use Rattle.crib_beaten.specs.declared.tally.RanksTally.{RanksTally}
 use Rattle.crib_beaten.specs.declared.tally.Tally.{Tally}
-use Rattle.crib_sheet.specs.PlanStuck.{letter_word}
+use Rattle.crib_plan_sheet.specs.PlanStuck.{letter_word}
 
 -- the deals that beat the plan, of all, at the end of a line
 abbrev pub figures : ℕ → ℕ → List ℕ

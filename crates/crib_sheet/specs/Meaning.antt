@@ -6,7 +6,7 @@ use Rattle.crib_plan.specs.Nodes.{ArePlan}
 use Rattle.crib_plan.specs.Spelling.{plan_text}
 use Rattle.crib_plan.specs.declared.plan.Node.{Node}
 use Rattle.crib_game.specs.declared.section.game.Game.{Game}
-use Rattle.crib_check.specs.Sure.{IsSure}
+use Rattle.crib_sure.specs.Sure.{IsSure}
 use Rattle.crib_input.specs.Spelled.{SpellsGame, SpellsPlan, SpellsProblem}
 use Rattle.crib_run.specs.declared.status.Status.{Status}
 use Rattle.crib_run.specs.declared.status.Status.TheVariants.{Yes, No, Refused, Fault}
@@ -16,17 +16,17 @@ use Rattle.crib_answer.specs.Answer.{too_large}
 use Rattle.crib_answer.specs.Meaning.{HasNoPlan, HasSurePlan, IsSolvedBy}
 use Rattle.crib_beaten.specs.Tally.{AreFigures}
 use Rattle.crib_beaten.specs.declared.tally.RanksTally.{RanksTally}
+use Rattle.crib_game_sheet.specs.GameText.{game_sheet_text}
 use Rattle.crib_sheet.specs.Beaten.{beaten_text}
-use Rattle.crib_sheet.specs.GameText.{game_sheet_text}
-use Rattle.crib_sheet.specs.declared.answer.job.SheetJob.{SheetJob}
-use Rattle.crib_sheet.specs.declared.answer.job.SheetJob.TheVariants.{Plan, Game as GameJob, Beaten, Try}
 use Rattle.crib_sheet.specs.PlanHead.{sure_text}
 use Rattle.crib_sheet.specs.PlanLosses.{AreLosses, losses_text}
-use Rattle.crib_sheet.specs.PlanPage.{page_text}
-use Rattle.crib_sheet.specs.declared.plan.losses.Losses.{Losses}
-use Rattle.crib_sheet.specs.PlanPlay.{ReachesGoal}
-use Rattle.crib_sheet.specs.PlanSheet.{Sheet}
-use Rattle.crib_sheet.specs.PlanTextLaws.{IsSheet}
+use Rattle.crib_plan_sheet.specs.PlanPage.{page_text}
+use Rattle.crib_sheet.specs.declared.verdict.losses.Losses.{Losses}
+use Rattle.crib_plan_sheet.specs.PlanPlay.{ReachesGoal}
+use Rattle.crib_plan_sheet.specs.PlanSheet.{Sheet}
+use Rattle.crib_plan_sheet.specs.PlanTextLaws.{IsSheet}
+use Rattle.crib_sheet.specs.declared.answer.job.SheetJob.{SheetJob}
+use Rattle.crib_sheet.specs.declared.answer.job.SheetJob.TheVariants.{Plan, Game as GameJob, Beaten, Try}
 
 -- an input spells a problem and a sure plan, and the text has a sheet after the position. Whoever plays from that sheet
 -- reaches the goal

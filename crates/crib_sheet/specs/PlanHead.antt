@@ -1,5 +1,5 @@
 -- The head of the sheet of a plan: the position, and whether the plan is sure.
-use Rattle.std.specs.Prelude.{ℕ, List, [], ◌∷◌, ◌++◌, flat_map, Result, Ok, Err, codes}
+use Rattle.std.specs.Prelude.{ℕ, Bool, true, false, List, [], ◌∷◌, ◌++◌, flat_map, Result, Ok, Err, codes}
 use Rattle.crib_cards.specs.declared.moves.Act.{Act}
 use Rattle.crib_cards.specs.declared.sides.Side.{Side}
 use Rattle.crib_text.specs.Spelling.{line_feed}
@@ -12,12 +12,14 @@ use Rattle.crib_game.specs.declared.section.game.Game.{Game}
 use Rattle.crib_game.specs.declared.following.ending.Ending.TheVariants.{Open, Stuck, Lost, Short, Reached}
 use Rattle.crib_check.specs.declared.verdict.Verdict.{Verdict}
 use Rattle.crib_check.specs.declared.verdict.Verdict.TheVariants.{Holds, Fails}
-use Rattle.crib_sheet.specs.GameText.{game_sheet_text}
-use Rattle.crib_sheet.specs.Heading.{role_word, heading_text}
+use Rattle.crib_run.specs.declared.status.Status.{Status}
+use Rattle.crib_run.specs.declared.status.Status.TheVariants.{Yes, No, Refused, Fault}
+use Rattle.crib_game_sheet.specs.GameText.{game_sheet_text}
+use Rattle.crib_game_sheet.specs.Heading.{role_word, heading_text}
 use Rattle.crib_sheet.specs.PlanLosses.{losses_text}
-use Rattle.crib_sheet.specs.PlanNow.{now_text}
-use Rattle.crib_sheet.specs.PlanStuck.{stuck_text}
-use Rattle.crib_sheet.specs.declared.plan.losses.Losses.{Losses}
+use Rattle.crib_plan_sheet.specs.PlanNow.{now_text}
+use Rattle.crib_plan_sheet.specs.PlanStuck.{stuck_text}
+use Rattle.crib_sheet.specs.declared.verdict.losses.Losses.{Losses}
 
 -- the line of a turn of the opening: `  pone 8D`
 unfoldable pub turn_line : Side → Act → List ℕ
@@ -67,3 +69,10 @@ failing_text problem plan ending game =
 abbrev pub head_text : Setup → List Node → Verdict → Losses → List ℕ
 head_text problem plan Holds losses = sure_text problem
 head_text problem plan (Fails ending game) losses = losses_text losses ++ failing_text problem plan ending game
+
+-- whether the status of a sheet says that the plan is sure
+abbrev pub is_sure : Status → Bool
+is_sure Yes = true
+is_sure No = false
+is_sure Refused = false
+is_sure Fault = false

@@ -12,8 +12,8 @@ use Rattle.crib_check.specs.declared.verdict.Verdict.TheVariants.{Holds, Fails}
 use Rattle.crib_beaten.specs.Exact.{AreExactly}
 use Rattle.crib_beaten.specs.Terms.{AreRows}
 use Rattle.crib_beaten.specs.declared.rows.Row.{Row}
-use Rattle.crib_sheet.specs.PlanText.{label}
-use Rattle.crib_sheet.specs.declared.plan.losses.Losses.{Losses}
+use Rattle.crib_plan_sheet.specs.PlanText.{label}
+use Rattle.crib_sheet.specs.declared.verdict.losses.Losses.{Losses}
 
 -- ---- right figures
 

@@ -20,18 +20,18 @@ use Rattle.crib_search.specs.Finder.{ExceedsLimit, IsFound}
 use Rattle.crib_search.specs.Winnable.{IsWinnable}
 use Rattle.crib_beaten.specs.Tally.{AreFigures}
 use Rattle.crib_beaten.specs.declared.tally.RanksTally.{RanksTally}
+use Rattle.crib_game_sheet.specs.GamePlay.{game_reasons}
+use Rattle.crib_game_sheet.specs.GameText.{game_sheet_text, sheet_of as sheet_text_of}
 use Rattle.crib_sheet.specs.Beaten.{beaten_reply, tally_reply}
-use Rattle.crib_sheet.specs.GamePlay.{game_reasons}
-use Rattle.crib_sheet.specs.GameText.{game_sheet_text, sheet_of as sheet_text_of}
-use Rattle.crib_sheet.specs.PlanHead.{head_text}
+use Rattle.crib_sheet.specs.PlanHead.{head_text, is_sure}
 use Rattle.crib_sheet.specs.PlanLosses.{AreLossesOf}
-use Rattle.crib_sheet.specs.PlanPage.{is_sure, page_text}
-use Rattle.crib_sheet.specs.PlanSheet.{sheet_with}
-use Rattle.crib_sheet.specs.PlanOutline.{apart_in}
+use Rattle.crib_plan_sheet.specs.PlanPage.{page_text}
+use Rattle.crib_plan_sheet.specs.PlanSheet.{sheet_with}
+use Rattle.crib_plan_sheet.specs.PlanOutline.{apart_in}
+use Rattle.crib_sheet.specs.declared.verdict.losses.Losses.{Losses}
 use Rattle.crib_sheet.specs.declared.answer.Sheet.{Sheet}
 use Rattle.crib_sheet.specs.declared.answer.Sheet.TheVariants as sheets
 use Rattle.crib_sheet.specs.declared.answer.plan.PlanSheet.{PlanSheet}
-use Rattle.crib_sheet.specs.declared.plan.losses.Losses.{Losses}
 use Rattle.crib_sheet.specs.declared.answer.game.GameSheet.{GameSheet}
 use Rattle.crib_sheet.specs.declared.answer.job.SheetJob.{SheetJob}
 use Rattle.crib_sheet.specs.declared.answer.job.SheetJob.TheVariants.{Plan, Game, Beaten, Try}

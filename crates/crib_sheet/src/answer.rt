@@ -4,18 +4,16 @@ ghost use Rattle.crib_run.specs.Reply.{IsOutcome};
 ghost use Rattle.crib_sheet.specs.Sheet.{SheetMakes, sheet_reply};
 
 mod beaten;
-mod beside;
 mod game;
 mod job;
 mod plan;
 mod played;
 mod to_try;
 
-use crate::beaten::send_tally;
-use crate::game::send_game_sheet;
-use crate::plan::send_plan_sheet;
-pub use beside::SheetAsked;
+use crate::tally::send_tally;
+use crate::verdict::send_plan_sheet;
 use crib_beaten::Tally;
+use crib_game_sheet::send_game_sheet;
 use crib_input::Reason;
 use crib_run::{Answer, Sendable, Status};
 use crib_text::{MAX_INPUT, Sink};

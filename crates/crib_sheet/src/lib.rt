@@ -1,20 +1,9 @@
-//! Sheets: a plan in words, a game with the reasons of its points, and how many deals beat a plan, for a person to
-//! read, and the answers that are sheets.
+//! The answers of the second program: sheets of plans and of games, how many deals beat a plan, and a plan to try.
 #![tactic(auto)]
 
 mod answer;
-mod beaten;
-mod game;
-mod heading;
-mod page;
-mod plan;
+mod tally;
+mod verdict;
 
-pub use answer::{GameSheet, NAMES, PlanSheet, Sheet, SheetAsked, SheetJob, sheet_of};
-pub use game::{
-    Combination, Combinations, Kind, PlayReason, PlayReasons, combination_law, crib_combinations,
-    game_sheet_law, hand_combinations, points_law, reasons_of, send_game_sheet,
-};
-pub use plan::{Losses, Outline, play_law, send_plan_sheet, sheet_law, sheet_text_law};
-
-#[cfg(test)]
-mod tests;
+pub use answer::{GameSheet, NAMES, PlanSheet, Sheet, SheetJob, sheet_of};
+pub use verdict::Losses;

@@ -1,17 +1,21 @@
 -- Every list of five ranks, each in rising order only.
 use Rattle.std.proofs.Common.{◌≡◌, ℕ, zero, suc, ◌+◌, ◌-◌, ◌<◌, ◌≤◌, eqb, not, ◌&&◌, ◌||◌, Bool, true, List, [], ◌∷◌, length, sum, refl, sym, ap, ◌∙◌, inl}
-use Rattle.std.proofs.Common.{inr, subst, arith}
+use Rattle.std.proofs.Common.{inr, subst, arith, ◌*◌, ◌++◌, cond, max, min, fold, sum_by, zero-add}
+use Rattle.std.proofs.lemmas.List.{append-nil, append_assoc}
 use Rattle.std.specs.List.{list_all, list_any, range_with_len, AllByRecursion}
 use Rattle.std.proofs.lemmas.Bool.{cases_lt, and_parts}
 use Rattle.std.proofs.lemmas.Bool.Decides.{nat_tests}
 use Rattle.crib_cards.specs.Cards.{IsRank, jack}
-use Rattle.crib_cards.specs.Sets.{rank_counts}
+use Rattle.crib_cards.specs.Runs.{greatest_rank, least_rank}
+use Rattle.crib_cards.specs.Sets.{are_distinct, rank_counts}
 use Rattle.crib_cards.proofs.EachRank.{each_rank}
 use Rattle.crib_show.proofs.ReorderedLists.{Reordered, nothing, behind, front, both, same_order, length-reordered, rank_counts-reordered}
 use Rattle.std.specs.Prelude.{nat_le, nat_lt}
 use Rattle.crib_show.specs.Private.Counts.{IsCounted, pairs_in, runs_in}
 use Rattle.crib_show.specs.Laws.{is_possible}
-use Rattle.crib_show.specs.Show.{fifteen_points, pair_points, run_points}
+use Rattle.crib_show.specs.Show.{choices, fifteen_points, is_prolonged, pair_points, run_points}
+use Rattle.crib_show.proofs.Choices.{sum_by-choices}
+use Rattle.crib_show.proofs.FifteenLemmas.{fifteens_among, fifteens_among-points}
 use Rattle.crib_show.proofs.RankLaw.{pair_points-reordered, run_points-reordered}
 
 -- ranks in rising order, from some rank on
@@ -65,11 +69,8 @@ abbrev pub agree_in : ℕ → ℕ → ℕ → ℕ → ℕ → Bool
 agree_in pairs pairs_counted runs runs_counted number =
     eqb pairs pairs_counted && (eqb runs runs_counted && (nat_le pairs_counted 20 && (nat_le runs_counted 12 && eqb number 5)))
 
-abbrev pub agree_with : List ℕ → List ℕ → Bool
-agree_with ranks counts = agree_in (pair_points ranks) (pairs_in counts) (run_points ranks) (runs_in counts) (sum counts)
-
-abbrev pub agree : List ℕ → Bool
-agree ranks = agree_with ranks (rank_counts ranks)
+abbrev pub agree : List ℕ → List ℕ → Bool
+agree ranks counts = agree_in (pair_points ranks) (pairs_in counts) (run_points ranks) (runs_in counts) (sum counts)
 
 -- the points of five ranks, from the numbers of cards of each rank where these decide them
 abbrev pub counted_points : ℕ → List ℕ → ℕ
@@ -92,9 +93,47 @@ allows_counts fifteens with_jack counts = allows (pairs_in counts) with_jack (co
 abbrev pub is_allowed : List ℕ → Bool
 is_allowed ranks = allows_counts (fifteen_points ranks) (has_jack ranks) (rank_counts ranks)
 
+-- the points of a choice of ranks, with its greatest and least rank. What fails most often is tried first
+abbrev run_worth : List ℕ → List ℕ → ℕ → ℕ → ℕ
+run_worth all chosen greatest least =
+    cond (nat_le 3 (length chosen)) (cond (eqb (greatest - least) (length chosen - 1)) (cond (are_distinct chosen)
+    (cond (list_any (λ rank. eqb (rank + 1) least || eqb rank (greatest + 1)) all) 0 (length chosen)) 0) 0) 0
+
+-- the points of runs that begin with some chosen ranks, without a list of choices
+abbrev runs_among : List ℕ → List ℕ → List ℕ → ℕ → ℕ → ℕ
+runs_among [] all chosen greatest least = run_worth all chosen greatest least
+runs_among (rank ∷ ranks) all chosen greatest least =
+    runs_among ranks all (chosen ++ rank ∷ []) (max greatest rank) (min least rank) + runs_among ranks all chosen greatest least
+
+abbrev worth_after : List ℕ → List ℕ → ℕ → ℕ → List ℕ → ℕ
+worth_after all chosen greatest least more = run_worth all (chosen ++ more) (fold max greatest more) (fold min least more)
+
+runs_among-choices : (ranks all chosen : List ℕ) (greatest least : ℕ) →
+    sum_by (worth_after all chosen greatest least) (choices ranks) ≡ runs_among ranks all chosen greatest least
+runs_among-choices [] all chosen greatest least =
+    zero-add (run_worth all (chosen ++ []) greatest least) ∙ ap (λ c. run_worth all c greatest least) (append-nil chosen)
+runs_among-choices (rank ∷ ranks) all chosen greatest least =
+    sum_by-choices (worth_after all chosen greatest least) rank ranks
+    ∙ (λ i. sum_by (λ more. run_worth all (sym (append_assoc chosen (rank ∷ []) more) i) (fold max (max greatest rank) more)
+    (fold min (min least rank) more)) (choices ranks) + runs_among-choices ranks all chosen greatest least i)
+    ∙ ap (λ n. n + runs_among ranks all chosen greatest least)
+    (runs_among-choices ranks all (chosen ++ rank ∷ []) (max greatest rank) (min least rank))
+
+tried_in_turn : (many distinct near prolonged : Bool) (n : ℕ) →
+    cond (((many && distinct) && near) && not prolonged) n 0 ≡ cond many (cond near (cond distinct (cond prolonged 0 n) 0) 0) 0
+tried_in_turn many distinct near prolonged n = grind (arith, nat_tests)
+
+runs_among-points : (ranks : List ℕ) → run_points ranks ≡ runs_among ranks ranks [] 0 13
+runs_among-points ranks =
+    (λ i. sum_by (λ chosen. tried_in_turn (nat_le 3 (length chosen)) (are_distinct chosen)
+    (eqb (greatest_rank chosen - least_rank chosen) (length chosen - 1)) (is_prolonged ranks chosen) (length chosen) i) (choices ranks))
+    ∙ runs_among-choices ranks ranks [] 0 13
+
 -- both are tried of all ranks at once, with the numbers of cards of each rank computed once
 abbrev is_good_with : List ℕ → List ℕ → Bool
-is_good_with ranks counts = agree_with ranks counts && allows_counts (fifteen_points ranks) (has_jack ranks) counts
+is_good_with ranks counts =
+    agree_in (pair_points ranks) (pairs_in counts) (runs_among ranks ranks [] 0 13) (runs_in counts) (sum counts)
+    && allows_counts (2 * fifteens_among ranks 0) (has_jack ranks) counts
 
 abbrev is_good : List ℕ → Bool
 is_good ranks = is_good_with ranks (rank_counts ranks)
@@ -108,27 +147,27 @@ from_1 = refl
 from_2 : GoodFrom 2
 from_2 = refl
 
-from_3 : GoodFrom 3
-from_3 = refl
-
-from_4 : GoodFrom 4
-from_4 = refl
-
 from_each : (rank : ℕ) → IsRank rank → GoodFrom rank
-from_each rank is = each_rank GoodFrom from_1 from_2 from_3 from_4 refl refl refl refl refl refl refl refl refl rank is
+from_each rank is = each_rank GoodFrom from_1 from_2 refl refl refl refl refl refl refl refl refl refl refl rank is
 
 agreed : (pairs pairs_counted runs runs_counted number : ℕ) → agree_in pairs pairs_counted runs runs_counted number ≡ true →
     (pairs ≡ pairs_counted) × (runs ≡ runs_counted) × (pairs_counted ≤ 20) × (runs_counted ≤ 12) × (number ≡ 5)
 agreed pairs pairs_counted runs runs_counted number all = grind (arith, nat_tests)
 
-IsCounted-agree : (ranks counts : List ℕ) → agree_with ranks counts ≡ true → IsCounted ranks counts
+IsCounted-agree : (ranks counts : List ℕ) → agree ranks counts ≡ true → IsCounted ranks counts
 IsCounted-agree ranks counts all =
     let tests = agreed _ _ _ _ _ all in record { pairs = tests.0; runs = tests.1; few_pairs = tests.2; few_runs = tests.3; number = tests.4 }
 
-pub good_rising : (ranks : List ℕ) → Rises 1 ranks → length ranks ≡ 5 → (agree ranks ≡ true) × (is_allowed ranks ≡ true)
+pub good_rising : (ranks : List ℕ) → Rises 1 ranks → length ranks ≡ 5 → (agree ranks (rank_counts ranks) ≡ true) × (is_allowed ranks ≡ true)
 good_rising [] rises five = absurd (omega arith)
-good_rising (rank ∷ ranks) rises five = and_parts _ _
-    (each_rising-at 4 rank (λ more. is_good (rank ∷ more)) ranks (from_each rank (rises.0, rises.1)) rises.2 (omega arith))
+good_rising (rank ∷ ranks) rises five =
+    let all : List ℕ = rank ∷ ranks in
+    let counts : List ℕ = rank_counts all in
+    and_parts _ _ (
+    (λ i. agree_in (pair_points all) (pairs_in counts) (runs_among-points all i) (runs_in counts) (sum counts)
+    && allows_counts (fifteens_among-points all i) (has_jack all) counts)
+    ∙ each_rising-at 4 rank (λ more. is_good (rank ∷ more)) ranks (from_each rank (rises.0, rises.1)) rises.2 (omega arith)
+    )
 
 pub IsCounted-ranks : (ranks : List ℕ) → AllByRecursion IsRank ranks → length ranks ≡ 5 → IsCounted ranks (rank_counts ranks)
 IsCounted-ranks ranks are five =

@@ -1,9 +1,6 @@
 -- The replies of each job have the meaning that `StatusMeans` states.
-use Rattle.std.proofs.Common.{◌≡◌, ℕ, List, Option, inl, refl, subst}
-use Rattle.crib_message.specs.Message.{IsMessage}
-use Rattle.crib_run.specs.declared.status.Status.{Status}
-use Rattle.crib_run.specs.Beside.{Explains}
-use Rattle.crib_run.specs.Reply.{Reply}
+use Rattle.std.proofs.Common.{ℕ, ◌<◌, ◌⊎◌, List, length, take, Option, Result, Ok, Err, OnOk, OnErr, IfErr, inl, inr, refl}
+use Rattle.std.specs.Io.KnownBytes.{Appends}
 use Rattle.crib_run.proofs.Runs.{HaveMeaning}
 use Rattle.crib_answer.specs.declared.job.Job.{Job}
 use Rattle.crib_answer.specs.Answer.{Makes}
@@ -18,9 +15,10 @@ job_means job = record {
   memory = memory_means job;
 }
 
--- the words beside an answer are the message of its reason
-pub of_asked : (named program read input : List ℕ) (reply : Reply) (ended : Status) (old new : Option (List ℕ)) (failed : Type 0) → named ≡ program
-    → read ≡ input → Explains (IsMessage named read) reply ended old new failed → Explains (IsMessage program input) reply ended old new failed
-of_asked named program read input reply ended old new failed same also said =
-    subst (λ (name : List ℕ). Explains (IsMessage name input) reply ended old new failed) same
-    (subst (λ (bytes : List ℕ). Explains (IsMessage named bytes) reply ended old new failed) also said)
+-- bytes were sent whole, or a proper beginning of them
+pub sent_part : {E : Type 0} (sent : E → ℕ) (result : Result (Unit {0}) E) (old new : Option (List ℕ)) (bytes : List ℕ) (failed : Type 0) →
+    OnOk result (Appends old new bytes) → IfErr result (λ stopped. Appends old new (take (sent stopped) bytes)) →
+    IfErr result (λ stopped. sent stopped < length bytes) → OnErr result failed →
+    Appends old new bytes ⊎ ((count : ℕ) × (count < length bytes) × Appends old new (take count bytes) × failed)
+sent_part sent (Ok done) old new bytes failed all part cut stop = inl all
+sent_part sent (Err stopped) old new bytes failed all part cut stop = inr (sent stopped, cut, part, stop)

@@ -1,3 +1,4 @@
 pub mod JobWords
 pub mod Runs
+mod BesideExamples
 mod WordExamples

@@ -1,10 +1,15 @@
 -- The words beside a sheet.
-use Rattle.std.proofs.Common.{◌≡◌, ℕ, List, Option, subst}
-use Rattle.crib_run.specs.declared.status.Status.{Status}
-use Rattle.crib_run.specs.Beside.{Explains}
-use Rattle.crib_run.specs.Reply.{Reply}
-use Rattle.crib_sheet.specs.Acts.{IsSaid}
+use Rattle.std.proofs.Common.{◌≡◌, ℕ, List, ◌++◌, codes, false, refl}
+use Rattle.crib_input.specs.declared.reason.Reason.{Reason}
+use Rattle.crib_message.specs.Message.{IsMessage}
+use Rattle.crib_game_sheet.specs.ActsBefore.{AreShown}
+use Rattle.crib_game_sheet.specs.Prints.{Prints, Stand}
+use Rattle.crib_game_sheet.proofs.Printing.{Written, more, written}
+use Rattle.cribsheet.specs.Beside.{IsSaid}
 
-pub of_asked : (read input : List ℕ) (reply : Reply) (ended : Status) (old new : Option (List ℕ)) (failed : Type 0) → read ≡ input
-    → Explains (IsSaid read) reply ended old new failed → Explains (IsSaid input) reply ended old new failed
-of_asked read input reply ended old new failed same said = subst (λ (bytes : List ℕ). Explains (IsSaid bytes) reply ended old new failed) same said
+-- the message and the acts beside it are what is said
+pub said : (input : List ℕ) (reason : Reason) (message : List ℕ) {s t u : Stand} → IsMessage (codes "cribsheet") input reason message
+    → Prints message s t → (acts : List ℕ) × AreShown input reason acts × Prints acts t u → s.is_cut ≡ false
+    → (u.name ≡ t.name) × ((text : List ℕ) × IsSaid input reason text × Written text s u)
+said input reason message is puts (acts, shown, prints) whole =
+    (prints.same, (message ++ acts, (message, acts, is, shown, refl), written (more puts prints) whole))

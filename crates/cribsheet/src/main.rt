@@ -7,12 +7,14 @@ ghost use Rattle.crib_text.specs.Device.{HasFailed};
 ghost use Rattle.crib_run.specs.Beside.{Explains, input_of};
 ghost use Rattle.crib_run.specs.Reply.{Reply};
 ghost use Rattle.crib_run.specs.Run.{Delivers, RunMeans, Sends};
-ghost use Rattle.crib_sheet.specs.Acts.{IsSaid};
 ghost use Rattle.crib_sheet.specs.Meaning.{SheetMeans};
 ghost use Rattle.crib_sheet.specs.Sheet.{SheetMakes};
+ghost use Rattle.cribsheet.specs.Beside.{IsSaid};
 
+mod beside;
 mod command;
 
+use beside::Asked;
 use clap::Error;
 use clap::error::ErrorKind;
 use command::program;
@@ -21,7 +23,7 @@ use crib_input::{FaultCause, Reason, Sections};
 pub use crib_run::Status;
 use crib_run::{deliver, deliver_reason, unread_reason};
 pub use crib_sheet::SheetJob;
-use crib_sheet::{SheetAsked, sheet_of};
+use crib_sheet::sheet_of;
 use crib_text::{Counted, MAX_INPUT, Sink, Source, read_all};
 use std::alloc::Allocator;
 use std::process::ExitCode;
@@ -37,7 +39,10 @@ fn main(rt: HostRuntime) -> ExitCode {
         }
         Err(error) if error.kind() == ErrorKind::OutOfMemory => {
             let reason = Reason::Fault(FaultCause::NoMemory);
-            let asked = asked(Sections::Problem, b"");
+            let asked = Asked {
+                sections: Sections::Problem,
+                input: b"",
+            };
             deliver_reason(reason, &asked, &mut sink, &mut words)
         }
         Err(error) => show(&rt, &program(), &error),
@@ -98,8 +103,11 @@ pub fn run_with_words<A: Allocator + Copy, S: Source, W: Sink, E: Sink>(
     match read_all(alloc, source) {
         Ok(input) => answer(alloc, job, input.as_slice(), sink, words),
         Err(fault) => {
-            let reason = unread_reason(fault);
-            deliver_reason(reason, &asked(job.sections(), b""), sink, words)
+            let asked = Asked {
+                sections: job.sections(),
+                input: b"",
+            };
+            deliver_reason(unread_reason(fault), &asked, sink, words)
         }
     }
 }
@@ -120,15 +128,11 @@ fn answer<A: Allocator + Copy, W: Sink, E: Sink>(
         (HasFailed (E.faults words.old) (E.faults words.new)) }
 {
     let outcome = sheet_of(alloc, job, input);
-    deliver(&outcome, &asked(job.sections(), input), sink, words)
-}
-
-// What the words beside a sheet are about.
-fn asked(sections: Sections, input: &[u8]) -> SheetAsked<'_>
-    requires { length input.now ≤ MAX_INPUT }
-    ensures { result.input.now ≡ input.now }
-{
-    SheetAsked { sections, input }
+    let asked = Asked {
+        sections: job.sections(),
+        input,
+    };
+    deliver(&outcome, &asked, sink, words)
 }
 
 #[cfg(test)]

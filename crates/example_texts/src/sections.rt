@@ -22,11 +22,7 @@ pub fn joined_with<A: Allocator + Copy>(
     for section in sections {
         for line in section.lines() {
             place = place.saturating_add(1);
-            if place == number {
-                text.push_str(changed)?;
-            } else {
-                text.push_str(line)?;
-            }
+            text.push_str(if place == number { changed } else { line })?;
             text.push('\n')?;
         }
     }

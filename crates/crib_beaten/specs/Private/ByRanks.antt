@@ -3,7 +3,7 @@ use Rattle.std.specs.Prelude.{◌≡◌, ℕ, List, map, drop, IsTrue}
 use Rattle.crib_cards.specs.Cards.{rank_of}
 use Rattle.crib_cards.specs.declared.sides.Dealt.{Dealt}
 use Rattle.crib_show.specs.Show.{hand_points}
-use Rattle.crib_check.specs.declared.beaten.demands.Demand.{Demand}
+use Rattle.crib_show.specs.declared.demands.Demand.{Demand}
 use Rattle.crib_check.specs.Beaten.{IsOpen, passes_opening}
 use Rattle.crib_problem.specs.Setup.{Setup}
 use Rattle.crib_beaten.specs.declared.throws.Cribs.{Cribs}

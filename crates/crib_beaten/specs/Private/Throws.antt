@@ -6,8 +6,8 @@ use Rattle.crib_cards.specs.Cards.{IsCard}
 use Rattle.crib_cards.specs.Order.{are_rising}
 use Rattle.crib_cards.specs.Sets.{has, set_without_all, IsCardSet}
 use Rattle.crib_show.specs.Show.{crib_points}
-use Rattle.crib_check.specs.declared.beaten.demands.Demand.{Demand}
-use Rattle.crib_check.specs.Beaten.{is_met}
+use Rattle.crib_show.specs.declared.demands.Demand.{Demand}
+use Rattle.crib_show.specs.Demands.{is_met}
 use Rattle.crib_beaten.specs.declared.throws.Cribs.{Cribs}
 
 -- how many throws of two of some cards pass a test

@@ -7,6 +7,7 @@ use crate::rows::{MOST_ROWS, Slot, Term, meets};
 use crate::tally::RanksTally;
 use arrayvec::ArrayVec;
 use crib_cards::{CardSet, Rank};
+use crib_show::count_ranks;
 
 // How many choices of four ranks there are.
 const CHOICES: usize = 1820;
@@ -71,9 +72,13 @@ fn spared_hands(unseen: CardSet, tallied: &[RanksTally]) -> AllHands {
 
 // Whether there are enough cards for a choice of ranks among those that are unseen.
 fn are_possible(unseen: CardSet, ranks: &[Rank; 4]) -> bool {
-    ranks.iter().all(|rank| {
-        ranks.iter().filter(|other| *other == rank).count() <= unseen.count_rank(*rank) as usize
-    })
+    let counts = count_ranks(ranks);
+    for rank in ranks {
+        if counts.of(*rank) > unseen.count_rank(*rank) {
+            return false;
+        }
+    }
+    true
 }
 
 // Returns terms to try, each made as wide as it can be from the choice with most deals among those left.

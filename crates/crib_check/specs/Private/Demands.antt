@@ -1,5 +1,5 @@
 -- What the opponent's hand and the crib must count so that no game from a position on fails.
-use Rattle.std.specs.Prelude.{◌≡◌, ℕ, ◌≤◌, nat_lt, Bool, true, ◌&&◌, List, ◌∷◌, map, ◌↔◌, IsTrue, IsFalse}
+use Rattle.std.specs.Prelude.{◌≡◌, ℕ, ◌≤◌, nat_lt, Bool, ◌&&◌, List, ◌∷◌, map, ◌↔◌, IsTrue, IsFalse}
 use Rattle.std.specs.List.{list_all}
 use Rattle.crib_cards.specs.Cards.{rank_of, ranks}
 use Rattle.crib_cards.specs.Sets.{count_at, has, rank_counts}
@@ -12,10 +12,11 @@ use Rattle.crib_problem.specs.Setup.{Setup}
 use Rattle.crib_plan.specs.declared.plan.Node.{Node}
 use Rattle.crib_know.specs.Knowledge.{Knowledge}
 use Rattle.crib_know.specs.Hidden.{AgreesWith, passes_rank}
-use Rattle.crib_check.specs.declared.beaten.demands.Demand.{Demand}
+use Rattle.crib_show.specs.declared.demands.Demand.{Demand}
 use Rattle.crib_check.specs.declared.keys.Key.{Key}
-use Rattle.crib_check.specs.Beaten.{Beats, counts_of, demand_of, is_met, meets}
-use Rattle.crib_check.specs.Private.Histories.{Extends, history_of_game}
+use Rattle.crib_show.specs.Demands.{is_met}
+use Rattle.crib_check.specs.Beaten.{Beats, counts_of, demand_of, meets}
+use Rattle.crib_sure.specs.Private.Histories.{Extends, history_of_game}
 use Rattle.crib_check.specs.Private.Positions.{StandsAt}
 
 -- the points of the owner's hand, at most 102
@@ -47,24 +48,14 @@ abbrev pub IsDemandAfter : Setup → List Node → Key → List ℕ → Letter �
 IsDemandAfter problem plan key counts letter =
     IsDemandAt problem plan key counts (λ history. BeatsFrom problem plan (Theirs letter ∷ history))
 
--- whether a hold with these counts has a card left that shows a letter. Any hold may show a go
-abbrev pub has_left : List ℕ → List ℕ → Letter → Bool
-has_left seen counts (Seen rank) = nat_lt (count_at seen rank) (count_at counts rank)
-has_left seen counts Go = true
-
 -- whether a hold with these counts passes the test of a knowledge
 abbrev pub passes_counts : ℕ → List ℕ → List ℕ → Bool
 passes_counts least seen counts = list_all (passes_rank least seen counts) ranks
 
--- whether a hold with these counts passes the test of the knowledge after a letter. After a card it does, if it had the
--- card left
-abbrev pub passes_after : Knowledge → List ℕ → Letter → Bool
-passes_after know counts (Seen rank) = true
-passes_after know counts Go = passes_counts know.least know.ranks_seen counts
-
--- whether a hold with these counts may show a letter: it has a card left for it, and passes the test after it
+-- whether a hold with these counts may show a letter: it has a card left for it, or passes the test after a go
 abbrev pub may_show : Knowledge → Knowledge → Letter → List ℕ → Bool
-may_show before after letter counts = has_left before.ranks_seen counts letter && passes_after after counts letter
+may_show before after (Seen rank) counts = nat_lt (count_at before.ranks_seen rank) (count_at counts rank)
+may_show before after Go counts = passes_counts after.least after.ranks_seen counts
 
 -- a demand of a kind is joined to another. Hands and cribs have at most 102 points each
 pub record IsJoined (Kind : Demand → Type 0) (old new : Demand) : Type 0 where

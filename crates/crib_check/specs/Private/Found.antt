@@ -12,9 +12,9 @@ use Rattle.crib_game.specs.Replay.{acts_back}
 use Rattle.crib_check.specs.declared.keys.Key.{Key}
 use Rattle.crib_check.specs.declared.failure.Failure.{Failure}
 use Rattle.crib_check.specs.declared.trails.Event.{Event as TrailEvent}
-use Rattle.crib_check.specs.Private.Histories.{later_of_trail}
+use Rattle.crib_check.specs.Private.Trails.{later_of_trail}
 use Rattle.crib_check.specs.Private.Positions.{StandsAt, HoldsFrom, IsSettled, IsFirstFrom}
-use Rattle.crib_check.specs.Private.Suits.{acts_in_suits}
+use Rattle.crib_sure.specs.Private.Suits.{acts_in_suits}
 
 -- the game of a deal and a trail: its acts are the opening, and then those of the trail
 pub record IsGameOf (problem : Setup) (dealt : Dealt) (trail : List TrailEvent) (game : Game) : Type 0 where

@@ -5,15 +5,15 @@ use Rattle.crib_cards.specs.declared.letters.Letter.{Letter}
 use Rattle.crib_play.specs.History.{Event}
 use Rattle.crib_problem.specs.Setup.{Setup}
 use Rattle.crib_plan.specs.declared.plan.Node.{Node}
-use Rattle.crib_check.specs.declared.deals.Shows.{Shows}
+use Rattle.crib_sure.specs.declared.shows.Shows.{Shows}
 use Rattle.crib_check.specs.declared.failure.Failure.{Failure}
 use Rattle.crib_check.specs.declared.keys.Key.{Key}
 use Rattle.crib_check.specs.declared.trails.Event.{Event as TrailEvent}
 use Rattle.crib_check.specs.declared.walk.Walk.{Walk}
 use Rattle.crib_check.specs.Private.Found.{IsFoundBelow, IsFoundFrom, IsSettledBelow}
-use Rattle.crib_check.specs.Private.Histories.{history_of_trail}
+use Rattle.crib_check.specs.Private.Trails.{history_of_trail}
 use Rattle.crib_check.specs.Private.Positions.{IsSettled, StandsAt}
-use Rattle.crib_check.specs.Shows.{AreShowsOf}
+use Rattle.crib_sure.specs.Shows.{AreShowsOf}
 
 -- what a walk keeps is right for a problem and a plan: they are those of the walk, its position table holds only
 -- settled positions, and its table of shows is right. The first argument is the property that a table holds a position

@@ -15,17 +15,16 @@ ghost use Rattle.crib_problem.specs.Setup.{Setup};
 ghost use Rattle.crib_plan.specs.declared.plan.Node.{Node};
 ghost use Rattle.crib_check.specs.Beaten.{ArePlays, Decides, IsOpen, counts_of, demand_of, meets, passes_opening};
 ghost use Rattle.crib_check.specs.Private.Demands.{AreJoined, IsAfterSome, IsDemandAfter, IsDemandFrom, IsOwnHand};
-ghost use Rattle.crib_check.specs.Private.Demands.{has_left, may_show, passes_after, passes_counts};
+ghost use Rattle.crib_check.specs.Private.Demands.{may_show, passes_counts};
 
-use crate::beaten::demands::{Demand, demand_of_show};
 use crate::keys::Key;
-use crate::turns::{go_by_own, go_by_theirs, own_move};
+use crate::turns::{next_by_own, next_by_theirs, own_move};
 use crib_cards::{GAME_HOLE, Letter, Rank, RankCounts};
 use crib_know::Know;
 use crib_plan::{Plan, start};
 use crib_play::Turn;
 use crib_problem::Problem;
-use crib_show::hand_points;
+use crib_show::{Demand, demand_of_show, hand_points};
 use std::alloc::Allocator;
 
 /// How many choices of four ranks there are.
@@ -137,8 +136,7 @@ impl<A: Allocator> Plays<'_, A> {
             join(Demand::impossible(), places, demands);
             return;
         };
-        let mut next = key.copy();
-        go_by_own(self.plan, &mut next, &what);
+        let next = next_by_own(self.plan, key, &what);
         self.join_from(&next, places, spare, demands);
     }
 
@@ -187,8 +185,7 @@ impl<A: Allocator> Plays<'_, A> {
         if !key.know.can_show(*letter) {
             return;
         }
-        let mut next = key.copy();
-        go_by_theirs(self.plan, &mut next, letter);
+        let next = next_by_theirs(self.plan, key, letter);
         let (left, spare) = spare.split_at_mut(places.len());
         let count = keep_places(self.choices, &key.know, &next.know, letter, places, left);
         if count > 0 {
@@ -260,11 +257,14 @@ fn keep_places(
     count
 }
 
-// Whether a hold with these ranks has a card left that shows a letter, and passes the test after it.
+// Whether a hold with these ranks may show a letter: it has a card left for it, or passes the test after a go.
 fn may_show(before: &Know, after: &Know, letter: &Letter, counts: &RankCounts) -> bool
     ensures { result ≡ may_show before.now after.now letter.now counts.now }
 {
-    has_left(before, counts, letter) && passes_after(after, counts, letter)
+    match *letter {
+        Letter::Seen(rank) => before.ranks_seen().of(rank) < counts.of(rank),
+        Letter::Go => passes(after, counts),
+    }
 }
 
 // Joins a demand at each of some places.
@@ -276,27 +276,6 @@ fn join(demand: Demand, places: &[u16], demands: &mut [Demand; CHOICES])
     for place in places {
         let place = *place as usize;
         demands[place] = demands[place].and(demand);
-    }
-}
-
-// Whether a hold with these ranks has a card left that shows the letter; any hold may show a go.
-fn has_left(know: &Know, counts: &RankCounts, letter: &Letter) -> bool
-    ensures { result ≡ has_left know.now.ranks_seen counts.now letter.now }
-{
-    match *letter {
-        Letter::Seen(rank) => know.ranks_seen().of(rank) < counts.of(rank),
-        Letter::Go => true,
-    }
-}
-
-// Whether a hold with these ranks passes the test of the knowledge after a letter. After a card it does.
-#[inline(always)]
-fn passes_after(know: &Know, counts: &RankCounts, letter: &Letter) -> bool
-    ensures { result ≡ passes_after know.now counts.now letter.now }
-{
-    match *letter {
-        Letter::Seen(_) => true,
-        Letter::Go => passes(know, counts),
     }
 }
 

@@ -1,5 +1,5 @@
 //! Reading a game section.
-ghost use Rattle.std.specs.Prelude.{◌≡◌, ◌≤◌, ◌++◌, ℕ, List, map, Ok, IfOk, OnErr};
+ghost use Rattle.std.specs.Prelude.{◌≡◌, ◌≤◌, ◌++◌, ℕ, List, map, Ok, Err, MatchResult, IfOk, OnErr};
 ghost use Rattle.crib_text.specs.Lines.{rest_of};
 ghost use Rattle.crib_text.specs.Reading.{Reads, value_at};
 ghost use Rattle.crib_text.specs.Forms.{values_at};
@@ -9,11 +9,12 @@ ghost use Rattle.crib_text.specs.Spelling.{line_bytes};
 ghost use Rattle.crib_game.specs.Spelling.{IsGame, game_lines};
 ghost use Rattle.crib_problem.specs.Reading.{most_acts, act_in};
 ghost use Rattle.crib_game.specs.Reading.{game_at};
+ghost use Rattle.crib_game.specs.Private.Reading.{acts_at};
 
 use super::game::Game;
-use super::words_of_lines::{hold_of, throw_of};
+use super::words_of_lines::read_cards;
 use arrayvec::ArrayVec;
-use crib_cards::{Act, Dealt};
+use crib_cards::{Act, Card, Dealt};
 use crib_problem::{act_of, acts_count_of};
 use crib_text::{Lines, TextFault, fault_in, in_line, read_header};
 
@@ -41,7 +42,6 @@ pub fn read_game(lines: &mut Lines<'_>) -> Result<Game, TextFault>
     Ok(game)
 }
 
-#[tactic(auto, using(crib_text::proofs::ReadingLemmas::values))]
 fn read_act(lines: &mut Lines<'_>) -> Result<Act, TextFault>
     ensures { Takes (λ act. act) text_refusal (value_at act_in (rest_of lines.old)) (rest_of lines.new) result }
 {
@@ -65,22 +65,32 @@ fn read_acts(lines: &mut Lines<'_>, count: u32) -> Result<ArrayVec<Act, 32>, Tex
     Ok(acts)
 }
 
-// Reads the header, the cards of both lines, the number of acts, and the acts.
-#[tactic(auto, unfolding(crate::specs::Reading::game_at, crib_text::specs::Reading::value_at))]
-fn game_of(lines: &mut Lines<'_>) -> Result<Game, TextFault>
-    ensures { Takes (λ game. game) text_refusal (game_at (rest_of lines.old)) (rest_of lines.new) result }
+// Reads the lines before the acts: the header, and the opponent's hold and throw.
+#[tactic(auto, unfolding(crate::specs::Reading::game_at, crib_text::specs::Reading::value_at, crate::specs::Private::Reading::acts_at))]
+fn read_dealt(lines: &mut Lines<'_>) -> Result<Dealt, TextFault>
+    ensures { MatchResult result
+        (λ dealt. game_at (rest_of lines.old) ≡ acts_at dealt (rest_of lines.new))
+        (λ fault. game_at (rest_of lines.old) ≡ Err (text_refusal fault)) }
 {
     let line = lines.next_line()?;
     in_line(&line, read_header(&line, b"game"))?;
+    let mut hold = [Card::default(); 4];
     let line = lines.next_line()?;
-    let hold = in_line(&line, hold_of(&line))?;
+    in_line(&line, read_cards(&line, b"hold", &mut hold))?;
+    let mut throw = [Card::default(); 2];
     let line = lines.next_line()?;
-    let throw = in_line(&line, throw_of(&line))?;
+    in_line(&line, read_cards(&line, b"throw", &mut throw))?;
+    Ok(Dealt { hold, throw })
+}
+
+// Reads the opponent's cards, the number of acts, and the acts.
+#[tactic(auto, unfolding(crate::specs::Private::Reading::acts_at, crib_text::specs::Reading::value_at))]
+fn game_of(lines: &mut Lines<'_>) -> Result<Game, TextFault>
+    ensures { Takes (λ game. game) text_refusal (game_at (rest_of lines.old)) (rest_of lines.new) result }
+{
+    let opp = read_dealt(lines)?;
     let line = lines.next_line()?;
     let count = in_line(&line, acts_count_of(&line, b"acts"))?;
     let acts = read_acts(lines, count)?;
-    Ok(Game {
-        opp: Dealt { hold, throw },
-        acts,
-    })
+    Ok(Game { opp, acts })
 }

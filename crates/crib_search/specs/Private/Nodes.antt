@@ -32,6 +32,11 @@ IsMore before after =
     (place : ℕ) (draft_node : DraftNode) → slice_get before place ≡ Some draft_node →
     slice_get after place ≡ Some draft_node
 
+-- a place is that of a kept node
+abbrev pub IsPlaceOf : List DraftNode → DraftNode → DraftPlace → Type 0
+IsPlaceOf draft_nodes draft_node draft_place =
+    (place : ℕ) × (draft_place ≡ At place) × (slice_get draft_nodes place ≡ Some draft_node)
+
 -- a place names a tree: from the place on, the plan in the making is the tree
 abbrev mutual
   pub Names : List DraftNode → Tree → DraftPlace → Type 0

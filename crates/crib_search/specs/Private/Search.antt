@@ -8,7 +8,7 @@ use Rattle.crib_play.specs.History.{Event, Theirs}
 use Rattle.crib_problem.specs.Setup.{Setup}
 use Rattle.crib_know.specs.Knowledge.{Knowledge}
 use Rattle.crib_know.specs.Hidden.{CanShow, KnowsAfter}
-use Rattle.crib_check.specs.Shows.{AreShowsOf}
+use Rattle.crib_sure.specs.Shows.{AreShowsOf}
 use Rattle.crib_know.specs.contracts.know.KnowPartialEq.TheImpl as knows_compared
 use Rattle.indexmap.specs.IndexMap.{get}
 use Rattle.crib_search.specs.declared.nodes.DraftPlace.{DraftPlace}

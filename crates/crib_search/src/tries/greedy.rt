@@ -1,5 +1,5 @@
 //! A plan that few deals beat, made from the beginning on.
-ghost use Rattle.std.specs.Prelude.{◌≡◌, ◌+◌, ◌≤◌, IsTrue, IfOk};
+ghost use Rattle.std.specs.Prelude.{◌≡◌, ◌+◌, ◌≤◌, ℕ, IsTrue, IfOk};
 ghost use Rattle.crib_cards.specs.Cards.{card_value};
 ghost use Rattle.crib_cards.specs.Sets.{has};
 ghost use Rattle.crib_play.specs.Record.{count_of};
@@ -9,24 +9,20 @@ ghost use Rattle.crib_search.specs.Private.Search.{IsHere};
 use crate::choices::options;
 use crate::join::join;
 use crate::nodes::{DraftNode, DraftPlace, Nodes};
-use crate::tries::tallies::Tallies;
-use crate::tries::trials::Trial;
 use arrayvec::ArrayVec;
 use crib_cards::{Card, GAME_HOLE, Letter};
-use crib_check::{Demand, NoMemory, demand_of_show};
 use crib_know::Know;
 use crib_play::Turn;
 use crib_problem::Problem;
-use crib_show::hand_points;
-use std::alloc::Allocator;
+use crib_show::{Demand, demand_of_show, hand_points};
+use crib_trial::Trial;
+use std::alloc::{AllocError, Allocator};
 
 /// What a plan for a problem is made with.
 #[derive(Drop)]
-pub(crate) struct Greedy<'a, A: Allocator> {
-    alloc: A,
+struct Greedy<'a> {
     problem: &'a Problem,
     own_hand: u8,
-    tallies: Tallies<A>,
 }
 
 /// Makes a plan, and returns its first place. It fails if an allocation fails.
@@ -34,31 +30,27 @@ pub(crate) fn make_plan<A: Allocator + Copy>(
     alloc: A,
     problem: &Problem,
     nodes: &mut Nodes<A>,
-) -> Result<DraftPlace, NoMemory>
+) -> Result<DraftPlace, AllocError>
     ensures { IfOk result (IsPlanned nodes.new) }
 {
     let know = Know::start(problem);
-    let mut tallies = Tallies::new(alloc, problem);
-    let mut trial = Trial::new(alloc);
-    trial.add_all(&mut tallies, problem, &know)?;
+    let mut trial = Trial::new(alloc, problem, &know)?;
     let greedy = Greedy {
-        alloc,
         problem,
         own_hand: hand_points(&problem.hold(), problem.starter()),
-        tallies,
     };
     greedy.place_at(nodes, &know, &mut trial)
 }
 
-impl<A: Allocator + Copy> Greedy<'_, A> {
+impl Greedy<'_> {
     // The place at which the plan goes on from this knowledge.
     #[cycle(greedy)]
-    fn place_at(
+    fn place_at<A: Allocator + Copy>(
         &self,
         nodes: &mut Nodes<A>,
         know: &Know,
         trial: &mut Trial<A>,
-    ) -> Result<DraftPlace, NoMemory>
+    ) -> Result<DraftPlace, AllocError>
         requires hand { self.now.own_hand ≤ 102 }
         requires here { IsHere self.now.problem.now know.now }
         ensures kept { IsMore nodes.old nodes.new }
@@ -69,7 +61,7 @@ impl<A: Allocator + Copy> Greedy<'_, A> {
         }
         match know.turn() {
             Turn::Over => {
-                trial.demand(&self.tallies, self.demand_at_end(know));
+                trial.demand(self.demand_at_end(know));
                 Ok(DraftPlace::End)
             }
             Turn::Owner => self.own_place(nodes, know, trial),
@@ -79,12 +71,12 @@ impl<A: Allocator + Copy> Greedy<'_, A> {
 
     // The same if the owner is to move. The owner says go if there is no card to try.
     #[cycle(greedy)]
-    fn own_place(
+    fn own_place<A: Allocator + Copy>(
         &self,
         nodes: &mut Nodes<A>,
         know: &Know,
         trial: &mut Trial<A>,
-    ) -> Result<DraftPlace, NoMemory>
+    ) -> Result<DraftPlace, AllocError>
         requires hand { self.now.own_hand ≤ 102 }
         requires here { IsHere self.now.problem.now know.now }
         requires asked { know.now.round.asked ≡ Turn.Owner }
@@ -100,31 +92,48 @@ impl<A: Allocator + Copy> Greedy<'_, A> {
         if len == 1 {
             return self.place_with(nodes, know, cards[0], trial);
         }
-        let start = trial.copy(self.alloc, 0)?;
+        self.best_place(nodes, know, &cards[..len], trial)
+    }
+
+    // The place at which the owner plays the card after which fewest deals are lost, the first of them.
+    #[cycle(greedy)]
+    fn best_place<A: Allocator + Copy>(
+        &self,
+        nodes: &mut Nodes<A>,
+        know: &Know,
+        cards: &[Card],
+        trial: &mut Trial<A>,
+    ) -> Result<DraftPlace, AllocError>
+        requires hand { self.now.own_hand ≤ 102 }
+        requires here { IsHere self.now.problem.now know.now }
+        requires asked { know.now.round.asked ≡ Turn.Owner }
+        requires playable { (card : ℕ) → IsTrue (has cards.now card)
+            → IsTrue (has know.now.own_left card) × (count_of know.now.round.pile + card_value card ≤ 31) }
+        ensures kept { IsMore nodes.old nodes.new }
+        ensures planned { IfOk result (IsPlanned nodes.new) }
+    {
         let mut place = DraftPlace::End;
-        trial.give_up();
-        for card in &cards[..len] {
-            let mut other = start.copy(self.alloc, trial.lost())?;
-            let other_place = self.place_with(nodes, know, *card, &mut other)?;
-            if trial.adopt(other) {
+        let start = trial.give_up();
+        for card in cards {
+            let best = trial.attempt(start)?;
+            let other_place = self.place_with(nodes, know, *card, trial)?;
+            if trial.adopt(best) {
                 place = other_place;
             }
-            if trial.lost() == start.lost() {
-                break;
-            }
         }
+        trial.adopt(start);
         Ok(place)
     }
 
     // The place at which the owner plays a card.
     #[cycle(greedy)]
-    fn place_with(
+    fn place_with<A: Allocator + Copy>(
         &self,
         nodes: &mut Nodes<A>,
         know: &Know,
         card: Card,
         trial: &mut Trial<A>,
-    ) -> Result<DraftPlace, NoMemory>
+    ) -> Result<DraftPlace, AllocError>
         requires hand { self.now.own_hand ≤ 102 }
         requires here { IsHere self.now.problem.now know.now }
         requires asked { know.now.round.asked ≡ Turn.Owner }
@@ -139,63 +148,58 @@ impl<A: Allocator + Copy> Greedy<'_, A> {
         if trial.is_over() {
             return Ok(DraftPlace::End);
         }
-        let place = nodes.place_of(&DraftNode::Play { card, next })?;
-        Ok(DraftPlace::At(place))
+        nodes.place_of(&DraftNode::Play { card, next })
     }
 
     // The same if the opponent is to move. The letters go in their order.
     #[cycle(greedy)]
-    fn their_place(
+    fn their_place<A: Allocator + Copy>(
         &self,
         nodes: &mut Nodes<A>,
         know: &Know,
         trial: &mut Trial<A>,
-    ) -> Result<DraftPlace, NoMemory>
+    ) -> Result<DraftPlace, AllocError>
         requires hand { self.now.own_hand ≤ 102 }
         requires here { IsHere self.now.problem.now know.now }
         ensures kept { IsMore nodes.old nodes.new }
         ensures planned { IfOk result (IsPlanned nodes.new) }
     {
-        let mut part = Trial::new(self.alloc);
         let mut nexts: ArrayVec<DraftPlace, 14> = ArrayVec::new();
         for place in 0..14u8 {
             let letter = Letter::at(place);
-            let next = self.place_after(nodes, know, &letter, trial, &mut part)?;
+            let next = self.place_after(nodes, know, &letter, trial)?;
             nexts.push(next);
-        }
-        if trial.is_over() {
-            return Ok(DraftPlace::End);
+            if trial.is_over() {
+                return Ok(DraftPlace::End);
+            }
         }
         join(nodes, &nexts)
     }
 
-    // Where the plan goes on after a letter, in the part of the trial that shows it. If no covered deal can show it,
-    // this is the end.
+    // Where the plan goes on after a letter. If no covered deal can show it, this is the end.
     #[cycle(greedy)]
-    fn place_after(
+    fn place_after<A: Allocator + Copy>(
         &self,
         nodes: &mut Nodes<A>,
         know: &Know,
         letter: &Letter,
         trial: &mut Trial<A>,
-        part: &mut Trial<A>,
-    ) -> Result<DraftPlace, NoMemory>
+    ) -> Result<DraftPlace, AllocError>
         requires hand { self.now.own_hand ≤ 102 }
         requires here { IsHere self.now.problem.now know.now }
         ensures kept { IsMore nodes.old nodes.new }
         ensures planned { IfOk result (IsPlanned nodes.new) }
     {
-        if trial.is_over() || !know.can_show(*letter) {
+        if !know.can_show(*letter) {
             return Ok(DraftPlace::End);
         }
-        trial.show(part, know, letter)?;
-        if part.is_over() {
+        let Some(below) = trial.show(know, letter)? else {
             return Ok(DraftPlace::End);
-        }
+        };
         let mut next = know.copy();
         next.saw(letter);
-        let place = self.place_at(nodes, &next, part)?;
-        trial.take_back(part);
+        let place = self.place_at(nodes, &next, trial)?;
+        trial.take_back(below);
         Ok(place)
     }
 

@@ -4,10 +4,11 @@ ghost use Rattle.crib_run.specs.Reply.{IsOutcome};
 ghost use Rattle.crib_sheet.specs.Sheet.{SheetMakes, parts_reply, verdict_status};
 
 use crate::answer::job::SheetJob;
-use crate::plan::{Losses, Outline, losses_by};
+use crate::verdict::{Losses, losses_by};
 use crib_check::{Verdict, verdict_on};
 use crib_input::{FaultCause, Reason, question_of};
 use crib_plan::Plan;
+use crib_plan_sheet::Outline;
 use crib_problem::Problem;
 use crib_run::Status;
 use crib_text::MAX_INPUT;

@@ -10,7 +10,7 @@ use arrayvec::ArrayVec;
 use crib_cards::{GAME_HOLE, Scores, Side};
 
 /// How a deal that is done ends for the owner (docs/RULES.md, "The end").
-#[derive(Clone, Copy, PartialEq, Eq, Hash, Debug)]
+#[derive(Clone, Copy, PartialEq, Eq, Debug)]
 pub enum Outcome {
     /// The owner is at the target, or the goal is `stop` and nobody is at 121 after the show.
     Reached,
@@ -29,7 +29,7 @@ struct CountedHand {
 }
 
 /// A hand or crib that the show counts.
-#[derive(Clone, Copy, PartialEq, Eq, Hash, Debug)]
+#[derive(Clone, Copy, PartialEq, Eq, Debug)]
 pub struct ShowRow {
     /// Whether it is the crib and not a hand.
     pub crib: bool,

@@ -22,14 +22,14 @@ const NOT_KEPT: u8 = 255;
 ///
 /// Within a problem the starter, the owner's cards, the unseen and the fixed cards stay the same. So the points
 /// computed for some ranks of the opponent hold at every end with these ranks, whatever the scores.
-#[derive(Clone, Debug, Drop)]
+#[derive(Clone, Drop)]
 pub struct ExtremesByRanks {
     pub(crate) own: OwnPoints,
     kept: [Extremes; PLACES],
 }
 
 /// The points that have been computed for some ranks of the opponent, in four bytes.
-#[derive(Clone, Copy, Debug)]
+#[derive(Clone, Copy)]
 pub struct Extremes {
     /// The points of the greatest hand.
     pub greatest_hand: u8,

@@ -10,7 +10,7 @@ use std::io::{Error, ErrorKind, Read, Write};
 
 /// A reader or a writer of std, with a count of its failed calls. Each call is one call of the reader or writer inside
 /// and moves the same bytes. A write also fails if it writes no byte of a slice that isn't empty.
-#[derive(Debug, Drop)]
+#[derive(Drop)]
 pub struct Counted<T> {
     inner: T,
     faults: u64,

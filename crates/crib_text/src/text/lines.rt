@@ -8,7 +8,7 @@ use crate::devices::MAX_INPUT;
 use crate::fault::{Fault, TextCause, TextFault};
 
 /// The lines of a text that are left, and the number of the first of them. A refused call leaves them unchanged.
-#[derive(Clone, Copy, Debug)]
+#[derive(Clone, Copy)]
 pub struct Lines<'a> {
     source: &'a [u8],
     at: usize,

@@ -2,7 +2,7 @@ use Rattle.std.proofs.Common.{Ok, Err, rules}
 use Rattle.crib_run.specs.Run.{Delivers}
 use Rattle.crib_run.proofs.Delivery.{silent}
 use Rattle.crib_run.proofs.Runs.{run_means}
-use Rattle.cribplan.proofs.Runs.{job_means, of_asked}
+use Rattle.cribplan.proofs.Runs.{job_means}
 use Rattle.cribplan.proofs.run_with_words.Goals as goal
 
 pub returns-in-Ok : goal.returns-in-Ok
@@ -28,10 +28,10 @@ returns-in-Err g c =
       read = Err c.in-Err.fault.cause;
       gave = search rules;
       reply = _;
-      answers = c.unread_reason-reason.ensures;
+      answers = c.unread_reason.ensures;
       sent = c.deliver_reason.ensures.sent;
     } in
-    let words = of_asked _ _ _ _ _ _ _ _ _ c.asked.ensures.program c.asked.ensures.input c.deliver_reason.ensures.words in
+    let words = c.deliver_reason.ensures.words in
     record {
       answers = run;
       means = run_means _ _ (job_means c.args.job) _ _ _ _ _ _ run;

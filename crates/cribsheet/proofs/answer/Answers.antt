@@ -1,7 +1,6 @@
 use Rattle.crib_run.specs.Reply.{outcome_reply}
 use Rattle.crib_run.proofs.Delivery.{outcome_made}
 use Rattle.crib_sheet.specs.Sheet.{SheetMakes, sheet_reply}
-use Rattle.cribsheet.proofs.Runs.{of_asked}
 use Rattle.cribsheet.proofs.answer.Goals as goal
 
 pub returns : goal.returns
@@ -9,5 +8,5 @@ returns g c = (
   outcome_reply sheet_reply c.sheet_of-outcome.result,
   outcome_made sheet_reply (SheetMakes c.args.job c.args.input.now) c.sheet_of-outcome.result c.sheet_of-outcome.ensures,
   c.deliver.ensures.sent,
-  of_asked _ _ _ _ _ _ _ c.asked.ensures c.deliver.ensures.words,
+  c.deliver.ensures.words,
 )

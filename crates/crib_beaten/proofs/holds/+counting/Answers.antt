@@ -1,7 +1,8 @@
-use Rattle.std.proofs.Common.{rules, ◌≡◌, ◌+◌, ◌-◌, ◌*◌, ◌^◌, ◌≤◌, ◌<◌, ℕ, sym, ◌∙◌, arith}
+use Rattle.std.proofs.Common.{rules, ◌≡◌, ◌+◌, ◌-◌, ◌*◌, ◌^◌, ◌≤◌, ◌<◌, ℕ, drop, sym, ap, ◌∙◌, arith}
 use Rattle.std.proofs.Math.Nat.{mul-le-mul}
 use Rattle.crib_check.specs.Beaten.{IsOpen}
 use Rattle.crib_beaten.specs.Private.ByRanks.{IsMissing}
+use Rattle.crib_beaten.specs.Private.Open.{may_end}
 use Rattle.crib_beaten.proofs.HoldEnds.{few_suits, next_suit, no_end, none_end, numbered}
 use Rattle.crib_beaten.proofs.NumberedDeals.{all_below}
 use Rattle.crib_beaten.proofs.holds.+counting.Goals as goal
@@ -12,6 +13,17 @@ sum_small most before suit few less next all more =
     let part : most * 4 ^ before ≤ 2132 * 64 = mul-le-mul few (few_suits before less) in
     let whole : most * 4 ^ before * suit ≤ 2132 * 64 * 4 = mul-le-mul {m₂ = 4} part (omega (arith, next)) in
     omega (arith, part, whole, all, more)
+
+pub count_before-count_from-more-requires : goal.count_before-count_from-more-requires
+count_before-count_from-more-requires t c =
+    let there : c.args.place - 1 + 1 ≡ c.args.place = omega arith in
+    let later = ap (may_end c.args.cribs.now.unseen) (c.with_suit-longer.ensures.later ∙ ap (λ n. drop n c.args.hold.now) there) ∙ c.requires.later in
+    let here = c.requires.here in
+    (omega arith, (omega arith, (later, (here.0, here.1, here.2, c.with_suit-longer.ensures.ranks ∙ here.3))))
+
+pub count_from-count_before-requires : goal.count_from-count_before-requires
+count_from-count_before-requires t c =
+    (omega arith, (omega (arith, c.if-place-gt0.true), (sym c.may_begin.ensures ∙ c.if-not-may_begin.false, c.requires.here)))
 
 pub count_before-overflow_add-open_deals : goal.count_before-overflow_add-open_deals
 count_before-overflow_add-open_deals t c =

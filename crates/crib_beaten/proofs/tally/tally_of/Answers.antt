@@ -1,5 +1,5 @@
-use Rattle.std.proofs.Common.{◌≡◌, ◌+◌, [], ap, ◌∙◌, arith}
-use Rattle.crib_beaten.specs.Private.Numbers.{ordered_count, ranks_of_number}
+use Rattle.std.proofs.Common.{[], ap, arith}
+use Rattle.crib_beaten.specs.Private.Numbers.{ordered_count}
 use Rattle.crib_beaten.proofs.Choices.{none_chosen}
 use Rattle.crib_beaten.proofs.HoldNumbers.{ordered_more}
 use Rattle.crib_beaten.proofs.TallyRows.{next_tally, none_yet, sum_fits, whole_tally}
@@ -25,10 +25,9 @@ loop-number-preserved g c =
     let sums = c.in_ok-add.ensures in
     let next = next_tally c.of-deals.ensures.cards.setup c.row_at-row.result (omega arith) c.loop-number.invariant.below c.row_at-row.ensures.ranks
     (c.row_at-row.ensures.exact c.args.problem.now c.args.plan.now c.of-deals.ensures) c.row_at-row.ensures.few in
-    let after : c.place_after-place.result ≡ c.loop-number.place + ordered_count (ranks_of_number c.loop-number.number) =
-    c.place_after-place.ensures.value ∙ ap (λ ranks. c.loop-number.place + ordered_count ranks) c.row_at-row.ensures.ranks in record {
+    let count = ap ordered_count c.row_at-row.ensures.ranks in record {
       below = rw (sums.open_deals, sums.beaten, sums.rows) next;
-      place = omega (arith, after, c.loop-number.invariant.place, ordered_more c.loop-number.number);
+      place = omega (arith, c.place_after-place.ensures.value, count, c.loop-number.invariant.place, ordered_more c.loop-number.number);
       few = omega (arith, c.place_after-place.ensures.few, c.loop-number.invariant.few);
     }
 

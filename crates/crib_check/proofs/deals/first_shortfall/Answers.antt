@@ -3,7 +3,8 @@ use Rattle.crib_play.specs.History.{Event}
 use Rattle.crib_know.specs.Hidden.{KnowsAfter}
 use Rattle.crib_know.specs.Knowledge.{their_ranks}
 use Rattle.crib_game.specs.Private.Judging.{full_at}
-use Rattle.crib_check.proofs.FirstShortfalls.{decided_reached, four_played, gone_for, gone_from, has_deal, lost_short, opponent_read, owner_read, short_of}
+use Rattle.crib_check.proofs.FirstShortfalls.{lost_short, short_of}
+use Rattle.crib_sure.proofs.ShowsBehind.{decided_reached, four_played, gone_for, gone_from, has_deal, opponent_read, owner_read}
 use Rattle.crib_check.proofs.deals.first_shortfall.Goals as goal
 use Rattle.crib_check.proofs.deals.first_shortfall.Goals.{After-go_to}
 

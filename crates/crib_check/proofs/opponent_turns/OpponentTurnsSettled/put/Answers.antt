@@ -15,3 +15,12 @@ returns-then-eq-clause-refused g c =
 
 pub returns-then-eq-clause-stays : goal.returns-then-eq-clause-stays
 returns-then-eq-clause-stays g c = λ other is. (is.0, c.put.ensures.stays other is.1)
+
+pub returns-else-eq-clause-held : goal.returns-else-eq-clause-held
+returns-else-eq-clause-held g c = λ known other known_other is. inl is
+
+pub returns-else-eq-clause-refused : goal.returns-else-eq-clause-refused
+returns-else-eq-clause-refused g c = tt
+
+pub returns-else-eq-clause-stays : goal.returns-else-eq-clause-stays
+returns-else-eq-clause-stays g c = λ other is. is

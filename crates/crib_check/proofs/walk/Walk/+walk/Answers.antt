@@ -1,31 +1,38 @@
-use Rattle.std.proofs.Common.{rules, ◌≡◌, ◌∷◌, ◌++◌, ◌*◌, ◌+◌, ◌-◌, ◌<◌, ℕ, List, [], length, length-append, None, refl, ap, arith}
+use Rattle.std.proofs.Common.{rules, ◌≡◌, ◌∷◌, ◌++◌, ◌*◌, ◌+◌, ◌-◌, ◌<◌, ℕ, List, [], length, length-append, refl, sym, ap, subst, ◌∙◌, not, arith}
 use Rattle.std.proofs.lemmas.Bool.{both_ways}
 use Rattle.crib_cards.specs.declared.letters.Letter.TheVariants.{Go}
-use Rattle.crib_check.specs.Private.Histories.{as_event}
+use Rattle.crib_check.specs.Private.Trails.{as_event}
 use Rattle.crib_check.specs.declared.trails.Event.{Event as TrailEvent}
 use Rattle.crib_check.specs.declared.trails.Event.TheVariants.{Own, Theirs}
-use Rattle.crib_check.specs.Private.Walks.{HasWalked, IsKept, MayWalk, history_at}
-use Rattle.crib_check.proofs.WalkSteps.{failed, gone_as, shown_next, stays}
+use Rattle.crib_check.specs.Private.Positions.{StandsAt}
+use Rattle.crib_check.specs.Private.Walks.{HasWalked, MayWalk, history_at}
+use Rattle.crib_check.proofs.WalkSteps.{failed_from, gone_as, kept_with, may_show, no_failure, shown_next, some_failure, stays}
 use Rattle.crib_check.proofs.TrailLengths.{trail_more, trail_back, trail_room}
 use Rattle.crib_check.proofs.FoundAtPosition.{own_found, theirs_found, found_from, one_more_settled}
-use Rattle.crib_check.proofs.EndedDeals.{all_reach}
+use Rattle.crib_check.proofs.FirstShortfalls.{all_reach}
 use Rattle.crib_check.proofs.WalkConclusions.{below_more, settled_over, settled_theirs}
 use Rattle.crib_check.proofs.walk.Walk.+walk.Goals as goal
-use Rattle.crib_check.proofs.walk.Walk.+walk.Goals.{walk-then-eq-2, walk-else-eq-2}
+use Rattle.crib_check.proofs.walk.Walk.+walk.Goals.{walk-in-Owner, walk-in-Opponent}
 
 -- ---- at a position
-pub walk-returns-then-has : goal.walk-returns-then-has
-walk-returns-then-has g t c = stays c.requires.kept (rw c.requires.none (c.requires.kept.settled c.args.key.now (c.has.ensures c.if-has.true)))
+pub walk-returns-in_default : goal.walk-returns-in_default
+walk-returns-in_default g t c = stays c.requires.kept (rw c.requires.none (c.requires.kept.settled c.args.key.now (c.has.ensures (assumption))))
+
+pub walk-own_turn-requires : goal.walk-own_turn-requires
+walk-own_turn-requires g t c κs within = (omega arith, (within.0, (within.1, (sym c.in-Owner.ensures, c.requires))))
+
+pub walk-their_turn-requires : goal.walk-their_turn-requires
+walk-their_turn-requires g t c κs within = (omega arith, (within.0, (within.1, (sym c.in-Opponent.ensures, c.requires))))
 
 pub walk-returns-then-is_none : goal.walk-returns-then-is_none
 walk-returns-then-is_none g t c =
     let walk = c.args.self.now in
-    let gone = c.if-eq-2.self in
-    let walked : HasWalked g.T.Settled.holds walk c.args.key.now (history_at walk) gone = elim c.if-eq-2.branch [
-      | walk-then-eq-2 w ↦ rw w.self-is w.own_turn.ensures
-      | walk-else-eq-2 w ↦ rw w.self-is w.their_turn.ensures
+    let gone = c.match-this.self in
+    let walked : HasWalked g.T.Settled.holds walk c.args.key.now (history_at walk) gone = elim c.match-this.branch [
+      | walk-in-Owner w ↦ rw w.self-is w.own_turn.ensures
+      | walk-in-Opponent w ↦ rw w.self-is w.their_turn.ensures
     ] in
-    let none : gone.failure ≡ None = grind arith in
+    let none = no_failure gone.failure (c.is_none.ensures ∙ ap not {x = c.is_none.result} c.if-is_none.true) in
     let settled = one_more_settled (g.T.Settled.holds c.put.new.self) (g.T.Settled.holds gone.table.now) c.requires.here
     (rw c.copy.ensures at c.put.ensures.held) walked.kept.settled (rw none at walked.found) in
     record { kept = assumption; back = walked.back; found = walked.found }
@@ -34,15 +41,18 @@ walk-returns-then-is_none g t c =
 pub own_turn-take-requires : goal.own_turn-take-requires
 own_turn-take-requires g t c κs within =
     let walk = c.args.self.now in
-    let next = rw c.copy-next.ensures at c.go_by_own.ensures in
-    let may : MayWalk g.T.Settled.holds walk c.go_by_own.new.key (as_event (Own c.in-Some.what) ∷ history_at walk) =
-    record { kept = c.requires.here.kept; none = c.requires.here.none; here = next walk.problem.now (history_at walk) c.requires.here.here } in
+    let may : MayWalk g.T.Settled.holds walk c.next_by_own-next.result (as_event (Own c.in-Some.what) ∷ history_at walk) =
+    record {
+      kept = c.requires.here.kept;
+      none = c.requires.here.none;
+      here = c.next_by_own-next.ensures walk.problem.now (history_at walk) c.requires.here.here;
+    } in
     (omega arith, (within.0, (within.1, may)))
 
 pub own_turn-returns-in-Some : goal.own_turn-returns-in-Some
 own_turn-returns-in-Some g t c =
     gone_as c.take.ensures (own_found c.take.new.self.trail.items c.in-Some.what c.take.new.self.failure c.requires.here.here c.in-Some.ensures
-    (rw c.copy-next.ensures at c.go_by_own.ensures c.args.self.now.problem.now))
+    (c.next_by_own-next.ensures c.args.self.now.problem.now))
 
 -- ---- the opponent's turn
 pub their_turn-returns-then-is_some : goal.their_turn-returns-then-is_some
@@ -50,12 +60,23 @@ their_turn-returns-then-is_some g t c =
     let walk = c.args.self.now in
     let after = c.they_show.new.self in
     gone_as (shown_next c.loop-place.invariant c.at.result c.at.ensures.place c.they_show.ensures)
-    (found_from walk.problem.now walk.plan.now c.args.key.now _ (history_at walk) after.trail.items after.failure (λ none. absurd (grind arith)))
+    (found_from walk.problem.now walk.plan.now c.args.key.now _ (history_at walk) after.trail.items after.failure (λ none.
+    absurd (some_failure after.failure (sym c.is_some.ensures ∙ c.if-is_some.true) none)))
+
+pub their_turn-they_show-requires : goal.their_turn-they_show-requires
+their_turn-they_show-requires g t c κs within =
+    let may = may_show c.loop-place.invariant c.requires.here.here in
+    (omega (arith, ap length c.loop-place.invariant.back), (within.0, (within.1, (c.requires.asked, (may, c.at.ensures.valid)))))
+
+pub their_turn-they_show-requires-2 : goal.their_turn-they_show-requires-2
+their_turn-they_show-requires-2 g t c κs within =
+    let may = may_show c.loop-place.invariant c.requires.here.here in
+    (omega (arith, ap length c.loop-place.invariant.back), (within.0, (within.1, (c.requires.asked, (may, search rules)))))
 
 pub their_turn-loop-place-preserved : goal.their_turn-loop-place-preserved
 their_turn-loop-place-preserved g t c =
     let shown = shown_next c.loop-place.invariant c.at.result c.at.ensures.place c.they_show.ensures in
-    let none : c.they_show.new.self.failure ≡ None = grind arith in
+    let none = no_failure c.they_show.new.self.failure (sym c.is_some.ensures ∙ c.if-is_some.false) in
     record { kept = shown.kept; none = none; back = shown.back none; below = rw none at shown.found }
 
 pub their_turn-returns : goal.their_turn-returns
@@ -68,21 +89,24 @@ their_turn-returns g t c =
     (rw (← all) at found))
 
 -- ---- a letter of the opponent
-pub they_show-go_by_theirs-requires : goal.they_show-go_by_theirs-requires
-they_show-go_by_theirs-requires g t c = rw c.copy-next.ensures (c.can_show.ensures.shown c.if-can_show.true)
+pub they_show-next_by_theirs-next-requires : goal.they_show-next_by_theirs-next-requires
+they_show-next_by_theirs-next-requires g t c = c.can_show.ensures.shown c.if-can_show.true
 
 pub they_show-take-requires : goal.they_show-take-requires
 they_show-take-requires g t c κs within =
     let walk = c.args.self.now in
-    let next = rw c.copy-next.ensures at c.go_by_theirs.ensures in
-    let may : MayWalk g.T.Settled.holds walk c.go_by_theirs.new.key (as_event (Theirs c.args.letter.now) ∷ history_at walk) =
-    record { kept = c.requires.here.kept; none = c.requires.here.none; here = next walk.problem.now (history_at walk) c.requires.here.here } in
+    let may : MayWalk g.T.Settled.holds walk c.next_by_theirs-next.result (as_event (Theirs c.args.letter.now) ∷ history_at walk) =
+    record {
+      kept = c.requires.here.kept;
+      none = c.requires.here.none;
+      here = c.next_by_theirs-next.ensures walk.problem.now (history_at walk) c.requires.here.here;
+    } in
     (omega arith, (within.0, (within.1, may)))
 
 pub they_show-returns-then-can_show : goal.they_show-returns-then-can_show
 they_show-returns-then-can_show g t c =
     gone_as c.take.ensures (theirs_found c.take.new.self.trail.items c.args.letter.now c.take.new.self.failure c.requires.here.here c.requires.asked
-    c.requires.letter (rw c.copy-next.ensures at c.go_by_theirs.ensures c.args.self.now.problem.now))
+    c.requires.letter (c.next_by_theirs-next.ensures c.args.self.now.problem.now))
 
 pub they_show-returns-else-can_show : goal.they_show-returns-else-can_show
 they_show-returns-else-can_show g t c = stays c.requires.here.kept (λ below.
@@ -95,7 +119,8 @@ falls_by_one : (before after : List TrailEvent) (event : TrailEvent) {t : ℕ} �
 falls_by_one before after event is room all = omega (arith, room, all, simp length-append at (ap length is))
 
 pub take-returns-then-ends_well : goal.take-returns-then-ends_well
-take-returns-then-ends_well g t c = stays (assumption) (rw c.requires.none (settled_over (c.ends_well.ensures.over c.if-ends_well.true)
+take-returns-then-ends_well g t c =
+    stays (kept_with c.requires.kept c.ends_well.ensures.shows) (rw c.requires.none (settled_over (c.ends_well.ensures.over c.if-ends_well.true)
     (λ history knows. all_reach knows (c.ends_well.ensures.reached c.if-ends_well.true history knows))))
 
 pub take-push-requires : goal.take-push-requires
@@ -108,15 +133,26 @@ take-walk-requires g t c κs within =
     let walk = c.args.self.now in
     let room = trail_room c.args.key.now.know walk.problem.now (as_event c.args.event) walk.trail.items c.requires.here.knows in
     let more = trail_more walk.problem.now walk.trail.items c.push.new.self.items c.args.event c.push.ensures.items in
-    let kept : IsKept g.T.Settled.holds walk.problem.now walk.problem.now walk.plan.now walk.plan.now walk.table.now c.ends_well.new.shows = assumption in
-    let falls = falls_by_one walk.trail.items c.push.new.self.items c.args.event c.push.ensures.items room c.decreases in
-    (falls, (within.0, (within.1, record { kept = kept; none = c.requires.none; here = rw (← more) at c.requires.here })))
+    let falls = falls_by_one walk.trail.items c.push.new.self.items c.args.event c.push.ensures.items room c.decreases in (
+      falls,
+      (
+        within.0,
+        (
+          within.1,
+          record {
+            kept = kept_with c.requires.kept c.ends_well.ensures.shows;
+            none = c.requires.none;
+            here = subst (StandsAt walk.problem.now walk.plan.now c.args.key.now) (sym more) c.requires.here;
+          },
+        ),
+      ),
+    )
 
 pub take-returns-then-is_none : goal.take-returns-then-is_none
 take-returns-then-is_none g t c =
     let walk = c.args.self.now in
     let walked = c.walk.ensures in
-    let none : c.walk.new.self.failure ≡ None = grind arith in
+    let none = no_failure c.walk.new.self.failure (c.is_none.ensures ∙ ap not {x = c.is_none.result} c.if-is_none.true) in
     record {
       kept = walked.kept;
       back = λ none. trail_back walk.trail.items c.push.new.self.items c.walk.new.self.trail.items c.pop.new.self.items c.args.event c.push.ensures.items
@@ -127,5 +163,5 @@ take-returns-then-is_none g t c =
 pub take-returns-else-is_none : goal.take-returns-else-is_none
 take-returns-else-is_none g t c =
     let walk = c.args.self.now in
-    failed c.walk.ensures.kept (λ none. grind arith)
-    (rw (trail_more walk.problem.now walk.trail.items c.push.new.self.items c.args.event c.push.ensures.items) at c.walk.ensures.found)
+    failed_from (trail_more walk.problem.now walk.trail.items c.push.new.self.items c.args.event c.push.ensures.items) c.walk.ensures
+    (c.is_none.ensures ∙ ap not {x = c.is_none.result} c.if-is_none.false)

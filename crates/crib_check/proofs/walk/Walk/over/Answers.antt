@@ -2,7 +2,7 @@ use Rattle.std.proofs.Common.{rules, ◌≡◌}
 use Rattle.crib_show.specs.Outcome.{outcome_of}
 use Rattle.crib_game.specs.Followed.{ending_with}
 use Rattle.crib_game.specs.Private.Judging.{full_at}
-use Rattle.crib_check.specs.Private.Histories.{later_of_trail}
+use Rattle.crib_check.specs.Private.Trails.{later_of_trail}
 use Rattle.crib_check.specs.Private.Walks.{history_at}
 use Rattle.crib_check.proofs.TrailLengths.{game_room}
 use Rattle.crib_check.proofs.NamedGames.{over_named}

@@ -1,4 +1,4 @@
-use Rattle.crib_check.specs.Private.Histories.{later_of_trail}
+use Rattle.crib_check.specs.Private.Trails.{later_of_trail}
 use Rattle.crib_check.specs.Private.Walks.{history_at}
 use Rattle.crib_check.proofs.TrailLengths.{game_room}
 use Rattle.crib_check.proofs.NamedGames.{stuck_named}

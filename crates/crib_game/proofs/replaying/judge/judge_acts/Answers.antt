@@ -1,8 +1,12 @@
-use Rattle.std.proofs.Common.{List, ap, subst, ◌∙◌}
+use Rattle.std.proofs.Common.{List, reverse, sym, ap, subst, ◌∙◌, arith}
+use Rattle.std.proofs.lemmas.Bool.{both_ways}
+use Rattle.std.proofs.lemmas.List.{take_all}
 use Rattle.std.specs.Prelude.{is_some}
 use Rattle.crib_cards.specs.declared.moves.Act.{Act}
-use Rattle.crib_game.proofs.JudgeLemmas.{judged_start}
-use Rattle.crib_game.proofs.JudgedWalks.{one_more, walk_ends, walk_goes_on, walk_next, walk_played, walk_shows, walk_stops}
+use Rattle.crib_game.specs.Private.Judging.{is_over}
+use Rattle.crib_game.proofs.ActFaults.{first_none}
+use Rattle.crib_game.proofs.JudgeLemmas.{judged_start, length_before}
+use Rattle.crib_game.proofs.JudgedWalks.{acts_before, one_more, walk_ends, walk_goes_on, walk_next, walk_played, walk_shows, walk_stops}
 use Rattle.crib_game.proofs.replaying.judge.judge_acts.Goals as goal
 
 pub loop-act-init : goal.loop-act-init
@@ -47,3 +51,21 @@ loop-act-preserved g c =
 
 pub returns-clause-judged : goal.returns-clause-judged
 returns-clause-judged g c = walk_ends c.loop-act.invariant.walks c.loop-act-test.false
+
+pub overflow_add-number : goal.overflow_add-number
+overflow_add-number g c = let counted = c.loop-act.invariant.walks.counted in omega (arith, counted)
+
+pub take-requires-clause-asked : goal.take-requires-clause-asked
+take-requires-clause-asked g c = λ over.
+    let none = first_none c.remark-remark.result (is_over c.loop-act.walk.round.asked) _ _ _ (sym c.fault.ensures ∙ c.in_default.is) in
+    both_ways _ none.1 (ap is_over over)
+
+pub take-requires-in-loop-act : goal.take-requires-in-loop-act
+take-requires-in-loop-act g c =
+    let long = length_before c.args.acts.now c.loop-act.act-index c.loop-act-test.true in
+    (c.args.follower.now, c.args.problem.now, acts_before c.args.acts.now c.loop-act.act-index, c.loop-act.invariant.followed, omega (arith, long))
+
+pub returns-clause-followed : goal.returns-clause-followed
+returns-clause-followed g c =
+    let H : List Act → Type 0 = λ xs. g.F.Follower.has_followed c.args.follower.now c.loop-act.follower c.args.problem.now (reverse xs) in
+    subst H (take_all c.loop-act.act-index c.args.acts.now c.loop-act-test.false) c.loop-act.invariant.followed

@@ -1,4 +1,4 @@
-use Rattle.std.proofs.Common.{rules, ◌≡◌, ◌+◌, ◌≤◌, length, get_or, sym, ◌∙◌, arith}
+use Rattle.std.proofs.Common.{◌≡◌, ◌+◌, ◌≤◌, length, get_or, sym, ◌∙◌, arith}
 use Rattle.std.proofs.lemmas.List.Elements.{All-from_recursion}
 use Rattle.crib_search.specs.declared.nodes.DraftPlace.TheVariants.{End}
 use Rattle.crib_search.specs.declared.nodes.DraftNode.TheVariants.{Play, See}
@@ -12,6 +12,9 @@ use Rattle.crib_search.proofs.numbering.Numbering.+number_from.Goals as goal
 
 pub number_from-returns-in_default-clause-walk : goal.number_from-returns-in_default-clause-walk
 number_from-returns-in_default-clause-walk g t c = walk_default c.args.self.now.draft_nodes c.args.draft_place c.args.self.now.left c.in_default.not-At
+
+pub number_from-number_below-requires : goal.number_from-number_below-requires
+number_from-number_below-requires g t c κs within = (omega (arith, ap height c.in-At.is), (within, rw c.in-At.is at c.requires))
 
 pub number_from-returns-then-is_left-clause-walk : goal.number_from-returns-then-is_left-clause-walk
 number_from-returns-then-is_left-clause-walk g t c =
@@ -30,7 +33,7 @@ number_below-number_from-requires g t c κs within =
     let low : height c.in-Play.next ≤ c.args.place = below_height c.args.place c.in-Play.next below in
     let here = c.requires in
     let earlier = earlier_more c.args.place (length c.args.self.now.draft_nodes) c.in-Play.next (omega (arith, here)) below in
-    search (rules, low, earlier)
+    (omega (arith, low), (within, earlier))
 
 pub number_below-number_from-requires-in-loop-draft_place : goal.number_below-number_from-requires-in-loop-draft_place
 number_below-number_from-requires-in-loop-draft_place g t c κs within =
@@ -40,7 +43,7 @@ number_below-number_from-requires-in-loop-draft_place g t c κs within =
     let low : height next ≤ c.args.place = below_height c.args.place next below in
     let here = c.requires in
     let earlier = earlier_more c.args.place (length c.args.self.now.draft_nodes) next (omega (arith, here)) below in
-    search (rules, low, rw (← c.loop-draft_place.invariant.same) at earlier)
+    (omega (arith, low), (within, rw (← c.loop-draft_place.invariant.same) at earlier))
 
 pub number_below-loop-draft_place-preserved : goal.number_below-loop-draft_place-preserved
 number_below-loop-draft_place-preserved g t c =

@@ -13,12 +13,18 @@ pub search-returns-in-Over-clause-found : goal.search-returns-in-Over-clause-fou
 search-returns-in-Over-clause-found g t c =
     rw c.then_some.ensures (over_found _ _ _ (sym c.in-Over.ensures) c.is_reached-reached.result c.is_reached-reached.ensures.reached)
 
+pub search-search_own-requires : goal.search-search_own-requires
+search-search_own-requires g t c κs within = (omega arith, (within, (c.requires.good, (c.requires.here, sym c.in-Owner.ensures))))
+
+pub search-search_theirs-requires : goal.search-search_theirs-requires
+search-search_theirs-requires g t c κs within = (omega arith, (within, (c.requires.good, (c.requires.here, sym c.in-Opponent.ensures))))
+
 -- ---- one turn further
 pub after_own-search-requires : goal.after_own-search-requires
 after_own-search-requires g t c κs within =
     let on = goes_on c.args.know.now c.copy-next.result c.did.new.self (Own c.args.what.now) c.copy-next.ensures c.did.ensures c.args.problem.now
     c.requires.here in
-    search (rules, on)
+    (omega (arith, on.1), (within, (c.requires.good, on.0)))
 
 pub after_own-returns-clause-found : goal.after_own-returns-clause-found
 after_own-returns-clause-found g t c =
@@ -32,7 +38,7 @@ pub branch-search-requires : goal.branch-search-requires
 branch-search-requires g t c κs within =
     let on = goes_on c.args.know.now c.copy-next.result c.saw.new.self (Theirs c.args.letter.now) c.copy-next.ensures c.saw.ensures c.args.problem.now
     c.requires.here in
-    search (rules, on)
+    (omega (arith, on.1), (within, (c.requires.good, on.0)))
 
 pub branch-returns-then-not-can_show-clause-found : goal.branch-returns-then-not-can_show-clause-found
 branch-returns-then-not-can_show-clause-found g t c = branch_end _ _ _ _ c.can_show.result (c.can_show.ensures.exact c.args.problem.now) c.if-not-can_show.true
@@ -49,7 +55,7 @@ pub search_own-after_own-requires : goal.search_own-after_own-requires
 search_own-after_own-requires g t c κs within =
     let none = none_fits c.args.know.now c.args.know.now c.args.problem.now c.requires.here.0 c.requires.here.1 refl
     (sym (c.options-cards.ensures.cards c.requires.here.0 c.requires.here.1) ∙ ap (λ (len : ℕ). take len c.options-cards.result.0) c.if-len-eq0.true) in
-    search (rules, none)
+    (omega arith, (within, (c.requires.good, (c.requires.here, (c.requires.asked, none)))))
 
 pub search_own-returns-then-len-eq0-clause-found : goal.search_own-returns-then-len-eq0-clause-found
 search_own-returns-then-len-eq0-clause-found g t c =
@@ -62,7 +68,7 @@ pub search_own-after_own-requires-in-loop-card : goal.search_own-after_own-requi
 search_own-after_own-requires-in-loop-card g t c κs within =
     let playable = c.options-cards.ensures.playable c.card-item.result
     (has_at _ c.loop-card.card-index c.card-item.result (omega (arith, c.options-cards.ensures.whole, c.loop-card-test.true)) c.card-item.is) in
-    search (rules, playable)
+    (omega arith, (within, (c.loop-card.invariant.later.good, (c.requires.here, (c.requires.asked, playable.0, playable.1)))))
 
 pub search_own-returns-in_err-next-clause-later : goal.search_own-returns-in_err-next-clause-later
 search_own-returns-in_err-next-clause-later g t c = search (rules, later_trans)
@@ -107,6 +113,9 @@ search_own-returns-clause-found g t c =
 pub search_theirs-returns-in-Some-clause-found : goal.search_theirs-returns-in-Some-clause-found
 search_theirs-returns-in-Some-clause-found g t c = c.requires.good.answers.each c.args.know.now c.in-Some.found c.requires.here (sym c.in-Some.ensures)
 
+pub search_theirs-search_all-requires : goal.search_theirs-search_all-requires
+search_theirs-search_all-requires g t c κs within = (omega arith, (within, (c.requires.good, (c.requires.here, c.requires.asked))))
+
 pub search_theirs-returns-clause-later : goal.search_theirs-returns-clause-later
 search_theirs-returns-clause-later g t c =
     let answers = answers_kept _ _ _ _ _ _ _ c.copy.ensures c.requires.here c.in_ok-found.ensures.found c.search_all.ensures.later.good.answers
@@ -115,6 +124,9 @@ search_theirs-returns-clause-later g t c =
 
 pub search_all-returns-in_default-clause-found : goal.search_all-returns-in_default-clause-found
 search_all-returns-in_default-clause-found g t c = theirs_none _ _ _ c.requires.asked c.at-letter.result (rw c.in_default.is at c.in_ok-next.ensures.found)
+
+pub search_all-branch-self-requires : goal.search_all-branch-self-requires
+search_all-branch-self-requires g t c κs within = (omega arith, (within, (c.loop-place.invariant.later.good, c.requires.here)))
 
 pub search_all-loop-place-preserved : goal.search_all-loop-place-preserved
 search_all-loop-place-preserved g t c = record {

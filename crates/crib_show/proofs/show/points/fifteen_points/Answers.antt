@@ -3,7 +3,7 @@ use Rattle.std.proofs.lemmas.Grind.{elements}
 use Rattle.crib_cards.specs.Cards.{rank_value}
 use Rattle.crib_show.specs.Private.Counts.{fifteens_of_three}
 use Rattle.crib_show.specs.Show.{fifteen_points}
-use Rattle.crib_show.proofs.FifteenLemmas.{fifteens_from-five, fifteens_from-zero}
+use Rattle.crib_show.proofs.FifteenLemmas.{fifteens_among-five, fifteens_among-points}
 use Rattle.crib_show.proofs.show.points.fifteen_points.Goals as goal
 
 grouped : (first second third fourth fifth a b c d e n m k l : ℕ) → a ≡ rank_value first → b ≡ rank_value second → c ≡ rank_value third →
@@ -13,8 +13,8 @@ grouped first second third fourth fifth a b c d e n m k l is_a is_b is_c is_d is
     ap (λ n. 2 * n) (regroup n m k l ∙ (λ i. is_n i + is_m i + (is_k i + is_l i))
     ∙ (λ i. fifteens_of_three (is_c i) (is_d i) (is_e i) (is_a i + is_b i) + fifteens_of_three (is_c i) (is_d i) (is_e i) (is_a i)
     + (fifteens_of_three (is_c i) (is_d i) (is_e i) (is_b i) + fifteens_of_three (is_c i) (is_d i) (is_e i) 0))
-    ∙ sym (fifteens_from-five first second third fourth fifth)
-    ∙ fifteens_from-zero (first ∷ second ∷ third ∷ fourth ∷ fifth ∷ []))
+    ∙ sym (fifteens_among-five first second third fourth fifth))
+    ∙ sym (fifteens_among-points (first ∷ second ∷ third ∷ fourth ∷ fifth ∷ []))
   where
     regroup : (n m k l : ℕ) → n + m + k + l ≡ n + m + (k + l)
     regroup n m k l = omega arith

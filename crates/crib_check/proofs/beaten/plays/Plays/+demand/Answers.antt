@@ -1,4 +1,4 @@
-use Rattle.std.proofs.Common.{rules, refl, ◌≡◌, ◌*◌, ◌+◌, ◌≤◌, ◌<◌, ℕ, length, take, sym, arith}
+use Rattle.std.proofs.Common.{rules, refl, ◌≡◌, ◌*◌, ◌+◌, ◌≤◌, ◌<◌, ℕ, length, take, sym, ap, ◌∙◌, arith}
 use Rattle.std.specs.List.{All}
 use Rattle.std.proofs.lemmas.Bool.{both_ways}
 use Rattle.std.proofs.lemmas.List.{length-take}
@@ -26,19 +26,27 @@ rooms many enough falls = (omega (arith, (room_after 0 enough falls (omega arith
 pub join_from-returns-in-Over : goal.join_from-returns-in-Over
 join_from-returns-in-Over g t c = joined_as (λ counts demand is. rw is (over_demand _ (sym c.in-Over.ensures) c.demand_at_end.ensures)) (c.join.ensures _)
 
+pub join_from-join_by_own-requires : goal.join_from-join_by_own-requires
+join_from-join_by_own-requires g t c κs within =
+    (omega arith, (within, (c.requires.own, (c.requires.here, (sym c.in-Owner.ensures, (c.requires.places, c.requires.room))))))
+
+pub join_from-join_by_theirs-requires : goal.join_from-join_by_theirs-requires
+join_from-join_by_theirs-requires g t c κs within =
+    (omega arith, (within, (c.requires.own, (c.requires.here, (sym c.in-Opponent.ensures, (c.requires.places, c.requires.room))))))
+
 -- ---- the owner's turn
 pub join_by_own-returns-in_default : goal.join_by_own-returns-in_default
 join_by_own-returns-in_default g t c = joined_as (λ counts demand is. rw is (stuck_demand _ c.in_default.ensures c.impossible.ensures.none)) (c.join.ensures _)
 
 pub join_by_own-join_from-requires : goal.join_by_own-join_from-requires
 join_by_own-join_from-requires g t c κs within =
-    let next = goes_on c.requires.here (rw c.copy-next.ensures at c.go_by_own.ensures c.args.self.now.problem.now) in
+    let next = goes_on c.requires.here (c.next_by_own-next.ensures c.args.self.now.problem.now) in
     (fall_more next.1 c.decreases, (within, (c.requires.own, (next.0, (c.requires.places, (rooms (length c.args.places.now) c.requires.room next.1).1)))))
 
 pub join_by_own-returns : goal.join_by_own-returns
 join_by_own-returns g t c =
     joined_as (λ counts demand. own_demand demand c.requires.asked c.in-Some.ensures
-    (rw c.copy-next.ensures at c.go_by_own.ensures c.args.self.now.problem.now)) c.join_from.ensures
+    (c.next_by_own-next.ensures c.args.self.now.problem.now)) c.join_from.ensures
 
 -- ---- a letter of the opponent
 pub join_after-returns-then-not-can_show-clause-joined : goal.join_after-returns-then-not-can_show-clause-joined
@@ -46,42 +54,62 @@ join_after-returns-then-not-can_show-clause-joined g t c = joined_none _ (λ cou
     both_ways c.can_show.result c.if-not-can_show.true
     ((c.can_show.ensures.exact _ history stands.knows).1 (dealt, beats_agrees stands.knows.setup beats))))
 
-pub join_after-go_by_theirs-requires : goal.join_after-go_by_theirs-requires
-join_after-go_by_theirs-requires g t c = rw c.copy-next.ensures (c.can_show.ensures.shown c.if-not-can_show.false)
+pub join_after-returns-then-not-can_show-clause-room : goal.join_after-returns-then-not-can_show-clause-room
+join_after-returns-then-not-can_show-clause-room g t c = refl
+
+pub join_after-keep_places-count-requires-clause-places : goal.join_after-keep_places-count-requires-clause-places
+join_after-keep_places-count-requires-clause-places g t c = c.requires.places
+
+pub join_after-keep_places-count-requires-clause-room : goal.join_after-keep_places-count-requires-clause-room
+join_after-keep_places-count-requires-clause-room g t c = omega (arith, c.split_at_mut-left.ensures.front_len)
+
+pub join_after-slice_bounds-join_from-end : goal.join_after-slice_bounds-join_from-end
+join_after-slice_bounds-join_from-end g t c =
+    omega (arith, c.split_at_mut-left.ensures.front_len, c.keep_places-count.ensures.few, c.keep_places-count.ensures.room)
+
+pub join_after-next_by_theirs-next-requires : goal.join_after-next_by_theirs-next-requires
+join_after-next_by_theirs-next-requires g t c = c.can_show.ensures.shown c.if-not-can_show.false
 
 pub join_after-split_at_mut-left-requires : goal.join_after-split_at_mut-left-requires
 join_after-split_at_mut-left-requires g t c =
-    let next = goes_on c.requires.here (rw c.copy-next.ensures at c.go_by_theirs.ensures c.args.self.now.problem.now) in
+    let next = goes_on c.requires.here (c.next_by_theirs-next.ensures c.args.self.now.problem.now) in
     (rooms (length c.args.places.now) c.requires.room next.1).0
 
 pub join_after-join_from-requires : goal.join_after-join_from-requires
 join_after-join_from-requires g t c κs within =
-    let next = goes_on c.requires.here (rw c.copy-next.ensures at c.go_by_theirs.ensures c.args.self.now.problem.now) in
+    let next = goes_on c.requires.here (c.next_by_theirs-next.ensures c.args.self.now.problem.now) in
     let left = take c.keep_places-count.result c.keep_places-count.new.left in
     let small : All (λ place. place < 1820) left = rw c.keep_places-count.ensures.kept (All-filter _ (λ place. place < 1820) _ c.requires.places) in
     let few : length left ≤ length c.args.places.now =
     omega (arith, length-take c.keep_places-count.result c.keep_places-count.new.left, c.keep_places-count.ensures.few) in
-    let room : length left * turns_ahead c.go_by_theirs.new.key.know ≤ length c.split_at_mut-left.result.1.now =
+    let room : length left * turns_ahead c.next_by_theirs-next.result.know ≤ length c.split_at_mut-left.result.1.now =
     omega (arith, (room_after (length left) c.requires.room next.1 few).0, c.split_at_mut-left.ensures.back_len) in
     (fall next.1 c.decreases, (within, (c.requires.own, (next.0, (small, room)))))
 
 pub join_after-returns-then-count-gt0-clause-joined : goal.join_after-returns-then-count-gt0-clause-joined
 join_after-returns-then-count-gt0-clause-joined g t c =
-    let goes = rw c.copy-next.ensures at c.go_by_theirs.ensures c.args.self.now.problem.now in
-    joined_kept (may_show c.args.key.now.know c.go_by_theirs.new.key.know c.args.letter.now)
-    (λ counts demand. theirs_shown demand goes) (λ counts. theirs_not_shown goes) (rw c.keep_places-count.ensures.kept at c.join_from.ensures)
+    let goes = c.next_by_theirs-next.ensures c.args.self.now.problem.now in
+    joined_kept {new = c.join_from.new.demands} (may_show c.args.key.now.know c.next_by_theirs-next.result.know c.args.letter.now)
+    (λ counts demand. theirs_shown demand goes) (λ counts. theirs_not_shown goes) c.keep_places-count.ensures.kept c.join_from.ensures
 
 pub join_after-returns-else-count-gt0-clause-joined : goal.join_after-returns-else-count-gt0-clause-joined
 join_after-returns-else-count-gt0-clause-joined g t c =
-    let goes = rw c.copy-next.ensures at c.go_by_theirs.ensures c.args.self.now.problem.now in
+    let goes = c.next_by_theirs-next.ensures c.args.self.now.problem.now in
     let zero : c.keep_places-count.result ≡ 0 = omega (arith, c.if-count-gt0.false) in
-    joined_kept (may_show c.args.key.now.know c.go_by_theirs.new.key.know c.args.letter.now)
+    joined_kept {new = c.args.demands.now} (may_show c.args.key.now.know c.next_by_theirs-next.result.know c.args.letter.now)
     (λ counts demand. theirs_shown demand goes) (λ counts. theirs_not_shown goes)
-    (rw (← rw zero at c.keep_places-count.ensures.kept) (record { here = λ place h. absurd cc; elsewhere = λ place h. refl }))
+    (ap (λ n. take n c.keep_places-count.new.left) (sym zero) ∙ c.keep_places-count.ensures.kept)
+    (record { here = λ place h. absurd cc; elsewhere = λ place h. refl })
 
 -- ---- each letter of the opponent
 pub join_by_theirs-loop-place-init : goal.join_by_theirs-loop-place-init
 join_by_theirs-loop-place-init g t c = record { joined = joined_none _ (λ counts. none_below); room = search rules }
+
+pub join_by_theirs-join_after-requires : goal.join_by_theirs-join_after-requires
+join_by_theirs-join_after-requires g t c κs within =
+    let room : length c.args.places.now * turns_ahead c.args.key.now.know ≤ length c.loop-place.spare =
+    omega (arith, c.requires.room, c.loop-place.invariant.room) in
+    (omega arith, (within, (c.requires.own, (c.requires.here, (c.requires.places, room)))))
 
 pub join_by_theirs-loop-place-preserved : goal.join_by_theirs-loop-place-preserved
 join_by_theirs-loop-place-preserved g t c = record {

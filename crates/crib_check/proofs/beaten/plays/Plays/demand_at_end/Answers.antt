@@ -3,7 +3,7 @@ use Rattle.crib_play.specs.Standing.{Standing}
 use Rattle.crib_game.specs.Private.Judging.{full_at}
 use Rattle.crib_check.proofs.BeatingDeals.{few_crib, few_hand}
 use Rattle.crib_check.proofs.DemandsByTurns.{met_as}
-use Rattle.crib_check.proofs.FirstShortfalls.{decided_lost, decided_reached, opponent_read, owner_read}
+use Rattle.crib_sure.proofs.ShowsBehind.{decided_lost, decided_reached, opponent_read, owner_read}
 use Rattle.crib_check.proofs.beaten.plays.Plays.demand_at_end.Goals as goal
 
 pub returns-then-scores-target : goal.returns-then-scores-target

@@ -1,9 +1,6 @@
-use Rattle.std.proofs.Common.{rules, ◌≡◌, ℕ, ◌+◌, ◌≤◌, List, length, take, sym, ap, ◌∙◌, arith, IsTrue}
+use Rattle.std.proofs.Common.{◌≡◌, ℕ, List, length, take, sym, ap, ◌∙◌, arith}
 use Rattle.std.specs.List.{AllZip}
-use Rattle.crib_cards.specs.Cards.{card_value}
-use Rattle.crib_cards.specs.Sets.{has}
 use Rattle.crib_cards.specs.declared.moves.Move.TheVariants as move
-use Rattle.crib_play.specs.Record.{count_of}
 use Rattle.crib_play.specs.History.{Own, Theirs}
 use Rattle.crib_search.specs.Trees.{Tree, joined_tree}
 use Rattle.crib_search.specs.Private.Nodes.{IsPlanned, Names}
@@ -13,9 +10,7 @@ use Rattle.crib_search.proofs.JoinedTrees.{draft_place_earlier}
 use Rattle.crib_search.proofs.PlannedPlaces.{left_is_card, more_trans, planned_end, planned_more, planned_play, planned_push}
 use Rattle.crib_search.proofs.PlannedPlaces.{trees_planned, planned_joined}
 use Rattle.crib_search.proofs.tries.greedy.Greedy.+greedy.Goals as goal
-use Rattle.crib_search.proofs.tries.greedy.Greedy.+greedy.Goals.{own_place-then-adopt, own_place-else-adopt}
-use Rattle.crib_search.proofs.tries.greedy.Greedy.+greedy.Goals.{own_place-else-loop-card-test}
-use Rattle.crib_search.proofs.tries.greedy.Greedy.+greedy.Goals.{own_place-then-loop-card-test+in_ok-other+in_ok-other_place+then-lost}
+use Rattle.crib_search.proofs.tries.greedy.Greedy.+greedy.Goals.{best_place-then-adopt, best_place-else-adopt}
 
 -- ---- the deal is done, or nothing is left to play for
 pub place_at-returns-then-is_over-clause-planned : goal.place_at-returns-then-is_over-clause-planned
@@ -24,17 +19,24 @@ place_at-returns-then-is_over-clause-planned g t c = planned_end c.args.nodes.no
 pub place_at-returns-in-Over-clause-planned : goal.place_at-returns-in-Over-clause-planned
 place_at-returns-in-Over-clause-planned g t c = planned_end c.args.nodes.now
 
-pub place_after-returns-then-is_over-clause-planned : goal.place_after-returns-then-is_over-clause-planned
-place_after-returns-then-is_over-clause-planned g t c = planned_end c.args.nodes.now
+pub place_after-returns-then-not-can_show-clause-planned : goal.place_after-returns-then-not-can_show-clause-planned
+place_after-returns-then-not-can_show-clause-planned g t c = planned_end c.args.nodes.now
 
-pub place_after-returns-then-is_over-2-clause-planned : goal.place_after-returns-then-is_over-2-clause-planned
-place_after-returns-then-is_over-2-clause-planned g t c = planned_end c.args.nodes.now
+pub place_after-returns-in_default-clause-planned : goal.place_after-returns-in_default-clause-planned
+place_after-returns-in_default-clause-planned g t c = planned_end c.args.nodes.now
 
 pub their_place-returns-then-is_over-clause-planned : goal.their_place-returns-then-is_over-clause-planned
-their_place-returns-then-is_over-clause-planned g t c = planned_end c.loop-place.nodes
+their_place-returns-then-is_over-clause-planned g t c = planned_end c.place_after.new.nodes
 
 pub place_with-returns-then-is_over-clause-planned : goal.place_with-returns-then-is_over-clause-planned
 place_with-returns-then-is_over-clause-planned g t c = planned_end c.place_at.new.nodes
+
+-- ---- a turn of either side
+pub place_at-own_place-requires : goal.place_at-own_place-requires
+place_at-own_place-requires g t c κs within = (omega arith, (within, (c.requires.hand, (c.requires.here, sym c.in-Owner.ensures))))
+
+pub place_at-their_place-requires : goal.place_at-their_place-requires
+place_at-their_place-requires g t c κs within = (omega arith, (within, (c.requires.hand, c.requires.here)))
 
 -- ---- the owner
 pub own_place-own_go-requires-clause-none : goal.own_place-own_go-requires-clause-none
@@ -46,74 +48,55 @@ pub own_place-place_at-requires : goal.own_place-place_at-requires
 own_place-place_at-requires g t c κs within =
     let on = goes_on c.args.know.now c.copy-next.result c.own_go.new.self (Own move.Go) c.copy-next.ensures c.own_go.ensures
     c.args.self.now.problem.now c.requires.here in
-    search (rules, on)
+    (omega (arith, on.1), (within, (c.requires.hand, on.0)))
 
-pub own_place-loop-card-init : goal.own_place-loop-card-init
-own_place-loop-card-init g t c = record { kept = λ place draft_node there. there; planned = planned_end c.args.nodes.now }
+pub own_place-best_place-requires : goal.own_place-best_place-requires
+own_place-best_place-requires g t c κs within =
+    (omega arith, (within, (c.requires.hand, (c.requires.here, (c.requires.asked, c.options-cards.ensures.playable)))))
 
-pub own_place-place_with-requires-in-loop-card : goal.own_place-place_with-requires-in-loop-card
-own_place-place_with-requires-in-loop-card g t c κs within =
-    let cards : List ℕ = take c.options-cards.result.1 c.options-cards.result.0 in
-    let playable = c.options-cards.ensures.playable c.card-item.result
-    (has_at cards c.loop-card.card-index c.card-item.result (omega (arith, c.options-cards.ensures.whole, c.loop-card-test.true)) c.card-item.is) in
-    let held : IsTrue (has c.args.know.now.own_left c.card-item.result) = playable.0 in
-    let fits : count_of c.args.know.now.round.pile + card_value c.card-item.result ≤ 31 = playable.1 in
-    search (rules, held, fits)
+pub best_place-loop-card-init : goal.best_place-loop-card-init
+best_place-loop-card-init g t c = record { kept = λ place draft_node there. there; planned = planned_end c.args.nodes.now }
 
-pub own_place-loop-card-preserved : goal.own_place-loop-card-preserved
-own_place-loop-card-preserved g t c = record {
-  kept = more_trans c.args.nodes.now c.loop-card.nodes c.place_with-in-loop-card.new.nodes c.loop-card.invariant.kept c.place_with-in-loop-card.ensures.kept;
+pub best_place-place_with-requires : goal.best_place-place_with-requires
+best_place-place_with-requires g t c κs within =
+    let playable = c.requires.playable c.card-item.result
+    (has_at c.args.cards.now c.loop-card.card-index c.card-item.result c.loop-card-test.true c.card-item.is) in
+    (omega arith, (within, (c.requires.hand, (c.requires.here, (c.requires.asked, playable)))))
+
+pub best_place-loop-card-preserved : goal.best_place-loop-card-preserved
+best_place-loop-card-preserved g t c = record {
+  kept = more_trans c.args.nodes.now c.loop-card.nodes c.place_with.new.nodes c.loop-card.invariant.kept c.place_with.ensures.kept;
   planned = elim c.if-adopt.branch [
-    | own_place-then-adopt w ↦ rw w.place-is c.in_ok-other_place.ensures.planned
-    | own_place-else-adopt w ↦ rw w.place-is
-        (planned_more c.loop-card.nodes c.place_with-in-loop-card.new.nodes c.place_with-in-loop-card.ensures.kept c.loop-card.place
-        c.loop-card.invariant.planned)
+    | best_place-then-adopt w ↦ rw w.place-is c.in_ok-other_place.ensures.planned
+    | best_place-else-adopt w ↦ rw w.place-is
+        (planned_more c.loop-card.nodes c.place_with.new.nodes c.place_with.ensures.kept c.loop-card.place c.loop-card.invariant.planned)
   ];
 }
-
-pub own_place-returns-clause-kept : goal.own_place-returns-clause-kept
-own_place-returns-clause-kept g t c = elim c.loop-card-test.branch [
-  | own_place-else-loop-card-test w ↦ rw w.nodes-is c.loop-card.invariant.kept
-  | own_place-then-loop-card-test+in_ok-other+in_ok-other_place+then-lost w ↦ rw w.nodes-is
-      (more_trans c.args.nodes.now c.loop-card.nodes w.place_with-in-loop-card.new.nodes c.loop-card.invariant.kept
-      w.place_with-in-loop-card.ensures.kept)
-]
-
-pub own_place-returns-clause-planned : goal.own_place-returns-clause-planned
-own_place-returns-clause-planned g t c = elim c.loop-card-test.branch [
-  | own_place-else-loop-card-test w ↦ rw (w.nodes-is, w.place-is) c.loop-card.invariant.planned
-  | own_place-then-loop-card-test+in_ok-other+in_ok-other_place+then-lost w ↦ rw (w.nodes-is, w.place-is) (elim w.if-adopt.branch [
-    | own_place-then-adopt v ↦ rw v.place-is w.in_ok-other_place.ensures.planned
-    | own_place-else-adopt v ↦ rw v.place-is
-        (planned_more c.loop-card.nodes w.place_with-in-loop-card.new.nodes w.place_with-in-loop-card.ensures.kept c.loop-card.place
-        c.loop-card.invariant.planned)
-  ])
-]
 
 pub place_with-place_at-requires : goal.place_with-place_at-requires
 place_with-place_at-requires g t c κs within =
     let on = goes_on c.args.know.now c.copy-after.result c.own_play.new.self (Own (move.Card c.args.card)) c.copy-after.ensures c.own_play.ensures
     c.args.self.now.problem.now c.requires.here in
-    search (rules, on)
+    (omega (arith, on.1), (within, (c.requires.hand, on.0)))
 
 pub place_with-place_of-requires : goal.place_with-place_of-requires
 place_with-place_of-requires g t c = draft_place_earlier c.place_at.new.nodes c.in_ok-next.ensures.planned.tree c.in_ok-next.next
     c.in_ok-next.ensures.planned.names
 
-pub place_with-returns-in_err-place-clause-kept : goal.place_with-returns-in_err-place-clause-kept
-place_with-returns-in_err-place-clause-kept g t c =
-    more_trans c.args.nodes.now c.place_at.new.nodes c.place_of.new.self c.place_at.ensures.kept c.place_of.ensures.kept
-
 pub place_with-returns-clause-kept : goal.place_with-returns-clause-kept
 place_with-returns-clause-kept g t c = more_trans c.args.nodes.now c.place_at.new.nodes c.place_of.new.self c.place_at.ensures.kept c.place_of.ensures.kept
 
 pub place_with-returns-clause-planned : goal.place_with-returns-clause-planned
-place_with-returns-clause-planned g t c =
-    planned_play c.place_at.new.nodes c.place_of.new.self c.place_of.ensures.kept c.args.card
+place_with-returns-clause-planned g t c = ok_map c.place_of.result _ _
+    (planned_play c.place_at.new.nodes c.place_of.new.self c.place_of.ensures.kept c.args.card
     (left_is_card c.args.know.now c.args.self.now.problem.now c.requires.here c.args.card c.requires.held) c.in_ok-next.next
-    c.in_ok-next.ensures.planned c.in_ok-place.place c.in_ok-place.ensures.node
+    c.in_ok-next.ensures.planned)
+    c.place_of.ensures.node
 
 -- ---- the opponent
+pub their_place-place_after-requires : goal.their_place-place_after-requires
+their_place-place_after-requires g t c κs within = (omega arith, (within, (c.requires.hand, c.requires.here)))
+
 pub their_place-loop-place-preserved : goal.their_place-loop-place-preserved
 their_place-loop-place-preserved g t c = record {
   kept = more_trans c.args.nodes.now c.loop-place.nodes c.place_after.new.nodes c.loop-place.invariant.kept c.place_after.ensures.kept;
@@ -142,4 +125,4 @@ pub place_after-place_at-requires : goal.place_after-place_at-requires
 place_after-place_at-requires g t c κs within =
     let on = goes_on c.args.know.now c.copy-next.result c.saw.new.self (Theirs c.args.letter.now) c.copy-next.ensures c.saw.ensures
     c.args.self.now.problem.now c.requires.here in
-    search (rules, on)
+    (omega (arith, on.1), (within, (c.requires.hand, on.0)))

@@ -10,6 +10,9 @@ decreases-place_after g l = 40 * turns_ahead l.know.now
 abbrev pub decreases-own_place : goal.decreases-own_place
 decreases-own_place g l = 40 * turns_ahead l.know.now + 38
 
+abbrev pub decreases-best_place : goal.decreases-best_place
+decreases-best_place g l = 40 * turns_ahead l.know.now + 1
+
 abbrev pub decreases-place_at : goal.decreases-place_at
 decreases-place_at g l = 40 * turns_ahead l.know.now + 39
 
@@ -19,8 +22,8 @@ decreases-place_with g l = 40 * turns_ahead l.know.now
 abbrev pub decreases-their_place : goal.decreases-their_place
 decreases-their_place g l = 40 * turns_ahead l.know.now + 38
 
-abbrev pub invariant-own_place-loop-card : goal.invariant-own_place-loop-card
-invariant-own_place-loop-card g l = record {
+abbrev pub invariant-best_place-loop-card : goal.invariant-best_place-loop-card
+invariant-best_place-loop-card g l = record {
   kept : IsMore l.fn.nodes l.nodes;
   planned : IsPlanned l.nodes l.place;
 }

@@ -1,0 +1,18 @@
+pub mod ActsBeforeExamples
+mod GameShowExamples
+mod GameTextExamples
+mod GameWordExamples
+mod HeadingExamples
+pub mod AllEntries
+pub mod CardBytes
+pub mod ChosenCombinations
+pub mod CombinationPoints
+pub mod CountedCards
+pub mod DifferentCombinations
+pub mod GameLawProofs
+pub mod GamePlayExamples
+pub mod GamesOfSheets
+pub mod PlayWalks
+pub mod Printing
+pub mod ReasonPoints
+pub mod ReasonsAdded

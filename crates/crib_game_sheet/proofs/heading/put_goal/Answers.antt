@@ -1,0 +1,11 @@
+use Rattle.crib_game_sheet.proofs.Printing.{more}
+use Rattle.crib_game_sheet.proofs.heading.put_goal.Goals as goal
+
+pub returns-in-Win : goal.returns-in-Win
+returns-in-Win g c = rw c.in-Win.is c.put.ensures
+
+pub returns-in-Holes : goal.returns-in-Holes
+returns-in-Holes g c = rw c.in-Holes.is (more c.put_how_many.ensures c.put-in-Holes.ensures)
+
+pub returns-in-Stop : goal.returns-in-Stop
+returns-in-Stop g c = rw c.in-Stop.is (more (more c.put-in-Stop.ensures c.put_role.ensures) c.put-in-Stop-2.ensures)

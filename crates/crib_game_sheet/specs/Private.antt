@@ -1,0 +1,3 @@
+-- Definitions that only private functions cite. No public contract rests on them.
+pub mod Chosen
+pub mod PlayWalk

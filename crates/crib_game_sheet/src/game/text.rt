@@ -1,0 +1,107 @@
+//! The text of the sheet of a game.
+ghost use Rattle.std.specs.Prelude.{◌≡◌, Ok};
+ghost use Rattle.crib_text.specs.Device.{HasFailed};
+ghost use Rattle.crib_game.specs.Replay.{replay_result};
+ghost use Rattle.crib_run.specs.Run.{Sends};
+ghost use Rattle.crib_game_sheet.specs.GamePlay.{game_reasons};
+ghost use Rattle.crib_game_sheet.specs.GameText.{outcome_text, over_text, reached_line, rows_text, sheet_of};
+ghost use Rattle.crib_game_sheet.specs.Prints.{Prints};
+
+use super::acts::put_acts;
+use super::counted::put_show;
+use super::reasons::reasons_of;
+use crate::heading::put_heading;
+use crate::page::{Page, Printer, put_cards, put_role, puts};
+use crib_cards::Side;
+use crib_game::{Game, Report};
+use crib_problem::{Goal, Problem};
+use crib_run::Status;
+use crib_show::Outcome;
+use crib_text::Sink;
+
+/// Writes the sheet of a game with this report: the problem, a line for each act with the reasons of its points, each
+/// counted hand with what counts in it, and the outcome. docs/GUIDE.md shows one. Returns `Yes`, or `Fault` if the
+/// device failed. It needs no memory.
+pub fn send_game_sheet<W: Sink>(
+    sink: &mut W,
+    problem: &Problem,
+    game: &Game,
+    report: &Report,
+) -> Status
+    requires { replay_result problem.now game.now ≡ Ok report.now }
+    ensures { Sends (record {
+      output = sheet_of problem.now game.now.opp report.now (game_reasons problem.now game.now);
+      status = Status.Yes;
+    }) (W.contents sink.old) (W.contents sink.new) (HasFailed (W.faults sink.old) (W.faults sink.new)) result }
+{
+    let mut page = Printer {
+        sink,
+        is_cut: false,
+    };
+    put_sheet(&mut page, problem, game, report);
+    let Printer { sink, is_cut } = page;
+    // The proof reads what the device holds from this use of it.
+    let _ = &*sink;
+    if is_cut { Status::Fault } else { Status::Yes }
+}
+
+/// Puts the sheet of a game with this report.
+pub fn put_sheet<P: Page>(page: &mut P, problem: &Problem, game: &Game, report: &Report)
+    requires { replay_result problem.now game.now ≡ Ok report.now }
+    ensures { Prints (sheet_of problem.now game.now.opp report.now (game_reasons problem.now game.now))
+        (P.stand page.old) (P.stand page.new) }
+{
+    let dealer = problem.dealer();
+    puts!(page: put_heading(problem) b"The " put_role(dealer, Side::Opponent) b" holds" put_cards(&game.opp.hold)
+        b" and threw" put_cards(&game.opp.throw) b".\n" b"\n # side   card count you they  points\n");
+    put_rows(page, problem, game, report);
+    put_show(page, problem, &game.opp, report.show.as_slice());
+    put_outcome(page, dealer, problem.goal(), report.over);
+}
+
+/// Puts the lines of the acts of a report with their reasons.
+pub(super) fn put_rows<P: Page>(page: &mut P, problem: &Problem, game: &Game, report: &Report)
+    requires { replay_result problem.now game.now ≡ Ok report.now }
+    ensures { Prints (rows_text problem.now report.now (game_reasons problem.now game.now))
+        (P.stand page.old) (P.stand page.new) }
+{
+    let reasons = reasons_of(report);
+    let dealer = problem.dealer();
+    puts!(page: put_acts(dealer, 1, dealer.other(), report.rows.as_slice(), reasons.as_slice()));
+}
+
+// Puts the line of the outcome, after an empty line.
+fn put_outcome<P: Page>(page: &mut P, dealer: Side, goal: Goal, over: Option<Outcome>)
+    ensures { Prints (outcome_text dealer goal over) (P.stand page.old) (P.stand page.new) }
+{
+    match over {
+        None => page.put(b"\nThe deal isn't over yet.\n"),
+        Some(outcome) => put_over(page, dealer, goal, outcome),
+    }
+}
+
+// Puts how the deal ended, after an empty line.
+fn put_over<P: Page>(page: &mut P, dealer: Side, goal: Goal, outcome: Outcome)
+    ensures { Prints (over_text dealer goal outcome) (P.stand page.old) (P.stand page.new) }
+{
+    match outcome {
+        Outcome::Reached => put_reached(page, dealer, goal),
+        Outcome::Lost =>
+            puts!(page: b"\nThe deal is over: the " put_role(dealer, Side::Opponent) b" wins.\n"),
+        Outcome::Short => page.put(b"\nThe deal is over: you fall short of your goal.\n"),
+    }
+}
+
+// Puts what the owner did who reached a goal, after an empty line.
+fn put_reached<P: Page>(page: &mut P, dealer: Side, goal: Goal)
+    ensures { Prints (reached_line dealer goal) (P.stand page.old) (P.stand page.new) }
+{
+    match goal {
+        Goal::Win => page.put(b"\nThe deal is over: you win.\n"),
+        Goal::Holes(_) =>
+            puts!(page: b"\nYou have reached your goal; the deal isn't counted further.\n"),
+        Goal::Stop =>
+            puts!(page: b"\nThe deal is over: you keep the " put_role(dealer, Side::Opponent)
+            b" from winning.\n"),
+    }
+}

@@ -1,0 +1,22 @@
+mod PlanPlayExamples
+pub mod PlanWordExamples
+pub mod HaltedPlays
+pub mod LabelPieces
+pub mod PlanApart
+pub mod PlanExamples
+pub mod PlanFits
+pub mod PlanLabels
+pub mod PlanOutlines
+pub mod PlanPlays
+pub mod PlanRows
+pub mod PlanSheetCounts
+pub mod PlanSheetRows
+pub mod PlanSheets
+pub mod PlanSpots
+pub mod PlanTargets
+pub mod PlanTextExamples
+pub mod PlanTextSizes
+pub mod PlanTexts
+pub mod PlanWays
+pub mod PutRows
+pub mod SheetSizes

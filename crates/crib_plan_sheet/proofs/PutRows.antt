@@ -1,0 +1,140 @@
+-- The rows and lines of a sheet, put on a device.
+use Rattle.std.proofs.Common.{◌≡◌, ℕ, zero, suc, ◌+◌, ◌-◌, ◌*◌, ◌<◌, ◌≤◌, ◌∙◌, Bool, true, false, cond, List, [], ◌∷◌, ◌++◌, Some, None, length, map, filter}
+use Rattle.std.proofs.Common.{take, replicate, get_or, codes, decimal, refl, ap, sym, append_assoc, arith}
+use Rattle.std.specs.List.{flat_map}
+use Rattle.std.proofs.lemmas.List.{drop_all}
+use Rattle.crib_text.specs.Spelling.{space}
+use Rattle.crib_plan.specs.declared.plan.Next.{Next}
+use Rattle.crib_plan.specs.declared.plan.Next.TheVariants.{End, To}
+use Rattle.crib_plan.specs.declared.plan.Node.{Node}
+use Rattle.crib_plan.specs.declared.plan.Node.TheVariants.{Play, See}
+use Rattle.crib_plan.specs.Nodes.{IsLater}
+use Rattle.crib_plan.specs.Spelling.{leads_to}
+use Rattle.crib_plan_sheet.specs.PlanSheet.{Paragraph, Named, lines_to, row_of, rows_from, sheet_with, Over}
+use Rattle.crib_plan_sheet.specs.PlanOutline.{apart_in}
+use Rattle.crib_plan_sheet.specs.PlanText.{row_text, lines_text, indent, label, label_width, paragraph_text}
+use Rattle.crib_plan_sheet.specs.PlanPage.{end_of_row, legend_text, no_card, page_text}
+use Rattle.crib_plan_sheet.specs.Private.Pages.{first_text, IsDeep, place_row, node_row, lines_at, line_front, width_at, new_node}
+use Rattle.crib_plan_sheet.specs.Private.Pages.{paragraphs_text}
+use Rattle.crib_plan_sheet.proofs.LabelPieces.{column_from, line_at}
+use Rattle.crib_plan_sheet.proofs.PlanRows.{page_is, room}
+
+-- ---- places
+
+-- a node of a plan, as it is read
+pub seen : (plan nodes : List Node) (i : ℕ) (found node : Node) → nodes ≡ plan → found ≡ get_or nodes i found → found ≡ node → get_or plan i found ≡ node
+seen plan nodes i found node same read is = cc
+
+-- ---- nodes
+
+any_width : (apart : ℕ → Bool) (later : List Paragraph) (all : List Next) (from : ℕ) (branches : List Next) →
+    label_width (lines_to apart later all from branches) ≡ label_width (lines_to (apart_in []) [] all from branches)
+any_width apart later all from [] = refl
+any_width apart later all from (End ∷ branches) = any_width apart later all (from + 1) branches
+any_width apart later all from (To node ∷ branches) = grind (arith, any_width apart later all (from + 1) branches)
+
+pub width_same : (flags : List Bool) (plan : List Node) (branches : List Next) → label_width (lines_at flags plan branches 0) ≡ width_at branches 0
+unfolding lines_at width_at
+width_same flags plan branches = any_width (apart_in flags) (rows_from (apart_in flags) 0 plan) branches 0 branches
+
+-- what a walk may ask of the nodes that a node leads to
+pub deep_later : (level place count : ℕ) (next : Next) → level ≤ place + 1 → IsLater place count next → IsDeep level count next
+deep_later level place count End deep later = tt
+deep_later level place count (To node) deep later = let above = later.0 in (omega arith, later.1)
+
+pub room_later : (place count : ℕ) (next : Next) → place < count → IsLater place count next → room count next + 1 ≤ count - place
+room_later place count End inside later = omega arith
+room_later place count (To node) inside later = let above = later.0 in let below = later.1 in omega arith
+
+-- ---- lines
+
+-- one more line
+pub line_more : (flags : List Bool) (plan : List Node) (level width : ℕ) (all : List Next) (i node : ℕ) (d : Next) → i < length all →
+    new_node (take i all) (get_or all i d) ≡ Some node →
+    (line_front level width (map (leads_to node) all) ++ row_text level (place_row flags plan (To node)))
+    ++ lines_text level width (lines_at flags plan all (i + 1)) ≡ lines_text level width (lines_at flags plan all i)
+unfolding line_front lines_at place_row
+line_more flags plan level width all i node d inside some =
+    ap (lines_text level width) (sym (line_at (apart_in flags) (rows_from (apart_in flags) 0 plan) all i d (Some node) inside some))
+
+pub line_skipped : (flags : List Bool) (plan : List Node) (level width : ℕ) (all : List Next) (i : ℕ) (d : Next) → i < length all →
+    new_node (take i all) (get_or all i d) ≡ None →
+    lines_text level width (lines_at flags plan all (i + 1)) ≡ lines_text level width (lines_at flags plan all i)
+unfolding lines_at
+line_skipped flags plan level width all i d inside none =
+    ap (lines_text level width) (sym (line_at (apart_in flags) (rows_from (apart_in flags) 0 plan) all i d None inside none))
+
+pub no_more_lines : (flags : List Bool) (plan : List Node) (level width : ℕ) (all : List Next) (i : ℕ) → length all ≤ i →
+    lines_text level width (lines_at flags plan all i) ≡ []
+unfolding lines_at
+no_more_lines flags plan level width all i past =
+    ap (λ branches. lines_text level width (lines_to (apart_in flags) (rows_from (apart_in flags) 0 plan) all i branches)) (drop_all i all past)
+
+-- ---- paragraphs
+
+pub no_more_paragraphs : (flags : List Bool) (plan : List Node) (i : ℕ) → length plan ≤ i → paragraphs_text flags plan i ≡ []
+unfolding paragraphs_text
+no_more_paragraphs flags plan i past =
+    ap (λ (nodes : List Node). flat_map paragraph_text (filter (λ paragraph. apart_in flags paragraph.number) (rows_from (apart_in flags) i nodes)))
+    (drop_all i plan past)
+
+pub numbered_is : (flags : List Bool) (plan : List Node) (node : ℕ) →
+    ((codes "\n[" ++ decimal node) ++ codes "] ") ++ row_text 0 (node_row flags plan node)
+    ≡ paragraph_text (record { number = node; row = node_row flags plan node })
+unfolding paragraph_text
+numbered_is flags plan node = simp append_assoc
+
+-- ---- the first row
+
+pub first_of_none : (sure : Bool) (flags : List Bool) (plan : List Node) → length plan ≡ 0 →
+    no_card sure Over ++ codes "\n" ≡ first_text sure flags plan
+unfolding first_text place_row
+first_of_none sure flags [] empty = refl
+first_of_none sure flags (node ∷ plan) empty = absurd (omega arith)
+
+-- a node's row is more than nothing
+needed : (sure is_apart : Bool) (apart : ℕ → Bool) (later : List Paragraph) (node : Node) →
+    no_card sure (cond is_apart (Named 0) (row_of apart later node)) ≡ []
+needed sure true apart later node = refl
+needed sure false apart later (Play card next) = refl
+needed sure false apart later (See branches) = refl
+
+pub first_of_some : (sure : Bool) (flags : List Bool) (plan : List Node) → 0 < length plan →
+    row_text 0 (place_row flags plan (To 0)) ≡ first_text sure flags plan
+unfolding first_text place_row
+first_of_some sure flags [] some = absurd (omega arith)
+first_of_some sure flags (node ∷ plan) some =
+    ap (λ (none : List ℕ). none ++ row_text 0 (place_row flags (node ∷ plan) (To 0)))
+    (sym (needed sure (apart_in flags 0) (apart_in flags) (rows_from (apart_in flags) 1 plan) node))
+
+-- ---- the pieces of a page, of a name and of the front of a line
+
+-- how to read a sheet, up to what the end of a row means
+abbrev pub legend : List ℕ
+legend =
+    codes "\nPlay a row in order, one card at each of your turns. If none of your cards\nfits, say go and stay there. At \"look\", go on in the line of "
+    ++ codes "what they show\nnext: a rank, or a go, even after yours. At \"see [n]\", go on in paragraph [n].\n"
+
+pub page_from : (sure : Bool) (flags : List Bool) (plan : List Node) (end : List ℕ) → end ≡ end_of_row sure →
+    ((first_text sure flags plan ++ paragraphs_text flags plan 0) ++ legend) ++ end ≡ page_text sure (sheet_with (apart_in flags) plan)
+unfolding legend_text
+page_from sure flags plan end is =
+    let first = first_text sure flags plan in
+    let rest = paragraphs_text flags plan 0 in
+    append_assoc (first ++ rest) legend end ∙ ap (λ (bytes : List ℕ). (first ++ rest) ++ (legend ++ bytes)) is
+    ∙ append_assoc first rest (legend_text sure) ∙ sym (page_is sure flags plan)
+
+-- the blanks of one level more
+pub indent_more : (level : ℕ) → indent level ++ codes "    " ≡ indent (level + 1)
+indent_more zero = refl
+indent_more (suc level) =
+    let e : 4 * (suc level + 1) ≡ suc (suc (suc (suc (4 * (level + 1))))) = omega arith in
+    let f : 4 * suc level ≡ suc (suc (suc (suc (4 * level)))) = omega arith in
+    rw (e, f, ← indent_more level) refl
+
+pub front_is : (level width blanks : ℕ) (set : List Bool) (written : List ℕ) → written ≡ label set → width ≤ 28 →
+    blanks ≡ width - length written →
+    ((indent level ++ written) ++ take blanks (replicate 28 space)) ++ codes " : " ≡ line_front level width set
+unfolding line_front
+front_is level width blanks set written is narrow blank =
+    rw (append_assoc (indent level) written (take blanks (replicate 28 space)), blank, column_from width set written is narrow) refl

@@ -1,0 +1,12 @@
+pub mod PlanBranches
+pub mod PlanNow
+pub mod PlanOutline
+pub mod PlanPage
+pub mod PlanPlay
+pub mod PlanSheet
+pub mod PlanSheetLaws
+pub mod PlanSheetSize
+pub mod PlanStuck
+pub mod PlanText
+pub mod PlanTextLaws
+pub mod Private

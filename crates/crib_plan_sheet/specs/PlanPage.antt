@@ -1,0 +1,32 @@
+-- The page of a plan: its sheet, and how to read it.
+use Rattle.std.specs.Prelude.{ℕ, Bool, List, [], ◌++◌, codes, if◌then◌else◌}
+use Rattle.crib_plan_sheet.specs.PlanSheet.{Row, Sheet, Over, Plays, Looks, Named}
+use Rattle.crib_plan_sheet.specs.PlanText.{sheet_text}
+
+-- what is printed for a first row without a card or a look. Only a sure plan needs no card there
+abbrev pub no_card : Bool → Row → List ℕ
+no_card sure Over = if sure then codes "No card is needed." else codes "The plan states no card."
+no_card sure (Plays card row) = []
+no_card sure (Looks lines) = []
+no_card sure (Named number) = []
+
+-- what the end of a row means. Only a sure plan leaves nothing to decide there
+abbrev pub end_of_row : Bool → List ℕ
+end_of_row sure =
+    if sure
+    then
+    codes "At the end of a row, or if there is no line, nothing is left to decide, or\nyour goal is reached: then "
+    ++ codes "play as you like.\n"
+    else codes "At the end of a row, or if there is no line, the plan states nothing more.\n"
+
+-- how to read a sheet
+unfoldable pub legend_text : Bool → List ℕ
+legend_text sure =
+    codes "\n"
+    ++ codes "Play a row in order, one card at each of your turns. If none of your cards\n"
+    ++ codes "fits, say go and stay there. At \"look\", go on in the line of what they show\n"
+    ++ codes "next: a rank, or a go, even after yours. At \"see [n]\", go on in paragraph [n].\n" ++ end_of_row sure
+
+-- the page of a sheet
+unfoldable pub page_text : Bool → Sheet → List ℕ
+page_text sure sheet = no_card sure sheet.first ++ sheet_text sheet ++ legend_text sure

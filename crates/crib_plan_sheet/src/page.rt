@@ -1,0 +1,76 @@
+//! The page of a plan.
+ghost use Rattle.crib_game_sheet.specs.Prints.{Prints};
+ghost use Rattle.crib_plan_sheet.specs.PlanOutline.{apart_in};
+ghost use Rattle.crib_plan_sheet.specs.PlanPage.{page_text};
+ghost use Rattle.crib_plan_sheet.specs.PlanSheet.{sheet_with};
+ghost use Rattle.crib_plan_sheet.specs.Private.Pages.{first_text, paragraphs_text};
+
+use crate::outline::Outline;
+use crate::rows::Walk;
+use crib_game_sheet::{Page, put_number};
+use crib_plan::{Next, Plan};
+use std::alloc::Allocator;
+
+// How to read a sheet, up to what the end of a row means.
+const LEGEND: &[u8] = b"
+Play a row in order, one card at each of your turns. If none of your cards
+fits, say go and stay there. At \"look\", go on in the line of what they show
+next: a rank, or a go, even after yours. At \"see [n]\", go on in paragraph [n].
+";
+
+// What the end of a row means, if the plan is sure, and if it is not.
+const END_IF_SURE: &[u8] =
+    b"At the end of a row, or if there is no line, nothing is left to decide, or
+your goal is reached: then play as you like.
+";
+
+const END_OTHERWISE: &[u8] =
+    b"At the end of a row, or if there is no line, the plan states nothing more.
+";
+
+/// Puts the sheet of a plan, by the nodes that have paragraphs of their own, and how to read it. What the end of a row
+/// means depends on whether the plan is sure. It needs no memory.
+pub fn put_plan<A: Allocator, B: Allocator, P: Page>(
+    page: &mut P,
+    plan: &Plan<A>,
+    outline: &Outline<B>,
+    sure: bool,
+)
+    ensures { Prints (page_text sure (sheet_with (apart_in outline.now) plan.now)) (P.stand page.old)
+        (P.stand page.new) }
+{
+    let walk = Walk { plan, outline };
+    put_first(page, &walk, sure);
+    put_paragraphs(page, &walk);
+    page.put(LEGEND);
+    page.put(if sure { END_IF_SURE } else { END_OTHERWISE });
+}
+
+// Puts the row at which the plan starts.
+fn put_first<A: Allocator, B: Allocator, P: Page>(page: &mut P, walk: &Walk<'_, A, B>, sure: bool)
+    ensures { Prints (first_text sure walk.now.outline.now walk.now.plan.now) (P.stand page.old) (P.stand page.new) }
+{
+    if walk.plan.nodes().len() != 0 {
+        walk.put_row(page, 0, Next::To(0));
+    } else if sure {
+        page.put(b"No card is needed.\n");
+    } else {
+        page.put(b"The plan states no card.\n");
+    }
+}
+
+// Puts the paragraphs of the nodes that have one, each after an empty line and its number.
+fn put_paragraphs<A: Allocator, B: Allocator, P: Page>(page: &mut P, walk: &Walk<'_, A, B>)
+    ensures { Prints (paragraphs_text walk.now.outline.now walk.now.plan.now 0) (P.stand page.old)
+        (P.stand page.new) }
+{
+    for place in 0..walk.plan.nodes().len() {
+        let node = place as u16;
+        if walk.outline.is_apart(node) {
+            page.put(b"\n[");
+            put_number(page, node as u32);
+            page.put(b"] ");
+            walk.put_node(page, 0, node);
+        }
+    }
+}

@@ -1,5 +1,0 @@
-use Rattle.crib_sheet.proofs.GamesOfSheets.{sheets_have_one_game}
-use Rattle.crib_sheet.proofs.game.laws.game_sheet_law.Goals as goal
-
-pub returns : goal.returns
-returns c = sheets_have_one_game

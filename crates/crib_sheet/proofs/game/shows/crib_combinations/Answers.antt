@@ -1,7 +1,0 @@
-use Rattle.std.proofs.Common.{sum_by, ap, ◌∙◌}
-use Rattle.crib_sheet.specs.GameShow.{points_of}
-use Rattle.crib_sheet.proofs.CombinationPoints.{crib_sum}
-use Rattle.crib_sheet.proofs.game.shows.crib_combinations.Goals as goal
-
-pub returns-clause-points : goal.returns-clause-points
-returns-clause-points c = ap (sum_by points_of) c.counted_combinations.ensures ∙ crib_sum c.args.cards.now c.args.starter c.told-cards

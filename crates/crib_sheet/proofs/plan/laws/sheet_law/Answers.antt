@@ -1,5 +1,0 @@
-use Rattle.crib_sheet.proofs.PlanSheets.{states_the_same}
-use Rattle.crib_sheet.proofs.plan.laws.sheet_law.Goals as goal
-
-pub returns : goal.returns
-returns c = states_the_same

@@ -1,8 +1,0 @@
-use Rattle.crib_sheet.specs.Private.Pages.{paragraphs_text}
-use Rattle.crib_sheet.proofs.Printing.{SoFar}
-use Rattle.crib_sheet.proofs.plan.page.put_paragraphs.Given as goal
-
-abbrev pub invariant-loop-place : goal.invariant-loop-place
-invariant-loop-place g l =
-    SoFar (paragraphs_text l.walk.outline.now l.walk.plan.now l.place) (paragraphs_text l.walk.outline.now l.walk.plan.now 0)
-    (g.P.Page.stand l.initial.page) (g.P.Page.stand l.page)

@@ -1,5 +1,0 @@
-use Rattle.std.proofs.Common.{length}
-use Rattle.crib_sheet.proofs.plan.stuck.+is_held.Given as goal
-
-abbrev pub decreases-is_held : goal.decreases-is_held
-decreases-is_held l = length l.hold.now

@@ -1,0 +1,204 @@
+//! How many deals beat a plan that is not sure, in words.
+ghost use Rattle.std.specs.Prelude.{◌≡◌, ◌≤◌, ◌+◌, ◌*◌, ◌++◌, ◌∷◌, [], false, length, count_by};
+ghost use Rattle.std.specs.List.{list_all};
+ghost use Rattle.arrayvec.specs.ArrayVec.{array_vec_len};
+ghost use Rattle.crib_game_sheet.specs.Prints.{Prints};
+ghost use Rattle.crib_sheet.specs.PlanLosses.{deals_word, grouped, hands_text, loss_line};
+ghost use Rattle.crib_sheet.specs.PlanLosses.{losses_text, others_line};
+ghost use Rattle.crib_sheet.specs.PlanLosses.{row_lines, rows_lines, slot_part, term_text, with_commas};
+
+use crate::verdict::losses::Losses;
+use arrayvec::ArrayVec;
+use crib_beaten::{Row, Slot, Term};
+use crib_game_sheet::Page;
+use crib_plan_sheet::label_of;
+use crib_run::add;
+use itoa::Buffer;
+
+// The columns of the ranks in a row, with a space before them, and those of its number.
+const TERM_COLUMNS: usize = 25;
+
+const DEALS_COLUMNS: usize = 11;
+
+// A number with commas.
+type Figure = ArrayVec<u8, 20>;
+
+// The slots of a term, each after a space.
+type TermText = ArrayVec<u8, 128>;
+
+/// Puts how many deals beat a plan that is not sure, and which hands they have, unless more than a tenth of all deals
+/// do.
+pub(crate) fn put_losses<P: Page>(page: &mut P, losses: &Losses)
+    ensures { Prints (losses_text losses.now) (P.stand page.old) (P.stand page.new) }
+{
+    page.put(b"This plan is not sure. It reaches your goal with ");
+    put_grouped(page, losses.open_deals.saturating_sub(losses.beaten));
+    page.put(b" of the\n");
+    put_grouped(page, losses.open_deals);
+    page.put(b" deals that they may have, whatever they play. With the other\n");
+    put_grouped(page, losses.beaten);
+    page.put(b" they can beat it.");
+    put_hands(page, losses);
+}
+
+// Puts which hands beat the plan, or the end of the line.
+fn put_hands<P: Page>(page: &mut P, losses: &Losses)
+    ensures { Prints (hands_text losses.now) (P.stand page.old) (P.stand page.new) }
+{
+    if losses.open_deals / 10 < losses.beaten {
+        page.put(b"\n");
+        return;
+    }
+    page.put(b" They then hold, at least:\n\n");
+    put_all_rows(page, losses.rows.rows.as_slice());
+    put_others(page, losses.rows.others);
+    page.put(b"\nIn brackets: one card of these ranks. Hands of two rows are in the first.\n");
+}
+
+// Puts the lines of all rows.
+fn put_all_rows<P: Page>(page: &mut P, rows: &[Row])
+    ensures { Prints (rows_lines rows.now) (P.stand page.old) (P.stand page.new) }
+{
+    match rows {
+        [] => {}
+        [row, _others @ ..] => put_rows(page, deals_word(row.deals), rows),
+    }
+}
+
+// Puts the lines of rows, with a word in the first one.
+fn put_rows<P: Page>(page: &mut P, word: &[u8], rows: &[Row])
+    requires { length word.now ≤ 6 }
+    ensures { Prints (row_lines word.now rows.now) (P.stand page.old) (P.stand page.new) }
+{
+    match rows {
+        [] => {}
+        [row, others @ ..] => {
+            put_line(page, term_text(&row.term).as_slice(), row.deals, word);
+            put_rows(page, b"", others);
+        }
+    }
+}
+
+// Puts the line of the deals that no row has, if there are any.
+fn put_others<P: Page>(page: &mut P, others: u32)
+    ensures { Prints (others_line others) (P.stand page.old) (P.stand page.new) }
+{
+    if others != 0 {
+        put_line(page, b" and others", others, b"");
+    }
+}
+
+// Puts a line with a number of deals in its column.
+fn put_line<P: Page>(page: &mut P, front: &[u8], deals: u32, word: &[u8])
+    requires front { length front.now ≤ 128 }
+    requires word { length word.now ≤ 6 }
+    ensures { Prints (loss_line front.now deals word.now) (P.stand page.old) (P.stand page.new) }
+{
+    let figure = grouped(deals);
+    page.put(b"   ");
+    page.put(front);
+    page.put(&[b' '; TERM_COLUMNS][..TERM_COLUMNS.saturating_sub(front.len())]);
+    page.put(&[b' '; DEALS_COLUMNS][..DEALS_COLUMNS.saturating_sub(figure.len())]);
+    page.put(figure.as_slice());
+    page.put(word);
+    page.put(b"\n");
+}
+
+// Returns the word behind a number of deals.
+fn deals_word(deals: u32) -> &'static [u8]
+    ensures value { result.now ≡ deals_word deals }
+    ensures short { length result.now ≤ 6 }
+{
+    if deals == 1 { b" deal" } else { b" deals" }
+}
+
+// Puts a number with commas.
+fn put_grouped<P: Page>(page: &mut P, number: u32)
+    ensures { Prints (grouped number) (P.stand page.old) (P.stand page.new) }
+{
+    page.put(grouped(number).as_slice());
+}
+
+// Returns a number with commas.
+fn grouped(number: u32) -> Figure
+    ensures items { result.items ≡ grouped number }
+    ensures len { array_vec_len result ≡ length result.items }
+{
+    let mut text = Figure::new();
+    let mut buffer = Buffer::new();
+    add_digits(&mut text, buffer.format(number).as_bytes());
+    text
+}
+
+// Adds digits with commas.
+fn add_digits(text: &mut Figure, digits: &[u8])
+    requires room { array_vec_len text.old + 2 * length digits.now ≤ 20 }
+    ensures items { text.new.items ≡ text.old.items ++ with_commas digits.now }
+{
+    match digits {
+        [] => {}
+        [digit, others @ ..] => {
+            add(text, &[*digit]);
+            if 0 < others.len() && others.len() % 3 == 0 {
+                add(text, b",");
+            }
+            add_digits(text, others);
+        }
+    }
+}
+
+// Returns the slots of a term, each after a space.
+fn term_text(term: &Term) -> TermText
+    ensures { result.items ≡ term_text term.now }
+{
+    let [first, second, third, fourth] = term;
+    let mut text = TermText::new();
+    add_slot(&mut text, first);
+    add_slot(&mut text, second);
+    add_slot(&mut text, third);
+    add_slot(&mut text, fourth);
+    text
+}
+
+// Adds a slot after a space, unless any card is in it.
+fn add_slot(text: &mut TermText, slot: &Slot)
+    requires { array_vec_len text.old ≤ 96 }
+    ensures items { text.new.items ≡ text.old.items ++ slot_part slot.now }
+    ensures len { array_vec_len text.new ≤ array_vec_len text.old + 31 }
+{
+    if is_any(slot) {
+        return;
+    }
+    let label = label_of(&letters_of(slot));
+    if count(slot) == 1 {
+        add(text, b" ");
+        add(text, label.as_slice());
+    } else {
+        add(text, b" (");
+        add(text, label.as_slice());
+        add(text, b")");
+    }
+}
+
+// Whether any card is in a slot.
+fn is_any(slot: &Slot) -> bool
+    ensures { result ≡ list_all (λ flag. flag) slot.now }
+{
+    slot.iter().all(|flag| *flag)
+}
+
+// Returns how many ranks are in a slot.
+fn count(slot: &Slot) -> usize
+    ensures { result ≡ count_by (λ flag. flag) slot.now }
+{
+    slot.iter().filter(|flag| **flag).count()
+}
+
+// Returns the ranks of a slot as letters. A go is none of them.
+fn letters_of(slot: &Slot) -> [bool; 14]
+    ensures { result ≡ slot.now ++ false ∷ [] }
+{
+    let mut letters = [false; 14];
+    letters[..13].copy_from_slice(slot);
+    letters
+}

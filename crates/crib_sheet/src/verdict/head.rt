@@ -1,0 +1,116 @@
+//! The head of a plan's sheet: the position, and whether the plan is sure.
+ghost use Rattle.std.specs.Prelude.{◌≡◌, ◌≤◌, length};
+ghost use Rattle.crib_game_sheet.specs.GameText.{game_sheet_text};
+ghost use Rattle.crib_game_sheet.specs.Prints.{Prints};
+ghost use Rattle.crib_sheet.specs.PlanHead.{failing_line, failing_text, game_lines, head_text, sure_text};
+ghost use Rattle.crib_sheet.specs.PlanHead.{turn_lines, why_text};
+
+use crate::verdict::figures::put_losses;
+use crate::verdict::losses::Losses;
+use crib_cards::{Act, Side};
+use crib_check::Verdict;
+use crib_game::{Ending, Game, replay};
+use crib_game_sheet::{Page, put_heading, put_move, put_role, put_sheet};
+use crib_plan::Plan;
+use crib_plan_sheet::{put_now, put_stuck};
+use crib_problem::Problem;
+use std::alloc::Allocator;
+
+/// Puts the head of the sheet of a plan, by the verdict on it. For a plan that is sure this is the position, the turns
+/// that were played already and what they led to, and that the plan is sure. For any other plan it is how many deals
+/// beat it, why it is not sure, and the sheet of the first game in which it fails.
+pub(crate) fn put_head<A: Allocator, P: Page>(
+    page: &mut P,
+    problem: &Problem,
+    plan: &Plan<A>,
+    verdict: &Verdict,
+    losses: &Losses,
+)
+    ensures { Prints (head_text problem.now plan.now verdict.now losses.now) (P.stand page.old) (P.stand page.new) }
+{
+    match verdict {
+        Verdict::Holds => put_sure(page, problem),
+        Verdict::Fails(ending, game) => {
+            put_losses(page, losses);
+            put_failing(page, problem, plan, *ending, game);
+        },
+    }
+}
+
+// Puts the head of a plan that is sure.
+fn put_sure<P: Page>(page: &mut P, problem: &Problem)
+    ensures { Prints (sure_text problem.now) (P.stand page.old) (P.stand page.new) }
+{
+    put_heading(page, problem);
+    put_turns(page, problem.dealer(), problem.played());
+    put_now(page, problem);
+    page.put(b"This plan is sure: it reaches your goal against every hand and every play.\n\n");
+}
+
+// Puts the head of a plan that fails in a game with this ending.
+fn put_failing<A: Allocator, P: Page>(
+    page: &mut P,
+    problem: &Problem,
+    plan: &Plan<A>,
+    ending: Ending,
+    game: &Game,
+)
+    ensures { Prints (failing_text problem.now plan.now ending game.now) (P.stand page.old) (P.stand page.new) }
+{
+    page.put(failing_words(ending));
+    put_game(page, problem, game);
+    put_why(page, problem, plan, ending, game);
+    page.put(b"\nThe plan:\n\n");
+}
+
+// Puts the sheet of a game, after an empty line. A refused game has none.
+fn put_game<P: Page>(page: &mut P, problem: &Problem, game: &Game)
+    ensures { Prints (game_lines (game_sheet_text problem.now game.now)) (P.stand page.old) (P.stand page.new) }
+{
+    if let Ok(report) = replay(problem, game) {
+        page.put(b"\n");
+        put_sheet(page, problem, game, &report);
+    }
+}
+
+// Puts why the plan is stuck after a game, after an empty line, if that is the ending of the game.
+fn put_why<A: Allocator, P: Page>(
+    page: &mut P,
+    problem: &Problem,
+    plan: &Plan<A>,
+    ending: Ending,
+    game: &Game,
+)
+    ensures { Prints (why_text problem.now plan.now ending game.now) (P.stand page.old) (P.stand page.new) }
+{
+    if let Ending::Stuck = ending {
+        page.put(b"\n");
+        put_stuck(page, problem, plan, game.acts.as_slice());
+    }
+}
+
+// Puts the lines of the opening.
+fn put_turns<P: Page>(page: &mut P, dealer: Side, acts: &[Act])
+    ensures { Prints (turn_lines dealer acts.now) (P.stand page.old) (P.stand page.new) }
+{
+    for act in acts {
+        page.put(b"  ");
+        put_role(page, dealer, act.side);
+        page.put(b" ");
+        put_move(page, act.what);
+        page.put(b"\n");
+    }
+}
+
+// Returns how the first failing game ends.
+fn failing_words(ending: Ending) -> &'static [u8]
+    ensures value { result.now ≡ failing_line ending }
+    ensures short { length result.now ≤ 73 }
+{
+    match ending {
+        Ending::Stuck => { b"In this game it states no card that you can play:\n" }
+        Ending::Lost => b"In this game you lose:\n",
+        Ending::Short => b"In this game you fall short of your goal:\n",
+        Ending::Open | Ending::Reached => b"",
+    }
+}

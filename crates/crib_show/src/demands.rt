@@ -1,0 +1,131 @@
+//! What the opponent's cards must count in the show.
+ghost use Rattle.std.specs.Prelude.{◌≡◌, ℕ, ◌≤◌, ◌<◌, ◌&&◌, ◌++◌, ◌↔◌, IsTrue, IsFalse};
+ghost use Rattle.crib_cards.specs.Sides.{game_hole};
+ghost use Rattle.crib_show.specs.Outcome.{outcome_of};
+ghost use Rattle.crib_show.specs.Show.{crib_points, hand_points};
+ghost use Rattle.crib_show.specs.declared.deals.Full.{Full};
+ghost use Rattle.crib_show.specs.declared.show.outcomes.Outcome.TheVariants.{Reached};
+ghost use Rattle.crib_show.specs.Demands.{IsShowAt, is_met};
+
+use crib_cards::{GAME_HOLE, Scores, Side};
+
+/// What the opponent's hand and the crib must count, in points, so that the owner reaches the goal.
+#[derive(Clone, Copy, PartialEq, Eq)]
+pub struct Demand {
+    /// The most points of the opponent's hand.
+    pub hand: u8,
+    /// The most points of the opponent's hand and of the crib together.
+    pub total: u8,
+    /// The least points of the crib.
+    pub crib: u8,
+}
+
+impl Demand {
+    /// Returns the demand that each deal meets, whose hand and crib have at most 102 points each.
+    pub fn none() -> Self
+        ensures { (hand crib : ℕ) → hand ≤ 102 → crib ≤ 102 → IsTrue (is_met result hand crib) }
+    {
+        let most = 255;
+        Demand {
+            hand: most,
+            total: most,
+            crib: 0,
+        }
+    }
+
+    /// Returns the demand that no deal meets, whose crib has at most 102 points.
+    pub fn impossible() -> Self
+        ensures none { (hand crib : ℕ) → crib ≤ 102 → IsFalse (is_met result hand crib) }
+        ensures alone { (crib : ℕ) → IsFalse (is_met result 0 crib) }
+    {
+        Demand {
+            hand: 0,
+            total: 0,
+            crib: 255,
+        }
+    }
+
+    /// Whether it is known that no deal meets the demand.
+    pub fn is_impossible(self) -> bool
+        ensures { IsTrue result → (hand crib : ℕ) → crib ≤ 102 → IsFalse (is_met self hand crib) }
+    {
+        self.crib == 255
+    }
+
+    /// Returns the demand that a deal meets exactly if it meets both.
+    pub fn and(self, other: Demand) -> Self
+        ensures { (hand crib : ℕ) → is_met result hand crib ≡ (is_met self hand crib && is_met other hand crib) }
+    {
+        Demand {
+            hand: self.hand.min(other.hand),
+            total: self.total.min(other.total),
+            crib: self.crib.max(other.crib),
+        }
+    }
+
+    /// Whether a hand and a crib of so many points meet the demand.
+    pub fn is_met(self, hand: u8, crib: u8) -> bool
+        requires { (hand ≤ 102) × (crib ≤ 102) }
+        ensures { result ≡ is_met self hand crib }
+    {
+        hand <= self.hand && hand + crib <= self.total && self.crib <= crib
+    }
+
+    /// Whether it is known that each deal meets the demand, whose hand and crib have at most 102 points.
+    pub fn is_met_by_all(self) -> bool
+        ensures { IsTrue result → (hand crib : ℕ) → hand ≤ 102 → crib ≤ 102 → IsTrue (is_met self hand crib) }
+    {
+        self.hand >= 102 && self.total >= 204 && self.crib == 0
+    }
+
+    /// What is left of the demand for the crib, beside a hand of so many points.
+    pub fn behind(self, hand: u8) -> Self
+        ensures { (crib : ℕ) → is_met result 0 crib ≡ is_met self hand crib }
+    {
+        if hand > self.hand || hand > self.total {
+            return Demand::impossible();
+        }
+        Demand {
+            hand: 255,
+            total: self.total - hand,
+            crib: self.crib,
+        }
+    }
+}
+
+/// Returns what the show demands, at these scores before it, where the owner's hand has `own_hand` points.
+///
+/// A deal with such a show meets the demand exactly if the owner reaches the goal. The scores are holes, and neither
+/// side is home: the owner is below the target, and the opponent below the game hole.
+pub fn demand_of_show(
+    dealer: Side,
+    scores: Scores,
+    target: u8,
+    is_to_stop: bool,
+    own_hand: u8,
+) -> Demand
+    requires owner { scores.owner < target }
+    requires opponent { scores.opponent < game_hole }
+    requires target { target ≤ game_hole }
+    requires hand { own_hand ≤ 102 }
+    ensures { (full : Full) → IsShowAt dealer scores target is_to_stop own_hand full
+        → (IsTrue (is_met result (hand_points full.opp.hold full.starter)
+        (crib_points (full.own_throw ++ full.opp.throw) full.starter)) ↔ (outcome_of full ≡ Reached)) }
+{
+    let need = target.saturating_sub(scores.owner + own_hand);
+    let room = GAME_HOLE - 1 - scores.opponent;
+    match dealer {
+        Side::Opponent if need == 0 => Demand::none(),
+        Side::Opponent if is_to_stop => Demand {
+            hand: 255,
+            total: room,
+            crib: 0,
+        },
+        Side::Opponent => Demand::impossible(),
+        Side::Owner => Demand {
+            hand: room,
+            total: 255,
+            crib: if is_to_stop { 0 } else { need },
+        },
+    }
+}

@@ -1,0 +1,7 @@
+pub mod PlaceByHistory
+pub mod FirstOfRank
+pub mod AgreeingInSuitOrder
+pub mod RecordsFromOpening
+pub mod ShowsBehind
+pub mod EndedDeals
+pub mod ExampleOpening

@@ -1,0 +1,4 @@
+pub mod Sure
+pub mod Shows
+pub mod SuitOrder
+pub mod Private

@@ -1,0 +1,3 @@
+-- Definitions that only private functions cite. No public contract rests on them.
+pub mod Histories
+pub mod Suits

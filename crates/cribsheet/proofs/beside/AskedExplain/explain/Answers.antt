@@ -1,0 +1,10 @@
+use Rattle.std.proofs.Common.{rules, refl}
+use Rattle.crib_game_sheet.proofs.Printing.{as_text}
+use Rattle.cribsheet.proofs.Runs.{said}
+use Rattle.cribsheet.proofs.beside.AskedExplain.explain.Goals as goal
+
+pub returns : goal.returns
+returns g c =
+    let same = c.put.ensures.same in
+    let (name, all) = said _ _ _ c.message_of-message.ensures (as_text c.put.ensures c.as_slice.ensures.text) c.put_acts_beside.ensures refl in
+    search rules

@@ -64,9 +64,12 @@ fn plans_that_are_found_hold(rt: HostRuntime) {
     for problem in [LAST_TWO, WHOLE_PLAY] {
         let found = answer_of(rt.alloc(), Job::Solve, problem.as_bytes());
         let mut input = Vec::new(rt.alloc());
-        for section in [problem.as_bytes(), found.as_slice()] {
-            input.extend_from_slice(section).expect(&rt, "memory");
-        }
+        input
+            .extend_from_slice(problem.as_bytes())
+            .expect(&rt, "memory");
+        input
+            .extend_from_slice(found.as_slice())
+            .expect(&rt, "memory");
         let answer = answer_of(rt.alloc(), Job::Check, &input);
         is_answer(&rt, &answer, "holds\n", Status::Yes);
     }

@@ -55,7 +55,6 @@ impl<A: Allocator + Copy> Outline<A> {
 
 impl<A: Allocator> Outline<A> {
     /// Whether a node has a paragraph of its own.
-    #[tactic(auto, using(crate::proofs::PlanFits::apart_is))]
     pub(crate) fn is_apart(&self, node: u16) -> bool
         ensures { result ≡ apart_in self.now node }
     {

@@ -10,7 +10,6 @@ use crib_plan::{Next, Node};
 use std::alloc::{AllocError, Allocator};
 
 /// Counts for each node of a plan how many nodes lead to it, up to 2. Fails if its only allocation fails.
-#[tactic(auto, using(crate::proofs::PlanWays::none_yet, crate::proofs::PlanWays::next_node, crate::proofs::PlanWays::all_nodes))]
 pub(crate) fn ways_of<A: Allocator>(alloc: A, nodes: &[Node]) -> Result<Vec<u8, A>, AllocError>
     ensures length { IfOk result (λ ways. length ways.items ≡ length nodes.now) }
     ensures counted { IfOk result (λ ways. AreCounted nodes.now ways.items) }

@@ -12,7 +12,7 @@ use Rattle.crib_game_sheet.specs.declared.game.combination.Combination.{Combinat
 use Rattle.crib_game_sheet.specs.GameShow.{combination, combinations_of, plain_combinations, flush_in_hand, flush_in_crib}
 use Rattle.crib_game_sheet.specs.GameShow.{jack_among, hand_combinations, crib_combinations}
 use Rattle.crib_game_sheet.specs.GameShowLaws.{AllDiffer, HandListLaw, CribListLaw}
-use Rattle.crib_game_sheet.proofs.AllEntries.{all_both, all_every, all_filter, all_map, all_weaker}
+use Rattle.crib_cards.proofs.AllEntries.{all_both, all_every, all_filter, all_map, all_weaker}
 use Rattle.crib_game_sheet.proofs.CombinationPoints.{starter_first}
 
 -- lists whose entries differ

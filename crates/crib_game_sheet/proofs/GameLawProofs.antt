@@ -37,7 +37,7 @@ use Rattle.crib_game_sheet.specs.GamePlay.{act_reasons, card_reasons_at, reason_
 use Rattle.crib_game_sheet.specs.GameShow.{points_of}
 use Rattle.crib_game_sheet.specs.GameShowLaws.{AllDiffer}
 use Rattle.crib_game_sheet.specs.GameText.{counted_combinations}
-use Rattle.crib_game_sheet.proofs.AllEntries.{all_reverse}
+use Rattle.crib_cards.proofs.AllEntries.{all_reverse}
 use Rattle.crib_game_sheet.proofs.CombinationPoints.{crib_sum, hand_sum}
 use Rattle.crib_game_sheet.proofs.DifferentCombinations.{Stands, joined}
 use Rattle.crib_game_sheet.proofs.PlayWalks.{reported}

@@ -10,9 +10,10 @@ use Rattle.crib_game.specs.declared.fault.GameFault.TheVariants.{NotTurn}
 use Rattle.crib_problem.proofs.ExampleProblems.{plays, level, level_deal, level_acts}
 use Rattle.crib_game.proofs.ExampleGames.{game_with}
 use Rattle.crib_board.specs.Board.{right_in}
+use Rattle.crib_run.specs.Pieces.{other_score}
 use Rattle.crib_game_sheet.specs.declared.game.combination.Kind.TheVariants.{Jack}
 use Rattle.crib_game_sheet.specs.declared.game.reason.PlayReason.TheVariants.{Alike, Run}
-use Rattle.crib_game_sheet.specs.Heading.{goal_line, heading_text, opening_line, other_score, own_line, scores_line}
+use Rattle.crib_game_sheet.specs.Heading.{goal_line, heading_text, opening_line, own_line, scores_line}
 use Rattle.crib_game_sheet.specs.GameShow.{combination, combinations_of, hand_combinations, crib_combinations}
 use Rattle.crib_game_sheet.specs.GameText.{act_line, act_lines, act_text, combination_line, combination_lines}
 use Rattle.crib_game_sheet.specs.GameText.{counted_name, counted_points, counted_text, dealt_line, game_sheet_text, outcome_text}

@@ -13,6 +13,7 @@ use Rattle.crib_problem.specs.declared.problem.Goal.TheVariants.{Win, Holes, Sto
 use Rattle.crib_problem.proofs.ExampleProblems.{plays, says_go, level, level_deal, level_acts}
 use Rattle.crib_show.specs.declared.show.outcomes.Outcome.TheVariants as outcome
 use Rattle.crib_show.specs.declared.show.outcomes.ShowRow.{ShowRow}
+use Rattle.crib_run.specs.Pieces.{role_word, spaced_card, spaced_cards}
 use Rattle.crib_game_sheet.specs.declared.game.combination.Kind.TheVariants as kind
 use Rattle.crib_game_sheet.specs.declared.game.reason.PlayReason.TheVariants.{Fifteen, ThirtyOne, Alike, Run, Go, LastCard}
 use Rattle.crib_game_sheet.specs.GamePlay.{alike_reasons, card_reasons, card_reasons_at, count_reasons, game_reasons, last_card_reasons, pile_reasons_at}
@@ -21,7 +22,6 @@ use Rattle.crib_game_sheet.specs.GameShow.{combination, combinations_of, flush_i
 use Rattle.crib_game_sheet.specs.GameText.{act_lines, act_text, alike_word, counted_cards, counted_name, counted_points, dealt_line, kind_word, last_after}
 use Rattle.crib_game_sheet.specs.GameText.{next_reason, over_text, points_text, reached_line, reason_text, reason_word}
 use Rattle.crib_game_sheet.specs.GameText.{run_word, score_text, sheet_for, taker_text}
-use Rattle.crib_game_sheet.specs.Heading.{role_word, spaced_card, spaced_cards}
 
 -- ---- reasons
 -- of single numbers: a count, cards alike, the cards of a run, the cards before and the count. T T 5 make 25 and the opponent says go,

@@ -33,14 +33,15 @@ use Rattle.crib_game.specs.declared.fault.GameFault.{GameFault}
 use Rattle.crib_game.specs.Replay.{act_row, acts_back, game_fault, report_of, unless_fault}
 use Rattle.crib_game.specs.Spelling.{AreSixCards}
 use Rattle.crib_board.specs.Board.{left_in, right_in}
+use Rattle.crib_run.specs.Pieces.{role_word, spaced_card, spaced_cards}
 use Rattle.crib_game_sheet.specs.declared.game.reason.PlayReason.{PlayReason}
 use Rattle.crib_game_sheet.specs.GamePlay.{act_reasons, game_reasons, reasons_added}
 use Rattle.crib_game_sheet.specs.GameLaws.{SheetsHaveOneGameLaw}
 use Rattle.crib_game_sheet.specs.GameText.{act_line, act_lines, act_text, columns_line, counted_name, counted_text, dealt_line, game_sheet_text, last_after}
 use Rattle.crib_game_sheet.specs.GameText.{outcome_text, points_text, rows_text, score_text, sheet_for, sheet_of}
-use Rattle.crib_game_sheet.specs.Heading.{heading_text, role_word, spaced_card, spaced_cards}
+use Rattle.crib_game_sheet.specs.Heading.{heading_text}
 use Rattle.crib_game_sheet.proofs.PlayWalks.{each_from, forward, rows_from, rows_of_report}
-use Rattle.crib_game_sheet.proofs.CardBytes.{no_card, same_cards}
+use Rattle.crib_cards.proofs.CardBytes.{no_card, same_cards}
 
 -- ---- cards, moves and sides
 

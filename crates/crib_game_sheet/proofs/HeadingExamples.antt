@@ -4,7 +4,8 @@ use Rattle.std.specs.Fmt.{digits}
 use Rattle.crib_cards.specs.declared.sides.Side.TheVariants.{Owner, Opponent}
 use Rattle.crib_problem.specs.declared.problem.Goal.TheVariants.{Holes, Stop}
 use Rattle.crib_problem.proofs.ExampleProblems.{level}
-use Rattle.crib_game_sheet.specs.Heading.{goal_line, goal_words, heading_text, how_many, opening_line, other_score, own_line, scores_line}
+use Rattle.crib_run.specs.Pieces.{other_score}
+use Rattle.crib_game_sheet.specs.Heading.{goal_line, goal_words, heading_text, how_many, opening_line, own_line, scores_line}
 
 headings :
     (heading_text level ≡ codes "You are the pone at 0, and the dealer is at 0. The starter is 3H.\nYou hold TC 9C 2C 8C and threw 4S 6S.\nYou want to win.\n")

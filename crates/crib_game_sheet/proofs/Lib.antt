@@ -3,8 +3,6 @@ mod GameShowExamples
 mod GameTextExamples
 mod GameWordExamples
 mod HeadingExamples
-pub mod AllEntries
-pub mod CardBytes
 pub mod ChosenCombinations
 pub mod CombinationPoints
 pub mod CountedCards
@@ -13,6 +11,5 @@ pub mod GameLawProofs
 pub mod GamePlayExamples
 pub mod GamesOfSheets
 pub mod PlayWalks
-pub mod Printing
 pub mod ReasonPoints
 pub mod ReasonsAdded

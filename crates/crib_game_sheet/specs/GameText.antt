@@ -23,6 +23,7 @@ use Rattle.crib_game.specs.declared.replaying.report.Row.{Row}
 use Rattle.crib_game.specs.declared.replaying.report.Report.{Report}
 use Rattle.crib_game.specs.Replay.{replay_result}
 use Rattle.crib_board.specs.Board.{right_in, left_in}
+use Rattle.crib_run.specs.Pieces.{role_word, spaced_card, spaced_cards}
 use Rattle.crib_game_sheet.specs.declared.game.combination.Kind.{Kind}
 use Rattle.crib_game_sheet.specs.declared.game.combination.Kind.TheVariants as kind
 use Rattle.crib_game_sheet.specs.declared.game.combination.Combination.{Combination}
@@ -31,7 +32,7 @@ use Rattle.crib_game_sheet.specs.declared.game.reason.PlayReason.TheVariants.{Fi
 use Rattle.crib_game_sheet.specs.declared.game.reason.PlayReason.TheVariants.{Go, LastCard}
 use Rattle.crib_game_sheet.specs.GamePlay.{reason_points, game_reasons}
 use Rattle.crib_game_sheet.specs.GameShow.{points_of, hand_combinations, crib_combinations}
-use Rattle.crib_game_sheet.specs.Heading.{role_word, spaced_card, spaced_cards, how_many, heading_text}
+use Rattle.crib_game_sheet.specs.Heading.{how_many, heading_text}
 
 -- ---- reasons
 

@@ -1,30 +1,11 @@
 -- The heading of a sheet: the problem in words.
-use Rattle.std.specs.Prelude.{ℕ, ◌==◌, List, [], ◌∷◌, ◌++◌, length, flat_map, codes, decimal, if◌then◌else◌}
-use Rattle.crib_cards.specs.CardText.{card_text}
-use Rattle.crib_cards.specs.Sides.{same_side}
+use Rattle.std.specs.Prelude.{ℕ, ◌==◌, List, [], ◌++◌, length, codes, decimal, if◌then◌else◌}
 use Rattle.crib_cards.specs.declared.sides.Side.{Side}
 use Rattle.crib_cards.specs.declared.sides.Side.TheVariants.{Owner, Opponent}
-use Rattle.crib_text.specs.Spelling.{space}
 use Rattle.crib_problem.specs.declared.problem.Goal.{Goal}
 use Rattle.crib_problem.specs.declared.problem.Goal.TheVariants.{Win, Holes, Stop}
 use Rattle.crib_problem.specs.Setup.{Setup}
-
--- the word for a side in a deal of this dealer: `dealer` or `pone`
-abbrev pub role_word : Side → Side → List ℕ
-role_word dealer side = if same_side dealer side then codes "dealer" else codes "pone"
-
--- a card after a space
-abbrev pub spaced_card : ℕ → List ℕ
-spaced_card card = space ∷ card_text card
-
--- cards, each after a space
-abbrev pub spaced_cards : List ℕ → List ℕ
-spaced_cards cards = flat_map spaced_card cards
-
--- the opponent's part in a deal of this dealer, and score
-unfoldable pub other_score : Side → ℕ → List ℕ
-other_score dealer score =
-    codes ", and the " ++ role_word dealer Opponent ++ codes " is at " ++ decimal score
+use Rattle.crib_run.specs.Pieces.{other_score, role_word, spaced_card, spaced_cards}
 
 -- the line of both scores at the first lead, and of the starter
 unfoldable pub scores_line : Setup → List ℕ

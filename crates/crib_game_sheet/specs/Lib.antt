@@ -5,5 +5,4 @@ pub mod GameShow
 pub mod GameShowLaws
 pub mod GameText
 pub mod Heading
-pub mod Prints
 pub mod Private

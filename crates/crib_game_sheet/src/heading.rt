@@ -1,12 +1,13 @@
 //! The heading of a sheet: the problem in words.
 ghost use Rattle.std.specs.Prelude.{◌≤◌, length};
 ghost use Rattle.crib_input.specs.Input.{most_bytes};
-ghost use Rattle.crib_game_sheet.specs.Heading.{goal_words, heading_text, how_many, opening_line, other_score};
-ghost use Rattle.crib_game_sheet.specs.Prints.{Prints};
+ghost use Rattle.crib_run.specs.Prints.{Prints};
+ghost use Rattle.crib_game_sheet.specs.Heading.{goal_words, heading_text, how_many, opening_line};
 
-use crate::page::{Page, put_card, put_cards, put_role, put_small, puts};
+use crate::puts::puts;
 use crib_cards::Side;
 use crib_problem::{Goal, Problem};
+use crib_run::{Page, put_card, put_cards, put_other_score, put_role, put_small};
 
 /// Puts the heading: both scores at the first lead and the starter, the owner's cards, the goal, and the number of
 /// turns that were played already. Each is a line of at most 78 columns.
@@ -19,13 +20,6 @@ pub fn put_heading<P: Page>(page: &mut P, problem: &Problem)
     puts!(page: b"You hold" put_cards(&problem.hold()) b" and threw" put_cards(&problem.thrown()) b".\n");
     puts!(page: b"You want " put_goal(dealer, problem.goal()) b".\n");
     put_opening(page, problem.played().len() as u8);
-}
-
-/// Puts the opponent's part in a deal of this dealer, and score.
-pub fn put_other_score<P: Page>(page: &mut P, dealer: Side, score: u8)
-    ensures { Prints (other_score dealer score) (P.stand page.old) (P.stand page.new) }
-{
-    puts!(page: b", and the " put_role(dealer, Side::Opponent) b" is at " put_small(score));
 }
 
 // Puts what the owner wants of a deal of this dealer.

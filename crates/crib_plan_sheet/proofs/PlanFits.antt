@@ -8,7 +8,7 @@ use Rattle.crib_plan.specs.declared.plan.Next.{Next}
 use Rattle.crib_plan.specs.declared.plan.Next.TheVariants.{End, To}
 use Rattle.crib_plan.specs.declared.plan.Node.{Node}
 use Rattle.crib_plan.specs.declared.plan.Node.TheVariants.{Play, See}
-use Rattle.crib_game_sheet.proofs.AllEntries.{all_every, all_filter, all_weaker}
+use Rattle.crib_cards.proofs.AllEntries.{all_every, all_filter, all_weaker}
 use Rattle.crib_plan_sheet.specs.PlanSheet.{Paragraph, Over, Named, row_named, row_to, lines_to, row_of, rows_from}
 use Rattle.crib_plan_sheet.specs.PlanSheet.{sheet_with}
 use Rattle.crib_plan_sheet.specs.PlanSheetSize.{levels_below}

@@ -10,7 +10,7 @@ use Rattle.crib_plan.specs.declared.plan.Node.TheVariants.{Play, See}
 use Rattle.crib_plan.specs.Nodes.{IsLater, IsNode, AreNodes, most_nodes}
 use Rattle.crib_plan.specs.Spelling.{leads_to}
 use Rattle.crib_plan.specs.Places.{plan_start}
-use Rattle.crib_game_sheet.proofs.AllEntries.{all_filter}
+use Rattle.crib_cards.proofs.AllEntries.{all_filter}
 use Rattle.crib_plan_sheet.specs.PlanSheet.{Paragraph, row_named, row_to, lines_to, row_of, rows_from, sheet_with}
 use Rattle.crib_plan_sheet.specs.PlanTextLaws.{IsRow, AreLines, IsParagraph, PlansHaveSheets}
 

@@ -8,7 +8,7 @@ use Rattle.std.proofs.lemmas.List.{append_cancel_left, replicate_more}
 use Rattle.std.proofs.lemmas.Fmt.{decimal_injective}
 use Rattle.crib_text.specs.Spelling.{space}
 use Rattle.crib_plan.proofs.WordLemmas.{IsDigit, decimal_digits}
-use Rattle.crib_game_sheet.proofs.CardBytes.{no_card, same_cards}
+use Rattle.crib_cards.proofs.CardBytes.{no_card, same_cards}
 use Rattle.crib_plan_sheet.specs.PlanSheet.{Row, Lines, Paragraph, Over, Plays, Looks, Named, NoLine, Line}
 use Rattle.crib_plan_sheet.specs.PlanText.{label, indent, before_rest, row_text, lines_text, paragraph_text, sheet_text}
 use Rattle.crib_plan_sheet.specs.PlanTextLaws.{IsRow, AreLines, IsParagraph, TextsHaveOneSheet}

@@ -7,7 +7,7 @@ use Rattle.crib_cards.specs.declared.sides.Scores.{Scores}
 use Rattle.crib_problem.specs.Played.{cards_played}
 use Rattle.crib_problem.specs.Setup.{Setup}
 use Rattle.crib_know.specs.Knowledge.{knowledge_after, played_events}
-use Rattle.crib_game_sheet.specs.Heading.{other_score, spaced_cards}
+use Rattle.crib_run.specs.Pieces.{other_score, spaced_cards}
 
 -- whether a card is left after some acts: none of them plays it
 abbrev pub is_left : List Act → ℕ → Bool

@@ -3,15 +3,15 @@ ghost use Rattle.std.specs.Prelude.{◌≡◌, [], filter};
 ghost use Rattle.std.specs.List.{list_any};
 ghost use Rattle.crib_cards.specs.Sets.{has};
 ghost use Rattle.crib_problem.specs.Played.{cards_played, cards_with};
-ghost use Rattle.crib_game_sheet.specs.Heading.{spaced_cards};
-ghost use Rattle.crib_game_sheet.specs.Prints.{Prints};
+ghost use Rattle.crib_run.specs.Pieces.{spaced_cards};
+ghost use Rattle.crib_run.specs.Prints.{Prints};
 ghost use Rattle.crib_plan_sheet.specs.PlanNow.{held_words, now_line, now_text};
 ghost use Rattle.crib_plan_sheet.specs.PlanNow as spec;
 
 use crib_cards::{Act, Card, Move, Scores};
-use crib_game_sheet::{Page, put_card, put_other_score, put_small};
 use crib_know::Know;
 use crib_problem::Problem;
+use crib_run::{Page, put_card, put_other_score, put_small};
 
 /// Puts the scores and the owner's cards after the opening, or none without an opening.
 pub fn put_now<P: Page>(page: &mut P, problem: &Problem)

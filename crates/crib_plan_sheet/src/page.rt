@@ -1,5 +1,5 @@
 //! The page of a plan.
-ghost use Rattle.crib_game_sheet.specs.Prints.{Prints};
+ghost use Rattle.crib_run.specs.Prints.{Prints};
 ghost use Rattle.crib_plan_sheet.specs.PlanOutline.{apart_in};
 ghost use Rattle.crib_plan_sheet.specs.PlanPage.{page_text};
 ghost use Rattle.crib_plan_sheet.specs.PlanSheet.{sheet_with};
@@ -7,8 +7,8 @@ ghost use Rattle.crib_plan_sheet.specs.Private.Pages.{first_text, paragraphs_tex
 
 use crate::outline::Outline;
 use crate::rows::Walk;
-use crib_game_sheet::{Page, put_number};
 use crib_plan::{Next, Plan};
+use crib_run::{Page, put_number};
 use std::alloc::Allocator;
 
 // How to read a sheet, up to what the end of a row means.

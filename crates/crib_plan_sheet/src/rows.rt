@@ -3,7 +3,7 @@ ghost use Rattle.std.specs.Prelude.{◌≡◌, ◌≤◌, ◌<◌, ◌+◌, leng
 ghost use Rattle.crib_plan.specs.Nodes.{IsNode};
 ghost use Rattle.crib_plan.specs.declared.plan.Next.TheVariants as nexts;
 ghost use Rattle.crib_plan.specs.declared.plan.Node.TheVariants as node_kinds;
-ghost use Rattle.crib_game_sheet.specs.Prints.{Prints};
+ghost use Rattle.crib_run.specs.Prints.{Prints};
 ghost use Rattle.crib_plan_sheet.specs.PlanText as spec;
 ghost use Rattle.crib_plan_sheet.specs.PlanText.{row_text, lines_text};
 ghost use Rattle.crib_plan_sheet.specs.Private.Pages.{IsDeep, line_front, lines_at, node_row, place_row, width_at};
@@ -11,8 +11,8 @@ ghost use Rattle.crib_plan_sheet.specs.Private.Pages.{IsDeep, line_front, lines_
 use crate::labels::{WIDEST, label_of, letters_to, new_node, width_of};
 use crate::outline::Outline;
 use crib_cards::card_text;
-use crib_game_sheet::{Page, put_number};
 use crib_plan::{Next, Node, Plan};
+use crib_run::{Page, put_number};
 use std::alloc::Allocator;
 
 /// A plan, and which of its nodes have paragraphs of their own.

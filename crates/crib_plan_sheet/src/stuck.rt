@@ -1,7 +1,7 @@
 //! Why a plan states no card that can be played: where it is after the turns of a game.
 ghost use Rattle.std.specs.Prelude.{◌≡◌, filter, flat_map};
 ghost use Rattle.crib_cards.specs.Sets.{has};
-ghost use Rattle.crib_game_sheet.specs.Prints.{Prints};
+ghost use Rattle.crib_run.specs.Prints.{Prints};
 ghost use Rattle.crib_plan_sheet.specs.PlanNow.{held_after, is_left};
 ghost use Rattle.crib_plan_sheet.specs.PlanPlay.{turns_of};
 ghost use Rattle.crib_plan_sheet.specs.PlanStuck.{letter_word, stated_words, stuck_text, stuck_words};
@@ -10,9 +10,9 @@ ghost use Rattle.crib_plan_sheet.specs.PlanStuck as spec;
 use crate::labels::letter_byte;
 use crate::now::is_left;
 use crib_cards::{Act, Card, Letter, Move, Side, card_text};
-use crib_game_sheet::{Page, put_number};
 use crib_plan::{Next, Plan, after_card, card_at, place_after, start};
 use crib_problem::Problem;
+use crib_run::{Page, put_number};
 use std::alloc::Allocator;
 
 /// Where a plan is after some turns.

@@ -1,7 +1,7 @@
 //! The sheets of plans, whole.
 use crate::*;
-use crib_game_sheet::Printer;
 use crib_plan::{Plan, read_plan};
+use crib_run::Printer;
 use crib_text::{Counted, Lines};
 use failing_devices::{Tray, Trouble};
 use std::alloc::Global;

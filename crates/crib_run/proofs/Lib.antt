@@ -1,4 +1,5 @@
 pub mod Lines
+pub mod Printing
 pub mod Runs
 mod Examples
 pub mod Delivery

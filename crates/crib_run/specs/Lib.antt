@@ -3,3 +3,5 @@ pub mod Text
 pub mod Reply
 pub mod Run
 pub mod Beside
+pub mod Pieces
+pub mod Prints

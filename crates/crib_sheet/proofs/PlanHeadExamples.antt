@@ -9,9 +9,10 @@ use Rattle.crib_game.specs.declared.following.ending.Ending.TheVariants.{Open, S
 use Rattle.crib_check.specs.declared.verdict.Verdict.TheVariants.{Holds, Fails}
 use Rattle.crib_problem.proofs.ExampleProblems.{plays, says_go, level_deal, four_twos, after_tens, close_to_lost, pairing}
 use Rattle.crib_game.proofs.ExampleGames.{game_with}
-use Rattle.crib_run.specs.declared.status.Status.TheVariants.{Yes, No, Refused, Fault}
 use Rattle.crib_board.specs.Board.{right_in}
-use Rattle.crib_game_sheet.specs.Heading.{goal_line, heading_text, opening_line, other_score, own_line, scores_line}
+use Rattle.crib_run.specs.declared.status.Status.TheVariants.{Yes, No, Refused, Fault}
+use Rattle.crib_run.specs.Pieces.{other_score}
+use Rattle.crib_game_sheet.specs.Heading.{goal_line, heading_text, opening_line, own_line, scores_line}
 use Rattle.crib_game_sheet.specs.GameText.{act_line, act_lines, act_text, dealt_line, points_text, reason_text, score_text, sheet_of}
 use Rattle.crib_sheet.specs.PlanHead.{failing_line, failing_text, game_lines, head_text, is_sure, sure_text, turn_line, turn_lines, why_text}
 use Rattle.crib_sheet.specs.PlanLosses.{losses_text}

@@ -14,8 +14,9 @@ use Rattle.crib_check.specs.declared.verdict.Verdict.{Verdict}
 use Rattle.crib_check.specs.declared.verdict.Verdict.TheVariants.{Holds, Fails}
 use Rattle.crib_run.specs.declared.status.Status.{Status}
 use Rattle.crib_run.specs.declared.status.Status.TheVariants.{Yes, No, Refused, Fault}
+use Rattle.crib_run.specs.Pieces.{role_word}
 use Rattle.crib_game_sheet.specs.GameText.{game_sheet_text}
-use Rattle.crib_game_sheet.specs.Heading.{role_word, heading_text}
+use Rattle.crib_game_sheet.specs.Heading.{heading_text}
 use Rattle.crib_sheet.specs.PlanLosses.{losses_text}
 use Rattle.crib_plan_sheet.specs.PlanNow.{now_text}
 use Rattle.crib_plan_sheet.specs.PlanStuck.{stuck_text}

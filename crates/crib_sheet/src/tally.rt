@@ -2,14 +2,13 @@
 ghost use Rattle.std.specs.Prelude.{◌≡◌, flat_map};
 ghost use Rattle.crib_text.specs.Device.{HasFailed};
 ghost use Rattle.crib_run.specs.Run.{Sends};
-ghost use Rattle.crib_game_sheet.specs.Prints.{Prints};
+ghost use Rattle.crib_run.specs.Prints.{Prints};
 ghost use Rattle.crib_sheet.specs.Beaten.{beaten_status, beaten_text, figures, ranks_text, row_line, tally_reply};
 
 use crib_beaten::{RanksTally, Tally};
 use crib_cards::{Letter, Rank};
-use crib_game_sheet::{Page, Printer, put_number};
 use crib_plan_sheet::put_letter;
-use crib_run::Status;
+use crib_run::{Page, Printer, Status, put_number};
 use crib_text::Sink;
 use std::alloc::Allocator;
 

@@ -2,9 +2,9 @@
 use Rattle.std.proofs.Common.{◌≡◌, ℕ, List, ◌++◌, codes, false, refl}
 use Rattle.crib_input.specs.declared.reason.Reason.{Reason}
 use Rattle.crib_message.specs.Message.{IsMessage}
+use Rattle.crib_run.specs.Prints.{Prints, Stand}
+use Rattle.crib_run.proofs.Printing.{Written, more, written}
 use Rattle.crib_game_sheet.specs.ActsBefore.{AreShown}
-use Rattle.crib_game_sheet.specs.Prints.{Prints, Stand}
-use Rattle.crib_game_sheet.proofs.Printing.{Written, more, written}
 use Rattle.cribsheet.specs.Beside.{IsSaid}
 
 -- the message and the acts beside it are what is said

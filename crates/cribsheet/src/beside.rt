@@ -3,10 +3,10 @@ ghost use Rattle.std.specs.Prelude.{◌≤◌, length};
 ghost use Rattle.crib_input.specs.Input.{most_bytes};
 ghost use Rattle.cribsheet.specs.Beside.{IsSaid};
 
-use crib_game_sheet::{Page, Printer, put_acts_beside};
+use crib_game_sheet::put_acts_beside;
 use crib_input::{Reason, Sections};
 use crib_message::message_of;
-use crib_run::Explain;
+use crib_run::{Explain, Page, Printer};
 use crib_text::Sink;
 
 /// What the words beside a sheet are about: the sections that the input has to have, and the input, which is empty if

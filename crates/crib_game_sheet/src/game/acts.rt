@@ -1,16 +1,18 @@
 //! The lines of acts, with the reasons of their points.
 ghost use Rattle.std.specs.Prelude.{◌≡◌, ◌+◌, ◌≤◌, length, map, flat_map};
-ghost use Rattle.crib_board.specs.Board.{left_in};
-ghost use Rattle.crib_game_sheet.specs.Heading.{role_word};
+ghost use Rattle.crib_board.specs.Board.{left_in, right_in};
+ghost use Rattle.crib_run.specs.Pieces.{role_word};
+ghost use Rattle.crib_run.specs.Prints.{Prints};
 ghost use Rattle.crib_game_sheet.specs.GameText.{act_lines, act_text, last_after, next_reason};
 ghost use Rattle.crib_game_sheet.specs.GameText.{points_text, reason_text, reason_word, run_word};
-ghost use Rattle.crib_game_sheet.specs.Prints.{Prints};
 
 use super::reason::PlayReason;
 use super::reasons::PlayReasons;
-use crate::page::{Page, put_move, put_right, put_role, put_small, puts};
+use crate::puts::puts;
 use crib_cards::{Move, Side};
 use crib_game::Row;
+use crib_run::{Page, put_move, put_role, put_small};
+use itoa::Buffer;
 
 /// Puts a line for each act with its reasons. The numbers begin at `number`, and `last` is the side that played the
 /// last card before these acts.
@@ -107,6 +109,16 @@ fn reason_word(reason: PlayReason) -> &'static [u8]
         PlayReason::Go => b"go",
         PlayReason::LastCard => b"last card",
     }
+}
+
+// Puts a number of at most three digits, right-aligned in columns of this width.
+fn put_right<P: Page>(page: &mut P, width: usize, number: u8)
+    requires { width ≤ 3 }
+    ensures { Prints (right_in width number) (P.stand page.old) (P.stand page.new) }
+{
+    let mut buffer = Buffer::new();
+    let digits = buffer.format(number).as_bytes();
+    puts!(page: [&b"   "[..width.saturating_sub(digits.len())]] [digits]);
 }
 
 /// Returns the word for a run of 3 to 7 cards.

@@ -1,14 +1,14 @@
 //! The acts of a game before the refused one.
 ghost use Rattle.std.specs.Prelude.{◌≡◌, ◌≤◌, ℕ, List, length};
+ghost use Rattle.crib_run.specs.Prints.{Prints};
 ghost use Rattle.crib_game_sheet.specs.ActsBefore.{AreShown, acts_before, beginning, text_before};
-ghost use Rattle.crib_game_sheet.specs.Prints.{Prints};
 
 use super::text::put_rows;
-use crate::page::Page;
 use arrayvec::ArrayVec;
 use crib_game::{Game, GameFault, replay};
 use crib_input::{Cause, Reason, played_of};
 use crib_problem::Problem;
+use crib_run::Page;
 use crib_text::MAX_INPUT;
 
 /// Puts the acts of an input's game before the refused one, if the reason is the refusal of an act. It needs no memory.

@@ -1,17 +1,18 @@
 //! The lines of the show.
 ghost use Rattle.std.specs.Prelude.{◌≡◌, ◌≤◌, length, flat_map};
+ghost use Rattle.crib_run.specs.Prints.{Prints};
 ghost use Rattle.crib_game_sheet.specs.GameText.{combination_line, combination_lines, counted_cards};
 ghost use Rattle.crib_game_sheet.specs.GameText.{counted_combinations, counted_text};
 ghost use Rattle.crib_game_sheet.specs.GameText.{kind_word};
-ghost use Rattle.crib_game_sheet.specs.Prints.{Prints};
 
 use super::acts::run_word;
 use super::combination::{Combination, Kind};
 use super::shows::counted_combinations;
 use crate::heading::put_how_many;
-use crate::page::{Page, put_card, put_cards, put_role, put_small, puts};
+use crate::puts::puts;
 use crib_cards::{Card, Dealt, Side};
 use crib_problem::Problem;
+use crib_run::{Page, put_card, put_cards, put_role, put_small};
 use crib_show::ShowRow;
 
 /// Puts the lines of each counted hand and of the crib.

@@ -3,19 +3,19 @@ ghost use Rattle.std.specs.Prelude.{◌≡◌, Ok};
 ghost use Rattle.crib_text.specs.Device.{HasFailed};
 ghost use Rattle.crib_game.specs.Replay.{replay_result};
 ghost use Rattle.crib_run.specs.Run.{Sends};
+ghost use Rattle.crib_run.specs.Prints.{Prints};
 ghost use Rattle.crib_game_sheet.specs.GamePlay.{game_reasons};
 ghost use Rattle.crib_game_sheet.specs.GameText.{outcome_text, over_text, reached_line, rows_text, sheet_of};
-ghost use Rattle.crib_game_sheet.specs.Prints.{Prints};
 
 use super::acts::put_acts;
 use super::counted::put_show;
 use super::reasons::reasons_of;
 use crate::heading::put_heading;
-use crate::page::{Page, Printer, put_cards, put_role, puts};
+use crate::puts::puts;
 use crib_cards::Side;
 use crib_game::{Game, Report};
 use crib_problem::{Goal, Problem};
-use crib_run::Status;
+use crib_run::{Page, Printer, Status, put_cards, put_role};
 use crib_show::Outcome;
 use crib_text::Sink;
 

@@ -1,10 +1,9 @@
 //! Whole sheets of games.
 use crate::game::put_acts_beside;
-use crate::page::Printer;
 use crate::tests::sheet;
 use crib_game::{GameFault, replay};
 use crib_input::{Played, Reason, Refusal, played_of};
-use crib_run::Status;
+use crib_run::{Printer, Status};
 use crib_text::Counted;
 use example_texts::games::*;
 use example_texts::joined;

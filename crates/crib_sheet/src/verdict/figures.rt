@@ -2,7 +2,7 @@
 ghost use Rattle.std.specs.Prelude.{◌≡◌, ◌≤◌, ◌+◌, ◌*◌, ◌++◌, ◌∷◌, [], false, length, count_by};
 ghost use Rattle.std.specs.List.{list_all};
 ghost use Rattle.arrayvec.specs.ArrayVec.{array_vec_len};
-ghost use Rattle.crib_game_sheet.specs.Prints.{Prints};
+ghost use Rattle.crib_run.specs.Prints.{Prints};
 ghost use Rattle.crib_sheet.specs.PlanLosses.{deals_word, grouped, hands_text, loss_line};
 ghost use Rattle.crib_sheet.specs.PlanLosses.{losses_text, others_line};
 ghost use Rattle.crib_sheet.specs.PlanLosses.{row_lines, rows_lines, slot_part, term_text, with_commas};
@@ -10,9 +10,8 @@ ghost use Rattle.crib_sheet.specs.PlanLosses.{row_lines, rows_lines, slot_part, 
 use crate::verdict::losses::Losses;
 use arrayvec::ArrayVec;
 use crib_beaten::{Row, Slot, Term};
-use crib_game_sheet::Page;
 use crib_plan_sheet::label_of;
-use crib_run::add;
+use crib_run::{Page, add};
 use itoa::Buffer;
 
 // The columns of the ranks in a row, with a space before them, and those of its number.

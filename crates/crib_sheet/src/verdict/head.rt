@@ -1,7 +1,7 @@
 //! The head of a plan's sheet: the position, and whether the plan is sure.
 ghost use Rattle.std.specs.Prelude.{◌≡◌, ◌≤◌, length};
+ghost use Rattle.crib_run.specs.Prints.{Prints};
 ghost use Rattle.crib_game_sheet.specs.GameText.{game_sheet_text};
-ghost use Rattle.crib_game_sheet.specs.Prints.{Prints};
 ghost use Rattle.crib_sheet.specs.PlanHead.{failing_line, failing_text, game_lines, head_text, sure_text};
 ghost use Rattle.crib_sheet.specs.PlanHead.{turn_lines, why_text};
 
@@ -10,10 +10,11 @@ use crate::verdict::losses::Losses;
 use crib_cards::{Act, Side};
 use crib_check::Verdict;
 use crib_game::{Ending, Game, replay};
-use crib_game_sheet::{Page, put_heading, put_move, put_role, put_sheet};
+use crib_game_sheet::{put_heading, put_sheet};
 use crib_plan::Plan;
 use crib_plan_sheet::{put_now, put_stuck};
 use crib_problem::Problem;
+use crib_run::{Page, put_move, put_role};
 use std::alloc::Allocator;
 
 /// Puts the head of the sheet of a plan, by the verdict on it. For a plan that is sure this is the position, the turns

@@ -10,11 +10,10 @@ ghost use Rattle.crib_sheet.specs.PlanHead.{head_text, is_sure};
 use crate::verdict::head::put_head;
 use crate::verdict::losses::Losses;
 use crib_check::Verdict;
-use crib_game_sheet::Printer;
 use crib_plan::Plan;
 use crib_plan_sheet::{Outline, put_plan};
 use crib_problem::Problem;
-use crib_run::Status;
+use crib_run::{Printer, Status};
 use crib_text::Sink;
 use std::alloc::Allocator;
 

@@ -1,6 +1,6 @@
 use Rattle.std.proofs.Common.{length, rules}
+use Rattle.crib_run.proofs.Printing.{as_text, more}
 use Rattle.crib_game_sheet.specs.Heading.{goal_line, heading_text, opening_line, own_line, scores_line}
-use Rattle.crib_game_sheet.proofs.Printing.{as_text, more}
 use Rattle.crib_game_sheet.proofs.heading.put_heading.Goals as goal
 
 pub returns : goal.returns

@@ -1,7 +1,7 @@
 use Rattle.std.proofs.Common.{◌≡◌, ℕ, ◌++◌, codes, decimal, arith, refl}
 use Rattle.std.proofs.lemmas.Bool.{ne_eqb}
+use Rattle.crib_run.proofs.Printing.{as_text, more, nothing}
 use Rattle.crib_game_sheet.specs.Heading.{opening_line}
-use Rattle.crib_game_sheet.proofs.Printing.{as_text, more, nothing}
 use Rattle.crib_game_sheet.proofs.heading.put_opening.Goals as goal
 
 many_turns : (turns : ℕ) → (turns ≡ 0 → ⊥) → (turns ≡ 1 → ⊥) →

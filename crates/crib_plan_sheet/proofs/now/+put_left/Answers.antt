@@ -1,5 +1,5 @@
 use Rattle.std.proofs.Common.{◌∙◌, sym}
-use Rattle.crib_game_sheet.proofs.Printing.{more, none_left, nothing}
+use Rattle.crib_run.proofs.Printing.{more, none_left, nothing}
 use Rattle.crib_plan_sheet.proofs.now.+put_left.Goals as goal
 
 pub returns-in_default : goal.returns-in_default

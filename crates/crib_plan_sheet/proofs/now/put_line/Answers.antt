@@ -1,5 +1,5 @@
 use Rattle.std.proofs.Common.{rules}
-use Rattle.crib_game_sheet.proofs.Printing.{as_text, more}
+use Rattle.crib_run.proofs.Printing.{as_text, more}
 use Rattle.crib_plan_sheet.specs.PlanNow.{now_line}
 use Rattle.crib_plan_sheet.proofs.now.put_line.Goals as goal
 

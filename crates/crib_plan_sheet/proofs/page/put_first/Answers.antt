@@ -1,6 +1,6 @@
 use Rattle.std.proofs.Common.{List, ap, arith, length}
 use Rattle.crib_plan.specs.declared.plan.Node.{Node}
-use Rattle.crib_game_sheet.proofs.Printing.{as_text}
+use Rattle.crib_run.proofs.Printing.{as_text}
 use Rattle.crib_plan_sheet.proofs.PutRows.{first_of_none, first_of_some}
 use Rattle.crib_plan_sheet.proofs.page.put_first.Goals as goal
 

@@ -1,6 +1,6 @@
 use Rattle.std.proofs.Common.{◌<◌, ◌∙◌, List, length, ap, sym, arith}
 use Rattle.crib_plan.specs.declared.plan.Node.{Node}
-use Rattle.crib_game_sheet.proofs.Printing.{as_text, more, so_far_more, so_far_skip, so_far_done}
+use Rattle.crib_run.proofs.Printing.{as_text, more, so_far_more, so_far_skip, so_far_done}
 use Rattle.crib_plan_sheet.proofs.PlanRows.{paragraph_more, paragraph_none}
 use Rattle.crib_plan_sheet.proofs.PutRows.{no_more_paragraphs, numbered_is}
 use Rattle.crib_plan_sheet.proofs.page.put_paragraphs.Goals as goal

@@ -1,4 +1,4 @@
-use Rattle.crib_game_sheet.proofs.Printing.{SoFar}
+use Rattle.crib_run.proofs.Printing.{SoFar}
 use Rattle.crib_plan_sheet.specs.Private.Pages.{paragraphs_text}
 use Rattle.crib_plan_sheet.proofs.page.put_paragraphs.Given as goal
 

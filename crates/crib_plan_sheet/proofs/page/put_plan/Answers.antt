@@ -1,5 +1,5 @@
 use Rattle.std.proofs.Common.{◌≡◌, refl}
-use Rattle.crib_game_sheet.proofs.Printing.{as_text, more}
+use Rattle.crib_run.proofs.Printing.{as_text, more}
 use Rattle.crib_plan_sheet.specs.PlanPage.{end_of_row}
 use Rattle.crib_plan_sheet.proofs.PutRows.{page_from}
 use Rattle.crib_plan_sheet.proofs.page.put_plan.Goals as goal

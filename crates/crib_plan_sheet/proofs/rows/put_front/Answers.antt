@@ -1,5 +1,5 @@
 use Rattle.std.proofs.Common.{◌≡◌, ◌-◌, ◌∙◌, length, ap, sym, arith}
-use Rattle.crib_game_sheet.proofs.Printing.{as_text, more}
+use Rattle.crib_run.proofs.Printing.{as_text, more}
 use Rattle.crib_plan_sheet.specs.PlanText.{indent}
 use Rattle.crib_plan_sheet.proofs.PutRows.{front_is, indent_more}
 use Rattle.crib_plan_sheet.proofs.rows.put_front.Goals as goal

@@ -1,4 +1,4 @@
-use Rattle.crib_game_sheet.specs.Prints.{Prints}
+use Rattle.crib_run.specs.Prints.{Prints}
 use Rattle.crib_plan_sheet.specs.PlanText.{indent}
 use Rattle.crib_plan_sheet.proofs.rows.put_front.Given as goal
 

@@ -1,6 +1,6 @@
 use Rattle.std.proofs.Common.{◌≡◌, ◌∙◌, true, false, sym, rules}
 use Rattle.crib_cards.specs.Sets.{has}
-use Rattle.crib_game_sheet.proofs.Printing.{as_text, more}
+use Rattle.crib_run.proofs.Printing.{as_text, more}
 use Rattle.crib_plan_sheet.specs.PlanNow.{held_after}
 use Rattle.crib_plan_sheet.proofs.stuck.put_stated.Goals as goal
 

@@ -1,6 +1,6 @@
 use Rattle.std.proofs.Common.{ℕ, arith}
 use Rattle.crib_cards.specs.declared.letters.Letter.TheVariants.{Seen}
-use Rattle.crib_game_sheet.proofs.Printing.{piece}
+use Rattle.crib_run.proofs.Printing.{piece}
 use Rattle.crib_plan_sheet.specs.PlanStuck.{letter_word}
 use Rattle.crib_sheet.proofs.tally.put_ranks.Goals as goal
 

@@ -1,5 +1,5 @@
 use Rattle.std.proofs.Common.{take}
-use Rattle.crib_game_sheet.specs.Prints.{Prints}
+use Rattle.crib_run.specs.Prints.{Prints}
 use Rattle.crib_sheet.specs.Beaten.{ranks_text}
 use Rattle.crib_sheet.proofs.tally.put_ranks.Given as goal
 

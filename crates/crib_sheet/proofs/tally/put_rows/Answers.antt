@@ -1,5 +1,5 @@
 use Rattle.std.proofs.Common.{arith, rules}
-use Rattle.crib_game_sheet.proofs.Printing.{as_text, more, piece}
+use Rattle.crib_run.proofs.Printing.{as_text, more, piece}
 use Rattle.crib_sheet.specs.Beaten.{row_line}
 use Rattle.crib_sheet.proofs.tally.put_rows.Goals as goal
 

@@ -1,5 +1,5 @@
 use Rattle.std.proofs.Common.{take, flat_map}
-use Rattle.crib_game_sheet.specs.Prints.{Prints}
+use Rattle.crib_run.specs.Prints.{Prints}
 use Rattle.crib_sheet.specs.Beaten.{row_line}
 use Rattle.crib_sheet.proofs.tally.put_rows.Given as goal
 

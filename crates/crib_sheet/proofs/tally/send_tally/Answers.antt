@@ -1,5 +1,5 @@
 use Rattle.std.proofs.Common.{refl, rules}
-use Rattle.crib_game_sheet.proofs.Printing.{sent_all, sent_front}
+use Rattle.crib_run.proofs.Printing.{sent_all, sent_front}
 use Rattle.crib_sheet.specs.Beaten.{beaten_status}
 use Rattle.crib_sheet.proofs.tally.send_tally.Goals as goal
 

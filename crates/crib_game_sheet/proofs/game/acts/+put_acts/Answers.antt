@@ -1,5 +1,5 @@
+use Rattle.crib_run.proofs.Printing.{more}
 use Rattle.crib_game_sheet.specs.GameText.{act_line, act_lines}
-use Rattle.crib_game_sheet.proofs.Printing.{more}
 use Rattle.crib_game_sheet.proofs.game.acts.+put_acts.Goals as goal
 
 pub returns : goal.returns

@@ -1,5 +1,5 @@
+use Rattle.crib_run.proofs.Printing.{more}
 use Rattle.crib_game_sheet.specs.GameText.{act_text, score_text}
-use Rattle.crib_game_sheet.proofs.Printing.{more}
 use Rattle.crib_game_sheet.proofs.game.acts.put_act.Goals as goal
 
 pub returns : goal.returns

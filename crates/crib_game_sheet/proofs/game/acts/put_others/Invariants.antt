@@ -1,6 +1,6 @@
 use Rattle.std.proofs.Common.{take, flat_map}
+use Rattle.crib_run.specs.Prints.{Prints}
 use Rattle.crib_game_sheet.specs.GameText.{next_reason}
-use Rattle.crib_game_sheet.specs.Prints.{Prints}
 use Rattle.crib_game_sheet.proofs.game.acts.put_others.Given as goal
 
 -- what is put so far

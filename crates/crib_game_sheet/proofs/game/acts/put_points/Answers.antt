@@ -1,5 +1,5 @@
+use Rattle.crib_run.proofs.Printing.{more, none_left, nothing}
 use Rattle.crib_game_sheet.specs.GameText.{points_text}
-use Rattle.crib_game_sheet.proofs.Printing.{more, none_left, nothing}
 use Rattle.crib_game_sheet.proofs.game.acts.put_points.Goals as goal
 
 pub returns-in_default : goal.returns-in_default

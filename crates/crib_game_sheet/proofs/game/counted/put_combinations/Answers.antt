@@ -1,5 +1,5 @@
 use Rattle.std.proofs.Common.{◌≡◌, length, rules}
-use Rattle.crib_game_sheet.proofs.Printing.{none_left}
+use Rattle.crib_run.proofs.Printing.{none_left}
 use Rattle.crib_game_sheet.proofs.game.counted.put_combinations.Goals as goal
 
 pub returns-then-is_empty : goal.returns-then-is_empty

@@ -1,6 +1,6 @@
 use Rattle.std.proofs.Common.{rules}
+use Rattle.crib_run.proofs.Printing.{as_text, more}
 use Rattle.crib_game_sheet.specs.GameText.{combination_lines, counted_cards, counted_combinations, counted_name, counted_points, counted_text}
-use Rattle.crib_game_sheet.proofs.Printing.{as_text, more}
 use Rattle.crib_game_sheet.proofs.game.counted.put_counted.Goals as goal
 
 pub returns : goal.returns

@@ -1,6 +1,6 @@
 use Rattle.std.proofs.Common.{arith, rules}
+use Rattle.crib_run.proofs.Printing.{as_text, more, piece}
 use Rattle.crib_game_sheet.specs.GameText.{combination_line}
-use Rattle.crib_game_sheet.proofs.Printing.{as_text, more, piece}
 use Rattle.crib_game_sheet.proofs.game.counted.put_each.Goals as goal
 
 pub loop-made-preserved : goal.loop-made-preserved

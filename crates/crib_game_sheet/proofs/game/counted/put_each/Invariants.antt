@@ -1,6 +1,6 @@
 use Rattle.std.proofs.Common.{take, flat_map}
+use Rattle.crib_run.specs.Prints.{Prints}
 use Rattle.crib_game_sheet.specs.GameText.{combination_line}
-use Rattle.crib_game_sheet.specs.Prints.{Prints}
 use Rattle.crib_game_sheet.proofs.game.counted.put_each.Given as goal
 
 -- what is put so far

@@ -1,6 +1,6 @@
 use Rattle.std.proofs.Common.{arith}
+use Rattle.crib_run.proofs.Printing.{piece_at}
 use Rattle.crib_game_sheet.specs.GameText.{counted_text}
-use Rattle.crib_game_sheet.proofs.Printing.{piece_at}
 use Rattle.crib_game_sheet.proofs.game.counted.put_show.Goals as goal
 
 pub loop-row-preserved : goal.loop-row-preserved

@@ -1,4 +1,4 @@
-use Rattle.crib_game_sheet.proofs.Printing.{more}
+use Rattle.crib_run.proofs.Printing.{more}
 use Rattle.crib_game_sheet.proofs.game.text.put_over.Goals as goal
 
 pub returns-in-Reached : goal.returns-in-Reached

@@ -1,4 +1,4 @@
-use Rattle.crib_game_sheet.proofs.Printing.{more}
+use Rattle.crib_run.proofs.Printing.{more}
 use Rattle.crib_game_sheet.proofs.game.text.put_reached.Goals as goal
 
 pub returns-in-Win : goal.returns-in-Win

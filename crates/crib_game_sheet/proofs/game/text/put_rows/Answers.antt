@@ -1,5 +1,5 @@
 use Rattle.std.proofs.Common.{rules}
-use Rattle.crib_game_sheet.proofs.Printing.{as_text}
+use Rattle.crib_run.proofs.Printing.{as_text}
 use Rattle.crib_game_sheet.proofs.game.text.put_rows.Goals as goal
 
 pub returns : goal.returns

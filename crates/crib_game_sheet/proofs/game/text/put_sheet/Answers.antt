@@ -1,5 +1,5 @@
+use Rattle.crib_run.proofs.Printing.{more}
 use Rattle.crib_game_sheet.specs.GameText.{dealt_line, sheet_of}
-use Rattle.crib_game_sheet.proofs.Printing.{more}
 use Rattle.crib_game_sheet.proofs.game.text.put_sheet.Goals as goal
 
 pub returns : goal.returns

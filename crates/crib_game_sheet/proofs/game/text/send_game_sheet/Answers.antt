@@ -1,6 +1,6 @@
 use Rattle.std.proofs.Common.{rules, refl}
 use Rattle.crib_run.specs.declared.status.Status.TheVariants.{Yes}
-use Rattle.crib_game_sheet.proofs.Printing.{sent_all, sent_front}
+use Rattle.crib_run.proofs.Printing.{sent_all, sent_front}
 use Rattle.crib_game_sheet.proofs.game.text.send_game_sheet.Goals as goal
 
 pub returns-then-is_cut : goal.returns-then-is_cut

@@ -1,7 +1,7 @@
 use Rattle.std.proofs.Common.{rules, ◌<◌, ◌≤◌, length, sym, ◌∙◌, arith}
 use Rattle.crib_plan.specs.declared.plan.Node.TheVariants.{See}
 use Rattle.crib_plan.specs.Nodes.{IsLater, IsNode}
-use Rattle.crib_game_sheet.proofs.Printing.{more, so_far_none, so_far_more, so_far_skip, so_far_done}
+use Rattle.crib_run.proofs.Printing.{more, so_far_none, so_far_more, so_far_skip, so_far_done}
 use Rattle.crib_plan_sheet.specs.Private.Pages.{IsDeep}
 use Rattle.crib_plan_sheet.proofs.PlanRows.{place_end, place_apart, place_node, node_at, node_play, node_see}
 use Rattle.crib_plan_sheet.proofs.PutRows.{seen, width_same, deep_later, room_later, line_more, line_skipped, no_more_lines}

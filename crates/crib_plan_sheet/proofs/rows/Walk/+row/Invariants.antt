@@ -1,5 +1,5 @@
 use Rattle.std.proofs.Common.{◌+◌, ◌-◌, ◌*◌, length}
-use Rattle.crib_game_sheet.proofs.Printing.{SoFar}
+use Rattle.crib_run.proofs.Printing.{SoFar}
 use Rattle.crib_plan_sheet.proofs.PlanRows.{room}
 use Rattle.crib_plan_sheet.specs.PlanText.{lines_text}
 use Rattle.crib_plan_sheet.specs.Private.Pages.{lines_at, width_at}

@@ -1,5 +1,5 @@
 use Rattle.std.proofs.Common.{◌∙◌}
-use Rattle.crib_game_sheet.proofs.Printing.{as_text, more}
+use Rattle.crib_run.proofs.Printing.{as_text, more}
 use Rattle.crib_sheet.proofs.LossLines.{row_lines_from}
 use Rattle.crib_sheet.proofs.verdict.figures.+put_rows.Goals as goal
 

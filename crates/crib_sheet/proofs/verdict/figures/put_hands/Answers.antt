@@ -1,5 +1,5 @@
 use Rattle.std.proofs.Common.{◌∙◌, rules, sym}
-use Rattle.crib_game_sheet.proofs.Printing.{as_text, more}
+use Rattle.crib_run.proofs.Printing.{as_text, more}
 use Rattle.crib_sheet.proofs.LossLines.{hands_listed}
 use Rattle.crib_sheet.proofs.verdict.figures.put_hands.Goals as goal
 

@@ -1,5 +1,5 @@
 use Rattle.std.proofs.Common.{◌≡◌, ◌-◌, ◌∙◌, length, arith, rules}
-use Rattle.crib_game_sheet.proofs.Printing.{as_text, more}
+use Rattle.crib_run.proofs.Printing.{as_text, more}
 use Rattle.crib_sheet.specs.PlanLosses.{grouped}
 use Rattle.crib_sheet.proofs.LossLines.{loss_line_is}
 use Rattle.crib_sheet.proofs.verdict.figures.put_line.Goals as goal

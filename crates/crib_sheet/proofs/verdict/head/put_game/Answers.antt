@@ -1,8 +1,8 @@
 use Rattle.std.proofs.Common.{Result, ap}
 use Rattle.crib_game.specs.declared.fault.GameFault.{GameFault}
 use Rattle.crib_game.specs.declared.replaying.report.Report.{Report}
+use Rattle.crib_run.proofs.Printing.{as_text, more}
 use Rattle.crib_game_sheet.specs.GameText.{sheet_for}
-use Rattle.crib_game_sheet.proofs.Printing.{as_text, more}
 use Rattle.crib_sheet.specs.PlanHead.{game_lines}
 use Rattle.crib_sheet.proofs.verdict.head.put_game.Goals as goal
 

@@ -1,4 +1,4 @@
-use Rattle.crib_game_sheet.proofs.Printing.{more}
+use Rattle.crib_run.proofs.Printing.{more}
 use Rattle.crib_sheet.proofs.verdict.head.put_head.Goals as goal
 
 pub returns-in-Fails : goal.returns-in-Fails

@@ -1,5 +1,5 @@
 use Rattle.std.proofs.Common.{arith}
-use Rattle.crib_game_sheet.proofs.Printing.{more, piece}
+use Rattle.crib_run.proofs.Printing.{more, piece}
 use Rattle.crib_sheet.specs.PlanHead.{turn_line}
 use Rattle.crib_sheet.proofs.verdict.head.put_turns.Goals as goal
 

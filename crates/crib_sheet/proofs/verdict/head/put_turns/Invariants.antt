@@ -1,5 +1,5 @@
 use Rattle.std.proofs.Common.{take, flat_map}
-use Rattle.crib_game_sheet.specs.Prints.{Prints}
+use Rattle.crib_run.specs.Prints.{Prints}
 use Rattle.crib_sheet.specs.PlanHead.{turn_line}
 use Rattle.crib_sheet.proofs.verdict.head.put_turns.Given as goal
 

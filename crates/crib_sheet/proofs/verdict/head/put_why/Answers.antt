@@ -4,7 +4,7 @@ use Rattle.crib_plan.specs.declared.plan.Node.{Node}
 use Rattle.crib_game.specs.declared.following.ending.Ending.{Ending}
 use Rattle.crib_game.specs.declared.following.ending.Ending.TheVariants.{Stuck}
 use Rattle.crib_game.specs.declared.section.game.Game.{Game}
-use Rattle.crib_game_sheet.proofs.Printing.{as_text, more, nothing}
+use Rattle.crib_run.proofs.Printing.{as_text, more, nothing}
 use Rattle.crib_sheet.specs.PlanHead.{why_text}
 use Rattle.crib_sheet.proofs.verdict.head.put_why.Goals as goal
 

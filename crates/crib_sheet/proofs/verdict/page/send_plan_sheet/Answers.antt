@@ -1,5 +1,5 @@
 use Rattle.std.proofs.Common.{refl, rules}
-use Rattle.crib_game_sheet.proofs.Printing.{more, sent_all, sent_front}
+use Rattle.crib_run.proofs.Printing.{more, sent_all, sent_front}
 use Rattle.crib_sheet.proofs.verdict.page.send_plan_sheet.Goals as goal
 
 pub returns-then-is_cut : goal.returns-then-is_cut

@@ -1,5 +1,5 @@
 use Rattle.std.proofs.Common.{rules, refl}
-use Rattle.crib_game_sheet.proofs.Printing.{as_text}
+use Rattle.crib_run.proofs.Printing.{as_text}
 use Rattle.cribsheet.proofs.Runs.{said}
 use Rattle.cribsheet.proofs.beside.AskedExplain.explain.Goals as goal
 

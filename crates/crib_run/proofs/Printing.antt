@@ -1,17 +1,15 @@
 -- Bytes put on a page, one after another.
 use Rattle.std.proofs.Common.{◌≡◌, ℕ, ◌+◌, ◌<◌, ◌∙◌, Bool, true, false, List, [], ◌∷◌, ◌++◌, length, take, flat_map, get_or, Option}
-use Rattle.std.proofs.Common.{◌⊎◌, ◌-◌, ◌≤◌, codes, decimal, inl, inr, refl, ap, sym, subst, append_assoc, length-append, arith}
+use Rattle.std.proofs.Common.{◌⊎◌, inl, inr, refl, ap, sym, subst, append_assoc, length-append, arith}
 use Rattle.std.specs.Io.KnownBytes.{Appends}
 use Rattle.std.proofs.KnownBytes.{Appends-nil, Appends-trans}
-use Rattle.std.proofs.lemmas.List.{append-nil, flat_map_more, take-append-le, take-replicate, take_more}
+use Rattle.std.proofs.lemmas.List.{append-nil, flat_map_more, take-append-le, take_more}
 use Rattle.std.proofs.Math.Seq.{take-append-add}
 use Rattle.crib_text.specs.Device.{HasFailed}
-use Rattle.crib_text.specs.Spelling.{space}
-use Rattle.crib_board.specs.Board.{right_in}
 use Rattle.crib_run.specs.declared.status.Status.{Status}
 use Rattle.crib_run.specs.declared.status.Status.TheVariants.{Fault}
 use Rattle.crib_run.specs.Run.{Sends}
-use Rattle.crib_game_sheet.specs.Prints.{Stand, TakesAll, FailsWithin, Changes, Prints}
+use Rattle.crib_run.specs.Prints.{Stand, TakesAll, FailsWithin, Changes, Prints}
 
 -- a proper beginning of some bytes is one of them and more
 fails_sooner : (a b : List ℕ) (s t : Option (List ℕ)) (n m : ℕ) → FailsWithin a s t n m → FailsWithin (a ++ b) s t n m
@@ -130,10 +128,3 @@ so_far_skip {left} {rest} {whole} {s} {t} same so_far = subst (λ (bytes : List 
 pub so_far_done : {left whole : List ℕ} {s t : Stand} → left ≡ [] → SoFar left whole s t → Prints whole s t
 so_far_done {left} {whole} none so_far =
     as_text so_far.put (sym (append-nil so_far.done) ∙ ap (λ (bytes : List ℕ). so_far.done ++ bytes) (sym none) ∙ so_far.same)
-
--- a number in columns of at most this width
-pub column : (width number blanks : ℕ) (digits : List ℕ) → width ≤ 3 → digits ≡ decimal number → blanks ≡ width - length digits
-    → take blanks (codes "   ") ++ digits ≡ right_in width number
-unfolding right_in
-column width number blanks digits narrow is blank =
-    rw (blank, is) (ap (λ (blank : List ℕ). blank ++ decimal number) (take-replicate (width - length (decimal number)) 3 space (omega arith)))

@@ -1,7 +1,7 @@
 use Rattle.std.proofs.Common.{take, flat_map}
-use Rattle.crib_game_sheet.specs.Heading.{spaced_card}
-use Rattle.crib_game_sheet.specs.Prints.{Prints}
-use Rattle.crib_game_sheet.proofs.page.put_cards.Given as goal
+use Rattle.crib_run.specs.Pieces.{spaced_card}
+use Rattle.crib_run.specs.Prints.{Prints}
+use Rattle.crib_run.proofs.page.put_cards.Given as goal
 
 -- what is put so far
 abbrev pub invariant-loop-card : goal.invariant-loop-card

@@ -1,10 +1,9 @@
 //! A page: what bytes are put on piece by piece.
 ghost use Rattle.std.specs.Prelude.{◌≤◌, length, decimal};
-ghost use Rattle.crib_board.specs.Board.{right_in};
 ghost use Rattle.crib_input.specs.Input.{most_bytes};
 ghost use Rattle.crib_problem.specs.Spelling.{move_word};
-ghost use Rattle.crib_game_sheet.specs.Heading.{role_word, spaced_card, spaced_cards};
-ghost use Rattle.crib_game_sheet.specs.Prints.{Prints, Stand};
+ghost use Rattle.crib_run.specs.Pieces.{other_score, role_word, spaced_card, spaced_cards};
+ghost use Rattle.crib_run.specs.Prints.{Prints, Stand};
 
 use crib_cards::{Card, Move, Side, card_text};
 use crib_text::{Sink, put};
@@ -45,16 +44,6 @@ impl<W: Sink> Page for Printer<'_, W> {
     }
 }
 
-// Puts pieces one after another. A piece is a text, bytes in brackets, or a function with its arguments after the page.
-macro_rules! puts {
-    ($page:ident:) => {};
-    ($page:ident: $text:literal $($more:tt)*) => {{ $page.put($text); puts!($page: $($more)*); }};
-    ($page:ident: [$bytes:expr] $($more:tt)*) => {{ $page.put($bytes); puts!($page: $($more)*); }};
-    ($page:ident: $put:ident($($with:expr),*) $($more:tt)*) => {{ $put($page $(, $with)*); puts!($page: $($more)*); }};
-}
-
-pub(crate) use puts;
-
 /// Puts the decimal digits of a number.
 pub fn put_small<P: Page>(page: &mut P, number: u8)
     ensures { Prints (decimal number) (P.stand page.old) (P.stand page.new) }
@@ -69,25 +58,16 @@ pub fn put_number<P: Page>(page: &mut P, number: u32)
     page.put(Buffer::new().format(number).as_bytes());
 }
 
-/// Puts a number of at most three digits, right-aligned in columns of this width.
-pub(crate) fn put_right<P: Page>(page: &mut P, width: usize, number: u8)
-    requires { width ≤ 3 }
-    ensures { Prints (right_in width number) (P.stand page.old) (P.stand page.new) }
-{
-    let mut buffer = Buffer::new();
-    let digits = buffer.format(number).as_bytes();
-    puts!(page: [&b"   "[..width.saturating_sub(digits.len())]] [digits]);
-}
-
 /// Puts a card after a space.
 pub fn put_card<P: Page>(page: &mut P, card: Card)
     ensures { Prints (spaced_card card) (P.stand page.old) (P.stand page.new) }
 {
-    puts!(page: b" " [&card_text(card)]);
+    page.put(b" ");
+    page.put(&card_text(card));
 }
 
 /// Puts cards, each after a space.
-pub(crate) fn put_cards<P: Page>(page: &mut P, cards: &[Card])
+pub fn put_cards<P: Page>(page: &mut P, cards: &[Card])
     ensures { Prints (spaced_cards cards.now) (P.stand page.old) (P.stand page.new) }
 {
     for card in cards {
@@ -110,4 +90,14 @@ pub fn put_role<P: Page>(page: &mut P, dealer: Side, side: Side)
     ensures { Prints (role_word dealer side) (P.stand page.old) (P.stand page.new) }
 {
     page.put(if dealer == side { b"dealer" } else { b"pone" });
+}
+
+/// Puts the opponent's part in a deal of this dealer, and score.
+pub fn put_other_score<P: Page>(page: &mut P, dealer: Side, score: u8)
+    ensures { Prints (other_score dealer score) (P.stand page.old) (P.stand page.new) }
+{
+    page.put(b", and the ");
+    put_role(page, dealer, Side::Opponent);
+    page.put(b" is at ");
+    put_small(page, score);
 }

@@ -60,24 +60,16 @@ fn slip_of(
 fn wrong_name(alloc: Global, program: &Program, word: &str) -> Result<Error, AllocError>
     ensures { IfOk result (λ refusal. kind_of refusal ≡ ErrorKind.InvalidValue) }
 {
+    let names = program.commands.join(alloc, ", ")?;
     let mut text = format!(in alloc;
-        "invalid value '{word}' for '<command>'\n  [possible values: "
+        "invalid value '{word}' for '<command>'\n  [possible values: {names}]"
     )?;
-    add_names(&mut text, program.commands)?;
     if let Some(name) = slip_of(alloc, program, word)? {
         write!(text, "\n\n  tip: a similar value exists: '{name}'")?;
     }
     Command::new(alloc, program.name)
         .override_usage(program.usage)
         .error(ErrorKind::InvalidValue, text.as_str())
-}
-
-fn add_names(text: &mut String, names: &[&str]) -> Result<(), AllocError> {
-    for (at, name) in names.iter().enumerate() {
-        text.push_str(if at > 0 { ", " } else { "" })?;
-        text.push_str(name)?;
-    }
-    text.push_str("]")
 }
 
 // Returns a refusal of the same kind, with the text of `wrong_name` if the word that was read as the name of a command

@@ -1,7 +1,7 @@
 //! A program, as its command line describes it.
 
 /// A program with several commands, one of which is the only word of its command line.
-#[derive(Clone, Copy, Debug)]
+#[derive(Clone, Copy)]
 pub struct Program {
     /// The name of the program.
     pub name: &'static str,

@@ -1,9 +1,9 @@
 -- Every list of five ranks, each in rising order only.
 use Rattle.std.proofs.Common.{◌≡◌, ℕ, zero, suc, ◌+◌, ◌-◌, ◌<◌, ◌≤◌, eqb, not, ◌&&◌, ◌||◌, Bool, true, List, [], ◌∷◌, length, sum, refl, sym, ap, ◌∙◌, inl}
-use Rattle.std.proofs.Common.{inr, subst, arith, ◌*◌, ◌++◌, cond, max, min, fold, sum_by, zero-add}
+use Rattle.std.proofs.Common.{inr, subst, arith, ◌*◌, ◌++◌, cond, max, min, fold, sum_by, zero-add, ne_eqb}
 use Rattle.std.proofs.lemmas.List.{append-nil, append_assoc}
 use Rattle.std.specs.List.{list_all, list_any, range_with_len, AllByRecursion}
-use Rattle.std.proofs.lemmas.Bool.{cases_lt, and_parts}
+use Rattle.std.proofs.lemmas.Bool.{cases_lt, and_parts, cond-false}
 use Rattle.std.proofs.lemmas.Bool.Decides.{nat_tests}
 use Rattle.crib_cards.specs.Cards.{IsRank, jack}
 use Rattle.crib_cards.specs.Runs.{greatest_rank, least_rank}
@@ -11,11 +11,12 @@ use Rattle.crib_cards.specs.Sets.{are_distinct, rank_counts}
 use Rattle.crib_cards.proofs.EachRank.{each_rank}
 use Rattle.crib_show.proofs.ReorderedLists.{Reordered, nothing, behind, front, both, same_order, length-reordered, rank_counts-reordered}
 use Rattle.std.specs.Prelude.{nat_le, nat_lt}
-use Rattle.crib_show.specs.Private.Counts.{IsCounted, pairs_in, runs_in}
+use Rattle.crib_show.specs.Private.Counts.{IsCounted, pairs_in, runs_after, runs_in, stretch_points}
 use Rattle.crib_show.specs.Laws.{is_possible}
 use Rattle.crib_show.specs.Show.{choices, fifteen_points, is_prolonged, pair_points, run_points}
 use Rattle.crib_show.proofs.Choices.{sum_by-choices}
 use Rattle.crib_show.proofs.FifteenLemmas.{fifteens_among, fifteens_among-points}
+use Rattle.crib_show.proofs.PairCounts.{pair_count-five, same}
 use Rattle.crib_show.proofs.RankLaw.{pair_points-reordered, run_points-reordered}
 
 -- ranks in rising order, from some rank on
@@ -129,11 +130,30 @@ runs_among-points ranks =
     (eqb (greatest_rank chosen - least_rank chosen) (length chosen - 1)) (is_prolonged ranks chosen) (length chosen) i) (choices ranks))
     ∙ runs_among-choices ranks ranks [] 0 13
 
+-- the points of the runs in some counts, where each count is taken apart and not compared with 0
+abbrev runs_by : ℕ → ℕ → List ℕ → ℕ
+runs_by long forms [] = stretch_points long forms
+runs_by long forms (zero ∷ counts) = stretch_points long forms + runs_by 0 1 counts
+runs_by long forms (suc n ∷ counts) = runs_by (long + 1) (forms * suc n) counts
+
+runs_by-after : (long forms : ℕ) (counts : List ℕ) → runs_after long forms counts ≡ runs_by long forms counts
+runs_by-after long forms [] = refl
+runs_by-after long forms (zero ∷ counts) = ap (λ n. stretch_points long forms + n) (runs_by-after 0 1 counts)
+runs_by-after long forms (suc n ∷ counts) =
+    cond-false _ (stretch_points long forms + runs_after 0 1 counts) (runs_after (long + 1) (forms * suc n) counts) (ne_eqb (suc n) 0 (λ e. omega (arith, e)))
+    ∙ runs_by-after (long + 1) (forms * suc n) counts
+
+-- the pairs of five ranks, without a list of choices
+abbrev pairs_among : List ℕ → ℕ
+pairs_among (v ∷ w ∷ x ∷ y ∷ z ∷ []) =
+    same v w + same v x + same v y + same v z + (same w x + same w y + same w z) + (same x y + same x z + same y z)
+pairs_among ranks = 0
+
 -- both are tried of all ranks at once, with the numbers of cards of each rank computed once
 abbrev is_good_with : List ℕ → List ℕ → Bool
 is_good_with ranks counts =
-    agree_in (pair_points ranks) (pairs_in counts) (runs_among ranks ranks [] 0 13) (runs_in counts) (sum counts)
-    && allows_counts (2 * fifteens_among ranks 0) (has_jack ranks) counts
+    agree_in (2 * pairs_among ranks) (pairs_in counts) (runs_among ranks ranks [] 0 13) (runs_by 0 1 counts) (sum counts)
+    && allows (pairs_in counts) (has_jack ranks) (2 * fifteens_among ranks 0 + pairs_in counts + runs_by 0 1 counts)
 
 abbrev is_good : List ℕ → Bool
 is_good ranks = is_good_with ranks (rank_counts ranks)
@@ -159,15 +179,15 @@ IsCounted-agree ranks counts all =
     let tests = agreed _ _ _ _ _ all in record { pairs = tests.0; runs = tests.1; few_pairs = tests.2; few_runs = tests.3; number = tests.4 }
 
 pub good_rising : (ranks : List ℕ) → Rises 1 ranks → length ranks ≡ 5 → (agree ranks (rank_counts ranks) ≡ true) × (is_allowed ranks ≡ true)
-good_rising [] rises five = absurd (omega arith)
-good_rising (rank ∷ ranks) rises five =
-    let all : List ℕ = rank ∷ ranks in
+good_rising (v ∷ w ∷ x ∷ y ∷ z ∷ []) rises five =
+    let all : List ℕ = v ∷ w ∷ x ∷ y ∷ z ∷ [] in
     let counts : List ℕ = rank_counts all in
     and_parts _ _ (
-    (λ i. agree_in (pair_points all) (pairs_in counts) (runs_among-points all i) (runs_in counts) (sum counts)
-    && allows_counts (fifteens_among-points all i) (has_jack all) counts)
-    ∙ each_rising-at 4 rank (λ more. is_good (rank ∷ more)) ranks (from_each rank (rises.0, rises.1)) rises.2 (omega arith)
+    (λ i. agree_in (2 * pair_count-five v w x y z i) (pairs_in counts) (runs_among-points all i) (runs_by-after 0 1 counts i) (sum counts)
+    && allows (pairs_in counts) (has_jack all) (fifteens_among-points all i + pairs_in counts + runs_by-after 0 1 counts i))
+    ∙ each_rising-at 4 v (λ more. is_good (v ∷ more)) (w ∷ x ∷ y ∷ z ∷ []) (from_each v (rises.0, rises.1)) rises.2 refl
     )
+good_rising ranks rises five = absurd (omega arith)
 
 pub IsCounted-ranks : (ranks : List ℕ) → AllByRecursion IsRank ranks → length ranks ≡ 5 → IsCounted ranks (rank_counts ranks)
 IsCounted-ranks ranks are five =

@@ -1,14 +1,16 @@
 -- Every list of five ranks, each in rising order only.
 use Rattle.std.proofs.Common.{◌≡◌, ℕ, zero, suc, ◌+◌, ◌-◌, ◌<◌, ◌≤◌, eqb, not, ◌&&◌, ◌||◌, Bool, true, List, [], ◌∷◌, length, sum, refl, sym, ap, ◌∙◌, inl}
-use Rattle.std.proofs.Common.{inr, subst, arith, ◌*◌, ◌++◌, cond, max, min, fold, sum_by, zero-add, ne_eqb}
+use Rattle.std.proofs.Common.{inr, subst, arith, ◌*◌, ◌++◌, cond, max, min, fold, sum_by, zero-add, ne_eqb, length-append}
 use Rattle.std.proofs.lemmas.List.{append-nil, append_assoc}
 use Rattle.std.specs.List.{list_all, list_any, range_with_len, AllByRecursion}
-use Rattle.std.proofs.lemmas.Bool.{cases_lt, and_parts, cond-false}
+use Rattle.std.proofs.lemmas.Bool.{cases_eq, cases_lt, and_parts, cond-true, cond-false, eq-eqb}
 use Rattle.std.proofs.lemmas.Bool.Decides.{nat_tests}
 use Rattle.crib_cards.specs.Cards.{IsRank, jack}
 use Rattle.crib_cards.specs.Runs.{greatest_rank, least_rank}
-use Rattle.crib_cards.specs.Sets.{are_distinct, rank_counts}
+use Rattle.crib_cards.specs.Sets.{are_distinct, has, rank_counts}
 use Rattle.crib_cards.proofs.EachRank.{each_rank}
+use Rattle.crib_cards.proofs.Members.{distinct_apart, distinct_left}
+use Rattle.crib_cards.proofs.SetFacts.{has-append}
 use Rattle.crib_show.proofs.ReorderedLists.{Reordered, nothing, behind, front, both, same_order, length-reordered, rank_counts-reordered}
 use Rattle.std.specs.Prelude.{nat_le, nat_lt}
 use Rattle.crib_show.specs.Private.Counts.{IsCounted, pairs_in, runs_after, runs_in, stretch_points}
@@ -130,6 +132,73 @@ runs_among-points ranks =
     (eqb (greatest_rank chosen - least_rank chosen) (length chosen - 1)) (is_prolonged ranks chosen) (length chosen) i) (choices ranks))
     ∙ runs_among-choices ranks ranks [] 0 13
 
+-- ranks that rise from one on rise from a lower one on
+rises_lower : (low lower : ℕ) (ranks : List ℕ) → lower ≤ low → Rises low ranks → Rises lower ranks
+rises_lower low lower [] below rises = tt
+rises_lower low lower (rank ∷ ranks) below rises = (omega (arith, rises.0), rises.1, rises.2)
+
+none_worth : (long greatest least : ℕ) (distinct prolonged : Bool) → (distinct ≡ true → least + long ≤ greatest) →
+    cond (nat_le 3 long) (cond (eqb (greatest - least) (long - 1)) (cond distinct (cond prolonged 0 long) 0) 0) 0 ≡ 0
+none_worth long greatest least distinct prolonged wide = grind (arith, nat_tests)
+
+has_back : (chosen : List ℕ) (rank : ℕ) → has (chosen ++ rank ∷ []) rank ≡ true
+has_back chosen rank = grind (arith, nat_tests, has-append chosen (rank ∷ []) rank)
+
+-- a rank that is no less than the greatest of some ranks is greater, where they are different
+greater : (chosen : List ℕ) (greatest rank : ℕ) → has chosen greatest ≡ true → greatest ≤ rank → are_distinct (chosen ++ rank ∷ []) ≡ true → greatest < rank
+greater chosen greatest rank at most distinct = grind (arith, nat_tests, distinct_apart chosen (rank ∷ []) greatest distinct at)
+
+-- chosen ranks with a gap, or with a rank twice, are in no run, whatever comes behind them
+none_among : (ranks all chosen : List ℕ) (greatest least : ℕ) → Rises greatest ranks → has chosen greatest ≡ true →
+    (are_distinct chosen ≡ true → least + length chosen ≤ greatest) → runs_among ranks all chosen greatest least ≡ 0
+none_among [] all chosen greatest least rises at wide =
+    none_worth (length chosen) greatest least (are_distinct chosen) (list_any (λ rank. eqb (rank + 1) least || eqb rank (greatest + 1)) all) wide
+none_among (rank ∷ ranks) all chosen greatest least rises at wide =
+    let up : max greatest rank ≡ rank = omega (arith, rises.0) in
+    let behind : runs_among ranks all (chosen ++ rank ∷ []) rank (min least rank) ≡ 0 =
+    none_among ranks all (chosen ++ rank ∷ []) rank (min least rank) rises.2 (has_back chosen rank) (λ distinct.
+    omega (arith, length-append chosen (rank ∷ []), greater chosen greatest rank at rises.0 distinct, wide (distinct_left chosen (rank ∷ []) distinct))) in
+    λ i. ((λ j. runs_among ranks all (chosen ++ rank ∷ []) (up j) (min least rank)) ∙ behind) i
+    + none_among ranks all chosen greatest least (rises_lower rank greatest ranks rises.0 rises.2) at wide i
+
+-- the points of runs that begin with some ranks in a row, in rising ranks: only the next rank can follow
+abbrev runs_behind : List ℕ → List ℕ → List ℕ → ℕ → ℕ → ℕ
+runs_behind [] all chosen greatest least = run_worth all chosen greatest least
+runs_behind (rank ∷ ranks) all chosen greatest least =
+    cond (eqb rank (greatest + 1)) (runs_behind ranks all (chosen ++ rank ∷ []) rank least) 0 + runs_behind ranks all chosen greatest least
+
+runs_behind-among : (ranks all chosen : List ℕ) (greatest least : ℕ) → Rises greatest ranks → has chosen greatest ≡ true → least ≤ greatest →
+    greatest + 1 ≡ least + length chosen → runs_among ranks all chosen greatest least ≡ runs_behind ranks all chosen greatest least
+runs_behind-among [] all chosen greatest least rises at low row = refl
+runs_behind-among (rank ∷ ranks) all chosen greatest least rises at low row =
+    let more : List ℕ = chosen ++ rank ∷ [] in
+    let long = length-append chosen (rank ∷ []) in
+    let up : max greatest rank ≡ rank = omega (arith, rises.0) in
+    let down : min least rank ≡ least = omega (arith, rises.0) in
+    let first : runs_among ranks all more rank least ≡ cond (eqb rank (greatest + 1)) (runs_behind ranks all more rank least) 0 =
+    elim (cases_eq rank (greatest + 1)) [
+      | inl next ↦ runs_behind-among ranks all more rank least rises.2 (has_back chosen rank) (omega arith) (omega (arith, long))
+          ∙ sym (cond-true _ (runs_behind ranks all more rank least) 0 (eq-eqb rank (greatest + 1) next))
+      | inr other ↦ none_among ranks all more rank least rises.2 (has_back chosen rank)
+          (λ distinct. omega (arith, long, greater chosen greatest rank at rises.0 distinct))
+          ∙ sym (cond-false _ (runs_behind ranks all more rank least) 0 (ne_eqb rank (greatest + 1) other))
+    ] in
+    λ i. ((λ j. runs_among ranks all more (up j) (down j)) ∙ first) i
+    + runs_behind-among ranks all chosen greatest least (rises_lower rank greatest ranks rises.0 rises.2) at low row i
+
+abbrev runs_rising : List ℕ → List ℕ → ℕ
+runs_rising [] all = 0
+runs_rising (rank ∷ ranks) all = runs_behind ranks all (rank ∷ []) rank rank + runs_rising ranks all
+
+runs_rising-among : (low : ℕ) (ranks all : List ℕ) → Rises low ranks → runs_among ranks all [] 0 13 ≡ runs_rising ranks all
+runs_rising-among low [] all rises = refl
+runs_rising-among low (rank ∷ ranks) all rises =
+    let up : max 0 rank ≡ rank = omega arith in
+    let down : min 13 rank ≡ rank = omega (arith, rises.1) in
+    λ i. ((λ j. runs_among ranks all (rank ∷ []) (up j) (down j))
+    ∙ runs_behind-among ranks all (rank ∷ []) rank rank rises.2 (has_back [] rank) (omega arith) (omega arith)) i
+    + runs_rising-among rank ranks all rises.2 i
+
 -- the points of the runs in some counts, where each count is taken apart and not compared with 0
 abbrev runs_by : ℕ → ℕ → List ℕ → ℕ
 runs_by long forms [] = stretch_points long forms
@@ -152,7 +221,7 @@ pairs_among ranks = 0
 -- both are tried of all ranks at once, with the numbers of cards of each rank computed once
 abbrev is_good_with : List ℕ → List ℕ → Bool
 is_good_with ranks counts =
-    agree_in (2 * pairs_among ranks) (pairs_in counts) (runs_among ranks ranks [] 0 13) (runs_by 0 1 counts) (sum counts)
+    agree_in (2 * pairs_among ranks) (pairs_in counts) (runs_rising ranks ranks) (runs_by 0 1 counts) (sum counts)
     && allows (pairs_in counts) (has_jack ranks) (2 * fifteens_among ranks 0 + pairs_in counts + runs_by 0 1 counts)
 
 abbrev is_good : List ℕ → Bool
@@ -183,7 +252,7 @@ good_rising (v ∷ w ∷ x ∷ y ∷ z ∷ []) rises five =
     let all : List ℕ = v ∷ w ∷ x ∷ y ∷ z ∷ [] in
     let counts : List ℕ = rank_counts all in
     and_parts _ _ (
-    (λ i. agree_in (2 * pair_count-five v w x y z i) (pairs_in counts) (runs_among-points all i) (runs_by-after 0 1 counts i) (sum counts)
+    (λ i. agree_in (2 * pair_count-five v w x y z i) (pairs_in counts) ((runs_among-points all ∙ runs_rising-among 1 all all rises) i) (runs_by-after 0 1 counts i) (sum counts)
     && allows (pairs_in counts) (has_jack all) (fifteens_among-points all i + pairs_in counts + runs_by-after 0 1 counts i))
     ∙ each_rising-at 4 v (λ more. is_good (v ∷ more)) (w ∷ x ∷ y ∷ z ∷ []) (from_each v (rises.0, rises.1)) rises.2 refl
     )

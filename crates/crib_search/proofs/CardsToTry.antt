@@ -158,3 +158,8 @@ pub has_at : (cards : List ℕ) (index card : ℕ) → index < length cards → 
 has_at [] index card within is = absurd (omega (arith, within))
 has_at (first ∷ cards) zero card within is = or_left (eqb first card) (has cards card) (eq-eqb first card (sym is))
 has_at (first ∷ cards) (suc index) card within is = or_right (eqb first card) (has cards card) (has_at cards index card (omega (arith, within)) is)
+
+-- the first of some cards, if it is the only one
+pub has_first : (cards : List ℕ) (len card : ℕ) → len ≡ 1 → length (take len cards) ≡ len → has (take len cards) (get_or cards 0 card) ≡ true
+has_first [] len card one whole = absurd (cc (rw one at whole))
+has_first (first ∷ cards) len card one whole = rw one (or_left (eqb first first) _ (eq-eqb first first refl))

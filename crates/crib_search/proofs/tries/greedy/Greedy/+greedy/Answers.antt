@@ -1,11 +1,11 @@
-use Rattle.std.proofs.Common.{◌≡◌, ℕ, List, length, take, sym, ap, ◌∙◌, arith}
+use Rattle.std.proofs.Common.{◌≡◌, ℕ, List, length, take, sym, ap, ◌∙◌, get_or, arith}
 use Rattle.std.specs.List.{AllZip}
 use Rattle.crib_cards.specs.declared.moves.Move.TheVariants as move
 use Rattle.crib_play.specs.History.{Own, Theirs}
 use Rattle.crib_search.specs.Trees.{Tree, joined_tree}
 use Rattle.crib_search.specs.Private.Nodes.{IsPlanned, Names}
 use Rattle.crib_search.proofs.FoundAfterTurns.{goes_on, ok_map}
-use Rattle.crib_search.proofs.CardsToTry.{has_at, none_fits}
+use Rattle.crib_search.proofs.CardsToTry.{has_at, has_first, none_fits}
 use Rattle.crib_search.proofs.JoinedTrees.{draft_place_earlier}
 use Rattle.crib_search.proofs.PlannedPlaces.{left_is_card, more_trans, planned_end, planned_more, planned_play, planned_push}
 use Rattle.crib_search.proofs.PlannedPlaces.{trees_planned, planned_joined}
@@ -50,6 +50,12 @@ own_place-place_at-requires g t c κs within =
     c.args.self.now.problem.now c.requires.here in
     (omega (arith, on.1), (within, (c.requires.hand, on.0)))
 
+pub own_place-place_with-requires : goal.own_place-place_with-requires
+own_place-place_with-requires g t c κs within =
+    let playable = c.options-cards.ensures.playable (get_or c.options-cards.result.0 0 c.index-cards-0.result)
+    (has_first _ c.options-cards.result.1 c.index-cards-0.result c.if-len-eq1.true c.options-cards.ensures.whole) in
+    (omega arith, (within, (c.requires.hand, (c.requires.here, (c.requires.asked, (playable.0, playable.1))))))
+
 pub own_place-best_place-requires : goal.own_place-best_place-requires
 own_place-best_place-requires g t c κs within =
     (omega arith, (within, (c.requires.hand, (c.requires.here, (c.requires.asked, c.options-cards.ensures.playable)))))
@@ -62,6 +68,10 @@ best_place-place_with-requires g t c κs within =
     let playable = c.requires.playable c.card-item.result
     (has_at c.args.cards.now c.loop-card.card-index c.card-item.result c.loop-card-test.true c.card-item.is) in
     (omega arith, (within, (c.requires.hand, (c.requires.here, (c.requires.asked, playable)))))
+
+pub best_place-returns-in_err-other_place-clause-kept : goal.best_place-returns-in_err-other_place-clause-kept
+best_place-returns-in_err-other_place-clause-kept g t c =
+    more_trans c.args.nodes.now c.loop-card.nodes c.place_with.new.nodes c.loop-card.invariant.kept c.place_with.ensures.kept
 
 pub best_place-loop-card-preserved : goal.best_place-loop-card-preserved
 best_place-loop-card-preserved g t c = record {
@@ -97,6 +107,14 @@ place_with-returns-clause-planned g t c = ok_map c.place_of.result _ _
 pub their_place-place_after-requires : goal.their_place-place_after-requires
 their_place-place_after-requires g t c κs within = (omega arith, (within, (c.requires.hand, c.requires.here)))
 
+pub their_place-returns-in_err-next-clause-kept : goal.their_place-returns-in_err-next-clause-kept
+their_place-returns-in_err-next-clause-kept g t c =
+    more_trans c.args.nodes.now c.loop-place.nodes c.place_after.new.nodes c.loop-place.invariant.kept c.place_after.ensures.kept
+
+pub their_place-returns-then-is_over-clause-kept : goal.their_place-returns-then-is_over-clause-kept
+their_place-returns-then-is_over-clause-kept g t c =
+    more_trans c.args.nodes.now c.loop-place.nodes c.place_after.new.nodes c.loop-place.invariant.kept c.place_after.ensures.kept
+
 pub their_place-loop-place-preserved : goal.their_place-loop-place-preserved
 their_place-loop-place-preserved g t c = record {
   kept = more_trans c.args.nodes.now c.loop-place.nodes c.place_after.new.nodes c.loop-place.invariant.kept c.place_after.ensures.kept;
@@ -111,6 +129,10 @@ their_place-join-requires-clause-named g t c =
     let are = trees_planned c.loop-place.nodes c.loop-place.nexts.items c.loop-place.invariant.planned in
     (are.trees, rw c.deref.ensures.0 are.names)
 
+pub their_place-returns-clause-kept : goal.their_place-returns-clause-kept
+their_place-returns-clause-kept g t c =
+    more_trans c.args.nodes.now c.loop-place.nodes c.join.new.nodes c.loop-place.invariant.kept c.join.ensures.kept
+
 pub their_place-returns-clause-planned : goal.their_place-returns-clause-planned
 their_place-returns-clause-planned g t c =
     let count : length c.loop-place.nexts.items ≡ 14 = omega (arith, c.loop-place.invariant.count, c.loop-place.auto.place-end, c.loop-place-test.false) in
@@ -120,6 +142,9 @@ their_place-returns-clause-planned g t c =
     (λ place joined. planned_joined c.loop-place.nodes c.join.new.nodes c.deref.result.now place (rw c.deref.ensures.0 c.loop-place.invariant.planned)
     (rw c.deref.ensures.0 count) joined)
     c.join.ensures.joined
+
+pub place_after-saw-requires : goal.place_after-saw-requires
+place_after-saw-requires g t c = rw c.copy-next.ensures (c.can_show.ensures.shown c.if-not-can_show.false)
 
 pub place_after-place_at-requires : goal.place_after-place_at-requires
 place_after-place_at-requires g t c κs within =

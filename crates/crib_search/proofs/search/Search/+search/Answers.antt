@@ -64,6 +64,12 @@ search_own-returns-then-len-eq0-clause-found g t c =
     (λ history knows. sym (c.options-cards.ensures.cards history knows) ∙ ap (λ (len : ℕ). take len c.options-cards.result.0) c.if-len-eq0.true))
     c.after_own.ensures.found
 
+pub search_own-loop-card-init : goal.search_own-loop-card-init
+search_own-loop-card-init g t c = record {
+  later = record { good = c.requires.good; more = λ place draft_node there. there };
+  tried = λ draft_nodes found tried. tried;
+}
+
 pub search_own-after_own-requires-in-loop-card : goal.search_own-after_own-requires-in-loop-card
 search_own-after_own-requires-in-loop-card g t c κs within =
     let playable = c.options-cards.ensures.playable c.card-item.result
@@ -125,12 +131,18 @@ search_theirs-returns-clause-later g t c =
 pub search_all-returns-in_default-clause-found : goal.search_all-returns-in_default-clause-found
 search_all-returns-in_default-clause-found g t c = theirs_none _ _ _ c.requires.asked c.at-letter.result (rw c.in_default.is at c.in_ok-next.ensures.found)
 
+pub search_all-returns-in_err-next-clause-later : goal.search_all-returns-in_err-next-clause-later
+search_all-returns-in_err-next-clause-later g t c = later_trans _ _ _ c.loop-place.invariant.later _ c.branch-self.ensures.later
+
+pub search_all-returns-in_default-clause-later : goal.search_all-returns-in_default-clause-later
+search_all-returns-in_default-clause-later g t c = later_trans _ _ _ c.loop-place.invariant.later _ c.branch-self.ensures.later
+
 pub search_all-branch-self-requires : goal.search_all-branch-self-requires
 search_all-branch-self-requires g t c κs within = (omega arith, (within, (c.loop-place.invariant.later.good, c.requires.here)))
 
 pub search_all-loop-place-preserved : goal.search_all-loop-place-preserved
 search_all-loop-place-preserved g t c = record {
-  later = search (rules, later_trans);
+  later = later_trans _ _ _ c.loop-place.invariant.later _ c.branch-self.ensures.later;
   count = omega (arith, c.push.ensures.len, c.loop-place.invariant.count);
   branches = rw (take_letter c.at-letter.result c.loop-place.place c.at-letter.ensures.valid c.at-letter.ensures.place, c.push.ensures.items)
       (branches_more _ _ _ c.branch-self.ensures.later.more _ _ _ _ c.in-Some.next c.loop-place.invariant.branches

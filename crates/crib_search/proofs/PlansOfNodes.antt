@@ -66,3 +66,10 @@ module _ (problem : Setup) (draft_nodes : List DraftNode) (start : Knowledge) (k
 pub err_is : {T E : Type 0} (result : Result T E) (fault large : E) → IsErrAnd result (λ y. y ≡ fault) → result ≡ Err large → fault ≡ large
 err_is (Ok value) fault large same e = absurd same
 err_is (Err other) fault large same e = sym same ∙ cc
+
+-- ---- what is not so
+pub not_fault : {T E Any : Type 0} {value : T} {fault : E} → Ok value ≡ Err fault → Any
+not_fault e = absurd cc
+
+pub not_some : {T Any : Type 0} {value : T} → None ≡ Some value → Any
+not_some e = absurd cc

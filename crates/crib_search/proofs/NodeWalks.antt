@@ -1,7 +1,8 @@
 -- The walk over kept nodes leaves the places of the trees that the walk of the tree leaves.
 use Rattle.std.proofs.Common.{◌≡◌, ℕ, ◌+◌, ◌<◌, ◌≤◌, true, false, is_some, List, [], ◌∷◌, length, Option, Some}
 use Rattle.std.proofs.Common.{None}
-use Rattle.std.proofs.Common.{refl, sym, ◌∙◌, inl, inr, arith}
+use Rattle.std.proofs.Common.{refl, sym, subst, ◌∙◌, inl, inr, arith}
+use Rattle.std.specs.Prelude.{slice_get}
 use Rattle.std.proofs.Math.ListN.{set, length-set}
 use Rattle.std.proofs.lemmas.List.Elements.{All-from_recursion, All-weaker, recursion_from_All}
 use Rattle.std.proofs.lemmas.List.{get_or-set_same, get_or-set_other}
@@ -13,7 +14,7 @@ use Rattle.crib_search.specs.declared.nodes.DraftNode.{DraftNode}
 use Rattle.crib_search.specs.declared.nodes.DraftNode.TheVariants.{Play, See}
 use Rattle.crib_search.specs.Trees.{Tree, Finish, Plays, Sees, NoBranch, Branch, trees_after_walk}
 use Rattle.crib_search.specs.Private.Nodes.{IsEarlier, IsBelow, AreKept, Names}
-use Rattle.crib_search.specs.Private.Numbers.{AreLeft, AreMarks, mark_of, IsWalk, IsWalkAll, IsWalkBelow}
+use Rattle.crib_search.specs.Private.Numbers.{AreLeft, AreMarks, mark_of, IsWalk, IsWalkAll, IsWalkBelow, WalksDraftNode}
 use Rattle.crib_search.proofs.JoinedTrees.{end_names}
 use Rattle.crib_search.proofs.KeptNodes.{same_for}
 use Rattle.crib_search.proofs.TreeWalks.{is_in}
@@ -100,3 +101,10 @@ below_more count most (Play card next) le below = earlier_more count most next l
 below_more count most (See nexts) le below =
     let all = All-from_recursion (IsEarlier count) nexts below.1 in
     (below.0, recursion_from_All (IsEarlier most) nexts (All-weaker (IsEarlier count) (IsEarlier most) (λ next. earlier_more count most next le) nexts all))
+
+-- the node that is kept at a place
+pub walks_at : {draft_nodes now : List DraftNode} (place : ℕ) {draft_node : DraftNode} (before after : List ℕ) → now ≡ draft_nodes →
+    slice_get now place ≡ Some draft_node → WalksDraftNode draft_nodes draft_node before after → IsWalkBelow draft_nodes place before after
+walks_at {draft_nodes} {now} place {draft_node} before after same there walks other is =
+    let here : draft_node ≡ other = cc in
+    subst (λ node. WalksDraftNode draft_nodes node before after) here walks

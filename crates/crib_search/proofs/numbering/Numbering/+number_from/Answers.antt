@@ -1,4 +1,4 @@
-use Rattle.std.proofs.Common.{◌≡◌, ◌+◌, ◌≤◌, length, get_or, sym, ◌∙◌, arith}
+use Rattle.std.proofs.Common.{◌≡◌, ◌+◌, ◌≤◌, length, get_or, refl, sym, ◌∙◌, arith}
 use Rattle.std.proofs.lemmas.List.Elements.{All-from_recursion}
 use Rattle.crib_search.specs.declared.nodes.DraftPlace.TheVariants.{End}
 use Rattle.crib_search.specs.declared.nodes.DraftNode.TheVariants.{Play, See}
@@ -7,7 +7,7 @@ use Rattle.crib_search.specs.Private.Numbers.{Walked}
 use Rattle.std.proofs.Common.{drop, ap, ◌<◌}
 use Rattle.std.proofs.lemmas.List.{drop_more, drop_all}
 use Rattle.crib_search.proofs.NodeWalks.{height}
-use Rattle.crib_search.proofs.NodeWalks.{walk_default, walk_again, walk_new, walk_none, walk_more, below_height, earlier_more}
+use Rattle.crib_search.proofs.NodeWalks.{walk_default, walk_again, walk_new, walk_none, walk_more, below_height, earlier_more, walks_at}
 use Rattle.crib_search.proofs.numbering.Numbering.+number_from.Goals as goal
 
 pub number_from-returns-in_default-clause-walk : goal.number_from-returns-in_default-clause-walk
@@ -15,6 +15,12 @@ number_from-returns-in_default-clause-walk g t c = walk_default c.args.self.now.
 
 pub number_from-number_below-requires : goal.number_from-number_below-requires
 number_from-number_below-requires g t c κs within = (omega (arith, ap height c.in-At.is), (within, rw c.in-At.is at c.requires))
+
+pub number_from-returns-in_err-leave-clause-same : goal.number_from-returns-in_err-leave-clause-same
+number_from-returns-in_err-leave-clause-same g t c = c.leave.ensures.same ∙ c.number_below.ensures.same
+
+pub number_from-returns-clause-same : goal.number_from-returns-clause-same
+number_from-returns-clause-same g t c = c.leave.ensures.same ∙ c.number_below.ensures.same
 
 pub number_from-returns-then-is_left-clause-walk : goal.number_from-returns-then-is_left-clause-walk
 number_from-returns-then-is_left-clause-walk g t c =
@@ -34,6 +40,9 @@ number_below-number_from-requires g t c κs within =
     let here = c.requires in
     let earlier = earlier_more c.args.place (length c.args.self.now.draft_nodes) c.in-Play.next (omega (arith, here)) below in
     (omega (arith, low), (within, earlier))
+
+pub number_below-loop-draft_place-init : goal.number_below-loop-draft_place-init
+number_below-loop-draft_place-init g t c = record { same = refl; walk = λ after rest. rest }
 
 pub number_below-number_from-requires-in-loop-draft_place : goal.number_below-number_from-requires-in-loop-draft_place
 number_below-number_from-requires-in-loop-draft_place g t c κs within =
@@ -58,10 +67,10 @@ number_below-loop-draft_place-preserved g t c =
     }
 
 pub number_below-returns-after-loop-draft_place-clause-walk : goal.number_below-returns-after-loop-draft_place-clause-walk
-number_below-returns-after-loop-draft_place-clause-walk g t c = λ draft_node there.
+number_below-returns-after-loop-draft_place-clause-walk g t c =
     let all = c.draft_node.ensures.kept.earlier c.args.place (See c.in-See.next) c.in-See.ensures.node in
     let nodes : c.self.inside.nodes.now ≡ c.args.self.now.draft_nodes = ap (λ (walked : Walked). walked.draft_nodes) c.self.view_is in
-    let same : draft_node ≡ See c.in-See.next = cc (c.in-See.ensures.node) in
-    rw same (c.loop-draft_place.invariant.walk c.loop-draft_place.self.left
+    walks_at c.args.place c.args.self.now.left c.loop-draft_place.self.left nodes c.in-See.ensures.node
+    (c.loop-draft_place.invariant.walk c.loop-draft_place.self.left
     (rw (drop_all c.loop-draft_place.draft_place-index c.in-See.next (omega (arith, all.0)))
     (walk_none c.args.self.now.draft_nodes c.loop-draft_place.self.left)))

@@ -1,10 +1,10 @@
 -- How many throws of the cards that a hold leaves make a crib below a limit, counted by inclusion and exclusion.
-use Rattle.std.proofs.Common.{◌≡◌, ℕ, ◌+◌, ◌*◌, ◌≤◌, min, max, Bool, false, not, ◌&&◌, eqb, ltb, sum_by, List, [], ◌∷◌, ◌++◌, slice_index}
+use Rattle.std.proofs.Common.{◌≡◌, ℕ, ◌+◌, ◌*◌, ◌<◌, ◌≤◌, min, max, Bool, false, not, ◌&&◌, eqb, ltb, sum_by, List, [], ◌∷◌, ◌++◌, length, slice_index, get_or, take}
 use Rattle.std.proofs.Common.{refl, sym, ap, ◌∙◌, arith}
 use Rattle.std.proofs.Math.Nat.{min_comm, max_comm}
 use Rattle.std.proofs.lemmas.Bool.Decides.{nat_tests}
 use Rattle.std.proofs.lemmas.List.{get_or_past}
-use Rattle.std.proofs.lemmas.List.Sums.{sum_by-cons}
+use Rattle.std.proofs.lemmas.List.Sums.{sum_by-cons, sum_by_more}
 use Rattle.crib_cards.specs.Sets.{set_without_all}
 use Rattle.crib_cards.proofs.LowestCard.{in_set}
 use Rattle.crib_cards.proofs.Members.{all_cards}
@@ -93,3 +93,8 @@ module _ (points : List ℕ) (demand : Demand) (unseen hold : List ℕ) where
   pub met_or_missed : IsHeld unseen hold → 820 ≡ left (is_missing points demand) + left (is_met_with points demand)
   met_or_missed held = sym held.left
       ∙ throws_sum are_two (is_missing points demand) (is_met_with points demand) (λ throw. grind (arith, nat_tests)) (set_without_all unseen hold)
+
+-- a sum over some cards, and one more
+pub sum_more : (f : ℕ → ℕ) (cards : List ℕ) (i card : ℕ) {count more : ℕ} → i < length cards → card ≡ get_or cards i card → count ≡ sum_by f (take i cards) →
+    more ≡ f card → count + more ≡ sum_by f (take (i + 1) cards)
+sum_more f cards i card within is before here = omega (arith, sum_by_more f cards i card within, ap f is, before, here)

@@ -1,8 +1,10 @@
-use Rattle.std.proofs.Common.{rules, ◌≡◌, ◌+◌, ◌-◌, ◌*◌, ◌^◌, ◌≤◌, ◌<◌, ℕ, drop, sym, ap, ◌∙◌, arith}
+use Rattle.std.proofs.Common.{rules, ◌≡◌, ◌+◌, ◌-◌, ◌*◌, ◌^◌, ◌≤◌, ◌<◌, ℕ, drop, sym, ap, ◌∙◌, add-one, arith}
+use native.Mathlib.Numerals.{unary_clauses}
 use Rattle.std.proofs.Math.Nat.{mul-le-mul}
 use Rattle.crib_check.specs.Beaten.{IsOpen}
 use Rattle.crib_beaten.specs.Private.ByRanks.{IsMissing}
 use Rattle.crib_beaten.specs.Private.Open.{may_end}
+use Rattle.crib_beaten.proofs.ExactCounts.{exactly_none}
 use Rattle.crib_beaten.proofs.HoldEnds.{few_suits, next_suit, no_end, none_end, numbered}
 use Rattle.crib_beaten.proofs.NumberedDeals.{all_below}
 use Rattle.crib_beaten.proofs.holds.+counting.Goals as goal
@@ -13,6 +15,11 @@ sum_small most before suit few less next all more =
     let part : most * 4 ^ before ≤ 2132 * 64 = mul-le-mul few (few_suits before less) in
     let whole : most * 4 ^ before * suit ≤ 2132 * 64 * 4 = mul-le-mul {m₂ = 4} part (omega (arith, next)) in
     omega (arith, part, whole, all, more)
+
+all_few : (before place : ℕ) {all missing : ℕ} → before + 1 ≡ place → (all ≤ 820 * 4 ^ before * 4) × (missing ≤ 2132 * 4 ^ before * 4) →
+    (all ≤ 820 * 4 ^ place) × (missing ≤ 2132 * 4 ^ place)
+all_few before place is few =
+    let e : 4 ^ place ≡ 4 ^ before * 4 = rw (← is, add-one) (simp unary_clauses) in (omega (arith, e, few.0), omega (arith, e, few.1))
 
 pub count_before-count_from-more-requires : goal.count_before-count_from-more-requires
 count_before-count_from-more-requires t c =
@@ -46,6 +53,17 @@ count_before-loop-suit-preserved t c = record {
       );
   few = search (rules, arith);
 }
+
+pub count_before-loop-suit-init : goal.count_before-loop-suit-init
+count_before-loop-suit-init t c = record {
+  exact = λ problem ranks of same. (exactly_none (λ dealt order has. absurd (omega (arith, has.1))), exactly_none (λ dealt order has. absurd (omega (arith, has.1))));
+  few = (omega arith, omega arith);
+}
+
+pub count_before-returns-clause-few : goal.count_before-returns-clause-few
+count_before-returns-clause-few t c =
+    let whole : c.loop-suit.suit ≡ 4 = omega (arith, c.loop-suit.auto.suit-end, c.loop-suit-test.false) in
+    all_few (c.args.place - 1) c.args.place (omega arith) (rw whole at c.loop-suit.invariant.few)
 
 pub count_before-returns-clause-exact : goal.count_before-returns-clause-exact
 count_before-returns-clause-exact t c = λ problem ranks of same.

@@ -114,7 +114,6 @@ fn count_with(
 
 // How many open deals have the ranks of a hold and its cards from a place on, and how many of them miss a demand.
 #[cycle(counting)]
-#[tactic(auto, using(crate::proofs::HoldEnds::few_suits))]
 fn count_before(
     cribs: &Cribs,
     fixed: CardSet,

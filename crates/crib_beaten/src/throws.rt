@@ -54,7 +54,6 @@ impl Cribs {
     }
 
     /// How many throws of two cards that a hold leaves make a crib with fewer points than a limit.
-    #[tactic(auto, using(crate::proofs::ThrowCounts::left_below, crate::proofs::ThrowCounts::none_left))]
     pub(crate) fn count_below(&self, hold: &[Card; 4], limit: u8) -> u32
         requires limit { limit ≤ 103 }
         requires counted { AreThrowsCounted self.now }

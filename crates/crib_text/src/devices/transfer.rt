@@ -1,9 +1,10 @@
 //! Reading an input to its end, and writing an answer whole.
 #![tactic(auto, using(crate::proofs::LoopFacts::known_bytes))]
 
-ghost use Rattle.std.specs.Prelude.{◌≡◌, ◌≤◌, ◌<◌, length, take, vec_len, IfOk, OnOk, IfErr, OnErr, IfSome};
+ghost use Rattle.std.specs.Prelude.{◌≡◌, ◌≤◌, ◌<◌, length, take, vec_len, IfOk, OnOk, IfErr, OnErr, IfSome, MatchResult};
 ghost use Rattle.std.specs.Io.KnownBytes.{Appends, IsAtEnd};
 ghost use Rattle.crib_text.specs.Device.{HasFailed, HasNotFallen};
+ghost use Rattle.crib_text.specs.Private.Transfer.{HasRead, IsUnread};
 ghost use Rattle.crib_text.specs.Transfer.{IsReadingFault};
 
 use super::device::{Glitch, Sink, Source};
@@ -46,6 +47,14 @@ pub fn read_all<A: Allocator + Copy, S: Source>(
     ensures failed { IfErr result (λ e. e.cause ≡ TextCause.ReadFault →
         HasFailed (S.faults source.old) (S.faults source.new)) }
 {
+    read_bytes(alloc, source).map_err(TextFault::of_input)
+}
+
+// Reads all bytes, as `read_all`. Errors are the causes of its refusals.
+fn read_bytes<A: Allocator, S: Source>(alloc: A, source: &mut S) -> Result<Vec<u8, A>, TextCause>
+    ensures { MatchResult result (HasRead (S.remaining source.old) (S.remaining source.new))
+        (IsUnread (S.remaining source.old) (S.faults source.old) (S.faults source.new)) }
+{
     let mut text = Vec::new(alloc);
     let mut piece = [0u8; PIECE];
     for _turn in 0..MAX_TURNS {
@@ -53,17 +62,17 @@ pub fn read_all<A: Allocator + Copy, S: Source>(
             Ok(0) => return Ok(text),
             Ok(n) => {
                 if n > MAX_INPUT - text.len() {
-                    return Err(TextFault::of_input(TextCause::TooLong));
+                    return Err(TextCause::TooLong);
                 }
                 if text.extend_from_slice(&piece[..n]).is_err() {
-                    return Err(TextFault::of_input(TextCause::NoMemory));
+                    return Err(TextCause::NoMemory);
                 }
             }
             Err(Glitch::Again) => {}
-            Err(Glitch::Failed) => return Err(TextFault::of_input(TextCause::ReadFault)),
+            Err(Glitch::Failed) => break,
         }
     }
-    Err(TextFault::of_input(TextCause::ReadFault))
+    Err(TextCause::ReadFault)
 }
 
 /// Writes all bytes, at most 8,388,608. It makes at most 8,400,000 calls, and retries an interrupted one with the bytes

@@ -1,7 +1,6 @@
 //! Reading an input to its end, and writing an answer whole.
-#![tactic(auto, using(crate::proofs::LoopFacts::known_bytes))]
-
-ghost use Rattle.std.specs.Prelude.{◌≡◌, ◌≤◌, ◌<◌, length, take, vec_len, IfOk, OnOk, IfErr, OnErr, IfSome, MatchResult};
+ghost use Rattle.std.specs.Prelude.{◌≡◌, ◌≤◌, ◌<◌, length, take, vec_len};
+ghost use Rattle.std.specs.Prelude.{IfOk, OnOk, IfErr, OnErr, IfSome, MatchResult};
 ghost use Rattle.std.specs.Io.KnownBytes.{Appends, IsAtEnd};
 ghost use Rattle.crib_text.specs.Device.{HasFailed, HasNotFallen};
 ghost use Rattle.crib_text.specs.Private.Transfer.{HasRead, IsUnread};
@@ -77,6 +76,7 @@ fn read_bytes<A: Allocator, S: Source>(alloc: A, source: &mut S) -> Result<Vec<u
 
 /// Writes all bytes, at most 8,388,608. It makes at most 8,400,000 calls, and retries an interrupted one with the bytes
 /// that are left. It stops if a call fails or the calls run out. Then exactly the first `sent` bytes were written.
+#[tactic(auto, using(crate::proofs::LoopFacts::known_bytes))]
 pub fn put<W: Sink>(sink: &mut W, bytes: &[u8]) -> Result<(), Stopped>
     requires { length bytes.now ≤ MAX_INPUT }
     ensures all { OnOk result (Appends (W.contents sink.old) (W.contents sink.new) bytes.now) }

@@ -1,8 +1,11 @@
 -- The text that the code writes is the board.
-use Rattle.std.proofs.Common.{◌≡◌, ℕ, ◌+◌, ◌-◌, ◌<◌, ◌≤◌, List, [], ◌∷◌, ◌++◌, length, map, take, codes, decimal, get_or, refl, sym, ap, ◌∙◌, append_assoc}
-use Rattle.std.proofs.Common.{arith, Option}
+use Rattle.std.proofs.Common.{◌≡◌, ℕ, ◌+◌, ◌-◌, ◌<◌, ◌≤◌, List, [], ◌∷◌, ◌++◌, flat_map, length, map, take, codes, decimal, get_or, refl, sym, ap, ◌∙◌}
+use Rattle.std.proofs.Common.{◌*◌, append_assoc, arith, subst, vec_len, Option}
 use Rattle.std.specs.List.{range_with_len}
-use Rattle.std.proofs.lemmas.List.{append-nil, length-take-le, take_more, take-replicate}
+use Rattle.std.proofs.lemmas.List.{append-nil, length-take-le, take_all, take_more, take-replicate}
+use Rattle.std.proofs.lemmas.Grind.{flat_map-append}
+use Rattle.std.specs.declared.vec.Vec.{Vec}
+use Rattle.crib_text.specs.Private.Writing.{Appended}
 use Rattle.std.proofs.lemmas.List.FromFn.{map-range_with_len_more}
 use Rattle.crib_text.specs.Spelling.{space}
 use Rattle.crib_cards.specs.declared.sides.Side.{Side}
@@ -72,20 +75,45 @@ rows_and_row number (first ∷ rows) row =
     ∙ sym (append_assoc (row_line number first) (row_lines (number + 1) rows) (row_line (number + 1 + length rows) row))
     ∙ ap (λ (place : ℕ). row_lines number (first ∷ rows) ++ row_line place row) (omega arith)
 
-pub rows_more : (old : List ℕ) (rows : List Row) (at number : ℕ) (row : Row) → at < length rows → row ≡ get_or rows at row → number ≡ at + 1
-    → (old ++ row_lines 1 (take at rows)) ++ row_line number row ≡ old ++ row_lines 1 (take (at + 1) rows)
-rows_more old rows at number row inside is counted =
+pub rows_more : (rows : List Row) (at number : ℕ) (row : Row) → at < length rows → row ≡ get_or rows at row → number ≡ at + 1
+    → row_lines 1 (take at rows) ++ row_line number row ≡ row_lines 1 (take (at + 1) rows)
+rows_more rows at number row inside is counted =
     let so_far : List Row = take at rows in
     let place : number ≡ 1 + length so_far = omega (arith, counted, length-take-le at rows (omega arith)) in
     let taken : take (at + 1) rows ≡ so_far ++ row ∷ [] = take_more rows at row inside ∙ ap (λ (last : Row). so_far ++ last ∷ []) (sym is) in
-    append_assoc old (row_lines 1 so_far) (row_line number row) ∙ ap (λ (n : ℕ). old ++ (row_lines 1 so_far ++ row_line n row)) place
-    ∙ ap (λ (all : List ℕ). old ++ all) (sym (rows_and_row 1 so_far row)) ∙ ap (λ (all : List Row). old ++ row_lines 1 all) (sym taken)
+    ap (λ (n : ℕ). row_lines 1 so_far ++ row_line n row) place ∙ sym (rows_and_row 1 so_far row) ∙ ap (row_lines 1) (sym taken)
+
+pub hands_more : (hands : List ShowRow) (at : ℕ) (other : ShowRow) → at < length hands
+    → flat_map show_line (take at hands) ++ show_line (get_or hands at other) ≡ flat_map show_line (take (at + 1) hands)
+hands_more hands at other inside =
+    ap (λ (last : List ℕ). flat_map show_line (take at hands) ++ last) (sym (append-nil (show_line (get_or hands at other))))
+    ∙ sym (flat_map-append show_line (take at hands) (get_or hands at other ∷ [])) ∙ ap (flat_map show_line) (sym (take_more hands at other inside))
+
+-- one line more
+pub line_more : {A : Type 0} (start old new : Vec ℕ A) (text line all : List ℕ) (most longest bound : ℕ) → Appended start old text most
+    → Appended old new line longest → text ++ line ≡ all → most + longest ≤ bound → Appended start new all bound
+line_more start old new text line all most longest bound before after whole short = record {
+  items = after.items ∙ ap (λ (front : List ℕ). front ++ line) before.items ∙ append_assoc start.items text line
+      ∙ ap (λ (end : List ℕ). start.items ++ end) whole;
+  room = omega (arith, before.room, after.room);
+  len = omega (arith, before.len, after.len);
+}
+
+-- each line is written
+pub all_written : {A X : Type 0} (start new : Vec ℕ A) (text_of : List X → List ℕ) (xs : List X) (at longest : ℕ)
+    → Appended start new (text_of (take at xs)) (longest * at) → length xs ≤ at → at ≤ length xs → Appended start new (text_of xs) (longest * length xs)
+all_written start new text_of xs at longest before all within =
+    let same : at ≡ length xs = omega arith in record {
+      items = before.items ∙ ap (λ taken. start.items ++ text_of taken) (take_all at xs all);
+      room = before.room;
+      len = subst (λ n. vec_len new ≤ vec_len start + longest * n) same before.len;
+    }
 
 -- ---- the outcome
 pub outcome_written : (old : List ℕ) (over : Option Outcome) → (old ++ outcome_word over) ++ codes "\n" ≡ old ++ outcome_line over
 outcome_written old over = append_assoc old (outcome_word over) (codes "\n")
 
-pub ruleset rows = (row_written, hand_written, no_rows, rows_more, outcome_written)
+pub ruleset rows = (row_written, hand_written, no_rows, outcome_written)
 
 -- ---- tracks
 

@@ -21,7 +21,7 @@ pub enum Kind {
 }
 
 /// Cards that count together in a show.
-#[derive(Debug, PartialEq, Eq, Drop)]
+#[derive(Drop)]
 pub struct Combination {
     /// What they make.
     pub kind: Kind,

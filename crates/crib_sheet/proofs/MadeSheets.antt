@@ -8,6 +8,7 @@ use Rattle.crib_game.specs.declared.fault.GameFault.{GameFault}
 use Rattle.crib_game.specs.declared.section.game.Game.{Game}
 use Rattle.crib_game.specs.Refusals.{game_refusal}
 use Rattle.crib_check.specs.declared.verdict.Verdict.{Verdict}
+use Rattle.crib_check.specs.declared.verdict.Verdict.TheVariants.{Holds, Fails}
 use Rattle.crib_check.specs.Verdicts.{IsRight}
 use Rattle.crib_input.specs.declared.refusal.Refusal.{Refusal as Refused}
 use Rattle.crib_input.specs.declared.reason.FaultCause.TheVariants.{NoMemory}
@@ -31,7 +32,7 @@ use Rattle.crib_beaten.specs.Tally.{AreFigures}
 use Rattle.crib_beaten.specs.declared.tally.RanksTally.{RanksTally}
 use Rattle.crib_sheet.specs.Beaten.{beaten_reply, beaten_status}
 use Rattle.crib_sheet.specs.Private.Tries.{tried_status}
-use Rattle.crib_sheet.specs.Sheet.{IsToTry, SheetMakes, game_reply, game_sheet_of_input, plan_reply}
+use Rattle.crib_sheet.specs.Sheet.{IsToTry, SheetMakes, game_reply, game_sheet_of_input, plan_reply, verdict_status}
 
 -- ---- a plan
 
@@ -42,6 +43,10 @@ plan_refused input refusal asked = inl (rw asked refl)
 pub plan_without_memory : (input : List ℕ) (question : Setup × List Node) → question_of_input input ≡ Ok question
     → SheetMakes Plan input (reason_reply (reasons.Fault NoMemory))
 plan_without_memory input question asked = inr (counted input question asked, refl)
+
+pub plan_answers : (verdict : Verdict) → IsAnswer (verdict_status verdict)
+plan_answers Holds = inl refl
+plan_answers (Fails result game) = inr refl
 
 pub plan_made : (input : List ℕ) (question : Setup × List Node) (verdict : Verdict) (losses : Losses) (apart : ℕ → Bool) (reply : Reply)
     → question_of_input input ≡ Ok question → IsRight question.0 question.1 verdict → AreLossesOf question.0 question.1 verdict losses
@@ -108,7 +113,3 @@ pub try_made : (input : List ℕ) (problem : Setup) (plan : List Node) (sure : B
     → (reply ≡ record { output = plan_text plan; status = tried_status sure }) ⊎ (reply ≡ fault_reply no_memory) → SheetMakes Try input reply
 try_made input problem plan sure reply asked tried (inl is) = inl (rw (asked, is) (inl (to_try problem plan sure tried)))
 try_made input problem plan sure reply asked tried (inr want) = inr (rw asked refl, want)
-
-pub ruleset made_plans = (plan_refused, plan_without_memory, plan_made, beaten_refused, beaten_without_memory, beaten_made, beaten_answers)
-
-pub ruleset made = (made_plans, game_refused, game_judged, game_made)

@@ -12,7 +12,6 @@ use std::alloc::Allocator;
 
 /// Returns the count of the deals that beat the plan of an input, or the reason why there is none: the refusal of the
 /// input, or an allocation that failed.
-#[tactic(auto, using(crate::proofs::MadeSheets::made))]
 pub(crate) fn beaten_tally<A: Allocator + Copy>(alloc: A, input: &[u8]) -> Result<Tally<A>, Reason>
     requires { length input.now ≤ MAX_INPUT }
     ensures { IsOutcome tally_reply (SheetMakes SheetJob.Beaten input.now) result }

@@ -30,7 +30,6 @@ pub struct PlanSheet<A: Allocator> {
 
 /// Returns the sheet of the plan of an input, or the reason why it has none: its refusal, or an allocation that failed.
 /// The position table of the verdict allocates too. A failure there changes nothing.
-#[tactic(auto, using(crate::proofs::MadeSheets::made), unfolding(crate::specs::Sheet::parts_reply))]
 pub(crate) fn plan_sheet<A: Allocator + Copy>(
     alloc: A,
     input: &[u8],

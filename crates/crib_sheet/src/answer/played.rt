@@ -10,7 +10,6 @@ use crib_input::{Reason, Refusal, played_of};
 use crib_text::MAX_INPUT;
 
 /// Returns the sheet of the game of an input, or its refusal. It needs no memory.
-#[tactic(auto, using(crate::proofs::MadeSheets::made))]
 pub(crate) fn game_sheet(input: &[u8]) -> Result<GameSheet, Reason>
     requires { length input.now ≤ MAX_INPUT }
     ensures { IsOutcome game_parts_reply (SheetMakes SheetJob.Game input.now) result }

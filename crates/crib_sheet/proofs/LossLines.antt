@@ -3,7 +3,7 @@ use Rattle.std.proofs.Common.{◌≡◌, ◌≢◌, ◌≤◌, ℕ, ◌-◌, ◌
 use Rattle.std.proofs.Common.{refl, ◌∙◌, append_assoc, arith, rules}
 use Rattle.std.specs.List.{list_all}
 use Rattle.std.proofs.lemmas.Bool.{le-ltb, ne_eqb}
-use Rattle.std.proofs.lemmas.List.{take-replicate, take_all}
+use Rattle.std.proofs.lemmas.List.{append-nil, take-replicate, take_all}
 use Rattle.crib_beaten.specs.declared.rows.Row.{Row}
 use Rattle.crib_text.specs.Spelling.{space}
 use Rattle.crib_sheet.specs.PlanLosses.{grouped, hands_text, loss_line, others_line, row_lines, rows_lines, slot_part, slot_text, term_text}
@@ -32,6 +32,15 @@ slot_several text written slot several more is =
     let its = label (slot ++ false ∷ []) in
     rw (several, ne_eqb (count_by (λ flag. flag) slot) 1 more, is)
     (append_assoc (text ++ codes " (") its (codes ")") ∙ append_assoc text (codes " (") (its ++ codes ")"))
+
+slots_regroup : (a b c d : List ℕ) → ((([] ++ a) ++ b) ++ c) ++ d ≡ a ++ (b ++ (c ++ (d ++ [])))
+slots_regroup a b c d = simp (append_assoc, append-nil)
+
+pub four_slots : (term : List (List Bool)) → length term ≡ 4 →
+    ((([] ++ slot_part (get_or term 0 [])) ++ slot_part (get_or term 1 [])) ++ slot_part (get_or term 2 [])) ++ slot_part (get_or term 3 [])
+    ≡ term_text term
+four_slots (a ∷ b ∷ c ∷ d ∷ []) four = slots_regroup (slot_part a) (slot_part b) (slot_part c) (slot_part d)
+four_slots term four = absurd (omega (arith, four))
 
 -- ---- rows
 

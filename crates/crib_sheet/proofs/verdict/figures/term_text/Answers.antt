@@ -1,0 +1,7 @@
+use Rattle.crib_sheet.proofs.LossLines.{four_slots}
+use Rattle.crib_sheet.proofs.verdict.figures.term_text.Goals as goal
+
+pub returns : goal.returns
+returns c =
+    rw (c.add_slot-4.ensures.items, c.add_slot-3.ensures.items, c.add_slot-2.ensures.items, c.add_slot.ensures.items, c.new-text.ensures)
+    (four_slots c.args.term.now c.told-term)

@@ -36,11 +36,13 @@ slot_several text written slot several more is =
 slots_regroup : (a b c d : List ℕ) → ((([] ++ a) ++ b) ++ c) ++ d ≡ a ++ (b ++ (c ++ (d ++ [])))
 slots_regroup a b c d = simp (append_assoc, append-nil)
 
-pub four_slots : (term : List (List Bool)) → length term ≡ 4 →
-    ((([] ++ slot_part (get_or term 0 [])) ++ slot_part (get_or term 1 [])) ++ slot_part (get_or term 2 [])) ++ slot_part (get_or term 3 [])
-    ≡ term_text term
-four_slots (a ∷ b ∷ c ∷ d ∷ []) four = slots_regroup (slot_part a) (slot_part b) (slot_part c) (slot_part d)
-four_slots term four = absurd (omega (arith, four))
+-- the text of a term, slot by slot
+pub four_slots : (term : List (List Bool)) (none one two three four : List ℕ) → length term ≡ 4 → none ≡ [] →
+    one ≡ none ++ slot_part (get_or term 0 []) → two ≡ one ++ slot_part (get_or term 1 []) → three ≡ two ++ slot_part (get_or term 2 []) →
+    four ≡ three ++ slot_part (get_or term 3 []) → four ≡ term_text term
+four_slots (a ∷ b ∷ c ∷ d ∷ []) none one two three four long empty first second third fourth =
+    rw (fourth, third, second, first, empty) (slots_regroup (slot_part a) (slot_part b) (slot_part c) (slot_part d))
+four_slots term none one two three four long empty first second third fourth = absurd (omega (arith, long))
 
 -- ---- rows
 
@@ -57,3 +59,6 @@ pub hands_listed : (losses : Losses) → losses.beaten ≤ losses.open_deals / 1
     ≡ codes " They then hold, at least:\n\n" ++ rows_lines losses.rows.rows.items ++ others_line losses.rows.others
     ++ codes "\nIn brackets: one card of these ranks. Hands of two rows are in the first.\n"
 hands_listed losses few = rw (le-ltb _ _ few) refl
+
+pub others_listed : (others : ℕ) → others ≢ 0 → others_line others ≡ loss_line (codes " and others") others []
+others_listed others some = rw (ne_eqb others 0 some) refl

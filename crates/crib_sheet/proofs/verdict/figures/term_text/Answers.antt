@@ -3,5 +3,5 @@ use Rattle.crib_sheet.proofs.verdict.figures.term_text.Goals as goal
 
 pub returns : goal.returns
 returns c =
-    rw (c.add_slot-4.ensures.items, c.add_slot-3.ensures.items, c.add_slot-2.ensures.items, c.add_slot.ensures.items, c.new-text.ensures)
-    (four_slots c.args.term.now c.told-term)
+    four_slots c.args.term.now _ _ _ _ _ c.told-term c.new-text.ensures c.add_slot.ensures.items c.add_slot-2.ensures.items
+    c.add_slot-3.ensures.items c.add_slot-4.ensures.items

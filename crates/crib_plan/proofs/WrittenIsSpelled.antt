@@ -122,6 +122,14 @@ few_nodes before [] = omega arith
 few_nodes before (End ∷ nexts) = omega (arith, few_nodes before nexts)
 few_nodes before (To node ∷ nexts) = grind (arith, few_nodes before nexts, few_nodes (node ∷ before) nexts)
 
+pub branch_len : (all : List Next) (node : ℕ) →
+    length (spaced_branch all node) ≡ length (letters_to node letter_bytes all) + length (decimal node) + 2
+branch_len all node = omega (arith, length-append (letters_to node letter_bytes all) (colon ∷ decimal node))
+
+pub branch_text : (all : List Next) (node : ℕ) (old : List ℕ) →
+    (((old ++ codes " ") ++ letters_to node letter_bytes all) ++ codes ":") ++ decimal node ≡ old ++ spaced_branch all node
+branch_text all node old = simp append_assoc
+
 -- each branch takes a space, its letters, a colon and a number
 words_len : (all : List Next) (nodes : List ℕ) → ((node : ℕ) → has nodes node ≡ true → node < 65536) →
     length (flat_map (spaced_branch all) nodes) ≤ total_letters nodes letter_bytes all + 7 * length nodes
@@ -130,8 +138,7 @@ words_len all [] small = omega arith
 words_len all (node ∷ nodes) small =
     let rest = words_len all nodes (λ other h. small other (has_there node other nodes h)) in
     let digits = five_digits node (small node (has_here node nodes)) in
-    let one : length (spaced_branch all node) ≡ length (letters_to node letter_bytes all) + length (decimal node) + 2 =
-    omega (arith, length-append (letters_to node letter_bytes all) (colon ∷ decimal node)) in
+    let one = branch_len all node in
     omega (arith, length-append (spaced_branch all node) (flat_map (spaced_branch all) nodes))
 
 pub branches_len : (place count : ℕ) (nexts : List Next) → AllByRecursion (IsLater place count) nexts → length nexts ≡ 14 → count ≤ 65535 →

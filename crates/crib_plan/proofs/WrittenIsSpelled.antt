@@ -2,7 +2,7 @@
 use Rattle.std.proofs.Common.{◌≡◌, ℕ, zero, suc, ◌+◌, ◌*◌, ◌<◌, ◌≤◌, Bool, true, false, cond, List, [], ◌∷◌, ◌++◌, length, map, get_or, take, drop}
 use Rattle.std.proofs.Common.{codes, decimal, refl, sym, ap, subst, ◌∙◌, append_assoc, arith}
 use Rattle.std.proofs.lemmas.Grind.{flat_map-append}
-use Rattle.std.specs.List.{flat_map, count_by, AllByRecursion}
+use Rattle.std.specs.List.{flat_map, count_by, sum_by, AllByRecursion}
 use Rattle.std.proofs.lemmas.Bool.Decides.{nat_tests}
 use Rattle.std.proofs.lemmas.List.{append-nil, length-append, take_more, drop_more}
 use Rattle.std.proofs.lemmas.List.Sums.{sum_by-cons, count_by-le-length}
@@ -16,8 +16,8 @@ use Rattle.crib_plan.specs.declared.plan.Node.{Node}
 use Rattle.crib_plan.specs.declared.plan.Node.TheVariants.{Play, See}
 use Rattle.crib_plan.specs.Nodes.{most_nodes, IsLater, IsNode, AreNodes, ArePlan}
 use Rattle.crib_plan.specs.Spelling.{letter_bytes, colon, leads_to, letters_to, branch_word, nodes_of, node_line}
-use Rattle.crib_plan.specs.Private.Spelling.{seen_after, spaced_branch, branches_text}
-use Rattle.crib_plan.specs.Spelling.{node_lines}
+use Rattle.crib_plan.specs.Private.Spelling.{seen_after, spaced_branch, branches_text, longest_line}
+use Rattle.crib_plan.specs.Spelling.{node_lines, plan_text}
 use Rattle.crib_plan.proofs.LeadsTo.{leads, leads_in, nodes_of-append, seen_after-append, has-seen_after, has-nodes_of, has_nodes}
 use Rattle.crib_plan.proofs.WordLemmas.{later_small}
 
@@ -160,7 +160,25 @@ see_text place nexts old =
     let words = spaced_words nexts (codes "see") (nodes_of [] nexts) in
     rw words (simp append_assoc)
 
--- the lines that are still to be written
-pub lines_next : (nodes : List Node) (i : ℕ) (d : Node) → i < length nodes → lines_text (node_lines i (drop i nodes)) ≡ line_text
+-- the lines that are still to be written, from a place on
+lines_next : (nodes : List Node) (i : ℕ) (d : Node) → i < length nodes → lines_text (node_lines i (drop i nodes)) ≡ line_text
     (node_line i (get_or nodes i d)) ++ lines_text (node_lines (i + 1) (drop (i + 1) nodes))
 lines_next nodes i d inside = ap (λ (ns : List Node). lines_text (node_lines i ns)) (drop_more nodes i d inside)
+
+-- one more line is written
+pub line_written : (plan nodes : List Node) (i : ℕ) (node : Node) (old new : List ℕ) → nodes ≡ plan → i < length nodes → node ≡ get_or nodes i node →
+    new ≡ old ++ line_text (node_line i node) → old ++ lines_text (node_lines i (drop i plan)) ≡ plan_text plan →
+    new ++ lines_text (node_lines (i + 1) (drop (i + 1) plan)) ≡ plan_text plan
+line_written plan nodes i node old new same inside is writes so_far =
+    let rest : List ℕ = lines_text (node_lines (i + 1) (drop (i + 1) plan)) in
+    let here : node ≡ get_or plan i node = is ∙ ap (λ (all : List Node). get_or all i node) same in
+    ap (λ (text : List ℕ). text ++ rest) writes ∙ append_assoc old (line_text (node_line i node)) rest
+    ∙ ap (λ (n : Node). old ++ (line_text (node_line i n) ++ rest)) here
+    ∙ ap (λ (lines : List ℕ). old ++ lines) (sym (lines_next plan i node (omega (arith, ap length same)))) ∙ so_far
+
+pub room_left : (plan nodes : List Node) (i : ℕ) (node : Node) → nodes ≡ plan → i < length nodes → node ≡ get_or nodes i node →
+    sum_by longest_line (drop i plan) ≡ longest_line node + sum_by longest_line (drop (i + 1) plan)
+room_left plan nodes i node same inside is =
+    let here : node ≡ get_or plan i node = is ∙ ap (λ (all : List Node). get_or all i node) same in
+    ap (sum_by longest_line) (drop_more plan i node (omega (arith, ap length same))) ∙ sum_by-cons longest_line (get_or plan i node) (drop (i + 1) plan)
+    ∙ ap (λ (n : Node). longest_line n + sum_by longest_line (drop (i + 1) plan)) (sym here)

@@ -1,4 +1,4 @@
-use Rattle.crib_game_sheet.proofs.Printing.{nothing}
+use Rattle.crib_run.proofs.Printing.{nothing}
 use Rattle.crib_sheet.proofs.LossLines.{others_listed}
 use Rattle.crib_sheet.proofs.verdict.figures.put_others.Goals as goal
 

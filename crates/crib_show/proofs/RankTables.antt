@@ -252,7 +252,8 @@ good_rising (v ∷ w ∷ x ∷ y ∷ z ∷ []) rises five =
     let all : List ℕ = v ∷ w ∷ x ∷ y ∷ z ∷ [] in
     let counts : List ℕ = rank_counts all in
     and_parts _ _ (
-    (λ i. agree_in (2 * pair_count-five v w x y z i) (pairs_in counts) ((runs_among-points all ∙ runs_rising-among 1 all all rises) i) (runs_by-after 0 1 counts i) (sum counts)
+    (λ i. agree_in (2 * pair_count-five v w x y z i) (pairs_in counts) ((runs_among-points all ∙ runs_rising-among 1 all all rises) i)
+    (runs_by-after 0 1 counts i) (sum counts)
     && allows (pairs_in counts) (has_jack all) (fifteens_among-points all i + pairs_in counts + runs_by-after 0 1 counts i))
     ∙ each_rising-at 4 v (λ more. is_good (v ∷ more)) (w ∷ x ∷ y ∷ z ∷ []) (from_each v (rises.0, rises.1)) rises.2 refl
     )

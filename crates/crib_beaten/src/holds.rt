@@ -60,7 +60,6 @@ pub(crate) fn are_in_order(ranks: &[Rank; 4]) -> bool
 }
 
 // How many throws of the cards that a hold leaves miss a demand on the crib alone.
-#[tactic(auto, using(crate::proofs::ThrowCounts::met_below, crate::proofs::ThrowCounts::met_or_missed))]
 fn count_beaten(cribs: &Cribs, hold: &[Card; 4], demand: Demand) -> u32
     requires counted { AreThrowsCounted cribs.now }
     requires held { IsHeld cribs.now.unseen hold.now }

@@ -40,3 +40,6 @@ returns-clause-exact g c = λ problem plan is.
       passing = λ hold same. c.passes.ensures.test _ _ is.plays hold (ap rank_counts same ∙ sym c.count_ranks.ensures.value) ∙ c.if-not-passes.false;
     }) in
     counted_by is.cards.setup (rw (at.2, at.3) (is.decided at.0 at.1 order)) exact.0 exact.1
+
+pub returns-clause-few : goal.returns-clause-few
+returns-clause-few g c = rw (sym c.are_in_order.ensures ∙ c.if-not-are_in_order.false) c.count_by_ranks.ensures.few

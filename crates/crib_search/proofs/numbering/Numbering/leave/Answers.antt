@@ -21,3 +21,11 @@ invariant_of-self-2 g c =
           (omega (arith, within, c.self.invariant.3)) (count ∙ sym (length-reverse order)) after,
       length-set c.self.inside.marks.items c.args.place (Some c.len-before.result) ∙ c.self.invariant.3,
     )
+
+pub invariant_of-self : goal.invariant_of-self
+invariant_of-self g c = rw c.in_err-push.ensures.items c.self.invariant
+
+pub returns-clause-left : goal.returns-clause-left
+returns-clause-left g c =
+    let left : reverse c.self.inside.order.items ≡ c.args.self.now.left = ap (λ (walked : Walked). walked.left) c.self.view_is in
+    ap reverse c.in_ok-push.ensures.items ∙ reverse-append c.self.inside.order.items (c.args.place ∷ []) ∙ ap (λ places. c.args.place ∷ places) left

@@ -1,5 +1,6 @@
-use Rattle.std.proofs.Common.{◌≡◌, length, ap, sym, arith}
-use Rattle.crib_search.specs.Private.Numbers.{Walked}
+use Rattle.std.proofs.Common.{◌≡◌, length, ap, sym, ◌∙◌, arith}
+use Rattle.std.proofs.lemmas.List.{take_all}
+use Rattle.crib_search.specs.Private.Numbers.{Walked, nodes_of_places}
 use Rattle.crib_search.proofs.NodeWalks.{below_more}
 use Rattle.crib_search.proofs.NumberedNodes.{nodes_step}
 use Rattle.crib_search.proofs.numbering.Numbering.plan_nodes.Goals as goal
@@ -16,3 +17,14 @@ loop-number-preserved g c =
     rw (c.in_ok-push.ensures.items, c.numbered.ensures, c.loop-number.invariant)
     (sym (nodes_step c.args.self.now.draft_nodes c.args.self.now.left c.loop-number.number c.place_numbered-place.result c.draft_node.result
     c.place_numbered-place.ensures.place (rw (← nodes) c.draft_node.ensures.node)))
+
+pub place_numbered-place-requires : goal.place_numbered-place-requires
+place_numbered-place-requires g c = rw c.len-number-end.ensures at c.loop-number-test.true
+
+pub loop-number-init : goal.loop-number-init
+loop-number-init g c = c.in_ok-plan.ensures.items
+
+pub returns : goal.returns
+returns g c =
+    c.loop-number.invariant ∙ ap (nodes_of_places c.args.self.now.draft_nodes c.args.self.now.left)
+    (take_all c.loop-number.number c.args.self.now.left (rw c.len-number-end.ensures at c.loop-number-test.false))

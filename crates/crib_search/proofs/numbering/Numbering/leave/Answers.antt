@@ -1,4 +1,4 @@
-use Rattle.std.proofs.Common.{rules, ◌≡◌, ◌<◌, [], ◌∷◌, List, ℕ, length, reverse, Some, ap, sym, subst, ◌∙◌, arith}
+use Rattle.std.proofs.Common.{◌≡◌, ◌<◌, [], ◌∷◌, ◌++◌, List, ℕ, length, reverse, Some, ap, sym, subst, ◌∙◌, arith}
 use Rattle.std.specs.List.{AllByRecursion}
 use Rattle.std.proofs.Math.ListN.{length-set}
 use Rattle.std.proofs.lemmas.List.{length-reverse, reverse-append}
@@ -6,12 +6,14 @@ use Rattle.crib_search.proofs.NodeWalks.{marks_left}
 use Rattle.crib_search.specs.Private.Numbers.{Walked}
 use Rattle.crib_search.proofs.numbering.Numbering.leave.Goals as goal
 
+pushed : (order after : List ℕ) (place : ℕ) → after ≡ order ++ place ∷ [] → reverse after ≡ place ∷ reverse order
+pushed order after place is = ap reverse is ∙ reverse-append order (place ∷ [])
+
 pub invariant_of-self-2 : goal.invariant_of-self-2
 invariant_of-self-2 g c =
     let order : List ℕ = c.self.inside.order.items in
-    let count : c.len-before.result ≡ length order = search rules in
-    let after : reverse c.push.new.self.items ≡ c.args.place ∷ reverse order =
-    ap reverse c.in_ok-push.ensures.items ∙ reverse-append order (c.args.place ∷ []) in
+    let count : c.len-before.result ≡ length order = c.len-before.ensures ∙ c.self.inside.order.ok.0 in
+    let after : reverse c.push.new.self.items ≡ c.args.place ∷ reverse order = pushed order _ _ c.in_ok-push.ensures.items in
     let nodes : c.self.inside.nodes.now ≡ c.args.self.now.draft_nodes = ap (λ (walked : Walked). walked.draft_nodes) c.self.view_is in
     let within : c.args.place < length c.self.inside.nodes.now = subst (λ nodes. c.args.place < length nodes) (sym nodes) c.requires in
     let kept : AllByRecursion (λ place. place < length c.self.inside.nodes.now) (c.args.place ∷ reverse order) = (within, c.self.invariant.1) in (
@@ -28,4 +30,4 @@ invariant_of-self g c = rw c.in_err-push.ensures.items c.self.invariant
 pub returns-clause-left : goal.returns-clause-left
 returns-clause-left g c =
     let left : reverse c.self.inside.order.items ≡ c.args.self.now.left = ap (λ (walked : Walked). walked.left) c.self.view_is in
-    ap reverse c.in_ok-push.ensures.items ∙ reverse-append c.self.inside.order.items (c.args.place ∷ []) ∙ ap (λ places. c.args.place ∷ places) left
+    pushed c.self.inside.order.items _ _ c.in_ok-push.ensures.items ∙ ap (λ places. c.args.place ∷ places) left

@@ -47,7 +47,6 @@ pub fn reason_answer<A: Allocator>(reason: Reason) -> Answer<A>
     }
 }
 
-#[tactic(auto, using(crib_text::proofs::RoomLemmas::short, crate::proofs::Lines::refusals), unfolding(crate::specs::Reply::reply_of, crate::specs::Text::text_bytes))]
 fn refusal_answer<A: Allocator>(refusal: Refusal) -> Answer<A>
     ensures { reply_of result ≡ refusal_reply (refusal_of refusal) }
 {
@@ -63,7 +62,6 @@ fn refusal_answer<A: Allocator>(refusal: Refusal) -> Answer<A>
     }
 }
 
-#[tactic(auto, using(crib_text::proofs::RoomLemmas::short, crate::proofs::Lines::faults), unfolding(crate::specs::Reply::reply_of, crate::specs::Text::text_bytes))]
 fn fault_answer<A: Allocator>(cause: FaultCause) -> Answer<A>
     ensures { reply_of result ≡ fault_reply (fault_number cause) }
 {

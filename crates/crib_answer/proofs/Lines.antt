@@ -64,9 +64,3 @@ pub fails_written : (result : Ending) (game : List ℕ)
 fails_written result game = refl
 
 pub ruleset verdicts = (holds_written, fails_written)
-
--- ---- what is found
-pub none_written : line_text (codes "none" ∷ []) ≡ codes "none\n"
-none_written = refl
-
-pub ruleset solved = (none_written)

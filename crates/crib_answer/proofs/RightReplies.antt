@@ -1,5 +1,5 @@
 -- The right replies to an input that is too long, to a verdict, and to what the finder finds.
-use Rattle.std.proofs.Common.{◌≡◌, ◌≢◌, ◌⊎◌, ℕ, ◌<◌, List, Option, Some, inl, inr, length, Ok, refl, ap, ◌∙◌}
+use Rattle.std.proofs.Common.{◌≡◌, ◌≢◌, ◌⊎◌, ℕ, ◌<◌, List, Option, None, Some, inl, inr, codes, length, Ok, refl, ap, ◌∙◌}
 use Rattle.crib_text.specs.Refusals.{no_memory, too_long}
 use Rattle.crib_answer.specs.declared.job.Job.{Job}
 use Rattle.crib_answer.specs.declared.job.Job.TheVariants.{Replay, Follow, Check, Solve, Board}
@@ -9,7 +9,8 @@ use Rattle.crib_plan.specs.Nodes.{most_nodes}
 use Rattle.crib_check.specs.Verdicts.{IsRight}
 use Rattle.crib_check.specs.declared.verdict.Verdict.{Verdict}
 use Rattle.crib_check.specs.declared.verdict.Verdict.TheVariants.{Holds}
-use Rattle.crib_run.specs.Reply.{Reply, fault_reply, refusal_reply}
+use Rattle.crib_run.specs.Reply.{IsAnswer, Reply, fault_reply, refusal_reply}
+use Rattle.crib_run.specs.declared.status.Status.TheVariants.{No}
 use Rattle.crib_answer.specs.Answer.{Answers, AnswersProblem, Makes, found_reply, verdict_reply}
 use Rattle.crib_search.specs.Finder.{IsFound, ExceedsLimit}
 use Rattle.crib_input.specs.Input.{most_bytes, problem_alone_at, problem_of_input, question_at, question_of_input}
@@ -49,3 +50,8 @@ pub plan_made : (problem : Setup) (plan passed : List Node) (reply : Reply) → 
 plan_made problem plan passed reply found small same (inl is) =
     inl (found_owed problem (Some plan) reply found small (is ∙ ap (λ (p : List Node). found_reply (Some p)) same))
 plan_made problem plan passed reply found small same (inr want) = inr want
+
+-- the reply `none` is an answer, and a right one if the finder finds no plan
+pub none_made : (problem : Setup) (reply : Reply) → IsFound problem None → ¬ ExceedsLimit problem most_nodes
+    → reply ≡ record { output = codes "none\n"; status = No } → IsAnswer reply.status × (AnswersProblem problem reply ⊎ (reply ≡ fault_reply no_memory))
+none_made problem reply found small is = (inr (ap (λ (r : Reply). r.status) is), inl (found_owed problem None reply found small is))

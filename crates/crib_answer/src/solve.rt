@@ -15,7 +15,6 @@ use std::alloc::Allocator;
 /// Returns the answer to a problem (docs/FORMATS.md, "solve"): the plan that was found, with the status `Yes`, after
 /// the checker has found it to be sure, or `none` with the status `No`, if no plan is sure. It fails with the fault 50
 /// if the plan that was found has more than 65,535 nodes, and with the fault 11 if an allocation fails.
-#[tactic(auto, using(crate::proofs::Lines::solved))]
 pub(crate) fn solve_answer<A: Allocator + Copy>(
     alloc: A,
     problem: &Problem,

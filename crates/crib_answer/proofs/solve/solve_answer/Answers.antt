@@ -1,8 +1,8 @@
-use Rattle.std.proofs.Common.{Some}
+use Rattle.std.proofs.Common.{Err, None, Some, ap, inl, inr, refl}
 use Rattle.crib_search.specs.Finder.{IsFound}
 use Rattle.crib_run.specs.Reply.{reply_of}
 use Rattle.crib_run.proofs.Delivery.{outcome_map}
-use Rattle.crib_answer.proofs.RightReplies.{plan_made}
+use Rattle.crib_answer.proofs.RightReplies.{none_made, plan_made}
 use Rattle.crib_answer.proofs.solve.solve_answer.Goals as goal
 
 pub returns-in-Some : goal.returns-in-Some
@@ -12,3 +12,15 @@ returns-in-Some g c =
     outcome_map reply_of _ _
     (λ reply. plan_made c.args.problem.now c.in-Ok-Plan.plan _ reply found (λ exceeds. let h = large exceeds in cc) c.in-Some.ensures.plan)
     c.plan_answer.result c.plan_answer.ensures
+
+pub returns-in-Ok-None : goal.returns-in-Ok-None
+returns-in-Ok-None g c =
+    let found : IsFound c.args.problem.now None = rw c.in-Ok-None.field-0-is at c.in-Ok-None.ensures.exact in
+    let large = c.in-Ok-None.ensures.large in
+    none_made _ _ found (λ exceeds. let h = large exceeds in cc) c.line_answer.ensures
+
+pub returns-in-Err-TooLarge : goal.returns-in-Err-TooLarge
+returns-in-Err-TooLarge g c = inl (inr (c.in-Err-TooLarge.ensures.too_large (ap Err c.in-Err-TooLarge.field-0-is), refl))
+
+pub returns-in-Err-NoMemory : goal.returns-in-Err-NoMemory
+returns-in-Err-NoMemory g c = inr refl

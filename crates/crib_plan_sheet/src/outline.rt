@@ -37,7 +37,6 @@ impl<A: Allocator + Copy> Outline<A> {
     /// - `narrow`: no line of the sheet has more than 78 columns.
     /// - `lines`: no line below a look is printed twice, so that there are at most as many as the plan has branches.
     /// - `size`: the text of the sheet has at most 76 bytes for each branch and for each node, and 76 more.
-    #[tactic(auto, using(crate::proofs::PlanOutlines::outline_lines))]
     pub fn of<B: Allocator>(alloc: A, plan: &Plan<B>) -> Result<Outline<A>, AllocError>
         ensures length { IfOk result (λ outline. length outline ≡ length plan.now) }
         ensures apart { IfOk result (λ outline. OnlyLargeAreApart (apart_in outline) plan.now) }

@@ -32,7 +32,6 @@ const UNKNOWN: Spot = Spot {
 };
 
 /// Returns what is known of each node of a plan. Fails if an allocation fails.
-#[tactic(auto, using(crate::proofs::PlanSpots::low_unknown, crate::proofs::PlanSpots::first_unknown, crate::proofs::PlanSpots::none_sized))]
 pub(crate) fn spots_of<A: Allocator + Copy>(
     alloc: A,
     nodes: &[Node],

@@ -1,9 +1,10 @@
-use Rattle.std.proofs.Common.{◌≡◌, ℕ, ◌+◌, ◌-◌, ◌<◌, length, refl, sym, subst, arith, ◌∙◌}
-use Rattle.std.proofs.lemmas.List.{length-set}
+use Rattle.std.proofs.Common.{◌≡◌, ℕ, ◌+◌, ◌-◌, ◌<◌, false, length, replicate, refl, sym, subst, arith, rules, ◌∙◌}
+use Rattle.std.proofs.lemmas.List.{length-replicate, length-set}
 use Rattle.std.proofs.lemmas.Option.{slice_get_read}
+use Rattle.crib_plan_sheet.specs.declared.spots.Spot.{Spot}
 use Rattle.crib_plan_sheet.specs.Private.Spots.{AreSized}
 use Rattle.crib_plan_sheet.specs.Private.Ways.{ways_to}
-use Rattle.crib_plan_sheet.proofs.PlanSpots.{low_set, sized_set, sized_later, first_set}
+use Rattle.crib_plan_sheet.proofs.PlanSpots.{first_set, first_unknown, low_set, low_unknown, none_sized, sized_later, sized_set}
 use Rattle.crib_plan_sheet.proofs.PlanWays.{at_entry}
 use Rattle.crib_plan_sheet.proofs.spots.spots_of.Goals as goal
 
@@ -37,3 +38,16 @@ loop-place-preserved g c =
 pub returns-clause-sized : goal.returns-clause-sized
 returns-clause-sized g c =
     sized_later c.loop-place.place 1 c.args.nodes.now c.loop-place.spots.items (omega arith) c.loop-place.invariant.3
+
+pub loop-place-init : goal.loop-place-init
+loop-place-init g c =
+    let count : ℕ = length c.args.nodes.now in
+    let unknown : Spot = record { is_apart = false; levels = 0; cards = 0 } in
+    let same : c.in_ok-spots.spots.items ≡ replicate count unknown = search rules in
+    (
+      omega arith,
+      rw same (length-replicate count unknown),
+      rw same (low_unknown count unknown (omega arith) (omega arith)),
+      none_sized count c.args.nodes.now c.in_ok-spots.spots.items (omega arith),
+      rw same (first_unknown count unknown refl),
+    )

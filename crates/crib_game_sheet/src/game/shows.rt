@@ -65,7 +65,6 @@ fn with_starter(cards: &[Card; 4], starter: Card) -> [Card; 5]
 }
 
 // Appends the combinations of a kind that have the cards in `taken`, and some of those in `left`.
-#[tactic(auto, unfolding(crate::specs::Private::Chosen::combinations_from))]
 fn put_choices(kind: Kind, all: &[Rank], taken: &[Card], left: &[Card], found: &mut Combinations)
     requires five { length taken.now + length left.now ≤ 5 }
     requires room { length found.old.items + 2 ^ length left.now ≤ 98 }

@@ -14,7 +14,6 @@ const LONGEST: usize = 268;
 /// Returns the text of a game section (docs/FORMATS.md, "A game"), at most 268 bytes. The cards keep the order of
 /// `game`. It fails only if its allocation fails (number 11, line 0). It allocates once, before it writes the first
 /// byte.
-#[tactic(auto, unfolding(crate::specs::Spelling::game_text, crate::specs::Spelling::game_lines))]
 pub fn write_game<A: Allocator + Copy>(alloc: A, game: &Game) -> Result<Vec<u8, A>, TextFault>
     ensures text { IfOk result (λ text. text.items ≡ game_text game.now) }
     ensures short { IfOk result (λ text. length text.items ≤ 268) }

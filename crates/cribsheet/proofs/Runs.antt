@@ -13,7 +13,7 @@ use Rattle.cribsheet.specs.Beside.{IsSaid}
 pub said : {W : Type 0} (contents : W → Option (List ℕ)) (faults : W → ℕ) (left : W) {now : W} (input : List ℕ) (reason : Reason) (message : List ℕ)
     {s t : Stand} {name : ℕ} {is_cut : Bool} → IsMessage (codes "cribsheet") input reason message → Prints message s t
     → (acts : List ℕ) × AreShown input reason acts
-        × Prints acts t (record { name = name; contents = contents left; faults = faults left; is_cut = is_cut })
+    × Prints acts t (record { name = name; contents = contents left; faults = faults left; is_cut = is_cut })
     → s.is_cut ≡ false → (name ≡ s.name → now ≡ left) → Writes (IsSaid input reason) s.contents (contents now) (HasFailed s.faults (faults now))
 said {W} contents faults left input reason message {s} is puts (acts, shown, prints) whole behind =
     subst (λ (w : W). Writes (IsSaid input reason) s.contents (contents w) (HasFailed s.faults (faults w))) (sym (behind (prints.same ∙ puts.same)))

@@ -43,8 +43,7 @@ pub loop-place-init : goal.loop-place-init
 loop-place-init g c =
     let count : ℕ = length c.args.nodes.now in
     let unknown : Spot = record { is_apart = false; levels = 0; cards = 0 } in
-    let same : c.in_ok-spots.spots.items ≡ replicate count unknown = search rules in
-    (
+    let same : c.in_ok-spots.spots.items ≡ replicate count unknown = search rules in (
       omega arith,
       rw same (length-replicate count unknown),
       rw same (low_unknown count unknown (omega arith) (omega arith)),

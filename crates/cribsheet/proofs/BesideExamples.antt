@@ -1,5 +1,5 @@
 -- Worked examples of what is written beside a sheet: the message, and then the acts.
-use Rattle.std.proofs.Common.{◌≡◌, ◌∙◌, refl, ap, inl, ℕ, List, [], ◌++◌, codes}
+use Rattle.std.proofs.Common.{◌∙◌, refl, ap, inl, ℕ, List, [], ◌++◌, codes}
 use Rattle.std.specs.Fmt.{digits}
 use Rattle.crib_text.specs.Words.{lines_of}
 use Rattle.crib_input.specs.declared.reason.FaultCause.TheVariants.{NoMemory}

@@ -1,5 +1,6 @@
 -- How many throws of the cards that a hold leaves make a crib below a limit, counted by inclusion and exclusion.
-use Rattle.std.proofs.Common.{◌≡◌, ℕ, ◌+◌, ◌*◌, ◌<◌, ◌≤◌, min, max, Bool, false, not, ◌&&◌, eqb, ltb, sum_by, List, [], ◌∷◌, ◌++◌, length, slice_index, get_or, take}
+use Rattle.std.proofs.Common.{◌≡◌, ℕ, ◌+◌, ◌*◌, ◌<◌, ◌≤◌, min, max, Bool, false, not, ◌&&◌, eqb}
+use Rattle.std.proofs.Common.{ltb, sum_by, List, [], ◌∷◌, ◌++◌, length, slice_index, get_or, take}
 use Rattle.std.proofs.Common.{refl, sym, ap, ◌∙◌, arith}
 use Rattle.std.proofs.Math.Nat.{min_comm, max_comm}
 use Rattle.std.proofs.lemmas.Bool.Decides.{nat_tests}

@@ -36,10 +36,6 @@ use Rattle.crib_sheet.specs.Sheet.{IsToTry, SheetMakes, game_reply, game_sheet_o
 
 -- ---- a plan
 
-pub plan_refused : (input : List ℕ) (refusal : Refused) → question_of_input input ≡ Err (refusal_of refusal)
-    → SheetMakes Plan input (reason_reply (reasons.Refused refusal))
-plan_refused input refusal asked = inl (rw asked refl)
-
 pub plan_without_memory : (input : List ℕ) (question : Setup × List Node) → question_of_input input ≡ Ok question
     → SheetMakes Plan input (reason_reply (reasons.Fault NoMemory))
 plan_without_memory input question asked = inr (counted input question asked, refl)
@@ -75,10 +71,6 @@ unfolding game_sheet_of_input
 game_made input problem game first report asked replayed = inl (rw (asked, replayed) refl)
 
 -- ---- which deals beat a plan
-
-pub beaten_refused : (input : List ℕ) (refusal : Refused) → question_of_input input ≡ Err (refusal_of refusal)
-    → SheetMakes Beaten input (reason_reply (reasons.Refused refusal))
-beaten_refused input refusal asked = inl (rw asked refl)
 
 pub beaten_without_memory : (input : List ℕ) (question : Setup × List Node) → question_of_input input ≡ Ok question
     → SheetMakes Beaten input (reason_reply (reasons.Fault NoMemory))

@@ -56,7 +56,11 @@ count_before-loop-suit-preserved t c = record {
 
 pub count_before-loop-suit-init : goal.count_before-loop-suit-init
 count_before-loop-suit-init t c = record {
-  exact = λ problem ranks of same. (exactly_none (λ dealt order has. absurd (omega (arith, has.1))), exactly_none (λ dealt order has. absurd (omega (arith, has.1))));
+  exact =
+      λ problem ranks of same. (
+        exactly_none (λ dealt order has. absurd (omega (arith, has.1))),
+        exactly_none (λ dealt order has. absurd (omega (arith, has.1))),
+      );
   few = (omega arith, omega arith);
 }
 

@@ -9,14 +9,14 @@ use crib_text::TextCause;
 pub(crate) fn bad_byte(scene: &Scene<'_>) -> Option<Explained> {
     let line = scene.text();
     let from = line.iter().position(is_strange)?;
-    let rest = line.get(from..)?;
-    let bytes = rest.get(..character_len(rest)).or(rest.get(..1))?;
+    let rest = line.get(from..).unwrap_or(b"");
+    let len = character_len(rest);
+    let bytes = rest.get(..len).or(rest.get(..1)).unwrap_or(rest);
     let file = file_hint(scene);
-    let found = match rest {
-        _ if file.is_some() => typed(bytes),
-        [b'\r'] => Sentence::of("a Windows line end (CR)"),
-        [b'\r', ..] => Sentence::of("a carriage return (CR)"),
-        [b'\t', ..] => Sentence::of("a tab"),
+    let found = match (file, rest) {
+        (None, [b'\r']) => Sentence::of("a Windows line end (CR)"),
+        (None, [b'\r', ..]) => Sentence::of("a carriage return (CR)"),
+        (None, [b'\t', ..]) => Sentence::of("a tab"),
         _ => typed(bytes),
     };
     let mark = Some(Mark::of(from, bytes.len()));

@@ -1,6 +1,6 @@
 //! Words that should be cards.
 use crate::sentence::{Hint, named, tell};
-use crate::spelling::bare;
+use crate::spelling::{are_digits, bare};
 use crib_cards::{Card, read_card};
 use crib_text::read_number;
 
@@ -47,17 +47,21 @@ fn meant(text: &str, rank: u8, suit: u8) -> Hint {
 
 // The ranks that people write as numbers: 0, 1 and 10 to 14. A letter O or l may represent a digit.
 fn ranked(word: &[u8]) -> Hint {
-    match word {
-        [b'1' | b'I' | b'l', b'0' | b'O' | b'o', suit]
-        | [suit, b'1', b'0']
-        | [b'0' | b'O' | b'o' | b'X' | b'x', suit]
-        | [suit, b'0'] => meant(TEN, b'T', *suit),
-        [b'1' | b'I' | b'l', suit] | [suit, b'1'] | [b'1', b'4', suit] => meant(ACE, b'A', *suit),
-        [b'1', b'1', suit] | [suit, b'1', b'1'] => meant(COURT, b'J', *suit),
-        [b'1', b'2', suit] | [suit, b'1', b'2'] => meant(COURT, b'Q', *suit),
-        [b'1', b'3', suit] | [suit, b'1', b'3'] => meant(COURT, b'K', *suit),
-        _ => None,
-    }
+    let (number, suit) = match word {
+        [] | [_, b'1', b'4'] => return None,
+        [suit, number @ ..] if are_digits(number) => (number, suit),
+        [number @ .., suit] => (number, suit),
+    };
+    let (text, rank) = match number {
+        [b'1' | b'I' | b'l', b'0' | b'O' | b'o'] => (TEN, b'T'),
+        [b'0' | b'O' | b'o' | b'X' | b'x'] => (TEN, b'T'),
+        [b'1' | b'I' | b'l'] | [b'1', b'4'] => (ACE, b'A'),
+        [b'1', b'1'] => (COURT, b'J'),
+        [b'1', b'2'] => (COURT, b'Q'),
+        [b'1', b'3'] => (COURT, b'K'),
+        _ => return None,
+    };
+    meant(text, rank, *suit)
 }
 
 /// Whether a word has a rank and a suit, spelled so or as people do.
@@ -83,12 +87,12 @@ pub(crate) fn suitless(word: &[u8]) -> Hint {
 
 // Two cards or more, with no blank or one other sign between two.
 fn apart(word: &[u8]) -> Hint {
-    let (first, second) = match word {
-        [a, b, sign, c, d, ..] if !sign.is_ascii_alphanumeric() => ((*a, *b), (*c, *d)),
-        [a, b, c, d, ..] => ((*a, *b), (*c, *d)),
+    let (a, b, c, d) = match word {
+        [a, b, sign, c, d, ..] if !sign.is_ascii_alphanumeric() => (a, b, c, d),
+        [a, b, c, d, ..] => (a, b, c, d),
         _ => return None,
     };
-    let first = named(card_meant(first.0, first.1)?);
-    let second = named(card_meant(second.0, second.1)?);
+    let first = named(card_meant(*a, *b)?);
+    let second = named(card_meant(*c, *d)?);
     tell(format_args!("Write a blank between two cards: {first} {second}."))
 }

@@ -13,6 +13,7 @@ pub(crate) fn word_hint(word: &[u8], choices: &[&'static str]) -> Hint {
 
 fn choice_hint(word: &[u8], choice: &str) -> Hint {
     let wanted = choice.as_bytes();
+    let mut end = ".";
     let hint = match word {
         _ if word == wanted => return None,
         _ if is_word(word, wanted) => "Write small letters: ",
@@ -21,11 +22,12 @@ fn choice_hint(word: &[u8], choice: &str) -> Hint {
         _ if matches!(word.strip_prefix(wanted), Some([next, ..]) if !next.is_ascii_lowercase()) =>
             "Write a blank behind the word ",
         _ if is_near(word, wanted) => {
-            return tell(format_args!("Did you mean {choice}?"));
+            end = "?";
+            "Did you mean "
         }
         _ => return None,
     };
-    tell(format_args!("{hint}{choice}."))
+    tell(format_args!("{hint}{choice}{end}"))
 }
 
 /// Whether a word is this one, in small or capital letters.
@@ -109,7 +111,8 @@ pub(crate) fn number_hint(word: &[u8]) -> Hint {
     })
 }
 
-fn are_digits(word: &[u8]) -> bool {
+/// Whether a word is some digits.
+pub(crate) fn are_digits(word: &[u8]) -> bool {
     for byte in word {
         if !byte.is_ascii_digit() {
             return false;

@@ -1,10 +1,9 @@
 //! The order of lines and sections, and how many lines are announced.
 use crate::grammar::Row;
-use crate::scene::{Scene, Section, is_line_feed, word_in};
+use crate::scene::{Scene, Section, count_at, is_line_feed, word_in};
 use crate::sentence::{Hint, Sentence, tell};
 use crate::spelling::{is_either, is_word};
 use crib_input::Sections;
-use crib_text::read_number;
 
 pub(crate) const COMMENT: &str = "Comments are not allowed.";
 
@@ -32,7 +31,8 @@ pub(crate) fn is_comment(word: &[u8]) -> bool {
 /// Returns the hint of a wrong count above the refused line: the lines that are announced there are more or fewer than
 /// there are.
 pub(crate) fn count_hint(scene: &Scene<'_>) -> Hint {
-    let (row, line, count) = announced(scene)?;
+    let (row, line) = announced(scene)?;
+    let count = count_at(scene.input, line);
     let above = scene.number.saturating_sub(1).saturating_sub(line);
     let found = above.saturating_add(items_from(scene, row));
     if count == found {
@@ -44,14 +44,14 @@ pub(crate) fn count_hint(scene: &Scene<'_>) -> Hint {
     ))
 }
 
-// Returns the last row above the refused line that announces lines, the number of its line, and how many it announces.
-fn announced(scene: &Scene<'_>) -> Option<(Row, u32, u32)> {
+// Returns the last row above the refused line that announces lines, and the number of its line.
+fn announced(scene: &Scene<'_>) -> Option<(Row, u32)> {
     let lines = scene.input.split(is_line_feed);
     let mut announced = None;
     for (line, number) in lines.zip(1..scene.number) {
         let row = Row::of_keyword(word_in(line, 0));
         if let Some(row @ (Row::Played | Row::Nodes | Row::Acts)) = row {
-            announced = Some((row, number, read_number(word_in(line, 1))?));
+            announced = Some((row, number));
         }
     }
     announced
@@ -62,10 +62,9 @@ fn items_from(scene: &Scene<'_>, row: Row) -> u32 {
     let above = scene.number.saturating_sub(1) as usize;
     let mut items = 0u32;
     for line in scene.input.split(is_line_feed).skip(above) {
-        let is_item = if row == Row::Nodes {
-            is_node(line)
-        } else {
-            is_act(line)
+        let is_item = match row {
+            Row::Nodes => is_node(line),
+            _ => is_act(line),
         };
         if !is_item {
             break;

@@ -48,24 +48,17 @@ impl State {
     fn read(scene: &Scene<'_>) -> Option<(State, Acts)> {
         let is_game = matches!(scene.place.section, Section::Game);
         let head = if is_game { scene.before() } else { 8 };
+        let opening = scene.number.saturating_sub(head);
         let text = text_of(scene, head as usize);
         let mut lines = Lines::new(text.as_slice()).ok()?;
         let problem = read_problem(&mut lines).ok()?;
-        let (dealt, acts) = match is_game {
-            true => game_acts(&mut lines)?,
-            false => opening_acts(&mut lines, scene.number.saturating_sub(head))?,
-        };
-        Some((State::at_lead(problem, dealt, head), acts))
-    }
-
-    // Returns the state at the first lead. A game has four lines before it, behind the line `head`.
-    fn at_lead(problem: Problem, dealt: Option<Dealt>, head: u32) -> State {
-        let line = if dealt.is_some() {
-            head.saturating_add(4)
+        let (dealt, acts, line) = if is_game {
+            let Game { opp, acts } = read_game(&mut lines).ok()?;
+            (Some(opp), acts, head.saturating_add(4))
         } else {
-            head
+            (None, opening_acts(&mut lines, opening)?, head)
         };
-        State {
+        let state = State {
             round: Round::new(problem.dealer(), problem.scores(), problem.target()),
             problem,
             dealt,
@@ -75,7 +68,8 @@ impl State {
             closed: 0,
             reached: 0,
             told: (32, 0),
-        }
+        };
+        Some((state, acts))
     }
 
     /// Returns the cards that a side holds, if they are known.
@@ -130,19 +124,13 @@ impl State {
     }
 }
 
-// Reads a game.
-fn game_acts(lines: &mut Lines<'_>) -> Option<(Option<Dealt>, Acts)> {
-    let Game { opp, acts } = read_game(lines).ok()?;
-    Some((Some(opp), acts))
-}
-
 // Reads so many turns of an opening.
-fn opening_acts(lines: &mut Lines<'_>, count: u32) -> Option<(Option<Dealt>, Acts)> {
+fn opening_acts(lines: &mut Lines<'_>, count: u32) -> Option<Acts> {
     let mut acts = ArrayVec::new();
     for _ in 0..count {
         let _full = acts.try_push(act_of(&lines.next_line().ok()?).ok()?);
     }
-    Some((None, acts))
+    Some(acts)
 }
 
 // Returns the first seven lines with an empty opening, and the lines after `head`, as far as there is room.

@@ -18,7 +18,7 @@ pub(crate) fn branch_cause(scene: &Scene<'_>, branch: &Word<'_>) -> Option<Cause
     if branch_fault(scene, branch).is_some() {
         return Some(BAD_SET);
     }
-    match target_of(branch) {
+    match branch.target().bytes {
         target if target == b"end".as_slice() => Some(BAD_NEXT),
         target => number_cause(scene, Slot::Target, read_number(target)),
     }
@@ -26,12 +26,12 @@ pub(crate) fn branch_cause(scene: &Scene<'_>, branch: &Word<'_>) -> Option<Cause
 
 /// Returns what is wrong with the letters of a branch with one colon, or that an earlier branch has its node.
 pub(crate) fn branch_fault(scene: &Scene<'_>, branch: &Word<'_>) -> Hint {
-    let mut last = (' ', None);
+    let mut last = (' ', 0);
     for byte in branch.letters() {
-        let (letter, place) = (char::from(*byte), place_of(Some(byte)));
+        let (letter, place) = (char::from(*byte), place_of(&[*byte]));
         let (before, least) = last;
         match place {
-            None => {
+            0 => {
                 let (typed, hint) = (typed(&[*byte]), letter_hint(branch, *byte));
                 return tell(format_args!("{typed} is none of the letters A23456789TJQKg; {hint}"));
             }
@@ -75,7 +75,7 @@ fn fault_beside(scene: &Scene<'_>, branch: &Word<'_>) -> Hint {
     let mut same = None;
     for word in scene.text().split(is_blank).take(branch.index).skip(2) {
         let old = Word::of(word);
-        if place_of(old.letters().first()) > place_of(branch.letters().first()) {
+        if place_of(old.letters()) > place_of(branch.letters()) {
             let old = typed(word);
             return tell(format_args!(
                 "it belongs before {old}: branches are sorted by their first letters"
@@ -87,8 +87,9 @@ fn fault_beside(scene: &Scene<'_>, branch: &Word<'_>) -> Hint {
 }
 
 fn same_node(old: &Word<'_>, branch: &Word<'_>) -> Hint {
-    let node = read_number(target_of(branch))?;
-    if target_of(old) != target_of(branch) {
+    let target = branch.target().bytes;
+    let node = read_number(target)?;
+    if old.target().bytes != target {
         return None;
     }
     let mut both = Sentence::of("");
@@ -103,25 +104,20 @@ fn same_node(old: &Word<'_>, branch: &Word<'_>) -> Hint {
     ))
 }
 
-fn place_of(letter: Option<&u8>) -> Option<usize> {
-    for (place, byte) in LETTERS.iter().enumerate() {
-        if letter == Some(byte) {
-            return Some(place);
+// Returns the place of the first of these bytes among the letters, from 1, or 0 if it is none of them.
+fn place_of(bytes: &[u8]) -> usize {
+    for (before, letter) in LETTERS.iter().enumerate() {
+        if bytes.first() == Some(letter) {
+            return before.saturating_add(1);
         }
     }
-    None
-}
-
-/// Returns the node of a branch, or none.
-pub(crate) fn target_of<'a>(branch: &Word<'a>) -> &'a [u8] {
-    let from = branch.letters().len().saturating_add(1);
-    branch.bytes.get(from..).unwrap_or(b"")
+    0
 }
 
 // Returns what to write in place of a letter that no branch has.
 fn letter_hint(branch: &Word<'_>, letter: u8) -> &'static str {
     let letters = branch.letters();
-    let target = target_of(branch);
+    let target = branch.target().bytes;
     if read_number(letters).is_some() && read_number(target).is_none() && are_letters(target) {
         return "write the letters in front of the colon, and the node behind it";
     }

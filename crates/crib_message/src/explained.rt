@@ -16,7 +16,7 @@ use crib_text::{TextCause, read_number};
 use std::fmt::Display;
 
 const NO_END: &str =
-    "a see line names no end; leave this branch out, since a letter in no branch leads to the end";
+    ": a see line names no end; leave this branch out, since a letter in no branch leads to the end";
 
 /// The sentence of a refusal, and the stretch of its line that is meant.
 #[derive(Clone, Copy)]
@@ -121,9 +121,9 @@ fn blank(scene: &Scene<'_>) -> Option<(&'static str, usize)> {
 // Explains a word that does not fit, or the end of a line with too few words.
 fn bad_word(scene: &Scene<'_>, cause: Cause) -> Option<Explained> {
     let misfit = first_misfit(scene, cause)?;
-    let is_node = misfit.slot == Slot::Branch && !matches!(cause, BAD_LINE | BAD_SET);
+    let is_node = matches!(misfit.slot, Slot::Branch) && !matches!(cause, BAD_LINE | BAD_SET);
     let word = match misfit.word.target() {
-        Some(node) if is_node && !node.bytes.is_empty() => node,
+        node if is_node && !node.bytes.is_empty() => node,
         _ => misfit.word,
     };
     let typed = typed(word.bytes);
@@ -136,10 +136,7 @@ fn bad_word(scene: &Scene<'_>, cause: Cause) -> Option<Explained> {
             (wanted_at(scene, misfit.slot, cause, hint.is_some()), hint)
         }
     };
-    let joint = match cause {
-        BAD_SET | BAD_NEXT => ": ",
-        _ => "",
-    };
+    let joint = if cause == BAD_SET { ": " } else { "" };
     Some(said(
         format_args!("{typed} is {cause}{joint}{why}"),
         word.mark(),
@@ -207,7 +204,7 @@ fn not_later(scene: &Scene<'_>, target: &[u8]) -> (Sentence, Hint) {
     let why = match read_number(target) {
         None => return (Sentence::of(NO_END), None),
         Some(number) if number < count => Sentence::of(format_args!(
-            "this is the line of node {own}, and a target has a greater number"
+            ": this is the line of node {own}, and a target has a greater number"
         )),
         Some(number) => {
             let nodes = if count == 1 {
@@ -216,7 +213,7 @@ fn not_later(scene: &Scene<'_>, target: &[u8]) -> (Sentence, Hint) {
                 "nodes, numbered from 0"
             };
             Sentence::of(format_args!(
-                "node {number} isn't there, since the plan has {count} {nodes}"
+                ": node {number} isn't there, since the plan has {count} {nodes}"
             ))
         }
     };

@@ -33,7 +33,7 @@ pub(crate) enum Row {
 }
 
 /// What is at a place of a line.
-#[derive(Clone, Copy, PartialEq, Eq)]
+#[derive(Clone, Copy)]
 pub(crate) enum Slot {
     /// The first word of the line.
     Keyword,

@@ -1,5 +1,5 @@
 //! Hints: what to write in place of a word that does not fit.
-use crate::branches::{are_letters, target_of};
+use crate::branches::are_letters;
 use crate::cards::{card_hint, card_meant, is_like_card, suitless};
 use crate::grammar::{Row, Slot};
 use crate::misfit::{BAD_LINE, Misfit};
@@ -49,7 +49,7 @@ pub(crate) fn hint_of(scene: &Scene<'_>, misfit: &Misfit<'_>, cause: Cause) -> H
 
 // A number, or a word in the place of one.
 fn figure_hint(scene: &Scene<'_>, slot: Slot, word: &[u8], is_form: bool) -> Hint {
-    let is_score = slot == Slot::Points;
+    let is_score = matches!(slot, Slot::Points);
     if is_score && !is_form && word == b"121".as_slice() {
         return tell("The game is over at 121.");
     }
@@ -166,11 +166,11 @@ fn move_hint(scene: &Scene<'_>, misfit: &Misfit<'_>) -> Hint {
     let Word { bytes, index, .. } = misfit.word;
     let is_target = read_number(bytes).is_some() || bytes == b"end".as_slice();
     let next = scene.word(index.saturating_add(1));
-    let is_stated = misfit.slot == Slot::Stated;
+    let is_stated = matches!(misfit.slot, Slot::Stated);
+    let is_go = is_among(bytes, GOES);
     tell(match (bytes, next) {
-        _ if is_among(bytes, GOES) && is_stated =>
-            "A plan states no go of the owner: leave this node out.",
-        _ if is_among(bytes, GOES) => "Write a go as go.",
+        _ if is_go && is_stated => "A plan states no go of the owner: leave this node out.",
+        _ if is_go => "Write a go as go.",
         _ if is_stated && is_target && is_like_card(next) =>
             "Write the card in front of the node to go on at: 0 play 2C 1.",
         _ if is_either(bytes, b"own", b"opp") => ACT_A_LINE,
@@ -181,19 +181,20 @@ fn move_hint(scene: &Scene<'_>, misfit: &Misfit<'_>) -> Hint {
 
 // The number in front of a node.
 fn own_hint(scene: &Scene<'_>, word: &[u8]) -> Hint {
-    order_hint(scene).or(tell(match read_number(word) {
+    let order = order_hint(scene);
+    order.or(tell(match read_number(word) {
         _ if is_act(scene.text()) => "Acts stand in a game, and a plan has nodes: 0 play 2C end.",
         Some(_) if scene.node() == 0 => "The first node has the number 0.",
-        Some(_) => return order_hint(scene),
-        None if read_number(bare(word)).is_some() => return order_hint(scene).or(number_hint(word)),
+        Some(_) => return order,
+        None if read_number(bare(word)).is_some() => return order.or(number_hint(word)),
         None => "A node begins with its number: 0 play 2C end.",
     }))
 }
 
 fn branch_hint(scene: &Scene<'_>, branch: &Word<'_>, cause: Cause) -> Hint {
     let next = scene.word(branch.index.saturating_add(1));
-    tell(match target_of(branch) {
-        [] if branch.target().is_none() && !next.starts_with(b":") => return None,
+    tell(match branch.target().bytes {
+        [] if !branch.bytes.contains(&b':') && !next.starts_with(b":") => return None,
         [] if next.is_empty() => return None,
         [] => "Write no blank at the colon of a branch.",
         _ if cause == BAD_LINE => "Write a blank between two branches, and no other sign.",

@@ -1,7 +1,7 @@
 //! The first word of a line that does not fit the grammar.
 use crate::branches::branch_cause;
 use crate::grammar::{Row, Slot};
-use crate::scene::{Scene, Section, Word, is_blank, line_at, word_in};
+use crate::scene::{Scene, Section, Word, is_blank, text_at, word_in};
 use crate::spelling::is_either;
 use crib_cards::read_card;
 use crib_input::Cause;
@@ -87,7 +87,7 @@ pub(crate) fn earlier_line(scene: &Scene<'_>, card: &Word<'_>) -> Option<u32> {
         return None;
     }
     for number in 1..=scene.number {
-        let line = line_at(scene.input, number).unwrap_or(b"");
+        let line = text_at(scene.input, number);
         let end = if number < scene.number { 5 } else { card.index };
         for index in 1..end {
             if word_in(line, index) == card.bytes {

@@ -21,6 +21,11 @@ pub(crate) fn line_at(input: &[u8], number: u32) -> Option<&[u8]>
     text.split(is_line_feed).nth(number as usize - 1)
 }
 
+/// Returns the bytes of the line with this number, from 1, or none.
+pub(crate) fn text_at(input: &[u8], number: u32) -> &[u8] {
+    line_at(input, number).unwrap_or(b"")
+}
+
 /// Returns the bytes of the word with this index, from 0, or none. Words are separated by single spaces.
 pub(crate) fn word_in(line: &[u8], index: usize) -> &[u8] {
     line.split(is_blank).nth(index).unwrap_or(b"")
@@ -80,12 +85,12 @@ impl<'a> Word<'a> {
         self.bytes.split(is_colon).next().unwrap_or(b"")
     }
 
-    /// Returns the part behind the first colon.
-    pub(crate) fn target(&self) -> Option<Word<'a>> {
+    /// Returns the part behind the first colon, or none.
+    pub(crate) fn target(&self) -> Word<'a> {
         let start = self.letters().len().saturating_add(1);
-        let bytes = self.bytes.get(start..)?;
+        let bytes = self.bytes.get(start..).unwrap_or(b"");
         let (index, from) = (self.index, self.from.saturating_add(start));
-        Some(Word { bytes, index, from })
+        Word { bytes, index, from }
     }
 }
 
@@ -136,7 +141,7 @@ pub(crate) fn problem_len(input: &[u8]) -> u32 {
 
 /// Returns the number that is the second word of a line, or 0 if there is none.
 pub(crate) fn count_at(input: &[u8], line: u32) -> u32 {
-    read_number(word_in(line_at(input, line).unwrap_or(b""), 1)).unwrap_or(0)
+    read_number(word_in(text_at(input, line), 1)).unwrap_or(0)
 }
 
 /// A line that is refused, or the place of one that is missing.

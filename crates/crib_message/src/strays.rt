@@ -1,6 +1,6 @@
 //! The place of a plan at an act that strays from it.
-use crate::branches::{LETTERS, branch_with, target_of};
-use crate::scene::{count_at, line_at, problem_len, word_in};
+use crate::branches::{LETTERS, branch_with};
+use crate::scene::{count_at, problem_len, text_at, word_in};
 use crate::sentence::{Sentence, named};
 use crib_cards::{Act, Move, Side, read_card};
 use crib_text::read_number;
@@ -15,7 +15,7 @@ pub(crate) fn add_stray(to: &mut Sentence, input: &[u8], acts: &[Act]) {
     }
     let number = first.saturating_add(node);
     to.add(format_args!("node {node} of the plan (line {number}) "));
-    match read_card(word_in(line_at(input, number).unwrap_or(b""), 2)) {
+    match read_card(word_in(text_at(input, number), 2)) {
         Some(card) => to.add(format_args!("states {}", named(card))),
         None => to.add("is a see node, and states no card"),
     }
@@ -25,7 +25,7 @@ pub(crate) fn add_stray(to: &mut Sentence, input: &[u8], acts: &[Act]) {
 fn node_after(input: &[u8], first: u32, acts: &[Act]) -> Option<u32> {
     let mut node = 0;
     for act in acts.iter().skip(first.saturating_sub(11) as usize) {
-        let line = line_at(input, first.saturating_add(node))?;
+        let line = text_at(input, first.saturating_add(node));
         let is_play = word_in(line, 1) == b"play".as_slice();
         match (act.side, act.what) {
             (Side::Owner, Move::Card(_)) if is_play => node = read_number(word_in(line, 3))?,
@@ -39,5 +39,5 @@ fn node_after(input: &[u8], first: u32, acts: &[Act]) -> Option<u32> {
 // Returns the node behind the branch of a see line that has a move.
 fn node_behind(line: &[u8], what: &Move) -> Option<u32> {
     let letter = *LETTERS.get(usize::from(what.letter().place()))?;
-    read_number(target_of(&branch_with(line, usize::MAX, letter)?))
+    read_number(branch_with(line, usize::MAX, letter)?.target().bytes)
 }

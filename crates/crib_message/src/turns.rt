@@ -1,11 +1,11 @@
 //! Why an act may not be the next one, in an opening or in a game.
 use crate::explained::Explained;
 use crate::grammar::Row;
-use crate::scene::{Mark, Scene, line_at};
+use crate::scene::{Mark, Scene, text_at};
 use crate::sentence::{Held, Sentence, go_of, moved, named, the, typed};
 use crate::state::State;
 use crate::strays::add_stray;
-use crib_cards::{Card, GAME_HOLE, Move, Scores};
+use crib_cards::{Card, GAME_HOLE, Move, Scores, Side};
 use crib_game::GameFault as Fault;
 use crib_input::Cause;
 use crib_input::Cause::{Game, Problem};
@@ -15,15 +15,18 @@ const ALL_TURNS: &str = "a game begins with all turns of the opening, and here "
 
 /// Returns the explanation of a turn of an opening, or of a line of a game, that is refused for a cause.
 pub(crate) fn explain_turn(scene: &Scene<'_>, cause: Cause) -> Option<Explained> {
-    let state = State::before(scene, usize::from(cause == Problem(Rule::AlreadyOver)))?;
-    let mut sentence = Sentence::of("");
-    let side = the(state.act.side);
+    let is_over = cause == Problem(Rule::AlreadyOver);
+    let state = State::before(scene, usize::from(is_over))?;
     let moved = moved(&state.act.what);
-    match cause {
-        Problem(Rule::NotTurn) => sentence.add(format_args!("{side} is {cause}: ")),
-        Problem(Rule::AlreadyOver) => sentence.add(format_args!("{cause}: with {moved} ")),
-        Problem(Rule::DoesNotFit) | Game(_) => sentence.add(format_args!("{cause}: ")),
-        _ => sentence.add(format_args!("{moved} is {cause}: ")),
+    let mut sentence = match cause {
+        Problem(Rule::NotTurn) => Sentence::of(the(state.act.side)),
+        Problem(Rule::AlreadyOver | Rule::DoesNotFit) | Game(_) => Sentence::of(""),
+        _ => Sentence::of(moved),
+    };
+    let is = if sentence.0.is_empty() { "" } else { " is " };
+    sentence.add(format_args!("{is}{cause}: "));
+    if is_over {
+        sentence.add(format_args!("with {moved} "));
     }
     add_reason(&mut sentence, &state, scene, cause)?;
     let mark = mark_of(scene.row, cause);
@@ -56,13 +59,15 @@ fn add_reason(to: &mut Sentence, state: &State, scene: &Scene<'_>, cause: Cause)
         (Problem(Rule::NoDeal), Move::Card(_)) => {
             let (count, line) = state.told;
             let least = 32u8.saturating_sub(count);
-            to.add(format_args!("the opponent said go at a count of {count} (line {line}), "));
-            to.add(format_args!("so each of their cards counts {least} or more"));
+            to.add(format_args!(
+                "the opponent said go at a count of {count} (line {line}), \
+                so each of their cards counts {least} or more"
+            ));
         }
         (Problem(Rule::MustPlay | Rule::NoDeal) | Game(Fault::MustPlay(_)), _) => add_go(to, state),
         (Problem(Rule::AlreadyOver) | Game(Fault::AfterEnd(_)), _) => add_end(to, state, cause),
-        (Game(Fault::NotUnseen(place)), _) => add_seen(to, state, place)?,
-        (Game(Fault::NotAsPlayed(place)), _) => add_as_played(to, scene, place)?,
+        (Game(Fault::NotUnseen(place)), _) => add_seen(to, state, place),
+        (Game(Fault::NotAsPlayed(place)), _) => add_as_played(to, scene, place),
         (Game(Fault::Strays(_)), what) => {
             add_stray(to, scene.input, state.acts.as_slice());
             to.add(format_args!(", and the owner plays {}", moved(&what)));
@@ -73,14 +78,14 @@ fn add_reason(to: &mut Sentence, state: &State, scene: &Scene<'_>, cause: Cause)
 }
 
 // Appends which turn the opening has at a place.
-fn add_as_played(to: &mut Sentence, scene: &Scene<'_>, place: u8) -> Option<()> {
+fn add_as_played(to: &mut Sentence, scene: &Scene<'_>, place: u8) {
     let line = u32::from(place).saturating_add(8);
-    let turn = typed(line_at(scene.input, line)?);
-    match scene.row {
-        Row::Acts => to.add(format_args!("{ALL_TURNS}{turn} (line {line}) is missing")),
-        _ => to.add(format_args!("the opening has {turn} (line {line}) there")),
-    }
-    Some(())
+    let turn = typed(text_at(scene.input, line));
+    let (front, end) = match scene.row {
+        Row::Acts => (ALL_TURNS, "is missing"),
+        _ => ("the opening has ", "there"),
+    };
+    to.add(format_args!("{front}{turn} (line {line}) {end}"));
 }
 
 // Appends why it isn't the turn of the act's side.
@@ -151,17 +156,15 @@ fn add_too_high(to: &mut Sentence, state: &State, card: Card) {
     to.add(format_args!("{name} counts {value}, the count is {count}, and {left} is left to 31; "));
     let side = the(state.act.side);
     let go = go_of(state.act.side);
-    let mover = state.act.side.other();
-    let other = the(mover);
     match state.held(state.act.side) {
         Some(held) if held.has_fitting => to.add(format_args!("{side} holds {}", held.text)),
         Some(_) => to.add(format_args!(
             "{side} holds no card that fits, so {go} is missing before this line"
         )),
-        None if state.round.cards_left(mover) == 0 => to.add(format_args!(
-            "{go} may be missing before this line"
-        )),
-        None => to.add(format_args!("{go} would pass the turn to {other}")),
+        None if state.round.cards_left(Side::Owner) == 0 => {
+            to.add("\"opp go\" may be missing before this line");
+        }
+        None => to.add("\"opp go\" would pass the turn to the owner"),
     }
 }
 
@@ -195,34 +198,35 @@ fn add_not_held(to: &mut Sentence, state: &State, card: Card) {
         None if is_thrown => to.add(format_args!("{name} is in the opponent's throw")),
         None => joint = "",
     }
-    let mover = state.act.side.other();
-    let other = the(mover);
     match state.held(state.act.side) {
         Some(Held { cards, .. }) => to.add(format_args!("{joint}{side} still holds {cards}")),
-        None if state.round.next().asks(mover) => to.add(format_args!(
-            "{joint}it is {other}'s turn"
-        )),
+        None if state.round.next().asks(Side::Owner) => {
+            to.add(format_args!("{joint}it is the owner's turn"));
+        }
         None => {}
     }
 }
 
 // Appends where a card of the opponent is before, from its place among the six.
-fn add_seen(to: &mut Sentence, state: &State, place: u8) -> Option<()> {
-    let dealt = state.dealt?;
-    let at = usize::from(place).checked_sub(1)?;
-    let card = *dealt
-        .hold
-        .get(at)
-        .or(dealt.throw.get(at.saturating_sub(4)))?;
+fn add_seen(to: &mut Sentence, state: &State, place: u8) {
+    let Some(dealt) = state.dealt else {
+        return;
+    };
+    let at = usize::from(place).saturating_sub(1);
+    let other = dealt.throw.get(at.saturating_sub(4));
+    let Some(card) = dealt.hold.get(at).or(other) else {
+        return;
+    };
+    let card = *card;
     let name = named(card);
-    let line = state.line.saturating_sub(2);
-    let is_held = place > 4 && dealt.hold.contains(&card);
-    match place_of(state, card) {
-        Some((at, line)) => to.add(format_args!("{name} {at} (line {line})")),
-        None if is_held => to.add(format_args!("{name} is in the opponent's hold (line {line})")),
-        None => to.add(format_args!("{name} stands twice in this line")),
-    }
-    Some(())
+    let (at, line) = match place_of(state, card) {
+        Some(found) => found,
+        None if place > 4 && dealt.hold.contains(&card) => {
+            ("is in the opponent's hold", state.line.saturating_sub(2))
+        }
+        None => return to.add(format_args!("{name} stands twice in this line")),
+    };
+    to.add(format_args!("{name} {at} (line {line})"));
 }
 
 // Appends how the deal ended.

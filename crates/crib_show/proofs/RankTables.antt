@@ -148,7 +148,7 @@ has_back chosen rank = grind (arith, nat_tests, has-append chosen (rank ∷ []) 
 greater : (chosen : List ℕ) (greatest rank : ℕ) → has chosen greatest ≡ true → greatest ≤ rank → are_distinct (chosen ++ rank ∷ []) ≡ true → greatest < rank
 greater chosen greatest rank at most distinct = grind (arith, nat_tests, distinct_apart chosen (rank ∷ []) greatest distinct at)
 
--- chosen ranks with a gap, or with a rank twice, are in no run, whatever comes behind them
+-- chosen ranks with a gap, or with a rank twice, are in no run, with any ranks after them
 none_among : (ranks all chosen : List ℕ) (greatest least : ℕ) → Rises greatest ranks → has chosen greatest ≡ true →
     (are_distinct chosen ≡ true → least + length chosen ≤ greatest) → runs_among ranks all chosen greatest least ≡ 0
 none_among [] all chosen greatest least rises at wide =

@@ -23,7 +23,7 @@ returns-then-points-self c =
     (c.of-points.ensures ∙ c.args.self.now.points.each c.args.first c.args.second c.requires.0 c.requires.1)
     (few_most worst c.args.first c.args.second) c.if-points-self.true))))
 
--- a test joined to a result by `&&` or by `||`, as the branches tell it
+-- a test joined to a result by `&&` or by `||`, as each branch has it
 either : (result is other : Bool) → result ≡ is → result ≡ true → result ≡ (is || other)
 either result is other same found = grind (arith, nat_tests)
 

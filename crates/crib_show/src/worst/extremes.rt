@@ -22,7 +22,7 @@ const NOT_KEPT: u8 = 255;
 ///
 /// Within a problem the starter, the owner's cards, the unseen and the fixed cards stay the same. So the points
 /// computed for some ranks of the opponent hold at every end with these ranks, whatever the scores.
-#[derive(Clone, Drop)]
+#[derive(Drop)]
 pub struct ExtremesByRanks {
     pub(crate) own: OwnPoints,
     kept: [Extremes; PLACES],

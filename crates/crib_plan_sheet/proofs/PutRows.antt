@@ -3,21 +3,24 @@ use Rattle.std.proofs.Common.{◌≡◌, ℕ, zero, suc, ◌+◌, ◌-◌, ◌*�
 use Rattle.std.proofs.Common.{take, replicate, get_or, codes, decimal, refl, ap, sym, append_assoc, arith}
 use Rattle.std.specs.List.{flat_map}
 use Rattle.std.proofs.lemmas.List.{drop_all}
+use Rattle.crib_cards.specs.CardText.{card_text}
 use Rattle.crib_text.specs.Spelling.{space}
 use Rattle.crib_plan.specs.declared.plan.Next.{Next}
 use Rattle.crib_plan.specs.declared.plan.Next.TheVariants.{End, To}
 use Rattle.crib_plan.specs.declared.plan.Node.{Node}
 use Rattle.crib_plan.specs.declared.plan.Node.TheVariants.{Play, See}
-use Rattle.crib_plan.specs.Nodes.{IsLater}
+use Rattle.crib_plan.specs.Nodes.{IsLater, ArePlan}
 use Rattle.crib_plan.specs.Spelling.{leads_to}
+use Rattle.crib_run.specs.Prints.{Stand, Prints}
+use Rattle.crib_run.proofs.Printing.{SoFar, more, so_far_more}
 use Rattle.crib_plan_sheet.specs.PlanSheet.{Paragraph, Named, lines_to, row_of, rows_from, sheet_with, Over}
 use Rattle.crib_plan_sheet.specs.PlanOutline.{apart_in}
-use Rattle.crib_plan_sheet.specs.PlanText.{row_text, lines_text, indent, label, label_width, paragraph_text}
+use Rattle.crib_plan_sheet.specs.PlanText.{row_text, lines_text, before_rest, indent, label, label_width, paragraph_text}
 use Rattle.crib_plan_sheet.specs.PlanPage.{end_of_row, legend_text, no_card, page_text}
 use Rattle.crib_plan_sheet.specs.Private.Pages.{first_text, IsDeep, place_row, node_row, lines_at, line_front, width_at, new_node}
 use Rattle.crib_plan_sheet.specs.Private.Pages.{paragraphs_text}
 use Rattle.crib_plan_sheet.proofs.LabelPieces.{column_from, line_at}
-use Rattle.crib_plan_sheet.proofs.PlanRows.{page_is, room}
+use Rattle.crib_plan_sheet.proofs.PlanRows.{page_is, room, place_end, place_apart, place_node, node_play, node_see}
 
 -- ---- places
 
@@ -69,6 +72,43 @@ pub no_more_lines : (flags : List Bool) (plan : List Node) (level width : ℕ) (
 unfolding lines_at
 no_more_lines flags plan level width all i past =
     ap (λ branches. lines_text level width (lines_to (apart_in flags) (rows_from (apart_in flags) 0 plan) all i branches)) (drop_all i all past)
+
+-- ---- rows as they are put
+
+pub put_end : (flags : List Bool) (plan : List Node) (level : ℕ) (place : Next) {s t : Stand} → place ≡ End → Prints (codes "\n") s t →
+    Prints (row_text level (place_row flags plan place)) s t
+put_end flags plan level place is put = rw (is, place_end flags plan) put
+
+pub put_apart : (flags : List Bool) (plan : List Node) (level node : ℕ) (place : Next) {s t u v : Stand} → place ≡ To node → apart_in flags node ≡ true →
+    Prints (codes "see [") s t → Prints (decimal node) t u → Prints (codes "]\n") u v → Prints (row_text level (place_row flags plan place)) s v
+put_apart flags plan level node place is apart opened number closed =
+    rw (is, place_apart flags plan node apart) (more (more opened number) closed)
+
+pub put_whole : (flags : List Bool) (plan : List Node) (level node : ℕ) (place : Next) {s t : Stand} → place ≡ To node → apart_in flags node ≡ false →
+    Prints (row_text level (node_row flags plan node)) s t → Prints (row_text level (place_row flags plan place)) s t
+put_whole flags plan level node place is apart put = rw (is, place_node flags plan node apart) put
+
+pub put_play : (flags : List Bool) (plan : List Node) (level i card : ℕ) (next : Next) (d : Node) {written between : List ℕ} {s t u v : Stand} →
+    ArePlan plan → i < length plan → get_or plan i d ≡ Play card next → written ≡ card_text card →
+    between ≡ before_rest (place_row flags plan next) → Prints written s t → Prints between t u →
+    Prints (row_text level (place_row flags plan next)) u v → Prints (row_text level (node_row flags plan i)) s v
+put_play flags plan level i card next d are inside is text rest first second third =
+    rw (node_play flags plan i card next d are inside is) (rw (text, rest) at (more (more first second) third))
+
+pub put_look : (flags : List Bool) (plan : List Node) (level i : ℕ) (branches : List Next) (d : Node) {s t u : Stand} →
+    ArePlan plan → i < length plan → get_or plan i d ≡ See branches → Prints (codes "look:\n") s t →
+    Prints (lines_text (level + 1) (width_at branches 0) (lines_at flags plan branches 0)) t u → Prints (row_text level (node_row flags plan i)) s u
+put_look flags plan level i branches d are inside is first lines =
+    rw (node_see flags plan i branches d are inside is, width_same flags plan branches) (more first lines)
+
+-- one more line of a look
+pub put_line : (flags : List Bool) (plan : List Node) (level width : ℕ) (all : List Next) (i node : ℕ) (d : Next) (set : List Bool)
+    {whole : List ℕ} {s t u v : Stand} → i < length all → new_node (take i all) (get_or all i d) ≡ Some node → width ≡ width_at all 0 →
+    set ≡ map (leads_to node) all → SoFar (lines_text level (width_at all 0) (lines_at flags plan all i)) whole s t →
+    Prints (line_front level width set) t u → Prints (row_text level (place_row flags plan (To node))) u v →
+    SoFar (lines_text level (width_at all 0) (lines_at flags plan all (i + 1))) whole s v
+put_line flags plan level width all i node d set inside some wide led so_far front row =
+    so_far_more (line_more flags plan level (width_at all 0) all i node d inside some) so_far (rw (wide, led) at (more front row))
 
 -- ---- paragraphs
 

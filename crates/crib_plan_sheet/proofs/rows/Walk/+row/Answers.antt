@@ -1,24 +1,24 @@
 use Rattle.std.proofs.Common.{rules, ◌<◌, ◌≤◌, length, sym, ◌∙◌, arith}
 use Rattle.crib_plan.specs.declared.plan.Node.TheVariants.{See}
 use Rattle.crib_plan.specs.Nodes.{IsLater, IsNode}
-use Rattle.crib_run.proofs.Printing.{more, so_far_none, so_far_more, so_far_skip, so_far_done}
+use Rattle.crib_run.proofs.Printing.{so_far_none, so_far_skip, so_far_done}
 use Rattle.crib_plan_sheet.specs.Private.Pages.{IsDeep}
-use Rattle.crib_plan_sheet.proofs.PlanRows.{place_end, place_apart, place_node, node_at, node_play, node_see}
-use Rattle.crib_plan_sheet.proofs.PutRows.{seen, width_same, deep_later, room_later, line_more, line_skipped, no_more_lines}
+use Rattle.crib_plan_sheet.proofs.PlanRows.{node_at}
+use Rattle.crib_plan_sheet.proofs.PutRows.{seen, deep_later, room_later, line_skipped, no_more_lines}
+use Rattle.crib_plan_sheet.proofs.PutRows.{put_end, put_apart, put_whole, put_play, put_look, put_line}
 use Rattle.crib_plan_sheet.proofs.rows.Walk.+row.Goals as goal
 use Rattle.crib_plan_sheet.proofs.rows.Walk.+row.Goals.{put_lines-in-Some, put_lines-in_default}
 
 -- ---- a place
 pub put_row-returns-in-End : goal.put_row-returns-in-End
-put_row-returns-in-End g t c = rw (c.in-End.is, place_end) c.put.ensures
+put_row-returns-in-End g t c = put_end _ _ _ _ c.in-End.is c.put.ensures
 
 pub put_row-returns-then-is_apart : goal.put_row-returns-then-is_apart
 put_row-returns-then-is_apart g t c =
-    rw (c.in-To.is, place_apart _ _ _ (sym c.is_apart.ensures ∙ c.if-is_apart.true))
-    (more (more c.put-then-is_apart.ensures c.put_number.ensures) c.put-then-is_apart-2.ensures)
+    put_apart _ _ _ _ _ c.in-To.is (sym c.is_apart.ensures ∙ c.if-is_apart.true) c.put-then-is_apart.ensures c.put_number.ensures c.put-then-is_apart-2.ensures
 
 pub put_row-returns-else-is_apart : goal.put_row-returns-else-is_apart
-put_row-returns-else-is_apart g t c = rw (c.in-To.is, place_node _ _ _ (sym c.is_apart.ensures ∙ c.if-is_apart.false)) c.put_node.ensures
+put_row-returns-else-is_apart g t c = put_whole _ _ _ _ _ c.in-To.is (sym c.is_apart.ensures ∙ c.if-is_apart.false) c.put_node.ensures
 
 -- ---- a node
 pub put_node-before_rest-requires : goal.put_node-before_rest-requires
@@ -37,9 +37,9 @@ put_node-put_row-requires g t c κs within =
 
 pub put_node-returns-in-Play : goal.put_node-returns-in-Play
 put_node-returns-in-Play g t c =
-    let here = seen c.args.self.now.plan.now _ _ _ _ c.nodes.ensures.nodes c.index-nodes-node.is c.in-Play.is in
-    rw (node_play _ _ _ _ _ _ c.nodes.ensures.sound c.requires.1 here)
-    (rw (c.card_text.ensures.text, c.before_rest.ensures.text) at (more (more c.put.ensures c.put-in-Play.ensures) c.put_row.ensures))
+    put_play _ _ _ _ _ _ _ c.nodes.ensures.sound c.requires.1
+    (seen c.args.self.now.plan.now _ _ _ _ c.nodes.ensures.nodes c.index-nodes-node.is c.in-Play.is)
+    c.card_text.ensures.text c.before_rest.ensures.text c.put.ensures c.put-in-Play.ensures c.put_row.ensures
 
 pub put_node-put_lines-requires : goal.put_node-put_lines-requires
 put_node-put_lines-requires g t c κs within =
@@ -49,8 +49,9 @@ put_node-put_lines-requires g t c κs within =
 
 pub put_node-returns-in-See : goal.put_node-returns-in-See
 put_node-returns-in-See g t c =
-    let here = seen c.args.self.now.plan.now _ _ _ _ c.nodes.ensures.nodes c.index-nodes-node.is c.in-See.is in
-    rw (node_see _ _ _ _ _ c.nodes.ensures.sound c.requires.1 here, width_same) (more c.put-in-See.ensures c.put_lines.ensures)
+    put_look _ _ _ _ _ _ c.nodes.ensures.sound c.requires.1
+    (seen c.args.self.now.plan.now _ _ _ _ c.nodes.ensures.nodes c.index-nodes-node.is c.in-See.is)
+    c.put-in-See.ensures c.put_lines.ensures
 
 -- ---- the lines of a look
 pub put_lines-loop-place-init : goal.put_lines-loop-place-init
@@ -61,8 +62,8 @@ put_lines-loop-place-preserved g t c =
     let inside : c.loop-place.place < length c.args.branches.now = omega (arith, c.told-branches, c.loop-place-test.true) in
     elim c.match-new_node.branch [
       | put_lines-in-Some w ↦
-          rw w.page-is (so_far_more (line_more _ _ _ _ _ _ _ _ inside (sym c.new_node.ensures ∙ w.in-Some.is)) c.loop-place.invariant
-          (rw (c.width_of-width.ensures.width, w.letters_to.ensures) at (more w.put_front.ensures w.put_row.ensures)))
+          rw w.page-is (put_line _ _ _ _ _ _ _ _ _ inside (sym c.new_node.ensures ∙ w.in-Some.is) c.width_of-width.ensures.width w.letters_to.ensures
+          c.loop-place.invariant w.put_front.ensures w.put_row.ensures)
       | put_lines-in_default w ↦
           rw w.page-is (so_far_skip (line_skipped _ _ _ _ _ _ _ inside (sym c.new_node.ensures ∙ w.in_default.is)) c.loop-place.invariant)
     ]

@@ -12,7 +12,7 @@ use Rattle.crib_plan.specs.declared.plan.Node.TheVariants.{Play, See}
 use Rattle.crib_plan.specs.Nodes.{IsLater, ArePlan}
 use Rattle.crib_plan.specs.Spelling.{leads_to}
 use Rattle.crib_run.specs.Prints.{Stand, Prints}
-use Rattle.crib_run.proofs.Printing.{SoFar, more, so_far_more}
+use Rattle.crib_run.proofs.Printing.{SoFar, more, so_far_more, so_far_skip, so_far_done}
 use Rattle.crib_plan_sheet.specs.PlanSheet.{Paragraph, Named, lines_to, row_of, rows_from, sheet_with, Over}
 use Rattle.crib_plan_sheet.specs.PlanOutline.{apart_in}
 use Rattle.crib_plan_sheet.specs.PlanText.{row_text, lines_text, before_rest, indent, label, label_width, paragraph_text}
@@ -101,14 +101,28 @@ pub put_look : (flags : List Bool) (plan : List Node) (level i : ℕ) (branches 
 put_look flags plan level i branches d are inside is first lines =
     rw (node_see flags plan i branches d are inside is, width_same flags plan branches) (more first lines)
 
--- one more line of a look
+-- one more line of a look, or none
+abbrev pub LinesPut : List Bool → List Node → ℕ → List Next → ℕ → Stand → Stand → Type 0
+LinesPut flags plan level all i s t =
+    SoFar (lines_text level (width_at all 0) (lines_at flags plan all i)) (lines_text level (width_at all 0) (lines_at flags plan all 0)) s t
+
 pub put_line : (flags : List Bool) (plan : List Node) (level width : ℕ) (all : List Next) (i node : ℕ) (d : Next) (set : List Bool)
-    {whole : List ℕ} {s t u v : Stand} → i < length all → new_node (take i all) (get_or all i d) ≡ Some node → width ≡ width_at all 0 →
-    set ≡ map (leads_to node) all → SoFar (lines_text level (width_at all 0) (lines_at flags plan all i)) whole s t →
-    Prints (line_front level width set) t u → Prints (row_text level (place_row flags plan (To node))) u v →
-    SoFar (lines_text level (width_at all 0) (lines_at flags plan all (i + 1))) whole s v
-put_line flags plan level width all i node d set inside some wide led so_far front row =
-    so_far_more (line_more flags plan level (width_at all 0) all i node d inside some) so_far (rw (wide, led) at (more front row))
+    {s t u v : Stand} → length all ≡ 14 → i < 14 → new_node (take i all) (get_or all i d) ≡ Some node → width ≡ width_at all 0 →
+    set ≡ map (leads_to node) all → LinesPut flags plan level all i s t → Prints (line_front level width set) t u →
+    Prints (row_text level (place_row flags plan (To node))) u v → LinesPut flags plan level all (i + 1) s v
+put_line flags plan level width all i node d set long inside some wide led so_far front row =
+    so_far_more (line_more flags plan level (width_at all 0) all i node d (omega (arith, long, inside)) some) so_far
+    (rw (wide, led) at (more front row))
+
+pub put_none : (flags : List Bool) (plan : List Node) (level : ℕ) (all : List Next) (i : ℕ) (d : Next) {s t : Stand} → length all ≡ 14 → i < 14 →
+    new_node (take i all) (get_or all i d) ≡ None → LinesPut flags plan level all i s t → LinesPut flags plan level all (i + 1) s t
+put_none flags plan level all i d long inside none so_far =
+    so_far_skip (line_skipped flags plan level (width_at all 0) all i d (omega (arith, long, inside)) none) so_far
+
+pub put_all : (flags : List Bool) (plan : List Node) (level : ℕ) (all : List Next) (i : ℕ) {s t : Stand} → length all ≡ 14 → 14 ≤ i →
+    LinesPut flags plan level all i s t → Prints (lines_text level (width_at all 0) (lines_at flags plan all 0)) s t
+put_all flags plan level all i long past so_far =
+    so_far_done (no_more_lines flags plan level (width_at all 0) all i (omega (arith, long, past))) so_far
 
 -- ---- paragraphs
 

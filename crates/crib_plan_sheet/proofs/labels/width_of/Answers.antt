@@ -1,4 +1,4 @@
-use Rattle.std.proofs.Common.{◌≡◌, ◌-◌, ◌<◌, ◌∙◌, length, map, max, ap, arith, rules, sym}
+use Rattle.std.proofs.Common.{◌≡◌, ◌<◌, ◌∙◌, length, map, max, ap, arith, rules, sym}
 use Rattle.crib_plan.specs.Spelling.{leads_to}
 use Rattle.crib_plan_sheet.specs.PlanText.{label}
 use Rattle.crib_plan_sheet.proofs.LabelPieces.{wider, width_none, width_end}

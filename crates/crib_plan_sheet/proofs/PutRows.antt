@@ -12,7 +12,7 @@ use Rattle.crib_plan.specs.declared.plan.Node.TheVariants.{Play, See}
 use Rattle.crib_plan.specs.Nodes.{IsLater, ArePlan}
 use Rattle.crib_plan.specs.Spelling.{leads_to}
 use Rattle.crib_run.specs.Prints.{Stand, Prints}
-use Rattle.crib_run.proofs.Printing.{SoFar, more, so_far_more, so_far_skip, so_far_done}
+use Rattle.crib_run.proofs.Printing.{SoFar, more, as_text, so_far_more, so_far_skip, so_far_done}
 use Rattle.crib_plan_sheet.specs.PlanSheet.{Paragraph, Named, lines_to, row_of, rows_from, sheet_with, Over}
 use Rattle.crib_plan_sheet.specs.PlanOutline.{apart_in}
 use Rattle.crib_plan_sheet.specs.PlanText.{row_text, lines_text, before_rest, indent, label, label_width, paragraph_text}
@@ -21,6 +21,7 @@ use Rattle.crib_plan_sheet.specs.Private.Pages.{first_text, IsDeep, place_row, n
 use Rattle.crib_plan_sheet.specs.Private.Pages.{paragraphs_text}
 use Rattle.crib_plan_sheet.proofs.LabelPieces.{column_from, line_at}
 use Rattle.crib_plan_sheet.proofs.PlanRows.{page_is, room, place_end, place_apart, place_node, node_play, node_see}
+use Rattle.crib_plan_sheet.proofs.PlanRows.{paragraph_more, paragraph_none}
 
 -- ---- places
 
@@ -36,7 +37,7 @@ any_width apart later all from [] = refl
 any_width apart later all from (End ∷ branches) = any_width apart later all (from + 1) branches
 any_width apart later all from (To node ∷ branches) = grind (arith, any_width apart later all (from + 1) branches)
 
-pub width_same : (flags : List Bool) (plan : List Node) (branches : List Next) → label_width (lines_at flags plan branches 0) ≡ width_at branches 0
+width_same : (flags : List Bool) (plan : List Node) (branches : List Next) → label_width (lines_at flags plan branches 0) ≡ width_at branches 0
 unfolding lines_at width_at
 width_same flags plan branches = any_width (apart_in flags) (rows_from (apart_in flags) 0 plan) branches 0 branches
 
@@ -52,7 +53,7 @@ room_later place count (To node) inside later = let above = later.0 in let below
 -- ---- lines
 
 -- one more line
-pub line_more : (flags : List Bool) (plan : List Node) (level width : ℕ) (all : List Next) (i node : ℕ) (d : Next) → i < length all →
+line_more : (flags : List Bool) (plan : List Node) (level width : ℕ) (all : List Next) (i node : ℕ) (d : Next) → i < length all →
     new_node (take i all) (get_or all i d) ≡ Some node →
     (line_front level width (map (leads_to node) all) ++ row_text level (place_row flags plan (To node)))
     ++ lines_text level width (lines_at flags plan all (i + 1)) ≡ lines_text level width (lines_at flags plan all i)
@@ -60,14 +61,14 @@ unfolding line_front lines_at place_row
 line_more flags plan level width all i node d inside some =
     ap (lines_text level width) (sym (line_at (apart_in flags) (rows_from (apart_in flags) 0 plan) all i d (Some node) inside some))
 
-pub line_skipped : (flags : List Bool) (plan : List Node) (level width : ℕ) (all : List Next) (i : ℕ) (d : Next) → i < length all →
+line_skipped : (flags : List Bool) (plan : List Node) (level width : ℕ) (all : List Next) (i : ℕ) (d : Next) → i < length all →
     new_node (take i all) (get_or all i d) ≡ None →
     lines_text level width (lines_at flags plan all (i + 1)) ≡ lines_text level width (lines_at flags plan all i)
 unfolding lines_at
 line_skipped flags plan level width all i d inside none =
     ap (lines_text level width) (sym (line_at (apart_in flags) (rows_from (apart_in flags) 0 plan) all i d None inside none))
 
-pub no_more_lines : (flags : List Bool) (plan : List Node) (level width : ℕ) (all : List Next) (i : ℕ) → length all ≤ i →
+no_more_lines : (flags : List Bool) (plan : List Node) (level width : ℕ) (all : List Next) (i : ℕ) → length all ≤ i →
     lines_text level width (lines_at flags plan all i) ≡ []
 unfolding lines_at
 no_more_lines flags plan level width all i past =
@@ -126,21 +127,40 @@ put_all flags plan level all i long past so_far =
 
 -- ---- paragraphs
 
-pub no_more_paragraphs : (flags : List Bool) (plan : List Node) (i : ℕ) → length plan ≤ i → paragraphs_text flags plan i ≡ []
+no_more_paragraphs : (flags : List Bool) (plan : List Node) (i : ℕ) → length plan ≤ i → paragraphs_text flags plan i ≡ []
 unfolding paragraphs_text
 no_more_paragraphs flags plan i past =
     ap (λ (nodes : List Node). flat_map paragraph_text (filter (λ paragraph. apart_in flags paragraph.number) (rows_from (apart_in flags) i nodes)))
     (drop_all i plan past)
 
-pub numbered_is : (flags : List Bool) (plan : List Node) (node : ℕ) →
+numbered_is : (flags : List Bool) (plan : List Node) (node : ℕ) →
     ((codes "\n[" ++ decimal node) ++ codes "] ") ++ row_text 0 (node_row flags plan node)
     ≡ paragraph_text (record { number = node; row = node_row flags plan node })
 unfolding paragraph_text
 numbered_is flags plan node = simp append_assoc
 
+-- the paragraphs before a node are put
+abbrev pub ParagraphsPut : List Bool → List Node → ℕ → Stand → Stand → Type 0
+ParagraphsPut flags plan i s t = SoFar (paragraphs_text flags plan i) (paragraphs_text flags plan 0) s t
+
+pub put_paragraph : (flags : List Bool) (plan nodes : List Node) (i : ℕ) {s t u v w x : Stand} → nodes ≡ plan → i < length nodes →
+    apart_in flags i ≡ true → ParagraphsPut flags plan i s t → Prints (codes "\n[") t u → Prints (decimal i) u v → Prints (codes "] ") v w →
+    Prints (row_text 0 (node_row flags plan i)) w x → ParagraphsPut flags plan (i + 1) s x
+put_paragraph flags plan nodes i same inside apart so_far opened number closed row =
+    so_far_more (sym (paragraph_more flags plan i (rw (← same) inside) apart)) so_far
+    (as_text (more (more (more opened number) closed) row) (numbered_is flags plan i))
+
+pub put_no_paragraph : (flags : List Bool) (plan nodes : List Node) (i : ℕ) {s t : Stand} → nodes ≡ plan → i < length nodes →
+    apart_in flags i ≡ false → ParagraphsPut flags plan i s t → ParagraphsPut flags plan (i + 1) s t
+put_no_paragraph flags plan nodes i same inside apart so_far = so_far_skip (sym (paragraph_none flags plan i (rw (← same) inside) apart)) so_far
+
+pub put_paragraphs : (flags : List Bool) (plan nodes : List Node) (i : ℕ) {s t : Stand} → nodes ≡ plan → length nodes ≤ i →
+    ParagraphsPut flags plan i s t → Prints (paragraphs_text flags plan 0) s t
+put_paragraphs flags plan nodes i same past so_far = so_far_done (no_more_paragraphs flags plan i (rw (← same) past)) so_far
+
 -- ---- the first row
 
-pub first_of_none : (sure : Bool) (flags : List Bool) (plan : List Node) → length plan ≡ 0 →
+first_of_none : (sure : Bool) (flags : List Bool) (plan : List Node) → length plan ≡ 0 →
     no_card sure Over ++ codes "\n" ≡ first_text sure flags plan
 unfolding first_text place_row
 first_of_none sure flags [] empty = refl
@@ -153,13 +173,22 @@ needed sure true apart later node = refl
 needed sure false apart later (Play card next) = refl
 needed sure false apart later (See branches) = refl
 
-pub first_of_some : (sure : Bool) (flags : List Bool) (plan : List Node) → 0 < length plan →
+first_of_some : (sure : Bool) (flags : List Bool) (plan : List Node) → 0 < length plan →
     row_text 0 (place_row flags plan (To 0)) ≡ first_text sure flags plan
 unfolding first_text place_row
 first_of_some sure flags [] some = absurd (omega arith)
 first_of_some sure flags (node ∷ plan) some =
     ap (λ (none : List ℕ). none ++ row_text 0 (place_row flags (node ∷ plan) (To 0)))
     (sym (needed sure (apart_in flags 0) (apart_in flags) (rows_from (apart_in flags) 1 plan) node))
+
+pub put_none_first : (sure known : Bool) (flags : List Bool) (plan nodes : List Node) {s t : Stand} → nodes ≡ plan → length nodes ≡ 0 →
+    sure ≡ known → Prints (no_card known Over ++ codes "\n") s t → Prints (first_text sure flags plan) s t
+put_none_first sure known flags plan nodes same none is put =
+    rw (is, ← first_of_none known flags plan (rw (← same) none)) put
+
+pub put_some_first : (sure : Bool) (flags : List Bool) (plan nodes : List Node) {s t : Stand} → nodes ≡ plan → 0 < length nodes →
+    Prints (row_text 0 (place_row flags plan (To 0))) s t → Prints (first_text sure flags plan) s t
+put_some_first sure flags plan nodes same some put = as_text put (first_of_some sure flags plan (rw (← same) some))
 
 -- ---- the pieces of a page, of a name and of the front of a line
 
@@ -169,7 +198,7 @@ legend =
     codes "\nPlay a row in order, one card at each of your turns. If none of your cards\nfits, say go and stay there. At \"look\", go on in the line of "
     ++ codes "what they show\nnext: a rank, or a go, even after yours. At \"see [n]\", go on in paragraph [n].\n"
 
-pub page_from : (sure : Bool) (flags : List Bool) (plan : List Node) (end : List ℕ) → end ≡ end_of_row sure →
+page_from : (sure : Bool) (flags : List Bool) (plan : List Node) (end : List ℕ) → end ≡ end_of_row sure →
     ((first_text sure flags plan ++ paragraphs_text flags plan 0) ++ legend) ++ end ≡ page_text sure (sheet_with (apart_in flags) plan)
 unfolding legend_text
 page_from sure flags plan end is =
@@ -178,17 +207,31 @@ page_from sure flags plan end is =
     append_assoc (first ++ rest) legend end ∙ ap (λ (bytes : List ℕ). (first ++ rest) ++ (legend ++ bytes)) is
     ∙ append_assoc first rest (legend_text sure) ∙ sym (page_is sure flags plan)
 
+pub put_page : (sure : Bool) (flags : List Bool) (plan : List Node) (end : List ℕ) {s t u v w : Stand} → end ≡ end_of_row sure →
+    Prints (first_text sure flags plan) s t → Prints (paragraphs_text flags plan 0) t u → Prints legend u v → Prints end v w →
+    Prints (page_text sure (sheet_with (apart_in flags) plan)) s w
+put_page sure flags plan end is first rest meaning last = as_text (more (more (more first rest) meaning) last) (page_from sure flags plan end is)
+
 -- the blanks of one level more
-pub indent_more : (level : ℕ) → indent level ++ codes "    " ≡ indent (level + 1)
+indent_more : (level : ℕ) → indent level ++ codes "    " ≡ indent (level + 1)
 indent_more zero = refl
 indent_more (suc level) =
     let e : 4 * (suc level + 1) ≡ suc (suc (suc (suc (4 * (level + 1))))) = omega arith in
     let f : 4 * suc level ≡ suc (suc (suc (suc (4 * level)))) = omega arith in
     rw (e, f, ← indent_more level) refl
 
-pub front_is : (level width blanks : ℕ) (set : List Bool) (written : List ℕ) → written ≡ label set → width ≤ 28 →
+front_is : (level width blanks : ℕ) (set : List Bool) (written : List ℕ) → written ≡ label set → width ≤ 28 →
     blanks ≡ width - length written →
     ((indent level ++ written) ++ take blanks (replicate 28 space)) ++ codes " : " ≡ line_front level width set
 unfolding line_front
 front_is level width blanks set written is narrow blank =
     rw (append_assoc (indent level) written (take blanks (replicate 28 space)), blank, column_from width set written is narrow) refl
+
+pub put_blanks : (level : ℕ) {s t u : Stand} → Prints (indent level) s t → Prints (codes "    ") t u → Prints (indent (level + 1)) s u
+put_blanks level so_far put = as_text (more so_far put) (indent_more level)
+
+pub put_label : (level step width blanks : ℕ) (set : List Bool) (written : List ℕ) {s t u v w : Stand} → step ≡ level → written ≡ label set →
+    width ≤ 28 → blanks ≡ width - length written → Prints (indent step) s t → Prints written t u →
+    Prints (take blanks (replicate 28 space)) u v → Prints (codes " : ") v w → Prints (line_front level width set) s w
+put_label level step width blanks set written over is narrow blank so_far put after colon =
+    as_text (more (more (more (as_text so_far (ap indent over)) put) after) colon) (front_is level width blanks set written is narrow blank)

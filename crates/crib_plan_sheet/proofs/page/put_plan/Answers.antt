@@ -1,7 +1,6 @@
 use Rattle.std.proofs.Common.{◌≡◌, refl}
-use Rattle.crib_run.proofs.Printing.{as_text, more}
 use Rattle.crib_plan_sheet.specs.PlanPage.{end_of_row}
-use Rattle.crib_plan_sheet.proofs.PutRows.{page_from}
+use Rattle.crib_plan_sheet.proofs.PutRows.{put_page}
 use Rattle.crib_plan_sheet.proofs.page.put_plan.Goals as goal
 use Rattle.crib_plan_sheet.proofs.page.put_plan.Goals.{then-sure, else-sure}
 
@@ -13,5 +12,5 @@ returns g c =
       | else-sure w ↦ rw (w.put-is, w.if-sure.false) refl
     ]
     in
-    as_text (more (more (more c.put_first.ensures c.put_paragraphs.ensures) c.put.ensures) c.put-2.ensures)
-    (page_from c.args.sure c.args.outline.now c.args.plan.now c.if-sure.put.now end)
+    put_page c.args.sure c.args.outline.now c.args.plan.now c.if-sure.put.now end
+    c.put_first.ensures c.put_paragraphs.ensures c.put.ensures c.put-2.ensures

@@ -1,33 +1,43 @@
-use Rattle.std.proofs.Common.{◌≡◌, ◌<◌, [], ◌∷◌, ◌++◌, List, ℕ, length, reverse, Some, ap, sym, subst, ◌∙◌, arith}
+use Rattle.std.proofs.Common.{◌≡◌, ◌<◌, [], ◌∷◌, ◌++◌, List, ℕ, length, reverse, Option, Some, refl, ap, sym, ◌∙◌, arith}
 use Rattle.std.specs.List.{AllByRecursion}
-use Rattle.std.proofs.Math.ListN.{length-set}
+use Rattle.std.proofs.Math.ListN.{set, length-set}
 use Rattle.std.proofs.lemmas.List.{length-reverse, reverse-append}
+use Rattle.crib_search.specs.declared.nodes.DraftNode.{DraftNode}
+use Rattle.crib_search.specs.Private.Nodes.{AreKept}
+use Rattle.crib_search.specs.Private.Numbers.{AreMarks, Walked}
 use Rattle.crib_search.proofs.NodeWalks.{marks_left}
-use Rattle.crib_search.specs.Private.Numbers.{Walked}
 use Rattle.crib_search.proofs.numbering.Numbering.leave.Goals as goal
 
 pushed : (order after : List ℕ) (place : ℕ) → after ≡ order ++ place ∷ [] → reverse after ≡ place ∷ reverse order
 pushed order after place is = ap reverse is ∙ reverse-append order (place ∷ [])
 
+-- what is known of the places left and of their marks
+abbrev AreWalked : List DraftNode → List ℕ → List (Option ℕ) → Type 0
+AreWalked nodes left marks =
+    AreKept nodes × AllByRecursion (λ place. place < length nodes) left × AreMarks marks left × (length marks ≡ length nodes)
+
+one_left : (nodes nodes' : List DraftNode) (order after : List ℕ) (marks : List (Option ℕ)) (place before : ℕ) → nodes ≡ nodes' →
+    place < length nodes' → before ≡ length order → after ≡ order ++ place ∷ [] → AreWalked nodes (reverse order) marks →
+    AreWalked nodes (reverse after) (set marks place (Some before))
+one_left nodes nodes' order after marks place before same inside count goes are =
+    let within : place < length nodes = rw same inside in
+    rw (pushed order after place goes) (
+      are.0,
+      (within, are.1),
+      marks_left marks place (reverse order) (place ∷ reverse order) before are.2 (omega (arith, within, are.3)) (count ∙ sym (length-reverse order)) refl,
+      length-set marks place (Some before) ∙ are.3,
+    )
+
 pub invariant_of-self-2 : goal.invariant_of-self-2
 invariant_of-self-2 g c =
-    let order : List ℕ = c.self.inside.order.items in
-    let count : c.len-before.result ≡ length order = c.len-before.ensures ∙ c.self.inside.order.ok.0 in
-    let after : reverse c.push.new.self.items ≡ c.args.place ∷ reverse order = pushed order _ _ c.in_ok-push.ensures.items in
-    let nodes : c.self.inside.nodes.now ≡ c.args.self.now.draft_nodes = ap (λ (walked : Walked). walked.draft_nodes) c.self.view_is in
-    let within : c.args.place < length c.self.inside.nodes.now = subst (λ nodes. c.args.place < length nodes) (sym nodes) c.requires in
-    let kept : AllByRecursion (λ place. place < length c.self.inside.nodes.now) (c.args.place ∷ reverse order) = (within, c.self.invariant.1) in (
-      c.self.invariant.0,
-      subst (λ left. AllByRecursion (λ place. place < length c.self.inside.nodes.now) left) (sym after) kept,
-      marks_left c.self.inside.marks.items c.args.place (reverse order) (reverse c.push.new.self.items) c.len-before.result c.self.invariant.2
-          (omega (arith, within, c.self.invariant.3)) (count ∙ sym (length-reverse order)) after,
-      length-set c.self.inside.marks.items c.args.place (Some c.len-before.result) ∙ c.self.invariant.3,
-    )
+    one_left c.self.inside.nodes.now c.args.self.now.draft_nodes c.self.inside.order.items c.push.new.self.items c.self.inside.marks.items c.args.place
+    c.len-before.result (ap (λ (walked : Walked). walked.draft_nodes) c.self.view_is) c.requires (c.len-before.ensures ∙ c.self.inside.order.ok.0)
+    c.in_ok-push.ensures.items c.self.invariant
 
 pub invariant_of-self : goal.invariant_of-self
 invariant_of-self g c = rw c.in_err-push.ensures.items c.self.invariant
 
 pub returns-clause-left : goal.returns-clause-left
 returns-clause-left g c =
-    let left : reverse c.self.inside.order.items ≡ c.args.self.now.left = ap (λ (walked : Walked). walked.left) c.self.view_is in
-    pushed c.self.inside.order.items _ _ c.in_ok-push.ensures.items ∙ ap (λ places. c.args.place ∷ places) left
+    pushed c.self.inside.order.items c.push.new.self.items c.args.place c.in_ok-push.ensures.items
+    ∙ ap (λ (walked : Walked). c.args.place ∷ walked.left) c.self.view_is

@@ -57,11 +57,11 @@ module _ (gives : List ℕ → Option Dealt) (may : ℕ → Bool) (hold : List �
   none_left cards less is = ap (λ n. first_choice gives may (take len hold) n cards) (left less)
       ∙ choice_none gives may (take len hold) (4 - (len + 1)) cards is
 
-  pub card_found : (cards rest : List ℕ) (card : ℕ) (found : Dealt) → len < 4 → cards ≡ card ∷ rest → may card ≡ true → with_card card rest ≡ Some found →
-      chosen cards ≡ Some found
-  card_found cards rest card found less is may_it gives_it =
+  pub card_found : (cards rest : List ℕ) (card : ℕ) (found : Dealt) (given : Option Dealt) → len < 4 → cards ≡ card ∷ rest → may card ≡ true →
+      given ≡ with_card card rest → given ≡ Some found → chosen cards ≡ Some found
+  card_found cards rest card found given less is may_it same gives_it =
       ap (λ n. first_choice gives may (take len hold) n cards) (left less)
-      ∙ choice_found gives may (take len hold) (4 - (len + 1)) cards rest card found is may_it (sym (with_card-is card rest less) ∙ gives_it)
+      ∙ choice_found gives may (take len hold) (4 - (len + 1)) cards rest card found is may_it (sym (same ∙ with_card-is card rest less) ∙ gives_it)
 
   -- no choice with a card gives a deal
   pub card_left : (cards rest : List ℕ) (card : ℕ) → len < 4 → cards ≡ card ∷ rest →
@@ -71,8 +71,9 @@ module _ (gives : List ℕ → Option Dealt) (may : ℕ → Bool) (hold : List �
       ∙ choice_passed gives may (take len hold) (4 - (len + 1)) cards rest card is none
       ∙ ap (λ n. first_choice gives may (take len hold) n rest) (sym (left less))
 
-  pub card_passed : (cards rest : List ℕ) (card : ℕ) → len < 4 → cards ≡ card ∷ rest → with_card card rest ≡ None → chosen cards ≡ chosen rest
-  card_passed cards rest card less is none = card_left cards rest card less is (sym (with_card-is card rest less) ∙ none)
+  pub card_passed : (cards rest : List ℕ) (card : ℕ) (given : Option Dealt) → len < 4 → cards ≡ card ∷ rest → given ≡ with_card card rest →
+      given ≡ None → chosen cards ≡ chosen rest
+  card_passed cards rest card given less is same none = card_left cards rest card less is (sym (same ∙ with_card-is card rest less) ∙ none)
 
 -- ---- if a deal is given, some choice gives it
 

@@ -9,7 +9,7 @@ use Rattle.crib_plan.specs.declared.plan.Next.{Next}
 use Rattle.crib_plan.specs.declared.plan.Next.TheVariants.{End, To}
 use Rattle.crib_plan.specs.declared.plan.Node.{Node}
 use Rattle.crib_plan.specs.declared.plan.Node.TheVariants.{Play, See}
-use Rattle.crib_plan.specs.Nodes.{IsLater, ArePlan}
+use Rattle.crib_plan.specs.Nodes.{IsLater, IsNode, ArePlan}
 use Rattle.crib_plan.specs.Spelling.{leads_to}
 use Rattle.crib_run.specs.Prints.{Stand, Prints}
 use Rattle.crib_run.proofs.Printing.{SoFar, more, as_text, so_far_more, so_far_skip, so_far_done}
@@ -20,7 +20,7 @@ use Rattle.crib_plan_sheet.specs.PlanPage.{end_of_row, legend_text, no_card, pag
 use Rattle.crib_plan_sheet.specs.Private.Pages.{first_text, IsDeep, place_row, node_row, lines_at, line_front, width_at, new_node}
 use Rattle.crib_plan_sheet.specs.Private.Pages.{paragraphs_text}
 use Rattle.crib_plan_sheet.proofs.LabelPieces.{column_from, line_at}
-use Rattle.crib_plan_sheet.proofs.PlanRows.{page_is, room, place_end, place_apart, place_node, node_play, node_see}
+use Rattle.crib_plan_sheet.proofs.PlanRows.{page_is, room, node_at, place_end, place_apart, place_node, node_play, node_see}
 use Rattle.crib_plan_sheet.proofs.PlanRows.{paragraph_more, paragraph_none}
 
 -- ---- places
@@ -28,6 +28,10 @@ use Rattle.crib_plan_sheet.proofs.PlanRows.{paragraph_more, paragraph_none}
 -- a node of a plan, as it is read
 pub seen : (plan nodes : List Node) (i : ℕ) (found node : Node) → nodes ≡ plan → found ≡ get_or nodes i found → found ≡ node → get_or plan i found ≡ node
 seen plan nodes i found node same read is = cc
+
+pub node_seen : (plan nodes : List Node) (i : ℕ) (found node : Node) → nodes ≡ plan → found ≡ get_or nodes i found → found ≡ node → ArePlan plan →
+    i < length plan → IsNode i (length plan) node
+node_seen plan nodes i found node same read is are inside = node_at plan i found node are inside (seen plan nodes i found node same read is)
 
 -- ---- nodes
 

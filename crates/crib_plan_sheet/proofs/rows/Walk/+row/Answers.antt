@@ -1,10 +1,7 @@
-use Rattle.std.proofs.Common.{rules, ◌≤◌, length, sym, ◌∙◌, arith}
+use Rattle.std.proofs.Common.{rules, length, sym, ◌∙◌, arith}
 use Rattle.crib_plan.specs.declared.plan.Node.TheVariants.{Play, See}
-use Rattle.crib_plan.specs.Nodes.{IsLater, IsNode}
 use Rattle.crib_run.proofs.Printing.{so_far_none}
-use Rattle.crib_plan_sheet.specs.Private.Pages.{IsDeep}
-use Rattle.crib_plan_sheet.proofs.PlanRows.{node_at}
-use Rattle.crib_plan_sheet.proofs.PutRows.{seen, deep_later, room_later}
+use Rattle.crib_plan_sheet.proofs.PutRows.{seen, node_seen, deep_later, room_later}
 use Rattle.crib_plan_sheet.proofs.PutRows.{put_end, put_apart, put_whole, put_play, put_look, put_line, put_none, put_all}
 use Rattle.crib_plan_sheet.proofs.rows.Walk.+row.Goals as goal
 use Rattle.crib_plan_sheet.proofs.rows.Walk.+row.Goals.{put_lines-in-Some, put_lines-in_default}
@@ -26,18 +23,17 @@ put_row-returns-else-is_apart g t c =
 -- ---- a node
 pub put_node-before_rest-requires : goal.put_node-before_rest-requires
 put_node-before_rest-requires g t c =
-    let here = seen c.args.self.now.plan.now c.nodes.result.now c.args.node c.index-nodes-node.result (Play c.in-Play.card c.in-Play.next)
-    c.nodes.ensures.nodes c.index-nodes-node.is c.in-Play.is in
-    deep_later 0 c.args.node (length c.args.self.now.plan.now) c.in-Play.next (omega arith) (node_at c.args.self.now.plan.now c.args.node c.index-nodes-node.result (Play c.in-Play.card c.in-Play.next) c.nodes.ensures.sound c.requires.1 here).1
+    let here = node_seen c.args.self.now.plan.now c.nodes.result.now c.args.node c.index-nodes-node.result (Play c.in-Play.card c.in-Play.next)
+    c.nodes.ensures.nodes c.index-nodes-node.is c.in-Play.is c.nodes.ensures.sound c.requires.1 in
+    deep_later 0 c.args.node (length c.args.self.now.plan.now) c.in-Play.next (omega arith) here.1
 
 pub put_node-put_row-requires : goal.put_node-put_row-requires
 put_node-put_row-requires g t c κs within =
-    let here = seen c.args.self.now.plan.now c.nodes.result.now c.args.node c.index-nodes-node.result (Play c.in-Play.card c.in-Play.next)
-    c.nodes.ensures.nodes c.index-nodes-node.is c.in-Play.is in
-    let low : c.args.level ≤ c.args.node = c.requires.0 in
-    let later : IsLater c.args.node (length c.args.self.now.plan.now) c.in-Play.next = (node_at c.args.self.now.plan.now c.args.node c.index-nodes-node.result (Play c.in-Play.card c.in-Play.next) c.nodes.ensures.sound c.requires.1 here).1 in
-    let deep : IsDeep c.args.level (length c.args.self.now.plan.now) c.in-Play.next = deep_later _ _ _ _ (omega (arith, low)) later in
-    let left = room_later _ _ _ c.requires.1 later in
+    let here = node_seen c.args.self.now.plan.now c.nodes.result.now c.args.node c.index-nodes-node.result (Play c.in-Play.card c.in-Play.next)
+    c.nodes.ensures.nodes c.index-nodes-node.is c.in-Play.is c.nodes.ensures.sound c.requires.1 in
+    let count = length c.args.self.now.plan.now in
+    let deep = deep_later c.args.level c.args.node count c.in-Play.next (omega (arith, c.requires.0)) here.1 in
+    let left = room_later c.args.node count c.in-Play.next c.requires.1 here.1 in
     search (rules, deep, left)
 
 pub put_node-returns-in-Play : goal.put_node-returns-in-Play
@@ -50,10 +46,9 @@ put_node-returns-in-Play g t c =
 
 pub put_node-put_lines-requires : goal.put_node-put_lines-requires
 put_node-put_lines-requires g t c κs within =
-    let here = seen c.args.self.now.plan.now c.nodes.result.now c.args.node c.index-nodes-node.result (See c.in-See.next)
-    c.nodes.ensures.nodes c.index-nodes-node.is c.in-See.is in
-    let later : IsNode c.args.node (length c.args.self.now.plan.now) (See c.in-See.next) = node_at c.args.self.now.plan.now c.args.node c.index-nodes-node.result (See c.in-See.next) c.nodes.ensures.sound c.requires.1 here in
-    search (rules, c.requires.0, c.requires.1, later)
+    let here = node_seen c.args.self.now.plan.now c.nodes.result.now c.args.node c.index-nodes-node.result (See c.in-See.next)
+    c.nodes.ensures.nodes c.index-nodes-node.is c.in-See.is c.nodes.ensures.sound c.requires.1 in
+    search (rules, c.requires.0, c.requires.1, here)
 
 pub put_node-returns-in-See : goal.put_node-returns-in-See
 put_node-returns-in-See g t c =
@@ -71,8 +66,8 @@ pub put_lines-loop-place-preserved : goal.put_lines-loop-place-preserved
 put_lines-loop-place-preserved g t c =
     elim c.match-new_node.branch [
       | put_lines-in-Some w ↦
-          rw w.page-is (put_line c.args.self.now.outline.now c.args.self.now.plan.now c.args.level c.width_of-width.result c.args.branches.now c.loop-place.place
-          w.in-Some.node _ w.letters_to.result c.told-branches c.loop-place-test.true (sym c.new_node.ensures ∙ w.in-Some.is)
+          rw w.page-is (put_line c.args.self.now.outline.now c.args.self.now.plan.now c.args.level c.width_of-width.result c.args.branches.now
+          c.loop-place.place w.in-Some.node _ w.letters_to.result c.told-branches c.loop-place-test.true (sym c.new_node.ensures ∙ w.in-Some.is)
           c.width_of-width.ensures.width w.letters_to.ensures c.loop-place.invariant w.put_front.ensures w.put_row.ensures)
       | put_lines-in_default w ↦
           rw w.page-is (put_none c.args.self.now.outline.now c.args.self.now.plan.now c.args.level c.args.branches.now c.loop-place.place _
@@ -81,5 +76,5 @@ put_lines-loop-place-preserved g t c =
 
 pub put_lines-returns : goal.put_lines-returns
 put_lines-returns g t c =
-    put_all c.args.self.now.outline.now c.args.self.now.plan.now c.args.level c.args.branches.now c.loop-place.place c.told-branches (omega (arith, c.loop-place-test.false))
-    c.loop-place.invariant
+    put_all c.args.self.now.outline.now c.args.self.now.plan.now c.args.level c.args.branches.now c.loop-place.place
+    c.told-branches (omega (arith, c.loop-place-test.false)) c.loop-place.invariant

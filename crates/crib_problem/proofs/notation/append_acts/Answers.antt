@@ -1,5 +1,5 @@
-use Rattle.std.proofs.Common.{[], ◌∷◌, take, map, add-one, arith}
-use Rattle.std.proofs.lemmas.List.{map-append, flat_map_more}
+use Rattle.std.proofs.Common.{[], ◌∷◌, append_assoc, take, map, add-one, arith}
+use Rattle.std.proofs.lemmas.List.{map-append, flat_map_more, take_all}
 use Rattle.std.proofs.Math.Seq.{take-suc}
 use Rattle.crib_text.specs.Spelling.{line_text}
 use Rattle.crib_problem.specs.Spelling.{act_line}
@@ -24,3 +24,10 @@ loop-act-preserved g c =
         len = omega arith;
       };
     }
+
+pub returns-clause-items : goal.returns-clause-items
+returns-clause-items g c = rw (
+  c.loop-act.invariant.written.items,
+  c.append_count.ensures.items,
+  take_all c.loop-act.act-index c.args.acts.now c.loop-act-test.false,
+) (append_assoc c.args.text.now.items _ _)

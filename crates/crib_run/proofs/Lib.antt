@@ -4,3 +4,4 @@ pub mod Runs
 mod Examples
 pub mod Delivery
 mod BesideExamples
+mod PrintsExamples

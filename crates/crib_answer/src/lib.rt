@@ -13,6 +13,3 @@ mod verdict;
 pub use answering::{answer_of, answer_to};
 pub use job::{Job, NAMES, UnknownJob};
 pub use laws::{agreement_law, check_law, reply_law, solve_law};
-
-#[cfg(test)]
-mod tests;

@@ -10,6 +10,3 @@ mod throws;
 pub use laws::tally_law;
 pub use rows::{Row, Rows, Slot, Term, rows_of};
 pub use tally::{RanksTally, Tally, tally_of};
-
-#[cfg(test)]
-mod tests;

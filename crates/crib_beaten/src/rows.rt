@@ -15,8 +15,6 @@ use crib_problem::Problem;
 use std::alloc::Allocator;
 
 mod finding;
-#[cfg(test)]
-mod tests;
 
 // The most rows.
 const MOST_ROWS: usize = 12;

@@ -10,6 +10,3 @@ pub use args::{show, words_of_args};
 pub use command::{command_of, command_without_words};
 pub use program::Program;
 pub use status::status_of_words;
-
-#[cfg(test)]
-mod tests;

@@ -11,6 +11,3 @@ pub use game::{
     send_game_sheet,
 };
 pub use heading::put_heading;
-
-#[cfg(test)]
-mod tests;

@@ -12,6 +12,3 @@ pub use reading::{
 pub use reason::{FaultCause, Reason};
 pub use refusal::{Cause, Refusal};
 pub use sections::Sections;
-
-#[cfg(test)]
-mod tests;

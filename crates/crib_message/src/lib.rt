@@ -22,6 +22,3 @@ mod strays;
 mod turns;
 
 pub use message::{Message, message_of};
-
-#[cfg(test)]
-mod tests;

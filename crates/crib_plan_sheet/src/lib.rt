@@ -17,6 +17,3 @@ pub use now::put_now;
 pub use outline::Outline;
 pub use page::put_plan;
 pub use stuck::{put_letter, put_stuck};
-
-#[cfg(test)]
-mod tests;

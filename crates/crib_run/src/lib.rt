@@ -19,6 +19,3 @@ pub use page::{
 pub use sending::{Explain, Sendable, deliver, deliver_reason, unread_reason};
 pub use status::Status;
 pub use text::{ShortText, Text, add, add_number};
-
-#[cfg(test)]
-mod tests;

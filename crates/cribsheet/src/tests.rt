@@ -8,3 +8,11 @@ mod plans;
 mod runs;
 mod tries;
 mod words;
+
+use std::fmt::Debug;
+use std::process::Abort;
+
+// Asserts that two values are equal.
+fn same<T: PartialEq + Debug + Drop>(rt: &impl Abort, found: T, wanted: T) {
+    assert_eq!(rt; found, wanted);
+}

@@ -1,14 +1,12 @@
 //! What the commands write to inputs that they accept.
-use crate::tests::runs::{ONE_GAME, writes};
+use crate::tests::runs::{ONE_GAME, text_of, writes};
 use crib_answer::Job;
 use crib_run::Status;
 use example_texts::boards::*;
 use example_texts::games::*;
-use example_texts::joined;
 use example_texts::plans::*;
 use example_texts::problems::*;
 use std::process::Abort;
-use std::test::Fail;
 
 // The sections of an input, and what is written.
 type Row = (&'static [&'static str], &'static str);
@@ -20,27 +18,29 @@ fn answers(rt: &(impl Abort + AllocGlobal), job: Job, rows: &[Row], status: Stat
     }
 }
 
+const BOARDS: &[Row] = &[
+    (&[TENS, LAST_CARD], LAST_CARD_BOARD),
+    (&[CLOSE, PAIRED], PEGGED_OUT_BOARD),
+    (&[TENS, NO_TEN_PLAYED], OPEN_BOARD),
+];
+
 #[test]
 fn draws_boards(rt: HostRuntime) {
-    let boards: [Row; 3] = [
-        (&[TENS, LAST_CARD], LAST_CARD_BOARD),
-        (&[CLOSE, PAIRED], PEGGED_OUT_BOARD),
-        (&[TENS, NO_TEN_PLAYED], OPEN_BOARD),
-    ];
-    answers(&rt, Job::Board, &boards, Status::Yes);
+    answers(&rt, Job::Board, BOARDS, Status::Yes);
 }
+
+const SURE_PLANS: &[Row] = &[
+    (&[NEAR, TWOS], "holds\n"),
+    (&[TWELVE, TWOS], "holds\n"),
+    (&[TWELVE, LOOK], "holds\n"),
+    (&[DEALERS_THIRTEEN, TWOS], "holds\n"),
+    (&[BEGUN, REST], "holds\n"),
+    (&[STOP_FAR, TWOS], "holds\n"),
+];
 
 #[test]
 fn passes_sure_plans(rt: HostRuntime) {
-    let sure: [Row; 6] = [
-        (&[NEAR, TWOS], "holds\n"),
-        (&[TWELVE, TWOS], "holds\n"),
-        (&[TWELVE, LOOK], "holds\n"),
-        (&[DEALERS_THIRTEEN, TWOS], "holds\n"),
-        (&[BEGUN, REST], "holds\n"),
-        (&[STOP_FAR, TWOS], "holds\n"),
-    ];
-    answers(&rt, Job::Check, &sure, Status::Yes);
+    answers(&rt, Job::Check, SURE_PLANS, Status::Yes);
 }
 
 // A problem, a plan that fails, the ending, and the first failing game.
@@ -48,7 +48,7 @@ type Failure = (&'static str, &'static str, &'static str, &'static str);
 
 // The dealer's hand is counted after the pone's, and the crib last. In the first game of `DEALERS_FOURTEEN` that is
 // short, the opponent's throw makes no pair and no run with the owner's throw.
-const FAILURES: [Failure; 13] = [
+const FAILURES: &[Failure] = &[
     (THIRTEEN, TWOS, "short", OWNER_LEADS),
     (TWELVE, NO_PLAN, "stuck", NO_ACTS),
     (CLOSE, ACE, "lost", PAIRED),
@@ -65,61 +65,62 @@ const FAILURES: [Failure; 13] = [
 ];
 
 #[test]
-fn names_the_first_failing_game(rt: HostRuntime) -> Result<(), Fail> {
-    for (problem, plan, ending, game) in &FAILURES {
-        let wanted = joined(rt.alloc(), &["fails ", ending, "\n", game])?;
+fn names_the_first_failing_game(rt: HostRuntime) {
+    for (problem, plan, ending, game) in FAILURES {
+        let wanted = text_of(&rt, &["fails ", ending, "\n", game]);
         let sections = [*problem, *plan];
         writes(&rt, Job::Check, &sections, wanted.as_str(), Status::No);
     }
-    Ok(())
 }
 
 #[test]
-fn ends_each_failing_game_as_check_does(rt: HostRuntime) -> Result<(), Fail> {
-    for (problem, plan, ending, game) in &FAILURES {
-        let wanted = joined(rt.alloc(), &[ending, "\n"])?;
+fn ends_each_failing_game_as_check_does(rt: HostRuntime) {
+    for (problem, plan, ending, game) in FAILURES {
+        let wanted = text_of(&rt, &[ending, "\n"]);
         let sections = [*problem, *plan, *game];
         writes(&rt, Job::Follow, &sections, wanted.as_str(), Status::No);
     }
-    Ok(())
 }
+
+const REACHED: &[Row] = &[(&[TWELVE, TWOS, OWNER_LEADS], "reached\n")];
+
+const NOT_REACHED: &[Row] = &[
+    (&ONE_GAME, "short\n"),
+    (&[THIRTEEN, TWOS, NO_ACTS], "open\n"),
+    (&[THIRTEEN, NO_PLAN, NO_ACTS], "stuck\n"),
+];
 
 #[test]
 fn tells_how_a_game_stands(rt: HostRuntime) {
-    let reached: [Row; 1] = [(&[TWELVE, TWOS, OWNER_LEADS], "reached\n")];
-    answers(&rt, Job::Follow, &reached, Status::Yes);
-    let others: [Row; 3] = [
-        (&ONE_GAME, "short\n"),
-        (&[THIRTEEN, TWOS, NO_ACTS], "open\n"),
-        (&[THIRTEEN, NO_PLAN, NO_ACTS], "stuck\n"),
-    ];
-    answers(&rt, Job::Follow, &others, Status::No);
+    answers(&rt, Job::Follow, REACHED, Status::Yes);
+    answers(&rt, Job::Follow, NOT_REACHED, Status::No);
 }
+
+const REPLAYED: &[Row] = &[
+    (&[TENS, LAST_CARD], LAST_CARD_ANSWER),
+    (
+        &[LAST_MAKES_31, MAKES_31],
+        "play 1 2\nhand owner 11 12 2\nhand opponent 9 12 11\ncrib opponent 2 12 13\nshort\n",
+    ),
+    (&[CLOSE, PAIRED], "play 100 121\nlost\n"),
+    (
+        &[RACE, OPPONENT_LEADS],
+        "play 109 109\nhand opponent 12 109 121\nlost\n",
+    ),
+    (&[TENS, NO_TEN_PLAYED], "play 0 0\nopen\n"),
+    (
+        &[BEGUN, OWNER_LEADS],
+        "play 0 1\nhand owner 12 12 1\nreached\n",
+    ),
+    (
+        &[STOP_SHOW, OWNER_LEADS_TO_SIXTEEN],
+        "play 0 93\nhand owner 12 12 93\nhand opponent 12 12 105\ncrib opponent 16 12 121\nlost\n",
+    ),
+];
 
 #[test]
 fn tells_the_scores_the_show_and_the_outcome(rt: HostRuntime) {
-    let replayed: [Row; 7] = [
-        (&[TENS, LAST_CARD], LAST_CARD_ANSWER),
-        (
-            &[LAST_MAKES_31, MAKES_31],
-            "play 1 2\nhand owner 11 12 2\nhand opponent 9 12 11\ncrib opponent 2 12 13\nshort\n",
-        ),
-        (&[CLOSE, PAIRED], "play 100 121\nlost\n"),
-        (
-            &[RACE, OPPONENT_LEADS],
-            "play 109 109\nhand opponent 12 109 121\nlost\n",
-        ),
-        (&[TENS, NO_TEN_PLAYED], "play 0 0\nopen\n"),
-        (
-            &[BEGUN, OWNER_LEADS],
-            "play 0 1\nhand owner 12 12 1\nreached\n",
-        ),
-        (
-            &[STOP_SHOW, OWNER_LEADS_TO_SIXTEEN],
-            "play 0 93\nhand owner 12 12 93\nhand opponent 12 12 105\ncrib opponent 16 12 121\nlost\n",
-        ),
-    ];
-    answers(&rt, Job::Replay, &replayed, Status::Yes);
+    answers(&rt, Job::Replay, REPLAYED, Status::Yes);
 }
 
 // The owner leads a nine and looks whether the opponent pairs it. If they do, a third nine makes six points. The plan
@@ -138,10 +139,12 @@ fn tells_the_scores_the_show_and_the_outcome(rt: HostRuntime) {
 const THIRD_NINE: &str = "plan 1\nnodes 6\n0 play 9S 1\n1 see A2345678TJQK:3 9:2\n2 play 9D end\n\
     3 play 9D 4\n4 play TD 5\n5 play QC end\n";
 
+const FOUND: &[Row] = &[(&[TWELVE], TWOS), (&[BEGUN], REST), (&[NINES], THIRD_NINE)];
+
+const NOT_FOUND: &[Row] = &[(&[THIRTEEN], "none\n"), (&[STOP_SHOW], "none\n")];
+
 #[test]
 fn finds_a_sure_plan_or_none(rt: HostRuntime) {
-    let found: [Row; 3] = [(&[TWELVE], TWOS), (&[BEGUN], REST), (&[NINES], THIRD_NINE)];
-    answers(&rt, Job::Solve, &found, Status::Yes);
-    let none: [Row; 2] = [(&[THIRTEEN], "none\n"), (&[STOP_SHOW], "none\n")];
-    answers(&rt, Job::Solve, &none, Status::No);
+    answers(&rt, Job::Solve, FOUND, Status::Yes);
+    answers(&rt, Job::Solve, NOT_FOUND, Status::No);
 }

@@ -1,13 +1,11 @@
 //! Inputs that are cut short at any byte, or have a CR at any place.
-use crate::tests::runs::{ONE_GAME, numbered, outcome_of};
+use crate::tests::runs::{ONE_GAME, numbered, outcome_of, text_of, text_with};
 use crib_answer::Job;
 use crib_run::Status;
 use example_texts::games::*;
 use example_texts::plans::*;
 use example_texts::problems::*;
-use example_texts::{joined, joined_with};
 use std::process::Abort;
-use std::test::Fail;
 
 // The number of LFs in a text.
 fn count_lines(text: &[u8]) -> usize {
@@ -32,7 +30,7 @@ fn refuses_after(
 // Asserts that each proper beginning of these inputs is refused as cut short, at the line after its last LF.
 fn refuses_beginnings(rt: &(impl Abort + AllocGlobal), job: Job, inputs: &[&[&str]]) {
     for sections in inputs {
-        let text = joined(rt.alloc(), sections).expect(rt, "memory");
+        let text = text_of(rt, sections);
         let input = text.as_bytes();
         for len in 0..input.len() {
             refuses_after(rt, job, &input[..len], &input[..len], 3);
@@ -40,15 +38,16 @@ fn refuses_beginnings(rt: &(impl Abort + AllocGlobal), job: Job, inputs: &[&[&st
     }
 }
 
+const CHECKED: &[&[&str]] = &[
+    &[TWELVE, TWOS],
+    &[TWELVE, LOOK],
+    &[TWELVE, NO_KING],
+    &[BEGUN, NO_PLAN],
+];
+
 #[test]
 fn of_check(rt: HostRuntime) {
-    let inputs: [&[&str]; 4] = [
-        &[TWELVE, TWOS],
-        &[TWELVE, LOOK],
-        &[TWELVE, NO_KING],
-        &[BEGUN, NO_PLAN],
-    ];
-    refuses_beginnings(&rt, Job::Check, &inputs);
+    refuses_beginnings(&rt, Job::Check, CHECKED);
 }
 
 #[test]
@@ -56,36 +55,36 @@ fn of_solve(rt: HostRuntime) {
     refuses_beginnings(&rt, Job::Solve, &[&[TWELVE], &[THIRTEEN]]);
 }
 
+const REPLAYED: &[&[&str]] = &[&[TENS, LAST_CARD], &[BEGUN, OWNER_LEADS], &[TENS, FALSE_GO]];
+
 #[test]
 fn of_replay(rt: HostRuntime) {
-    let inputs: [&[&str]; 3] = [&[TENS, LAST_CARD], &[BEGUN, OWNER_LEADS], &[TENS, FALSE_GO]];
-    refuses_beginnings(&rt, Job::Replay, &inputs);
+    refuses_beginnings(&rt, Job::Replay, REPLAYED);
 }
 
+const FOLLOWED: &[&[&str]] = &[
+    &ONE_GAME,
+    &[THIRTEEN, TWOS, NO_ACTS],
+    &[THIRTEEN, NO_PLAN, NO_ACTS],
+];
+
 #[test]
-fn of_follow(rt: HostRuntime) -> Result<(), Fail> {
-    let inputs: [&[&str]; 3] = [
-        &ONE_GAME,
-        &[THIRTEEN, TWOS, NO_ACTS],
-        &[THIRTEEN, NO_PLAN, NO_ACTS],
-    ];
-    refuses_beginnings(&rt, Job::Follow, &inputs);
+fn of_follow(rt: HostRuntime) {
+    refuses_beginnings(&rt, Job::Follow, FOLLOWED);
 
     // The whole game strays from the plan. Each beginning of it is refused as cut short and not for straying.
-    let strays = joined_with(rt.alloc(), &ONE_GAME, 20, "own 2H")?;
+    let strays = text_with(&rt, &ONE_GAME, 20, "own 2H");
     refuses_beginnings(&rt, Job::Follow, &[&[strays.as_str()]]);
-    Ok(())
 }
 
 // An input with any one byte replaced by CR is refused, at the line of the CR.
 #[test]
-fn refuses_carriage_returns(rt: HostRuntime) -> Result<(), Fail> {
-    let text = joined(rt.alloc(), &ONE_GAME)?;
+fn refuses_carriage_returns(rt: HostRuntime) {
+    let text = text_of(&rt, &ONE_GAME);
     let input = text.as_bytes();
     for place in 0..input.len() {
-        let mut changed = Vec::from_slice(rt.alloc(), input)?;
+        let mut changed = Vec::from_slice(rt.alloc(), input).expect(&rt, "memory");
         changed.as_mut_slice()[place] = b'\r';
         refuses_after(&rt, Job::Follow, changed.as_slice(), &input[..place], 1);
     }
-    Ok(())
 }

@@ -1,15 +1,14 @@
 //! Runs in which one allocation after another fails.
-use crate::tests::runs::{ONE_GAME, numbered, outcome_of};
+use crate::tests::runs::{ONE_GAME, numbered, outcome_of, text_of, text_with};
+use crate::tests::{same, same_for};
 use crib_answer::Job;
 use crib_run::Status;
 use example_texts::boards::LAST_CARD_BOARD;
 use example_texts::games::{LAST_CARD, LAST_CARD_ANSWER, NO_ACTS, OWNER_LEADS};
 use example_texts::plans::{NO_PLAN, TWOS};
 use example_texts::problems::{TENS, THIRTEEN, TWELVE};
-use example_texts::{joined, joined_with};
 use refusing_alloc::Refusing;
 use std::process::Abort;
-use std::test::Fail;
 
 // How many failed allocations led to `fault 11`, and how many changed nothing in the output.
 #[derive(Clone, Copy, Debug, PartialEq, Eq)]
@@ -34,7 +33,7 @@ fn refuse_each(
     wanted: &str,
     status: Status,
 ) -> Refusals {
-    let input = joined(rt.alloc(), sections).expect(rt, "memory");
+    let input = text_of(rt, sections);
     let mut refusals = reported_alone(0);
     for served in 0..1000 {
         let heap = Refusing::after(rt.alloc(), served);
@@ -55,39 +54,58 @@ fn refuse_each(
     panic!(rt; "a run that never ends to grow")
 }
 
+// Asserts that a run allocates `reported` times, and that each failure is reported.
+fn reports_each(
+    rt: &(impl Abort + AllocGlobal),
+    job: Job,
+    sections: &[&str],
+    wanted: &str,
+    status: Status,
+    reported: u32,
+) {
+    let refusals = refuse_each(rt, job, sections, wanted, status);
+    same_for(rt, refusals, reported_alone(reported), wanted);
+}
+
 // Each run allocates memory for its input first. `replay` allocates nothing more.
 #[test]
 fn of_replay(rt: HostRuntime) {
     let sections = [TENS, LAST_CARD];
-    let replayed = refuse_each(&rt, Job::Replay, &sections, LAST_CARD_ANSWER, Status::Yes);
-    assert_eq!(rt; replayed, reported_alone(1));
+    reports_each(
+        &rt,
+        Job::Replay,
+        &sections,
+        LAST_CARD_ANSWER,
+        Status::Yes,
+        1,
+    );
 }
 
 // `board` allocates its text.
 #[test]
 fn of_board(rt: HostRuntime) {
     let sections = [TENS, LAST_CARD];
-    let drawn = refuse_each(&rt, Job::Board, &sections, LAST_CARD_BOARD, Status::Yes);
-    assert_eq!(rt; drawn, reported_alone(2));
+    reports_each(&rt, Job::Board, &sections, LAST_CARD_BOARD, Status::Yes, 2);
 }
 
 // `follow` allocates the plan, unless it has no nodes.
 #[test]
-fn of_follow(rt: HostRuntime) -> Result<(), Fail> {
-    for (sections, wanted, reported) in [
-        (ONE_GAME, "short\n", 2),
-        ([THIRTEEN, TWOS, NO_ACTS], "open\n", 2),
-        ([THIRTEEN, NO_PLAN, NO_ACTS], "stuck\n", 1),
-    ] {
-        let followed = refuse_each(&rt, Job::Follow, &sections, wanted, Status::No);
-        assert_eq!(rt; followed, reported_alone(reported), "with {wanted}");
-    }
-    let strays = joined_with(rt.alloc(), &ONE_GAME, 20, "own 2H")?;
-    let sections = [strays.as_str()];
+fn of_follow(rt: HostRuntime) {
+    reports_each(&rt, Job::Follow, &ONE_GAME, "short\n", Status::No, 2);
+    let open = [THIRTEEN, TWOS, NO_ACTS];
+    reports_each(&rt, Job::Follow, &open, "open\n", Status::No, 2);
+    let stuck = [THIRTEEN, NO_PLAN, NO_ACTS];
+    reports_each(&rt, Job::Follow, &stuck, "stuck\n", Status::No, 1);
+    let strays = text_with(&rt, &ONE_GAME, 20, "own 2H");
     let refused = "refused line 20: 46\n";
-    let strayed = refuse_each(&rt, Job::Follow, &sections, refused, Status::Refused);
-    assert_eq!(rt; strayed, reported_alone(2));
-    Ok(())
+    reports_each(
+        &rt,
+        Job::Follow,
+        &[strays.as_str()],
+        refused,
+        Status::Refused,
+        2,
+    );
 }
 
 // `check` allocates the plan, and reports it if that fails. The position table allocates too, and a failure there
@@ -95,19 +113,17 @@ fn of_follow(rt: HostRuntime) -> Result<(), Fail> {
 #[test]
 fn of_check(rt: HostRuntime) {
     let checked = refuse_each(&rt, Job::Check, &[TWELVE, TWOS], "holds\n", Status::Yes);
-    assert_eq!(rt; checked.reported, 2);
+    same(&rt, checked.reported, 2);
     assert!(rt; checked.passed_over > 0);
 }
 
 // `check` allocates the plan, and the text of the failing game. The first game fails, so the position table keeps
 // nothing.
 #[test]
-fn of_check_that_fails(rt: HostRuntime) -> Result<(), Fail> {
-    let short = joined(rt.alloc(), &["fails short\n", OWNER_LEADS])?;
+fn of_check_that_fails(rt: HostRuntime) {
+    let short = text_of(&rt, &["fails short\n", OWNER_LEADS]);
     let sections = [THIRTEEN, TWOS];
-    let checked = refuse_each(&rt, Job::Check, &sections, short.as_str(), Status::No);
-    assert_eq!(rt; checked, reported_alone(3));
-    Ok(())
+    reports_each(&rt, Job::Check, &sections, short.as_str(), Status::No, 3);
 }
 
 // `solve` allocates the nodes and the text of the plan, and reports it if one of these allocations fails. Its tables
@@ -123,22 +139,24 @@ fn of_solve(rt: HostRuntime) {
 #[test]
 fn of_solve_without_a_plan(rt: HostRuntime) {
     let unsolved = refuse_each(&rt, Job::Solve, &[THIRTEEN], "none\n", Status::No);
-    assert_eq!(rt; unsolved.reported, 1);
+    same(&rt, unsolved.reported, 1);
     assert!(rt; unsolved.passed_over > 0);
 }
+
+// A job, its sections, and its answer.
+const REFUSED: &[(Job, &[&str], &str)] = &[
+    (Job::Replay, &[TWELVE, TWOS], "refused line 8: 4\n"),
+    (Job::Check, &[TENS, LAST_CARD], "refused line 8: 4\n"),
+    (Job::Board, &[TWELVE, TWOS], "refused line 8: 4\n"),
+    (Job::Solve, &[TWELVE, TWOS], "refused line 8: 8\n"),
+    (Job::Check, &[TWELVE], "refused line 8: 3\n"),
+    (Job::Follow, &["problem 1\n"], "refused line 2: 3\n"),
+];
 
 // A refused input needs memory for itself only, unless it has a plan that is read.
 #[test]
 fn of_refused_inputs(rt: HostRuntime) {
-    for (job, sections, wanted) in [
-        (Job::Replay, [TWELVE, TWOS], "refused line 8: 4\n"),
-        (Job::Check, [TENS, LAST_CARD], "refused line 8: 4\n"),
-        (Job::Board, [TWELVE, TWOS], "refused line 8: 4\n"),
-        (Job::Solve, [TWELVE, TWOS], "refused line 8: 8\n"),
-        (Job::Check, [TWELVE, ""], "refused line 8: 3\n"),
-        (Job::Follow, ["problem 1\n", ""], "refused line 2: 3\n"),
-    ] {
-        let refused = refuse_each(&rt, job, &sections, wanted, Status::Refused);
-        assert_eq!(rt; refused, reported_alone(1));
+    for (job, sections, wanted) in REFUSED {
+        reports_each(&rt, *job, sections, wanted, Status::Refused, 1);
     }
 }

@@ -1,18 +1,17 @@
 //! The words beside an answer.
-use crate::tests::runs::{feed, outcome_on, outcome_with_words, tray};
+use crate::tests::runs::{Written, feed, outcome_on, outcome_with_words, text_of, text_with, tray};
+use crate::tests::{same, same_for};
 use crib_answer::Job;
 use crib_run::Status;
 use crib_text::Counted;
 use example_texts::games::{LAST_CARD, OWNER_LEADS};
 use example_texts::plans::TWOS;
 use example_texts::problems::{TENS, THIRTEEN};
-use example_texts::{joined, joined_with};
 use failing_devices::{Feed, Tray, Trouble};
 use refusing_alloc::Refusing;
 use std::io::ErrorKind;
 use std::process::Abort;
 use std::str;
-use std::test::Fail;
 
 // A mistyped card, and what is said of it.
 const TYPED_TEN: &str = "hold 10S 2D 2H 2S";
@@ -30,50 +29,52 @@ fn says(rt: &(impl Abort + AllocGlobal), job: Job, input: &str, wanted: &str, wo
     written.says(rt, words, input);
 }
 
+// Each command, and the sections of its input.
+const COMMANDS: &[(Job, &[&str])] = &[
+    (Job::Solve, &[THIRTEEN]),
+    (Job::Check, &[THIRTEEN, TWOS]),
+    (Job::Replay, &[THIRTEEN, OWNER_LEADS]),
+    (Job::Board, &[THIRTEEN, OWNER_LEADS]),
+    (Job::Follow, &[THIRTEEN, TWOS, OWNER_LEADS]),
+];
+
 #[test]
-fn each_command_says_why(rt: HostRuntime) -> Result<(), Fail> {
-    for (job, sections) in [
-        (Job::Solve, [THIRTEEN, "", ""]),
-        (Job::Check, [THIRTEEN, TWOS, ""]),
-        (Job::Replay, [THIRTEEN, OWNER_LEADS, ""]),
-        (Job::Board, [THIRTEEN, OWNER_LEADS, ""]),
-        (Job::Follow, [THIRTEEN, TWOS, OWNER_LEADS]),
-    ] {
-        let input = joined_with(rt.alloc(), &sections, 5, TYPED_TEN)?;
-        says(&rt, job, input.as_str(), "refused line 5: 5\n", NOT_A_CARD);
+fn each_command_says_why(rt: HostRuntime) {
+    for (job, sections) in COMMANDS {
+        let input = text_with(&rt, sections, 5, TYPED_TEN);
+        says(&rt, *job, input.as_str(), "refused line 5: 5\n", NOT_A_CARD);
     }
-    Ok(())
 }
 
 // Lines of a plan and of a game are named in their sections too. `board` refuses what `replay` refuses.
 #[test]
-fn a_line_of_a_section_is_named(rt: HostRuntime) -> Result<(), Fail> {
-    let input = joined_with(rt.alloc(), &[TENS, LAST_CARD], 11, "own QC")?;
+fn a_line_of_a_section_is_named(rt: HostRuntime) {
+    let input = text_with(&rt, &[TENS, LAST_CARD], 11, "own QC");
     for job in [Job::Replay, Job::Board] {
         let written = outcome_with_words(rt.alloc(), rt.alloc(), job, input.as_bytes());
         let said = str::from_utf8(written.words.as_slice()).expect(&rt, "a text");
-        assert!(rt;
-            said.starts_with("cribplan: line 11, line 4 of the game: "),
-            "not {said}"
-        );
-        assert!(rt; said.contains("\n  11 | own QC\n"), "not {said}");
+        let is_named = said.starts_with("cribplan: line 11, line 4 of the game: ");
+        let is_quoted = said.contains("\n  11 | own QC\n");
+        assert!(rt; is_named && is_quoted, "not {said}");
     }
-    Ok(())
 }
 
 // One byte goes out at each call, and one call fails.
 #[test]
-fn words_that_are_cut_short_change_nothing(rt: HostRuntime) -> Result<(), Fail> {
-    let input = joined_with(rt.alloc(), &[THIRTEEN, TWOS], 5, TYPED_TEN)?;
+fn words_that_are_cut_short_change_nothing(rt: HostRuntime) {
+    let input = text_with(&rt, &[THIRTEEN, TWOS], 5, TYPED_TEN);
     for sent in 0..NOT_A_CARD.len() {
         let trouble = Trouble::At(sent as u64 + 1, ErrorKind::Other);
         let words = Counted::new(Tray::new(rt.alloc(), 1, trouble));
         let source = feed(input.as_bytes());
         let written = outcome_on(rt.alloc(), Job::Check, source, tray(rt.alloc()), words);
         written.is(&rt, "refused line 5: 5\n", Status::Refused, "cut short");
-        assert_eq!(rt; written.words.as_slice(), &NOT_A_CARD.as_bytes()[..sent]);
+        same(
+            &rt,
+            written.words.as_slice(),
+            &NOT_A_CARD.as_bytes()[..sent],
+        );
     }
-    Ok(())
 }
 
 const UNREAD: &str = "cribplan: the input can't be read\n";
@@ -82,45 +83,48 @@ const UNWRITTEN: &str = "cribplan: the answer can't be written\n";
 
 // Asserts that a run with these devices ends with a fault, and writes these words.
 fn faults(rt: &(impl Abort + AllocGlobal), given: Trouble, taken: Trouble, wanted: &str) {
-    let input = joined(rt.alloc(), &[THIRTEEN, TWOS]).expect(rt, "memory");
+    let input = text_of(rt, &[THIRTEEN, TWOS]);
     let source = Counted::new(Feed::new(input.as_bytes(), 4096, given));
     let sink = Counted::new(Tray::new(rt.alloc(), 4096, taken));
     let written = outcome_on(rt.alloc(), Job::Check, source, sink, tray(rt.alloc()));
-    assert_eq!(rt; written.status, Status::Fault, "not {wanted}");
+    same_for(rt, written.status, Status::Fault, wanted);
     written.says(rt, wanted, "a device that fails");
 }
 
+// Asserts that a run ended for want of memory, and said so.
+fn has_no_memory(rt: &impl Abort, written: &Written) {
+    written.is(rt, "fault 11\n", Status::Fault, "no memory");
+    written.says(rt, "cribplan: out of memory\n", "no memory");
+}
+
 #[test]
-fn a_fault_has_words(rt: HostRuntime) -> Result<(), Fail> {
-    let input = joined(rt.alloc(), &[THIRTEEN, TWOS])?;
+fn a_fault_has_words(rt: HostRuntime) {
+    let input = text_of(&rt, &[THIRTEEN, TWOS]);
     let heap = Refusing::after(rt.alloc(), 0);
     let written = outcome_with_words(rt.alloc(), &heap, Job::Check, input.as_bytes());
-    written.is(&rt, "fault 11\n", Status::Fault, "no memory");
-    written.says(&rt, "cribplan: out of memory\n", "no memory");
+    has_no_memory(&rt, &written);
     let broken = Trouble::At(1, ErrorKind::Other);
     faults(&rt, broken, Trouble::Never, UNREAD);
     faults(&rt, Trouble::Never, broken, UNWRITTEN);
-    Ok(())
 }
 
 // Where the input is refused, its words are whole, whichever allocation fails.
 #[test]
-fn words_need_no_memory(rt: HostRuntime) -> Result<(), Fail> {
-    let input = joined_with(rt.alloc(), &[THIRTEEN, TWOS], 10, "0 play 2X 1")?;
+fn words_need_no_memory(rt: HostRuntime) {
+    let input = text_with(&rt, &[THIRTEEN, TWOS], 10, "0 play 2X 1");
     let plenty = outcome_with_words(rt.alloc(), rt.alloc(), Job::Check, input.as_bytes());
     assert!(rt; plenty.words.len() > 0);
     for served in 1..1000 {
         let heap = Refusing::after(rt.alloc(), served);
         let written = outcome_with_words(rt.alloc(), &heap, Job::Check, input.as_bytes());
         if written.status == Status::Refused {
-            assert_eq!(rt; written.text.as_slice(), plenty.text.as_slice());
-            assert_eq!(rt; written.words.as_slice(), plenty.words.as_slice());
+            same(&rt, written.text.as_slice(), plenty.text.as_slice());
+            same(&rt, written.words.as_slice(), plenty.words.as_slice());
         } else {
-            written.is(&rt, "fault 11\n", Status::Fault, "no memory");
-            written.says(&rt, "cribplan: out of memory\n", "no memory");
+            has_no_memory(&rt, &written);
         }
         if !heap.has_refused() {
-            return Ok(());
+            return;
         }
     }
     panic!(rt; "a run that never ends to grow")

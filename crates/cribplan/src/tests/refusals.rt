@@ -1,10 +1,9 @@
 //! Inputs that the commands refuse, with the line and the number.
-use crate::tests::runs::{ONE_GAME, writes};
+use crate::tests::runs::{ONE_GAME, text_with, writes};
 use crib_answer::Job;
 use crib_run::Status;
 use example_texts::changes::{CHANGED_GAMES, CHANGED_PLANS, Change};
 use example_texts::games::*;
-use example_texts::joined_with;
 use example_texts::plans::*;
 use example_texts::problems::*;
 use std::process::Abort;
@@ -12,7 +11,7 @@ use std::process::Abort;
 // Asserts that a run refuses some sections, each time with one line changed.
 fn refuses(rt: &(impl Abort + AllocGlobal), job: Job, sections: &[&str], changes: &[Change]) {
     for (number, changed, wanted) in changes {
-        let input = joined_with(rt.alloc(), sections, *number, changed).expect(rt, "memory");
+        let input = text_with(rt, sections, *number, changed);
         writes(rt, job, &[input.as_str()], wanted, Status::Refused);
     }
 }
@@ -153,14 +152,17 @@ const OTHER_PROBLEMS: [Change; 7] = [
     (7, "goal holes 12\nplan 1\nnodes 0", "refused line 8: 8\n"),
 ];
 
+// Problems, and the refusals.
+const UNSOLVED: &[(&str, &str)] = &[
+    ("", "refused line 1: 3\n"),
+    (CLOSE_AND_LOST, "refused line 10: 24\n"),
+    (TENS_AFTER_A_FALSE_GO, "refused line 14: 23\n"),
+];
+
 #[test]
 fn solve_refuses_with_the_line(rt: HostRuntime) {
     refuses(&rt, Job::Solve, &[TWELVE], &OTHER_PROBLEMS);
-    for (problem, wanted) in [
-        ("", "refused line 1: 3\n"),
-        (CLOSE_AND_LOST, "refused line 10: 24\n"),
-        (TENS_AFTER_A_FALSE_GO, "refused line 14: 23\n"),
-    ] {
+    for (problem, wanted) in UNSOLVED {
         writes(&rt, Job::Solve, &[problem], wanted, Status::Refused);
     }
 }

@@ -1,12 +1,13 @@
 //! Runs over inputs in memory, and what they write.
+use crate::tests::same_for;
 use crate::{run, run_with_words};
 use crib_answer::Job;
 use crib_run::Status;
 use crib_text::Counted;
 use example_texts::games::OWNER_LEADS;
-use example_texts::joined;
 use example_texts::plans::TWOS;
 use example_texts::problems::THIRTEEN;
+use example_texts::{joined, joined_with};
 use failing_devices::{Feed, Tray, Trouble};
 use std::alloc::{Allocator, Global};
 use std::io::Read;
@@ -16,6 +17,21 @@ use std::str;
 /// The owner plays four twos, and the opponent four aces. The owner wants thirteen holes, and their hand counts twelve
 /// points.
 pub const ONE_GAME: [&str; 3] = [THIRTEEN, TWOS, OWNER_LEADS];
+
+/// The text of some sections.
+pub(crate) fn text_of(rt: &(impl Abort + AllocGlobal), sections: &[&str]) -> String {
+    joined(rt.alloc(), sections).expect(rt, "memory")
+}
+
+/// The text of some sections, with `changed` in the place of line `number`.
+pub(crate) fn text_with(
+    rt: &(impl Abort + AllocGlobal),
+    sections: &[&str],
+    number: usize,
+    changed: &str,
+) -> String {
+    joined_with(rt.alloc(), sections, number, changed).expect(rt, "memory")
+}
 
 /// The message of a failed assertion in the pass with this number.
 pub(crate) fn numbered(rt: &(impl Abort + AllocGlobal), word: &str, number: u64) -> String {
@@ -98,17 +114,17 @@ impl Written {
     /// Asserts that these words were written.
     pub(crate) fn says(&self, rt: &impl Abort, words: &str, what: &str) {
         let said = str::from_utf8(self.words.as_slice()).expect(rt, "a text");
-        assert_eq!(rt; said, words, "to {what}");
+        same_for(rt, said, words, what);
     }
 
     /// Asserts that this text was written, with this status, and that there are no words beside an accepted input. A
     /// failed assertion names `what` the run was given.
     pub(crate) fn is(&self, rt: &impl Abort, wanted: &str, status: Status, what: &str) {
         let text = str::from_utf8(self.text.as_slice()).expect(rt, "a text");
-        assert_eq!(rt; text, wanted, "to {what}");
-        assert_eq!(rt; self.status, status, "to {what}");
+        same_for(rt, text, wanted, what);
+        same_for(rt, self.status, status, what);
         if status == Status::Yes || status == Status::No {
-            assert_eq!(rt; self.words.len(), 0, "to {what}");
+            same_for(rt, self.words.len(), 0, what);
         }
     }
 }
@@ -121,7 +137,7 @@ pub(crate) fn writes(
     wanted: &str,
     status: Status,
 ) {
-    let input = joined(rt.alloc(), sections).expect(rt, "memory");
+    let input = text_of(rt, sections);
     let alone = outcome_of(rt.alloc(), rt.alloc(), job, input.as_bytes());
     alone.is(rt, wanted, status, input.as_str());
     let with_words = outcome_with_words(rt.alloc(), rt.alloc(), job, input.as_bytes());

@@ -1,20 +1,16 @@
 //! How many deals beat a plan.
-use crate::tests::runs::{refuses, written_of};
+use crate::tests::runs::{prints, refuses_plans, writes};
 use crib_run::Status;
 use crib_sheet::SheetJob;
-use example_texts::changes::CHANGED_PLANS;
 use example_texts::plans::{NO_KING, NO_PLAN, REST, TWOS};
 use example_texts::problems::{BEGUN, TWELVE};
 
 #[test]
 fn no_deal_beats_a_sure_plan(rt: HostRuntime) {
-    for (sections, wanted) in [
-        ([TWELVE, TWOS], "beaten 0 of 122175900\n"),
-        ([BEGUN, REST], "beaten 0 of 10860080\n"),
-    ] {
-        let written = written_of(&rt, SheetJob::Beaten, &sections);
-        written.is(&rt, wanted, Status::Yes, "a sure plan");
-    }
+    let wanted = "beaten 0 of 122175900\n";
+    writes(&rt, SheetJob::Beaten, &[TWELVE, TWOS], wanted, Status::Yes);
+    let wanted = "beaten 0 of 10860080\n";
+    writes(&rt, SheetJob::Beaten, &[BEGUN, REST], wanted, Status::Yes);
 }
 
 // The plan is stuck after a king. Of 45 unseen cards three are kings, so 148,995 - 111,930 holds have one, and each
@@ -25,19 +21,22 @@ fn counts_each_four_ranks(rt: HostRuntime) {
         "beaten 30393300 of 122175900\nAAAK 9840 of 9840\nAA3K 59040 of 59040\n",
         "\nQQQK 9840 of 9840\nQQKK 14760 of 14760\nQKKK 3280 of 3280\n",
     ];
-    written_of(&rt, SheetJob::Beaten, &[TWELVE, NO_KING]).has(&rt, &parts, Status::No);
+    prints(
+        &rt,
+        SheetJob::Beaten,
+        &[TWELVE, NO_KING],
+        &parts,
+        Status::No,
+    );
 }
 
 #[test]
 fn every_deal_beats_no_plan(rt: HostRuntime) {
     let parts = ["beaten 10860080 of 10860080\n"];
-    written_of(&rt, SheetJob::Beaten, &[BEGUN, NO_PLAN]).has(&rt, &parts, Status::No);
+    prints(&rt, SheetJob::Beaten, &[BEGUN, NO_PLAN], &parts, Status::No);
 }
 
-// The numbers and the lines are those of `cribplan check`.
 #[test]
 fn refuses_what_check_refuses(rt: HostRuntime) {
-    refuses(&rt, SheetJob::Beaten, &[TWELVE, TWOS], &CHANGED_PLANS);
-    let written = written_of(&rt, SheetJob::Beaten, &[]);
-    written.is(&rt, "refused line 1: 3\n", Status::Refused, "nothing");
+    refuses_plans(&rt, SheetJob::Beaten);
 }

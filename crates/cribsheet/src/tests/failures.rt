@@ -1,5 +1,6 @@
 //! Devices that fail or are interrupted.
 use crate::tests::runs::{outcome, written_of};
+use crate::tests::same;
 use crib_run::Status;
 use crib_sheet::SheetJob;
 use example_texts::games::LAST_CARD;
@@ -20,73 +21,63 @@ fn sections(job: SheetJob) -> [&'static str; 2] {
     }
 }
 
-// The reader returns one byte at each call. It fails or is interrupted at a call.
-fn fails_to_read(rt: &(impl Abort + AllocGlobal), job: SheetJob, call: u64) {
+// Asserts that a run writes this, with this status. Its devices move one byte at each call. The reader fails as `given`
+// says, and the writer as `taken` says.
+fn comes_to(
+    rt: &(impl Abort + AllocGlobal),
+    job: SheetJob,
+    (given, taken): (Trouble, Trouble),
+    wanted: &[u8],
+    status: Status,
+) {
     let input = joined(rt.alloc(), &sections(job)).expect(rt, "memory");
+    let alloc = rt.alloc();
+    let written = outcome(alloc, alloc, job, input.as_bytes(), 1, given, taken);
+    same(rt, written.text.as_slice(), wanted);
+    same(rt, written.status, status);
+}
+
+// The reader fails or is interrupted at a call.
+fn fails_to_read(rt: &(impl Abort + AllocGlobal), job: SheetJob) {
     let whole = written_of(rt, job, &sections(job));
-    for (kind, wanted, status) in [
-        (ErrorKind::Other, "fault 9\n", Status::Fault),
-        (ErrorKind::Interrupted, whole.text(rt), Status::Yes),
-    ] {
-        let alloc = rt.alloc();
-        let trouble = Trouble::At(call, kind);
-        let written = outcome(
-            alloc,
-            alloc,
+    for call in [1, 2, 70] {
+        let broken = Trouble::At(call, ErrorKind::Other);
+        comes_to(
+            rt,
             job,
-            input.as_bytes(),
-            1,
-            trouble,
-            Trouble::Never,
+            (broken, Trouble::Never),
+            b"fault 9\n",
+            Status::Fault,
         );
-        written.is(rt, wanted, status, "a failing reader");
+        let interrupted = Trouble::At(call, ErrorKind::Interrupted);
+        let text = whole.text.as_slice();
+        comes_to(rt, job, (interrupted, Trouble::Never), text, Status::Yes);
     }
 }
 
 #[test]
 fn a_failed_read_is_fault_9(rt: HostRuntime) {
-    for job in [
-        SheetJob::Plan,
-        SheetJob::Game,
-        SheetJob::Beaten,
-        SheetJob::Try,
-    ] {
-        for call in [1, 2, 70] {
-            fails_to_read(&rt, job, call);
-        }
-    }
+    fails_to_read(&rt, SheetJob::Plan);
+    fails_to_read(&rt, SheetJob::Game);
+    fails_to_read(&rt, SheetJob::Beaten);
+    fails_to_read(&rt, SheetJob::Try);
 }
 
-// The writer accepts one byte at each call. One of its calls fails or is interrupted: each 67th is tried.
+// The writer fails or is interrupted after so many bytes of the whole text.
+fn fails_after(rt: &(impl Abort + AllocGlobal), job: SheetJob, sent: usize, text: &[u8]) {
+    let call = (sent as u64).saturating_add(1);
+    let front = text.get(..sent).expect(rt, "a front");
+    let broken = Trouble::At(call, ErrorKind::Other);
+    comes_to(rt, job, (Trouble::Never, broken), front, Status::Fault);
+    let interrupted = Trouble::At(call, ErrorKind::Interrupted);
+    comes_to(rt, job, (Trouble::Never, interrupted), text, Status::Yes);
+}
+
+// One of the calls of the writer fails or is interrupted: each 67th is tried.
 fn fails_to_write(rt: &(impl Abort + AllocGlobal), job: SheetJob) {
-    let input = joined(rt.alloc(), &sections(job)).expect(rt, "memory");
     let whole = written_of(rt, job, &sections(job));
-    for sent in 0..whole.text.len() {
-        if sent % 67 != 0 {
-            continue;
-        }
-        for (kind, wanted, wanted_status) in [
-            (
-                ErrorKind::Other,
-                &whole.text.as_slice()[..sent],
-                Status::Fault,
-            ),
-            (ErrorKind::Interrupted, whole.text.as_slice(), Status::Yes),
-        ] {
-            let alloc = rt.alloc();
-            let trouble = Trouble::At(sent as u64 + 1, kind);
-            let written = outcome(
-                alloc,
-                alloc,
-                job,
-                input.as_bytes(),
-                1,
-                Trouble::Never,
-                trouble,
-            );
-            assert_eq!(rt; written.text.as_slice(), wanted, "after {sent} bytes");
-            assert_eq!(rt; written.status, wanted_status, "after {sent} bytes");
-        }
+    for sent in (0..whole.text.len()).step_by(67) {
+        fails_after(rt, job, sent, whole.text.as_slice());
     }
 }
 

@@ -1,5 +1,5 @@
 //! The sheets of games.
-use crate::tests::runs::{refuses, written_of};
+use crate::tests::runs::{prints, refuses, writes};
 use crib_run::Status;
 use crib_sheet::SheetJob;
 use example_texts::changes::CHANGED_GAMES;
@@ -9,21 +9,43 @@ use example_texts::problems::{CLOSE, TENS, TWELVE};
 
 #[test]
 fn prints_games(rt: HostRuntime) {
-    for (problem, game, part) in [
-        (TENS, LAST_CARD, "last card 1"),
-        (CLOSE, PAIRED, "pair 2"),
-        (TENS, NO_TEN_PLAYED, "isn't over"),
-    ] {
-        written_of(&rt, SheetJob::Game, &[problem, game]).has(&rt, &[part], Status::Yes);
-    }
+    prints(
+        &rt,
+        SheetJob::Game,
+        &[TENS, LAST_CARD],
+        &["last card 1"],
+        Status::Yes,
+    );
+    prints(
+        &rt,
+        SheetJob::Game,
+        &[CLOSE, PAIRED],
+        &["pair 2"],
+        Status::Yes,
+    );
+    prints(
+        &rt,
+        SheetJob::Game,
+        &[TENS, NO_TEN_PLAYED],
+        &["isn't over"],
+        Status::Yes,
+    );
 }
 
 // The numbers and the lines are those of `cribplan replay`.
 #[test]
 fn refuses_what_replay_refuses(rt: HostRuntime) {
-    refuses(&rt, SheetJob::Game, &[TENS, LAST_CARD], &CHANGED_GAMES);
-    let no_card = [(5, "hold 10S 9C 2C 8C", "refused line 5: 5\n")];
-    refuses(&rt, SheetJob::Game, &[TENS, LAST_CARD], &no_card);
-    let written = written_of(&rt, SheetJob::Game, &[TWELVE, TWOS]);
-    written.is(&rt, "refused line 8: 4\n", Status::Refused, "a plan");
+    for change in CHANGED_GAMES {
+        refuses(&rt, SheetJob::Game, &[TENS, LAST_CARD], change);
+    }
+    let no_card = (5, "hold 10S 9C 2C 8C", "refused line 5: 5\n");
+    refuses(&rt, SheetJob::Game, &[TENS, LAST_CARD], no_card);
+    let wanted = "refused line 8: 4\n";
+    writes(
+        &rt,
+        SheetJob::Game,
+        &[TWELVE, TWOS],
+        wanted,
+        Status::Refused,
+    );
 }

@@ -1,5 +1,6 @@
 //! Runs in which one allocation after another fails.
-use crate::tests::runs::{outcome_of, written_of};
+use crate::tests::runs::{Written, outcome_of, written_of};
+use crate::tests::same;
 use crib_run::Status;
 use crib_sheet::SheetJob;
 use example_texts::games::LAST_CARD;
@@ -9,26 +10,50 @@ use example_texts::problems::{BEGUN, TENS, THIRTEEN, TWELVE};
 use refusing_alloc::Refusing;
 use std::process::Abort;
 
-// Fails the first allocation of a run, then the second, and so on, until none fails. Asserts that each time `fault 11`
-// alone was written, or the whole sheet. Returns how many of them led to `fault 11`, and how many changed nothing.
-fn refuse_each(rt: &(impl Abort + AllocGlobal), job: SheetJob, sections: &[&str]) -> (u32, u32) {
+// What a run does in which an allocation fails.
+enum Growth {
+    Reported,
+    PassedOver,
+    // There is no such allocation.
+    NotMade,
+}
+
+// Fails the allocation after the first `served` ones of a run. Asserts that `fault 11` alone was written, or the whole
+// sheet.
+fn growth_after(
+    rt: &(impl Abort + AllocGlobal),
+    job: SheetJob,
+    sections: &[&str],
+    served: u64,
+    whole: &Written,
+) -> Growth {
     let input = joined(rt.alloc(), sections).expect(rt, "memory");
+    let heap = Refusing::after(rt.alloc(), served);
+    let written = outcome_of(rt.alloc(), &heap, job, input.as_bytes());
+    if written.status == Status::Fault {
+        same(rt, heap.has_refused(), true);
+        written.is(rt, "fault 11\n", Status::Fault);
+        return Growth::Reported;
+    }
+    written.is(rt, whole.text(rt), whole.status);
+    if heap.has_refused() {
+        Growth::PassedOver
+    } else {
+        Growth::NotMade
+    }
+}
+
+// Fails the first allocation of a run, then the second, and so on, until none fails. Returns how many of them led to
+// `fault 11`, and how many changed nothing.
+fn refuse_each(rt: &(impl Abort + AllocGlobal), job: SheetJob, sections: &[&str]) -> (u32, u32) {
     let whole = written_of(rt, job, sections);
     let mut reported = 0u32;
     let mut passed_over = 0u32;
     for served in 0..1000 {
-        let heap = Refusing::after(rt.alloc(), served);
-        let written = outcome_of(rt.alloc(), &heap, job, input.as_bytes());
-        if written.status == Status::Fault {
-            assert!(rt; heap.has_refused());
-            written.is(rt, "fault 11\n", Status::Fault, "no memory");
-            reported = reported.saturating_add(1);
-        } else {
-            written.is(rt, whole.text(rt), whole.status, "some memory");
-            if !heap.has_refused() {
-                return (reported, passed_over);
-            }
-            passed_over = passed_over.saturating_add(1);
+        match growth_after(rt, job, sections, served, &whole) {
+            Growth::Reported => reported = reported.saturating_add(1),
+            Growth::PassedOver => passed_over = passed_over.saturating_add(1),
+            Growth::NotMade => return (reported, passed_over),
         }
     }
     panic!(rt; "a run that never ends to grow")
@@ -38,7 +63,7 @@ fn refuse_each(rt: &(impl Abort + AllocGlobal), job: SheetJob, sections: &[&str]
 #[test]
 fn of_a_game(rt: HostRuntime) {
     let refused = refuse_each(&rt, SheetJob::Game, &[TENS, LAST_CARD]);
-    assert_eq!(rt; refused, (1, 0));
+    same(&rt, refused, (1, 0));
 }
 
 // The input, the plan and the outline. The position table allocates too, and a failure there changes nothing.
@@ -56,5 +81,5 @@ fn of_a_plan(rt: HostRuntime) {
 fn of_a_tally(rt: HostRuntime) {
     let (reported, passed_over) = refuse_each(&rt, SheetJob::Beaten, &[BEGUN, NO_PLAN]);
     assert!(rt; reported >= 2);
-    assert_eq!(rt; passed_over, 0);
+    same(&rt, passed_over, 0);
 }

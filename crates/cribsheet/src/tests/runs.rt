@@ -1,8 +1,12 @@
 //! Runs over inputs in memory, and what they write.
 use crate::run_with_words;
+use crate::tests::same;
 use crib_run::Status;
 use crib_sheet::SheetJob;
 use crib_text::Counted;
+use example_texts::changes::{CHANGED_PLANS, Change};
+use example_texts::plans::TWOS;
+use example_texts::problems::TWELVE;
 use example_texts::{joined, joined_with};
 use failing_devices::{Feed, Tray, Trouble};
 use std::alloc::{Allocator, Global};
@@ -80,35 +84,69 @@ impl Written {
     }
 
     /// Asserts that this text was written, with this status.
-    pub(crate) fn is(&self, rt: &impl Abort, wanted: &str, status: Status, what: &str) {
-        assert_eq!(rt; self.text(rt), wanted, "to {what}");
-        assert_eq!(rt; self.status, status, "to {what}");
-    }
-
-    /// Asserts that a sheet with these parts was written, in this order, with this status and no words.
-    pub(crate) fn has(&self, rt: &impl Abort, parts: &[&str], status: Status) {
-        let mut rest = self.text(rt);
-        for part in parts {
-            match rest.split_once(*part) {
-                Some((_, after)) => rest = after,
-                None => panic!(rt; "no {part} in {rest}"),
-            }
-        }
-        assert_eq!(rt; self.status, status);
-        assert_eq!(rt; self.words.len(), 0);
+    pub(crate) fn is(&self, rt: &impl Abort, wanted: &str, status: Status) {
+        same(rt, self.text(rt), wanted);
+        same(rt, self.status, status);
     }
 }
 
-/// Asserts that a run refuses some sections, each time with one line changed.
+/// Asserts that a text has these parts, in this order.
+pub(crate) fn has_parts(rt: &impl Abort, text: &str, parts: &[&str]) {
+    let mut rest = text;
+    for part in parts {
+        rest = after(rt, rest, *part);
+    }
+}
+
+// The text after a part of it.
+fn after<'a>(rt: &impl Abort, text: &'a str, part: &str) -> &'a str {
+    match text.split_once(part) {
+        Some((_, rest)) => rest,
+        None => panic!(rt; "no {part} in {text}"),
+    }
+}
+
+/// Asserts that a job over some sections writes this text, with this status.
+pub(crate) fn writes(
+    rt: &(impl Abort + AllocGlobal),
+    job: SheetJob,
+    sections: &[&str],
+    wanted: &str,
+    status: Status,
+) {
+    written_of(rt, job, sections).is(rt, wanted, status);
+}
+
+/// Asserts that a job over some sections writes a sheet with these parts, in this order, with this status and no words.
+pub(crate) fn prints(
+    rt: &(impl Abort + AllocGlobal),
+    job: SheetJob,
+    sections: &[&str],
+    parts: &[&str],
+    status: Status,
+) {
+    let written = written_of(rt, job, sections);
+    has_parts(rt, written.text(rt), parts);
+    same(rt, written.status, status);
+    same(rt, written.words.len(), 0);
+}
+
+/// Asserts that a run refuses some sections, with one line changed.
 pub(crate) fn refuses(
     rt: &(impl Abort + AllocGlobal),
     job: SheetJob,
     sections: &[&str],
-    changes: &[(usize, &str, &str)],
+    (number, changed, wanted): Change,
 ) {
-    for (number, changed, wanted) in changes {
-        let input = joined_with(rt.alloc(), sections, *number, changed).expect(rt, "memory");
-        let written = written_of(rt, job, &[input.as_str()]);
-        written.is(rt, wanted, Status::Refused, changed);
+    let input = joined_with(rt.alloc(), sections, number, changed).expect(rt, "memory");
+    writes(rt, job, &[input.as_str()], wanted, Status::Refused);
+}
+
+/// Asserts that a run refuses the changes of `TWELVE` and `TWOS`, and an empty input. The numbers and the lines are
+/// those of `cribplan check`.
+pub(crate) fn refuses_plans(rt: &(impl Abort + AllocGlobal), job: SheetJob) {
+    for change in CHANGED_PLANS {
+        refuses(rt, job, &[TWELVE, TWOS], change);
     }
+    writes(rt, job, &[], "refused line 1: 3\n", Status::Refused);
 }

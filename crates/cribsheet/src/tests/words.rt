@@ -1,49 +1,52 @@
 //! The words of the command line.
 use crate::command::program;
+use crate::tests::runs::has_parts;
+use crate::tests::same;
 use clap::Error;
 use clap::error::ErrorKind;
 use crib_command::command_of;
 use crib_sheet::SheetJob;
 use std::alloc::Global;
-use std::test::Fail;
+use std::process::Abort;
 
 // The job that the words name.
 fn job_of(alloc: Global, words: &[&str]) -> Result<SheetJob, Error> {
     command_of(alloc, &program(), words)
 }
 
-// The job that the words name, or the kind of the refusal.
-fn job_of_words(alloc: Global, words: &[&str]) -> Result<SheetJob, ErrorKind> {
-    job_of(alloc, words).map_err(|error| error.kind())
+// Asserts that the words of a line name this job, or are refused for this kind.
+fn reads(rt: &(impl Abort + AllocGlobal), line: &str, wanted: Result<SheetJob, ErrorKind>) {
+    let words: Vec<&str> = line.split(' ').collect(rt.alloc()).expect(rt, "memory");
+    let found = match job_of(rt.alloc(), words.as_slice()) {
+        Ok(job) => Ok(job),
+        Err(error) => Err(error.kind()),
+    };
+    same(rt, found, wanted);
 }
 
 #[test]
 fn reads_the_words(rt: HostRuntime) {
-    let rows: [(&[&str], Result<SheetJob, ErrorKind>); 9] = [
-        (&["cribsheet", "plan"], Ok(SheetJob::Plan)),
-        (&["cribsheet", "game"], Ok(SheetJob::Game)),
-        (&["cribsheet", "beaten"], Ok(SheetJob::Beaten)),
-        (&["cribsheet", "try"], Ok(SheetJob::Try)),
-        (&["cribsheet", "check"], Err(ErrorKind::InvalidValue)),
-        (&["cribsheet", "--help"], Err(ErrorKind::DisplayHelp)),
-        (&["cribsheet", "--version"], Err(ErrorKind::UnknownArgument)),
-        (&["cribsheet"], Err(ErrorKind::MissingRequiredArgument)),
-        (
-            &["cribsheet", "plan", "file.txt"],
-            Err(ErrorKind::UnknownArgument),
-        ),
-    ];
-    for (words, wanted) in rows {
-        assert_eq!(rt; job_of_words(rt.alloc(), words), wanted, "to {words:?}");
-    }
+    reads(&rt, "cribsheet plan", Ok(SheetJob::Plan));
+    reads(&rt, "cribsheet game", Ok(SheetJob::Game));
+    reads(&rt, "cribsheet beaten", Ok(SheetJob::Beaten));
+    reads(&rt, "cribsheet try", Ok(SheetJob::Try));
+    reads(&rt, "cribsheet check", Err(ErrorKind::InvalidValue));
+    reads(&rt, "cribsheet --help", Err(ErrorKind::DisplayHelp));
+    reads(&rt, "cribsheet --version", Err(ErrorKind::UnknownArgument));
+    reads(&rt, "cribsheet", Err(ErrorKind::MissingRequiredArgument));
+    reads(
+        &rt,
+        "cribsheet plan file.txt",
+        Err(ErrorKind::UnknownArgument),
+    );
 }
 
 // The help text shows where the input comes from, and has a line for each command.
 #[test]
-fn tells_what_each_command_does(rt: HostRuntime) -> Result<(), Fail> {
+fn tells_what_each_command_does(rt: HostRuntime) {
     let refusal = job_of(rt.alloc(), &["cribsheet", "--help"]).expect_err(&rt, "the help text");
-    let help = format!(in rt.alloc(); "{refusal}")?;
-    for part in [
+    let help = format!(in rt.alloc(); "{refusal}").expect(&rt, "memory");
+    let parts = [
         "Usage: cribsheet <command> < INPUT\n",
         "[possible values: plan, game, beaten, try]",
         "\n  plan    reads a problem and a plan, ",
@@ -51,8 +54,6 @@ fn tells_what_each_command_does(rt: HostRuntime) -> Result<(), Fail> {
         "\n  beaten  reads a problem and a plan, ",
         "\n  try     reads a problem, ",
         "\nManual: man cribsheet. ",
-    ] {
-        assert!(rt; help.contains(part), "no {part}");
-    }
-    Ok(())
+    ];
+    has_parts(&rt, help.as_str(), &parts);
 }

@@ -1,7 +1,0 @@
-//! Tests against outside examples.
-
-mod follows;
-mod inputs;
-mod openings;
-mod replays;
-mod texts;

@@ -1,5 +1,0 @@
-use Rattle.crib_show.specs.Extremes.{AreExtremesFor}
-use Rattle.crib_show.proofs.tests.kept.answers_from_what_is_kept.Given as goal
-
-abbrev pub invariant-loop-turn : goal.invariant-loop-turn
-invariant-loop-turn g l = AreExtremesFor l.worst l.shows

@@ -1,0 +1,6 @@
+//! Tests against outside examples.
+
+mod follows;
+mod openings;
+mod replays;
+mod texts;

@@ -116,8 +116,9 @@ def crates() -> list[str]:
 
 
 def code_files(crate: str = "*") -> list[Path]:
-    """The files of src of a crate, or of all crates, in folders too. A folder of tests is left out."""
-    return [path for path in sorted(CRATES.glob(f"{crate}/src/**/*.rt")) if path.parent.name != "tests"]
+    """The files of src of a crate, or of all crates, in folders too. Tests are left out: their folders and crates."""
+    paths = sorted(CRATES.glob(f"{crate}/src/**/*.rt"))
+    return [path for path in paths if path.parent.name != "tests" and "_tests/" not in f"{path.relative_to(CRATES)}"]
 
 
 def reached(roots: Iterable[T], below: Callable[[T], Iterable[T]]) -> list[T]:

@@ -5,19 +5,19 @@ use std::fmt::Debug;
 use std::process::Abort;
 
 // Asserts a fact.
-pub fn ensure(rt: &impl Abort, fact: bool)
+pub(crate) fn ensure(rt: &impl Abort, fact: bool)
     ensures { IsTrue fact }
 {
     assert!(rt; fact);
 }
 
 // Asserts that two values are equal.
-pub fn same<T: PartialEq + Debug + Drop>(rt: &impl Abort, found: T, wanted: T) {
+pub(crate) fn same<T: PartialEq + Debug + Drop>(rt: &impl Abort, found: T, wanted: T) {
     assert_eq!(rt; found, wanted);
 }
 
 // Asserts that two values are equal, and otherwise prints the row of the table with them.
-pub fn same_at<R: Copy + PartialEq + Debug, T: PartialEq + Debug + Drop>(
+pub(crate) fn same_at<R: Copy + PartialEq + Debug, T: PartialEq + Debug + Drop>(
     rt: &impl Abort,
     row: R,
     found: T,

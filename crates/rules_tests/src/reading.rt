@@ -4,28 +4,28 @@ use crib_cards::{Card, CardSet, Dealt, Rank, RankCounts, read_card};
 use std::process::Abort;
 
 // What is before the first of these marks, and what is after it.
-pub fn parts<'a>(rt: &impl Abort, text: &'a str, mark: &str) -> (&'a str, &'a str) {
+pub(crate) fn parts<'a>(rt: &impl Abort, text: &'a str, mark: &str) -> (&'a str, &'a str) {
     text.split_once(mark).expect(rt, "a mark")
 }
 
-pub fn number(rt: &impl Abort, word: &str) -> u8 {
+pub(crate) fn number(rt: &impl Abort, word: &str) -> u8 {
     word.parse::<u8>().expect(rt, "a number")
 }
 
-pub fn rank(rt: &impl Abort, number: u8) -> Rank {
+pub(crate) fn rank(rt: &impl Abort, number: u8) -> Rank {
     Rank::new(number).expect(rt, "a rank")
 }
 
-pub fn card(rt: &impl Abort, word: &str) -> Card {
+pub(crate) fn card(rt: &impl Abort, word: &str) -> Card {
     read_card(word.as_bytes()).expect(rt, "a card")
 }
 
-pub fn two(rt: &impl Abort, text: &str) -> [Card; 2] {
+pub(crate) fn two(rt: &impl Abort, text: &str) -> [Card; 2] {
     let (first, second) = parts(rt, text, " ");
     [card(rt, first), card(rt, second)]
 }
 
-pub fn four(rt: &impl Abort, text: &str) -> [Card; 4] {
+pub(crate) fn four(rt: &impl Abort, text: &str) -> [Card; 4] {
     let (first, others) = parts(rt, text, " ");
     let (second, others) = parts(rt, others, " ");
     let [third, fourth] = two(rt, others);
@@ -33,7 +33,7 @@ pub fn four(rt: &impl Abort, text: &str) -> [Card; 4] {
 }
 
 // Reads the hold and the throw, with a comma between them.
-pub fn dealt(rt: &impl Abort, text: &str) -> Dealt {
+pub(crate) fn dealt(rt: &impl Abort, text: &str) -> Dealt {
     let (hold, throw) = parts(rt, text, ", ");
     Dealt {
         hold: four(rt, hold),
@@ -42,7 +42,7 @@ pub fn dealt(rt: &impl Abort, text: &str) -> Dealt {
 }
 
 // The set of any number of cards, also of none.
-pub fn set(rt: &impl Abort, text: &str) -> CardSet {
+pub(crate) fn set(rt: &impl Abort, text: &str) -> CardSet {
     let mut cards = CardSet::new();
     for word in text.split_whitespace() {
         cards = cards.with(card(rt, word));
@@ -51,7 +51,7 @@ pub fn set(rt: &impl Abort, text: &str) -> CardSet {
 }
 
 // Counts the ranks of these cards, at most four of each.
-pub fn counted(rt: &impl Abort, text: &str) -> RankCounts {
+pub(crate) fn counted(rt: &impl Abort, text: &str) -> RankCounts {
     let mut counts = RankCounts::new();
     for word in text.split(' ') {
         let rank = card(rt, word).rank();

@@ -5,16 +5,16 @@ use example_texts::plans::*;
 use example_texts::problems::*;
 
 /// A problem, a plan, and the first failing game with its ending, if there is one.
-pub type Row = (&'static str, &'static str, Option<(Ending, &'static str)>);
+pub(crate) type Row = (&'static str, &'static str, Option<(Ending, &'static str)>);
 
-pub static SURE: [Row; 4] = [
+pub(crate) static SURE: [Row; 4] = [
     (TWELVE, TWOS, None),
     (NEAR, TWOS, None),
     (TWELVE, LOOK, None),
     (DEALERS_THIRTEEN, TWOS, None),
 ];
 
-pub static SHORT: [Row; 2] = [
+pub(crate) static SHORT: [Row; 2] = [
     (THIRTEEN, TWOS, Some((Short, OWNER_LEADS))),
     (
         DEALERS_FOURTEEN,
@@ -23,12 +23,12 @@ pub static SHORT: [Row; 2] = [
     ),
 ];
 
-pub static LOST: [Row; 2] = [
+pub(crate) static LOST: [Row; 2] = [
     (CLOSE, ACE, Some((Lost, PAIRED))),
     (RACE, TWOS, Some((Lost, OPPONENT_LEADS))),
 ];
 
-pub static STUCK: [Row; 5] = [
+pub(crate) static STUCK: [Row; 5] = [
     (TWELVE, NO_PLAN, Some((Stuck, NO_ACTS))),
     (NEAR, NO_PLAN, Some((Stuck, ONE_ACE))),
     (TWELVE, TWICE, Some((Stuck, TWO_AND_ACE))),
@@ -36,7 +36,7 @@ pub static STUCK: [Row; 5] = [
     (TWELVE, NO_KING, Some((Stuck, KING))),
 ];
 
-pub static BEGUN_ROWS: [Row; 6] = [
+pub(crate) static BEGUN_ROWS: [Row; 6] = [
     (BEGUN, REST, None),
     (BEGUN_SHORT, REST, Some((Short, DIAMOND_FIRST))),
     (BEGUN_SHORT, NO_PLAN, Some((Stuck, TWO_AND_DIAMOND))),
@@ -45,7 +45,7 @@ pub static BEGUN_ROWS: [Row; 6] = [
     (LAST_TWO_STOP, SEVEN_FIRST, Some((Lost, RUN_LOST))),
 ];
 
-pub static STOPPING: [Row; 4] = [
+pub(crate) static STOPPING: [Row; 4] = [
     (STOP_FAR, TWOS, None),
     (STOP_FAR, NO_PLAN, Some((Stuck, NO_ACTS))),
     (STOP_NEAR, TWOS, Some((Lost, OWNER_LEADS))),
@@ -53,7 +53,7 @@ pub static STOPPING: [Row; 4] = [
 ];
 
 /// The four twos are sure.
-pub static FOUR_TWOS: [Row; 1] = [(TWELVE, TWOS, None)];
+pub(crate) static FOUR_TWOS: [Row; 1] = [(TWELVE, TWOS, None)];
 
 /// A two is stated twice.
-pub static STATED_TWICE: [Row; 1] = [(TWELVE, TWICE, Some((Stuck, TWO_AND_ACE)))];
+pub(crate) static STATED_TWICE: [Row; 1] = [(TWELVE, TWICE, Some((Stuck, TWO_AND_ACE)))];

@@ -1,5 +1,5 @@
 -- clap's parser refuses the words that `specs/Command` refuses, and finds the name of the command in the others.
-use Rattle.std.proofs.Common.{Option, None, ◌≡◌, ◌∙◌, ℕ, List, [], ◌∷◌, ◌||◌, ◌==◌, Bool, true, false, Some, map, length}
+use Rattle.std.proofs.Common.{Option, None, ◌≡◌, ◌∙◌, ℕ, List, [], ◌∷◌, ◌||◌, Bool, true, false, Some, map, length}
 use Rattle.std.proofs.Common.{refl, sym, subst, ap, ap₂, arith, codes, fold, drop, is_some}
 use Rattle.std.specs.Prelude.{option_map, slice_get, option_and_then, if◌then◌else◌}
 use Rattle.std.specs.List.{list_any}

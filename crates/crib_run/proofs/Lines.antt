@@ -1,5 +1,5 @@
 -- The text that the code puts together is the line that the definition states.
-use Rattle.std.proofs.Common.{◌≡◌, ℕ, List, [], ◌++◌, ◌∙◌, ap, codes, decimal, refl, append_assoc}
+use Rattle.std.proofs.Common.{◌≡◌, ℕ, List, [], ◌++◌, ap, codes, decimal, refl, append_assoc}
 use Rattle.crib_run.specs.Reply.{fault_line, fault_reply, refusal_reply}
 use Rattle.crib_run.specs.declared.status.Status.TheVariants.{Fault, Refused}
 

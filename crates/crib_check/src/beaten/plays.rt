@@ -18,7 +18,7 @@ ghost use Rattle.crib_check.specs.Private.Demands.{AreJoined, IsAfterSome, IsDem
 ghost use Rattle.crib_check.specs.Private.Demands.{may_show, passes_counts};
 
 use crate::keys::Key;
-use crate::turns::{next_by_own, next_by_theirs, own_move};
+use crate::turns::{go_by_own, go_by_theirs, own_move};
 use crib_cards::{GAME_HOLE, Letter, Rank, RankCounts};
 use crib_know::Know;
 use crib_plan::{Plan, start};
@@ -136,7 +136,8 @@ impl<A: Allocator> Plays<'_, A> {
             join(Demand::impossible(), places, demands);
             return;
         };
-        let next = next_by_own(self.plan, key, &what);
+        let mut next = key.copy();
+        go_by_own(self.plan, &mut next, &what);
         self.join_from(&next, places, spare, demands);
     }
 
@@ -185,7 +186,8 @@ impl<A: Allocator> Plays<'_, A> {
         if !key.know.can_show(*letter) {
             return;
         }
-        let next = next_by_theirs(self.plan, key, letter);
+        let mut next = key.copy();
+        go_by_theirs(self.plan, &mut next, letter);
         let (left, spare) = spare.split_at_mut(places.len());
         let count = keep_places(self.choices, &key.know, &next.know, letter, places, left);
         if count > 0 {

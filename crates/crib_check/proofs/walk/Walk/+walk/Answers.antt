@@ -41,18 +41,15 @@ walk-returns-then-is_none g t c =
 pub own_turn-take-requires : goal.own_turn-take-requires
 own_turn-take-requires g t c κs within =
     let walk = c.args.self.now in
-    let may : MayWalk g.T.Settled.holds walk c.next_by_own-next.result (as_event (Own c.in-Some.what) ∷ history_at walk) =
-    record {
-      kept = c.requires.here.kept;
-      none = c.requires.here.none;
-      here = c.next_by_own-next.ensures walk.problem.now (history_at walk) c.requires.here.here;
-    } in
+    let goes = rw c.copy-next.ensures at c.go_by_own.ensures in
+    let may : MayWalk g.T.Settled.holds walk c.go_by_own.new.key (as_event (Own c.in-Some.what) ∷ history_at walk) =
+    record { kept = c.requires.here.kept; none = c.requires.here.none; here = goes walk.problem.now (history_at walk) c.requires.here.here } in
     (omega arith, (within.0, (within.1, may)))
 
 pub own_turn-returns-in-Some : goal.own_turn-returns-in-Some
 own_turn-returns-in-Some g t c =
     gone_as c.take.ensures (own_found c.take.new.self.trail.items c.in-Some.what c.take.new.self.failure c.requires.here.here c.in-Some.ensures
-    (c.next_by_own-next.ensures c.args.self.now.problem.now))
+    (rw c.copy-next.ensures at c.go_by_own.ensures c.args.self.now.problem.now))
 
 -- ---- the opponent's turn
 pub their_turn-returns-then-is_some : goal.their_turn-returns-then-is_some
@@ -89,24 +86,21 @@ their_turn-returns g t c =
     (rw (← all) at found))
 
 -- ---- a letter of the opponent
-pub they_show-next_by_theirs-next-requires : goal.they_show-next_by_theirs-next-requires
-they_show-next_by_theirs-next-requires g t c = c.can_show.ensures.shown c.if-can_show.true
+pub they_show-go_by_theirs-requires : goal.they_show-go_by_theirs-requires
+they_show-go_by_theirs-requires g t c = rw c.copy-next.ensures (c.can_show.ensures.shown c.if-can_show.true)
 
 pub they_show-take-requires : goal.they_show-take-requires
 they_show-take-requires g t c κs within =
     let walk = c.args.self.now in
-    let may : MayWalk g.T.Settled.holds walk c.next_by_theirs-next.result (as_event (Theirs c.args.letter.now) ∷ history_at walk) =
-    record {
-      kept = c.requires.here.kept;
-      none = c.requires.here.none;
-      here = c.next_by_theirs-next.ensures walk.problem.now (history_at walk) c.requires.here.here;
-    } in
+    let goes = rw c.copy-next.ensures at c.go_by_theirs.ensures in
+    let may : MayWalk g.T.Settled.holds walk c.go_by_theirs.new.key (as_event (Theirs c.args.letter.now) ∷ history_at walk) =
+    record { kept = c.requires.here.kept; none = c.requires.here.none; here = goes walk.problem.now (history_at walk) c.requires.here.here } in
     (omega arith, (within.0, (within.1, may)))
 
 pub they_show-returns-then-can_show : goal.they_show-returns-then-can_show
 they_show-returns-then-can_show g t c =
     gone_as c.take.ensures (theirs_found c.take.new.self.trail.items c.args.letter.now c.take.new.self.failure c.requires.here.here c.requires.asked
-    c.requires.letter (c.next_by_theirs-next.ensures c.args.self.now.problem.now))
+    c.requires.letter (rw c.copy-next.ensures at c.go_by_theirs.ensures c.args.self.now.problem.now))
 
 pub they_show-returns-else-can_show : goal.they_show-returns-else-can_show
 they_show-returns-else-can_show g t c = stays c.requires.here.kept (λ below.

@@ -40,13 +40,13 @@ join_by_own-returns-in_default g t c = joined_as (λ counts demand is. rw is (st
 
 pub join_by_own-join_from-requires : goal.join_by_own-join_from-requires
 join_by_own-join_from-requires g t c κs within =
-    let next = goes_on c.requires.here (c.next_by_own-next.ensures c.args.self.now.problem.now) in
+    let next = goes_on c.requires.here (rw c.copy-next.ensures at c.go_by_own.ensures c.args.self.now.problem.now) in
     (fall_more next.1 c.decreases, (within, (c.requires.own, (next.0, (c.requires.places, (rooms (length c.args.places.now) c.requires.room next.1).1)))))
 
 pub join_by_own-returns : goal.join_by_own-returns
 join_by_own-returns g t c =
     joined_as (λ counts demand. own_demand demand c.requires.asked c.in-Some.ensures
-    (c.next_by_own-next.ensures c.args.self.now.problem.now)) c.join_from.ensures
+    (rw c.copy-next.ensures at c.go_by_own.ensures c.args.self.now.problem.now)) c.join_from.ensures
 
 -- ---- a letter of the opponent
 pub join_after-returns-then-not-can_show-clause-joined : goal.join_after-returns-then-not-can_show-clause-joined
@@ -67,36 +67,36 @@ pub join_after-slice_bounds-join_from-end : goal.join_after-slice_bounds-join_fr
 join_after-slice_bounds-join_from-end g t c =
     omega (arith, c.split_at_mut-left.ensures.front_len, c.keep_places-count.ensures.few, c.keep_places-count.ensures.room)
 
-pub join_after-next_by_theirs-next-requires : goal.join_after-next_by_theirs-next-requires
-join_after-next_by_theirs-next-requires g t c = c.can_show.ensures.shown c.if-not-can_show.false
+pub join_after-go_by_theirs-requires : goal.join_after-go_by_theirs-requires
+join_after-go_by_theirs-requires g t c = rw c.copy-next.ensures (c.can_show.ensures.shown c.if-not-can_show.false)
 
 pub join_after-split_at_mut-left-requires : goal.join_after-split_at_mut-left-requires
 join_after-split_at_mut-left-requires g t c =
-    let next = goes_on c.requires.here (c.next_by_theirs-next.ensures c.args.self.now.problem.now) in
+    let next = goes_on c.requires.here (rw c.copy-next.ensures at c.go_by_theirs.ensures c.args.self.now.problem.now) in
     (rooms (length c.args.places.now) c.requires.room next.1).0
 
 pub join_after-join_from-requires : goal.join_after-join_from-requires
 join_after-join_from-requires g t c κs within =
-    let next = goes_on c.requires.here (c.next_by_theirs-next.ensures c.args.self.now.problem.now) in
+    let next = goes_on c.requires.here (rw c.copy-next.ensures at c.go_by_theirs.ensures c.args.self.now.problem.now) in
     let left = take c.keep_places-count.result c.keep_places-count.new.left in
     let small : All (λ place. place < 1820) left = rw c.keep_places-count.ensures.kept (All-filter _ (λ place. place < 1820) _ c.requires.places) in
     let few : length left ≤ length c.args.places.now =
     omega (arith, length-take c.keep_places-count.result c.keep_places-count.new.left, c.keep_places-count.ensures.few) in
-    let room : length left * turns_ahead c.next_by_theirs-next.result.know ≤ length c.split_at_mut-left.result.1.now =
+    let room : length left * turns_ahead c.go_by_theirs.new.key.know ≤ length c.split_at_mut-left.result.1.now =
     omega (arith, (room_after (length left) c.requires.room next.1 few).0, c.split_at_mut-left.ensures.back_len) in
     (fall next.1 c.decreases, (within, (c.requires.own, (next.0, (small, room)))))
 
 pub join_after-returns-then-count-gt0-clause-joined : goal.join_after-returns-then-count-gt0-clause-joined
 join_after-returns-then-count-gt0-clause-joined g t c =
-    let goes = c.next_by_theirs-next.ensures c.args.self.now.problem.now in
-    joined_kept {new = c.join_from.new.demands} (may_show c.args.key.now.know c.next_by_theirs-next.result.know c.args.letter.now)
+    let goes = rw c.copy-next.ensures at c.go_by_theirs.ensures c.args.self.now.problem.now in
+    joined_kept {new = c.join_from.new.demands} (may_show c.args.key.now.know c.go_by_theirs.new.key.know c.args.letter.now)
     (λ counts demand. theirs_shown demand goes) (λ counts. theirs_not_shown goes) c.keep_places-count.ensures.kept c.join_from.ensures
 
 pub join_after-returns-else-count-gt0-clause-joined : goal.join_after-returns-else-count-gt0-clause-joined
 join_after-returns-else-count-gt0-clause-joined g t c =
-    let goes = c.next_by_theirs-next.ensures c.args.self.now.problem.now in
+    let goes = rw c.copy-next.ensures at c.go_by_theirs.ensures c.args.self.now.problem.now in
     let zero : c.keep_places-count.result ≡ 0 = omega (arith, c.if-count-gt0.false) in
-    joined_kept {new = c.args.demands.now} (may_show c.args.key.now.know c.next_by_theirs-next.result.know c.args.letter.now)
+    joined_kept {new = c.args.demands.now} (may_show c.args.key.now.know c.go_by_theirs.new.key.know c.args.letter.now)
     (λ counts demand. theirs_shown demand goes) (λ counts. theirs_not_shown goes)
     (ap (λ n. take n c.keep_places-count.new.left) (sym zero) ∙ c.keep_places-count.ensures.kept)
     (record { here = λ place h. absurd cc; elsewhere = λ place h. refl })

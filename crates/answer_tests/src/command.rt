@@ -1,5 +1,4 @@
-//! Tests of the words of a program that reads any name, of the tip for a slip, and of the status of words that name no
-//! command.
+//! Tests of the words of a program that reads any name, and of the status of words that name no command.
 ghost use Rattle.std.specs.Prelude.{◌≡◌, [], ◌∷◌, Ok, codes, length};
 ghost use Rattle.crib_command.specs.Command.{commands_of};
 
@@ -73,43 +72,6 @@ fn reads_the_words(rt: HostRuntime) {
     reads(&rt, "cards -- peg", Ok(3));
     reads(&rt, "cards deal peg", Err(ErrorKind::UnknownArgument));
     reads(&rt, "cards", Err(ErrorKind::MissingRequiredArgument));
-}
-
-const DEAL: &str = "tip: a similar value exists: 'deal'";
-
-const PEG: &str = "tip: a similar value exists: 'peg'";
-
-// There is no tip between the values and the usage.
-const NO_TIP: &str = "[possible values: deal, peg]\n\nUsage: cards";
-
-// Asserts that the refusal of these words lists the values, and has this tip.
-fn refusal_has(rt: &(impl Abort + AllocGlobal), words: &[&str], tip: &str) {
-    let Err(refusal) = command_in(rt, words) else {
-        panic!(rt; "not refused");
-    };
-    let text = format!(in rt.alloc(); "{refusal}").expect(rt, "memory");
-    let has_both = text.contains("[possible values: deal, peg]") && text.contains(tip);
-    assert!(rt; has_both, "{text}");
-}
-
-// Asserts that the word gets this tip before and after the two dashes.
-fn has_tip(rt: &(impl Abort + AllocGlobal), word: &str, tip: &str) {
-    refusal_has(rt, &["cards", word, "--"], tip);
-    refusal_has(rt, &["cards", "--", word], tip);
-}
-
-// Only a slip of the name of a command gets a tip. It has one letter too many, one too few or a wrong one, or two that
-// are swapped.
-#[test]
-fn has_a_tip_for_a_slip(rt: HostRuntime) {
-    has_tip(&rt, "dael", DEAL);
-    has_tip(&rt, "dea", DEAL);
-    has_tip(&rt, "PEGS", PEG);
-    has_tip(&rt, "pog", PEG);
-    has_tip(&rt, "deeel", NO_TIP);
-    has_tip(&rt, "hand", NO_TIP);
-    has_tip(&rt, "peg.txt", NO_TIP);
-    has_tip(&rt, "", NO_TIP);
 }
 
 #[test]

@@ -33,6 +33,13 @@ pub not_taken : (names words : List Text) (error : Error) → list_any has_hyphe
 not_taken names words error bare (inl memory) name named = memory
 not_taken names words error bare (inr refused) name named = let none = command_words_taken names words name bare named in cc
 
+pub none_taken : {C : Type 0} (names words : List Text) (r : Result C Error) (error : Error) → list_any has_hyphen names ≡ false → IsErrAnd r (λ e. e ≡ error)
+    → (kind_of error ≡ OutOfMemory) ⊎ (words_refusal names words ≡ Some (kind_of error))
+    → IfErr r (λ e. (name : Text) → IsCommandWords names words name → kind_of e ≡ OutOfMemory)
+none_taken names words (Ok command) error bare is refused = absurd is
+none_taken names words (Err e) error bare is refused =
+    subst (λ (x : Error). (name : Text) → IsCommandWords names words name → kind_of x ≡ OutOfMemory) (sym is) (not_taken names words error bare refused)
+
 -- without words the name of the command is missing
 pub none_missing : {C : Type 0} (is : Text → C → Type 0) (names : List Text) (r : Result C Error)
     → IfOk r (λ command. (name : Text) × IsCommandWords names [] name × is name command)

@@ -13,7 +13,6 @@ use std::alloc::{AllocError, Global};
 use std::convert::AsStr;
 use std::io::{Error as IoError, ErrorKind as IoErrorKind};
 use std::str::FromStr;
-use strsim::osa_distance;
 
 // The help text of the word `command`. The list of the commands is below the options.
 const COMMAND: &str = "What to do with standard input";
@@ -37,59 +36,6 @@ fn matches_of_words<'a, S: AsStr>(
         .after_help(program.after_help)
         .arg(name)?;
     command.try_get_matches_from(words)
-}
-
-// Returns the name of the command that a word is a slip of, if there is one: but for capitals the word has a letter too
-// many, one too few or a wrong one, or two neighbours are swapped.
-fn slip_of(
-    alloc: Global,
-    program: &Program,
-    word: &str,
-) -> Result<Option<&'static str>, AllocError> {
-    let small = word.to_ascii_lowercase(alloc)?;
-    for name in program.commands {
-        if osa_distance(alloc, small.as_str(), name)? <= 1 {
-            return Ok(Some(name));
-        }
-    }
-    Ok(None)
-}
-
-// Returns clap's refusal of a word that is not the name of a command. It names a command only if the word is a slip of
-// it, and clap also if they share some letters, as `foo` and `follow` do.
-fn wrong_name(alloc: Global, program: &Program, word: &str) -> Result<Error, AllocError>
-    ensures { IfOk result (λ refusal. kind_of refusal ≡ ErrorKind.InvalidValue) }
-{
-    let names = program.commands.join(alloc, ", ")?;
-    let mut text = format!(in alloc;
-        "invalid value '{word}' for '<command>'\n  [possible values: {names}]"
-    )?;
-    if let Some(name) = slip_of(alloc, program, word)? {
-        write!(text, "\n\n  tip: a similar value exists: '{name}'")?;
-    }
-    Command::new(alloc, program.name)
-        .override_usage(program.usage)
-        .error(ErrorKind::InvalidValue, text.as_str())
-}
-
-// Returns a refusal of the same kind, with the text of `wrong_name` if the word that was read as the name of a command
-// is not one: the first word after the name of the program, or after `--`.
-fn reworded<S: AsStr>(
-    alloc: Global,
-    program: &Program,
-    words: &[S],
-    refusal: Error,
-) -> Result<Error, AllocError>
-    ensures { IfOk result (λ reworded. kind_of reworded ≡ kind_of refusal) }
-{
-    if refusal.kind() == ErrorKind::InvalidValue {
-        for word in words.iter().skip(1) {
-            if word.as_str() != "--" {
-                return wrong_name(alloc, program, word.as_str());
-            }
-        }
-    }
-    Ok(refusal)
 }
 
 /// Returns the command that the words name, as its name is read. The first word is the name of the program. After it
@@ -121,10 +67,7 @@ where
     ensures refused { IfErr result (λ error. (kind_of error ≡ ErrorKind.OutOfMemory)
         ⊎ (words_refusal (commands_of program.now) (map S.text words.now) ≡ Some (kind_of error))) }
 {
-    let matches = match matches_of_words(alloc, program, words) {
-        Ok(matches) => matches,
-        Err(refusal) => return Err(reworded(alloc, program, words, refusal)?),
-    };
+    let matches = matches_of_words(alloc, program, words)?;
     Ok(matches.get_one::<C>("command").unwrap())
 }
 

@@ -4,16 +4,11 @@ use crib_text::read_number;
 
 /// Returns the hint for a word that should be one of these, if it is like one.
 pub(crate) fn word_hint(word: &[u8], choices: &[&'static str]) -> Hint {
-    let mut hint = None;
-    for choice in choices {
-        hint = hint.or(choice_hint(word, choice));
-    }
-    hint
+    choices.iter().find_map(|choice| choice_hint(word, choice))
 }
 
 fn choice_hint(word: &[u8], choice: &str) -> Hint {
     let wanted = choice.as_bytes();
-    let mut end = ".";
     let hint = match word {
         _ if word == wanted => return None,
         _ if is_word(word, wanted) => "Write small letters: ",
@@ -21,13 +16,10 @@ fn choice_hint(word: &[u8], choice: &str) -> Hint {
         _ if is_word(bare(word), wanted) => "Write no other sign at the word ",
         _ if matches!(word.strip_prefix(wanted), Some([next, ..]) if !next.is_ascii_lowercase()) =>
             "Write a blank behind the word ",
-        _ if is_near(word, wanted) => {
-            end = "?";
-            "Did you mean "
-        }
+        _ if is_near(word, wanted) => return tell(format_args!("Did you mean {choice}?")),
         _ => return None,
     };
-    tell(format_args!("{hint}{choice}{end}"))
+    tell(format_args!("{hint}{choice}."))
 }
 
 /// Whether a word is this one, in small or capital letters.
@@ -41,31 +33,23 @@ pub(crate) fn is_either(word: &[u8], first: &[u8], second: &[u8]) -> bool {
 }
 
 fn is_with_zeros(word: &[u8], wanted: &[u8]) -> bool {
-    for (index, letter) in wanted.iter().enumerate() {
-        match word.get(index) {
-            Some(b'0') if *letter == b'o' => {}
-            Some(byte) if byte.to_ascii_lowercase() == *letter => {}
-            _ => return false,
-        }
-    }
+    let mut letters = word.iter().zip(wanted);
     word.len() == wanted.len()
+        && letters.all(|pair| pair == (&b'0', &b'o') || pair.0.eq_ignore_ascii_case(pair.1))
 }
 
 /// Returns a word without the signs around it that are neither letters nor digits.
 pub(crate) fn bare(word: &[u8]) -> &[u8] {
-    let (mut from, mut to) = (word.len(), 0usize);
-    for (index, byte) in word.iter().enumerate() {
-        if byte.is_ascii_alphanumeric() {
-            from = from.min(index);
-            to = index.saturating_add(1);
-        }
-    }
-    word.get(from..to).unwrap_or(b"")
+    let from = word.iter().position(u8::is_ascii_alphanumeric);
+    let last = word.iter().rposition(u8::is_ascii_alphanumeric);
+    let bare = word.get(from.unwrap_or(word.len())..=last.unwrap_or(0));
+    bare.unwrap_or(b"")
 }
 
 // Whether one letter is missing, wrong or too many, or two neighbours are in the wrong order.
 fn is_near(word: &[u8], wanted: &[u8]) -> bool {
-    let same = same_len(word, wanted);
+    let letters = word.iter().zip(wanted);
+    let same = letters.take_while(|(a, b)| a == b).count();
     let (rest, others) = (behind(word, same), behind(wanted, same));
     let (tail, other_tail) = (behind(rest, 1), behind(others, 1));
     let is_near = tail == other_tail || tail == others || rest == other_tail;
@@ -79,22 +63,7 @@ fn behind(word: &[u8], len: usize) -> &[u8] {
 
 // Whether two words differ in the order of their first two letters, and in nothing else.
 fn are_swapped(word: &[u8], wanted: &[u8]) -> bool {
-    match (word, wanted) {
-        ([first, second, rest @ ..], [other, next, others @ ..]) => {
-            first == next && second == other && rest == others
-        }
-        _ => false,
-    }
-}
-
-// Returns the number of bytes with which both words begin.
-fn same_len(word: &[u8], wanted: &[u8]) -> usize {
-    for (same, letter) in wanted.iter().enumerate() {
-        if word.get(same) != Some(letter) {
-            return same;
-        }
-    }
-    wanted.len()
+    matches!((word, wanted), ([a, b, rest @ ..], [c, d, others @ ..]) if a == d && b == c && rest == others)
 }
 
 /// Returns the hint for a word that should be a number.
@@ -113,41 +82,22 @@ pub(crate) fn number_hint(word: &[u8]) -> Hint {
 
 /// Whether a word is some digits.
 pub(crate) fn are_digits(word: &[u8]) -> bool {
-    for byte in word {
-        if !byte.is_ascii_digit() {
-            return false;
-        }
-    }
-    !word.is_empty()
+    !word.is_empty() && word.iter().all(u8::is_ascii_digit)
 }
 
 // Whether each byte is a digit, or a letter that looks like 0 or 1.
 fn are_like_digits(word: &[u8]) -> bool {
-    for byte in word {
-        if !matches!(*byte, b'0'..=b'9' | b'O' | b'o' | b'l' | b'I' | b'i') {
-            return false;
-        }
-    }
-    true
+    word.iter().all(|byte| b"0123456789OolIi".contains(byte))
 }
 
 /// Returns the hint for numbers with one sign between two in place of a blank, as `109-110`.
 pub(crate) fn two_numbers_hint(word: &[u8]) -> Hint {
-    let mut sign = None;
-    let mut is_number = false;
-    for byte in word {
-        let is_digit = byte.is_ascii_digit();
-        if !is_digit {
-            if !is_number || byte.is_ascii_alphanumeric() || sign.unwrap_or(*byte) != *byte {
-                return None;
-            }
-            sign = Some(*byte);
-        }
-        is_number = is_digit;
+    let sign = word.iter().find(|byte| !byte.is_ascii_digit())?;
+    if sign.is_ascii_alphanumeric() || !word.split(|byte| byte == sign).all(are_digits) {
+        return None;
     }
-    match sign {
-        Some(b'.') if is_number => tell("Write whole numbers, with a blank between two."),
-        Some(_) if is_number => tell("Write a blank between two numbers."),
-        _ => None,
-    }
+    tell(match *sign {
+        b'.' => "Write whole numbers, with a blank between two.",
+        _ => "Write a blank between two numbers.",
+    })
 }

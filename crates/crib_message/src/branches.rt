@@ -12,13 +12,9 @@ pub(crate) const LETTERS: &[u8; 14] = b"A23456789TJQKg";
 
 /// Returns why a branch does not fit, if it doesn't: for its letters first, then for its node.
 pub(crate) fn branch_cause(scene: &Scene<'_>, branch: &Word<'_>) -> Option<Cause> {
-    if branch.bytes.split(is_colon).count() != 2 {
-        return Some(BAD_LINE);
-    }
-    if branch_fault(scene, branch).is_some() {
-        return Some(BAD_SET);
-    }
     match branch.target().bytes {
+        _ if branch.bytes.split(is_colon).count() != 2 => Some(BAD_LINE),
+        _ if branch_fault(scene, branch).is_some() => Some(BAD_SET),
         target if target == b"end".as_slice() => Some(BAD_NEXT),
         target => number_cause(scene, Slot::Target, read_number(target)),
     }
@@ -26,12 +22,12 @@ pub(crate) fn branch_cause(scene: &Scene<'_>, branch: &Word<'_>) -> Option<Cause
 
 /// Returns what is wrong with the letters of a branch with one colon, or that an earlier branch has its node.
 pub(crate) fn branch_fault(scene: &Scene<'_>, branch: &Word<'_>) -> Hint {
-    let mut last = (' ', 0);
+    let mut last = (' ', None);
     for byte in branch.letters() {
-        let (letter, place) = (char::from(*byte), place_of(&[*byte]));
+        let (letter, place) = (char::from(*byte), place_of(Some(byte)));
         let (before, least) = last;
         match place {
-            0 => {
+            None => {
                 let (typed, hint) = (typed(&[*byte]), letter_hint(branch, *byte));
                 return tell(format_args!("{typed} is none of the letters A23456789TJQKg; {hint}"));
             }
@@ -50,24 +46,17 @@ pub(crate) fn branch_fault(scene: &Scene<'_>, branch: &Word<'_>) -> Hint {
 
 // Returns which letter of a branch is in a branch before it too.
 fn repeated_letter(scene: &Scene<'_>, branch: &Word<'_>) -> Hint {
-    for byte in branch.letters() {
-        if let Some(old) = branch_with(scene.text(), branch.index, *byte) {
-            let (letter, old) = (char::from(*byte), typed(old.bytes));
-            return tell(format_args!("{letter} stood in the branch {old} already"));
-        }
-    }
-    None
+    branch.letters().iter().find_map(|byte| {
+        let old = typed(branch_with(scene.text(), branch.index, *byte)?.bytes);
+        let letter = char::from(*byte);
+        tell(format_args!("{letter} stood in the branch {old} already"))
+    })
 }
 
 /// Returns the first branch of a see line that has a letter, if it is among so many words.
 pub(crate) fn branch_with(line: &[u8], words: usize, letter: u8) -> Option<Word<'_>> {
-    for word in line.split(is_blank).take(words).skip(2) {
-        let branch = Word::of(word);
-        if branch.letters().contains(&letter) {
-            return Some(branch);
-        }
-    }
-    None
+    let mut branches = line.split(is_blank).take(words).skip(2).map(Word::of);
+    branches.find(|branch| branch.letters().contains(&letter))
 }
 
 // Returns which branch before a branch belongs behind it, or else which one leads to its node.
@@ -75,7 +64,7 @@ fn fault_beside(scene: &Scene<'_>, branch: &Word<'_>) -> Hint {
     let mut same = None;
     for word in scene.text().split(is_blank).take(branch.index).skip(2) {
         let old = Word::of(word);
-        if place_of(old.letters()) > place_of(branch.letters()) {
+        if place_of(old.letters().first()) > place_of(branch.letters().first()) {
             let old = typed(word);
             return tell(format_args!(
                 "it belongs before {old}: branches are sorted by their first letters"
@@ -104,14 +93,9 @@ fn same_node(old: &Word<'_>, branch: &Word<'_>) -> Hint {
     ))
 }
 
-// Returns the place of the first of these bytes among the letters, from 1, or 0 if it is none of them.
-fn place_of(bytes: &[u8]) -> usize {
-    for (before, letter) in LETTERS.iter().enumerate() {
-        if bytes.first() == Some(letter) {
-            return before.saturating_add(1);
-        }
-    }
-    0
+// Returns the place of a letter in their order.
+fn place_of(letter: Option<&u8>) -> Option<usize> {
+    LETTERS.iter().position(|one| Some(one) == letter)
 }
 
 // Returns what to write in place of a letter that no branch has.
@@ -125,7 +109,7 @@ fn letter_hint(branch: &Word<'_>, letter: u8) -> &'static str {
         b'G' => "a go is a small g alone",
         b'o' | b'O' if is_word(letters, b"go") => "a go is a small g alone",
         b'0' | b'1' => "a ten is T, and an ace A",
-        _ if has_other_letter(letters) => "write each rank by its letter",
+        _ if letters.iter().any(is_other) => "write each rank by its letter",
         b'a' | b't' | b'j' | b'q' | b'k' => "a rank is a capital",
         _ if letter.is_ascii_alphanumeric() => "a branch has ranks and no suits",
         _ => "write each letter, with no sign between two, as in A23:1",
@@ -134,20 +118,10 @@ fn letter_hint(branch: &Word<'_>, letter: u8) -> &'static str {
 
 /// Whether a word is some letters of branches.
 pub(crate) fn are_letters(word: &[u8]) -> bool {
-    for byte in word {
-        if !LETTERS.contains(byte) {
-            return false;
-        }
-    }
-    !word.is_empty()
+    !word.is_empty() && word.iter().all(|byte| LETTERS.contains(byte))
 }
 
 // Whether a letter names neither a rank nor a suit nor a go, in small letters or in capitals.
-fn has_other_letter(letters: &[u8]) -> bool {
-    for byte in letters {
-        if byte.is_ascii_alphabetic() && !b"ATJQKGCDHS".contains(&byte.to_ascii_uppercase()) {
-            return true;
-        }
-    }
-    false
+fn is_other(letter: &u8) -> bool {
+    letter.is_ascii_alphabetic() && !b"ATJQKGCDHS".contains(&letter.to_ascii_uppercase())
 }

@@ -31,47 +31,34 @@ pub(crate) fn is_comment(word: &[u8]) -> bool {
 /// Returns the hint of a wrong count above the refused line: the lines that are announced there are more or fewer than
 /// there are.
 pub(crate) fn count_hint(scene: &Scene<'_>) -> Hint {
-    let (row, line) = announced(scene)?;
-    let count = count_at(scene.input, line);
-    let above = scene.number.saturating_sub(1).saturating_sub(line);
+    let lines = scene.input.split(is_line_feed).zip(1..scene.number);
+    let (announcing, number) = lines.filter(|(line, _)| announces(line)).last()?;
+    let row = Row::of_keyword(word_in(announcing, 0))?;
+    let count = count_at(scene.input, number) as usize;
+    let above = scene.above().saturating_sub(number) as usize;
     let found = above.saturating_add(items_from(scene, row));
     if count == found {
         return None;
     }
     let keyword = row.keyword();
     tell(format_args!(
-        "Line {line} says {keyword} {count}, but the number of lines for it is {found}."
+        "Line {number} says {keyword} {count}, but the number of lines for it is {found}."
     ))
 }
 
-// Returns the last row above the refused line that announces lines, and the number of its line.
-fn announced(scene: &Scene<'_>) -> Option<(Row, u32)> {
-    let lines = scene.input.split(is_line_feed);
-    let mut announced = None;
-    for (line, number) in lines.zip(1..scene.number) {
-        let row = Row::of_keyword(word_in(line, 0));
-        if let Some(row @ (Row::Played | Row::Nodes | Row::Acts)) = row {
-            announced = Some((row, number));
-        }
-    }
-    announced
+// Whether a line says how many lines of one kind follow.
+fn announces(line: &[u8]) -> bool {
+    let row = Row::of_keyword(word_in(line, 0));
+    matches!(row, Some(Row::Played | Row::Nodes | Row::Acts))
 }
 
-// Returns how many lines of a row follow each other from the refused line on.
-fn items_from(scene: &Scene<'_>, row: Row) -> u32 {
-    let above = scene.number.saturating_sub(1) as usize;
-    let mut items = 0u32;
-    for line in scene.input.split(is_line_feed).skip(above) {
-        let is_item = match row {
-            Row::Nodes => is_node(line),
-            _ => is_act(line),
-        };
-        if !is_item {
-            break;
-        }
-        items = items.saturating_add(1);
+// Returns how many lines that a row announces follow each other from the refused line on.
+fn items_from(scene: &Scene<'_>, row: Row) -> usize {
+    let lines = scene.input.split(is_line_feed).skip(scene.above() as usize);
+    match row {
+        Row::Nodes => lines.take_while(|line| is_node(line)).count(),
+        _ => lines.take_while(|line| is_act(line)).count(),
     }
-    items
 }
 
 /// Returns the hint for a line that is another one than was expected.
@@ -94,33 +81,25 @@ pub(crate) fn order_hint(scene: &Scene<'_>) -> Hint {
 fn header_hint(scene: &Scene<'_>, row: Option<Row>) -> Hint {
     let is_verdict = is_either(scene.word(0), b"fails", b"holds");
     let is_opening = row == Some(Row::Played) || is_act(scene.text());
-    let text = match row {
-        None if scene.word(0) == b"none".as_slice() && scene.row != Row::End =>
-            "Where no plan is sure, solve writes none, and there is no plan to read.",
-        _ if scene.row == Row::Problem => return problem_hint(row, is_verdict),
-        Some(Row::Problem) => "An input has one problem.",
-        Some(Row::Plan | Row::Game) => return Some(sections_hint(scene.sections)),
-        _ if scene.row == Row::Game && is_verdict =>
+    let is_none = scene.word(0) == b"none".as_slice() && scene.row != Row::End;
+    let text = match (scene.row, row) {
+        _ if is_none => "Where no plan is sure, solve writes none, and there is no plan to read.",
+        (Row::Problem, Some(Row::Plan | Row::Game)) => "The problem comes first.",
+        (Row::Problem, None) if is_verdict => "The problem comes first.",
+        (Row::Problem, row) => return row.and(Some(section_order(Section::Problem))),
+        (_, Some(Row::Problem)) => "An input has one problem.",
+        (_, Some(Row::Plan | Row::Game)) => return Some(sections_hint(scene.sections)),
+        (Row::Game, None) if is_verdict =>
             "Leave out this line of an answer: a game begins with game 1.",
-        Some(Row::Nodes) if scene.row == Row::Plan => return Some(section_order(Section::Plan)),
-        Some(Row::Hold | Row::Throw | Row::Acts) if scene.row == Row::Game => return Some(
-            section_order(Section::Game),
-        ),
+        (Row::Plan, Some(Row::Nodes)) => return Some(section_order(Section::Plan)),
+        (Row::Game, Some(Row::Hold | Row::Throw | Row::Acts)) => {
+            return Some(section_order(Section::Game));
+        }
         _ if is_opening && !scene.is_second() =>
             "Turns that were played already need problem 2 on line 1.",
         _ => return count_hint(scene),
     };
     count_hint(scene).or(tell(text))
-}
-
-// A line in place of the first line of an input.
-fn problem_hint(row: Option<Row>, is_verdict: bool) -> Hint {
-    match row {
-        Some(Row::Plan | Row::Game) => tell("The problem comes first."),
-        None if is_verdict => tell("The problem comes first."),
-        None => None,
-        Some(_) => Some(section_order(Section::Problem)),
-    }
 }
 
 /// Returns what the command reads.
@@ -136,17 +115,13 @@ pub(crate) fn sections_hint(sections: Sections) -> Sentence {
 // Returns that the expected line is missing, or in which order the lines of the section are if it is later.
 fn missing_or_moved(scene: &Scene<'_>) -> Sentence {
     let keyword = scene.row.keyword();
-    let above = scene.number.saturating_sub(1) as usize;
-    for line in scene.input.split(is_line_feed).skip(above) {
-        let word = word_in(line, 0);
-        if is_either(word, b"plan", b"game") {
-            break;
-        }
-        if word == keyword.as_bytes() {
-            return section_order(scene.place.section);
-        }
+    let lines = scene.input.split(is_line_feed).skip(scene.above() as usize);
+    let words = lines.map(|line| word_in(line, 0));
+    let mut others = words.take_while(|word| !is_either(word, b"plan", b"game"));
+    match others.any(|word| word == keyword.as_bytes()) {
+        true => section_order(scene.place.section),
+        false => Sentence::of(format_args!("The line {keyword} is missing.")),
     }
-    Sentence::of(format_args!("The line {keyword} is missing."))
 }
 
 fn section_order(section: Section) -> Sentence {

@@ -1,4 +1,5 @@
 //! Bytes that no text has.
+use crate::cards::TWO_LETTERS;
 use crate::excerpt::is_plain;
 use crate::explained::{Explained, said};
 use crate::scene::{Mark, Scene};
@@ -8,7 +9,7 @@ use crib_text::TextCause;
 /// Explains a line with a byte that is neither LF nor 32 to 126. Returns nothing if there is no such byte.
 pub(crate) fn bad_byte(scene: &Scene<'_>) -> Option<Explained> {
     let line = scene.text();
-    let from = line.iter().position(is_strange)?;
+    let from = line.iter().position(|byte| !is_plain(*byte))?;
     let rest = line.get(from..).unwrap_or(b"");
     let len = character_len(rest);
     let bytes = rest.get(..len).or(rest.get(..1)).unwrap_or(rest);
@@ -25,11 +26,6 @@ pub(crate) fn bad_byte(scene: &Scene<'_>) -> Option<Explained> {
     Some(said(text, mark, hint))
 }
 
-// Whether a byte is neither LF nor 32 to 126.
-fn is_strange(byte: &u8) -> bool {
-    !is_plain(*byte)
-}
-
 // Returns the number of bytes of the first character: one byte, or a sign in UTF-8.
 fn character_len(rest: &[u8]) -> usize {
     let len = match rest {
@@ -38,27 +34,22 @@ fn character_len(rest: &[u8]) -> usize {
         [0xF0..=0xF4, ..] => 4,
         _ => 1,
     };
-    for byte in rest.iter().take(len).skip(1) {
-        if !(0x80..=0xBF).contains(byte) {
-            return 1;
-        }
-    }
-    len
+    let mut others = rest.iter().take(len).skip(1);
+    let are_later = others.all(|byte| (0x80..=0xBF).contains(byte));
+    if are_later { len } else { 1 }
 }
 
 // Returns the hint for a file that is no plain text: the marks with which it may begin, or three bytes that no text
 // file has.
 fn file_hint(scene: &Scene<'_>) -> Option<&'static str> {
     let controls = scene.input.iter().take(512).filter(is_control).count();
-    match (scene.number, scene.text()) {
-        (1, [0xEF, 0xBB, 0xBF, ..]) => {
-            Some("Save the file as plain ASCII, without a byte-order mark.")
-        }
-        (1, [0xFF, 0xFE, ..] | [0xFE, 0xFF, ..] | [b'p', 0, ..] | [0, b'p', ..]) => {
-            Some("Save the file as plain ASCII, not as UTF-16.")
-        }
-        _ => (controls >= 3).then_some("The input is no text."),
-    }
+    Some(match (scene.number, scene.text()) {
+        (1, [0xEF, 0xBB, 0xBF, ..]) => "Save the file as plain ASCII, without a byte-order mark.",
+        (1, [0xFF, 0xFE, ..] | [0xFE, 0xFF, ..] | [b'p', 0, ..] | [0, b'p', ..]) =>
+            "Save the file as plain ASCII, not as UTF-16.",
+        _ if controls >= 3 => "The input is no text.",
+        _ => return None,
+    })
 }
 
 fn is_control(byte: &&u8) -> bool {
@@ -77,9 +68,7 @@ fn byte_hint(rest: &[u8]) -> &'static str {
         [0xE2, 0x99, 0xA1 | 0xA5, ..] => "Write the suit sign of hearts as the letter H.",
         [0xE2, 0x99, 0xA2 | 0xA6, ..] => "Write the suit sign of diamonds as the letter D.",
         [0xE2, 0x99, 0xA3 | 0xA7, ..] => "Write the suit sign of clubs as the letter C.",
-        [0xF0, 0x9F, 0x82 | 0x83, ..] => {
-            "Write a card as two letters, its rank and its suit: TS."
-        }
+        [0xF0, 0x9F, 0x82 | 0x83, ..] => TWO_LETTERS,
         _ => "Write plain ASCII letters, digits and signs.",
     }
 }

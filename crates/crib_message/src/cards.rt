@@ -18,6 +18,9 @@ const NO_RANK: &str = "Write the rank in front of the suit, as in ";
 
 const RANK_FIRST: &str = "Write the rank in front of the suit: ";
 
+/// How to write a card that is a sign or a word.
+pub(crate) const TWO_LETTERS: &str = "Write a card as two letters, its rank and its suit: TS.";
+
 const CAPITALS: &str = "Write a card in capital letters: ";
 
 /// Returns the hint for a word that should be a card, if it is like one.
@@ -52,7 +55,13 @@ fn ranked(word: &[u8]) -> Hint {
         [suit, number @ ..] if are_digits(number) => (number, suit),
         [number @ .., suit] => (number, suit),
     };
-    let (text, rank) = match number {
+    let (text, rank) = rank_meant(number)?;
+    meant(text, rank, *suit)
+}
+
+// Returns the rank that is written as a number, and how to write it.
+fn rank_meant(number: &[u8]) -> Option<(&'static str, u8)> {
+    Some(match number {
         [b'1' | b'I' | b'l', b'0' | b'O' | b'o'] => (TEN, b'T'),
         [b'0' | b'O' | b'o' | b'X' | b'x'] => (TEN, b'T'),
         [b'1' | b'I' | b'l'] | [b'1', b'4'] => (ACE, b'A'),
@@ -60,8 +69,7 @@ fn ranked(word: &[u8]) -> Hint {
         [b'1', b'2'] => (COURT, b'Q'),
         [b'1', b'3'] => (COURT, b'K'),
         _ => return None,
-    };
-    meant(text, rank, *suit)
+    })
 }
 
 /// Whether a word has a rank and a suit, spelled so or as people do.
@@ -74,15 +82,10 @@ pub(crate) fn is_like_card(word: &[u8]) -> bool {
 
 /// Returns the hint for a rank that is written as a number, with no suit.
 pub(crate) fn suitless(word: &[u8]) -> Hint {
-    let rank = match read_number(word)? {
-        1 | 14 => b'A',
-        10 => b'T',
-        11 => b'J',
-        12 => b'Q',
-        13 => b'K',
-        _ => return None,
-    };
-    meant(NO_SUIT, rank, b'S')
+    match read_number(word)? {
+        0 => None,
+        _ => meant(NO_SUIT, rank_meant(word)?.1, b'S'),
+    }
 }
 
 // Two cards or more, with no blank or one other sign between two.

@@ -88,8 +88,7 @@ impl Row {
             Section::After => &[End],
         };
         let index = place.number.saturating_sub(1) as usize;
-        let last = rows.len().saturating_sub(1);
-        rows.get(index.min(last)).copied().unwrap_or(End)
+        rows.get(index).or(rows.last()).copied().unwrap_or(End)
     }
 
     /// Returns what is at the word with this index, from 0, of a line with this second word.
@@ -114,27 +113,15 @@ impl Row {
         slots.get(index).copied().unwrap_or(Extra)
     }
 
-    /// Returns the first word of the line, or none if it is no keyword.
+    /// Returns the keyword of a line that begins with one.
     pub(crate) fn keyword(self) -> &'static str {
-        match self {
-            Node | Act | End => "",
-            _ => self.pattern(false).split(' ').next().unwrap_or(""),
-        }
+        self.pattern(false).split(' ').next().unwrap_or("")
     }
 
     /// Returns the line with this keyword.
     pub(crate) fn of_keyword(word: &[u8]) -> Option<Row> {
-        for row in KEYWORDS {
-            if row.keyword().as_bytes() == word {
-                return Some(row);
-            }
-        }
-        None
-    }
-
-    /// Whether cards are behind the keyword.
-    pub(crate) fn has_cards(self) -> bool {
-        matches!(self, Starter | Hold | Throw)
+        let mut rows = KEYWORDS.into_iter();
+        rows.find(|row| row.keyword().as_bytes() == word)
     }
 
     /// Returns what the line may be. Only a problem of version 2 has the goal `stop`.

@@ -1,6 +1,6 @@
 //! Hints: what to write in place of a word that does not fit.
 use crate::branches::are_letters;
-use crate::cards::{card_hint, card_meant, is_like_card, suitless};
+use crate::cards::{TWO_LETTERS, card_hint, card_meant, is_like_card, suitless};
 use crate::grammar::{Row, Slot};
 use crate::misfit::{BAD_LINE, Misfit};
 use crate::order::{COMMENT, is_act, is_comment, is_node, order_hint};
@@ -49,29 +49,13 @@ pub(crate) fn hint_of(scene: &Scene<'_>, misfit: &Misfit<'_>, cause: Cause) -> H
 
 // A number, or a word in the place of one.
 fn figure_hint(scene: &Scene<'_>, slot: Slot, word: &[u8], is_form: bool) -> Hint {
-    let is_score = matches!(slot, Slot::Points);
-    if is_score && !is_form && word == b"121".as_slice() {
-        return tell("The game is over at 121.");
+    let is_word = is_form && !word.iter().any(u8::is_ascii_digit);
+    let hint = if is_word { None } else { number_hint(word) };
+    match slot {
+        Slot::Points if !is_form && word == b"121".as_slice() => tell("The game is over at 121."),
+        Slot::Points if scene.word_count() < 3 => two_numbers_hint(word).or(hint),
+        _ => hint,
     }
-    let numbers = if is_score && scene.word_count() < 3 {
-        two_numbers_hint(word)
-    } else {
-        None
-    };
-    match numbers {
-        None if is_form && !has_digit(word) => None,
-        None => number_hint(word),
-        hint => hint,
-    }
-}
-
-fn has_digit(word: &[u8]) -> bool {
-    for byte in word {
-        if byte.is_ascii_digit() {
-            return true;
-        }
-    }
-    false
 }
 
 // A word behind the last one of its line.
@@ -90,16 +74,11 @@ fn extra_hint(scene: &Scene<'_>, word: &[u8]) -> Hint {
 
 // Returns how many cards the line has, if each word behind its keyword is one.
 fn cards_hint(scene: &Scene<'_>) -> Hint {
-    if !scene.row.has_cards() {
+    let mut words = scene.text().split(is_blank).skip(1);
+    if !matches!(scene.slot(1), Slot::Card) || !words.all(|word| read_card(word).is_some()) {
         return None;
     }
-    let mut cards = 0usize;
-    for word in scene.text().split(is_blank).skip(1) {
-        if read_card(word).is_none() {
-            return None;
-        }
-        cards = cards.saturating_add(1);
-    }
+    let cards = scene.word_count().saturating_sub(1);
     let more = match scene.row {
         Row::Hold if cards == 6 => ": hold has four, and throw has the other two",
         _ => "",
@@ -128,12 +107,8 @@ fn aim_hint(word: &[u8]) -> Hint {
 
 // Whether a word is one of these, with signs around it or not.
 fn is_among(word: &[u8], words: &str) -> bool {
-    for one in words.split(' ') {
-        if is_word(bare(word), one.as_bytes()) {
-            return true;
-        }
-    }
-    false
+    let mut choices = words.split(' ');
+    choices.any(|choice| is_word(bare(word), choice.as_bytes()))
 }
 
 fn actor_hint(scene: &Scene<'_>, word: &[u8]) -> Hint {
@@ -157,7 +132,7 @@ fn card_slot_hint(scene: &Scene<'_>, word: &[u8]) -> Hint {
     match bare(word) {
         [] => None,
         [_] if scene.word_count() > 2 => tell(ONE_CARD),
-        _ => card_hint(word).or(tell("Write a card as two letters, its rank and its suit: TS.")),
+        _ => card_hint(word).or(tell(TWO_LETTERS)),
     }
 }
 
@@ -185,9 +160,8 @@ fn own_hint(scene: &Scene<'_>, word: &[u8]) -> Hint {
     order.or(tell(match read_number(word) {
         _ if is_act(scene.text()) => "Acts stand in a game, and a plan has nodes: 0 play 2C end.",
         Some(_) if scene.node() == 0 => "The first node has the number 0.",
-        Some(_) => return order,
-        None if read_number(bare(word)).is_some() => return order.or(number_hint(word)),
-        None => "A node begins with its number: 0 play 2C end.",
+        _ if read_number(bare(word)).is_some() => return order.or(number_hint(word)),
+        _ => "A node begins with its number: 0 play 2C end.",
     }))
 }
 
@@ -209,12 +183,7 @@ fn branch_hint(scene: &Scene<'_>, branch: &Word<'_>, cause: Cause) -> Hint {
 
 // Whether a word is a name: letters alone, and not only one, which may be a mistyped digit.
 fn is_name(word: &[u8]) -> bool {
-    for byte in word {
-        if !byte.is_ascii_alphabetic() {
-            return false;
-        }
-    }
-    word.len() > 1
+    word.len() > 1 && word.iter().all(u8::is_ascii_alphabetic)
 }
 
 // The node behind the card of a play node.

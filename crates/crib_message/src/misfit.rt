@@ -1,7 +1,7 @@
 //! The first word of a line that does not fit the grammar.
 use crate::branches::branch_cause;
 use crate::grammar::{Row, Slot};
-use crate::scene::{Scene, Section, Word, is_blank, text_at, word_in};
+use crate::scene::{Scene, Section, Word, is_blank, text_at};
 use crate::spelling::is_either;
 use crib_cards::read_card;
 use crib_input::Cause;
@@ -60,7 +60,8 @@ fn refusal(scene: &Scene<'_>, slot: Slot, word: &Word<'_>) -> Option<Cause> {
         Slot::Move if word.bytes == b"go".as_slice() => None,
         Slot::Target if word.bytes == b"end".as_slice() => None,
         Slot::Card | Slot::Stated | Slot::Move if read_card(word.bytes).is_none() => Some(BAD_CARD),
-        Slot::Card | Slot::Stated | Slot::Move => earlier_line(scene, word).and(Some(SAME_CARD)),
+        Slot::Stated | Slot::Move => None,
+        Slot::Card => earlier_line(scene, word).and(Some(SAME_CARD)),
         Slot::Keyword | Slot::Aim | Slot::Side | Slot::Kind | Slot::Actor | Slot::Extra =>
             (!is_fitting(scene, slot, word.bytes)).then_some(BAD_LINE),
         _ => number_cause(scene, slot, read_number(word.bytes)),
@@ -83,19 +84,14 @@ fn is_fitting(scene: &Scene<'_>, slot: Slot, word: &[u8]) -> bool {
 
 /// Returns the first line of a problem that has a card before this word, if there is one.
 pub(crate) fn earlier_line(scene: &Scene<'_>, card: &Word<'_>) -> Option<u32> {
-    if !matches!(scene.place.section, Section::Problem) || !scene.row.has_cards() {
+    if !matches!(scene.place.section, Section::Problem) {
         return None;
     }
-    for number in 1..=scene.number {
-        let line = text_at(scene.input, number);
-        let end = if number < scene.number { 5 } else { card.index };
-        for index in 1..end {
-            if word_in(line, index) == card.bytes {
-                return Some(number);
-            }
-        }
-    }
-    None
+    (1..=scene.number).find(|line| {
+        let end = if *line == scene.number { card.index } else { 5 };
+        let words = text_at(scene.input, *line).split(is_blank);
+        words.take(end).skip(1).any(|word| word == card.bytes)
+    })
 }
 
 /// Returns why a number does not fit its slot, if it doesn't.

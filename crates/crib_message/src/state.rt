@@ -89,14 +89,9 @@ impl State {
 
     /// Returns the line of the last act with this move.
     pub(crate) fn line_of(&self, what: &Move) -> Option<u32> {
-        let mut line = self.line;
-        for act in self.acts.iter().rev() {
-            if act.what == *what {
-                return Some(line);
-            }
-            line = line.saturating_sub(1);
-        }
-        None
+        let mut acts = self.acts.iter().rev().zip(0u32..);
+        let (_, later) = acts.find(|(act, _)| act.what == *what)?;
+        Some(self.line.saturating_sub(later))
     }
 
     // Takes the next act. One that the rules don't allow changes nothing but the list of acts.

@@ -17,17 +17,13 @@ const ALL_TURNS: &str = "a game begins with all turns of the opening, and here "
 pub(crate) fn explain_turn(scene: &Scene<'_>, cause: Cause) -> Option<Explained> {
     let is_over = cause == Problem(Rule::AlreadyOver);
     let state = State::before(scene, usize::from(is_over))?;
-    let moved = moved(&state.act.what);
+    let (side, moved) = (the(state.act.side), moved(&state.act.what));
     let mut sentence = match cause {
-        Problem(Rule::NotTurn) => Sentence::of(the(state.act.side)),
-        Problem(Rule::AlreadyOver | Rule::DoesNotFit) | Game(_) => Sentence::of(""),
-        _ => Sentence::of(moved),
+        Problem(Rule::NotTurn) => Sentence::of(format_args!("{side} is {cause}: ")),
+        Problem(Rule::AlreadyOver) => Sentence::of(format_args!("{cause}: with {moved} ")),
+        Problem(Rule::DoesNotFit) | Game(_) => Sentence::of(format_args!("{cause}: ")),
+        _ => Sentence::of(format_args!("{moved} is {cause}: ")),
     };
-    let is = if sentence.0.is_empty() { "" } else { " is " };
-    sentence.add(format_args!("{is}{cause}: "));
-    if is_over {
-        sentence.add(format_args!("with {moved} "));
-    }
     add_reason(&mut sentence, &state, scene, cause)?;
     let mark = mark_of(scene.row, cause);
     Some(Explained { sentence, mark })
@@ -66,7 +62,7 @@ fn add_reason(to: &mut Sentence, state: &State, scene: &Scene<'_>, cause: Cause)
         }
         (Problem(Rule::MustPlay | Rule::NoDeal) | Game(Fault::MustPlay(_)), _) => add_go(to, state),
         (Problem(Rule::AlreadyOver) | Game(Fault::AfterEnd(_)), _) => add_end(to, state, cause),
-        (Game(Fault::NotUnseen(place)), _) => add_seen(to, state, place),
+        (Game(Fault::NotUnseen(place)), _) => add_seen(to, state, place)?,
         (Game(Fault::NotAsPlayed(place)), _) => add_as_played(to, scene, place),
         (Game(Fault::Strays(_)), what) => {
             add_stray(to, scene.input, state.acts.as_slice());
@@ -184,12 +180,8 @@ fn place_of(state: &State, card: Card) -> Option<(&'static str, u32)> {
 fn add_not_held(to: &mut Sentence, state: &State, card: Card) {
     let side = the(state.act.side);
     let name = named(card);
-    let mut is_held = false;
-    let mut is_thrown = false;
-    if let Some(dealt) = state.dealt {
-        is_held = dealt.hold.contains(&card);
-        is_thrown = dealt.throw.contains(&card);
-    }
+    let is_held = state.dealt.is_some_and(|dealt| dealt.hold.contains(&card));
+    let is_thrown = state.dealt.is_some_and(|dealt| dealt.throw.contains(&card));
     let mut joint = "; ";
     match place_of(state, card) {
         Some((_, 5)) => to.add(format_args!("the owner holds {name}")),
@@ -208,25 +200,21 @@ fn add_not_held(to: &mut Sentence, state: &State, card: Card) {
 }
 
 // Appends where a card of the opponent is before, from its place among the six.
-fn add_seen(to: &mut Sentence, state: &State, place: u8) {
-    let Some(dealt) = state.dealt else {
-        return;
-    };
+fn add_seen(to: &mut Sentence, state: &State, place: u8) -> Option<()> {
+    let dealt = state.dealt?;
     let at = usize::from(place).saturating_sub(1);
-    let other = dealt.throw.get(at.saturating_sub(4));
-    let Some(card) = dealt.hold.get(at).or(other) else {
-        return;
-    };
-    let card = *card;
+    let thrown = dealt.throw.get(at.saturating_sub(4));
+    let card = *dealt.hold.get(at).or(thrown)?;
     let name = named(card);
-    let (at, line) = match place_of(state, card) {
-        Some(found) => found,
+    let line = state.line.saturating_sub(2);
+    match place_of(state, card) {
+        Some((at, line)) => to.add(format_args!("{name} {at} (line {line})")),
         None if place > 4 && dealt.hold.contains(&card) => {
-            ("is in the opponent's hold", state.line.saturating_sub(2))
+            to.add(format_args!("{name} is in the opponent's hold (line {line})"));
         }
-        None => return to.add(format_args!("{name} stands twice in this line")),
-    };
-    to.add(format_args!("{name} {at} (line {line})"));
+        None => to.add(format_args!("{name} stands twice in this line")),
+    }
+    Some(())
 }
 
 // Appends how the deal ended.

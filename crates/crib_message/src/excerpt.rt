@@ -129,7 +129,7 @@ fn add_mark(excerpt: &mut Excerpt, number: u32, window: Window<'_>, mark: Mark)
         × (excerpt.new.items ≡ excerpt.old.items ++ below) }
 {
     let from = mark.from.saturating_sub(window.before.len());
-    let stretch = cut(window.shown, from, mark.to.saturating_sub(mark.from));
+    let stretch = cut(window.shown, from, mark.len);
     add(excerpt, b"  ");
     add_below(excerpt, b' ', Buffer::new().format(number).as_bytes());
     add(excerpt, b" | ");

@@ -5,7 +5,7 @@ use crate::grammar::{Row, Slot};
 use crate::hints::hint_of;
 use crate::misfit::{BAD_CARD, BAD_LINE, BAD_NEXT, BAD_SET, SAME_CARD, earlier_line, first_misfit};
 use crate::order::{NEEDS_PLAYED, count_hint, order_hint, sections_hint};
-use crate::scene::{Mark, Scene, Word, is_blank};
+use crate::scene::{Mark, Scene, Word};
 use crate::sentence::{Hint, Sentence, named, tell, typed};
 use crate::turns::explain_turn;
 use crib_cards::read_card;
@@ -29,19 +29,17 @@ pub(crate) struct Explained {
 pub(crate) fn explain(scene: &Scene<'_>, cause: Cause) -> Explained {
     let cause = plain(cause);
     let explained = match (cause, scene.row) {
+        _ if scene.number == 0 => Some(said(format_args!("the input is {cause}"), None, None)),
         (Cause::Text(TextCause::BadByte), _) => bad_byte(scene),
         (Cause::Text(TextCause::CutShort), _) => Some(cut_short(scene)),
-        (Cause::Text(TextCause::TooLong | TextCause::ReadFault | TextCause::NoMemory), _) => {
-            Some(said(format_args!("the input is {cause}"), None, None))
-        }
         (Cause::Problem(_), Row::Act) | (Cause::Game(_), _) => explain_turn(scene, cause),
         _ => bad_line(scene, cause),
     };
     explained.unwrap_or(said(format_args!("this line is {cause}"), None, None))
 }
 
-/// Returns a cause that any section can have as one of the text.
-pub(crate) fn plain(cause: Cause) -> Cause {
+// Returns a cause that any section can have as one of the text.
+fn plain(cause: Cause) -> Cause {
     match cause {
         Cause::Problem(ProblemCause::Text(cause)) => Cause::Text(cause),
         Cause::Plan(PlanCause::Text(cause)) => Cause::Text(cause),
@@ -74,11 +72,8 @@ fn cut_short(scene: &Scene<'_>) -> Explained {
         _ => None,
     };
     let pattern = scene.pattern();
-    said(
-        format_args!("the input ends here; expected: {pattern}"),
-        None,
-        hint,
-    )
+    let text = format_args!("the input ends here; expected: {pattern}");
+    said(text, None, hint)
 }
 
 // Explains a line behind the last section, or one with a word that does not fit or with too few words.
@@ -106,16 +101,12 @@ fn bad_line(scene: &Scene<'_>, cause: Cause) -> Option<Explained> {
 // Returns a blank at an end of a line, or of two blanks side by side the second, and its place.
 fn blank(scene: &Scene<'_>) -> Option<(&'static str, usize)> {
     let line = scene.text();
-    let mut from = 0usize;
-    for word in line.split(is_blank) {
-        match word.is_empty() {
-            true if from == 0 => return Some(("a blank at the beginning of a line", 0)),
-            true if from < line.len() => return Some(("a second blank", from)),
-            true => return Some(("a blank at the end of a line", from.saturating_sub(1))),
-            false => from = from.saturating_add(word.len()).saturating_add(1),
-        }
+    match line.windows(2).position(|pair| pair == b"  ".as_slice()) {
+        _ if line.starts_with(b" ") => Some(("a blank at the beginning of a line", 0)),
+        Some(first) => Some(("a second blank", first.saturating_add(1))),
+        None if !line.ends_with(b" ") => None,
+        None => Some(("a blank at the end of a line", line.len().saturating_sub(1))),
     }
-    None
 }
 
 // Explains a word that does not fit, or the end of a line with too few words.
@@ -137,11 +128,8 @@ fn bad_word(scene: &Scene<'_>, cause: Cause) -> Option<Explained> {
         }
     };
     let joint = if cause == BAD_SET { ": " } else { "" };
-    Some(said(
-        format_args!("{typed} is {cause}{joint}{why}"),
-        word.mark(),
-        hint,
-    ))
+    let text = format_args!("{typed} is {cause}{joint}{why}");
+    Some(said(text, word.mark(), hint))
 }
 
 // Explains a card of a problem that is already used.
@@ -152,11 +140,8 @@ fn same_card(scene: &Scene<'_>, card: &Word<'_>) -> Option<Explained> {
         true => Sentence::of(" on this line"),
         false => Sentence::of(format_args!(", on line {line}")),
     };
-    Some(said(
-        format_args!("{name} is {SAME_CARD}{place}"),
-        card.mark(),
-        None,
-    ))
+    let text = format_args!("{name} is {SAME_CARD}{place}");
+    Some(said(text, card.mark(), None))
 }
 
 // Returns what is expected in place of a misfit.
@@ -165,17 +150,15 @@ fn wanted_at(scene: &Scene<'_>, slot: Slot, cause: Cause, has_hint: bool) -> Sen
     let own = scene.node();
     let left = scene.holes_left();
     let score = 121u32.saturating_sub(left);
-    let words = words_at(scene, slot, cause);
-    match slot {
-        _ if has_hint && cause == BAD_CARD => Sentence::of(""),
-        Slot::Own if is_number => Sentence::of(format_args!(
-            "; expected: {own}, the number of this node"
-        )),
+    let words = match slot {
+        _ if has_hint && cause == BAD_CARD => return Sentence::of(""),
+        Slot::Own if is_number => Sentence::of(format_args!("{own}, the number of this node")),
         Slot::Holes => Sentence::of(format_args!(
-            "; expected: 1 to {left}, what is left from {score} to hole 121"
+            "1 to {left}, what is left from {score} to hole 121"
         )),
-        _ => Sentence::of(format_args!("; expected: {words}")),
-    }
+        _ => Sentence::of(words_at(scene, slot, cause)),
+    };
+    Sentence::of(format_args!("; expected: {words}"))
 }
 
 // Returns the words for what is expected in place of a misfit.
@@ -201,21 +184,18 @@ fn words_at(scene: &Scene<'_>, slot: Slot, cause: Cause) -> &'static str {
 fn not_later(scene: &Scene<'_>, target: &[u8]) -> (Sentence, Hint) {
     let own = scene.node();
     let count = scene.node_count();
+    let nodes = match count {
+        1 => "node, number 0",
+        _ => "nodes, numbered from 0",
+    };
     let why = match read_number(target) {
         None => return (Sentence::of(NO_END), None),
         Some(number) if number < count => Sentence::of(format_args!(
             ": this is the line of node {own}, and a target has a greater number"
         )),
-        Some(number) => {
-            let nodes = if count == 1 {
-                "node, number 0"
-            } else {
-                "nodes, numbered from 0"
-            };
-            Sentence::of(format_args!(
-                ": node {number} isn't there, since the plan has {count} {nodes}"
-            ))
-        }
+        Some(number) => Sentence::of(format_args!(
+            ": node {number} isn't there, since the plan has {count} {nodes}"
+        )),
     };
     (why, count_hint(scene))
 }

@@ -49,14 +49,13 @@ pub(crate) fn is_line_feed(byte: &u8) -> bool
 #[derive(Clone, Copy)]
 pub(crate) struct Mark {
     pub(crate) from: usize,
-    pub(crate) to: usize,
+    pub(crate) len: usize,
 }
 
 impl Mark {
     /// Returns the stretch of so many bytes from a place.
     pub(crate) fn of(from: usize, len: usize) -> Mark {
-        let to = from.saturating_add(len);
-        Mark { from, to }
+        Mark { from, len }
     }
 }
 

@@ -4,8 +4,8 @@ use Rattle.std.specs.List.{All, list_all, list_any}
 use Rattle.std.proofs.lemmas.Bool.Decides.{nat_tests}
 use Rattle.std.proofs.lemmas.Bool.{and_from, or_cases, or_left, or_right, both_ways, eq-eqb}
 use Rattle.std.proofs.lemmas.List.Elements.{All-nil, All-cons}
+use Rattle.std.proofs.lemmas.List.Folds.{list_any-append}
 use Rattle.crib_cards.specs.Sets.{has, are_distinct}
-use Rattle.crib_cards.proofs.SetFacts.{has-append}
 use Rattle.crib_cards.specs.Cards.{IsCard, rank_of, IsRank}
 
 -- ---- members of a list
@@ -63,11 +63,11 @@ pub distinct_append : (xs ys : List ℕ) → are_distinct xs ≡ true → are_di
 distinct_append [] ys dx dy apart = dy
 distinct_append (x ∷ xs) ys dx dy apart =
     let rest = distinct_append xs ys (distinct_parts x xs dx).1 dy (λ y h. apart y (has_there x y xs h)) in
-    grind (arith, nat_tests, has-append xs ys x, apart x (has_here x xs), rest)
+    grind (arith, nat_tests, list_any-append (λ other. eqb other x) xs ys, apart x (has_here x xs), rest)
 
 pub distinct_left : (xs ys : List ℕ) → are_distinct (xs ++ ys) ≡ true → are_distinct xs ≡ true
 distinct_left [] ys distinct = refl
-distinct_left (x ∷ xs) ys distinct = grind (arith, nat_tests, has-append xs ys x, distinct_left xs ys)
+distinct_left (x ∷ xs) ys distinct = grind (arith, nat_tests, list_any-append (λ other. eqb other x) xs ys, distinct_left xs ys)
 
 pub distinct_right : (xs ys : List ℕ) → are_distinct (xs ++ ys) ≡ true → are_distinct ys ≡ true
 distinct_right [] ys distinct = distinct
@@ -75,4 +75,4 @@ distinct_right (x ∷ xs) ys distinct = distinct_right xs ys (distinct_parts x (
 
 pub distinct_apart : (xs ys : List ℕ) (y : ℕ) → are_distinct (xs ++ ys) ≡ true → has xs y ≡ true → has ys y ≡ false
 distinct_apart [] ys y distinct h = absurd (both_ways false refl h)
-distinct_apart (x ∷ xs) ys y distinct h = grind (arith, nat_tests, has-append xs ys x, distinct_apart xs ys y)
+distinct_apart (x ∷ xs) ys y distinct h = grind (arith, nat_tests, list_any-append (λ other. eqb other x) xs ys, distinct_apart xs ys y)

@@ -1,12 +1,14 @@
 -- Lists without repetition, and exact counts of deals.
-use Rattle.std.proofs.Common.{◌≡◌, ◌⊎◌, ◌↔◌, ℕ, ◌+◌, ◌<◌, ◌≤◌, Bool, true, false, cond, List, [], ◌∷◌, ◌++◌, length, refl, ◌∙◌, inl, inr, arith}
-use Rattle.std.proofs.Common.{length-append}
-use Rattle.std.specs.List.{All}
+use Rattle.std.proofs.Common.{◌≡◌, ◌≢◌, ◌⊎◌, ◌↔◌, ℕ, ◌+◌, ◌<◌, ◌≤◌, Bool, true, false, cond, List, [], ◌∷◌, ◌++◌, length}
+use Rattle.std.proofs.Common.{refl, subst, ◌∙◌, inl, inr, arith, length-append}
+use Rattle.std.specs.List.{All, AllByRecursion}
 use Rattle.std.proofs.lemmas.Bool.{both_ways}
 use Rattle.std.proofs.lemmas.List.Elements.{All-head, All-tail}
+use Rattle.crib_cards.proofs.AllEntries.{all_both}
 use Rattle.crib_cards.specs.Deals.{is_in_pack_order}
+use Rattle.crib_cards.specs.Sets.{AreDifferent}
 use Rattle.crib_cards.specs.declared.sides.Dealt.{Dealt}
-use Rattle.crib_beaten.specs.Exact.{IsIn, AreDifferent, AreExactly}
+use Rattle.crib_beaten.specs.Exact.{IsIn, AreExactly}
 
 -- ---- members
 pub in_append : {X : Type 0} (x : X) (xs ys : List X) → IsIn x (xs ++ ys) ↔ (IsIn x xs ⊎ IsIn x ys)
@@ -17,10 +19,22 @@ pub in_all : {X : Type 0} (P : X → Type 0) (x : X) (xs : List X) → All P xs 
 in_all P x [] all h = absurd h
 in_all P x (y ∷ xs) all h = let first = All-head P y xs all in grind (arith, h, first, in_all P x xs (All-tail P y xs all))
 
+all_by_items : {X : Type 0} (P : X → Type 0) (xs : List X) → ((x : X) → IsIn x xs → P x) → AllByRecursion P xs
+all_by_items P [] each = tt
+all_by_items P (x ∷ xs) each = (each x (inl refl), all_by_items P xs (λ y h. each y (inr h)))
+
+all_at : {X : Type 0} (P : X → Type 0) (x : X) (xs : List X) → AllByRecursion P xs → IsIn x xs → P x
+all_at P x [] all h = absurd h
+all_at P x (y ∷ xs) all (inl e) = subst P e all.0
+all_at P x (y ∷ xs) all (inr h) = all_at P x xs all.1 h
+
 -- ---- lists without repetition
 different_append : {X : Type 0} (xs ys : List X) → AreDifferent xs → AreDifferent ys → ((x : X) → IsIn x xs → IsIn x ys → ⊥) → AreDifferent (xs ++ ys)
 different_append [] ys one other apart = other
-different_append (x ∷ xs) ys one other apart = grind (arith, one, apart, in_append, different_append xs ys)
+different_append (x ∷ xs) ys one other apart = (
+  all_both (λ y. x ≢ y) xs ys one.0 (all_by_items (λ y. x ≢ y) ys (λ y h e. apart y (inl e) h)),
+  different_append xs ys one.1 other (λ y h. apart y (inr h)),
+)
 
 -- a list without one of its members
 without : {X : Type 0} (x : X) (xs : List X) → IsIn x xs → (rest : List X) × (length xs ≡ length rest + 1) × ((y : X) → IsIn y xs → (x ≡ y) ⊎ IsIn y rest)
@@ -32,7 +46,7 @@ no_fewer : {X : Type 0} (xs ys : List X) → AreDifferent xs → ((x : X) → Is
 no_fewer [] ys apart within = omega arith
 no_fewer (x ∷ xs) ys apart within =
     let left = without x ys (within x (inl refl)) in
-    let fewer = no_fewer xs left.0 apart.1 (λ y h. grind (arith, h, left.2 y (within y (inr h)), apart.0)) in
+    let fewer = no_fewer xs left.0 apart.1 (λ y h. grind (arith, left.2 y (within y (inr h)), all_at (λ z. x ≢ z) y xs apart.0 h)) in
     omega (arith, left.1, fewer)
 
 -- ---- exact counts
@@ -76,5 +90,5 @@ exactly_either parts one_has other_has apart one other = record {
 
 -- one deal, if a test passes
 pub exactly_deal : (deal : Dealt) (passes : Bool) → is_in_pack_order deal ≡ true → AreExactly (λ dealt. (deal ≡ dealt) × (passes ≡ true)) (cond passes 1 0)
-exactly_deal deal true order = record { deals = deal ∷ []; different = (λ none. none, tt); each = λ dealt. grind (arith, order); counted = refl }
+exactly_deal deal true order = record { deals = deal ∷ []; different = (tt, tt); each = λ dealt. grind (arith, order); counted = refl }
 exactly_deal deal false order = exactly_none (λ dealt _ has. both_ways false refl has.1)

@@ -3,9 +3,10 @@ use Rattle.std.proofs.Common.{◌≡◌, ◌⊎◌, [], ◌∷◌, true, refl, a
 use Rattle.std.proofs.lemmas.Bool.{both_ways}
 use Rattle.std.proofs.lemmas.Grind.{elements}
 use Rattle.crib_cards.specs.Deals.{is_in_pack_order}
+use Rattle.crib_cards.specs.Sets.{AreDifferent}
 use Rattle.crib_cards.specs.declared.sides.Dealt.{Dealt}
 use Rattle.crib_beaten.specs.declared.tally.RanksTally.{RanksTally}
-use Rattle.crib_beaten.specs.Exact.{AreDifferent, AreExactly}
+use Rattle.crib_beaten.specs.Exact.{AreExactly}
 use Rattle.crib_beaten.specs.Tally.{AreInOrder, HasRow, ranks_held}
 use Rattle.crib_beaten.proofs.ExactCounts.{exactly_deal, exactly_either, exactly_none, exactly_one}
 
@@ -35,7 +36,7 @@ turned_deal_is_not_counted : AreExactly (λ dealt. turned ≡ dealt) 0
 turned_deal_is_not_counted = exactly_none (λ dealt order e. both_ways (is_in_pack_order turned) refl (ap is_in_pack_order e ∙ order))
 
 no_deal_is_listed_twice : AreDifferent (with_six ∷ with_six ∷ []) → ⊥
-no_deal_is_listed_twice different = different.0 (inl refl)
+no_deal_is_listed_twice different = different.0.0 refl
 
 -- ---- rows
 ranks_of_a_deal : ranks_held with_six ≡ 1 ∷ 2 ∷ 3 ∷ 4 ∷ []

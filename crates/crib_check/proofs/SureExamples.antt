@@ -18,6 +18,7 @@ use Rattle.crib_play.specs.History.{act_by, acts_of}
 use Rattle.crib_play.specs.Filled.{is_visible}
 use Rattle.crib_play.specs.Record.{mover}
 use Rattle.crib_cards.specs.Letters.{letter_of}
+use Rattle.crib_cards.proofs.Members.{all_has}
 use Rattle.crib_show.specs.Outcome.{outcome_of}
 use Rattle.crib_show.specs.declared.show.outcomes.Outcome.TheVariants.{Reached}
 use Rattle.crib_problem.specs.Setup.{IsDealOf, start_of, hands_of, played_back, unseen_of}
@@ -102,10 +103,6 @@ passes : (p q : ℕ → Bool) (cards more : List ℕ) (card : ℕ) → list_all 
 passes p q [] more card all left = absurd (both_ways false refl left)
 passes p q (first ∷ cards) more card all left = grind (arith, nat_tests, all, left, passes p q cards more card)
 
-each_passes : (p : ℕ → Bool) (cards : List ℕ) (card : ℕ) → list_all p cards ≡ true → has cards card ≡ true → p card ≡ true
-each_passes p [] card all h = absurd (both_ways false refl h)
-each_passes p (first ∷ cards) card all h = grind (arith, nat_tests, all, h, each_passes p cards card)
-
 only_aces_fit : list_all (λ card. not (fits three_turns card) || (eqb 1 card || (eqb 2 card || eqb 3 card))) (unseen_of at_29) ≡ true
 unfolding set_where
 only_aces_fit = refl
@@ -122,7 +119,7 @@ an_ace : (dealt : Dealt) (card : ℕ) → IsDealOf at_29 dealt → has (cards_le
     fits three_turns card ≡ true → (1 ≡ card) ⊎ (2 ≡ card) ⊎ (3 ≡ card)
 an_ace dealt card deal left fit =
     let hidden = passes (has (unseen_of at_29)) (λ card. not (has (cards_of three_turns) card)) dealt.hold dealt.throw card deal.deal.hidden_before left in
-    grind (arith, nat_tests, fit, each_passes _ (unseen_of at_29) card only_aces_fit hidden)
+    grind (arith, nat_tests, fit, all_has _ (unseen_of at_29) card only_aces_fit hidden)
 
 -- ---- each record that follows the plan is a course
 further : (dealt : Dealt) (turn : Move) (past : List Move) → IsDealOf at_29 dealt → Course past → MayCome (start_of at_29) (hands_of at_29 dealt) turn past →

@@ -6,7 +6,7 @@ use Rattle.std.proofs.lemmas.List.Sums.{sum_by-append, sum_by-cons}
 use Rattle.crib_cards.specs.Cards.{rank_of}
 use Rattle.crib_show.specs.Show.{choices, is_fifteen, is_pair, hand_flush, crib_flush, hand_points, crib_points, jack_points, plain_points}
 use Rattle.crib_show.proofs.Choices.{sum_by-choices}
-use Rattle.crib_show.proofs.ReorderedLists.{Reordered, behind, front, both, same_order}
+use Rattle.crib_show.proofs.ReorderedLists.{last_first}
 use Rattle.crib_show.proofs.RankLaw.{plain_of_ranks-reordered}
 use Rattle.crib_show.proofs.OrderLaw.{map-reordered}
 use Rattle.crib_game_sheet.specs.declared.game.combination.Kind.{Kind}
@@ -50,12 +50,6 @@ twice p [] = refl
 twice p (set ∷ sets) =
     grind (arith, twice p sets, sum_by-cons (λ set. cond (p set) 2 0) set sets, sum_by-cons (λ set. cond (p set) 1 0) set sets)
 
-pub starter_first : (cards : List ℕ) (starter : ℕ) → Reordered (cards ++ starter ∷ []) (starter ∷ cards)
-starter_first [] starter = same_order (starter ∷ [])
-starter_first (card ∷ cards) starter =
-    both (card ∷ cards ++ starter ∷ []) (card ∷ starter ∷ cards) (starter ∷ card ∷ cards)
-    (behind card (cards ++ starter ∷ []) (starter ∷ cards) (starter_first cards starter)) (front card starter cards)
-
 -- the points of the fifteens, pairs and runs
 plain_sum : (all : List ℕ) → sum_by points_of (plain_combinations all) ≡ plain_points all
 plain_sum all =
@@ -65,7 +59,7 @@ plain_sum_of : (cards : List ℕ) (starter : ℕ) → sum_by points_of (plain_co
 plain_sum_of cards starter =
     plain_sum (cards ++ starter ∷ [])
     ∙ plain_of_ranks-reordered (map rank_of (cards ++ starter ∷ [])) (map rank_of (starter ∷ cards))
-    (map-reordered rank_of (cards ++ starter ∷ []) (starter ∷ cards) (starter_first cards starter))
+    (map-reordered rank_of (cards ++ starter ∷ []) (starter ∷ cards) (last_first cards starter))
 
 hand_flush_sum : (cards : List ℕ) (starter : ℕ) → length cards ≡ 4 → sum_by points_of (flush_in_hand cards starter) ≡ hand_flush cards starter
 hand_flush_sum [] starter four = refl

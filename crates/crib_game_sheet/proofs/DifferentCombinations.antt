@@ -3,32 +3,32 @@ use Rattle.std.proofs.Common.{◌≡◌, ◌≢◌, ℕ, suc, ◌<◌, eqb, Bool
 use Rattle.std.proofs.Common.{refl, sym, ap, ◌∙◌, arith, true≢false}
 use Rattle.std.specs.List.{AllByRecursion}
 use Rattle.std.proofs.lemmas.Bool.{and_parts, cond_both, eq-eqb, not-true, or_parts}
-use Rattle.crib_cards.specs.Sets.{has, are_distinct}
+use Rattle.crib_cards.specs.Sets.{has, are_distinct, AreDifferent}
 use Rattle.crib_show.specs.Show.{choices}
-use Rattle.crib_show.proofs.ReorderedLists.{are_distinct-reordered}
+use Rattle.crib_show.proofs.ReorderedLists.{are_distinct-reordered, last_first}
 use Rattle.crib_game_sheet.specs.declared.game.combination.Kind.{Kind}
 use Rattle.crib_game_sheet.specs.declared.game.combination.Kind.TheVariants.{Fifteen, Pair, Run, Flush, Jack}
 use Rattle.crib_game_sheet.specs.declared.game.combination.Combination.{Combination}
 use Rattle.crib_game_sheet.specs.GameShow.{combination, combinations_of, plain_combinations, flush_in_hand, flush_in_crib}
 use Rattle.crib_game_sheet.specs.GameShow.{jack_among, hand_combinations, crib_combinations}
-use Rattle.crib_game_sheet.specs.GameShowLaws.{AllDiffer, HandListLaw, CribListLaw}
+use Rattle.crib_game_sheet.specs.GameShowLaws.{HandListLaw, CribListLaw}
 use Rattle.crib_cards.proofs.AllEntries.{all_both, all_every, all_filter, all_map, all_weaker}
-use Rattle.crib_game_sheet.proofs.CombinationPoints.{starter_first}
 
 -- lists whose entries differ
-differ_map : {X Y : Type 0} (f : X → Y) → ((x y : X) → f x ≡ f y → x ≡ y) → (xs : List X) → AllDiffer xs → AllDiffer (map f xs)
+differ_map : {X Y : Type 0} (f : X → Y) → ((x y : X) → f x ≡ f y → x ≡ y) → (xs : List X) → AreDifferent xs → AreDifferent (map f xs)
 differ_map f apart [] differ = tt
 differ_map f apart (x ∷ xs) differ = (
   all_map (λ y. f x ≢ y) f xs (all_weaker (λ y. x ≢ y) (λ y. f x ≢ f y) (λ y not e. not (apart x y e)) xs differ.0),
   differ_map f apart xs differ.1,
 )
 
-differ_filter : {X : Type 0} (p : X → Bool) (xs : List X) → AllDiffer xs → AllDiffer (filter p xs)
+differ_filter : {X : Type 0} (p : X → Bool) (xs : List X) → AreDifferent xs → AreDifferent (filter p xs)
 differ_filter p [] differ = tt
 differ_filter p (x ∷ xs) differ =
-    cond_both (p x) _ _ AllDiffer (λ e. (all_filter (λ y. x ≢ y) p xs differ.0, differ_filter p xs differ.1)) (λ e. differ_filter p xs differ.1)
+    cond_both (p x) _ _ AreDifferent (λ e. (all_filter (λ y. x ≢ y) p xs differ.0, differ_filter p xs differ.1)) (λ e. differ_filter p xs differ.1)
 
-pub differ_both : {X : Type 0} (xs ys : List X) → AllDiffer xs → AllDiffer ys → AllByRecursion (λ x. AllByRecursion (λ y. x ≢ y) ys) xs → AllDiffer (xs ++ ys)
+pub differ_both : {X : Type 0} (xs ys : List X) → AreDifferent xs → AreDifferent ys → AllByRecursion (λ x. AllByRecursion (λ y. x ≢ y) ys) xs →
+    AreDifferent (xs ++ ys)
 differ_both [] ys differ more apart = more
 differ_both (x ∷ xs) ys differ more apart = (all_both (λ y. x ≢ y) xs ys differ.0 apart.0, differ_both xs ys differ.1 more apart.1)
 
@@ -44,7 +44,7 @@ begins card (other ∷ cards) out =
     (begins card cards outs.1)
 
 -- the choices from different cards differ
-choices_differ : (cards : List ℕ) → are_distinct cards ≡ true → AllDiffer (choices cards)
+choices_differ : (cards : List ℕ) → are_distinct cards ≡ true → AreDifferent (choices cards)
 choices_differ [] are = (tt, tt)
 choices_differ (card ∷ cards) are =
     let parts = and_parts (not (has cards card)) (are_distinct cards) are in
@@ -59,11 +59,11 @@ choices_differ (card ∷ cards) are =
 -- different entries, whose places are before a place
 pub record Stands {X : Type 0} (order : X → ℕ) (place : ℕ) (made : List X) : Type 0 where
   pub before : AllByRecursion (λ one. order one < place) made
-  pub differ : AllDiffer made
+  pub differ : AreDifferent made
 
 -- more entries, which have this place
 pub joined : {X : Type 0} (order : X → ℕ) (place : ℕ) (made more : List X) → Stands order place made → AllByRecursion (λ one. order one ≡ place) more →
-    AllDiffer more → Stands order (suc place) (made ++ more)
+    AreDifferent more → Stands order (suc place) (made ++ more)
 joined order place made more stands at differ = record {
   before =
       all_both (λ one. order one < suc place) made more
@@ -95,7 +95,7 @@ kind_at : (kind : Kind) (all : List ℕ) → AreAt (order kind) (combinations_of
 unfolding combinations_of
 kind_at kind all = all_map (λ one. kind_order one ≡ order kind) (combination kind) _ (all_every (λ cards. order kind ≡ order kind) (λ cards. refl) _)
 
-kind_differs : (kind : Kind) (all : List ℕ) → are_distinct all ≡ true → AllDiffer (combinations_of kind all)
+kind_differs : (kind : Kind) (all : List ℕ) → are_distinct all ≡ true → AreDifferent (combinations_of kind all)
 unfolding combinations_of
 kind_differs kind all are =
     differ_map (combination kind) (λ cards others e. ap (λ m. m.cards.items) e) _ (differ_filter _ (choices all) (choices_differ all are))
@@ -109,7 +109,7 @@ plain_stands all are =
 
 -- a list of one combination of a kind, or of none
 abbrev AreAlone : ℕ → List Combination → Type 0
-AreAlone place made = AreAt place made × AllDiffer made
+AreAlone place made = AreAt place made × AreDifferent made
 
 hand_flush_alone : (cards : List ℕ) (starter : ℕ) → AreAlone 3 (flush_in_hand cards starter)
 hand_flush_alone cards starter = grind (arith)
@@ -122,11 +122,11 @@ jack_alone [] starter = (tt, tt)
 jack_alone (card ∷ cards) starter = grind (arith, jack_alone cards starter)
 
 all_distinct : (cards : List ℕ) (starter : ℕ) → are_distinct (starter ∷ cards) ≡ true → are_distinct (cards ++ starter ∷ []) ≡ true
-all_distinct cards starter are = are_distinct-reordered (cards ++ starter ∷ []) (starter ∷ cards) (starter_first cards starter) ∙ are
+all_distinct cards starter are = are_distinct-reordered (cards ++ starter ∷ []) (starter ∷ cards) (last_first cards starter) ∙ are
 
 -- whatever the flush, what is counted with it differs
 list_differs : (cards : List ℕ) (starter : ℕ) (flush : List Combination) → are_distinct (starter ∷ cards) ≡ true → AreAlone 3 flush →
-    AllDiffer (plain_combinations (cards ++ starter ∷ []) ++ flush ++ jack_among cards starter)
+    AreDifferent (plain_combinations (cards ++ starter ∷ []) ++ flush ++ jack_among cards starter)
 list_differs cards starter flush are alone =
     let last = jack_alone cards starter in
     let plain = plain_stands (cards ++ starter ∷ []) (all_distinct cards starter are) in

@@ -7,6 +7,7 @@ use Rattle.std.proofs.lemmas.Bool.{cond_both, true≢false}
 use Rattle.std.proofs.lemmas.List.{length-append}
 use Rattle.crib_cards.specs.Letters.{letter_of}
 use Rattle.crib_cards.specs.Runs.{is_run}
+use Rattle.crib_cards.specs.Sets.{AreDifferent}
 use Rattle.crib_cards.specs.Start.{Start}
 use Rattle.crib_cards.specs.declared.letters.Letter.{Letter}
 use Rattle.crib_cards.specs.declared.letters.Letter.TheVariants as letter
@@ -35,7 +36,6 @@ use Rattle.crib_game_sheet.specs.declared.game.reason.PlayReason.TheVariants.{Fi
 use Rattle.crib_game_sheet.specs.GameLaws.{HandsAddUpLaw, ReasonsAddUpLaw}
 use Rattle.crib_game_sheet.specs.GamePlay.{act_reasons, card_reasons_at, reason_if, reasons_added, silent_gos_close}
 use Rattle.crib_game_sheet.specs.GameShow.{points_of}
-use Rattle.crib_game_sheet.specs.GameShowLaws.{AllDiffer}
 use Rattle.crib_game_sheet.specs.GameText.{counted_combinations}
 use Rattle.crib_cards.proofs.AllEntries.{all_reverse}
 use Rattle.crib_game_sheet.proofs.CombinationPoints.{crib_sum, hand_sum}
@@ -69,12 +69,12 @@ card_stands before count pile =
     (with_next 2 _ _ (Alike alike) refl (with_next 1 _ _ ThirtyOne refl (with_next 0 [] (eqb count 15) Fifteen refl (record { before = tt; differ = tt })))))
 
 -- a go that closes the pile leaves no pile for another one to close
-go_once : (own later : Bool) → (own ≡ true → later ≡ false) → AllDiffer (reason_if own Go ++ reason_if later Go)
+go_once : (own later : Bool) → (own ≡ true → later ≡ false) → AreDifferent (reason_if own Go ++ reason_if later Go)
 go_once true true apart = absurd (true≢false (apart refl))
 go_once false false apart = tt
 go_once _ _ apart = (tt, tt)
 
-added_differ : (start : Start) (turn : Letter) (seen : List Letter) → AllDiffer (reasons_added start turn seen)
+added_differ : (start : Start) (turn : Letter) (seen : List Letter) → AreDifferent (reasons_added start turn seen)
 added_differ start (letter.Seen rank) seen =
     let past = filled_record start seen in
     let pile = pile_of past ++ rank ∷ [] in
@@ -87,14 +87,14 @@ added_differ start letter.Go seen =
     not_closed after (with_silent_gos 3 start after) (silent_gos_close 3 start after)
     (pile_after_go past ∙ ap (λ (b : Bool). cond b [] (pile_of past)) e) (gos_after 3 start after))
 
-acts_differ : (start : Start) (acts : List Act) → AllByRecursion (λ reasons. AllDiffer reasons) (act_reasons start acts)
+acts_differ : (start : Start) (acts : List Act) → AllByRecursion (λ reasons. AreDifferent reasons) (act_reasons start acts)
 acts_differ start [] = tt
 acts_differ start (act ∷ before) = (added_differ start (letter_of act.what) (letters_of (moves_of before)), acts_differ start before)
 
 pub reasons_add_up : ReasonsAddUpLaw
 reasons_add_up problem game report e = (
   points_of_game problem game ∙ ap (λ (r : Report). map (λ (row : Row). row.points) r.rows.items) (reported problem game report e),
-  all_reverse (λ reasons. AllDiffer reasons) (act_reasons (start_of problem) (acts_back game)) (acts_differ (start_of problem) (acts_back game)),
+  all_reverse (λ reasons. AreDifferent reasons) (act_reasons (start_of problem) (acts_back game)) (acts_differ (start_of problem) (acts_back game)),
 )
 
 -- ---- the show

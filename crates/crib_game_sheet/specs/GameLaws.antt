@@ -2,6 +2,7 @@
 -- have sheets that differ.
 use Rattle.std.specs.Prelude.{◌≡◌, List, [], ◌∷◌, ◌++◌, map, sum_by, Ok, ℕ}
 use Rattle.std.specs.List.{AllByRecursion}
+use Rattle.crib_cards.specs.Sets.{AreDifferent}
 use Rattle.crib_cards.specs.Start.{Start}
 use Rattle.crib_cards.specs.declared.letters.Letter.{Letter}
 use Rattle.crib_play.specs.Record.{Record}
@@ -16,7 +17,6 @@ use Rattle.crib_game.specs.Spelling.{AreSixCards, IsGame}
 use Rattle.crib_game_sheet.specs.declared.game.reason.PlayReason.{PlayReason}
 use Rattle.crib_game_sheet.specs.GamePlay.{game_reasons, reasons_added, reasons_points, turn_reasons}
 use Rattle.crib_game_sheet.specs.GameShow.{points_of}
-use Rattle.crib_game_sheet.specs.GameShowLaws.{AllDiffer}
 use Rattle.crib_game_sheet.specs.GameText.{counted_combinations, game_sheet_text}
 
 -- why the turns of a record count points, in the order of play
@@ -36,7 +36,7 @@ abbrev pub ReasonsAddUpLaw : Type 0
 ReasonsAddUpLaw =
     (problem : Setup) (game : Game) (report : Report) → replay_result problem game ≡ Ok report →
     (map reasons_points (game_reasons problem game) ≡ map (λ (row : Row). row.points) report.rows.items)
-    × AllByRecursion (λ reasons. AllDiffer reasons) (game_reasons problem game)
+    × AllByRecursion (λ reasons. AreDifferent reasons) (game_reasons problem game)
 
 -- the combinations under each counted hand of a game that is accepted add up to its points
 abbrev pub HandsAddUpLaw : Type 0

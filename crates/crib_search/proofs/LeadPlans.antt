@@ -22,7 +22,7 @@ use Rattle.crib_show.specs.Outcome.{outcome_of}
 use Rattle.crib_show.specs.declared.show.outcomes.Outcome.{Outcome}
 use Rattle.crib_show.specs.declared.show.outcomes.Outcome.TheVariants.{Reached}
 use Rattle.crib_show.proofs.Exchange.{front_of, has-reordered}
-use Rattle.crib_show.proofs.ReorderedLists.{Reordered, behind, front, both, same_order, length-reordered, are_distinct-reordered}
+use Rattle.crib_show.proofs.ReorderedLists.{Reordered, behind, both, same_order, last_first, length-reordered, are_distinct-reordered}
 use Rattle.crib_show.proofs.OrderLaw.{outcome_of-reordered}
 use Rattle.crib_problem.specs.Setup.{Setup, IsDealOf, start_of, hands_of, played_back, unseen_of, fixed_cards}
 use Rattle.crib_plan.specs.declared.plan.Next.{Next}
@@ -58,10 +58,6 @@ brought_all (x ∷ numbers) xs distinct among =
       | inr there ↦ there
     ]) in
     (more.0, both xs (x ∷ found.rest) (x ∷ numbers ++ more.0) found.order (behind x found.rest (numbers ++ more.0) more.1))
-
-last_first : (cards : List ℕ) (last : ℕ) → Reordered (cards ++ last ∷ []) (last ∷ cards)
-last_first [] last = same_order (last ∷ [])
-last_first (x ∷ cards) last = both _ _ _ (behind x (cards ++ last ∷ []) (last ∷ cards) (last_first cards last)) (front x last cards)
 
 held : (lead : ℕ) → has leads lead ≡ true → (dealt : Dealt) → IsDealOf (after_lead lead) dealt → Held lead dealt
 held lead is dealt deal =

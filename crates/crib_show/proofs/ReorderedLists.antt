@@ -1,5 +1,5 @@
 -- Lists of the same numbers in another order.
-use Rattle.std.proofs.Common.{◌≡◌, ℕ, ◌+◌, suc, min, max, not, ◌&&◌, ◌||◌, eqb, Bool, cond, List, [], ◌∷◌, length, map, fold, sum_by, count_by}
+use Rattle.std.proofs.Common.{◌≡◌, ℕ, ◌+◌, suc, min, max, not, ◌&&◌, ◌||◌, eqb, Bool, cond, List, [], ◌∷◌, ◌++◌, length, map, fold, sum_by, count_by}
 use Rattle.std.proofs.Common.{refl, sym, ap, ◌∙◌, arith}
 use Rattle.std.specs.List.{list_any}
 use Rattle.std.proofs.lemmas.List.Sums.{sum_by-cons}
@@ -18,6 +18,10 @@ pub data Reordered : List ℕ → List ℕ → Type 0 where
 pub same_order : (xs : List ℕ) → Reordered xs xs
 same_order [] = nothing
 same_order (x ∷ xs) = behind x xs xs (same_order xs)
+
+pub last_first : (cards : List ℕ) (last : ℕ) → Reordered (cards ++ last ∷ []) (last ∷ cards)
+last_first [] last = same_order (last ∷ [])
+last_first (x ∷ cards) last = both _ _ _ (behind x (cards ++ last ∷ []) (last ∷ cards) (last_first cards last)) (front x last cards)
 
 -- the same in the other direction
 pub turned : (xs ys : List ℕ) → Reordered xs ys → Reordered ys xs

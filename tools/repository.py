@@ -8,18 +8,17 @@ toolchain defines counts for nothing. `tell` ends a script.
 """
 
 import re
+import sys
 from collections import defaultdict, namedtuple
 from collections.abc import Callable, Iterable, Iterator
 from functools import cache
 from itertools import accumulate, takewhile
 from pathlib import Path
-from typing import TypeVar
+from typing import NoReturn, TypeVar
 
 T = TypeVar("T")
 ROOT = Path(__file__).resolve().parent.parent
 CRATES = ROOT / "crates"
-PATTERNS = ("*.md", "docs/*.md", "docs/*.1", "*/README.md", "crates/*/README.md", "bench/*/README.md")
-PAGES = {str(path.relative_to(ROOT)): path.read_text() for one in PATTERNS for path in sorted(ROOT.glob(one))}
 THEOREM = ("crib_answer", "answer_to")  # the call that the headline is about: its crate and name
 NAME = re.compile(r"(?<![\w.])[^\W\d][\w'-]*(?:\.[\w'-]+)?|>>=|←")
 IMPORT = re.compile(
@@ -30,11 +29,20 @@ ITEM = re.compile(  # a type or a view of Rust: to its semicolon, or to the brac
 )
 
 
-def tell(tried: int, faults: Iterable[str]) -> int:
-    """Prints the faults, a line for each, and then the last line. Answers the exit status, 1 where something failed."""
+def tell(tried: int, faults: Iterable[str]) -> NoReturn:
+    """Prints the faults, a line for each, and then the last line, and ends the script: with 1 if something failed."""
     failed = [*faults]
     print(*failed, f"{max(tried - len(failed), 0)} passed, {len(failed)} failed", sep="\n")
-    return 1 if failed else 0
+    sys.exit(1 if failed else 0)
+
+
+def files(*patterns: str) -> list[Path]:
+    """The files of some patterns, those of each in their order."""
+    return [path for pattern in patterns for path in sorted(ROOT.glob(pattern)) if path.is_file()]
+
+
+ALL_PAGES = files("*.md", "docs/*.md", "docs/*.1", "*/README.md", "crates/*/README.md", "bench/*/README.md")
+PAGES = {str(path.relative_to(ROOT)): path.read_text() for path in ALL_PAGES}
 
 
 def section(text: str, head: str) -> str:
@@ -68,6 +76,11 @@ def imports_of(text: str) -> Iterator[Import]:
     for crate, kind, place, names, alias in IMPORT.findall(text):
         pairs = [(name.strip().replace("◌", "").split(" as ") * 2)[:2] for name in names.split(",") if name.strip()]
         yield Import(crate, kind, place, dict(pairs), alias or place.split(".")[-1])
+
+
+def remark_of(path: Path) -> str:
+    """What begins a comment in a file."""
+    return {".rt": "//", ".antt": "--"}.get(path.suffix, "#")
 
 
 def without_remarks(text: str, mark: str = "--") -> str:
@@ -117,8 +130,8 @@ def crates() -> list[str]:
 
 def code_files(crate: str = "*") -> list[Path]:
     """The files of src of a crate, or of all crates, in folders too. Tests are left out: their folders and crates."""
-    paths = sorted(CRATES.glob(f"{crate}/src/**/*.rt"))
-    return [path for path in paths if path.parent.name != "tests" and "_tests/" not in f"{path.relative_to(CRATES)}"]
+    paths = files(f"crates/{crate}/src/**/*.rt")
+    return [path for path in paths if "tests/" not in f"{path.relative_to(CRATES)}"]
 
 
 def reached(roots: Iterable[T], below: Callable[[T], Iterable[T]]) -> list[T]:
@@ -176,6 +189,14 @@ class Function(namedtuple("Function", "path name owner is_pub within lines body"
     """A function of src, or a ghost member: its name, the type or trait that it belongs to, whether it is `pub`, what
     block it is in (`impl`, `trait` or `for`), and the lines of its head and of its body."""
 
+    @property
+    def is_ghost(self) -> bool:
+        return self.lines[0].lstrip().startswith("ghost")
+
+    @property
+    def called(self) -> str:
+        return f"{self.owner}::{self.name}".removeprefix("::")
+
     def head(self, *clauses: str) -> Block:
         """The head as a block: all of it, or its types and the clauses of some names."""
         is_chosen, chosen = True, []
@@ -218,12 +239,10 @@ def functions_of(path: Path) -> Iterator[Function]:
 
 def calls_of(crate: str) -> dict[str, Function]:
     """The calls that a crate exports, of a method by `Type::name`."""
-    names, found = exported(crate), {}
-    for one in (one for path in code_files(crate) for one in functions_of(path)):
-        is_call = one.is_pub or one.within == "trait" and not one.lines[0].lstrip().startswith("ghost")
-        if is_call and (one.owner or one.name) in names:
-            found.setdefault(f"{one.owner}::{one.name}".removeprefix("::"), one)
-    return found
+    names = exported(crate)
+    every = [one for path in code_files(crate) for one in functions_of(path)]
+    calls = [one for one in every if one.is_pub or one.within == "trait" and not one.is_ghost]
+    return {one.called: one for one in calls if (one.owner or one.name) in names}
 
 
 class Source:
@@ -233,7 +252,7 @@ class Source:
         self.specs: dict[tuple[str, str], dict[str, Block]] = defaultdict(dict)  # by crate and module, and by name
         self.types: dict[str, dict[str, Block]] = defaultdict(dict)  # by crate, and by name
         self.instead: dict[str, Block] = {}  # what is read in place of a definition of that name: a law says the same
-        for path in sorted(CRATES.glob("*/specs/**/*.antt")):
+        for path in files("crates/*/specs/**/*.antt"):
             self.specs[place_of(path)].update(spec_blocks(path))
         for path in code_files():
             self.types[place_of(path)[0]].update(type_blocks(path))

@@ -3,3 +3,4 @@ pub mod Reading
 pub mod Refusals
 pub mod Spelling
 pub mod OpeningTables
+pub mod Ahead

@@ -12,20 +12,12 @@ from functools import cache
 from itertools import chain
 from pathlib import Path
 
-from repository import CRATES, code_files, declared_names, imports_of, is_of_examples, paragraphs, place_of, reached
+from repository import CRATES, ROOT, code_files, declared_names, imports_of, is_of_examples, paragraphs, place_of, reached
 from repository import type_blocks, without_remarks
 
 PATH = re.compile(r"\bRattle\.(\w+)\.(specs|proofs)\.(\w+(?:\.\w+)*)")
 WORD = re.compile(r"(?<!\S)([^\s\w]+)(?!\S)|((([\w'-]+)(?:\.[\w'-]+)?)(?:\.[\w'-]+)*)")  # or a name's beginnings
-LIBRARY = """pub use Rattle.std.specs.Prelude.{ℕ, Bool, List, Option}
-pub use Rattle.std.specs.Borrow.{Bor}
-
-pub record ArrayVec (A : Type 0) : Type 0 where
-  pub items : List A
-
-pub record Vec (A : Type 0) : Type 0 where
-  pub items : List A
-"""
+LIBRARY = (ROOT / "tools/library.txt").read_text()  # types of the library, as antt has them
 USES = "use Rattle.pins.specs.Library.{ℕ, Bool, List, Option, Bor, ArrayVec, Vec}"  # of each declared type
 FORMS = {  # types of Rust, and how antt has them
     r"u8|u16|u32|u64|usize": "ℕ",

@@ -14,9 +14,8 @@ from collections.abc import Callable, Iterable, Iterator
 from functools import cache
 from itertools import accumulate, takewhile
 from pathlib import Path
-from typing import NoReturn, TypeVar
+from typing import NoReturn
 
-T = TypeVar("T")
 ROOT = Path(__file__).resolve().parent.parent
 CRATES = ROOT / "crates"
 THEOREM = ("crib_answer", "answer_to")  # the call that the headline is about: its crate and name
@@ -134,7 +133,7 @@ def code_files(crate: str = "*") -> list[Path]:
     return [path for path in paths if "tests/" not in f"{path.relative_to(CRATES)}"]
 
 
-def reached(roots: Iterable[T], below: Callable[[T], Iterable[T]]) -> list[T]:
+def reached(roots: Iterable, below: Callable[..., Iterable]) -> list:
     """Some roots, and all that is below them."""
     found = dict.fromkeys(roots)
     ahead = [*found]
@@ -256,10 +255,6 @@ class Source:
             self.specs[place_of(path)].update(spec_blocks(path))
         for path in code_files():
             self.types[place_of(path)[0]].update(type_blocks(path))
-
-    def function(self, crate: str, name: str) -> Function:
-        """The function of that name in a crate."""
-        return next(one for path in code_files(crate) for one in functions_of(path) if one.name == name)
 
     @cache
     def meanings(self, path: Path) -> dict[str, Block]:

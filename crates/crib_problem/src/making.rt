@@ -1,5 +1,5 @@
 //! Problems made from values, and from other problems.
-ghost use Rattle.std.specs.Prelude.{◌≡◌, ◌≤◌, ◌↔◌, ◌++◌, ◌∷◌, [], IsTrue, IfSome, IfOk, Some, None, MatchResult};
+ghost use Rattle.std.specs.Prelude.{◌≡◌, ◌<◌, ◌≤◌, ◌↔◌, ◌++◌, ◌∷◌, [], length, IsTrue, IfSome, IfOk, Some, None, MatchResult};
 ghost use Rattle.std.specs.List.{AllByRecursion};
 ghost use Rattle.crib_cards.specs.Cards.{IsCard};
 ghost use Rattle.crib_cards.specs.Sets.{are_distinct};
@@ -68,10 +68,7 @@ impl Problem {
     {
         let mut table = OpeningTable::after(self);
         table.add(&act)?;
-        let mut played = ArrayVec::new();
-        played.try_extend_from_slice(self.played()).unwrap();
-        played.push(act);
-        Ok(self.with_played(played))
+        Ok(self.with_played(with_one_more(self.played(), act)))
     }
 
     /// Returns the same problem with another goal, or `None` if that is no problem. It has version 2.
@@ -126,6 +123,17 @@ impl Problem {
         }
         Some(problem)
     }
+}
+
+// Returns some acts with one more at the end.
+fn with_one_more(acts: &[Act], act: Act) -> ArrayVec<Act, 32>
+    requires { length acts.now < 32 }
+    ensures { result.items ≡ acts.now ++ act ∷ [] }
+{
+    let mut more = ArrayVec::new();
+    more.try_extend_from_slice(acts).unwrap();
+    more.push(act);
+    more
 }
 
 // Whether all cards are different.

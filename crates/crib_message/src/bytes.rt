@@ -42,6 +42,7 @@ fn character_len(rest: &[u8]) -> usize {
 // Returns the hint for a file that is no plain text: the marks with which it may begin, or three bytes that no text
 // file has.
 fn file_hint(scene: &Scene<'_>) -> Option<&'static str> {
+    let is_control = |byte: &&u8| matches!(**byte, 0..=8 | 14..=26 | 28..=31);
     let controls = scene.input.iter().take(512).filter(is_control).count();
     Some(match (scene.number, scene.text()) {
         (1, [0xEF, 0xBB, 0xBF, ..]) => "Save the file as plain ASCII, without a byte-order mark.",
@@ -50,10 +51,6 @@ fn file_hint(scene: &Scene<'_>) -> Option<&'static str> {
         _ if controls >= 3 => "The input is no text.",
         _ => return None,
     })
-}
-
-fn is_control(byte: &&u8) -> bool {
-    matches!(**byte, 0..=8 | 14..=26 | 28..=31)
 }
 
 fn byte_hint(rest: &[u8]) -> &'static str {

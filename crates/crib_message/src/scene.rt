@@ -6,9 +6,9 @@ use crate::grammar::{Row, Slot};
 use crib_input::Sections;
 use crib_text::read_number;
 
-/// Returns the bytes of the line with this number, from 1. The last line may lack its LF. Returns `None` if the input
-/// has no such line.
-pub(crate) fn line_at(input: &[u8], number: u32) -> Option<&[u8]>
+// Returns the bytes of the line with this number, from 1. The last line may lack its LF. Returns `None` if the input
+// has no such line.
+fn line_at(input: &[u8], number: u32) -> Option<&[u8]>
     ensures { option_map (λ line. line.now) result ≡ numbered_line input.now number }
 {
     if number == 0 || input.is_empty() {

@@ -63,7 +63,7 @@ fn behind(word: &[u8], len: usize) -> &[u8] {
 
 // Whether two words differ in the order of their first two letters, and in nothing else.
 fn are_swapped(word: &[u8], wanted: &[u8]) -> bool {
-    matches!((word, wanted), ([a, b, rest @ ..], [c, d, others @ ..]) if a == d && b == c && rest == others)
+    matches!(word, [first, second, rest @ ..] if wanted.strip_prefix(&[*second, *first]) == Some(rest))
 }
 
 /// Returns the hint for a word that should be a number.

@@ -175,7 +175,6 @@ class Definition:
         self.types = [part.strip() for part in parts_of(header.signatures.get(name, ""), "→")]
 
     def edits(self) -> Iterator[Edit]:
-        """All changes."""
         kinds = (self.of_words, self.of_clauses, self.of_arguments, self.of_rests, self.of_steps, self.given_up)
         yield from (edit for span in self.spans for kind in kinds for edit in kind(*span))
         yield from self.neighbours()

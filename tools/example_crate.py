@@ -51,7 +51,6 @@ def module_of(crate: str, kind: str, name: str) -> Module | None:
 
 
 def modules_in(text: str) -> set[Module]:
-    """The modules that a text names."""
     return {found for crate, kind, name in PATH.findall(text) if (found := module_of(crate, kind, name))}
 
 

@@ -63,7 +63,6 @@ def fenced(text: str) -> list[str]:
 
 
 def quoted(text: str) -> list[str]:
-    """The texts in backticks."""
     return re.findall(r"`([^`]+)`", text)
 
 
@@ -123,7 +122,6 @@ def is_of_examples(path: Path) -> bool:
 
 
 def crates() -> list[str]:
-    """The crates of crates.txt, lowest first."""
     return re.findall(r"^(\w+):", (ROOT / "crates.txt").read_text(), re.M)
 
 
@@ -169,7 +167,6 @@ def declared_names(block: str) -> list[str]:
 
 
 def spec_blocks(path: Path) -> Iterator[tuple[str, Block]]:
-    """The definitions of a file of specs."""
     for part in paragraphs(path.read_text()):
         names = declared_names(part)
         block = Block(path, " ".join(names), part.splitlines())
@@ -258,7 +255,6 @@ class Source:
 
     @cache
     def meanings(self, path: Path) -> dict[str, Block]:
-        """The blocks that the names of a file mean."""
         (crate, module), text = place_of(path), path.read_text()
         found = dict(self.specs[crate, module] if path.suffix == ".antt" else self.rust_types(crate, text))
         for one in (one for one in imports_of(text) if one.kind == "specs"):

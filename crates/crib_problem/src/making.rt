@@ -1,5 +1,6 @@
 //! Problems made from values, and from other problems.
-ghost use Rattle.std.specs.Prelude.{◌≡◌, ◌<◌, ◌≤◌, ◌↔◌, ◌++◌, ◌∷◌, [], length, IsTrue, IfSome, IfOk, Some, None, MatchResult};
+ghost use Rattle.std.specs.Prelude.{◌≡◌, ◌<◌, ◌≤◌, ◌↔◌, ◌++◌, ◌∷◌, [], length, IsTrue, IfSome, IfOk, Some, None};
+ghost use Rattle.std.specs.Prelude.{MatchResult};
 ghost use Rattle.std.specs.List.{AllByRecursion};
 ghost use Rattle.crib_cards.specs.Cards.{IsCard};
 ghost use Rattle.crib_cards.specs.Sets.{are_distinct};

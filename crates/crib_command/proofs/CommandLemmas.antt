@@ -1,7 +1,7 @@
 -- What clap's result says of the command that the words name.
 use Rattle.std.specs.Prelude.{IsOk, IsSome}
 use Rattle.std.specs.List.{list_any}
-use Rattle.std.proofs.Common.{Option, None, ◌≡◌, ◌∙◌, ◌⊎◌, List, [], true, false, Some, map}
+use Rattle.std.proofs.Common.{Option, None, ◌≡◌, ◌∙◌, ◌⊎◌, List, [], true, false, Some}
 use Rattle.std.proofs.Common.{Result, IfOk, IfErr, IsErrAnd, Ok, Err, MatchResult}
 use Rattle.std.proofs.Common.{refl, sym, subst, ap, inl, inr, codes}
 use Rattle.std.specs.Borrow.{Bor}
@@ -12,10 +12,11 @@ use Rattle.clap.specs.declared.error.kind.ErrorKind.{ErrorKind}
 use Rattle.clap.specs.declared.error.kind.ErrorKind.TheVariants.{MissingRequiredArgument, OutOfMemory}
 use Rattle.clap.specs.declared.parser.matches.ArgMatches.{ArgMatches}
 use Rattle.clap.proofs.WalkLemmas.{one_text-rows}
+use Rattle.clap.specs.declared.builder.possible_value.PossibleValue.{PossibleValue}
 use Rattle.clap.specs.declared.builder.value_parser.ValueParser.{ValueParser}
-use Rattle.clap.specs.declared.builder.value_parser.ValueParser.TheVariants.{Names}
+use Rattle.clap.specs.declared.builder.value_parser.ValueParser.TheVariants.{Values}
 use Rattle.crib_command.specs.Command.{AreReadable, IsCommandWords, has_hyphen, is_command, refusal_from, words_refusal, without_mark}
-use Rattle.crib_command.specs.Private.Command.{HasCommand, IsRefusedFor}
+use Rattle.crib_command.specs.Private.Command.{AreValuesOf, HasCommand, IsRefusedFor}
 use Rattle.crib_command.proofs.ClapApp.{command_app}
 use Rattle.crib_command.proofs.WordLemmas.{fault_is, found_word, command_words_taken, kinds_of}
 
@@ -66,21 +67,21 @@ refused_by {T} names words r fails = go r (words_refusal names words) fails
 -- the command line is the program's, and its values are the names of its commands
 pub record IsProgram (program : Text) (names : List Text) (app : App) : Type 0 where
   pub parser : ValueParser
-  pub values : Bor (List (Bor Text))
+  pub values : Bor (List PossibleValue)
   pub app_is : app ≡ command_app program parser
-  pub parser_is : parser ≡ Names values
-  pub listed : map (λ s. s.now) values.now ≡ names
+  pub parser_is : parser ≡ Values values
+  pub listed : AreValuesOf names values.now
 
 pub refused_for : {T : Type 0} (program : Text) (names words : List Text) (r : Result T Error) (app : App) → IsProgram program names app
     → (is_simple_and_free app ≡ true → FailsBy (fault_of app words) r) → IsRefusedFor names words r
 refused_for program names words r app is kinds =
-    let same : app ≡ command_app program (Names is.values) = is.app_is ∙ ap (command_app program) is.parser_is in
-    let fails : FailsBy (fault_of (command_app program (Names is.values)) words) r =
+    let same : app ≡ command_app program (Values is.values) = is.app_is ∙ ap (command_app program) is.parser_is in
+    let fails : FailsBy (fault_of (command_app program (Values is.values)) words) r =
     subst (λ a. is_simple_and_free a ≡ true → FailsBy (fault_of a words) r) same kinds refl in
     refused_by names words r (subst (λ k. FailsBy k r) (fault_is program names is.values is.listed words) fails)
 
-has_command : (program : Text) (names words : List Text) (m : ArgMatches) (values : Bor (List (Bor Text))) → map (λ s. s.now) values.now ≡ names
-    → rows_of (found_of m) ≡ matches_of (command_app program (Names values)) words → words_refusal names words ≡ None
+has_command : (program : Text) (names words : List Text) (m : ArgMatches) (values : Bor (List PossibleValue)) → AreValuesOf names values.now
+    → rows_of (found_of m) ≡ matches_of (command_app program (Values values)) words → words_refusal names words ≡ None
     → HasCommand names words (found_of m)
 has_command program names words m values listed rows none =
     let found = found_word program names values listed words none in
@@ -95,6 +96,6 @@ pub found_command : (program : Text) (names words : List Text) (r : Result ArgMa
     → IfOk r (λ m. HasCommand names words (found_of m))
 found_command program names words (Err error) app is kinds matches = tt
 found_command program names words (Ok m) app is kinds matches =
-    let same : app ≡ command_app program (Names is.values) = is.app_is ∙ ap (command_app program) is.parser_is in
+    let same : app ≡ command_app program (Values is.values) = is.app_is ∙ ap (command_app program) is.parser_is in
     has_command program names words m is.values is.listed (subst (λ a. HasMatchesOf a words m) same matches refl).0
     (refused_for {T = ArgMatches} program names words (Ok m) app is kinds)

@@ -1,5 +1,6 @@
 pub mod ClapApp
 mod WordExamples
+pub mod ValueLemmas
 pub mod WordLemmas
 pub mod CommandLemmas
 pub mod NamedCommands

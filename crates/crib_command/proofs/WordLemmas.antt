@@ -1,10 +1,10 @@
 -- clap's parser refuses the words that `specs/Command` refuses, and finds the name of the command in the others.
-use Rattle.std.proofs.Common.{Option, None, ◌≡◌, ◌∙◌, ℕ, List, [], ◌∷◌, ◌||◌, Bool, true, false, Some, map, length}
+use Rattle.std.proofs.Common.{Option, None, ◌≡◌, ◌∙◌, ℕ, List, [], ◌∷◌, Bool, true, false, Some, length}
 use Rattle.std.proofs.Common.{refl, sym, subst, ap, ap₂, arith, codes, fold, drop, is_some}
 use Rattle.std.specs.Prelude.{option_map, slice_get, option_and_then, if◌then◌else◌}
 use Rattle.std.specs.List.{list_any}
 use Rattle.std.specs.Option.{option_map_or}
-use Rattle.std.specs.Str.{bytes_eq, chars}
+use Rattle.std.specs.Str.{chars}
 use Rattle.std.specs.Borrow.{Bor}
 use Rattle.std.proofs.lemmas.Bool.{or_parts}
 use Rattle.std.proofs.lemmas.Slice.Eq.{bytes_eq-Decides}
@@ -17,11 +17,13 @@ use Rattle.clap.specs.Simple.{App, built, entered, matches_of}
 use Rattle.clap.specs.Walk.{Text, Rule, Held, Step, Walk, after_flag, after_step, arg_by_long, arg_by_short, bundle_met, bundle_step}
 use Rattle.clap.specs.Walk.{finished, idle, long_or_other, one_of}
 use Rattle.clap.specs.Walk.{plain, settled, short_or_plain, short_word, value, walked, word_met}
-use Rattle.clap.specs.declared.builder.value_parser.ValueParser.TheVariants.{Names}
+use Rattle.clap.specs.declared.builder.possible_value.PossibleValue.{PossibleValue}
+use Rattle.clap.specs.declared.builder.value_parser.ValueParser.TheVariants.{Values}
 use Rattle.clap.specs.declared.error.kind.ErrorKind.{ErrorKind}
 use Rattle.clap.specs.declared.error.kind.ErrorKind.TheVariants.{DisplayHelp, InvalidValue, UnknownArgument}
 use Rattle.crib_command.specs.Command.{IsCommandWords, end_refusal, has_hyphen, help_refusal, is_command, is_mark, is_wrong, long_refusal, option_refusal}
 use Rattle.crib_command.specs.Command.{first_of, plain_refusal, refusal_from, words_refusal, short_refusal, without_mark}
+use Rattle.crib_command.specs.Private.Command.{AreValuesOf}
 use Rattle.crib_command.proofs.ClapApp.{command_app, help_flag}
 
 -- a refusal as clap's definitions have it: a list of at most one kind
@@ -38,13 +40,9 @@ abbrev pub left : Bool → Option Text → List Text → List Text
 left ended None words = left_of ended words
 left ended (Some name) words = name ∷ left_of ended words
 
-any-map : (p : Text → Bool) (names : List (Bor Text)) → list_any p (map (λ s. s.now) names) ≡ list_any (λ s. p s.now) names
-any-map p [] = refl
-any-map p (x ∷ xs) = ap (λ b. p x.now || b) (any-map p xs)
-
-module _ (program : Text) (names : List Text) (values : Bor (List (Bor Text))) (listed : map (λ s. s.now) values.now ≡ names) where
+module _ (program : Text) (names : List Text) (values : Bor (List PossibleValue)) (listed : AreValuesOf names values.now) where
   abbrev app : App
-  app = built (command_app program (Names values))
+  app = built (command_app program (Values values))
 
   abbrev rules : List Rule
   rules = app.top.rules
@@ -84,13 +82,10 @@ module _ (program : Text) (names : List Text) (values : Bor (List (Bor Text))) (
   stop w word rest kind fails =
       ap (λ k. then_kinds (then_kinds k (walk_fault app.top [] (walked rules [] w word) rest)) (ending (walk_on (walked rules [] w word) rest))) fails
 
-  accepted : (word : Text) → list_any (λ s. bytes_eq s.now word) values.now ≡ is_command names word
-  accepted word = sym (any-map (λ name. bytes_eq name word) values.now) ∙ ap (list_any (λ name. bytes_eq name word)) listed
-
   -- clap refuses a wrong name when it settles the value
   settles : (name : Option Text) → settle_fault rules false (held name) ≡ (if is_wrong names name then InvalidValue ∷ [] else [])
   settles None = refl
-  settles (Some word) = grind (arith, accepted word)
+  settles (Some word) = grind (arith, listed word)
 
   helps : (name : Option Text) → react_fault rules false help_flag [] (held name) ≡ help_refusal names name ∷ []
   helps name = ap (λ k. then_kinds k (DisplayHelp ∷ [])) (settles name) ∙ grind arith
@@ -215,7 +210,7 @@ module _ (program : Text) (names : List Text) (values : Bor (List (Bor Text))) (
           plains None mark is rec = step (at false None) (at false (Some word)) word rest (turns None word mark is) (walks word mark is) ∙ rec (Some word)
           plains (Some first) mark is rec = stop (at false (Some first)) word rest UnknownArgument (turns (Some first) word mark is)
 
-  pub fault_is : (words : List Text) → fault_of (command_app program (Names values)) words ≡ kinds_of (words_refusal names words)
+  pub fault_is : (words : List Text) → fault_of (command_app program (Values values)) words ≡ kinds_of (words_refusal names words)
   fault_is words = agrees (drop 1 words) false None
 
   -- if no word is refused, one word is left, it is the name of a command, and clap finds it
@@ -253,7 +248,7 @@ module _ (program : Text) (names : List Text) (values : Bor (List (Bor Text))) (
 
   pub found_word : (words : List Text) → words_refusal names words ≡ None
       → (word : Text) × (without_mark (drop 1 words) ≡ word ∷ []) × (is_command names word ≡ true)
-      × (one_of (codes "command") (matches_of (command_app program (Names values)) words) ≡ Some word)
+      × (one_of (codes "command") (matches_of (command_app program (Values values)) words) ≡ Some word)
   found_word words e = finds (drop 1 words) false None e
 
 -- ---- words that name a command are not refused

@@ -29,7 +29,10 @@ pub fn show(rt: &(impl Print + Eprint), program: &Program, error: &Error) -> Sta
     ensures { (printed : Bool) × (result ≡ words_status (kind_of error.now) printed) }
 {
     let printed = error.print(rt).is_ok();
-    if error.kind() == ErrorKind::UnknownArgument {
+    if matches!(
+        error.kind(),
+        ErrorKind::InvalidValue | ErrorKind::UnknownArgument
+    ) {
         let _hinted = rt.eprint(program.hint);
     }
     status_of_words(error.kind(), printed)

@@ -4,9 +4,10 @@ ghost use Rattle.std.specs.IoError.{error_kind};
 ghost use Rattle.clap.specs.Values.{kind_of};
 ghost use Rattle.clap.specs.Words.{found_of};
 ghost use Rattle.crib_command.specs.Command.{AreReadable, IsCommandWords, commands_of, words_refusal};
-ghost use Rattle.crib_command.specs.Private.Command.{HasCommand, IsRefusedFor};
+ghost use Rattle.crib_command.specs.Private.Command.{AreValuesOf, HasCommand, IsRefusedFor};
 
 use crate::program::Program;
+use clap::builder::PossibleValue;
 use clap::error::ErrorKind;
 use clap::{Arg, ArgAction, ArgMatches, Command, Error};
 use std::alloc::{AllocError, Global};
@@ -17,12 +18,26 @@ use std::str::FromStr;
 // The help text of the word `command`. The list of the commands is below the options.
 const COMMAND: &str = "What to do with standard input";
 
+// Returns the names of the commands as values that no text of clap lists. clap compares a wrong word with each value
+// that it lists; an allocation that fails there is asked for again, for less, and the failure would not be reported.
+fn hidden_values<'a>(alloc: Global, program: &Program) -> Result<Vec<PossibleValue<'a>>, AllocError>
+    ensures { IfOk result (λ values. AreValuesOf (commands_of program.now) values.items) }
+{
+    let mut values = Vec::new(alloc);
+    for name in program.commands {
+        values.push(PossibleValue::new(name).hide(true))?;
+    }
+    Ok(values)
+}
+
 // Parses the words with clap. Returns matches with the name of a command as the value of `command`, or clap's refusal.
 fn matches_of_words<'a, S: AsStr>(
     alloc: Global,
     program: &Program,
+    values: &'a [PossibleValue<'a>],
     words: &'a [S],
 ) -> Result<ArgMatches<'a>, Error>
+    requires { AreValuesOf (commands_of program.now) values.now }
     ensures found { IfOk result (λ m. HasCommand (commands_of program.now) (map S.text words.entry.now) (found_of m)) }
     ensures refused { IsRefusedFor (commands_of program.now) (map S.text words.entry.now) result }
 {
@@ -30,7 +45,8 @@ fn matches_of_words<'a, S: AsStr>(
         .help(COMMAND)
         .required(true)
         .action(ArgAction::Set)
-        .value_parser(program.commands);
+        .value_parser(values)
+        .hide_possible_values(true);
     let command = Command::new(alloc, program.name)
         .override_usage(program.usage)
         .after_help(program.after_help)
@@ -67,7 +83,8 @@ where
     ensures refused { IfErr result (λ error. (kind_of error ≡ ErrorKind.OutOfMemory)
         ⊎ (words_refusal (commands_of program.now) (map S.text words.now) ≡ Some (kind_of error))) }
 {
-    let matches = matches_of_words(alloc, program, words)?;
+    let values = hidden_values(alloc, program)?;
+    let matches = matches_of_words(alloc, program, values.as_slice(), words)?;
     Ok(matches.get_one::<C>("command").unwrap())
 }
 

@@ -11,6 +11,7 @@ pub struct Program {
     pub commands: &'static [&'static str],
     /// The end of the help text, below the options.
     pub after_help: &'static str,
-    /// What is printed below the refusal of a second word or of an unknown option.
+    /// What is printed below the refusal of a word that is not the name of a command, of a second word, or of an
+    /// unknown option. It names the commands.
     pub hint: &'static str,
 }

@@ -13,7 +13,8 @@ use std::alloc::Global;
 use std::convert::AsStr;
 
 /// Returns the program. The end of its help text has a line for each command, the exit statuses, an example, and where
-/// to read more. A second word, after which the hint is printed, is often the name of a file.
+/// to read more. The hint is printed after a word that is not a command, and after a second word, which is often the
+/// name of a file.
 pub fn program() -> Program
     ensures { commands_of result ≡ job_names }
 {
@@ -40,7 +41,8 @@ An example:
 
 Manual: man cribplan. Guide, formats and examples: share/doc/cribplan, beside the bin that has the program",
         hint: "
-The command is the only word, and --help the only option. The input is read from standard input, as in
+The command is check, solve, replay, board or follow. It is the only word, and --help the only option. The input is
+read from standard input, as in
   cribplan solve < FILE
 ",
     }

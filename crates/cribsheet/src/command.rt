@@ -33,7 +33,8 @@ An example:
 
 Manual: man cribsheet. Guide, formats and examples: share/doc/cribplan, beside the bin that has the program",
         hint: "
-The command is the only word, and --help the only option. The input is read from standard input, as in
+The command is plan, game, beaten or try. It is the only word, and --help the only option. The input is read from
+standard input, as in
   cribsheet plan < FILE
 ",
     }

@@ -1,11 +1,17 @@
--- What the command-line parser found in the words.
-use Rattle.std.specs.Prelude.{◌≡◌, List, Some, None, Result, codes, MatchResult, ◌⊎◌}
-use Rattle.clap.specs.Values.{kind_of}
+-- Which values the command-line parser accepts, and what it found in the words.
+use Rattle.std.specs.Prelude.{◌≡◌, List, Some, None, Result, codes, false, MatchResult, ◌⊎◌}
+use Rattle.std.specs.List.{list_any}
+use Rattle.clap.specs.Values.{kind_of, possible_matches}
 use Rattle.clap.specs.Words.{Text, one_text}
+use Rattle.clap.specs.declared.builder.possible_value.PossibleValue.{PossibleValue}
 use Rattle.clap.specs.declared.error.Error.{Error}
 use Rattle.clap.specs.declared.error.kind.ErrorKind.TheVariants.{OutOfMemory}
 use Rattle.clap.specs.declared.parser.matches.Found.{Found}
-use Rattle.crib_command.specs.Command.{IsCommandWords, words_refusal}
+use Rattle.crib_command.specs.Command.{IsCommandWords, is_command, words_refusal}
+
+-- the parser accepts a word as one of the values exactly if it is the name of a command
+abbrev pub AreValuesOf : List Text → List PossibleValue → Type 0
+AreValuesOf names values = (word : Text) → list_any (possible_matches false word) values ≡ is_command names word
 
 -- the words name a command, and the parser found its name as the value of `command`
 pub record HasCommand (names words : List Text) (found : Found) : Type 0 where

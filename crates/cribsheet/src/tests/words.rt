@@ -48,7 +48,7 @@ fn tells_what_each_command_does(rt: HostRuntime) {
     let help = format!(in rt.alloc(); "{refusal}").expect(&rt, "memory");
     let parts = [
         "Usage: cribsheet <command> < INPUT\n",
-        "[possible values: plan, game, beaten, try]",
+        "  <command>  What to do with standard input\n",
         "\n  plan    reads a problem and a plan, ",
         "\n  game    reads a problem and a game, ",
         "\n  beaten  reads a problem and a plan, ",

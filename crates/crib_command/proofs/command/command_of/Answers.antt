@@ -16,5 +16,6 @@ returns-clause-named g c =
 
 pub returns-in_err-matches-clause-taken : goal.returns-in_err-matches-clause-taken
 returns-in_err-matches-clause-taken g c =
-    none_taken (commands_of c.args.program.now) (map g.S.AsStr.text c.args.words.now) c.from_residual.result c.in_err-matches.field-0.0 c.requires.plain
-    c.from_residual.ensures.1 c.in_err-matches.ensures.refused
+    let failed = c.from_residual-in_err-matches in
+    none_taken (commands_of c.args.program.now) (map g.S.AsStr.text c.args.words.now) failed.result c.in_err-matches.field-0.0 c.requires.plain
+    failed.ensures.1 c.in_err-matches.ensures.refused

@@ -1,4 +1,4 @@
-use Rattle.std.proofs.Common.{◌∙◌, ◌≡◌, rules, ap₂, refl}
+use Rattle.std.proofs.Common.{◌∙◌, ◌≡◌, rules, ap₂}
 use Rattle.clap.specs.Words.{app_of, new_app, with_rule}
 use Rattle.crib_command.specs.Command.{commands_of}
 use Rattle.crib_command.proofs.CommandLemmas.{IsProgram, found_command, refused_for}
@@ -11,15 +11,15 @@ is_program : (g : Over) (c : After-try_get_matches_from g) →
     IsProgram c.args.program.now.name.now (commands_of c.args.program.now) (app_of c.in_ok-command.command)
 is_program g c =
     let program = c.args.program.now in
-    let given = c.value_parser-name.ensures.given in
+    let given = c.value_parser.ensures.given in
     let usage : app_of c.override_usage.result ≡ new_app program.name.now = rw c.override_usage.ensures c.new-2.ensures.app in
     let app : app_of c.after_help.result ≡ new_app program.name.now = rw c.after_help.ensures usage in
     record {
       parser = given.0;
-      values = program.commands;
+      values = c.args.values;
       app_is = c.in_ok-command.ensures.shape (search rules) ∙ ap₂ with_rule app (search rules);
       parser_is = given.2;
-      listed = refl;
+      listed = c.requires;
     }
 
 pub returns-clause-found : goal.returns-clause-found

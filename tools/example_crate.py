@@ -2,8 +2,8 @@
 
 A module `Rattle.CRATE.specs.M` of the repository is `Rattle.pins.specs.CRATE.M` there, and one of `proofs` likewise.
 The types that `src` declares are written as antt has them: a type with a view is what it is seen as. A module of worked
-examples says so in its first line. An example that rests on a lemma of another module is left out. What an example unfolds is
-marked `unfoldable`, or its copy beside a changed definition can't unfold it.
+examples says so in its first line. An example that rests on a lemma of another module is left out. What an example
+unfolds is marked `unfoldable`, or its copy beside a changed definition can't unfold it.
 """
 
 import re
@@ -12,8 +12,8 @@ from functools import cache
 from itertools import chain
 from pathlib import Path
 
-from repository import CRATES, ROOT, code_files, declared_names, imports_of, is_of_examples, paragraphs, place_of, reached
-from repository import type_blocks, without_remarks
+from repository import CRATES, ROOT, code_files, declared_names, imports_of, is_of_examples, paragraphs, place_of
+from repository import reached, type_blocks, without_remarks
 
 PATH = re.compile(r"\bRattle\.(\w+)\.(specs|proofs)\.(\w+(?:\.\w+)*)")
 WORD = re.compile(r"(?<!\S)([^\s\w]+)(?!\S)|((([\w'-]+)(?:\.[\w'-]+)?)(?:\.[\w'-]+)*)")  # or a name's beginnings

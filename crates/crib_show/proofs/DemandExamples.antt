@@ -1,9 +1,16 @@
 -- Worked examples of what the show demands of the opponent's hand and the crib.
-use Rattle.std.proofs.Common.{◌≡◌, ℕ, Bool, true, false, [], ◌∷◌, ◌++◌, ◌≤◌, refl}
-use Rattle.std.specs.Prelude.{map}
+use Rattle.std.proofs.Common.{◌≡◌, ℕ, Bool, true, false, [], ◌∷◌, ◌++◌, ◌≤◌, Some, None, refl, arith}
+use Rattle.std.proofs.lemmas.Bool.{both_ways}
+use Rattle.std.proofs.lemmas.Bool.Decides.{nat_tests}
+use Rattle.std.specs.Prelude.{map, IsTrue, IsFalse}
+use Rattle.crib_cards.specs.Deals.{deal_numbers, is_in_pack_order}
+use Rattle.crib_cards.specs.Order.{is_before}
+use Rattle.crib_cards.specs.declared.sides.Dealt.{Dealt}
 use Rattle.crib_cards.specs.declared.sides.Scores.{Scores}
 use Rattle.crib_cards.specs.declared.sides.Side.{Side}
-use Rattle.crib_show.specs.Demands.{IsShowAt, is_met}
+use Rattle.crib_show.specs.Demands.{AllMeet, IsFirstMissing, IsFirstMissingOrNone, IsMetByAll, IsMetByNone, IsShowAt, is_met, is_met_by}
+use Rattle.crib_show.specs.Worst.{AgreesInShow}
+use Rattle.crib_show.proofs.ShowExamples.{fives, worst}
 use Rattle.crib_show.specs.Show.{hand_points, crib_points}
 use Rattle.crib_show.specs.declared.deals.Full.{Full}
 use Rattle.crib_show.specs.declared.demands.Demand.{Demand}
@@ -16,6 +23,48 @@ of_three = record { hand = 12; total = 20; crib = 2 }
 points_of_three : map (λ (points : ℕ × ℕ). is_met of_three points.0 points.1) ((12, 8) ∷ (13, 2) ∷ (12, 9) ∷ (10, 10) ∷ (0, 2) ∷ (0, 1) ∷ [])
     ≡ true ∷ false ∷ false ∷ true ∷ true ∷ false ∷ []
 points_of_three = refl
+
+-- each hand and crib meet the demand of nothing, and none meet one of more for the crib than in all
+of_nothing : IsMetByAll (record { hand = 102; total = 204; crib = 0 })
+of_nothing hand crib few also = grind (arith, nat_tests, few, also)
+
+a_hand_of_102_misses_it : IsMetByAll (record { hand = 101; total = 204; crib = 0 }) → ⊥
+a_hand_of_102_misses_it all = absurd (both_ways _ refl (all 102 0 (omega arith) (omega arith)))
+
+a_crib_of_102_misses_it : IsMetByAll (record { hand = 102; total = 203; crib = 0 }) → ⊥
+a_crib_of_102_misses_it all = absurd (both_ways _ refl (all 102 102 (omega arith) (omega arith)))
+
+of_too_much : IsMetByNone (record { hand = 12; total = 20; crib = 21 })
+of_too_much hand crib = grind (arith, nat_tests)
+
+a_crib_of_20_meets_it : IsMetByNone (record { hand = 12; total = 20; crib = 20 }) → ⊥
+a_crib_of_20_meets_it none = absurd (both_ways _ (none 0 20) refl)
+
+-- with 5C 5D thrown the hand makes 12 and the crib 16: the fives meet a demand of 12, 28 and 16, and no stricter one
+fives_meet : map (λ (demand : Demand). is_met_by worst demand fives)
+    (record { hand = 12; total = 28; crib = 16 } ∷ record { hand = 11; total = 28; crib = 16 } ∷ record { hand = 12; total = 27; crib = 16 }
+    ∷ record { hand = 12; total = 28; crib = 17 } ∷ [])
+    ≡ true ∷ false ∷ false ∷ false ∷ []
+unfolding hand_points crib_points
+fives_meet = refl
+
+all_deals_meet : (demand : Demand) → AllMeet worst demand → AgreesInShow worst fives → IsTrue (is_met_by worst demand fives)
+all_deals_meet demand all agrees = all fives agrees
+
+-- the first deal that misses a demand
+first_of_all : (demand : Demand) (dealt : Dealt) → IsFirstMissing worst demand dealt → AgreesInShow worst dealt
+    × IsFalse (is_met_by worst demand dealt) × IsTrue (is_in_pack_order dealt)
+first_of_all demand dealt first = (first.agrees, first.misses, first.in_order)
+
+none_comes_before : (demand : Demand) (dealt : Dealt) → IsFirstMissing worst demand dealt → AgreesInShow worst fives →
+    IsFalse (is_met_by worst demand fives) → IsFalse (is_before (deal_numbers fives) (deal_numbers dealt))
+none_comes_before demand dealt first = first.first fives
+
+first_or_none : (demand : Demand) (dealt : Dealt) → IsFirstMissingOrNone worst demand (Some dealt) ≡ IsFirstMissing worst demand dealt
+first_or_none demand dealt = refl
+
+none_misses : (demand : Demand) → IsFirstMissingOrNone worst demand None ≡ AllMeet worst demand
+none_misses demand = refl
 
 -- ---- the show
 module _ {dealer : Side} {scores : Scores} {target own_hand : ℕ} {is_to_stop : Bool} {full : Full} where

@@ -15,7 +15,7 @@ use Rattle.crib_show.specs.Places.{AreFour, below, many, place_among}
 use Rattle.crib_show.specs.Show.{are_of_suit, choices, crib_flush, fifteen_points, hand_flush, is_fifteen, is_full_run, is_pair, is_prolonged}
 use Rattle.crib_show.specs.Show.{crib_points, hand_points, jack_points, pair_points, plain_of_ranks, plain_points, run_points, with_and_without}
 use Rattle.crib_show.specs.Words.{outcome_word, show_word}
-use Rattle.crib_show.specs.Worst.{AgreesInShow, ArePlain, AreOwnPoints, CanFail, HasDeal, IsFailure, IsFirstFailure, IsFirstFailureOrNone, hidden_crib}
+use Rattle.crib_show.specs.Worst.{AgreesInShow, ArePlain, AreOwnPoints, HasDeal, IsFailure, IsFirstFailure, IsFirstFailureOrNone, hidden_crib}
 use Rattle.crib_show.specs.Worst.{hidden_hand, hidden_total, plain_at, plain_with, with_dealt}
 use Rattle.crib_show.specs.Worst.{IsGreatestCrib, IsGreatestHand, IsGreatestTotal, IsLeastCrib}
 use Rattle.crib_show.specs.declared.worst.extremes.Extremes.{Extremes}
@@ -178,7 +178,7 @@ pub four_of_one_rank_alone : AreFour (4 ∷ []) → ⊥
 four_of_one_rank_alone are = (let thirteen = are.thirteen in absurd (omega (arith, thirteen)))
 
 -- ---- four aces were shown: AC is fixed
-abbrev worst : WorstShow
+abbrev pub worst : WorstShow
 worst = record {
   dealer = Opponent;
   scores = record { owner = 3; opponent = 93 };
@@ -192,7 +192,7 @@ worst = record {
   stop = true;
 }
 
-abbrev fives : Dealt
+abbrev pub fives : Dealt
 fives = record { hold = 0 ∷ 1 ∷ 2 ∷ 3 ∷ []; throw = 16 ∷ 17 ∷ [] }
 
 -- with KD the crib 4C 6D 5C 5D counts 8 for four fifteens, 2 for its pair and 6 for two runs
@@ -241,9 +241,6 @@ first_failure_in_pack_order is = absurd (both_ways false refl is.in_order)
 
 pub first_failure_fails : (IsFailure worst fives → ⊥) → IsFirstFailure worst fives → ⊥
 first_failure_fails none is = none is.failure
-
-pub a_failure_is_a_deal : ((dealt : Dealt) → IsFailure worst dealt → ⊥) → CanFail worst → ⊥
-a_failure_is_a_deal none can = none can.0 can.1
 
 -- ---- points that are kept: 255 represents none
 pub nothing_kept : IfKept 255 (λ points. ⊥)

@@ -1,11 +1,11 @@
 //! What the opponent's cards must count in the show.
-ghost use Rattle.std.specs.Prelude.{◌≡◌, ℕ, ◌≤◌, ◌<◌, ◌&&◌, ◌++◌, ◌↔◌, IsTrue, IsFalse};
-ghost use Rattle.crib_cards.specs.Sides.{game_hole};
+ghost use Rattle.std.specs.Prelude.{◌≡◌, ◌⊎◌, ℕ, ◌&&◌, ◌++◌, ◌↔◌, IsTrue};
+ghost use Rattle.crib_cards.specs.Sides.{are_decided};
 ghost use Rattle.crib_show.specs.Outcome.{outcome_of};
 ghost use Rattle.crib_show.specs.Show.{crib_points, hand_points};
 ghost use Rattle.crib_show.specs.declared.deals.Full.{Full};
 ghost use Rattle.crib_show.specs.declared.show.outcomes.Outcome.TheVariants.{Reached};
-ghost use Rattle.crib_show.specs.Demands.{IsShowAt, is_met};
+ghost use Rattle.crib_show.specs.Demands.{IsMetByAll, IsMetByNone, IsShowAt, is_met};
 
 use crib_cards::{GAME_HOLE, Scores, Side};
 
@@ -23,7 +23,7 @@ pub struct Demand {
 impl Demand {
     /// Returns the demand that each deal meets, whose hand and crib have at most 102 points each.
     pub fn none() -> Self
-        ensures { (hand crib : ℕ) → hand ≤ 102 → crib ≤ 102 → IsTrue (is_met result hand crib) }
+        ensures { IsMetByAll result }
     {
         let most = 255;
         Demand {
@@ -33,10 +33,9 @@ impl Demand {
         }
     }
 
-    /// Returns the demand that no deal meets, whose crib has at most 102 points.
+    /// Returns the demand that no deal meets.
     pub fn impossible() -> Self
-        ensures none { (hand crib : ℕ) → crib ≤ 102 → IsFalse (is_met result hand crib) }
-        ensures alone { (crib : ℕ) → IsFalse (is_met result 0 crib) }
+        ensures { IsMetByNone result }
     {
         Demand {
             hand: 0,
@@ -45,11 +44,12 @@ impl Demand {
         }
     }
 
-    /// Whether it is known that no deal meets the demand.
+    /// Whether no deal meets the demand.
+    #[inline]
     pub fn is_impossible(self) -> bool
-        ensures { IsTrue result → (hand crib : ℕ) → crib ≤ 102 → IsFalse (is_met self hand crib) }
+        ensures { IsTrue result ↔ IsMetByNone self }
     {
-        self.crib == 255
+        self.total < self.crib
     }
 
     /// Returns the demand that a deal meets exactly if it meets both.
@@ -64,18 +64,19 @@ impl Demand {
     }
 
     /// Whether a hand and a crib of so many points meet the demand.
+    #[inline]
     pub fn is_met(self, hand: u8, crib: u8) -> bool
-        requires { (hand ≤ 102) × (crib ≤ 102) }
         ensures { result ≡ is_met self hand crib }
     {
-        hand <= self.hand && hand + crib <= self.total && self.crib <= crib
+        hand <= self.hand && hand <= self.total && crib <= self.total - hand && self.crib <= crib
     }
 
-    /// Whether it is known that each deal meets the demand, whose hand and crib have at most 102 points.
+    /// Whether each deal meets the demand, whose hand and crib have at most 102 points each.
+    #[inline]
     pub fn is_met_by_all(self) -> bool
-        ensures { IsTrue result → (hand crib : ℕ) → hand ≤ 102 → crib ≤ 102 → IsTrue (is_met self hand crib) }
+        ensures { IsTrue result ↔ IsMetByAll self }
     {
-        self.hand >= 102 && self.total >= 204 && self.crib == 0
+        self.is_met(102, 102) && self.crib == 0
     }
 
     /// What is left of the demand for the crib, beside a hand of so many points.
@@ -95,8 +96,9 @@ impl Demand {
 
 /// Returns what the show demands, at these scores before it, where the owner's hand has `own_hand` points.
 ///
-/// A deal with such a show meets the demand exactly if the owner reaches the goal. The scores are holes, and neither
-/// side is home: the owner is below the target, and the opponent below the game hole.
+/// A deal with such a show meets the demand exactly if the owner reaches the goal. If the scores decide, all deals meet
+/// the demand or none does.
+#[inline]
 pub fn demand_of_show(
     dealer: Side,
     scores: Scores,
@@ -104,18 +106,18 @@ pub fn demand_of_show(
     is_to_stop: bool,
     own_hand: u8,
 ) -> Demand
-    requires owner { scores.owner < target }
-    requires opponent { scores.opponent < game_hole }
-    requires target { target ≤ game_hole }
-    requires hand { own_hand ≤ 102 }
-    ensures { (full : Full) → IsShowAt dealer scores target is_to_stop own_hand full
+    ensures show { (full : Full) → IsShowAt dealer scores target is_to_stop own_hand full
         → (IsTrue (is_met result (hand_points full.opp.hold full.starter)
         (crib_points (full.own_throw ++ full.opp.throw) full.starter)) ↔ (outcome_of full ≡ Reached)) }
+    ensures decided { IsTrue (are_decided target scores) → IsMetByAll result ⊎ IsMetByNone result }
 {
-    let need = target.saturating_sub(scores.owner + own_hand);
-    let room = GAME_HOLE - 1 - scores.opponent;
+    let room = (GAME_HOLE - 1).saturating_sub(scores.opponent);
+    let left = target.saturating_sub(scores.with(Side::Owner, own_hand).owner);
+    let need = if target > GAME_HOLE { 255 } else { left };
     match dealer {
-        Side::Opponent if need == 0 => Demand::none(),
+        _ if scores.owner >= target => Demand::none(),
+        _ if scores.opponent >= GAME_HOLE => Demand::impossible(),
+        Side::Opponent if left == 0 => Demand::none(),
         Side::Opponent if is_to_stop => Demand {
             hand: 255,
             total: room,

@@ -1,5 +1,6 @@
 //! The least crib of the hidden deals that agree, and a bound on the greatest.
-ghost use Rattle.std.specs.Prelude.{◌≡◌, ℕ, ◌+◌, ◌≤◌, List, ◌∷◌, ◌++◌, IsTrue, map, min};
+ghost use Rattle.std.specs.Prelude.{◌≡◌, ℕ, ◌+◌, ◌≤◌, List, ◌∷◌, ◌++◌, IsTrue, length, map, min};
+ghost use Rattle.std.specs.List.{AllByRecursion};
 ghost use Rattle.crib_cards.specs.Cards.{IsRank, rank_of};
 ghost use Rattle.crib_show.specs.Private.Extremes.{crib_with, has_room, is_free};
 ghost use Rattle.crib_show.specs.Private.Extremes.{least_of_ranks, least_suits, least_suits_with, may_throw_flush};
@@ -20,17 +21,13 @@ use crib_cards::{Card, Rank, Suit};
 // A lower bound on the points of the crib in every hidden deal: those of the fifteens and the pairs among the starter
 // and the owner's throw, and 1 if the throw has the jack of the starter's suit.
 pub(crate) fn known_crib(throw: &[Card; 2], starter: Card) -> u8
-    ensures { (theirs : List ℕ) → result ≤ crib_points (throw.now ++ theirs) starter }
-{
-    let known = known_ranks(throw, starter);
-    three_fifteen_points(&known) + three_pair_points(&known) + jack_points(throw, starter)
-}
-
-fn known_ranks(throw: &[Card; 2], starter: Card) -> [Rank; 3]
-    ensures { result ≡ map rank_of (starter ∷ throw.now) }
+    ensures low { (theirs : List ℕ) → result ≤ crib_points (throw.now ++ theirs) starter }
+    ensures two { length throw.now ≡ 2 }
+    ensures ranks { AllByRecursion IsRank (map rank_of (starter ∷ throw.now)) }
 {
     let [first, second] = *throw;
-    [starter.rank(), first.rank(), second.rank()]
+    let known = [starter.rank(), first.rank(), second.rank()];
+    three_fifteen_points(&known) + three_pair_points(&known) + jack_points(throw, starter)
 }
 
 // The points of fifteens, pairs and runs of the crib, for each two ranks that the opponent may throw. They are computed

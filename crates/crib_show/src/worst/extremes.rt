@@ -1,15 +1,19 @@
 //! The counted shows of one problem, kept between the ends of the play.
-ghost use Rattle.std.specs.Prelude.{◌≡◌, ℕ, ◌+◌, ◌*◌, ◌<◌, ◌≤◌, List, length};
+ghost use Rattle.std.specs.Prelude.{◌≡◌, ◌↔◌, ℕ, ◌+◌, ◌*◌, ◌<◌, ◌≤◌, List, length, IsTrue};
+ghost use Rattle.crib_show.specs.Demands.{AllMeet};
+ghost use Rattle.crib_show.specs.Private.Listing.{AreWithin};
 ghost use Rattle.crib_show.specs.Private.Places.{HasRightPoints, IsPlace};
 ghost use Rattle.crib_show.specs.Places.{below, many, place_among};
-ghost use Rattle.crib_show.specs.Extremes.{AreKept, AreExtremes, AreExtremesFor};
+ghost use Rattle.crib_show.specs.Extremes.{AreKept, AreExtremes};
 ghost use Rattle.crib_show.specs.Worst.{HasDeal, IsGreatestCrib, IsGreatestHand, IsGreatestTotal};
 ghost use Rattle.crib_show.specs.Worst.{IsLeastCrib};
 
 use crate::deals::{OwnPoints, WorstShow};
+use crate::demands::Demand;
 use crate::show::points::hand_points;
 use crate::worst::cribs::known_crib;
 use crate::worst::hands::know_set;
+use crate::worst::listing::Sought;
 use crib_cards::Card;
 
 /// How many choices of four ranks there are.
@@ -24,8 +28,9 @@ const NOT_KEPT: u8 = 255;
 /// computed for some ranks of the opponent hold at every end with these ranks, whatever the scores.
 #[derive(Drop)]
 pub struct ExtremesByRanks {
-    pub(crate) own: OwnPoints,
-    kept: [Extremes; PLACES],
+    /// The points that follow from the starter and the owner's cards.
+    pub own: OwnPoints,
+    pub(crate) kept: [Extremes; PLACES],
 }
 
 /// The points that have been computed for some ranks of the opponent, in four bytes.
@@ -61,10 +66,9 @@ impl Extremes {
         ensures greatest { IsGreatestHand worst.now result }
         ensures kept { AreKept worst.now self.new }
     {
-        if self.greatest_hand != NOT_KEPT {
-            return self.greatest_hand;
+        if self.greatest_hand == NOT_KEPT {
+            self.greatest_hand = worst.worst_hand();
         }
-        self.greatest_hand = worst.worst_hand();
         self.greatest_hand
     }
 
@@ -74,11 +78,9 @@ impl Extremes {
         ensures least { IsLeastCrib worst.now result }
         ensures right { HasRightPoints worst.now own.new self.new }
     {
-        if self.least_crib != NOT_KEPT {
-            return self.least_crib;
+        if self.least_crib == NOT_KEPT {
+            self.least_crib = worst.low_crib(&own.plain(worst));
         }
-        own.work_out_plain(worst);
-        self.least_crib = worst.low_crib(own.plain());
         self.least_crib
     }
 
@@ -88,11 +90,9 @@ impl Extremes {
         ensures greatest { IsGreatestCrib worst.now result }
         ensures right { HasRightPoints worst.now own.new self.new }
     {
-        if self.greatest_crib != NOT_KEPT {
-            return self.greatest_crib;
+        if self.greatest_crib == NOT_KEPT {
+            self.greatest_crib = worst.greatest_crib(&own.plain(worst));
         }
-        own.work_out_plain(worst);
-        self.greatest_crib = worst.greatest_crib(own.plain());
         self.greatest_crib
     }
 
@@ -102,13 +102,56 @@ impl Extremes {
         ensures greatest { IsGreatestTotal worst.now result }
         ensures right { HasRightPoints worst.now own.new self.new }
     {
-        if self.greatest_total != NOT_KEPT {
-            return self.greatest_total;
-        }
         let crib = self.greatest_crib(worst, own);
-        own.work_out_plain(worst);
-        self.greatest_total = worst.greatest_total(own.plain(), crib);
+        if self.greatest_total == NOT_KEPT {
+            self.greatest_total = worst.greatest_total(&own.plain(worst), crib);
+        }
         self.greatest_total
+    }
+
+    // What is sought by a demand: the deals that miss it, with bounds on the points of every crib. The least and the
+    // greatest crib are computed only if the demand may turn on them.
+    pub(crate) fn sought(
+        &mut self,
+        worst: &WorstShow,
+        own: &mut OwnPoints,
+        demand: Demand,
+    ) -> Sought
+        requires { HasRightPoints worst.now own.old self.old }
+        ensures demand { result.demand ≡ demand }
+        ensures least { result.least < demand.crib → IsLeastCrib worst.now result.least }
+        ensures within { AreWithin worst.now result.least result.most }
+        ensures right { HasRightPoints worst.now own.new self.new }
+    {
+        know_set(worst.unseen);
+        let mut sought = Sought {
+            demand,
+            least: own.crib,
+            most: 102,
+        };
+        if demand.crib > own.crib {
+            sought.least = self.least_crib(worst, own);
+        }
+        if demand.total < 204 {
+            sought.most = self.greatest_crib(worst, own);
+        }
+        sought
+    }
+
+    // Whether all deals meet a demand. The greatest hand and the bounds of the crib are tried first; only if they leave
+    // it open, the greatest sum of one deal is computed.
+    pub(crate) fn meet(&mut self, worst: &WorstShow, own: &mut OwnPoints, demand: Demand) -> bool
+        requires { HasRightPoints worst.now own.old self.old }
+        ensures all { IsTrue result ↔ AllMeet worst.now demand }
+        ensures right { HasRightPoints worst.now own.new self.new }
+    {
+        let hand = self.greatest_hand(worst);
+        if hand > demand.hand {
+            return false;
+        }
+        let sought = self.sought(worst, own, demand);
+        !sought.may_miss(hand)
+            || demand.crib <= sought.least && self.greatest_total(worst, own) <= demand.total
     }
 }
 
@@ -125,26 +168,6 @@ impl ExtremesByRanks {
             },
             kept: [Extremes::new(); PLACES],
         }
-    }
-
-    /// The points kept for a show, at the place of its ranks.
-    pub(crate) fn kept(&self, worst: &WorstShow, place: usize) -> Extremes
-        requires shows { AreExtremesFor worst.now self.now }
-        requires place { IsPlace worst.now.ranks place }
-        ensures { AreKept worst.now result }
-    {
-        self.kept[place]
-    }
-
-    /// Keeps the points computed for a show, at the place of its ranks.
-    pub(crate) fn keep(&mut self, worst: &WorstShow, place: usize, kept: Extremes)
-        requires shows { AreExtremesFor worst.now self.old }
-        requires place { IsPlace worst.now.ranks place }
-        requires kept { AreKept worst.now kept }
-        ensures shows { AreExtremesFor worst.now self.new }
-        ensures own { self.new.own ≡ self.old.own }
-    {
-        self.kept[place] = kept;
     }
 }
 

@@ -1,69 +1,57 @@
 //! The hidden deals that agree, tried one by one in dictionary order.
-ghost use Rattle.std.specs.Prelude.{◌≡◌, ◌-◌, ◌<◌, ◌≤◌, ◌++◌, IfSome, length, take};
+ghost use Rattle.std.specs.Prelude.{◌≡◌, ◌-◌, ◌<◌, ◌≤◌, length, take};
 ghost use Rattle.std.specs.List.{list_all};
-ghost use Rattle.std.proofs.Props.{props};
 ghost use Rattle.crib_cards.specs.Sets.{IsCardSet, count_rank, has};
-ghost use Rattle.crib_show.specs.Private.Listing.{IsFirstPassingOrNone, first_hold};
+ghost use Rattle.crib_show.specs.Demands.{IsFirstMissingOrNone};
+ghost use Rattle.crib_show.specs.Private.Listing.{IsBounded, first_hold};
 ghost use Rattle.crib_show.specs.Private.Listing.{first_throw};
-ghost use Rattle.crib_show.specs.Private.Listing.{may_accept, may_hold, passes, try_hold};
-ghost use Rattle.crib_show.specs.Show.{crib_points, hand_points};
-ghost use Rattle.crib_show.specs.Worst.{ArePlain, hidden_hand};
+ghost use Rattle.crib_show.specs.Private.Listing.{may_hold, may_miss, try_hold};
+ghost use Rattle.crib_show.specs.Show.{hand_points};
+ghost use Rattle.crib_show.specs.Worst.{ArePlain};
 
 use crate::deals::{PlainCribs, WorstShow};
-use crate::show::points::{counts_of_four, crib_points, hand_points};
-use crib_cards::{Card, CardSet, Dealt, GAME_HOLE, Rank};
+use crate::demands::Demand;
+use crate::show::points::{counts_of_four, hand_points};
+use crib_cards::{Card, CardSet, Dealt, Rank};
 
-/// A condition on a deal's points.
+/// A demand that the sought deals miss, and bounds on the points of every crib.
 #[derive(Clone, Copy)]
-pub enum Test {
-    /// Every deal passes.
-    Any,
-    /// The opponent's hand has at least this many points.
-    Hand(u8),
-    /// The opponent's hand has at least the first number of points, and with the crib at least the second.
-    Total(u8, u8),
-    /// The opponent's hand has at least the first number of points, or the crib does not take the owner from the second
-    /// number, a score, to the target.
-    HandOrShort(u8, u8),
+pub struct Sought {
+    pub demand: Demand,
+    /// No crib has fewer points.
+    pub least: u8,
+    /// No crib has more points.
+    pub most: u8,
 }
 
-impl Test {
-    // Whether the points of the crib are part of the condition.
-    pub(crate) fn counts_the_crib(self) -> bool {
-        matches!(self, Test::Total(_, _) | Test::HandOrShort(_, _))
-    }
-
-    // Whether a deal may pass in which the opponent's hand has this many points.
-    fn may_accept(self, hand: u8) -> bool
-        ensures { result ≡ may_accept self hand }
+impl Sought {
+    // Whether a deal may miss the demand in which the opponent's hand has this many points.
+    pub(crate) fn may_miss(self, hand: u8) -> bool
+        ensures { result ≡ may_miss self hand }
     {
-        match self {
-            Test::Hand(least) => least <= hand,
-            Test::Total(low, _) => low <= hand,
-            Test::Any | Test::HandOrShort(_, _) => true,
-        }
+        !(self.demand.is_met(hand, self.least) && self.demand.is_met(hand, self.most))
     }
 }
 
-// The hidden deals that agree, and the test that one of them has to pass. `plain` has the points of the crib's ranks,
-// if they have been computed.
+// The hidden deals that agree, and what is sought among them. `plain` has the points of the crib's ranks.
 #[derive(Drop)]
 struct Listing<'a> {
     worst: &'a WorstShow,
-    test: Test,
-    plain: Option<&'a PlainCribs>,
-    ghost points: { IfSome plain (λ p. ArePlain worst.now.starter worst.now.own_throw p.now) } by { Prim.hlevel props },
+    sought: Sought,
+    plain: &'a PlainCribs,
+    ghost points: { ArePlain worst.now.starter worst.now.own_throw plain.now },
 }
 
 impl WorstShow {
-    // The first hidden deal that agrees and passes, in dictionary order of its six card numbers.
-    pub(crate) fn first_passing(&self, test: Test, plain: Option<&PlainCribs>) -> Option<Dealt>
-        requires { IfSome plain (λ points. ArePlain self.now.starter self.now.own_throw points.now) }
-        ensures { IsFirstPassingOrNone self.now test result }
+    // The first hidden deal that agrees and misses the demand, in dictionary order of its six card numbers.
+    pub(crate) fn first_sought(&self, sought: Sought, plain: &PlainCribs) -> Option<Dealt>
+        requires plain { ArePlain self.now.starter self.now.own_throw plain.now }
+        requires sought { IsBounded self.now sought }
+        ensures { IsFirstMissingOrNone self.now sought.demand result }
     {
         let listing = Listing {
             worst: self,
-            test,
+            sought,
             plain,
         };
         listing.first_from(&[self.starter; 4], 0, self.unseen)
@@ -78,12 +66,12 @@ impl WorstShow {
 }
 
 impl Listing<'_> {
-    // The first deal that passes. Its hold begins with the first `len` cards of `hold`, and its other cards are of
+    // The first deal that is sought. Its hold begins with the first `len` cards of `hold`, and its other cards are of
     // `cards`. A card is tried only if the hold lacks one of its rank. If the hold is found to lack more of a rank than
     // are left, nothing else is tried.
     fn first_from(&self, hold: &[Card; 4], len: usize, cards: CardSet) -> Option<Dealt>
         requires { len ≤ 4 }
-        ensures value { result ≡ first_hold self.now.worst.now self.now.test (take len hold.now) (4 - len) cards }
+        ensures value { result ≡ first_hold self.now.worst.now self.now.sought (take len hold.now) (4 - len) cards }
         ensures set { len < 4 → IsCardSet cards }
     {
         if len == 4 {
@@ -108,26 +96,26 @@ impl Listing<'_> {
         self.first_from(hold, len, cards)
     }
 
-    // The first deal with this hold that passes, or `None` if the opponent cannot have this hold or no such deal
-    // passes. The throws are tried only if a deal with these points of the hold may pass.
+    // The first deal with this hold that is sought, or `None` if the opponent cannot have this hold or no such deal is
+    // sought. The throws are tried only if a deal with these points of the hold may miss the demand.
     fn first_of_hold(&self, hold: [Card; 4]) -> Option<Dealt>
-        ensures { result ≡ try_hold self.now.worst.now self.now.test hold }
+        ensures { result ≡ try_hold self.now.worst.now self.now.sought hold }
     {
         if !self.worst.may_hold(&hold) {
             return None;
         }
         let hand = hand_points(&hold, self.worst.starter);
-        if !self.test.may_accept(hand) {
+        if !self.sought.may_miss(hand) {
             return None;
         }
         self.first_throw(hold, hand, self.worst.unseen.without_all(&hold))
     }
 
-    // The first deal with this hold that passes and whose throw is two of `cards`. `hand` is the points of the hold.
+    // The first deal with this hold that misses the demand and whose throw is two of `cards`. `hand` is the points of
+    // the hold.
     fn first_throw(&self, hold: [Card; 4], hand: u8, cards: CardSet) -> Option<Dealt>
-        requires points { hand ≡ hand_points hold self.now.worst.now.starter }
-        requires range { hand ≤ 102 }
-        ensures { result ≡ first_throw self.now.worst.now self.now.test hold cards }
+        requires { hand ≡ hand_points hold self.now.worst.now.starter }
+        ensures { result ≡ first_throw self.now.worst.now self.now.sought.demand hold cards }
     {
         let mut firsts = cards;
         while let Some(first) = firsts.lowest() {
@@ -135,50 +123,14 @@ impl Listing<'_> {
             let mut seconds = firsts;
             while let Some(second) = seconds.lowest() {
                 seconds = seconds.without(second);
-                let dealt = Dealt {
-                    hold,
-                    throw: [first, second],
-                };
-                if self.passes(hand, &dealt) {
-                    return Some(dealt);
+                let crib = self.worst.crib_of_throw(self.plain, first, second);
+                if !self.sought.demand.is_met(hand, crib) {
+                    let throw = [first, second];
+                    return Some(Dealt { hold, throw });
                 }
             }
         }
         None
-    }
-
-    // Whether a deal passes, given the points of the hand. The crib is counted only if the hand does not decide.
-    fn passes(&self, hand: u8, dealt: &Dealt) -> bool
-        requires points { hand ≡ hidden_hand self.now.worst.now dealt.now }
-        requires range { hand ≤ 102 }
-        ensures { result ≡ passes self.now.worst.now self.now.test dealt.now }
-    {
-        match self.test {
-            Test::Any => true,
-            Test::Hand(least) => least <= hand,
-            Test::Total(low, least) => {
-                low <= hand && least <= hand + self.hidden_crib(dealt.throw)
-            }
-            Test::HandOrShort(least, counted) => {
-                least <= hand
-                    || counted
-                        .saturating_add(self.hidden_crib(dealt.throw))
-                        .min(GAME_HOLE)
-                        < self.worst.target
-            }
-        }
-    }
-
-    // The points of the crib with these two cards thrown. Those of its ranks are looked up if they have been computed.
-    fn hidden_crib(&self, throw: [Card; 2]) -> u8
-        ensures value { result ≡ crib_points (self.now.worst.now.own_throw ++ throw) self.now.worst.now.starter }
-        ensures range { result ≤ 102 }
-    {
-        let [third, fourth] = throw;
-        match self.plain {
-            Some(plain) => self.worst.crib_of_throw(plain, third, fourth),
-            None => crib_points(&self.worst.crib_with(third, fourth), self.worst.starter),
-        }
     }
 }
 

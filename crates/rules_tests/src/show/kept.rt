@@ -5,7 +5,7 @@ use crate::asserts::{ensure, same};
 use crate::reading::counted;
 use crate::show::{ACES, twos_against};
 use crib_cards::Side;
-use crib_show::{ExtremesByRanks, WorstShow};
+use crib_show::{ExtremesByRanks, WorstShow, demand_of_show};
 use std::process::Abort;
 
 // checks that the result from kept points equals the one computed anew
@@ -14,8 +14,10 @@ fn answers_alike(rt: &impl Abort, worst: &WorstShow, shows: &mut ExtremesByRanks
     ensures { AreExtremesFor worst.now shows.new }
 {
     ensure(rt, worst.has_deal());
-    let kept = worst.can_fail_with(shows);
-    same(rt, kept, worst.first_failure().is_some());
+    let hand = shows.own.hand;
+    let demand = demand_of_show(worst.dealer, worst.scores, worst.target, worst.stop, hand);
+    let kept = shows.meets_all(worst, demand);
+    same(rt, kept, worst.first_failure().is_none());
 }
 
 #[test]

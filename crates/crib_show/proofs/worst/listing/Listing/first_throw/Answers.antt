@@ -1,5 +1,7 @@
-use Rattle.std.proofs.Common.{[], ◌∷◌, None, refl, sym, ◌∙◌}
+use Rattle.std.proofs.Common.{◌≡◌, ℕ, Bool, not, [], ◌∷◌, None, refl, sym, ap, ◌∙◌}
 use Rattle.std.proofs.lemmas.Bool.{cond-true, cond-false}
+use Rattle.crib_show.specs.Demands.{is_met}
+use Rattle.crib_show.specs.declared.demands.Demand.{Demand}
 use Rattle.crib_show.specs.Private.Listing.{any_card, first_choice, try_throw}
 use Rattle.crib_cards.proofs.LowestCard.{lowest_split, lowest_none, rest_smaller}
 use Rattle.crib_show.proofs.FirstChoices.{choice_none, choice_found, choice_passed}
@@ -12,30 +14,34 @@ loop-second-smaller c = rest_smaller _ _ _ c.lowest-in-loop-second.ensures.set
 pub loop-first-smaller : goal.loop-first-smaller
 loop-first-smaller c = rest_smaller _ _ _ c.lowest.ensures.set (sym c.in-Some.is ∙ c.lowest.ensures.first) c.without-firsts.ensures
 
-pub returns-then-passes : goal.returns-then-passes
+-- whether a deal misses the demand, from what was asked
+missed : (demand : Demand) {met : Bool} {hand crib h k : ℕ} → met ≡ is_met demand h k → h ≡ hand → k ≡ crib → not (is_met demand hand crib) ≡ not met
+missed demand is hand crib = sym (ap not (is ∙ (λ i. is_met demand (hand i) (crib i))))
+
+pub returns-then-not-is_met : goal.returns-then-not-is_met
 unfolding first_choice
-returns-then-passes c =
-    let gives = try_throw c.args.self.now.worst.now c.args.self.now.test c.args.hold in
+returns-then-not-is_met c =
+    let gives = try_throw c.args.self.now.worst.now c.args.self.now.sought.demand c.args.hold in
     let split = lowest_split _ _ _ c.lowest.ensures.set (sym c.in-Some.is ∙ c.lowest.ensures.first) c.without-firsts.ensures in
     let split_again = lowest_split _ _ _ c.lowest-in-loop-second.ensures.set (sym c.in-Some-lowest.is ∙ c.lowest-in-loop-second.ensures.first)
     c.without-seconds.ensures in
     sym (choice_found gives any_card [] 1 c.loop-first.firsts c.without-firsts.result c.in-Some.first _ split refl
     (sym c.loop-second.invariant
     ∙ choice_found gives any_card (c.in-Some.first ∷ []) 0 c.loop-second.seconds c.without-seconds.result c.in-Some-lowest.second _ split_again refl
-    (cond-true _ _ None (sym c.passes.ensures ∙ c.if-passes.true))))
+    (cond-true _ _ None (missed c.args.self.now.sought.demand c.is_met.ensures c.requires c.crib_of_throw-crib.ensures.value ∙ ap not c.if-not-is_met.true))))
     ∙ c.loop-first.invariant
 
 pub loop-second-preserved : goal.loop-second-preserved
 unfolding first_choice
 loop-second-preserved c =
-    sym (choice_passed (try_throw c.args.self.now.worst.now c.args.self.now.test c.args.hold) any_card (c.in-Some.first ∷ []) 0 _ _ _
+    sym (choice_passed (try_throw c.args.self.now.worst.now c.args.self.now.sought.demand c.args.hold) any_card (c.in-Some.first ∷ []) 0 _ _ _
     (lowest_split _ _ _ c.lowest-in-loop-second.ensures.set (sym c.in-Some-lowest.is ∙ c.lowest-in-loop-second.ensures.first) c.without-seconds.ensures)
-    (cond-false _ _ None (sym c.passes.ensures ∙ c.if-passes.false)))
+    (cond-false _ _ None (missed c.args.self.now.sought.demand c.is_met.ensures c.requires c.crib_of_throw-crib.ensures.value ∙ ap not c.if-not-is_met.false)))
     ∙ c.loop-second.invariant
 
 pub loop-first-preserved : goal.loop-first-preserved
 loop-first-preserved c =
-    let gives = try_throw c.args.self.now.worst.now c.args.self.now.test c.args.hold in
+    let gives = try_throw c.args.self.now.worst.now c.args.self.now.sought.demand c.args.hold in
     sym (choice_passed gives any_card [] 1 _ _ _
     (lowest_split _ _ _ c.lowest.ensures.set (sym c.in-Some.is ∙ c.lowest.ensures.first) c.without-firsts.ensures)
     (sym c.loop-second.invariant ∙ choice_none gives any_card (c.in-Some.first ∷ []) 0 c.loop-second.seconds
@@ -44,6 +50,6 @@ loop-first-preserved c =
 
 pub returns : goal.returns
 returns c =
-    sym (choice_none (try_throw c.args.self.now.worst.now c.args.self.now.test c.args.hold) any_card [] 1 c.loop-first.firsts
+    sym (choice_none (try_throw c.args.self.now.worst.now c.args.self.now.sought.demand c.args.hold) any_card [] 1 c.loop-first.firsts
     (lowest_none c.loop-first.firsts (sym c.in_default.is ∙ c.lowest.ensures.first)))
     ∙ c.loop-first.invariant

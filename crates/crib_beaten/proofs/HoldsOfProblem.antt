@@ -13,7 +13,7 @@ use Rattle.crib_show.specs.Show.{crib_points, hand_flush, hand_points, jack_poin
 use Rattle.crib_show.specs.declared.demands.Demand.{Demand}
 use Rattle.crib_show.specs.Demands.{is_met}
 use Rattle.crib_check.specs.Beaten.{IsOpen}
-use Rattle.crib_check.proofs.BeatingDeals.{few_crib, few_hand}
+use Rattle.crib_sure.proofs.PointsOfDeals.{few_crib, few_hand}
 use Rattle.crib_beaten.specs.declared.throws.Cribs.{Cribs}
 use Rattle.crib_beaten.specs.Exact.{AreExactly}
 use Rattle.crib_beaten.specs.Tally.{ranks_held}

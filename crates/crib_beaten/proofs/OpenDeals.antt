@@ -24,7 +24,7 @@ use Rattle.crib_know.proofs.FixedCards.{fixed_are_cards}
 use Rattle.crib_know.proofs.PassingIsAgreeing.{passing_agrees}
 use Rattle.crib_know.proofs.RecordTurns.{possible_led}
 use Rattle.crib_check.specs.Beaten.{IsOpen, passes_opening}
-use Rattle.crib_check.proofs.BeatingDeals.{hidden}
+use Rattle.crib_sure.proofs.PointsOfDeals.{hidden}
 use Rattle.crib_beaten.specs.Private.Open.{is_empty, may_end}
 use Rattle.crib_beaten.proofs.ThrowLists.{IsThrowOf}
 

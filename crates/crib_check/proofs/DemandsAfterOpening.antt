@@ -15,7 +15,8 @@ use Rattle.crib_show.specs.Demands.{is_met}
 use Rattle.crib_check.specs.Beaten.{ArePlays, Beats, Decides, IsOpen, meets, passes_opening}
 use Rattle.crib_check.specs.Private.Demands.{BeatsFrom, IsDemandFrom, IsJoined, passes_counts}
 use Rattle.crib_check.specs.Private.Positions.{StandsAt}
-use Rattle.crib_check.proofs.BeatingDeals.{beats_agrees, few_crib, few_hand}
+use Rattle.crib_check.proofs.BeatingDeals.{beats_agrees}
+use Rattle.crib_sure.proofs.PointsOfDeals.{few_crib, few_hand}
 use Rattle.crib_check.proofs.ExtendedGames.{failing_begins}
 use Rattle.crib_check.proofs.PositionHistories.{stands_at_start}
 

@@ -31,12 +31,13 @@ use Rattle.crib_know.proofs.TurnsAhead.{know_falls}
 use Rattle.crib_game.specs.Private.Judging.{full_at}
 use Rattle.crib_show.specs.declared.demands.Demand.{Demand}
 use Rattle.crib_check.specs.declared.keys.Key.{Key}
-use Rattle.crib_show.specs.Demands.{is_met}
+use Rattle.crib_show.specs.Demands.{IsMetByNone, is_met}
 use Rattle.crib_check.specs.Beaten.{meets}
 use Rattle.crib_check.specs.Failing.{IsFailingEnding}
 use Rattle.crib_check.specs.Private.Demands.{BeatsFrom, IsAfterSome, IsDemandAfter, IsDemandAt, IsDemandFrom, may_show}
 use Rattle.crib_check.specs.Private.Positions.{IsStuckAt, MayTakeAt, StandsAt}
-use Rattle.crib_check.proofs.BeatingDeals.{beats_agrees, beats_earlier, beats_here, few_crib, few_hand}
+use Rattle.crib_check.proofs.BeatingDeals.{beats_agrees, beats_earlier, beats_here}
+use Rattle.crib_sure.proofs.PointsOfDeals.{few_crib, few_hand}
 use Rattle.crib_check.proofs.JoinedDemands.{met_by_any, no_demand}
 use Rattle.crib_check.proofs.NamedGames.{failed_outcome}
 use Rattle.crib_check.proofs.WalkConclusions.{over_ends, over_misses, own_goes_on, stuck_ends, theirs_goes_on}
@@ -124,11 +125,10 @@ module _ {problem : Setup} {plan : List Node} {key : Key} {counts : List ℕ} wh
       )
 
   -- the owner is stuck
-  pub stuck_demand : (demand : Demand) → IsStuckAt plan key → ((hand crib : ℕ) → crib ≤ 102 → is_met demand hand crib ≡ false) →
-      IsDemandFrom problem plan key counts demand
+  pub stuck_demand : (demand : Demand) → IsStuckAt plan key → IsMetByNone demand → IsDemandFrom problem plan key counts demand
   stuck_demand demand stuck none history stands dealt agrees same = (
     λ missed. beats_here stands agrees (subst IsFailingEnding (sym (stuck_ends stands stuck dealt)) (inl refl)),
-    λ beats. met_as demand stands.knows.setup agrees.0 (λ hand crib few. none hand crib),
+    λ beats. none _ _,
   )
 
   -- the owner makes the move of the plan

@@ -1,32 +1,23 @@
 -- The first deal that misses the goal at the end of the play.
-use Rattle.std.proofs.Common.{◌≡◌, ◌<◌, ◌≤◌, List, length, Option, Some, None, MatchOption, ap, ◌∙◌, subst}
-use Rattle.crib_cards.specs.Sides.{game_hole}
+use Rattle.std.proofs.Common.{◌≡◌, List, length, Option, Some, None, MatchOption, ap, ◌∙◌}
+use Rattle.std.proofs.lemmas.Bool.{both_ways, false_from_ne_true}
 use Rattle.crib_cards.specs.declared.sides.Dealt.{Dealt}
 use Rattle.crib_cards.specs.declared.sides.Scores.{Scores}
 use Rattle.crib_play.specs.History.{Event, history_letters}
 use Rattle.crib_play.specs.Filled.{filled_record}
 use Rattle.crib_play.specs.Score.{scores_after}
-use Rattle.crib_play.specs.Standing.{Standing}
 use Rattle.crib_show.specs.Outcome.{outcome_of}
-use Rattle.crib_show.specs.Worst as worst
+use Rattle.crib_show.specs.Demands.{IsFirstMissingOrNone, IsMetByAll, IsMetByNone}
+use Rattle.crib_show.specs.declared.demands.Demand.{Demand}
 use Rattle.crib_show.specs.declared.deals.WorstShow.{WorstShow}
-use Rattle.crib_problem.specs.Setup.{Setup, start_of, target_of}
+use Rattle.crib_problem.specs.Setup.{Setup, start_of}
 use Rattle.crib_know.specs.Knowledge.{Knowledge, their_ranks}
 use Rattle.crib_know.specs.Hidden.{KnowsAfter, IsFirstDeal}
-use Rattle.crib_game.specs.Private.Judging.{full_at}
 use Rattle.crib_game.specs.Replay.{full_with}
-use Rattle.crib_sure.specs.Shows.{IsReachedBehind, worst_of}
-use Rattle.crib_sure.proofs.ShowsBehind.{decided_lost, behind_to, behind_from}
+use Rattle.crib_sure.specs.Shows.{IsDemandAtEnd, IsReachedBehind, worst_of}
+use Rattle.crib_sure.proofs.PointsOfDeals.{few_crib, few_hand}
+use Rattle.crib_sure.proofs.ShowsBehind.{behind_to, behind_from}
 use Rattle.crib_check.specs.Private.Positions.{AllReach, IsFirstShortfall}
-
-pub lost_short : (problem : Setup) (history : List Event) (table : Standing) (dealt : Dealt) → table.scores.owner < target_of problem →
-    game_hole ≤ table.scores.opponent → IsFirstDeal problem history dealt → IsFirstShortfall problem history table dealt
-lost_short problem history table dealt low high first = record {
-  agrees = first.agrees;
-  fails = λ reached. cc (decided_lost (full_at problem dealt table) low high);
-  in_order = first.in_order;
-  first = λ other agrees fails. first.first other agrees;
-}
 
 module _ {problem : Setup} {know : Knowledge} {history : List Event} (knows : KnowsAfter know problem history) where
   abbrev behind : WorstShow
@@ -38,17 +29,29 @@ module _ {problem : Setup} {know : Knowledge} {history : List Event} (knows : Kn
   pub all_reach : IsReachedBehind problem history → AllReach problem history know.round
   all_reach reached dealt agrees = ap (λ (s : Scores). outcome_of (full_with problem dealt s)) scores_are ∙ reached dealt agrees
 
-  module _ (four : length (their_ranks history) ≡ 4) where
-    short_by : (result : Option Dealt) → worst.IsFirstFailureOrNone behind result → MatchOption result (AllReach problem history know.round)
-        (IsFirstShortfall problem history know.round)
-    short_by None none = λ dealt agrees. none dealt (behind_to knows four dealt agrees)
-    short_by (Some dealt) first = record {
-      agrees = behind_from knows four dealt first.failure.agrees;
-      fails = first.failure.fails;
+  -- what the show demands
+  module _ {demand : Demand} (shown : IsDemandAtEnd problem know demand) where
+    -- all deals meet it
+    pub all_met : IsMetByAll demand → AllReach problem history know.round
+    all_met all dealt agrees = (shown history dealt knows agrees).0 (all _ _ (few_hand knows.setup agrees.0) (few_crib knows.setup agrees.0))
+
+    -- none does, and so the first deal that agrees is the first that falls short
+    pub none_met : {dealt : Dealt} → IsMetByNone demand → IsFirstDeal problem history dealt → IsFirstShortfall problem history know.round dealt
+    none_met {dealt} none first = record {
+      agrees = first.agrees;
+      fails = λ reached. both_ways _ (none _ _) ((shown history dealt knows first.agrees).1 reached);
       in_order = first.in_order;
-      first = λ other agrees fails. first.first other (record { agrees = behind_to knows four other agrees; fails = fails });
+      first = λ other agrees fails. first.first other agrees;
     }
 
-    pub short_of : {show : WorstShow} → show ≡ behind → (result : Option Dealt) → worst.IsFirstFailureOrNone show result →
+    pub short_by : length (their_ranks history) ≡ 4 → (result : Option Dealt) → IsFirstMissingOrNone behind demand result →
         MatchOption result (AllReach problem history know.round) (IsFirstShortfall problem history know.round)
-    short_of e result is = short_by result (subst (λ (s : WorstShow). worst.IsFirstFailureOrNone s result) e is)
+    short_by four None all = λ dealt agrees. (shown history dealt knows agrees).0 (all dealt (behind_to knows four dealt agrees))
+    short_by four (Some dealt) first =
+        let here = behind_from knows four dealt first.agrees in record {
+          agrees = here;
+          fails = λ reached. both_ways _ first.misses ((shown history dealt knows here).1 reached);
+          in_order = first.in_order;
+          first = λ other agrees fails. first.first other (behind_to knows four other agrees)
+              (false_from_ne_true _ (λ met. fails ((shown history other knows agrees).0 met)));
+        }

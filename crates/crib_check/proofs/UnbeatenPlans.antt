@@ -26,7 +26,8 @@ use Rattle.crib_check.specs.Failing.{IsFailing}
 use Rattle.crib_sure.specs.Private.Histories.{history_of_game}
 use Rattle.crib_check.specs.Private.Demands.{passes_counts}
 use Rattle.crib_sure.specs.Sure.{IsSure}
-use Rattle.crib_check.proofs.BeatingDeals.{beats_here, hidden}
+use Rattle.crib_check.proofs.BeatingDeals.{beats_here}
+use Rattle.crib_sure.proofs.PointsOfDeals.{hidden}
 use Rattle.crib_check.proofs.ExtendedGames.{failing_agrees, failing_begins, key_at, stands_at}
 use Rattle.crib_check.proofs.FailureEndings.{failing_at}
 use Rattle.crib_check.proofs.OneFirstGame.{sure_or_failing}

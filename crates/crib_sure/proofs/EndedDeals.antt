@@ -1,7 +1,7 @@
 -- The outcome of a deal that is done, in terms of what is known.
-use Rattle.std.proofs.Common.{◌≡◌, ◌<◌, ◌≤◌, Bool, true, false, not, ◌↔◌, List, length, refl, sym, ap, ◌∙◌}
-use Rattle.std.proofs.lemmas.Bool.{both_ways}
-use Rattle.crib_cards.specs.Sides.{game_hole}
+use Rattle.std.proofs.Common.{◌≡◌, ◌⊎◌, Bool, true, false, ◌↔◌, List, length, refl, sym, ap, ◌∙◌, inl, inr}
+use Rattle.std.proofs.lemmas.Bool.{both_ways, false_from_ne_true, leb-false, or_parts}
+use Rattle.crib_cards.specs.Sides.{are_decided, game_hole}
 use Rattle.crib_cards.specs.declared.sides.Scores.{Scores}
 use Rattle.crib_cards.specs.declared.sides.Dealt.{Dealt}
 use Rattle.crib_play.specs.declared.turns.Turn.TheVariants as turns
@@ -9,45 +9,60 @@ use Rattle.crib_play.specs.Score.{scores_after}
 use Rattle.crib_play.specs.Filled.{filled_record}
 use Rattle.crib_play.specs.History.{Event, history_letters}
 use Rattle.crib_show.specs.Outcome.{outcome_of}
-use Rattle.crib_show.specs.Worst as worst
-use Rattle.crib_show.specs.Worst.{HasDeal, CanFail, NeverFails}
+use Rattle.crib_show.specs.Demands.{AllMeet, IsMetByAll, IsMetByNone, is_met_by}
+use Rattle.crib_show.specs.declared.demands.Demand.{Demand}
 use Rattle.crib_problem.specs.Setup.{Setup, start_of, target_of}
 use Rattle.crib_know.specs.Knowledge.{Knowledge, their_ranks}
-use Rattle.crib_know.specs.Hidden.{KnowsAfter}
+use Rattle.crib_know.specs.Hidden.{AgreesWith, KnowsAfter}
 use Rattle.crib_game.specs.Replay.{full_with}
-use Rattle.crib_sure.specs.Shows.{IsReachedBehind, full_behind, worst_of}
-use Rattle.crib_sure.proofs.ShowsBehind as shorts
-use Rattle.crib_sure.proofs.ShowsBehind.{decided_reached, decided_lost, four_played, behind_to, behind_from}
+use Rattle.crib_sure.specs.Shows.{IsDemandAtEnd, IsReachedBehind, full_behind, worst_of}
+use Rattle.crib_sure.proofs.PointsOfDeals.{few_crib, few_hand}
+use Rattle.crib_sure.proofs.ShowsBehind.{four_played, behind_to, behind_from}
 
 module _ {know : Knowledge} {problem : Setup} {history : List Event} (knows : KnowsAfter know problem history) where
   scores_are : know.round.scores ≡ scores_after (start_of problem) (filled_record (start_of problem) (history_letters history))
   scores_are = ap (λ (k : Knowledge). k.round.scores) knows.knowledge
 
-  pub reached_now : target_of problem ≤ know.round.scores.owner → IsReachedBehind problem history
-  reached_now high dealt agrees = decided_reached (full_behind problem history dealt) (rw scores_are at high)
+  full_same : (dealt : Dealt) → outcome_of (full_with problem dealt know.round.scores) ≡ outcome_of (full_behind problem history dealt)
+  full_same dealt = ap (λ (s : Scores). outcome_of (full_with problem dealt s)) scores_are
 
-  pub lost_now : know.round.scores.owner < target_of problem → game_hole ≤ know.round.scores.opponent → IsReachedBehind problem history → ⊥
-  lost_now low high all =
-      cc (all knows.possible.0 knows.possible.1, decided_lost (full_behind problem history knows.possible.0) (rw scores_are at low) (rw scores_are at high))
+  module _ {demand : Demand} (shown : IsDemandAtEnd problem know demand) where
+    abbrev AllMeetIt : Type 0
+    AllMeetIt = (dealt : Dealt) → AgreesWith problem history dealt → is_met_by (worst_of problem know) demand dealt ≡ true
 
-  -- ---- eight cards are played
-  module _ (over : know.round.asked ≡ turns.Over) (low : know.round.scores.owner < target_of problem) (open_score : know.round.scores.opponent < game_hole)
-    where
-      four : length (their_ranks history) ≡ 4
-      four = four_played knows over low open_score
+    -- each deal meets the demand if each one reaches the goal, and the other way round
+    reached_if : AllMeetIt → IsReachedBehind problem history
+    reached_if all dealt agrees = sym (full_same dealt) ∙ (shown history dealt knows agrees).0 (all dealt agrees)
 
-      pub has_deal : HasDeal (worst_of problem know)
-      has_deal = shorts.has_deal knows four refl
+    met_if : IsReachedBehind problem history → AllMeetIt
+    met_if reached dealt agrees = (shown history dealt knows agrees).1 (full_same dealt ∙ reached dealt agrees)
 
-      full_same : (dealt : Dealt) → outcome_of (worst.with_dealt (worst_of problem know) dealt) ≡ outcome_of (full_behind problem history dealt)
-      full_same dealt = ap (λ (s : Scores). outcome_of (full_with problem dealt s)) scores_are
+    -- the scores decide
+    pub all_reach : IsMetByAll demand → (true ≡ true) ↔ IsReachedBehind problem history
+    all_reach all = (λ h. reached_if (λ dealt agrees. all _ _ (few_hand knows.setup agrees.0) (few_crib knows.setup agrees.0)), λ reached. refl)
 
-      -- whether a deal can fail
-      pub end_is : (fails : Bool) → (fails ≡ true → CanFail (worst_of problem know)) → (fails ≡ false → NeverFails (worst_of problem know)) →
-          (not fails ≡ true) ↔ IsReachedBehind problem history
-      end_is true some none =
-          let failure = some refl in (
-            λ h. absurd (both_ways false refl h),
-            λ all. absurd (failure.1.fails (full_same failure.0 ∙ all failure.0 (behind_from knows four failure.0 failure.1.agrees))),
-          )
-      end_is false some none = (λ h dealt agrees. sym (full_same dealt) ∙ none refl dealt (behind_to knows four dealt agrees), λ reached. refl)
+    pub none_reaches : IsMetByNone demand → (false ≡ true) ↔ IsReachedBehind problem history
+    none_reaches none = (
+      λ h. absurd (both_ways false refl h),
+      λ reached. absurd (both_ways _ (none _ _) (met_if reached knows.possible.0 knows.possible.1)),
+    )
+
+    -- the show does
+    pub end_is : length (their_ranks history) ≡ 4 → {met : Bool} → (met ≡ true) ↔ AllMeet (worst_of problem know) demand →
+        (met ≡ true) ↔ IsReachedBehind problem history
+    end_is four is = (
+      λ h. reached_if (λ dealt agrees. is.0 h dealt (behind_to knows four dealt agrees)),
+      λ reached. is.1 (λ dealt agrees. met_if reached dealt (behind_from knows four dealt agrees)),
+    )
+
+  -- the scores do not decide if not all deals meet the demand, nor none: so four ranks were shown
+  pub four_shown : know.round.asked ≡ turns.Over → {demand : Demand} {all none : Bool} →
+      (are_decided (target_of problem) know.round.scores ≡ true → IsMetByAll demand ⊎ IsMetByNone demand) →
+      (all ≡ true) ↔ IsMetByAll demand → all ≡ false → (none ≡ true) ↔ IsMetByNone demand → none ≡ false → length (their_ranks history) ≡ 4
+  four_shown over {all = all} {none = none} decided is_all not_all is_none not_none =
+      let still : are_decided (target_of problem) know.round.scores ≡ false = false_from_ne_true _ (λ d. elim (decided d) [
+        | inl met ↦ both_ways all not_all (is_all.1 met)
+        | inr missed ↦ both_ways none not_none (is_none.1 missed)
+      ]) in
+      let parts = or_parts _ _ still in
+      four_played knows over (leb-false (target_of problem) know.round.scores.owner parts.0) (leb-false game_hole know.round.scores.opponent parts.1)

@@ -1,7 +1,7 @@
 -- The first deal that misses the goal at the end of the play.
 use Rattle.std.proofs.Common.{◌≡◌, ℕ, ◌<◌, ◌≤◌, Bool, true, cond, eqb, List, [], ◌∷◌, map, length, count_by}
 use Rattle.std.proofs.Common.{refl, sym, ap, ◌∙◌, inl, inr, arith}
-use Rattle.std.proofs.lemmas.Bool.{cases_lt, le-leb, lt-leb}
+use Rattle.std.proofs.lemmas.Bool.{cases_lt}
 use Rattle.std.proofs.lemmas.Bool.Decides.{nat_tests}
 use Rattle.crib_cards.specs.Cards.{IsRank, rank_of, ranks}
 use Rattle.std.specs.List.{list_all}
@@ -18,16 +18,12 @@ use Rattle.crib_play.specs.declared.turns.Turn.TheVariants as turns
 use Rattle.crib_play.specs.Record.{Record, mover, cards_in}
 use Rattle.crib_play.specs.Score.{is_done, side_asked}
 use Rattle.crib_play.specs.Filled.{filled_record}
-use Rattle.crib_play.specs.Standing.{Standing}
 use Rattle.crib_play.specs.Legal.{letters_of, cards_left}
 use Rattle.crib_play.specs.History.{Event, history_letters, filled_moves}
 use Rattle.crib_play.proofs.RecordBounds.{played_both}
 use Rattle.crib_play.proofs.LegalRecords.{legal_filled}
 use Rattle.crib_play.proofs.TurnFacts.{play_of}
-use Rattle.crib_show.specs.declared.deals.Full.{Full}
 use Rattle.crib_show.specs.declared.deals.WorstShow.{WorstShow}
-use Rattle.crib_show.specs.declared.show.outcomes.Outcome.TheVariants as outcome
-use Rattle.crib_show.specs.Outcome.{outcome_of}
 use Rattle.crib_show.specs.Worst as worst
 use Rattle.crib_show.specs.declared.worst.extremes.ExtremesByRanks.{ExtremesByRanks}
 use Rattle.crib_show.specs.Extremes.{AreExtremesFor}
@@ -47,23 +43,6 @@ use Rattle.crib_know.proofs.RecordTurns.{possible_led}
 use Rattle.crib_know.proofs.KnowledgeFacts.{needs_history}
 use Rattle.crib_sure.specs.Shows.{worst_of, AreExtremesOf}
 use Rattle.crib_cards.proofs.Members.{all_has, all_from, has_here, has_there}
-
--- ---- the scores decide
-pub decided_reached : (full : Full) → full.target ≤ full.scores.owner → outcome_of full ≡ outcome.Reached
-unfolding outcome_of
-decided_reached full high = rw (le-leb full.target full.scores.owner high)
-
-pub decided_lost : (full : Full) → full.scores.owner < full.target → game_hole ≤ full.scores.opponent → outcome_of full ≡ outcome.Lost
-unfolding outcome_of
-decided_lost full low high = rw (lt-leb full.target full.scores.owner low, le-leb game_hole full.scores.opponent high)
-
--- ---- the scores that are read are those of the knowledge
-module _ {read : Scores} {table known : Standing} (round : table ≡ known) (value : read ≡ table.scores) where
-  pub owner_read : read.owner ≡ known.scores.owner
-  owner_read = ap (λ (s : Scores). s.owner) value ∙ ap (λ (t : Standing). t.scores.owner) round
-
-  pub opponent_read : read.opponent ≡ known.scores.opponent
-  opponent_read = ap (λ (s : Scores). s.opponent) value ∙ ap (λ (t : Standing). t.scores.opponent) round
 
 -- ---- the scores do not decide, so all cards are played
 over_done : (d : Bool) (side : Side) → cond d turns.Over (side_asked side) ≡ turns.Over → d ≡ true

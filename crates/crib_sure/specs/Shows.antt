@@ -1,5 +1,5 @@
 -- The hidden deals that are possible in the show, and whether each of them reaches the goal.
-use Rattle.std.specs.Prelude.{◌≡◌, List}
+use Rattle.std.specs.Prelude.{◌≡◌, ◌↔◌, List, IsTrue}
 use Rattle.crib_cards.specs.Sets.{set_of}
 use Rattle.crib_cards.specs.declared.sides.Dealt.{Dealt}
 use Rattle.crib_play.specs.Score.{scores_after}
@@ -9,11 +9,13 @@ use Rattle.crib_show.specs.declared.deals.Full.{Full}
 use Rattle.crib_show.specs.declared.deals.WorstShow.{WorstShow}
 use Rattle.crib_show.specs.declared.worst.extremes.ExtremesByRanks.{ExtremesByRanks}
 use Rattle.crib_show.specs.Extremes.{AreExtremes}
+use Rattle.crib_show.specs.Demands.{is_met_by}
 use Rattle.crib_show.specs.Outcome.{outcome_of}
+use Rattle.crib_show.specs.declared.demands.Demand.{Demand}
 use Rattle.crib_show.specs.declared.show.outcomes.Outcome.TheVariants.{Reached}
 use Rattle.crib_problem.specs.Setup.{Setup, start_of, unseen_of, fixed_cards, target_of, is_stop}
 use Rattle.crib_know.specs.Knowledge.{Knowledge}
-use Rattle.crib_know.specs.Hidden.{AgreesWith}
+use Rattle.crib_know.specs.Hidden.{AgreesWith, KnowsAfter}
 use Rattle.crib_game.specs.Replay.{full_with}
 use Rattle.crib_sure.specs.declared.shows.Shows.{Shows}
 
@@ -47,6 +49,14 @@ abbrev pub full_behind : Setup → List Event → Dealt → Full
 full_behind problem history dealt =
     full_with problem dealt (scores_after (start_of problem)
     (filled_record (start_of problem) (history_letters history)))
+
+-- of the deals that agree with a history after which this is known, exactly those meet the demand that reach the goal.
+-- It is used only for a deal that is done
+abbrev pub IsDemandAtEnd : Setup → Knowledge → Demand → Type 0
+IsDemandAtEnd problem know demand =
+    (history : List Event) (dealt : Dealt) → KnowsAfter know problem history → AgreesWith problem history dealt
+    → IsTrue (is_met_by (worst_of problem know) demand dealt)
+    ↔ (outcome_of (full_with problem dealt know.round.scores) ≡ Reached)
 
 -- each deal that agrees with the history has the outcome Reached. It is used only for a deal that is done
 abbrev pub IsReachedBehind : Setup → List Event → Type 0

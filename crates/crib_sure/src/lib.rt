@@ -3,4 +3,4 @@
 
 mod shows;
 
-pub use shows::{Shows, is_reached};
+pub use shows::{Shows, demand_at_end, is_reached};

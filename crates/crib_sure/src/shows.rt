@@ -1,15 +1,17 @@
 //! The shows of a problem, and whether the owner reaches the goal in each that is possible.
-ghost use Rattle.std.specs.Prelude.{◌≡◌, ◌↔◌, List, IsTrue};
+ghost use Rattle.std.specs.Prelude.{◌≡◌, ◌↔◌, ◌⊎◌, List, IsTrue};
+ghost use Rattle.crib_cards.specs.Sides.{are_decided};
 ghost use Rattle.crib_play.specs.History.{Event};
 ghost use Rattle.crib_play.specs.declared.turns.Turn.TheVariants as turns;
 ghost use Rattle.crib_know.specs.Hidden.{KnowsAfter};
-ghost use Rattle.crib_problem.specs.Setup.{Setup};
-ghost use Rattle.crib_sure.specs.Shows.{AreShowsOf, IsReachedBehind, worst_of};
+ghost use Rattle.crib_problem.specs.Setup.{Setup, target_of};
+ghost use Rattle.crib_show.specs.Demands.{IsMetByAll, IsMetByNone};
+ghost use Rattle.crib_show.specs.Show.{hand_points};
+ghost use Rattle.crib_sure.specs.Shows.{AreShowsOf, IsDemandAtEnd, IsReachedBehind, worst_of};
 
-use crib_cards::GAME_HOLE;
 use crib_know::Know;
 use crib_problem::Problem;
-use crib_show::{ExtremesByRanks, WorstShow};
+use crib_show::{Demand, ExtremesByRanks, WorstShow, demand_of_show};
 
 /// The shows of a problem: the show of one knowledge, and the extremes that were counted so far.
 ///
@@ -68,13 +70,31 @@ pub fn is_reached(problem: &Problem, shows: &mut Shows, know: &Know) -> bool
         → (IsTrue result ↔ IsReachedBehind problem.now history) }
     ensures shows { AreShowsOf problem.now shows.new }
 {
-    let scores = know.round().scores();
-    if scores.owner >= problem.target() {
+    let demand = demand_at_end(problem, shows.extremes.own.hand, know);
+    if demand.is_met_by_all() {
         return true;
     }
-    if scores.opponent >= GAME_HOLE {
+    if demand.is_impossible() {
         return false;
     }
     shows.go_to(know);
-    !shows.worst.can_fail_with(&mut shows.extremes)
+    shows.extremes.meets_all(&shows.worst, demand)
+}
+
+/// Returns what the show demands of the opponent's hand and the crib when the deal is done, where the owner's hand has
+/// `own_hand` points. If the scores decide, all deals meet the demand or none does.
+#[inline]
+pub fn demand_at_end(problem: &Problem, own_hand: u8, know: &Know) -> Demand
+    ensures show { own_hand ≡ hand_points problem.now.hold problem.now.starter
+        → IsDemandAtEnd problem.now know.now result }
+    ensures decided { IsTrue (are_decided (target_of problem.now) know.now.round.scores)
+        → IsMetByAll result ⊎ IsMetByNone result }
+{
+    demand_of_show(
+        problem.dealer(),
+        know.round().scores(),
+        problem.target(),
+        problem.is_to_stop(),
+        own_hand,
+    )
 }

@@ -1,30 +1,27 @@
 //! What the plays that follow a plan demand of a deal.
-ghost use Rattle.std.specs.Prelude.{◌≡◌, ◌≢◌, ◌≤◌, ◌<◌, ◌*◌, ◌↔◌, ℕ, List, filter, length, map, take, IsTrue};
+ghost use Rattle.std.specs.Prelude.{◌≡◌, ◌≢◌, ◌≤◌, ◌<◌, ◌*◌, ℕ, List, filter, length, map, take, IsTrue};
 ghost use Rattle.std.specs.Prelude.{IsFalse};
 ghost use Rattle.std.specs.List.{All};
 ghost use Rattle.crib_cards.specs.Cards.{rank_of};
 ghost use Rattle.crib_cards.specs.Sets.{has, rank_counts};
 ghost use Rattle.crib_cards.specs.declared.sides.Dealt.{Dealt};
-ghost use Rattle.crib_play.specs.History.{Event};
-ghost use Rattle.crib_show.specs.Outcome.{outcome_of};
-ghost use Rattle.crib_show.specs.declared.show.outcomes.Outcome.TheVariants.{Reached};
-ghost use Rattle.crib_know.specs.Hidden.{AgreesWith, KnowsAfter, passes_rank};
+ghost use Rattle.crib_know.specs.Hidden.{passes_rank};
 ghost use Rattle.crib_know.specs.Private.Ahead.{turns_ahead};
-ghost use Rattle.crib_game.specs.Private.Judging.{full_at};
 ghost use Rattle.crib_problem.specs.Setup.{Setup};
 ghost use Rattle.crib_plan.specs.declared.plan.Node.{Node};
-ghost use Rattle.crib_check.specs.Beaten.{ArePlays, Decides, IsOpen, counts_of, demand_of, meets, passes_opening};
+ghost use Rattle.crib_check.specs.Beaten.{ArePlays, Decides, IsOpen, counts_of, demand_of, passes_opening};
 ghost use Rattle.crib_check.specs.Private.Demands.{AreJoined, IsAfterSome, IsDemandAfter, IsDemandFrom, IsOwnHand};
 ghost use Rattle.crib_check.specs.Private.Demands.{may_show, passes_counts};
 
 use crate::keys::Key;
 use crate::turns::{go_by_own, go_by_theirs, own_move};
-use crib_cards::{GAME_HOLE, Letter, Rank, RankCounts};
+use crib_cards::{Letter, Rank, RankCounts};
 use crib_know::Know;
 use crib_plan::{Plan, start};
 use crib_play::Turn;
 use crib_problem::Problem;
-use crib_show::{Demand, demand_of_show, hand_points};
+use crib_show::{Demand, hand_points};
+use crib_sure::demand_at_end;
 use std::alloc::Allocator;
 
 /// How many choices of four ranks there are.
@@ -109,7 +106,10 @@ impl<A: Allocator> Plays<'_, A> {
             self.now.choices.now places.now demands.old demands.new }
     {
         match key.know.turn() {
-            Turn::Over => join(self.demand_at_end(&key.know), places, demands),
+            Turn::Over => {
+                let demand = demand_at_end(self.problem, self.own_hand, &key.know);
+                join(demand, places, demands);
+            }
             Turn::Owner => self.join_by_own(key, places, spare, demands),
             Turn::Opponent => self.join_by_theirs(key, places, spare, demands),
         }
@@ -193,30 +193,6 @@ impl<A: Allocator> Plays<'_, A> {
         if count > 0 {
             self.join_from(&next, &left[..count], spare, demands);
         }
-    }
-
-    // What the show demands, if it decides.
-    fn demand_at_end(&self, know: &Know) -> Demand
-        requires { IsOwnHand self.now.problem.now self.now.own_hand }
-        ensures { (history : List Event) (dealt : Dealt) → KnowsAfter know.now self.now.problem.now history
-            → AgreesWith self.now.problem.now history dealt → (IsTrue (meets self.now.problem.now result dealt)
-            ↔ (outcome_of (full_at self.now.problem.now dealt know.now.round) ≡ Reached)) }
-    {
-        let problem = self.problem;
-        let scores = know.round().scores();
-        if scores.owner >= problem.target() {
-            return Demand::none();
-        }
-        if scores.opponent >= GAME_HOLE {
-            return Demand::impossible();
-        }
-        demand_of_show(
-            problem.dealer(),
-            scores,
-            problem.target(),
-            problem.is_to_stop(),
-            self.own_hand,
-        )
     }
 }
 

@@ -10,11 +10,12 @@ use crate::choices::options;
 use crate::join::join;
 use crate::nodes::{DraftNode, DraftPlace, Nodes};
 use arrayvec::ArrayVec;
-use crib_cards::{Card, GAME_HOLE, Letter};
+use crib_cards::{Card, Letter};
 use crib_know::Know;
 use crib_play::Turn;
 use crib_problem::Problem;
-use crib_show::{Demand, demand_of_show, hand_points};
+use crib_show::hand_points;
+use crib_sure::demand_at_end;
 use crib_trial::Trial;
 use std::alloc::{AllocError, Allocator};
 
@@ -51,7 +52,6 @@ impl Greedy<'_> {
         know: &Know,
         trial: &mut Trial<A>,
     ) -> Result<DraftPlace, AllocError>
-        requires hand { self.now.own_hand ≤ 102 }
         requires here { IsHere self.now.problem.now know.now }
         ensures kept { IsMore nodes.old nodes.new }
         ensures planned { IfOk result (IsPlanned nodes.new) }
@@ -61,7 +61,7 @@ impl Greedy<'_> {
         }
         match know.turn() {
             Turn::Over => {
-                trial.demand(self.demand_at_end(know));
+                trial.demand(demand_at_end(self.problem, self.own_hand, know));
                 Ok(DraftPlace::End)
             }
             Turn::Owner => self.own_place(nodes, know, trial),
@@ -77,7 +77,6 @@ impl Greedy<'_> {
         know: &Know,
         trial: &mut Trial<A>,
     ) -> Result<DraftPlace, AllocError>
-        requires hand { self.now.own_hand ≤ 102 }
         requires here { IsHere self.now.problem.now know.now }
         requires asked { know.now.round.asked ≡ Turn.Owner }
         ensures kept { IsMore nodes.old nodes.new }
@@ -104,7 +103,6 @@ impl Greedy<'_> {
         cards: &[Card],
         trial: &mut Trial<A>,
     ) -> Result<DraftPlace, AllocError>
-        requires hand { self.now.own_hand ≤ 102 }
         requires here { IsHere self.now.problem.now know.now }
         requires asked { know.now.round.asked ≡ Turn.Owner }
         requires playable { (card : ℕ) → IsTrue (has cards.now card)
@@ -134,7 +132,6 @@ impl Greedy<'_> {
         card: Card,
         trial: &mut Trial<A>,
     ) -> Result<DraftPlace, AllocError>
-        requires hand { self.now.own_hand ≤ 102 }
         requires here { IsHere self.now.problem.now know.now }
         requires asked { know.now.round.asked ≡ Turn.Owner }
         requires held { IsTrue (has know.now.own_left card) }
@@ -159,7 +156,6 @@ impl Greedy<'_> {
         know: &Know,
         trial: &mut Trial<A>,
     ) -> Result<DraftPlace, AllocError>
-        requires hand { self.now.own_hand ≤ 102 }
         requires here { IsHere self.now.problem.now know.now }
         ensures kept { IsMore nodes.old nodes.new }
         ensures planned { IfOk result (IsPlanned nodes.new) }
@@ -185,7 +181,6 @@ impl Greedy<'_> {
         letter: &Letter,
         trial: &mut Trial<A>,
     ) -> Result<DraftPlace, AllocError>
-        requires hand { self.now.own_hand ≤ 102 }
         requires here { IsHere self.now.problem.now know.now }
         ensures kept { IsMore nodes.old nodes.new }
         ensures planned { IfOk result (IsPlanned nodes.new) }
@@ -201,26 +196,5 @@ impl Greedy<'_> {
         let place = self.place_at(nodes, &next, trial)?;
         trial.take_back(below);
         Ok(place)
-    }
-
-    // What the show demands when the play is over, if it decides.
-    fn demand_at_end(&self, know: &Know) -> Demand
-        requires { self.now.own_hand ≤ 102 }
-    {
-        let problem = self.problem;
-        let scores = know.round().scores();
-        if scores.owner >= problem.target() {
-            return Demand::none();
-        }
-        if scores.opponent >= GAME_HOLE {
-            return Demand::impossible();
-        }
-        demand_of_show(
-            problem.dealer(),
-            scores,
-            problem.target(),
-            problem.is_to_stop(),
-            self.own_hand,
-        )
     }
 }

@@ -1,49 +1,37 @@
-use Rattle.std.proofs.Common.{false, ◌<◌, refl, arith}
-use Rattle.std.proofs.lemmas.Bool.{both_ways}
-use Rattle.crib_cards.specs.Sides.{game_hole}
-use Rattle.crib_problem.specs.Setup.{target_of}
-use Rattle.crib_sure.proofs.ShowsBehind.{gone_for, gone_from, opponent_read, owner_read}
-use Rattle.crib_sure.proofs.EndedDeals.{reached_now, lost_now, has_deal, end_is}
+use Rattle.std.proofs.Common.{◌≡◌, length}
+use Rattle.crib_know.specs.Knowledge.{their_ranks}
+use Rattle.crib_sure.proofs.ShowsBehind.{gone_for, gone_from, has_deal}
+use Rattle.crib_sure.proofs.EndedDeals.{all_reach, end_is, four_shown, none_reaches}
 use Rattle.crib_sure.proofs.shows.is_reached.Goals as goal
 use Rattle.crib_sure.proofs.shows.is_reached.Goals.{After-go_to}
 
-pub returns-then-scores-target-clause-reached : goal.returns-then-scores-target-clause-reached
-returns-then-scores-target-clause-reached c =
-    let owner = owner_read c.round.ensures c.scores-scores.ensures.value in
-    λ history knows. (λ h. reached_now knows (omega (arith, owner, c.if-scores-target.true, c.target.ensures.value)), λ h. refl)
+pub returns-then-is_met_by_all-clause-reached : goal.returns-then-is_met_by_all-clause-reached
+returns-then-is_met_by_all-clause-reached c = λ history knows.
+    all_reach knows (c.demand_at_end-demand.ensures.show c.requires.shows.0.own.hand) (c.is_met_by_all.ensures.0 c.if-is_met_by_all.true)
 
-pub returns-then-scores-ge-GAME_HOLE-clause-reached : goal.returns-then-scores-ge-GAME_HOLE-clause-reached
-returns-then-scores-ge-GAME_HOLE-clause-reached c =
-    let owner = owner_read c.round.ensures c.scores-scores.ensures.value in
-    let opponent = opponent_read c.round.ensures c.scores-scores.ensures.value in
-    λ history knows. (
-      λ h. absurd (both_ways false refl h),
-      λ all. absurd (lost_now knows (omega (arith, owner, c.if-scores-target.false, c.target.ensures.value))
-          (omega (arith, opponent, c.if-scores-ge-GAME_HOLE.true)) all),
-    )
+pub returns-then-is_impossible-clause-reached : goal.returns-then-is_impossible-clause-reached
+returns-then-is_impossible-clause-reached c = λ history knows.
+    none_reaches knows (c.demand_at_end-demand.ensures.show c.requires.shows.0.own.hand) (c.is_impossible.ensures.0 c.if-is_impossible.true)
 
--- neither side is through
-low : (c : After-go_to) → c.args.know.now.round.scores.owner < target_of c.args.problem.now
-low c = let owner = owner_read c.round.ensures c.scores-scores.ensures.value in omega (arith, owner, c.if-scores-target.false, c.target.ensures.value)
+four : (c : After-go_to) → length (their_ranks c.requires.known.0) ≡ 4
+four c = four_shown c.requires.known.1 c.requires.over c.demand_at_end-demand.ensures.decided c.is_met_by_all.ensures c.if-is_met_by_all.false
+    c.is_impossible.ensures c.if-is_impossible.false
 
-few : (c : After-go_to) → c.args.know.now.round.scores.opponent < game_hole
-few c = let opponent = opponent_read c.round.ensures c.scores-scores.ensures.value in omega (arith, opponent, c.if-scores-ge-GAME_HOLE.false)
-
-pub can_fail_with-requires-clause-deal : goal.can_fail_with-requires-clause-deal
-can_fail_with-requires-clause-deal c =
-    let gone = (goal.at.can_fail_with-requires-clause-deal c).After-go_to in
-    rw (c.go_to.ensures.worst c.args.problem.now c.requires.shows) (has_deal c.requires.known.1 c.requires.over (low gone) (few gone))
+pub meets_all-requires-clause-deal : goal.meets_all-requires-clause-deal
+meets_all-requires-clause-deal c =
+    has_deal c.requires.known.1 (four (goal.at.meets_all-requires-clause-deal c).After-go_to) (c.go_to.ensures.worst c.args.problem.now c.requires.shows)
 
 pub returns-clause-reached : goal.returns-clause-reached
-returns-clause-reached c =
+returns-clause-reached c = λ history knows.
     let worst = c.go_to.ensures.worst c.args.problem.now c.requires.shows in
-    let gone = (goal.at.returns-clause-reached c).After-go_to in
-    λ history knows. end_is knows c.requires.over (low gone) (few gone) c.can_fail_with.result
-    (λ e. rw worst at (c.can_fail_with.ensures.some e)) (λ e. rw worst at (c.can_fail_with.ensures.none e))
+    let four = four_shown knows c.requires.over c.demand_at_end-demand.ensures.decided c.is_met_by_all.ensures c.if-is_met_by_all.false
+    c.is_impossible.ensures c.if-is_impossible.false in
+    end_is knows (c.demand_at_end-demand.ensures.show c.requires.shows.0.own.hand) four
+    (rw worst at c.meets_all.ensures.all)
 
-pub can_fail_with-requires-clause-shows : goal.can_fail_with-requires-clause-shows
-can_fail_with-requires-clause-shows c =
+pub meets_all-requires-clause-shows : goal.meets_all-requires-clause-shows
+meets_all-requires-clause-shows c =
     gone_for c.requires.known (c.go_to.ensures.worst c.args.problem.now c.requires.shows) c.go_to.ensures.extremes c.requires.shows.0
 
 pub returns-clause-shows : goal.returns-clause-shows
-returns-clause-shows c = gone_from c.requires.known (c.go_to.ensures.worst c.args.problem.now c.requires.shows) c.can_fail_with.ensures.shows
+returns-clause-shows c = gone_from c.requires.known (c.go_to.ensures.worst c.args.problem.now c.requires.shows) c.meets_all.ensures.shows

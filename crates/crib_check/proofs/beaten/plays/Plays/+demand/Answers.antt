@@ -24,7 +24,8 @@ rooms many enough falls = (omega (arith, (room_after 0 enough falls (omega arith
 
 -- ---- the deal is done
 pub join_from-returns-in-Over : goal.join_from-returns-in-Over
-join_from-returns-in-Over g t c = joined_as (λ counts demand is. rw is (over_demand _ (sym c.in-Over.ensures) c.demand_at_end.ensures)) (c.join.ensures _)
+join_from-returns-in-Over g t c =
+    joined_as (λ counts demand is. rw is (over_demand _ (sym c.in-Over.ensures) (c.demand_at_end-demand.ensures.show c.requires.own.0))) (c.join.ensures _)
 
 pub join_from-join_by_own-requires : goal.join_from-join_by_own-requires
 join_from-join_by_own-requires g t c κs within =
@@ -36,7 +37,7 @@ join_from-join_by_theirs-requires g t c κs within =
 
 -- ---- the owner's turn
 pub join_by_own-returns-in_default : goal.join_by_own-returns-in_default
-join_by_own-returns-in_default g t c = joined_as (λ counts demand is. rw is (stuck_demand _ c.in_default.ensures c.impossible.ensures.none)) (c.join.ensures _)
+join_by_own-returns-in_default g t c = joined_as (λ counts demand is. rw is (stuck_demand _ c.in_default.ensures c.impossible.ensures)) (c.join.ensures _)
 
 pub join_by_own-join_from-requires : goal.join_by_own-join_from-requires
 join_by_own-join_from-requires g t c κs within =

@@ -33,10 +33,10 @@ place_with-returns-then-is_over-clause-planned g t c = planned_end c.place_at.ne
 
 -- ---- a turn of either side
 pub place_at-own_place-requires : goal.place_at-own_place-requires
-place_at-own_place-requires g t c κs within = (omega arith, (within, (c.requires.hand, (c.requires.here, sym c.in-Owner.ensures))))
+place_at-own_place-requires g t c κs within = (omega arith, (within, (c.requires.here, sym c.in-Owner.ensures)))
 
 pub place_at-their_place-requires : goal.place_at-their_place-requires
-place_at-their_place-requires g t c κs within = (omega arith, (within, (c.requires.hand, c.requires.here)))
+place_at-their_place-requires g t c κs within = (omega arith, (within, c.requires.here))
 
 -- ---- the owner
 pub own_place-own_go-requires-clause-none : goal.own_place-own_go-requires-clause-none
@@ -48,17 +48,17 @@ pub own_place-place_at-requires : goal.own_place-place_at-requires
 own_place-place_at-requires g t c κs within =
     let on = goes_on c.args.know.now c.copy-next.result c.own_go.new.self (Own move.Go) c.copy-next.ensures c.own_go.ensures
     c.args.self.now.problem.now c.requires.here in
-    (omega (arith, on.1), (within, (c.requires.hand, on.0)))
+    (omega (arith, on.1), (within, on.0))
 
 pub own_place-place_with-requires : goal.own_place-place_with-requires
 own_place-place_with-requires g t c κs within =
     let playable = c.options-cards.ensures.playable (get_or c.options-cards.result.0 0 c.index-cards-0.result)
     (has_first _ c.options-cards.result.1 c.index-cards-0.result c.if-len-eq1.true c.options-cards.ensures.whole) in
-    (omega arith, (within, (c.requires.hand, (c.requires.here, (c.requires.asked, (playable.0, playable.1))))))
+    (omega arith, (within, (c.requires.here, (c.requires.asked, (playable.0, playable.1)))))
 
 pub own_place-best_place-requires : goal.own_place-best_place-requires
 own_place-best_place-requires g t c κs within =
-    (omega arith, (within, (c.requires.hand, (c.requires.here, (c.requires.asked, c.options-cards.ensures.playable)))))
+    (omega arith, (within, (c.requires.here, (c.requires.asked, c.options-cards.ensures.playable))))
 
 pub best_place-loop-card-init : goal.best_place-loop-card-init
 best_place-loop-card-init g t c = record { kept = λ place draft_node there. there; planned = planned_end c.args.nodes.now }
@@ -67,7 +67,7 @@ pub best_place-place_with-requires : goal.best_place-place_with-requires
 best_place-place_with-requires g t c κs within =
     let playable = c.requires.playable c.card-item.result
     (has_at c.args.cards.now c.loop-card.card-index c.card-item.result c.loop-card-test.true c.card-item.is) in
-    (omega arith, (within, (c.requires.hand, (c.requires.here, (c.requires.asked, playable)))))
+    (omega arith, (within, (c.requires.here, (c.requires.asked, playable))))
 
 pub best_place-returns-in_err-other_place-clause-kept : goal.best_place-returns-in_err-other_place-clause-kept
 best_place-returns-in_err-other_place-clause-kept g t c =
@@ -87,7 +87,7 @@ pub place_with-place_at-requires : goal.place_with-place_at-requires
 place_with-place_at-requires g t c κs within =
     let on = goes_on c.args.know.now c.copy-after.result c.own_play.new.self (Own (move.Card c.args.card)) c.copy-after.ensures c.own_play.ensures
     c.args.self.now.problem.now c.requires.here in
-    (omega (arith, on.1), (within, (c.requires.hand, on.0)))
+    (omega (arith, on.1), (within, on.0))
 
 pub place_with-place_of-requires : goal.place_with-place_of-requires
 place_with-place_of-requires g t c = draft_place_earlier c.place_at.new.nodes c.in_ok-next.ensures.planned.tree c.in_ok-next.next
@@ -105,7 +105,7 @@ place_with-returns-clause-planned g t c = ok_map c.place_of.result _ _
 
 -- ---- the opponent
 pub their_place-place_after-requires : goal.their_place-place_after-requires
-their_place-place_after-requires g t c κs within = (omega arith, (within, (c.requires.hand, c.requires.here)))
+their_place-place_after-requires g t c κs within = (omega arith, (within, c.requires.here))
 
 pub their_place-returns-in_err-next-clause-kept : goal.their_place-returns-in_err-next-clause-kept
 their_place-returns-in_err-next-clause-kept g t c =
@@ -150,4 +150,4 @@ pub place_after-place_at-requires : goal.place_after-place_at-requires
 place_after-place_at-requires g t c κs within =
     let on = goes_on c.args.know.now c.copy-next.result c.saw.new.self (Theirs c.args.letter.now) c.copy-next.ensures c.saw.ensures
     c.args.self.now.problem.now c.requires.here in
-    (omega (arith, on.1), (within, (c.requires.hand, on.0)))
+    (omega (arith, on.1), (within, on.0))

@@ -1,9 +1,11 @@
 -- The points of the fifteens and pairs of some cards, and of the jack among them, count also where other cards are added.
 use Rattle.std.proofs.Common.{ℕ, ◌+◌, ◌≤◌, Bool, cond, eqb, ◌&&◌, ◌||◌, List, [], ◌∷◌, ◌++◌, map, sum_by, sym, subst, ◌≡◌, arith}
+use Rattle.std.proofs.Common.{length, get_or}
 use Rattle.std.specs.List.{list_any}
 use Rattle.std.proofs.lemmas.List.{map-append}
 use Rattle.std.proofs.lemmas.List.Folds.{list_any-append}
 use Rattle.std.proofs.lemmas.Bool.Decides.{nat_tests}
+use Rattle.std.proofs.lemmas.Grind.{elements}
 use Rattle.crib_cards.specs.Cards.{jack, rank_of, suit_of}
 use Rattle.crib_show.specs.Show.{choices, crib_points, fifteen_points, is_fifteen, is_pair, jack_points, pair_points}
 use Rattle.crib_show.proofs.Choices.{sum_by-choices}
@@ -16,6 +18,10 @@ more_choices : (f : List ℕ → ℕ) (xs ys : List ℕ) → sum_by f (choices x
 more_choices f [] ys = let some = no_cards f ys in omega (arith, some)
 more_choices f (x ∷ xs) ys =
     omega (arith, more_choices (λ chosen. f (x ∷ chosen)) xs ys, more_choices f xs ys, sum_by-choices f x xs, sum_by-choices f x (xs ++ ys))
+
+-- a throw, by its two cards
+pub both_cards : (throw : List ℕ) (v w : ℕ) → length throw ≡ 2 → get_or throw 0 v ∷ get_or throw 1 w ∷ [] ≡ throw
+both_cards throw v w two = grind (arith, elements)
 
 -- each crib has the points of the starter and the owner's throw
 pub known_in_crib : (starter : ℕ) (throw theirs : List ℕ) →

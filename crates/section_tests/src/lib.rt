@@ -10,6 +10,8 @@ mod input;
 #[cfg(test)]
 mod inputs;
 #[cfg(test)]
+mod making;
+#[cfg(test)]
 mod plan;
 #[cfg(test)]
 mod problem;

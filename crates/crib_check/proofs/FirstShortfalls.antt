@@ -30,7 +30,7 @@ module _ {problem : Setup} {know : Knowledge} {history : List Event} (knows : Kn
   all_reach reached dealt agrees = ap (λ (s : Scores). outcome_of (full_with problem dealt s)) scores_are ∙ reached dealt agrees
 
   -- what the show demands
-  module _ {demand : Demand} (shown : IsDemandAtEnd problem know demand) where
+  module _ (demand : Demand) (shown : IsDemandAtEnd problem know demand) where
     -- all deals meet it
     pub all_met : IsMetByAll demand → AllReach problem history know.round
     all_met all dealt agrees = (shown history dealt knows agrees).0 (all _ _ (few_hand knows.setup agrees.0) (few_crib knows.setup agrees.0))

@@ -26,7 +26,7 @@ module _ {know : Knowledge} {problem : Setup} {history : List Event} (knows : Kn
   full_same : (dealt : Dealt) → outcome_of (full_with problem dealt know.round.scores) ≡ outcome_of (full_behind problem history dealt)
   full_same dealt = ap (λ (s : Scores). outcome_of (full_with problem dealt s)) scores_are
 
-  module _ {demand : Demand} (shown : IsDemandAtEnd problem know demand) where
+  module _ (demand : Demand) (shown : IsDemandAtEnd problem know demand) where
     abbrev AllMeetIt : Type 0
     AllMeetIt = (dealt : Dealt) → AgreesWith problem history dealt → is_met_by (worst_of problem know) demand dealt ≡ true
 
@@ -56,10 +56,10 @@ module _ {know : Knowledge} {problem : Setup} {history : List Event} (knows : Kn
     )
 
   -- the scores do not decide if not all deals meet the demand, nor none: so four ranks were shown
-  pub four_shown : know.round.asked ≡ turns.Over → {demand : Demand} {all none : Bool} →
+  pub four_shown : know.round.asked ≡ turns.Over → (demand : Demand) {all none : Bool} →
       (are_decided (target_of problem) know.round.scores ≡ true → IsMetByAll demand ⊎ IsMetByNone demand) →
       (all ≡ true) ↔ IsMetByAll demand → all ≡ false → (none ≡ true) ↔ IsMetByNone demand → none ≡ false → length (their_ranks history) ≡ 4
-  four_shown over {all = all} {none = none} decided is_all not_all is_none not_none =
+  four_shown over demand {all} {none} decided is_all not_all is_none not_none =
       let still : are_decided (target_of problem) know.round.scores ≡ false = false_from_ne_true _ (λ d. elim (decided d) [
         | inl met ↦ both_ways all not_all (is_all.1 met)
         | inr missed ↦ both_ways none not_none (is_none.1 missed)

@@ -10,17 +10,19 @@ use Rattle.crib_check.proofs.deals.first_shortfall.Goals.{After-go_to}
 
 pub returns-then-is_met_by_all-clause-first : goal.returns-then-is_met_by_all-clause-first
 returns-then-is_met_by_all-clause-first c = λ history knows.
-    all_met knows (c.demand_at_end-demand.ensures.show c.requires.shows.0.own.hand) (c.is_met_by_all.ensures.0 c.if-is_met_by_all.true)
+    all_met knows c.demand_at_end-demand.result (c.demand_at_end-demand.ensures.show c.requires.shows.0.own.hand)
+    (c.is_met_by_all.ensures.0 c.if-is_met_by_all.true)
 
 pub returns-then-is_impossible-clause-first : goal.returns-then-is_impossible-clause-first
 returns-then-is_impossible-clause-first c = λ history knows.
-    none_met knows (c.demand_at_end-demand.ensures.show c.requires.shows.0.own.hand) (c.is_impossible.ensures.0 c.if-is_impossible.true)
+    none_met knows c.demand_at_end-demand.result (c.demand_at_end-demand.ensures.show c.requires.shows.0.own.hand)
+    (c.is_impossible.ensures.0 c.if-is_impossible.true)
     (c.some_deal.ensures c.args.problem.now history knows)
 
 -- where neither side is through, the opponent has shown four ranks
 four : (c : After-go_to) (history : List Event) → KnowsAfter c.args.know.now c.args.problem.now history → length (their_ranks history) ≡ 4
-four c history knows = four_shown knows c.requires.over c.demand_at_end-demand.ensures.decided c.is_met_by_all.ensures c.if-is_met_by_all.false
-    c.is_impossible.ensures c.if-is_impossible.false
+four c history knows = four_shown knows c.requires.over c.demand_at_end-demand.result c.demand_at_end-demand.ensures.decided
+    c.is_met_by_all.ensures c.if-is_met_by_all.false c.is_impossible.ensures c.if-is_impossible.false
 
 pub first_missing-requires-clause-deal : goal.first_missing-requires-clause-deal
 first_missing-requires-clause-deal c =
@@ -31,7 +33,7 @@ first_missing-requires-clause-deal c =
 pub returns-clause-first : goal.returns-clause-first
 returns-clause-first c = λ history knows.
     let worst = c.go_to.ensures.worst c.args.problem.now c.requires.shows in
-    short_by knows (c.demand_at_end-demand.ensures.show c.requires.shows.0.own.hand)
+    short_by knows c.demand_at_end-demand.result (c.demand_at_end-demand.ensures.show c.requires.shows.0.own.hand)
     (four (goal.at.returns-clause-first c).After-go_to history knows) c.first_missing.result (rw worst at c.first_missing.ensures.first)
 
 pub first_missing-requires-clause-shows : goal.first_missing-requires-clause-shows

@@ -4,3 +4,4 @@ pub mod ValueLemmas
 pub mod WordLemmas
 pub mod CommandLemmas
 pub mod NamedCommands
+pub mod OptionLemmas

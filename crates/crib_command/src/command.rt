@@ -1,10 +1,12 @@
 //! Reads the command from the words of the command line.
-ghost use Rattle.std.specs.Prelude.{◌≡◌, ◌⊎◌, true, Ok, Some, IfErr, IfOk, IsErrAnd, List, ℕ, map};
+ghost use Rattle.std.specs.Prelude.{◌≡◌, ◌⊎◌, false, true, Ok, Option, Some, IfErr, IfOk};
+ghost use Rattle.std.specs.Prelude.{IfSome, IsErrAnd, IsTrue, List, ℕ, map};
 ghost use Rattle.std.specs.IoError.{error_kind};
 ghost use Rattle.clap.specs.Values.{kind_of};
-ghost use Rattle.clap.specs.Words.{found_of};
-ghost use Rattle.crib_command.specs.Command.{AreReadable, IsCommandWords, commands_of, words_refusal};
-ghost use Rattle.crib_command.specs.Private.Command.{AreValuesOf, HasCommand, IsRefusedFor};
+ghost use Rattle.clap.specs.Words.{Text, found_of};
+ghost use Rattle.clap.specs.declared.error.kind.ErrorKind.TheVariants.{UnknownArgument};
+ghost use Rattle.crib_command.specs.Command.{AreReadable, IsCommandWords, commands_of, refusal_from, words_refusal};
+ghost use Rattle.crib_command.specs.Private.Command.{AreValuesOf, HasCommand, IsRefusedFor, is_unknown_option};
 
 use crate::program::Program;
 use clap::builder::PossibleValue;
@@ -28,6 +30,57 @@ fn hidden_values<'a>(alloc: Global, program: &Program) -> Result<Vec<PossibleVal
         values.push(PossibleValue::new(name).hide(true))?;
     }
     Ok(values)
+}
+
+// Whether a word is an option with two hyphens and with another name than `help`.
+fn is_unknown_option(word: &str) -> bool
+    ensures { IsTrue result → is_unknown_option word.now ≡ true }
+{
+    let bytes = word.as_bytes();
+    match word {
+        "--" | "--help" => false,
+        _ if bytes.starts_with(b"--help=") => false,
+        _ => bytes.starts_with(b"--"),
+    }
+}
+
+// Returns the first word that is an unknown option with two hyphens, unless clap would stop at an option before it.
+// clap compares such a word with `--help`; an allocation that fails there is asked for again, for less, and the failure
+// would not be reported.
+fn unknown_option<'a, S: AsStr>(words: &'a [S]) -> Option<&'a str>
+    ensures { IfSome result (λ _. (names : List Text)
+        → words_refusal names (map S.text words.entry.now) ≡ Some UnknownArgument) }
+{
+    match words {
+        [_, typed @ ..] => first_unknown(typed),
+        [] => None,
+    }
+}
+
+// Returns the first unknown option with two hyphens of the words after the name of the program.
+fn first_unknown<'a, S: AsStr>(typed: &'a [S]) -> Option<&'a str>
+    ensures { IfSome result (λ _. (names : List Text) (name : Option Text)
+        → refusal_from names (map S.text typed.entry.now) false name ≡ Some UnknownArgument) }
+{
+    let [first, others @ ..] = typed else {
+        return None;
+    };
+    let word = first.as_str();
+    match word {
+        "-" => first_unknown(others),
+        _ if is_unknown_option(word) => Some(word),
+        _ if word.as_bytes().starts_with(b"-") => None,
+        _ => first_unknown(others),
+    }
+}
+
+// Returns the refusal of an unknown option, in the form of clap's.
+fn refused_option(alloc: Global, program: &Program, word: &str) -> Result<Error, AllocError>
+    ensures { IfOk result (λ error. kind_of error ≡ ErrorKind.UnknownArgument) }
+{
+    let message = format!(in alloc; "unexpected argument '{word}' found")?;
+    let mut command = Command::new(alloc, program.name).override_usage(program.usage);
+    command.error(ErrorKind::UnknownArgument, message.as_str())
 }
 
 // Parses the words with clap. Returns matches with the name of a command as the value of `command`, or clap's refusal.
@@ -83,6 +136,9 @@ where
     ensures refused { IfErr result (λ error. (kind_of error ≡ ErrorKind.OutOfMemory)
         ⊎ (words_refusal (commands_of program.now) (map S.text words.now) ≡ Some (kind_of error))) }
 {
+    if let Some(word) = unknown_option(words) {
+        return Err(refused_option(alloc, program, word)?);
+    }
     let values = hidden_values(alloc, program)?;
     let matches = matches_of_words(alloc, program, values.as_slice(), words)?;
     Ok(matches.get_one::<C>("command").unwrap())

@@ -1,6 +1,6 @@
-use Rattle.std.proofs.Common.{map}
+use Rattle.std.proofs.Common.{map, inr, rules}
 use Rattle.crib_command.specs.Command.{commands_of}
-use Rattle.crib_command.proofs.CommandLemmas.{none_taken, some_command}
+use Rattle.crib_command.proofs.CommandLemmas.{none_taken, not_taken, some_command}
 use Rattle.crib_command.proofs.command.command_of.Goals as goal
 
 pub unwrap-requires : goal.unwrap-requires
@@ -19,3 +19,8 @@ returns-in_err-matches-clause-taken g c =
     let failed = c.from_residual-in_err-matches in
     none_taken (commands_of c.args.program.now) (map g.S.AsStr.text c.args.words.now) failed.result c.in_err-matches.field-0.0 c.requires.plain
     failed.ensures.1 c.in_err-matches.ensures.refused
+
+pub returns-in-Some-clause-taken : goal.returns-in-Some-clause-taken
+returns-in-Some-clause-taken g c =
+    not_taken (commands_of c.args.program.now) (map g.S.AsStr.text c.args.words.now) c.in_ok-refused_option.field-0 c.requires.plain
+    (inr (search rules))

@@ -18,7 +18,6 @@ from typing import NoReturn
 
 ROOT = Path(__file__).resolve().parent.parent
 CRATES = ROOT / "crates"
-THEOREM = ("crib_answer", "answer_to")  # the call that the headline is about: its crate and name
 NAME = re.compile(r"(?<![\w.])[^\W\d][\w'-]*(?:\.[\w'-]+)?|>>=|←")
 IMPORT = re.compile(
     r"^ *(?:pub )?(?:ghost )?use (?:Rattle\.(\w+)\.(specs|proofs)\.)?([\w.]+?)(?:\.\{([^}]*)\}| as (\w+))?;?$", re.M

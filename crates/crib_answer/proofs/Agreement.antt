@@ -68,18 +68,18 @@ found_plan_law input reply more answers e =
 
 pub failed_game_law : FailedGameLaw
 failed_game_law input reply result text answers e =
-    let failed = fails_law input reply result text answers e in
+    let failed = (fails_law input reply result text answers e).0 in
     let problem = failed.problem in
     let plan = failed.plan in
     let game = failed.game in
-    let of_game = failed.first.failing.of_game.of_game in
+    let of_game = failed.failing.of_game.of_game in
     let setup = failed.spelled.problem_is in
     let read = ending_spelled (input ++ text) problem plan game result (record {
       problem_is = setup;
       plan_is = failed.spelled.plan_is;
-      game_is = recorded_game problem game failed.first.failing.played setup (six_is problem game.opp of_game.deal) of_game;
+      game_is = recorded_game problem game failed.failing.played setup (six_is problem game.opp of_game.deal) of_game;
       text = λ i. failed.spelled.text i ++ failed.game_is i;
-    }) (failing_followed problem plan setup game result failed.first.failing) in
+    }) (failing_followed problem plan setup game result failed.failing) in
     ap (reply_by ending_reply) (sym read)
 
 -- ---- the report of a game

@@ -34,7 +34,7 @@ verdict_means input problem plan Holds spelled right = (
   refl,
 )
 verdict_means input problem plan (Fails result game) spelled right =
-    (result, game_text game, record { problem = problem; plan = plan; game = game; spelled = spelled; game_is = refl; first = right }, refl)
+    (result, game_text game, record { problem = problem; plan = plan; game = game; spelled = spelled; game_is = refl; failing = right.failing }, refl)
 
 check_means : (input : List ℕ) (said : Result (Setup × List Node) Refusal) (reply : Reply) → question_of_input input ≡ said → AnswersCheck said reply
     → Checks input reply

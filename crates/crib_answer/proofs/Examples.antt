@@ -32,7 +32,7 @@ use Rattle.crib_answer.specs.Laws.{IsAccepted, outcome_with}
 use Rattle.crib_input.specs.Input.{most_bytes, problem_of_input, question_of_input}
 use Rattle.crib_input.specs.Spelled.{SpellsProblem, SpellsPlan}
 use Rattle.crib_input.proofs.EmptyExamples.{no_plan_in_nothing, no_problem_in_nothing}
-use Rattle.crib_check.specs.Failing.{IsFirstFailing}
+use Rattle.crib_check.specs.Failing.{IsFailing}
 use Rattle.crib_answer.specs.Meaning.{HasFailingPlan, HasSurePlan, HasSomePlan, IsSolvedBy, HasNoPlan}
 use Rattle.crib_answer.specs.Meaning.{CheckMeans, SolveMeans, StatusMeans, holds_line, fails_line, none_line}
 
@@ -61,7 +61,7 @@ pub longest_input : most_bytes ≡ 8388608
 longest_input = refl
 
 -- ---- the lines
--- no first failing game has the ending open or reached, but `follow` writes these words
+-- no failing game has the ending open or reached, but `follow` writes these words
 pub lines_of_endings : map fails_line (ending.Stuck ∷ ending.Lost ∷ ending.Short ∷ ending.Open ∷ ending.Reached ∷ [])
     ≡ codes "fails stuck\n" ∷ codes "fails lost\n" ∷ codes "fails short\n" ∷ codes "fails open\n" ∷ codes "fails reached\n" ∷ []
 lines_of_endings = refl
@@ -111,9 +111,9 @@ pub a_failing_plan_fails : (game : Game) (input : List ℕ) → HasFailingPlan i
     CheckMeans input (codes "fails short\n" ++ game_text game) No
 a_failing_plan_fails game input has = (ending.Short, game_text game, has, refl)
 
-pub first_failing_game_is_written : (input : List ℕ) (result : Ending) → HasFailingPlan input result [] → ⊥
+pub failing_game_is_written : (input : List ℕ) (result : Ending) → HasFailingPlan input result [] → ⊥
 unfolding game_text game_lines
-first_failing_game_is_written input result has = (let text = has.game_is in cc)
+failing_game_is_written input result has = (let text = has.game_is in cc)
 
 -- a yes of `check` says that the plan of the input is sure, and a no of `solve` that the input has none
 pub yes_means_a_sure_plan : (input : List ℕ) →
@@ -122,11 +122,11 @@ pub yes_means_a_sure_plan : (input : List ℕ) →
     × (SolveMeans input (codes "none\n") No ≡ (HasNoPlan input × (codes "none\n" ≡ codes "none\n")))
 yes_means_a_sure_plan input = (refl, refl, refl)
 
--- no first failing game without an input that spells a plan, or without its being the first
-pub no_failing_plan_without_a_first_game : (input text : List ℕ) →
-    ((problem : Setup) (plan : List Node) (game : Game) → IsFirstFailing problem plan game ending.Short → ⊥) →
+-- no failing plan without a failing game
+pub no_failing_plan_without_a_failing_game : (input text : List ℕ) →
+    ((problem : Setup) (plan : List Node) (game : Game) → IsFailing problem plan game ending.Short → ⊥) →
     HasFailingPlan input ending.Short text → ⊥
-no_failing_plan_without_a_first_game input text none is = none is.problem is.plan is.game is.first
+no_failing_plan_without_a_failing_game input text none is = none is.problem is.plan is.game is.failing
 
 pub want_of_memory : (input : List ℕ) → CheckMeans input (codes "fault 11\n") Fault × SolveMeans input (codes "fault 11\n") Fault
 unfolding digits

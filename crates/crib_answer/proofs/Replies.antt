@@ -110,15 +110,17 @@ holds_law input reply answers e =
 
 pub fails_law : FailsLaw
 fails_law input reply result text answers e =
-    let failed = failed_by_output (question_of_input input) reply result text answers e in
-    record {
-      problem = failed.question.0;
-      plan = failed.question.1;
-      game = failed.game;
-      spelled = question_accepted input failed.question failed.asked;
-      game_is = failed.text_is;
-      first = failed.first;
-    }
+    let failed = failed_by_output (question_of_input input) reply result text answers e in (
+      record {
+        problem = failed.question.0;
+        plan = failed.question.1;
+        game = failed.game;
+        spelled = question_accepted input failed.question failed.asked;
+        game_is = failed.text_is;
+        failing = failed.first.failing;
+      },
+      failed.first,
+    )
 
 pub either_law : EitherLaw
 either_law input problem plan reply spelled answers = by (rw (question_spelled input problem plan spelled) at answers)

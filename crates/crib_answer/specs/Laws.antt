@@ -64,7 +64,8 @@ HoldsLaw =
 abbrev pub FailsLaw : Type 0
 FailsLaw =
     (input : List ℕ) (reply : Reply) (result : Ending) (text : List ℕ) → Answers Check input reply →
-    reply.output ≡ fails_line result ++ text → HasFailingPlan input result text
+    reply.output ≡ fails_line result ++ text →
+    (fails : HasFailingPlan input result text) × IsFirstFailing fails.problem fails.plan fails.game result
 
 -- if an input spells a problem and a plan, each right reply is `holds`, or `fails` with an ending and a game
 abbrev pub EitherLaw : Type 0

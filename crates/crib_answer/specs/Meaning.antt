@@ -9,7 +9,7 @@ use Rattle.crib_game.specs.declared.section.game.Game.{Game}
 use Rattle.crib_game.specs.declared.following.ending.Ending.{Ending}
 use Rattle.crib_game.specs.Spelling.{game_text}
 use Rattle.crib_sure.specs.Sure.{IsSure, GoesOn, Ends}
-use Rattle.crib_check.specs.Failing.{IsFirstFailing}
+use Rattle.crib_check.specs.Failing.{IsFailing}
 use Rattle.crib_search.specs.Winnable.{IsWinnable}
 use Rattle.crib_input.specs.Spelled.{SpellsProblem, SpellsPlan}
 use Rattle.crib_answer.specs.declared.job.Job.{Job}
@@ -30,15 +30,14 @@ pub record HasSurePlan (input : List ℕ) : Type 0 where
   pub goes_on : GoesOn problem plan
   pub ends : Ends problem
 
--- an input spells a problem and a plan, and `text` is the text of the first failing game of the plan. This game has the
--- ending `result`
+-- an input spells a problem and a plan, and `text` is the text of a failing game of the plan with the ending `result`
 pub record HasFailingPlan (input : List ℕ) (result : Ending) (text : List ℕ) : Type 0 where
   pub problem : Setup
   pub plan : List Node
   pub game : Game
   pub spelled : SpellsPlan input problem plan
   pub game_is : text ≡ game_text game
-  pub first : IsFirstFailing problem plan game result
+  pub failing : IsFailing problem plan game result
 
 -- an input spells a problem, and `text` is the text of a plan that is sure for this problem. The play goes on until the
 -- deal is done
@@ -69,7 +68,7 @@ pub record HasSomePlan (input : List ℕ) : Type 0 where
 abbrev pub holds_line : List ℕ
 holds_line = line_text (codes "holds" ∷ [])
 
--- the line that says that a plan fails, with the ending of its first failing game
+-- the line that says that a plan fails, with the ending of a failing game
 abbrev pub fails_line : Ending → List ℕ
 fails_line result = line_text (codes "fails" ∷ ending_word result ∷ [])
 
@@ -80,8 +79,8 @@ none_line = line_text (codes "none" ∷ [])
 -- ---- what the text and the status guarantee
 
 -- what the reply of `check` guarantees, by its status. Yes: the text is `holds`, and the plan is sure. No: the text is
--- `fails`, the ending and the first failing game of the plan. Refused: the input spells no problem and plan. Fault: the
--- text says that an allocation failed
+-- `fails`, the ending and a failing game of the plan. Refused: the input spells no problem and plan. Fault: the text
+-- says that an allocation failed
 abbrev pub CheckMeans : List ℕ → List ℕ → Status → Type 0
 CheckMeans input text Yes = HasSurePlan input × (text ≡ holds_line)
 CheckMeans input text No =

@@ -26,7 +26,7 @@ use std::alloc::Allocator;
 ///   plan are not refused. `solve` and `board` ask for it only if the input is not refused.
 /// - `means`: the status and the text mean this for the input:
 ///   - `check`, `Yes`: the text is `holds`, and the plan of the input is sure.
-///   - `check`, `No`: the text is `fails`, the ending, and the first failing game of the plan.
+///   - `check`, `No`: the text is `fails`, the ending, and a failing game of the plan. By `answers` it is the first.
 ///   - `solve`, `Yes`: the text is a plan that is sure for the problem of the input.
 ///   - `solve`, `No`: the text is `none`, and no plan is sure for the problem of the input.
 ///   - `Refused`: the bytes spell no problem and plan (`check`), or no problem (`solve`).

@@ -233,15 +233,15 @@ class Definition:
                 yield *self.spans[n], side
 
 
-def changes_of(sources: Sources, module: Module, wanted: set[str]) -> Iterator[Change]:
-    """The changes of the wanted definitions of a module, each new text once."""
+def changes_of(sources: Sources, module: Module) -> Iterator[Change]:
+    """The changes of the definitions of a module, each new text once."""
     text, at, seen = sources.texts[module], 0, set()
     header = Header(sources, module)
     for block in paragraphs(text):
         at = text.index(block, at)
         names = declared_names(block)
         is_definition = re.search(r"^(?:abbrev|unfoldable|pub record) ", block, re.M)  # no import, data or lemma
-        its = Definition(header, block, names[0]).edits() if is_definition and wanted & {*names} else ()
+        its = Definition(header, block, names[0]).edits() if is_definition else ()
         for start, end, new in its:
             changed = block[:start] + new + block[end:]
             if changed not in seen and changed != block:

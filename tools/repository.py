@@ -21,7 +21,7 @@ CRATES = ROOT / "crates"
 THEOREM = ("crib_answer", "answer_to")  # the call that the headline is about: its crate and name
 NAME = re.compile(r"(?<![\w.])[^\W\d][\w'-]*(?:\.[\w'-]+)?|>>=|←")
 IMPORT = re.compile(
-    r"^ *(?:pub )?(?:ghost )?use (?:Rattle\.(\w+)\.(specs|proofs)\.)?([\w.]+?)(?:\.\{([^}]*)\}| as (\w+))?;?$", re.M
+    r"^ *(?:pub )?(?:ghost )?use (?:Rattle\.(\w+)\.(specs|proofs)\.)?([\w.+]+?)(?:\.\{([^}]*)\}| as (\w+))?;?$", re.M
 )
 ITEM = re.compile(  # a type or a view of Rust: to its semicolon, or to the brace that closes it
     r"^((?:(?:pub(?:\(\w+\))? )?(?:struct|enum|trait) (\w+)|impl.* Model for (\w+))(?:.*[;}] *$|(?s:.*?)^\}.*$))", re.M

@@ -31,7 +31,6 @@ NAMES = ", ".join(map("".join, re.findall(r"^(?:pub use \S+\.\{(.*)\}|abbrev pub
 HOMES = {word.strip("◌"): f"use Rattle.pins.specs.Changed.{{{word}}}" for word in NAMES.split(", ")}  # their imports
 TOKEN = re.compile(r"\"[^\"]*\"|--[^\n]*|[\w'◌]+(?:\.[\w']+)*|\s+|∷|\+\+|&&|\|\||==|[^\s\w]")
 NESTED = r"\((?:[^()]|\((?:[^()]|\((?:[^()]|\([^()]*\))*\))*\))*\)"  # what is in brackets, four deep
-ARGUMENT = re.compile(rf"\s+(?!(?:then|else|of)\b)([\w'◌]+(?:\.[\w']+)*|{NESTED})")
 PARTS = {sign: re.compile(rf"(?:{NESTED}|\{{[^}}]*\}}|[^{sign}(){{}}])+") for sign in "×→⊎"}  # none is in brackets
 CLAUSE = re.compile(r"(?!\(\w+ :.*\)$|List |Option )[¬(A-Z](?s:.*) [a-z(]")
 ATOMIC = re.compile(r"[≡≤<]|\bIs(?:True|False)\b")  # a clause that is dropped by a change of one of its words
@@ -120,16 +119,15 @@ class Definition:
     """A declaration: its text, and the types of its signature. A kind of change is a method that yields its edits."""
 
     def __init__(self, header: Header, block: str, name: str) -> None:
-        self.header, self.block, self.spans = header, block, sides_of(block)
+        self.header, self.block = header, block
         self.types = header.signatures.get(name) or ("",)
 
     def edits(self) -> Iterator[Edit]:
         kinds = (self.of_words, self.of_clauses, self.of_arguments, self.of_rests, self.of_steps, self.given_up)
-        yield from (edit for span in self.spans for kind in kinds for edit in kind(*span))
-        yield from self.neighbours()
+        yield from (edit for span in sides_of(self.block) for kind in kinds for edit in kind(*span))
 
     def of_words(self, start: int, end: int) -> Iterator[Edit]:
-        """Each word for another one, each condition denied, and each call with two arguments exchanged."""
+        """Each word for another one, and each condition denied, always true and never."""
         tokens = [found for found in TOKEN.finditer(self.block, start, end) if not re.match(r"\s|--", found[0])]
         texts = ["", *(found[0] for found in tokens), ""]
         for n, (before, found, after) in enumerate(zip(texts, tokens, texts[2:])):
@@ -142,7 +140,6 @@ class Definition:
                 span = found.end(), tokens[n + [*depths].index(0)].start()
                 denied = f" not ({self.block[slice(*span)].strip()}) "
                 yield from ((*span, new) for new in (denied, " true ", " false "))
-            yield from self.exchanged(found.end(), end, self.header.signatures.get(token, ()))
 
     def others(self, found: re.Match[str], before: str) -> Iterator[str]:
         """What may replace a word: another word, one more or less, another last letter, another field."""
@@ -157,29 +154,21 @@ class Definition:
         if value and token not in self.header.turned:
             yield from (f"{value}.{other}" for other in sorted(self.header.fields.get(field, ())))
 
-    def exchanged(self, at: int, end: int, types: tuple[str, ...]) -> Iterator[Edit]:
-        """A call with two neighbouring arguments of one type, each in the place of the other."""
-        spans: list[tuple[int, int]] = []
-        while found := ARGUMENT.match(self.block, spans[-1][1] if spans else at, end):
-            spans.append(found.span(1))
-        for first, second, one, other in zip(spans, spans[1:], types[:-1], types[1:-1]):
-            if one == other:
-                texts = [self.block[slice(*its)] for its in (second, (first[1], second[0]), first)]
-                yield first[0], second[1], "".join(texts)
-
-    def patterns(self, start: int) -> list[tuple[str, str]]:
-        """The patterns before a side, each with its type."""
+    def patterns(self, start: int, end: int) -> list[tuple[str, str]]:
+        """The patterns before a side, each with its type; and the values of its steps, as if of one type."""
         head = self.block[self.block.rfind("\n", 0, start) + 1 : start].rstrip(" =")
-        return [*zip(re.findall(r"\((?:[^()]|\([^()]*\))*\)|\S+", head)[1:], self.types)]
+        steps = re.findall(r"^ +(?!_)(\w+) ←", self.block[start:end], re.M)
+        found = zip(re.findall(r"\((?:[^()]|\([^()]*\))*\)|\S+", head)[1:], self.types)
+        return [*found, *((step, "step") for step in steps)]
 
     def uses(self, name: str, start: int, end: int, fields: str = ".") -> list[tuple[int, int]]:
         """Where a name is in a side, and neither in a text nor as a field. Its fields count if `fields` is empty."""
-        found = re.finditer(rf"(?<![\w.'\"]){name}(?![\w'\"{fields}]| = )", self.block[start:end])
+        found = re.finditer(rf"(?<![\w.'\"]){name}(?![\w'\"{fields}]| [=←] )", self.block[start:end])
         return [(start + use.start(), start + use.end()) for use in found]
 
     def of_arguments(self, start: int, end: int) -> Iterator[Edit]:
         """Each use of an argument for another one of its type, with one more, or of a list as another list."""
-        patterns = [(one, kind) for one, kind in self.patterns(start) if one.isidentifier()]
+        patterns = [(one, kind) for one, kind in self.patterns(start, end) if one.isidentifier()]
         for one, kind in patterns:
             others = [other for other, its in patterns if its == kind and other != one]
             yield from ((*at, others[0]) for at in self.uses(one, start, end, "") if others)
@@ -190,19 +179,17 @@ class Definition:
 
     def of_rests(self, start: int, end: int) -> Iterator[Edit]:
         """Each use of the rest of a list with its first item."""
-        for pattern, _ in self.patterns(start):
+        for pattern, _ in self.patterns(start, end):
             if named := re.fullmatch(r"\((?:.* ∷ )?([^∷]+ ∷ (\w+))\)", pattern):
                 yield from ((*at, f"({named[1]})") for at in self.uses(named[2], start, end))
 
     def of_steps(self, start: int, end: int) -> Iterator[Edit]:
-        """Of steps after one another: one that only refuses passes, and later the value of one is that of another."""
+        """Of steps after one another: one that only refuses passes, and two in the other order."""
         steps = [*re.compile(r"^ +(\w+) ← (.*)\n", re.M).finditer(self.block, start, end)]
         yield from ((*step.span(2), "Ok tt") for step in steps if step[1] == "_")
-        named = [step for step in steps if step[1] != "_"]
-        for step, later in zip(named, named[1:]):
-            for one, other in ((step[1], later[1]), (later[1], step[1])):
-                uses = self.uses(one, later.end(), end, "")
-                yield from ((*at, other) for at in uses if self.block.startswith(".", at[1]))
+        for step, after in zip(steps, steps[1:]):
+            if step.end() == after.start() and not re.search(rf"\b{step[1]}\b", after[2]):
+                yield step.start(), after.end(), after[0] + step[0]
 
     def of_clauses(self, start: int, end: int) -> Iterator[Edit]:
         """A clause or premise that always holds, unless a change of a word drops it; an alternative that never does."""
@@ -220,17 +207,6 @@ class Definition:
         for new in WORDS["body"].get(result) or WORDS["body"].get(result.split(" ")[0], []):
             if body not in (new, "Unit {0}", "true", "false"):
                 yield start, end, f" {new}"
-
-    def neighbours(self) -> Iterator[Edit]:
-        """Each right side of several for the next one's."""
-        if len(self.spans) < 2 or re.search(r"^pub record ", self.block, re.M):
-            return
-        heads = [self.block[self.block.rfind("\n", 0, start) + 1 : start] for start, _ in self.spans]
-        bound = [{*re.findall(r"\b[a-z]\w*", head)} for head in heads]
-        for n, other in enumerate([*range(1, len(self.spans)), len(self.spans) - 2]):
-            side = self.block[slice(*self.spans[other])]
-            if {*re.findall(r"\b[a-z]\w*", side)} & bound[other] <= bound[n]:
-                yield *self.spans[n], side
 
 
 def changes_of(sources: Sources, module: Module) -> Iterator[Change]:

@@ -7,6 +7,7 @@ unfolds is marked `unfoldable`, or its copy beside a changed definition can't un
 """
 
 import re
+import tomllib
 from collections import defaultdict
 from collections.abc import Iterable
 from functools import cache
@@ -18,16 +19,8 @@ from repository import Source, reached, without_remarks
 
 PATH = re.compile(r"\bRattle\.(\w+)\.(specs|proofs)\.(\w+(?:\.\w+)*)")
 WORD = re.compile(r"(?<!\S)([^\s\w]+)(?!\S)|((([\w'-]+)(?:\.[\w'-]+)?)(?:\.[\w'-]+)*)")  # or a name's beginnings
-LIBRARY = (ROOT / "tools/library.txt").read_text()  # types of the library, as antt has them
+LIBRARY = tomllib.loads((ROOT / "tools/library.txt").read_text())
 USES = "use Rattle.pins.specs.Library.{ℕ, Bool, List, Option, Bor, ArrayVec, Vec}"  # of each declared type
-FORMS = {  # types of Rust, and how antt has them
-    r"u\d+|usize": "ℕ",
-    r"bool": "Bool",
-    r"str": "List ℕ",
-    r"&(?:'\w+ )?(.*)": "Bor {}",
-    r"\[(.*?)(?:; .*)?\]": "List {}",
-    **{rf"{name}<(\w+)(?:, \w+)?>": name + " {}" for name in ("Option", "ArrayVec", "Vec")},
-}
 
 Module = tuple[str, str, str]  # `specs` or `proofs`, the crate, the module
 
@@ -67,7 +60,7 @@ class Declared:
         rust = self.others.get(rust.strip(), rust.strip())
         if len(rust) == 1:  # it is a parameter
             return rust
-        for form, antt in FORMS.items():
+        for form, antt in LIBRARY["forms"].items():
             if found := re.fullmatch(form, rust):
                 inner = self.type_in_antt(crate, found[1], uses) if "{}" in antt else ""
                 return antt.format(f"({inner})" if " " in inner else inner)

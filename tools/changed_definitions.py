@@ -79,8 +79,7 @@ class Sources:
 
 
 class Header:
-    """What the imports of a module name: its names, their signatures, and what a name may turn into: the next variant
-    without a value, or the next definition with the same signature."""
+    """What the imports of a module name, and what a name may turn into: the next variant, or one of its signature."""
 
     def __init__(self, sources: Sources, module: Module) -> None:
         self.fields, self.names, self.homes = sources.fields, set[str](), dict(HOMES)

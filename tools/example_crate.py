@@ -17,7 +17,7 @@ from pathlib import Path
 from repository import CRATES, ROOT, code_files, declared_names, imports_of, is_of_examples, paragraphs, place_of
 from repository import Source, reached, without_remarks
 
-PATH = re.compile(r"\bRattle\.(\w+)\.(specs|proofs)\.(\w+(?:\.\w+)*)")
+PATH = re.compile(r"\bRattle\.(crib\w*)\.(specs|proofs)\.(\w+(?:\.\w+)*)")
 WORD = re.compile(r"(?<!\S)([^\s\w]+)(?!\S)|((([\w'-]+)(?:\.[\w'-]+)?)(?:\.[\w'-]+)*)")  # or a name's beginnings
 LIBRARY = tomllib.loads((ROOT / "tools/library.txt").read_text())
 USES = "use Rattle.pins.specs.Library.{ℕ, Bool, List, Option, Bor, ArrayVec, Vec}"  # of each declared type
@@ -170,13 +170,7 @@ def gathered(wanted: set[Module]) -> dict[Module, str]:
 
 def renamed(text: str, front: dict[Module, str]) -> str:
     """A text with the names of this one crate; modules in `front` are below a name of their own."""
-
-    def new_name(found: re.Match[str]) -> str:
-        crate, kind, name = found.groups()
-        its = f"Rattle.pins.{kind}.{front.get(module_of(crate, kind, name), '')}{crate}.{name}"
-        return its if (CRATES / crate / "specs").is_dir() else found[0]
-
-    return PATH.sub(new_name, text)
+    return PATH.sub(lambda found: found.expand(rf"Rattle.pins.\2.{front.get(module_of(*found.groups()), '')}\1.\3"), text)
 
 
 def with_nodes(files: dict[str, str]) -> dict[str, str]:

@@ -92,8 +92,7 @@ def code_lines(lines: list[str]) -> list[str]:
 
 
 class Block:
-    """A definition, a type with its view, or the head of a function: its file, its name, its lines, the names in them,
-    its text with comments, and of a definition what its comment says."""
+    """A definition, a type with its view, or the head of a function: its text, the lines that count, and their names."""
 
     def __init__(self, path: Path, name: str, lines: list[str]) -> None:
         self.path, self.name, self.text, self.lines = path, name, lines, code_lines(lines)
@@ -182,8 +181,7 @@ def type_blocks(path: Path) -> list[tuple[str, Block]]:
 
 
 class Function(namedtuple("Function", "path name owner is_pub within lines body")):
-    """A function of src, or a ghost member: its name, the type or trait that it belongs to, whether it is `pub`, what
-    block it is in (`impl`, `trait` or `for`), and the lines of its head and of its body."""
+    """A function of src, or a ghost member, in a block `impl`, `trait` or `for`, with the lines of its head and body."""
 
     @property
     def is_ghost(self) -> bool:
@@ -265,8 +263,7 @@ class Source:
         """The types that the names of a file of src may be: those it imports, else its crate's, else any crate's."""
         found = {name: block for its in (*self.types.values(), self.types[crate]) for name, block in its.items()}
         for its, names in re.findall(r"^use (\w+)::([^;]*);", text, re.M):
-            imported = {*re.findall(r"\w+", names)}
-            found |= {name: block for name, block in self.types.get(its, {}).items() if name in imported}
+            found |= {name: self.types[its][name] for name in re.findall(r"\w+", names) if name in self.types[its]}
         return found
 
     def add_import(self, found: dict[str, Block], one: Import) -> None:

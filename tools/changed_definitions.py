@@ -2,15 +2,16 @@
 
 The kinds:
 - a bound: one number more or less, `<` for `≤`, `≤` for `=`, no bound, a list longer or shorter by one;
-- what may follow: a step of reading dropped, a list without its first or last item, a case with its neighbour's body;
-- which refusal, with which line: another number, or the value of another step;
-- which side, score or end of a list: a side turned, a field, an argument or a definition exchanged with one of its
-  type, a list from behind or not reversed, a list before its first item;
+- what may follow: a step of reading dropped, a list without its first or last item;
+- which of two refusals, with which line: two steps in the other order, another number, the value of another step;
+- which side, score or end of a list: a side turned, a field, an argument or a definition replaced by one of its type, a
+  list from behind or not reversed, a list before its first item;
 - repetition: an item put in twice, a list without what it repeats;
 - what widens: a clause, premise or filter dropped, an alternative that always holds or never, a condition denied,
   always true or never, a body that looks at nothing.
-Not made: two steps or two conditions in the other order, a list sorted, and a list after its first item. They are few,
-or an example seldom notices them without noticing another change there.
+No longer made are two conditions in the other order and a list without the item just taken, which are few; a list
+sorted, which is noticed like one from behind; a case with its neighbour's body, which is noticed like one that looks at
+nothing; and two arguments exchanged, which is noticed like either of them in the place of both, or equal in meaning.
 
 What may replace what is read from the sources: the variants of a type, the fields of a record, the signatures of the
 definitions. Words of the library, and those that a change puts in, are in changed_words.txt.
@@ -184,11 +185,11 @@ class Definition:
 
     def of_steps(self, start: int, end: int) -> Iterator[Edit]:
         """Of steps after one another: one that only refuses passes, and two in the other order."""
-        steps = [*re.compile(r"^ +(\w+) ← (.*)\n", re.M).finditer(self.block, start, end)]
+        steps = [*re.compile(r"^ +(\w+) ← (.*)", re.M).finditer(self.block, start, end)]
         yield from ((*step.span(2), "Ok tt") for step in steps if step[1] == "_")
         for step, after in zip(steps, steps[1:]):
-            if step.end() == after.start() and not re.search(rf"\b{step[1]}\b", after[2]):
-                yield step.start(), after.end(), after[0] + step[0]
+            if step.end() + 1 == after.start() and not re.search(rf"\b{step[1]}\b", after[2]):
+                yield step.start(), after.end(), f"{after[0]}\n{step[0]}"
 
     def of_clauses(self, start: int, end: int) -> Iterator[Edit]:
         """A clause or premise that always holds, unless a change of a word drops it; an alternative that never does."""

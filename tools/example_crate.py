@@ -170,7 +170,8 @@ def gathered(wanted: set[Module]) -> dict[Module, str]:
 
 def renamed(text: str, front: dict[Module, str]) -> str:
     """A text with the names of this one crate; modules in `front` are below a name of their own."""
-    return PATH.sub(lambda found: found.expand(rf"Rattle.pins.\2.{front.get(module_of(*found.groups()), '')}\1.\3"), text)
+    fronts = defaultdict(str, front)
+    return PATH.sub(lambda found: found.expand(rf"Rattle.pins.\2.{fronts[module_of(*found.groups())]}\1.\3"), text)
 
 
 def with_nodes(files: dict[str, str]) -> dict[str, str]:

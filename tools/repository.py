@@ -92,7 +92,7 @@ def code_lines(lines: list[str]) -> list[str]:
 
 
 class Block:
-    """A definition, a type with its view, or the head of a function: its text, the lines that count, and their names."""
+    """A definition, a type with its view, or a function's head: its text, the lines that count, and their names."""
 
     def __init__(self, path: Path, name: str, lines: list[str]) -> None:
         self.path, self.name, self.text, self.lines = path, name, lines, code_lines(lines)
@@ -181,7 +181,7 @@ def type_blocks(path: Path) -> list[tuple[str, Block]]:
 
 
 class Function(namedtuple("Function", "path name owner is_pub within lines body")):
-    """A function of src, or a ghost member, in a block `impl`, `trait` or `for`, with the lines of its head and body."""
+    """A function of src, or a ghost member, within `impl`, `trait` or `for`, with the lines of its head and body."""
 
     @property
     def is_ghost(self) -> bool:

@@ -40,14 +40,7 @@ SETS = WORDS["same"].pop("sets")
 SAME = {new: re.compile(rf"\b(?:{'|'.join(words)}){BEFORE_A_LIST}") for new, words in WORDS["same"].items()}
 
 Edit = tuple[int, int, str]  # from where to where, and the new text
-
-
-class Change(namedtuple("Change", "module name line text")):
-    """One change: the module, the definition, the changed line, and the module's text with the change."""
-
-    @property
-    def key(self) -> str:
-        return f"{self.module[1]}.{self.module[2]} {self.name}: {self.line}"
+Change = namedtuple("Change", "module name line text key")  # the changed line, the module's text with it, and a name
 
 
 def followers(kinds: Iterable[tuple[str, object]]) -> dict[str, str]:
@@ -223,5 +216,6 @@ def changes_of(sources: Sources, module: Module) -> Iterator[Change]:
             if changed not in seen and changed != block:
                 seen.add(changed)
                 line = changed[changed.rfind("\n", 0, start) + 1 : start] + new + block[end:].split("\n")[0]
+                line = " ".join(line.split())
                 whole = header.with_import(text[:at] + changed + text[at + len(block) :], new)
-                yield Change(module, names[0], " ".join(line.split()), whole)
+                yield Change(module, names[0], line, whole, f"{module[1]}.{module[2]} {names[0]}: {line}")

@@ -126,8 +126,7 @@ def crates() -> list[str]:
 
 def code_files(crate: str = "*") -> list[Path]:
     """The files of src of a crate, or of all crates, in folders too. Tests are left out: their folders and crates."""
-    paths = files(f"crates/{crate}/src/**/*.rt")
-    return [path for path in paths if "tests/" not in f"{path.relative_to(CRATES)}"]
+    return [path for path in files(f"crates/{crate}/src/**/*.rt") if "tests/" not in str(path.relative_to(CRATES))]
 
 
 def reached(roots: Iterable, below: Callable[..., Iterable]) -> list:

@@ -68,8 +68,8 @@ class Sources:
             signed = re.findall(r"^(?:abbrev |unfoldable )?pub ([\w'-]+) :((?:[^\n=]|\n +)*)$", text, re.M)
             signed += re.findall(r"^  (\w+) : (the_data)$", text, re.M)
             whole = {name: re.sub(r"\w+", lambda word: aliases.get(word[0], word[0]), its) for name, its in signed}
-            types = {name: PARTS["→"].findall(" ".join(its.split())) for name, its in whole.items()}
-            self.signatures[module] = {name: tuple(map(str.strip, its)) for name, its in types.items()}
+            types = {name: PARTS["→"].findall(its) for name, its in whole.items()}
+            self.signatures[module] = {name: tuple(" ".join(one.split()) for one in its) for name, its in types.items()}
 
 
 class Header:

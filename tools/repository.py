@@ -20,12 +20,11 @@ ROOT = Path(__file__).resolve().parent.parent
 CRATES = ROOT / "crates"
 THEOREM = ("crib_answer", "answer_to")  # the call that the headline is about: its crate and name
 NAME = re.compile(r"(?<![\w.])[^\W\d][\w'-]*(?:\.[\w'-]+)?|>>=|←")
-IMPORT = re.compile(
-    r"^ *(?:pub )?(?:ghost )?use (?:Rattle\.(\w+)\.(specs|proofs)\.)?([\w.+]+?)(?:\.\{([^}]*)\}| as (\w+))?;?$", re.M
-)
-ITEM = re.compile(  # a type or a view of Rust: to its semicolon, or to the brace that closes it
-    r"^((?:(?:pub(?:\(\w+\))? )?(?:struct|enum|trait) (\w+)|impl.* Model for (\w+))(?:.*[;}] *$|(?s:.*?)^\}.*$))", re.M
-)
+USED = r"(?:Rattle\.(\w+)\.(specs|proofs)\.)?([\w.+]+?)(?:\.\{([^}]*)\}| as (\w+))?"  # what an import names
+IMPORT = re.compile(rf"^ *(?:pub )?(?:ghost )?use {USED};?$", re.M)
+# A type or a view of Rust: to its semicolon, or to the brace that closes it.
+ITEM_HEAD = r"(?:pub(?:\(\w+\))? )?(?:struct|enum|trait) (\w+)|impl.* Model for (\w+)"
+ITEM = re.compile(rf"^((?:{ITEM_HEAD})(?:.*[;}}] *$|(?s:.*?)^\}}.*$))", re.M)
 
 
 def tell(tried: int, faults: Iterable[str]) -> NoReturn:
@@ -58,7 +57,6 @@ def rows(text: str) -> list[list[str]]:
 
 
 def fenced(text: str) -> list[str]:
-    """The fenced quotes of a page."""
     return re.findall(r"^```[^\n]*\n(.*?)^```$", text, re.M | re.S)
 
 
@@ -284,7 +282,3 @@ class Source:
         meanings = self.meanings(block.path)
         words = block.words | ({">>="} if "←" in block.words else set())
         return [*dict.fromkeys(self.instead.get(word, meanings[word]) for word in sorted(words) if word in meanings)]
-
-    def reached_from(self, roots: list[Block]) -> list[Block]:
-        """The definitions that some blocks reach, without these blocks."""
-        return reached(roots, self.cited)[len(roots) :]

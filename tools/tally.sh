@@ -1,8 +1,7 @@
 # shellcheck shell=bash
 # Counts what a script tries. `.ci/run`, the scripts of tools/ in bash, examples/run and recipes/test read this file
 # first. It makes the folder $room, which is gone at the end, with the file $said in it for what differs.
-passed=0
-failed=0
+passed=0 failed=0
 room=$(mktemp -d) || exit 1
 said=$room/said
 trap 'rm -rf "$room"' EXIT

@@ -20,7 +20,6 @@ from repository import Source, reached, without_remarks
 PATH = re.compile(r"\bRattle\.(crib\w*)\.(specs|proofs)\.(\w+(?:\.\w+)*)")
 WORD = re.compile(r"(?<!\S)([^\s\w]+)(?!\S)|((([\w'-]+)(?:\.[\w'-]+)?)(?:\.[\w'-]+)*)")  # or a name's beginnings
 LIBRARY = tomllib.loads((ROOT / "tools/library.txt").read_text())
-USES = "use Rattle.pins.specs.Library.{ℕ, Bool, List, Option, Bor, ArrayVec, Vec}"  # of each declared type
 
 Module = tuple[str, str, str]  # `specs` or `proofs`, the crate, the module
 
@@ -78,7 +77,7 @@ class Declared:
 
     def texts(self, crate: str, place: str) -> dict[str, str]:
         """The modules of a declared type: itself, and that of its variants if it is an enum."""
-        name, inner, uses = place.split(".")[-1], f"{place}.TheVariants", {USES}
+        name, inner, uses = place.split(".")[-1], f"{place}.TheVariants", {LIBRARY["uses"]}
         code = re.sub(r"#\[.*?\] ?|//.*", "", "\n".join(self.types[crate][name].text))
         head = r"(struct|enum) \w+(?:<(?:'\w+, )?([A-Z]\w*))?.*\n?((?s:.*?))(?:^\}|\Z)"
         kind, over, body = re.search(head, code, re.M).groups("")

@@ -52,8 +52,7 @@ def section(text: str, head: str) -> str:
 
 def rows(text: str) -> list[list[str]]:
     """The cells of each row of the tables in a text. A table's first row is its head."""
-    lines = re.findall(r"^\|(?!-)(.*)\|$", text, re.M)
-    return [[cell.strip() for cell in re.split(r"(?<!\\)\|", line)] for line in lines]
+    return [re.split(r" *(?<!\\)\| *", line.strip()) for line in re.findall(r"^\|(?!-)(.*)\|$", text, re.M)]
 
 
 def fenced(text: str) -> list[str]:
@@ -140,8 +139,7 @@ def reached(roots: Iterable, below: Callable[..., Iterable]) -> list:
 
 def exported(crate: str) -> set[str]:
     """The names that the `lib.rt` of a crate exports; of a program those that its files declare as `pub`."""
-    library = CRATES / crate / "src/lib.rt"
-    text = "\n".join(path.read_text() for path in ([library] if library.is_file() else code_files(crate)))
+    text = "\n".join(path.read_text() for path in files(f"crates/{crate}/src/lib.rt") or code_files(crate))
     found = re.findall(r"^pub use (?:\w+::)+(\{[^}]*\}|\w+);|^pub \w+ (\w+)", text, re.M)
     return {*re.findall(r"\w+", " ".join(map(" ".join, found)))}
 

@@ -7,27 +7,19 @@ unfolds is marked `unfoldable`, or its copy beside a changed definition can't un
 """
 
 import re
+import tomllib
 from collections import defaultdict
+from collections.abc import Iterable
 from functools import cache
 from itertools import chain
 from pathlib import Path
 
 from repository import CRATES, ROOT, code_files, declared_names, imports_of, is_of_examples, paragraphs, place_of
-from repository import reached, type_blocks, without_remarks
+from repository import Source, reached, without_remarks
 
-PATH = re.compile(r"\bRattle\.(\w+)\.(specs|proofs)\.(\w+(?:\.\w+)*)")
+PATH = re.compile(r"\bRattle\.(crib\w*)\.(specs|proofs)\.(\w+(?:\.\w+)*)")
 WORD = re.compile(r"(?<!\S)([^\s\w]+)(?!\S)|((([\w'-]+)(?:\.[\w'-]+)?)(?:\.[\w'-]+)*)")  # or a name's beginnings
-LIBRARY = (ROOT / "tools/library.txt").read_text()  # types of the library, as antt has them
-USES = "use Rattle.pins.specs.Library.{ℕ, Bool, List, Option, Bor, ArrayVec, Vec}"  # of each declared type
-FORMS = {  # types of Rust, and how antt has them
-    r"u8|u16|u32|u64|usize": "ℕ",
-    r"bool": "Bool",
-    r"&str": "Bor (List ℕ)",
-    r"&(?:mut )?\[([^;]*)(?:; .*)?\]": "Bor (List {})",
-    r"&(?:mut )?(\w+(?:<\w+>)?)": "Bor {}",
-    r"\[(\w+); [^;]*\]": "List {}",
-    **{rf"{name}<(\w+)(?:, \w+)?>": name + " {}" for name in ("Option", "ArrayVec", "Vec")},
-}
+LIBRARY = tomllib.loads((ROOT / "tools/library.txt").read_text())
 
 Module = tuple[str, str, str]  # `specs` or `proofs`, the crate, the module
 
@@ -58,37 +50,35 @@ class Declared:
     """The types that `src` declares, as antt has them."""
 
     def __init__(self) -> None:
-        self.types: dict[tuple[str, str], tuple[str, str]] = {}  # by crate and name: the module of src, and the text
-        self.others: dict[str, str] = {}  # another name of a type: the type
-        for path in (path for path in code_files() if path.stem != "tests"):
-            crate, module = place_of(path)
-            self.types |= {(crate, name): (module, "\n".join(block.text)) for name, block in type_blocks(path)}
-            self.others |= re.findall(r"^pub(?:\(\w+\))? type (\w+) = (.*);$", path.read_text(), re.M)
+        self.types = Source().types
+        other_name = re.compile(r"^pub(?:\(\w+\))? type (\w+) = (.*);$", re.M)
+        self.others = dict(chain.from_iterable(other_name.findall(path.read_text()) for path in code_files()))
 
     def type_in_antt(self, crate: str, rust: str, uses: set[str]) -> str:
         """A type of Rust as antt has it. Adds the imports for it."""
-        rust = re.sub(r"&'\w+ ", "&", self.others.get(rust.strip(), rust.strip()))
+        rust = self.others.get(rust.strip(), rust.strip())
         if len(rust) == 1:  # it is a parameter
             return rust
-        for form, antt in FORMS.items():
+        for form, antt in LIBRARY["forms"].items():
             if found := re.fullmatch(form, rust):
                 inner = self.type_in_antt(crate, found[1], uses) if "{}" in antt else ""
                 return antt.format(f"({inner})" if " " in inner else inner)
         name, _, over = rust.rstrip(">").partition("<")
-        if (crate, name) not in self.types:  # it is of the one crate that has it
-            crate = next(its for its, one in self.types if one == name and its.startswith("crib"))
-        module, text = self.types[crate, name]
+        if name not in self.types[crate]:  # it is of the one crate that has it
+            crate = next(its for its, types in self.types.items() if name in types and its.startswith("crib"))
+        block = self.types[crate][name]
+        text = "\n".join(block.text)
         if value := re.search(r"ghost Value = \{ (.*) \}", text):
             words, imports = {*re.findall(r"\w+", value[1])}, re.findall(r"ghost (use .*\{(.*)\});", text)
             uses.update(line for line, names in imports if words & {*re.findall(r"\w+", names)})
             return value[1]
-        uses.add(f"use Rattle.{crate}.specs.declared.{module}.{name}.{{{name}}}")
+        uses.add(f"use Rattle.{crate}.specs.declared.{place_of(block.path)[1]}.{name}.{{{name}}}")
         return f"{name} {over}".strip()
 
     def texts(self, crate: str, place: str) -> dict[str, str]:
         """The modules of a declared type: itself, and that of its variants if it is an enum."""
-        name, inner, uses = place.split(".")[-1], f"{place}.TheVariants", {USES}
-        code = re.sub(r"#\[.*?\] ?|//.*", "", self.types[crate, name][1])
+        name, inner, uses = place.split(".")[-1], f"{place}.TheVariants", {LIBRARY["uses"]}
+        code = re.sub(r"#\[.*?\] ?|//.*", "", "\n".join(self.types[crate][name].text))
         head = r"(struct|enum) \w+(?:<(?:'\w+, )?([A-Z]\w*))?.*\n?((?s:.*?))(?:^\}|\Z)"
         kind, over, body = re.search(head, code, re.M).groups("")
         parameter = f" ({over} : Type 0)" * bool(over)
@@ -97,9 +87,9 @@ class Declared:
             said = [f"  pub {field} : {self.type_in_antt(crate, rust, uses)}" for field, rust in fields]
             return {place: "\n".join([*sorted(uses), f"pub record {name}{parameter} : Type 0 where", *said, ""])}
         said = [f"pub data the_data{parameter} : Type 0 where"]
-        for variant, one, several in re.findall(r"(\w+)(?:\(([^()]*)\)| \{([^{}]*)\})?,", " ".join(body.split())):
-            held = re.split(r", (?![^<]*>)", one) if one else re.findall(r":([^,]*),", several + ",")
-            types = [f"{self.type_in_antt(crate, rust, uses)} → " for rust in held]
+        for variant, held in re.findall(r"(\w+)(?:(?:\(| \{ )([^(){}]*)[)}])?,", " ".join(body.split())):
+            parts = re.findall(r"(?:\w+: )?([^\s,<][^,<]*(?:<[^>]*>)?)", held)
+            types = [f"{self.type_in_antt(crate, rust, uses)} → " for rust in parts]
             said.append(f"  {variant} : {''.join(types)}the_data {over}".rstrip())
         outside = f"pub mod TheVariants\npub use Rattle.{crate}.specs.{inner}.{{the_data as {name}}}\n"
         return {place: outside, inner: "\n".join([*sorted(uses), *said, ""])}
@@ -110,18 +100,15 @@ class Parts:
 
     def __init__(self, module: Module, text: str) -> None:
         self.module, self.text, self.imports = module, text, [*imports_of(text)]
-        self.is_declared = module[2].startswith("declared.")
-        code = [without_remarks(block) for block in ([text] if self.is_declared else paragraphs(text))]
-        self.fixities = re.findall(r"^infix.*\n?", "\n".join(code), re.M)
-        self.blocks = [re.sub(r"^(?:use |infix).*\n?", "", block, flags=re.M) for block in code]
-        own = {module[2].split(".")[-1]} if self.is_declared else set()
+        is_declared = module[2].startswith("declared.")
+        code = [without_remarks(block) for block in ([text] if is_declared else paragraphs(text))]
+        self.fixities = re.findall(r"^infix.*", "\n".join(code), re.M)
+        self.blocks = [re.sub(r"^(?:use |infix).*\n?", "", block, flags=re.M).strip("\n") for block in code]
+        own = {module[2].split(".")[-1]} if is_declared else set()
         self.names = [own.union(declared_names(block)) for block in self.blocks]
         self.words = [{*chain(*WORD.findall(block))} for block in self.blocks]
 
-    def names_in(self, kept: set[int]) -> set[str]:
-        return set().union(*(self.names[n] for n in kept))
-
-    def imported(self, names: dict[Module, set[str]]) -> dict[str, tuple[Module, str]]:
+    def imported(self, names: dict[Module, Iterable[str]]) -> dict[str, tuple[Module, str]]:
         """The words that mean names of other modules: of each the module and the name."""
         found = [(one, module_of(one.crate, one.kind, one.place)) for one in self.imports]
         pairs = [(one, its, name) for one, its in found for name in names.get(its, ())]
@@ -129,19 +116,14 @@ class Parts:
 
     def narrowed(self, kept: set[int], fronts: dict[Module, str]) -> str:
         """A copy that has some of the declarations, and the others from the module itself."""
-        if self.is_declared:
-            return renamed(self.text, fronts)
-        kind, crate, name = self.module
-        folded = {n for n, block in enumerate(self.blocks) if re.search("^unfoldable ", block, re.M)}
-        others, again = {*range(len(self.blocks))} - kept, ""
-        for word, its in (("", others - folded), ("unfoldable ", others & folded)):
-            names = self.names_in(its) - self.names_in(kept)
-            marked = sorted(one if re.match(r"\w", one) else f"◌{one}◌" for one in names)
-            again += f"{word}pub use Rattle.pins.{kind}.{crate}.{name}.{{{', '.join(marked)}}}\n" if marked else ""
-        uses = "".join(re.findall(r"^use .*\n", self.text, re.M))
-        fixed = [line for line in self.fixities if {*re.findall(r"◌(\S+?)◌", line)} & self.names_in(kept)]
-        its = "\n\n".join(self.blocks[n].strip("\n") for n in sorted(kept))
-        return renamed(uses, fronts) + again + "".join(fixed) + f"\n{renamed(its, fronts)}\n"
+        its, again = [self.blocks[n] for n in sorted(kept)], []
+        for n in (n for n, names in enumerate(self.names) if names and n not in kept):
+            marked = [one if re.match(r"\w", one) else f"◌{one}◌" for one in sorted(self.names[n])]
+            word = "unfoldable " * self.blocks[n].startswith("unfoldable ")
+            again.append(f"{word}pub use Rattle.pins.{'.'.join(self.module)}.{{{', '.join(marked)}}}")
+        fixed = [line for line in self.fixities if any(f"{sign} : " in "".join(its) for sign in line.split()[2:])]
+        uses = re.findall(r"^use .*", self.text, re.M)
+        return renamed("\n".join([*uses, *again, *fixed, *its, ""]), fronts)
 
 
 def opened(text: str) -> str:
@@ -150,19 +132,20 @@ def opened(text: str) -> str:
     return re.sub(rf"^(abbrev |unfoldable )?(?:{named}|(?=(?:record|data) \w+.* where$))", r"\1pub ", text, flags=re.M)
 
 
-def without_lemmas(module: Module, text: str) -> str:
+def without_lemmas(text: str) -> str:
     """A module of examples without those that rest on a lemma of another module, or on one of these."""
-    parts, lost = Parts(module, text), defaultdict(set)
-    for one in parts.imports:
+    lost: set[str] = set()
+    for one in imports_of(text):
         its = module_of(one.crate, one.kind, one.place)
         below = modules_in(path_of(its).read_text()) if its and its[0] == "proofs" else set()
         if any(kind == "proofs" for kind, _, _ in below - {its}):
-            lost[its].update(one.names)
+            lost.update(one.names.values())
             text = re.sub(rf"^use Rattle\.{one.crate}\.proofs\.{re.escape(one.place)}\b.*\n", "", text, flags=re.M)
-    known = parts.imported(lost).keys()
-    users = {n: [m for m, words in enumerate(parts.words) if words & names] for n, names in enumerate(parts.names)}
-    resting = reached([n for n, words in enumerate(parts.words) if words & known], users.get)
-    return "\n\n".join(block for n, block in enumerate(paragraphs(text)) if n not in resting).rstrip("\n") + "\n"
+    blocks = paragraphs(text)
+    while resting := [block for block in blocks if lost & {*chain(*WORD.findall(without_remarks(block)))}]:
+        lost.update(chain.from_iterable(map(declared_names, resting)))
+        blocks = [block for block in blocks if block not in resting]
+    return "\n\n".join(blocks).rstrip("\n") + "\n"
 
 
 def gathered(wanted: set[Module]) -> dict[Module, str]:
@@ -176,7 +159,7 @@ def gathered(wanted: set[Module]) -> dict[Module, str]:
             made = declared.texts(crate, name)
         else:
             text = path_of(module).read_text()
-            made = {name: opened(without_lemmas(module, text) if module in examples else text)}
+            made = {name: opened(without_lemmas(text) if module in examples else text)}
         texts.update({(kind, crate, its): text for its, text in made.items()})
         return {its for text in made.values() for its in modules_in(text)}
 
@@ -186,13 +169,8 @@ def gathered(wanted: set[Module]) -> dict[Module, str]:
 
 def renamed(text: str, front: dict[Module, str]) -> str:
     """A text with the names of this one crate; modules in `front` are below a name of their own."""
-
-    def new_name(found: re.Match[str]) -> str:
-        crate, kind, name = found.groups()
-        its = f"Rattle.pins.{kind}.{front.get(module_of(crate, kind, name), '')}{crate}.{name}"
-        return its if (CRATES / crate / "specs").is_dir() else found[0]
-
-    return PATH.sub(new_name, text)
+    fronts = defaultdict(str, front)
+    return PATH.sub(lambda found: found.expand(rf"Rattle.pins.\2.{fronts[module_of(*found.groups())]}\1.\3"), text)
 
 
 def with_nodes(files: dict[str, str]) -> dict[str, str]:

@@ -19,12 +19,11 @@ from typing import NoReturn
 ROOT = Path(__file__).resolve().parent.parent
 CRATES = ROOT / "crates"
 NAME = re.compile(r"(?<![\w.])[^\W\d][\w'-]*(?:\.[\w'-]+)?|>>=|←")
-IMPORT = re.compile(
-    r"^ *(?:pub )?(?:ghost )?use (?:Rattle\.(\w+)\.(specs|proofs)\.)?([\w.]+?)(?:\.\{([^}]*)\}| as (\w+))?;?$", re.M
-)
-ITEM = re.compile(  # a type or a view of Rust: to its semicolon, or to the brace that closes it
-    r"^((?:(?:pub(?:\(\w+\))? )?(?:struct|enum|trait) (\w+)|impl.* Model for (\w+))(?:.*[;}] *$|(?s:.*?)^\}.*$))", re.M
-)
+USED = r"(?:Rattle\.(\w+)\.(specs|proofs)\.)?([\w.+]+?)(?:\.\{([^}]*)\}| as (\w+))?"  # what an import names
+IMPORT = re.compile(rf"^ *(?:pub )?(?:ghost )?use {USED};?$", re.M)
+# A type or a view of Rust: to its semicolon, or to the brace that closes it.
+ITEM_HEAD = r"(?:pub(?:\(\w+\))? )?(?:struct|enum|trait) (\w+)|impl.* Model for (\w+)"
+ITEM = re.compile(rf"^((?:{ITEM_HEAD})(?:.*[;}}] *$|(?s:.*?)^\}}.*$))", re.M)
 
 
 def tell(tried: int, faults: Iterable[str]) -> NoReturn:
@@ -52,12 +51,10 @@ def section(text: str, head: str) -> str:
 
 def rows(text: str) -> list[list[str]]:
     """The cells of each row of the tables in a text. A table's first row is its head."""
-    lines = re.findall(r"^\|(?!-)(.*)\|$", text, re.M)
-    return [[cell.strip() for cell in re.split(r"(?<!\\)\|", line)] for line in lines]
+    return [re.split(r" *(?<!\\)\| *", line.strip()) for line in re.findall(r"^\|(?!-)(.*)\|$", text, re.M)]
 
 
 def fenced(text: str) -> list[str]:
-    """The fenced quotes of a page."""
     return re.findall(r"^```[^\n]*\n(.*?)^```$", text, re.M | re.S)
 
 
@@ -91,8 +88,7 @@ def code_lines(lines: list[str]) -> list[str]:
 
 
 class Block:
-    """A definition, a type with its view, or the head of a function: its file, its name, its lines, the names in them,
-    its text with comments, and of a definition what its comment says."""
+    """A definition, a type with its view, or a function's head: its text, the lines that count, and their names."""
 
     def __init__(self, path: Path, name: str, lines: list[str]) -> None:
         self.path, self.name, self.text, self.lines = path, name, lines, code_lines(lines)
@@ -126,8 +122,7 @@ def crates() -> list[str]:
 
 def code_files(crate: str = "*") -> list[Path]:
     """The files of src of a crate, or of all crates, in folders too. Tests are left out: their folders and crates."""
-    paths = files(f"crates/{crate}/src/**/*.rt")
-    return [path for path in paths if "tests/" not in f"{path.relative_to(CRATES)}"]
+    return [path for path in files(f"crates/{crate}/src/**/*.rt") if "tests/" not in str(path.relative_to(CRATES))]
 
 
 def reached(roots: Iterable, below: Callable[..., Iterable]) -> list:
@@ -143,8 +138,7 @@ def reached(roots: Iterable, below: Callable[..., Iterable]) -> list:
 
 def exported(crate: str) -> set[str]:
     """The names that the `lib.rt` of a crate exports; of a program those that its files declare as `pub`."""
-    library = CRATES / crate / "src/lib.rt"
-    text = "\n".join(path.read_text() for path in ([library] if library.is_file() else code_files(crate)))
+    text = "\n".join(path.read_text() for path in files(f"crates/{crate}/src/lib.rt") or code_files(crate))
     found = re.findall(r"^pub use (?:\w+::)+(\{[^}]*\}|\w+);|^pub \w+ (\w+)", text, re.M)
     return {*re.findall(r"\w+", " ".join(map(" ".join, found)))}
 
@@ -181,8 +175,7 @@ def type_blocks(path: Path) -> list[tuple[str, Block]]:
 
 
 class Function(namedtuple("Function", "path name owner is_pub within lines body")):
-    """A function of src, or a ghost member: its name, the type or trait that it belongs to, whether it is `pub`, what
-    block it is in (`impl`, `trait` or `for`), and the lines of its head and of its body."""
+    """A function of src, or a ghost member, within `impl`, `trait` or `for`, with the lines of its head and body."""
 
     @property
     def is_ghost(self) -> bool:
@@ -264,8 +257,7 @@ class Source:
         """The types that the names of a file of src may be: those it imports, else its crate's, else any crate's."""
         found = {name: block for its in (*self.types.values(), self.types[crate]) for name, block in its.items()}
         for its, names in re.findall(r"^use (\w+)::([^;]*);", text, re.M):
-            imported = {*re.findall(r"\w+", names)}
-            found |= {name: block for name, block in self.types.get(its, {}).items() if name in imported}
+            found |= {name: self.types[its][name] for name in re.findall(r"\w+", names) if name in self.types[its]}
         return found
 
     def add_import(self, found: dict[str, Block], one: Import) -> None:
@@ -287,7 +279,3 @@ class Source:
         meanings = self.meanings(block.path)
         words = block.words | ({">>="} if "←" in block.words else set())
         return [*dict.fromkeys(self.instead.get(word, meanings[word]) for word in sorted(words) if word in meanings)]
-
-    def reached_from(self, roots: list[Block]) -> list[Block]:
-        """The definitions that some blocks reach, without these blocks."""
-        return reached(roots, self.cited)[len(roots) :]

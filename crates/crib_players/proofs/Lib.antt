@@ -1,0 +1,4 @@
+pub mod Turns
+pub mod Refuted
+pub mod Followers
+pub mod Longer

@@ -1,0 +1,6 @@
+//! Players of every kind, and games that refute all of them.
+#![tactic(auto)]
+
+mod laws;
+
+pub use laws::{cards_law, follower_law, no_plan_law, refuted_law, turn_law};

@@ -2,3 +2,5 @@ pub mod Turns
 pub mod Refuted
 pub mod Followers
 pub mod Longer
+pub mod Judged
+pub mod Missed

@@ -1,12 +1,13 @@
 -- What the judge of games compares, and what it means for a problem.
-use Rattle.std.proofs.Common.{◌≡◌, ◌↔◌, ℕ, suc, ◌+◌, ◌-◌, ◌<◌, ◌≤◌, Bool, true, false, not, ◌&&◌, ◌||◌, List, [], ◌∷◌, ◌++◌, length, map, reverse, take, drop, get_or}
-use Rattle.std.proofs.Common.{refl, sym, ap, ◌∙◌, subst, append_assoc, inl, inr, arith}
+use Rattle.std.proofs.Common.{◌≡◌, ◌↔◌, ℕ, suc, ◌+◌, ◌-◌, ◌<◌, ◌≤◌, Bool, true, false, not, ◌&&◌, ◌||◌, List, [], ◌∷◌, ◌++◌, length, reverse, take, drop}
+use Rattle.std.proofs.Common.{get_or}
+use Rattle.std.proofs.Common.{refl, sym, ap, ◌∙◌, append_assoc, inl, inr, arith}
 use Rattle.std.specs.Prelude.{Some, None, slice_get}
-use Rattle.std.specs.List.{list_all, list_any}
+use Rattle.std.specs.List.{list_any}
 use Rattle.std.proofs.Math.Bool.{or-false, or_comm}
 use Rattle.std.proofs.lemmas.Bool.{and_parts, and_from, cases_Bool, both_ways}
 use Rattle.std.proofs.lemmas.Bool.Decides.{nat_tests}
-use Rattle.std.proofs.lemmas.List.{length-reverse, length-append, reverse-append, reverse-reverse, get_or_at, length-take-le}
+use Rattle.std.proofs.lemmas.List.{length-reverse, reverse-append, reverse-reverse, get_or_at, length-take-le, length-map}
 use Rattle.std.proofs.lemmas.List.Folds.{Any-from_list_any, list_any_at, list_any-append}
 use Rattle.std.proofs.lemmas.Option.{none-some, same_Some, slice_get-get_or, slice_get_cases, slice_get_within, get_or_from_slice_get}
 use Rattle.crib_cards.specs.Cards.{card_value}
@@ -30,6 +31,7 @@ use Rattle.crib_game.specs.declared.replaying.report.Report.{Report}
 use Rattle.crib_game.specs.declared.replaying.report.Row.{Row}
 use Rattle.crib_game.specs.Replay.{same_act, same_move, count_with, act_row, act_rows, report_of}
 use Rattle.crib_game.proofs.OpeningActs.{act_is, same_act_self}
+use Rattle.crib_game.proofs.Reports.{rows_of_game, rows_so_far}
 use Rattle.crib_players.specs.Players.{own_card}
 use Rattle.crib_players.specs.Refutations.{acts_before, may_play, IsBegun, HasEachCard, Refutes}
 use Rattle.crib_players.specs.Private.Judging.{IsAnswered, owners_card, is_played, may_follow, goes_on, is_begun, has_each}
@@ -55,7 +57,8 @@ pub may_same : (problem : Setup) (acts : List Act) (count card : ℕ) →
     may_play problem (reverse acts) card ≡ (has problem.hold card && may_follow acts count card)
 may_same problem acts count card is =
     let before = reverse acts in
-    let here : has (cards_of (moves_of before)) card ≡ is_played acts card = sym (played_back_same before card) ∙ any_back (λ (act : Act). same_move act.what (move.Card card)) acts in
+    let plays : Act → Bool = λ (act : Act). same_move act.what (move.Card card) in
+    let here : has (cards_of (moves_of before)) card ≡ is_played acts card = sym (played_back_same before card) ∙ any_back plays acts in
     let fit : fits (filled_moves (start_of problem) (moves_of before)) card ≡ fits_at count card = ap (λ (n : ℕ). fits_at n card) (sym is) in
     grind (arith, nat_tests, here, fit)
 
@@ -147,10 +150,6 @@ row_among start (first ∷ later) act before =
       parts = ap (λ (rows : List Row). act_row start first (later ++ act ∷ before) ∷ rows) rest.parts;
     }
 
-rows_long : (start : Start) (acts : List Act) → length (act_rows start acts) ≡ length acts
-rows_long start [] = refl
-rows_long start (act ∷ acts) = ap suc (rows_long start acts)
-
 pub row_at : (problem : Setup) (game : Game) (turn : ℕ) (act : Act) (row : Row) → turn < length game.acts.items → act ≡ get_or game.acts.items turn act →
     get_or (report_of problem game).rows.items turn row ≡ act_row (start_of problem) act (acts_before game turn)
 row_at problem game turn act row inside at =
@@ -163,12 +162,11 @@ row_at problem game turn act row inside at =
     ap reverse rows ∙ reverse-append found.front (act_row start act before ∷ act_rows start before)
     ∙ ap (λ (front : List Row). front ++ reverse found.front) (reverse-append (act_row start act before ∷ []) (act_rows start before))
     ∙ append_assoc (reverse (act_rows start before)) (act_row start act before ∷ []) (reverse found.front) in
-    let size = length-reverse (act_rows start before) in
-    let long = rows_long start before in
+    let size = rows_so_far start before (reverse (act_rows start before)) refl in
     let same = length-reverse (take turn game.acts.items) in
     let most = length-take-le turn game.acts.items (omega (arith, inside)) in
     ap (λ (rows : List Row). get_or rows turn row) back
-    ∙ get_or_at (reverse (act_rows start before)) (act_row start act before) (reverse found.front) row turn (omega (arith, size, long, same, most))
+    ∙ get_or_at (reverse (act_rows start before)) (act_row start act before) (reverse found.front) row turn (omega (arith, size, same, most))
 
 -- ---- the owner's card of a row
 owners_is : (side : Side) (what : Move) (card : ℕ) → owners_card side what ≡ Some card → record { side = side; what = what } ≡ own_card card
@@ -181,11 +179,8 @@ own_is act card e = ap (λ (a : Act). owners_card a.side a.what) e
 
 rows_same : (problem : Setup) (game : Game) (report : Report) → report ≡ report_of problem game → length report.rows.items ≡ length game.acts.items
 rows_same problem game report is =
-    let rows = ap (λ (r : Report). length r.rows.items) is in
-    let back = length-reverse (act_rows (start_of problem) (reverse game.acts.items)) in
-    let long = rows_long (start_of problem) (reverse game.acts.items) in
-    let same = length-reverse game.acts.items in
-    omega (arith, rows, back, long, same)
+    ap (λ (r : Report). length r.rows.items) is ∙ sym (length-map (report_of problem game).rows.items (λ (row : Row). row.act))
+    ∙ ap length (rows_of_game problem game)
 
 -- a game has no card of the owner after its last act
 pub none_after : (problem : Setup) (games : List Game) (game : Game) (report : Report) (turn : ℕ) → report ≡ report_of problem game →
@@ -195,8 +190,8 @@ none_after problem games game report turn is past card other here may =
     let same = rows_same problem game report is in
     absurd (omega (arith, inside, same, past))
 
-module _ (problem : Setup) (game : Game) (turn : ℕ) (report : Report) (row : Row) (is : report ≡ report_of problem game) (inside : turn < length report.rows.items)
-    (at : row ≡ get_or report.rows.items turn row) where
+module _ (problem : Setup) (game : Game) (turn : ℕ) (report : Report) (row : Row) (is : report ≡ report_of problem game)
+    (inside : turn < length report.rows.items) (at : row ≡ get_or report.rows.items turn row) where
   abbrev acts : List Act
   acts = game.acts.items
 

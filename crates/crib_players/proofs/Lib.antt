@@ -4,3 +4,4 @@ pub mod Followers
 pub mod Longer
 pub mod Judged
 pub mod Missed
+mod Examples

@@ -1,6 +1,5 @@
 -- Games that refute after one more turn, and before it.
-use Rattle.std.proofs.Common.{◌≡◌, ℕ, ◌+◌, ◌≤◌, Bool, true, List, [], ◌∷◌, ◌++◌, length, sym, ap, ◌∙◌, subst, append_assoc, inl, inr, arith}
-use Rattle.std.specs.Prelude.{Some, slice_get}
+use Rattle.std.proofs.Common.{◌≡◌, ℕ, ◌+◌, Bool, true, List, [], ◌∷◌, ◌++◌, length, sym, ap, ◌∙◌, subst, append_assoc, inl, inr, arith}
 use Rattle.std.specs.List.{list_all}
 use Rattle.std.proofs.lemmas.Bool.{and_parts, cases_eq}
 use Rattle.std.proofs.lemmas.List.{length-append, length-reverse, reverse-append}
@@ -16,7 +15,7 @@ use Rattle.crib_game.specs.declared.section.game.Game.{Game}
 use Rattle.crib_game.specs.Replay.{acts_back}
 use Rattle.crib_players.specs.Players.{own_card}
 use Rattle.crib_players.specs.Refutations.{acts_before, may_play, IsMissed, IsBegun}
-use Rattle.crib_players.specs.Laws.{longer, HasAfter, MayPlay, TurnLaw, CardsLaw}
+use Rattle.crib_players.specs.Laws.{longer, HasAfter, TurnLaw, CardsLaw}
 use Rattle.crib_players.proofs.Turns.{one_more, opening_before}
 
 rest_all : (p : ℕ → Bool) (side : Side) (what : Move) (before : List Act) →

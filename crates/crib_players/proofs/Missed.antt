@@ -1,9 +1,8 @@
 -- When the goal is missed in a game, by its filled record.
 use Rattle.std.proofs.Common.{◌≡◌, ◌≢◌, Bool, true, false, cond, List, Option, Some, None, Result, Ok, refl, sym, ap, ◌∙◌, arith}
 use Rattle.std.proofs.lemmas.Bool.{both_ways}
-use Rattle.crib_cards.specs.Start.{pone_of}
 use Rattle.crib_cards.specs.declared.moves.Move.{Move}
-use Rattle.crib_play.specs.Legal.{letters_of, IsDealt}
+use Rattle.crib_play.specs.Legal.{letters_of}
 use Rattle.crib_play.specs.History.{filled_moves, moves_of}
 use Rattle.crib_play.proofs.FilledRecords.{filled_whole, not_silent_done}
 use Rattle.crib_play.proofs.LegalRecords.{legal_filled}

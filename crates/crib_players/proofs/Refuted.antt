@@ -1,7 +1,7 @@
 -- Games that refute leave no player sure.
-use Rattle.std.proofs.Common.{◌≡◌, ℕ, zero, suc, ◌+◌, ◌≤◌, true, false, not, ◌&&◌, List, [], ◌∷◌, ◌++◌, length, reverse, take, drop, sym, ap, ◌∙◌, subst, refl}
+use Rattle.std.proofs.Common.{◌≡◌, ℕ, zero, suc, ◌+◌, ◌≤◌, true, false, not, ◌&&◌, List, [], ◌∷◌, ◌++◌, length, reverse, drop, sym, ap, ◌∙◌, subst, refl}
 use Rattle.std.proofs.Common.{inl, inr, add-one, arith}
-use Rattle.std.specs.Prelude.{◌⊎◌, Option, Some, None, slice_get, IsTrue}
+use Rattle.std.specs.Prelude.{◌⊎◌, Option, Some, None, slice_get}
 use Rattle.std.specs.List.{list_any}
 use Rattle.std.proofs.Common.{take_all}
 use Rattle.std.proofs.lemmas.Bool.{and_parts}
@@ -87,7 +87,8 @@ by_few few player [] short = tt
 by_few few player (act ∷ before) short =
     (by_few few player before (omega (arith, short)), λ late card is. absurd (omega (arith, short, late)))
 
-module _ (problem : Setup) (games : List Game) (player : Player) (setup : IsSetup problem) (refutes : Refutes problem games) (sure : IsSurePlayer problem player) where
+module _ (problem : Setup) (games : List Game) (player : Player) (setup : IsSetup problem) (refutes : Refutes problem games)
+    (sure : IsSurePlayer problem player) where
   abbrev start : Start
   start = start_of problem
 
@@ -100,7 +101,7 @@ module _ (problem : Setup) (games : List Game) (player : Player) (setup : IsSetu
   abbrev By : List Act → Type 0
   By acts = AreBy (length problem.played) player acts
 
-  -- the player comes to these acts in one of the games
+  -- one of the games begins with these acts, and the player has played their cards
   module _ (acts : List Act) (begun : IsBegun games acts) (late : length problem.played ≤ length acts) (by : By acts) where
     abbrev game : Game
     game = begun.game
@@ -187,7 +188,8 @@ module _ (problem : Setup) (games : List Game) (player : Player) (setup : IsSetu
         place = begun.place;
         game = game;
         among = begun.among;
-        begins = ap (acts_before game) (sym (add-one (length acts))) ∙ one_more game (length acts) act is ∙ ap (λ (before : List Act). act ∷ before) begun.begins;
+        begins = ap (acts_before game) (sym (add-one (length acts))) ∙ one_more game (length acts) act is
+            ∙ ap (λ (before : List Act). act ∷ before) begun.begins;
       }
 
     -- the player goes on by one act

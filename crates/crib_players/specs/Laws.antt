@@ -17,7 +17,8 @@ RefutedLaw =
 
 -- the player who follows a sure plan is sure
 abbrev pub FollowerLaw : Type 0
-FollowerLaw = (problem : Setup) (plan : List Node) → IsSure problem plan → IsSurePlayer problem (follower_of problem plan)
+FollowerLaw =
+    (problem : Setup) (plan : List Node) → IsSure problem plan → IsSurePlayer problem (follower_of problem plan)
 
 -- games that refute leave no plan sure
 abbrev pub NoPlanLaw : Type 0

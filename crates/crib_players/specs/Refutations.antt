@@ -1,5 +1,6 @@
 -- Games that refute every player. The opening is the visible turns that the problem lists as played.
-use Rattle.std.specs.Prelude.{◌≡◌, ◌≢◌, ℕ, ◌≤◌, Bool, not, ◌&&◌, List, ◌∷◌, length, reverse, take, Some, slice_get, IsTrue}
+use Rattle.std.specs.Prelude.{◌≡◌, ◌≢◌, ℕ, ◌≤◌, Bool, not, ◌&&◌, List, ◌∷◌, length, reverse, take, Some}
+use Rattle.std.specs.Prelude.{slice_get, IsTrue}
 use Rattle.crib_cards.specs.Sets.{has}
 use Rattle.crib_cards.specs.declared.moves.Move.{Move}
 use Rattle.crib_cards.specs.declared.moves.Act.{Act}
@@ -37,8 +38,8 @@ may_play problem before card =
     has problem.hold card && not (has (cards_of (moves_of before)) card)
     && fits (filled_moves (start_of problem) (moves_of before)) card
 
--- if a game has a card of the owner at this turn, then for each card that the owner may play there some game begins with
--- the same acts and that card. The first turn is 0
+-- if a game has a card of the owner at this turn, then for each card that the owner may play there some game begins
+-- with the same acts and that card. The first turn is 0
 abbrev pub HasEachCard : Setup → List Game → Game → ℕ → Type 0
 HasEachCard problem games game turn =
     (card other : ℕ) → slice_get game.acts.items turn ≡ Some (own_card card) →

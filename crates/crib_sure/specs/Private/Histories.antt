@@ -1,5 +1,5 @@
--- Histories that follow a plan, and histories that begin with another. The opening is the visible turns that the problem
--- lists as played.
+-- Histories that follow a plan, and histories that begin with another. The opening is the visible turns that the
+-- problem lists as played.
 use Rattle.std.specs.Prelude.{◌≡◌, List, [], ◌∷◌, ◌++◌, map, IsTrue}
 use Rattle.crib_cards.specs.declared.sides.Side.TheVariants.{Owner}
 use Rattle.crib_cards.specs.declared.moves.Act.{Act}

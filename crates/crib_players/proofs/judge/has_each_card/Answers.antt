@@ -1,4 +1,4 @@
-use Rattle.std.proofs.Common.{◌≡◌, ◌≤◌, ◌<◌, ℕ, inl, inr, refl, sym, subst, arith}
+use Rattle.std.proofs.Common.{ℕ, inl, inr, refl, sym, subst, arith}
 use Rattle.std.proofs.lemmas.Bool.{cases_eq, cases_lt}
 use Rattle.crib_players.specs.Refutations.{HasEachCard}
 use Rattle.crib_players.proofs.Judged.{none_after}

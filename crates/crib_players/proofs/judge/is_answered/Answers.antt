@@ -1,4 +1,4 @@
-use Rattle.std.proofs.Common.{◌≡◌, sym, ap, ◌∙◌}
+use Rattle.std.proofs.Common.{sym, ap, ◌∙◌}
 use Rattle.std.proofs.lemmas.Bool.{both_ways}
 use Rattle.crib_game.specs.declared.replaying.report.Report.{Report}
 use Rattle.crib_players.specs.Private.Judging.{is_miss}

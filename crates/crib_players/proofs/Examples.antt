@@ -1,0 +1,246 @@
+-- Worked examples of players, of games that refute each of them, and of games that don't.
+use Rattle.std.proofs.Common.{◌≡◌, refl, sym, ap, ◌∙◌, subst, ◌≤◌, ℕ, zero, suc, true, false, List, [], ◌∷◌, map, reverse, take, length, arith, if◌then◌else◌}
+use Rattle.std.specs.Prelude.{Some, None, slice_get}
+use Rattle.std.proofs.lemmas.Bool.{both_ways}
+use Rattle.std.proofs.lemmas.Option.{none-some, same_Some}
+use Rattle.crib_cards.specs.Sets.{has, set_where}
+use Rattle.crib_cards.specs.declared.sides.Side.{Side}
+use Rattle.crib_cards.specs.declared.sides.Side.TheVariants.{Owner, Opponent}
+use Rattle.crib_cards.specs.declared.moves.Act.{Act}
+use Rattle.crib_cards.specs.declared.moves.Move.{Move}
+use Rattle.crib_cards.specs.declared.moves.Move.TheVariants.{Card, Go}
+use Rattle.crib_play.specs.Record.{mover}
+use Rattle.crib_play.specs.Score.{is_done}
+use Rattle.crib_play.specs.Legal.{IsLegal, MayCome, MayTake, cards_of, letters_of}
+use Rattle.crib_play.specs.History.{acts_of, moves_of}
+use Rattle.crib_show.specs.declared.show.outcomes.Outcome.TheVariants.{Reached, Lost, Short}
+use Rattle.crib_show.specs.Outcome.{outcome_of}
+use Rattle.crib_show.specs.Show.{hand_points, crib_points}
+use Rattle.crib_problem.specs.declared.problem.Version.TheVariants.{Two}
+use Rattle.crib_problem.specs.Setup.{Setup, IsDealOf, start_of, hands_of}
+use Rattle.crib_problem.proofs.ExampleProblems.{plays, says_go, level, level_acts, four_twos, close_to_lost, pairing}
+use Rattle.crib_problem.proofs.Setups.{setup_from}
+use Rattle.crib_plan.specs.declared.plan.Next.TheVariants.{End, To}
+use Rattle.crib_plan.specs.declared.plan.Node.TheVariants.{Play}
+use Rattle.crib_game.specs.declared.section.game.Game.{Game}
+use Rattle.crib_game.specs.Replay.{full_of, is_done_for}
+use Rattle.crib_game.proofs.ExampleGames.{game_with}
+use Rattle.crib_players.specs.Players.{Player, player_by, follower_of, own_card, AreBy, is_at_loss, IsSurePlayer}
+use Rattle.crib_players.specs.Refutations.{IsMissed, HasEachCard, Refutes, may_play}
+use Rattle.crib_players.specs.Laws.{longer, MayPlay}
+use Rattle.crib_players.specs.Private.Judging.{goes_on, has_each, is_begun, is_miss, is_played, may_follow, owners_card}
+use Rattle.crib_players.proofs.Judged.{begun_to, each_from}
+use Rattle.crib_players.proofs.Missed.{missed_to}
+use Rattle.crib_players.proofs.Refuted.{refuted}
+
+-- ---- players
+-- a player who plays the two of clubs once the ace of clubs was shown, and otherwise the two of diamonds
+abbrev by_suit : Player
+by_suit acts = if has (cards_of (moves_of acts)) 0 then Some 4 else Some 5
+
+-- after the ace of clubs their card is the two of clubs and no other. In the opening, which is two acts here, it may be any
+pub played_by_suit : AreBy 0 by_suit (plays Owner 4 ∷ plays Opponent 0 ∷ []) × ¬ (AreBy 0 by_suit (plays Owner 5 ∷ plays Opponent 0 ∷ []))
+    × AreBy 2 by_suit (plays Owner 5 ∷ plays Opponent 0 ∷ [])
+played_by_suit = (
+  (
+    (tt, λ late card is. absurd (let side : Opponent ≡ Owner = ap (λ (act : Act). act.side) is in cc)),
+    λ late card is. (let what : Card 4 ≡ Card card = ap (λ (act : Act). act.what) is in cc),
+  ),
+  λ by. (let same = same_Some 4 5 (by.1 (omega arith) 5 refl) in omega (arith, same)),
+  ((tt, λ late. absurd (omega (arith, late))), λ late. absurd (omega (arith, late))),
+)
+
+-- whoever plays no card, a card that they don't hold, or one that they have played, is at a loss at their turn. Nobody is once the deal is done, nor at the
+-- other player's turn. After TC TD 9C the two fits, and the eight doesn't
+pub at_a_loss :
+    (map (λ stated. is_at_loss (λ acts. stated) (start_of close_to_lost) (hands_of close_to_lost pairing) []) (None ∷ Some 7 ∷ Some 4 ∷ [])
+    ≡ true ∷ true ∷ false ∷ [])
+    × (map (is_at_loss (λ acts. None) (start_of close_to_lost) (hands_of close_to_lost pairing)) ((Card 0 ∷ []) ∷ (Card 1 ∷ Card 0 ∷ []) ∷ [])
+    ≡ false ∷ false ∷ [])
+    × (map (λ stated. is_at_loss (λ acts. stated) (start_of level) (hands_of level pairing) (Go ∷ Card 32 ∷ Card 37 ∷ Card 36 ∷ []))
+    (Some 4 ∷ Some 28 ∷ Some 36 ∷ []) ≡ false ∷ true ∷ true ∷ [])
+at_a_loss = (refl, refl, refl)
+
+-- the player who follows a plan plays the same card after any ace of the opponent. A player may also see the sides alone
+pub seen_by_players :
+    (map (follower_of four_twos (Play 4 (To 1) ∷ Play 5 End ∷ [])) ([] ∷ (plays Opponent 0 ∷ plays Owner 4 ∷ []) ∷ (plays Opponent 1 ∷ plays Owner 4 ∷ []) ∷ [])
+    ≡ Some 4 ∷ Some 5 ∷ Some 5 ∷ [])
+    × (map (follower_of (record four_twos { played = plays Owner 7 ∷ [] }) (Play 4 End ∷ [])) ((plays Owner 7 ∷ []) ∷ []) ≡ Some 4 ∷ [])
+    × (player_by (λ (act : Act). act.side) (λ (sides : List Side). Some (length sides)) (plays Opponent 0 ∷ plays Owner 4 ∷ []) ≡ Some 2)
+    × (by_suit (plays Opponent 0 ∷ plays Owner 6 ∷ []) ≡ Some 4) × (by_suit (plays Opponent 1 ∷ plays Owner 6 ∷ []) ≡ Some 5)
+seen_by_players = (refl, refl, refl, refl, refl)
+
+-- ---- the opponent needs two holes, and pairs whatever the owner leads
+abbrev lost_after : ℕ → ℕ → Game
+lost_after mine theirs = game_with pairing (plays Owner mine ∷ plays Opponent theirs ∷ [])
+
+abbrev pairs : List Game
+pairs = lost_after 0 1 ∷ lost_after 4 7 ∷ lost_after 5 7 ∷ lost_after 6 7 ∷ []
+
+pairing_is : IsDealOf close_to_lost pairing
+unfolding set_where
+pairing_is = record { deal = record { held = refl; thrown = refl; distinct = refl; hidden_before = refl }; fixed = refl }
+
+lost : (mine theirs : ℕ) → IsLegal (start_of close_to_lost) (hands_of close_to_lost pairing) (Card theirs ∷ Card mine ∷ []) →
+    acts_of Owner (Card theirs ∷ Card mine ∷ []) ≡ plays Opponent theirs ∷ plays Owner mine ∷ [] →
+    is_done_for close_to_lost (Card theirs ∷ Card mine ∷ []) ≡ true → outcome_of (full_of close_to_lost pairing (Card theirs ∷ Card mine ∷ [])) ≡ Lost →
+    IsMissed close_to_lost (lost_after mine theirs)
+lost mine theirs legal acts done outcome = record {
+  played = Card theirs ∷ Card mine ∷ [];
+  of_game = record {
+    deal = pairing_is;
+    legal = legal;
+    acts = acts;
+    begins = record { later = plays Opponent theirs ∷ plays Owner mine ∷ []; parts = refl };
+  };
+  done = done;
+  missed = λ reached. (let same : Lost ≡ Reached = sym outcome ∙ reached in cc);
+}
+
+may : (turn : Move) (past : List Move) → is_done (start_of close_to_lost) (letters_of past) ≡ false →
+    MayTake (hands_of close_to_lost pairing) (mover Owner (letters_of past)) turn past →
+    MayCome (start_of close_to_lost) (hands_of close_to_lost pairing) turn past
+may turn past going take = record { not_done = going; may_take = take }
+
+pairs_miss : (place : ℕ) (game : Game) → slice_get pairs place ≡ Some game → IsMissed close_to_lost game
+unfolding outcome_of hand_points crib_points
+pairs_miss zero game among = subst (IsMissed close_to_lost) (same_Some (lost_after 0 1) game among)
+    (lost 0 1 ((tt, may (Card 0) [] refl (refl, refl)), may (Card 1) (Card 0 ∷ []) refl (refl, refl)) refl refl refl)
+pairs_miss (suc zero) game among = subst (IsMissed close_to_lost) (same_Some (lost_after 4 7) game among)
+    (lost 4 7 ((tt, may (Card 4) [] refl (refl, refl)), may (Card 7) (Card 4 ∷ []) refl (refl, refl)) refl refl refl)
+pairs_miss (suc (suc zero)) game among = subst (IsMissed close_to_lost) (same_Some (lost_after 5 7) game among)
+    (lost 5 7 ((tt, may (Card 5) [] refl (refl, refl)), may (Card 7) (Card 5 ∷ []) refl (refl, refl)) refl refl refl)
+pairs_miss (suc (suc (suc zero))) game among = subst (IsMissed close_to_lost) (same_Some (lost_after 6 7) game among)
+    (lost 6 7 ((tt, may (Card 6) [] refl (refl, refl)), may (Card 7) (Card 6 ∷ []) refl (refl, refl)) refl refl refl)
+pairs_miss (suc (suc (suc (suc place)))) game among = absurd (none-some game among)
+
+-- after the lead there is no card of the owner
+lead_alone : (problem : Setup) (games : List Game) (mine theirs turn : ℕ) → 1 ≤ turn → HasEachCard problem games (lost_after mine theirs) turn
+lead_alone problem games mine theirs zero late = absurd (omega (arith, late))
+lead_alone problem games mine theirs (suc zero) late = λ card other at can. (
+    let act = same_Some (plays Opponent theirs) (own_card card) at in absurd (let side : Opponent ≡ Owner = ap (λ (act : Act). act.side) act in cc)
+    )
+lead_alone problem games mine theirs (suc (suc turn)) late = λ card other at can. absurd (none-some (own_card card) at)
+
+pairs_turn : (mine theirs turn : ℕ) → HasEachCard close_to_lost pairs (lost_after mine theirs) turn
+pairs_turn mine theirs zero = each_from close_to_lost pairs (lost_after mine theirs) 0 0 refl refl
+pairs_turn mine theirs (suc turn) = lead_alone close_to_lost pairs mine theirs (suc turn) (omega arith)
+
+pairs_each : (place turn : ℕ) (game : Game) → slice_get pairs place ≡ Some game → HasEachCard close_to_lost pairs game turn
+pairs_each zero turn game among = subst (λ game. HasEachCard close_to_lost pairs game turn) (same_Some (lost_after 0 1) game among) (pairs_turn 0 1 turn)
+pairs_each (suc zero) turn game among = subst (λ game. HasEachCard close_to_lost pairs game turn) (same_Some (lost_after 4 7) game among) (pairs_turn 4 7 turn)
+pairs_each (suc (suc zero)) turn game among =
+    subst (λ game. HasEachCard close_to_lost pairs game turn) (same_Some (lost_after 5 7) game among) (pairs_turn 5 7 turn)
+pairs_each (suc (suc (suc zero))) turn game among =
+    subst (λ game. HasEachCard close_to_lost pairs game turn) (same_Some (lost_after 6 7) game among) (pairs_turn 6 7 turn)
+pairs_each (suc (suc (suc (suc place)))) turn game among = absurd (none-some game among)
+
+pub pairs_refute : Refutes close_to_lost pairs
+pairs_refute = record { some = (lost_after 0 1, refl); missed = pairs_miss; complete = λ place turn game among late. pairs_each place turn game among }
+
+-- so no player is sure, not even the one who looks at suits
+pub nobody_is_sure : ¬ (IsSurePlayer close_to_lost by_suit)
+nobody_is_sure sure = refuted close_to_lost pairs by_suit (setup_from close_to_lost refl tt (refl, refl) (omega arith) tt tt) pairs_refute sure
+
+-- ---- games that don't refute
+pub no_game_at_all : ¬ (Refutes close_to_lost [])
+no_game_at_all is = none-some is.some.0 is.some.1
+
+-- one two of three isn't enough
+abbrev without_a_two : List Game
+without_a_two = lost_after 0 1 ∷ lost_after 4 7 ∷ lost_after 5 7 ∷ []
+
+pub each_two_is_needed : ¬ (Refutes close_to_lost without_a_two)
+each_two_is_needed is =
+    both_ways (is_begun without_a_two [] 6) refl (begun_to without_a_two [] 6 (is.complete 0 0 (lost_after 0 1) refl (omega arith) 0 6 refl refl))
+
+-- an unfinished game; and one in which the owner reaches hole 121
+pub not_missed : ¬ (IsMissed close_to_lost (game_with pairing (plays Owner 0 ∷ [])))
+    × ¬ (IsMissed (record close_to_lost { scores = record { owner = 119; opponent = 119 } })
+    (game_with pairing (plays Owner 4 ∷ plays Opponent 1 ∷ plays Owner 0 ∷ [])))
+unfolding outcome_of hand_points crib_points
+not_missed = (
+  λ is. both_ways _ refl (missed_to close_to_lost (game_with pairing (plays Owner 0 ∷ [])) (setup_from _ refl tt (refl, refl) (omega arith) tt tt) is),
+  λ is. both_ways _ refl (missed_to (record close_to_lost { scores = record { owner = 119; opponent = 119 } })
+      (game_with pairing (plays Owner 4 ∷ plays Opponent 1 ∷ plays Owner 0 ∷ [])) (setup_from _ refl tt (refl, refl) (omega arith) tt tt) is),
+)
+
+-- a card that is held may be played, and none that was played, that is not held, or that doesn't fit: after TC TD 9C the two fits, and the eight doesn't
+pub cards_that_may_be_played :
+    (map (may_play close_to_lost []) (0 ∷ 4 ∷ 7 ∷ 12 ∷ []) ≡ true ∷ true ∷ false ∷ false ∷ [])
+    × (map (may_play close_to_lost (plays Opponent 1 ∷ plays Owner 0 ∷ [])) (0 ∷ 4 ∷ 1 ∷ []) ≡ false ∷ true ∷ false ∷ [])
+    × (map (may_play level (reverse (take 4 level_acts))) (4 ∷ 28 ∷ 36 ∷ []) ≡ true ∷ false ∷ false ∷ [])
+cards_that_may_be_played = (refl, refl, refl)
+
+-- with four holes to go the second turn counts too: each first card is there, and after the aces neither of the other twos
+abbrev four_to_go : Setup
+four_to_go = record close_to_lost { scores = record { owner = 100; opponent = 117 } }
+
+abbrev in_four : ℕ → ℕ → ℕ → ℕ → Game
+in_four first second third fourth = game_with pairing (plays Owner first ∷ plays Opponent second ∷ plays Owner third ∷ plays Opponent fourth ∷ [])
+
+abbrev first_turns : List Game
+first_turns = in_four 0 1 4 7 ∷ in_four 4 7 0 1 ∷ in_four 5 7 0 1 ∷ in_four 6 7 0 1 ∷ []
+
+pub first_turn_has_each : HasEachCard four_to_go first_turns (in_four 0 1 4 7) 0 × ¬ (HasEachCard four_to_go first_turns (in_four 0 1 4 7) 2)
+first_turn_has_each = (
+  each_from four_to_go first_turns (in_four 0 1 4 7) 0 0 refl refl,
+  λ each. both_ways (is_begun first_turns (plays Owner 0 ∷ plays Opponent 1 ∷ []) 5) refl
+      (begun_to first_turns (plays Owner 0 ∷ plays Opponent 1 ∷ []) 5 (each 4 5 refl refl)),
+)
+
+-- ---- after the ace of clubs was led one game refutes: no other lead need be there
+abbrev ace_led : Setup
+ace_led = record close_to_lost { version = Two; played = plays Owner 0 ∷ [] }
+
+ace_led_is : longer close_to_lost (own_card 0) ≡ ace_led
+ace_led_is = refl
+
+ace_lost : IsMissed ace_led (lost_after 0 1)
+unfolding set_where outcome_of hand_points crib_points
+ace_lost = record {
+  played = Card 1 ∷ Card 0 ∷ [];
+  of_game = record {
+    deal = record { deal = record { held = refl; thrown = refl; distinct = refl; hidden_before = refl }; fixed = refl };
+    legal = ((tt, may (Card 0) [] refl (refl, refl)), may (Card 1) (Card 0 ∷ []) refl (refl, refl));
+    acts = refl;
+    begins = record { later = plays Opponent 1 ∷ []; parts = refl };
+  };
+  done = refl;
+  missed = λ reached. cc;
+}
+
+pub one_game_refutes : Refutes ace_led (lost_after 0 1 ∷ [])
+one_game_refutes = record {
+  some = (lost_after 0 1, refl);
+  missed = ace_missed;
+  complete = λ place turn game among late. ace_each place turn game among late;
+}
+  where
+    ace_missed : (place : ℕ) (game : Game) → slice_get (lost_after 0 1 ∷ []) place ≡ Some game → IsMissed ace_led game
+    ace_missed zero game among = subst (IsMissed ace_led) (same_Some (lost_after 0 1) game among) ace_lost
+    ace_missed (suc place) game among = absurd (none-some game among)
+
+    ace_each : (place turn : ℕ) (game : Game) → slice_get (lost_after 0 1 ∷ []) place ≡ Some game → 1 ≤ turn →
+        HasEachCard ace_led (lost_after 0 1 ∷ []) game turn
+    ace_each zero turn game among late =
+        subst (λ game. HasEachCard ace_led (lost_after 0 1 ∷ []) game turn) (same_Some (lost_after 0 1) game among)
+        (lead_alone ace_led (lost_after 0 1 ∷ []) 0 1 turn late)
+    ace_each (suc place) turn game among late = absurd (none-some game among)
+
+-- the ace and the two of clubs may be led, and the two of spades, which isn't held, may not
+pub leads : MayPlay close_to_lost 0 × MayPlay close_to_lost 4 × ¬ (MayPlay close_to_lost 7)
+leads = (refl, refl, λ may. both_ways _ refl may)
+
+-- ---- what the judge compares
+pub compared :
+    (map (goes_on (plays Owner 0 ∷ plays Opponent 1 ∷ plays Owner 4 ∷ []) (plays Owner 0 ∷ plays Opponent 1 ∷ [])) (4 ∷ 5 ∷ []) ≡ true ∷ false ∷ [])
+    × (goes_on (plays Owner 0 ∷ plays Opponent 1 ∷ []) (plays Owner 0 ∷ []) 1 ≡ false) × (goes_on (plays Owner 0 ∷ []) (plays Owner 0 ∷ []) 4 ≡ false)
+    × (goes_on (plays Owner 0 ∷ plays Owner 4 ∷ []) (plays Owner 1 ∷ []) 4 ≡ false)
+    × (map (is_played (plays Owner 0 ∷ says_go Opponent ∷ plays Opponent 1 ∷ [])) (0 ∷ 1 ∷ 2 ∷ []) ≡ true ∷ true ∷ false ∷ [])
+    × (map (may_follow (plays Owner 0 ∷ []) 22) (0 ∷ 32 ∷ 36 ∷ []) ≡ false ∷ true ∷ false ∷ [])
+    × (map (is_begun pairs []) (0 ∷ 4 ∷ 7 ∷ []) ≡ true ∷ true ∷ false ∷ [])
+    × (map (λ hold. has_each pairs hold [] 0) ((0 ∷ 4 ∷ []) ∷ (0 ∷ 7 ∷ []) ∷ []) ≡ true ∷ false ∷ []) × (has_each pairs (0 ∷ 7 ∷ []) [] 31 ≡ true)
+    × (map is_miss (None ∷ Some Reached ∷ Some Lost ∷ Some Short ∷ []) ≡ false ∷ false ∷ true ∷ true ∷ [])
+    × (map (owners_card Owner) (Card 4 ∷ Go ∷ []) ≡ Some 4 ∷ None ∷ []) × (owners_card Opponent (Card 4) ≡ None)
+compared = (refl, refl, refl, refl, refl, refl, refl, refl, refl, refl, refl, refl)

@@ -1,10 +1,10 @@
--- Worked examples of players, of games that refute each of them, and of games that don't.
-use Rattle.std.proofs.Common.{◌≡◌, refl, sym, ap, ◌∙◌, subst, ◌≤◌, ℕ, zero, suc, true, false, List, [], ◌∷◌, map, reverse, take, length, arith, if◌then◌else◌}
+-- Worked examples of games that refute every player, and of games that don't.
+use Rattle.std.proofs.Common.{◌≡◌, refl, sym, ap, ◌∙◌, subst, ◌≤◌, ℕ, zero, suc, true, false, List, [], ◌∷◌, map, reverse, take, arith}
 use Rattle.std.specs.Prelude.{Some, None, slice_get}
-use Rattle.std.proofs.lemmas.Bool.{both_ways}
+use Rattle.std.proofs.lemmas.Bool.{and_parts, both_ways}
+use Rattle.std.proofs.lemmas.Bool.Decides.{nat_tests}
 use Rattle.std.proofs.lemmas.Option.{none-some, same_Some}
 use Rattle.crib_cards.specs.Sets.{has, set_where}
-use Rattle.crib_cards.specs.declared.sides.Side.{Side}
 use Rattle.crib_cards.specs.declared.sides.Side.TheVariants.{Owner, Opponent}
 use Rattle.crib_cards.specs.declared.moves.Act.{Act}
 use Rattle.crib_cards.specs.declared.moves.Move.{Move}
@@ -16,59 +16,20 @@ use Rattle.crib_play.specs.History.{acts_of, moves_of}
 use Rattle.crib_show.specs.declared.show.outcomes.Outcome.TheVariants.{Reached, Lost, Short}
 use Rattle.crib_show.specs.Outcome.{outcome_of}
 use Rattle.crib_show.specs.Show.{hand_points, crib_points}
-use Rattle.crib_problem.specs.declared.problem.Version.TheVariants.{Two}
-use Rattle.crib_problem.specs.Setup.{Setup, IsDealOf, start_of, hands_of}
-use Rattle.crib_problem.proofs.ExampleProblems.{plays, says_go, level, level_acts, four_twos, close_to_lost, pairing}
+use Rattle.crib_problem.specs.Setup.{Setup, start_of, hands_of}
+use Rattle.crib_problem.proofs.ExampleProblems.{plays, says_go, level, level_acts, close_to_lost, pairing}
 use Rattle.crib_problem.proofs.Setups.{setup_from}
-use Rattle.crib_plan.specs.declared.plan.Next.TheVariants.{End, To}
-use Rattle.crib_plan.specs.declared.plan.Node.TheVariants.{Play}
 use Rattle.crib_game.specs.declared.section.game.Game.{Game}
 use Rattle.crib_game.specs.Replay.{full_of, is_done_for}
 use Rattle.crib_game.proofs.ExampleGames.{game_with}
-use Rattle.crib_players.specs.Players.{Player, player_by, follower_of, own_card, AreBy, is_at_loss, IsSurePlayer}
-use Rattle.crib_players.specs.Refutations.{IsMissed, HasEachCard, Refutes, may_play}
+use Rattle.crib_players.specs.Players.{own_card, IsSurePlayer}
+use Rattle.crib_players.specs.Refutations.{IsBegun, acts_before, IsMissed, HasEachCard, Refutes, may_play}
 use Rattle.crib_players.specs.Laws.{longer, MayPlay}
 use Rattle.crib_players.specs.Private.Judging.{goes_on, has_each, is_begun, is_miss, is_played, may_follow, owners_card}
 use Rattle.crib_players.proofs.Judged.{begun_to, each_from}
 use Rattle.crib_players.proofs.Missed.{missed_to}
 use Rattle.crib_players.proofs.Refuted.{refuted}
-
--- ---- players
--- a player who plays the two of clubs once the ace of clubs was shown, and otherwise the two of diamonds
-abbrev by_suit : Player
-by_suit acts = if has (cards_of (moves_of acts)) 0 then Some 4 else Some 5
-
--- after the ace of clubs their card is the two of clubs and no other. In the opening, which is two acts here, it may be any
-pub played_by_suit : AreBy 0 by_suit (plays Owner 4 ∷ plays Opponent 0 ∷ []) × ¬ (AreBy 0 by_suit (plays Owner 5 ∷ plays Opponent 0 ∷ []))
-    × AreBy 2 by_suit (plays Owner 5 ∷ plays Opponent 0 ∷ [])
-played_by_suit = (
-  (
-    (tt, λ late card is. absurd (let side : Opponent ≡ Owner = ap (λ (act : Act). act.side) is in cc)),
-    λ late card is. (let what : Card 4 ≡ Card card = ap (λ (act : Act). act.what) is in cc),
-  ),
-  λ by. (let same = same_Some 4 5 (by.1 (omega arith) 5 refl) in omega (arith, same)),
-  ((tt, λ late. absurd (omega (arith, late))), λ late. absurd (omega (arith, late))),
-)
-
--- whoever plays no card, a card that they don't hold, or one that they have played, is at a loss at their turn. Nobody is once the deal is done, nor at the
--- other player's turn. After TC TD 9C the two fits, and the eight doesn't
-pub at_a_loss :
-    (map (λ stated. is_at_loss (λ acts. stated) (start_of close_to_lost) (hands_of close_to_lost pairing) []) (None ∷ Some 7 ∷ Some 4 ∷ [])
-    ≡ true ∷ true ∷ false ∷ [])
-    × (map (is_at_loss (λ acts. None) (start_of close_to_lost) (hands_of close_to_lost pairing)) ((Card 0 ∷ []) ∷ (Card 1 ∷ Card 0 ∷ []) ∷ [])
-    ≡ false ∷ false ∷ [])
-    × (map (λ stated. is_at_loss (λ acts. stated) (start_of level) (hands_of level pairing) (Go ∷ Card 32 ∷ Card 37 ∷ Card 36 ∷ []))
-    (Some 4 ∷ Some 28 ∷ Some 36 ∷ []) ≡ false ∷ true ∷ true ∷ [])
-at_a_loss = (refl, refl, refl)
-
--- the player who follows a plan plays the same card after any ace of the opponent. A player may also see the sides alone
-pub seen_by_players :
-    (map (follower_of four_twos (Play 4 (To 1) ∷ Play 5 End ∷ [])) ([] ∷ (plays Opponent 0 ∷ plays Owner 4 ∷ []) ∷ (plays Opponent 1 ∷ plays Owner 4 ∷ []) ∷ [])
-    ≡ Some 4 ∷ Some 5 ∷ Some 5 ∷ [])
-    × (map (follower_of (record four_twos { played = plays Owner 7 ∷ [] }) (Play 4 End ∷ [])) ((plays Owner 7 ∷ []) ∷ []) ≡ Some 4 ∷ [])
-    × (player_by (λ (act : Act). act.side) (λ (sides : List Side). Some (length sides)) (plays Opponent 0 ∷ plays Owner 4 ∷ []) ≡ Some 2)
-    × (by_suit (plays Opponent 0 ∷ plays Owner 6 ∷ []) ≡ Some 4) × (by_suit (plays Opponent 1 ∷ plays Owner 6 ∷ []) ≡ Some 5)
-seen_by_players = (refl, refl, refl, refl, refl)
+use Rattle.crib_players.proofs.PlayerExamples.{ace_led, by_suit, pairing_is}
 
 -- ---- the opponent needs two holes, and pairs whatever the owner leads
 abbrev lost_after : ℕ → ℕ → Game
@@ -76,10 +37,6 @@ lost_after mine theirs = game_with pairing (plays Owner mine ∷ plays Opponent 
 
 abbrev pairs : List Game
 pairs = lost_after 0 1 ∷ lost_after 4 7 ∷ lost_after 5 7 ∷ lost_after 6 7 ∷ []
-
-pairing_is : IsDealOf close_to_lost pairing
-unfolding set_where
-pairing_is = record { deal = record { held = refl; thrown = refl; distinct = refl; hidden_before = refl }; fixed = refl }
 
 lost : (mine theirs : ℕ) → IsLegal (start_of close_to_lost) (hands_of close_to_lost pairing) (Card theirs ∷ Card mine ∷ []) →
     acts_of Owner (Card theirs ∷ Card mine ∷ []) ≡ plays Opponent theirs ∷ plays Owner mine ∷ [] →
@@ -114,7 +71,64 @@ pairs_miss (suc (suc (suc zero))) game among = subst (IsMissed close_to_lost) (s
     (lost 6 7 ((tt, may (Card 6) [] refl (refl, refl)), may (Card 7) (Card 6 ∷ []) refl (refl, refl)) refl refl refl)
 pairs_miss (suc (suc (suc (suc place)))) game among = absurd (none-some game among)
 
--- after the lead there is no card of the owner
+-- the first acts of a game, the last one first
+pub first_acts : map (acts_before (lost_after 0 1)) (0 ∷ 1 ∷ 2 ∷ 3 ∷ [])
+    ≡ [] ∷ (plays Owner 0 ∷ []) ∷ (plays Opponent 1 ∷ plays Owner 0 ∷ []) ∷ (plays Opponent 1 ∷ plays Owner 0 ∷ []) ∷ []
+first_acts = refl
+
+pub begun_in_pairs : IsBegun pairs (plays Owner 6 ∷ []) × IsBegun pairs (plays Opponent 7 ∷ plays Owner 4 ∷ []) × ¬ (IsBegun pairs (plays Owner 7 ∷ []))
+begun_in_pairs = (
+  record { place = 3; game = lost_after 6 7; among = refl; begins = refl },
+  record { place = 1; game = lost_after 4 7; among = refl; begins = refl },
+  λ is. none is.place is.game is.among is.begins,
+)
+  where
+    none : (place : ℕ) (game : Game) → slice_get pairs place ≡ Some game → acts_before game 1 ≡ plays Owner 7 ∷ [] → ⊥
+    none zero game among e = (
+        let same = same_Some (lost_after 0 1) game among in
+        let cards : ◌≡◌ {A = List ℕ} (0 ∷ []) (7 ∷ []) = ap (λ (game : Game). cards_of (moves_of (acts_before game 1))) same
+        ∙ ap (λ (acts : List Act). cards_of (moves_of acts)) e in
+        cc
+        )
+    none (suc zero) game among e = (
+        let same = same_Some (lost_after 4 7) game among in
+        let cards : ◌≡◌ {A = List ℕ} (4 ∷ []) (7 ∷ []) = ap (λ (game : Game). cards_of (moves_of (acts_before game 1))) same
+        ∙ ap (λ (acts : List Act). cards_of (moves_of acts)) e in
+        cc
+        )
+    none (suc (suc zero)) game among e = (
+        let same = same_Some (lost_after 5 7) game among in
+        let cards : ◌≡◌ {A = List ℕ} (5 ∷ []) (7 ∷ []) = ap (λ (game : Game). cards_of (moves_of (acts_before game 1))) same
+        ∙ ap (λ (acts : List Act). cards_of (moves_of acts)) e in
+        cc
+        )
+    none (suc (suc (suc zero))) game among e = (
+        let same = same_Some (lost_after 6 7) game among in
+        let cards : ◌≡◌ {A = List ℕ} (6 ∷ []) (7 ∷ []) = ap (λ (game : Game). cards_of (moves_of (acts_before game 1))) same
+        ∙ ap (λ (acts : List Act). cards_of (moves_of acts)) e in
+        cc
+        )
+    none (suc (suc (suc (suc place)))) game among e = none-some game among
+
+-- each card of the hold is led, and after the lead there is no card of the owner
+led : (place mine theirs : ℕ) → slice_get pairs place ≡ Some (lost_after mine theirs) → IsBegun pairs (plays Owner mine ∷ [])
+led place mine theirs among = record { place = place; game = lost_after mine theirs; among = among; begins = refl }
+
+pub each_is_led : (mine theirs : ℕ) → HasEachCard close_to_lost pairs (lost_after mine theirs) 0
+each_is_led mine theirs card other at can = leads other can
+  where
+    leads : (other : ℕ) → may_play close_to_lost [] other ≡ true → IsBegun pairs (plays Owner other ∷ [])
+    leads zero can = led 0 0 1 refl
+    leads (suc zero) can = absurd (both_ways false refl can)
+    leads (suc (suc zero)) can = absurd (both_ways false refl can)
+    leads (suc (suc (suc zero))) can = absurd (both_ways false refl can)
+    leads (suc (suc (suc (suc zero)))) can = led 1 4 7 refl
+    leads (suc (suc (suc (suc (suc zero))))) can = led 2 5 7 refl
+    leads (suc (suc (suc (suc (suc (suc zero)))))) can = led 3 6 7 refl
+    leads (suc (suc (suc (suc (suc (suc (suc other))))))) can =
+        let not_held : has (0 ∷ 4 ∷ 5 ∷ 6 ∷ []) (suc (suc (suc (suc (suc (suc (suc other))))))) ≡ false = grind (arith, nat_tests) in
+        absurd (both_ways _ not_held (and_parts _ _ (and_parts _ _ can).0).0)
+
 lead_alone : (problem : Setup) (games : List Game) (mine theirs turn : ℕ) → 1 ≤ turn → HasEachCard problem games (lost_after mine theirs) turn
 lead_alone problem games mine theirs zero late = absurd (omega (arith, late))
 lead_alone problem games mine theirs (suc zero) late = λ card other at can. (
@@ -123,7 +137,7 @@ lead_alone problem games mine theirs (suc zero) late = λ card other at can. (
 lead_alone problem games mine theirs (suc (suc turn)) late = λ card other at can. absurd (none-some (own_card card) at)
 
 pairs_turn : (mine theirs turn : ℕ) → HasEachCard close_to_lost pairs (lost_after mine theirs) turn
-pairs_turn mine theirs zero = each_from close_to_lost pairs (lost_after mine theirs) 0 0 refl refl
+pairs_turn mine theirs zero = each_is_led mine theirs
 pairs_turn mine theirs (suc turn) = lead_alone close_to_lost pairs mine theirs (suc turn) (omega arith)
 
 pairs_each : (place turn : ℕ) (game : Game) → slice_get pairs place ≡ Some game → HasEachCard close_to_lost pairs game turn
@@ -170,7 +184,8 @@ pub cards_that_may_be_played :
     (map (may_play close_to_lost []) (0 ∷ 4 ∷ 7 ∷ 12 ∷ []) ≡ true ∷ true ∷ false ∷ false ∷ [])
     × (map (may_play close_to_lost (plays Opponent 1 ∷ plays Owner 0 ∷ [])) (0 ∷ 4 ∷ 1 ∷ []) ≡ false ∷ true ∷ false ∷ [])
     × (map (may_play level (reverse (take 4 level_acts))) (4 ∷ 28 ∷ 36 ∷ []) ≡ true ∷ false ∷ false ∷ [])
-cards_that_may_be_played = (refl, refl, refl)
+    × (map (may_play level (reverse (take 6 level_acts))) (4 ∷ 28 ∷ 36 ∷ 32 ∷ []) ≡ false ∷ true ∷ false ∷ false ∷ [])
+cards_that_may_be_played = (refl, refl, refl, refl)
 
 -- with four holes to go the second turn counts too: each first card is there, and after the aces neither of the other twos
 abbrev four_to_go : Setup
@@ -190,9 +205,6 @@ first_turn_has_each = (
 )
 
 -- ---- after the ace of clubs was led one game refutes: no other lead need be there
-abbrev ace_led : Setup
-ace_led = record close_to_lost { version = Two; played = plays Owner 0 ∷ [] }
-
 ace_led_is : longer close_to_lost (own_card 0) ≡ ace_led
 ace_led_is = refl
 

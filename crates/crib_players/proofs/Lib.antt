@@ -4,4 +4,5 @@ pub mod Followers
 pub mod Longer
 pub mod Judged
 pub mod Missed
+mod PlayerExamples
 mod Examples

@@ -11,8 +11,8 @@ use Rattle.crib_cards.specs.declared.moves.Move.{Move}
 use Rattle.crib_cards.specs.declared.moves.Move.TheVariants.{Card, Go}
 use Rattle.crib_play.specs.Record.{mover}
 use Rattle.crib_play.specs.Score.{is_done}
-use Rattle.crib_play.specs.Legal.{IsLegal, MayCome, MayTake, cards_of, letters_of}
-use Rattle.crib_play.specs.History.{acts_of, moves_of}
+use Rattle.crib_play.specs.Legal.{IsLegal, MayCome, MayTake, letters_of}
+use Rattle.crib_play.specs.History.{acts_of}
 use Rattle.crib_show.specs.declared.show.outcomes.Outcome.TheVariants.{Reached, Lost, Short}
 use Rattle.crib_show.specs.Outcome.{outcome_of}
 use Rattle.crib_show.specs.Show.{hand_points, crib_points}
@@ -76,6 +76,13 @@ pub first_acts : map (acts_before (lost_after 0 1)) (0 ∷ 1 ∷ 2 ∷ 3 ∷ [])
     ≡ [] ∷ (plays Owner 0 ∷ []) ∷ (plays Opponent 1 ∷ plays Owner 0 ∷ []) ∷ (plays Opponent 1 ∷ plays Owner 0 ∷ []) ∷ []
 first_acts = refl
 
+led_same : (mine theirs other : ℕ) (game : Game) → Some (lost_after mine theirs) ≡ Some game → acts_before game 1 ≡ plays Owner other ∷ [] → mine ≡ other
+led_same mine theirs other game among e =
+    let acts : plays Owner mine ∷ [] ≡ plays Owner other ∷ [] = ap (λ (game : Game). acts_before game 1) (same_Some (lost_after mine theirs) game among) ∙ e in
+    let act : plays Owner mine ≡ plays Owner other = cc in
+    let what : Card mine ≡ Card other = ap (λ (act : Act). act.what) act in
+    cc
+
 pub begun_in_pairs : IsBegun pairs (plays Owner 6 ∷ []) × IsBegun pairs (plays Opponent 7 ∷ plays Owner 4 ∷ []) × ¬ (IsBegun pairs (plays Owner 7 ∷ []))
 begun_in_pairs = (
   record { place = 3; game = lost_after 6 7; among = refl; begins = refl },
@@ -84,30 +91,10 @@ begun_in_pairs = (
 )
   where
     none : (place : ℕ) (game : Game) → slice_get pairs place ≡ Some game → acts_before game 1 ≡ plays Owner 7 ∷ [] → ⊥
-    none zero game among e = (
-        let same = same_Some (lost_after 0 1) game among in
-        let cards : ◌≡◌ {A = List ℕ} (0 ∷ []) (7 ∷ []) = ap (λ (game : Game). cards_of (moves_of (acts_before game 1))) same
-        ∙ ap (λ (acts : List Act). cards_of (moves_of acts)) e in
-        cc
-        )
-    none (suc zero) game among e = (
-        let same = same_Some (lost_after 4 7) game among in
-        let cards : ◌≡◌ {A = List ℕ} (4 ∷ []) (7 ∷ []) = ap (λ (game : Game). cards_of (moves_of (acts_before game 1))) same
-        ∙ ap (λ (acts : List Act). cards_of (moves_of acts)) e in
-        cc
-        )
-    none (suc (suc zero)) game among e = (
-        let same = same_Some (lost_after 5 7) game among in
-        let cards : ◌≡◌ {A = List ℕ} (5 ∷ []) (7 ∷ []) = ap (λ (game : Game). cards_of (moves_of (acts_before game 1))) same
-        ∙ ap (λ (acts : List Act). cards_of (moves_of acts)) e in
-        cc
-        )
-    none (suc (suc (suc zero))) game among e = (
-        let same = same_Some (lost_after 6 7) game among in
-        let cards : ◌≡◌ {A = List ℕ} (6 ∷ []) (7 ∷ []) = ap (λ (game : Game). cards_of (moves_of (acts_before game 1))) same
-        ∙ ap (λ (acts : List Act). cards_of (moves_of acts)) e in
-        cc
-        )
+    none zero game among e = (let same = led_same 0 1 7 game among e in omega (arith, same))
+    none (suc zero) game among e = (let same = led_same 4 7 7 game among e in omega (arith, same))
+    none (suc (suc zero)) game among e = (let same = led_same 5 7 7 game among e in omega (arith, same))
+    none (suc (suc (suc zero))) game among e = (let same = led_same 6 7 7 game among e in omega (arith, same))
     none (suc (suc (suc (suc place)))) game among e = none-some game among
 
 -- each card of the hold is led, and after the lead there is no card of the owner
@@ -160,13 +147,24 @@ nobody_is_sure sure = refuted close_to_lost pairs by_suit (setup_from close_to_l
 pub no_game_at_all : ¬ (Refutes close_to_lost [])
 no_game_at_all is = none-some is.some.0 is.some.1
 
+-- nor does a game whose deal has too few cards
+pub no_game_of_a_deal : ¬ (Refutes close_to_lost (game_with (record pairing { throw = 8 ∷ [] }) [] ∷ []))
+no_game_of_a_deal is =
+    let two = (is.missed 0 (game_with (record pairing { throw = 8 ∷ [] }) []) refl).of_game.deal.deal.thrown in absurd (omega (arith, two))
+
 -- one two of three isn't enough
 abbrev without_a_two : List Game
 without_a_two = lost_after 0 1 ∷ lost_after 4 7 ∷ lost_after 5 7 ∷ []
 
 pub each_two_is_needed : ¬ (Refutes close_to_lost without_a_two)
 each_two_is_needed is =
-    both_ways (is_begun without_a_two [] 6) refl (begun_to without_a_two [] 6 (is.complete 0 0 (lost_after 0 1) refl (omega arith) 0 6 refl refl))
+    let begun = is.complete 0 0 (lost_after 0 1) refl (omega arith) 0 6 refl refl in none begun.place begun.game begun.among begun.begins
+  where
+    none : (place : ℕ) (game : Game) → slice_get without_a_two place ≡ Some game → acts_before game 1 ≡ plays Owner 6 ∷ [] → ⊥
+    none zero game among e = (let same = led_same 0 1 6 game among e in omega (arith, same))
+    none (suc zero) game among e = (let same = led_same 4 7 6 game among e in omega (arith, same))
+    none (suc (suc zero)) game among e = (let same = led_same 5 7 6 game among e in omega (arith, same))
+    none (suc (suc (suc place))) game among e = none-some game among
 
 -- an unfinished game; and one in which the owner reaches hole 121
 pub not_missed : ¬ (IsMissed close_to_lost (game_with pairing (plays Owner 0 ∷ [])))
@@ -185,7 +183,10 @@ pub cards_that_may_be_played :
     × (map (may_play close_to_lost (plays Opponent 1 ∷ plays Owner 0 ∷ [])) (0 ∷ 4 ∷ 1 ∷ []) ≡ false ∷ true ∷ false ∷ [])
     × (map (may_play level (reverse (take 4 level_acts))) (4 ∷ 28 ∷ 36 ∷ []) ≡ true ∷ false ∷ false ∷ [])
     × (map (may_play level (reverse (take 6 level_acts))) (4 ∷ 28 ∷ 36 ∷ 32 ∷ []) ≡ false ∷ true ∷ false ∷ false ∷ [])
-cards_that_may_be_played = (refl, refl, refl, refl)
+    × (map (λ before. may_play level before 28) ((plays Owner 28 ∷ []) ∷ reverse (take 3 level_acts) ∷ reverse (take 2 level_acts) ∷ [])
+    ≡ false ∷ false ∷ true ∷ [])
+    × (may_play (record level { hold = 36 ∷ 38 ∷ 3 ∷ 28 ∷ [] }) (plays Owner 38 ∷ plays Opponent 37 ∷ plays Owner 36 ∷ []) 3 ≡ true)
+cards_that_may_be_played = (refl, refl, refl, refl, refl, refl)
 
 -- with four holes to go the second turn counts too: each first card is there, and after the aces neither of the other twos
 abbrev four_to_go : Setup

@@ -43,7 +43,8 @@ played_by_suit = (
 )
 
 -- whoever plays no card, a card that they don't hold, or one that they have played, is at a loss at their turn. Nobody is once the deal is done, nor at the
--- other player's turn. After TC TD 9C the two fits, and the eight doesn't
+-- other player's turn. After TC TD 9C the two fits, and the eight doesn't, and after TC TD 9C AD neither does. The last player plays the card whose number is
+-- that of the acts so far
 pub at_a_loss :
     (map (λ stated. is_at_loss (λ acts. stated) (start_of close_to_lost) (hands_of close_to_lost pairing) []) (None ∷ Some 7 ∷ Some 4 ∷ [])
     ≡ true ∷ true ∷ false ∷ [])
@@ -54,7 +55,9 @@ pub at_a_loss :
     × (is_at_loss (λ acts. None) (start_of level) (hands_of level pairing) (Card 1 ∷ Card 32 ∷ Card 37 ∷ Card 36 ∷ []) ≡ false)
     × (map (is_at_loss (λ acts. Some (length acts)) (start_of close_to_lost) (record { owner = 2 ∷ 6 ∷ 0 ∷ 4 ∷ []; opponent = 8 ∷ 9 ∷ 10 ∷ 11 ∷ [] }))
     ([] ∷ (Card 8 ∷ Card 6 ∷ []) ∷ (Card 8 ∷ Card 2 ∷ []) ∷ []) ≡ false ∷ false ∷ true ∷ [])
-at_a_loss = (refl, refl, refl, refl, refl)
+    × (is_at_loss (λ acts. Some 28) (start_of level) (record { owner = 36 ∷ 4 ∷ 28 ∷ 0 ∷ []; opponent = 37 ∷ 12 ∷ 49 ∷ 50 ∷ [] })
+    (Card 12 ∷ Card 4 ∷ Card 37 ∷ Card 36 ∷ []) ≡ true)
+at_a_loss = (refl, refl, refl, refl, refl, refl)
 
 -- the player who follows a plan plays the same card after any ace of the opponent. A player may also see the sides alone
 pub seen_by_players :

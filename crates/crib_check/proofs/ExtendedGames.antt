@@ -16,7 +16,8 @@ use Rattle.crib_know.proofs.RecordTurns.{agrees_before, agreeing_led}
 use Rattle.crib_game.specs.declared.section.game.Game.{Game}
 use Rattle.crib_game.specs.declared.following.ending.Ending.{Ending}
 use Rattle.crib_check.specs.Failing.{IsFailing}
-use Rattle.crib_sure.specs.Private.Histories.{place_by, IsStatedEvent, FollowsBy, Extends, history_of_game}
+use Rattle.crib_sure.specs.HistoryPlaces.{place_by}
+use Rattle.crib_sure.specs.Private.Histories.{IsStatedEvent, FollowsBy, Extends, history_of_game}
 use Rattle.crib_sure.proofs.PlaceByHistory.{begun_late, follows_to}
 
 pub extends_less : {event : Event} {history longer : List Event} → Extends (event ∷ history) longer → Extends history longer

@@ -29,7 +29,8 @@ use Rattle.crib_game.specs.Followed.{ending_with, ending_without}
 use Rattle.crib_check.specs.declared.verdict.Verdict.TheVariants.{Holds, Fails}
 use Rattle.crib_sure.specs.Sure.{IsFollowed, IsSure}
 use Rattle.crib_check.specs.Failing.{IsFailingEnding, IsFailing, IsFirstFailing, opponent_letters}
-use Rattle.crib_sure.specs.Private.Histories.{place_by, IsStatedEvent, Extends, history_of_game}
+use Rattle.crib_sure.specs.HistoryPlaces.{place_by}
+use Rattle.crib_sure.specs.Private.Histories.{IsStatedEvent, Extends, history_of_game}
 use Rattle.crib_check.specs.Private.Positions.{StandsAt}
 use Rattle.crib_check.specs.Laws.{ExactLaw, SameLaw}
 use Rattle.crib_check.proofs.ExtendedGames.{next_turn, failing_begins, key_at, stands_at}

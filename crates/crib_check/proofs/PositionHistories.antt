@@ -10,7 +10,8 @@ use Rattle.crib_know.specs.Knowledge.{Knowledge, played_events}
 use Rattle.crib_know.specs.Hidden.{KnowsAfter}
 use Rattle.crib_check.specs.declared.keys.Key.{Key}
 use Rattle.crib_check.specs.declared.trails.Event.{Event as TrailEvent}
-use Rattle.crib_sure.specs.Private.Histories.{place_after_event, IsStatedEvent}
+use Rattle.crib_sure.specs.HistoryPlaces.{place_after_event}
+use Rattle.crib_sure.specs.Private.Histories.{IsStatedEvent}
 use Rattle.crib_check.specs.Private.Trails.{history_of_trail}
 use Rattle.crib_check.specs.Private.Positions.{StandsAt}
 use Rattle.crib_sure.proofs.PlaceByHistory.{place_at_start, follows_at_start, place_later}

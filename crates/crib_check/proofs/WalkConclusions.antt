@@ -38,7 +38,8 @@ use Rattle.crib_game.specs.Private.Judging.{is_over, full_at}
 use Rattle.crib_game.specs.Private.Tracing.{is_stuck_at, ending_at}
 use Rattle.crib_check.specs.declared.keys.Key.{Key}
 use Rattle.crib_check.specs.Failing.{comes_before, IsFailingEnding, IsFailing, is_suited}
-use Rattle.crib_sure.specs.Private.Histories.{place_by, IsStatedEvent, Extends, history_of_game}
+use Rattle.crib_sure.specs.HistoryPlaces.{place_by}
+use Rattle.crib_sure.specs.Private.Histories.{IsStatedEvent, Extends, history_of_game}
 use Rattle.crib_check.specs.Private.Positions.{StandsAt, HoldsFrom, IsSettled, IsFirstFrom, MayTakeAt, IsStuckAt, AllReach}
 use Rattle.crib_check.specs.Private.Found.{IsSettledBelow}
 use Rattle.crib_check.proofs.ExtendedGames.{NextTurn, extends_less, next_turn, failing_agrees}

@@ -32,12 +32,12 @@ move_is what other e = grind (arith, nat_tests, e)
 same_move_self : (what : Move) → same_move what what ≡ true
 same_move_self what = grind (arith, nat_tests)
 
-act_is : (act other : Act) → same_act act other ≡ true → act ≡ other
+pub act_is : (act other : Act) → same_act act other ≡ true → act ≡ other
 act_is act other e =
     let parts = and_parts (same_side act.side other.side) (same_move act.what other.what) e in
     λ i. record { side = same_is act.side other.side parts.0 i; what = move_is act.what other.what parts.1 i }
 
-same_act_self : (act : Act) → same_act act act ≡ true
+pub same_act_self : (act : Act) → same_act act act ≡ true
 same_act_self act = (λ i. same_self act.side i && same_move act.what act.what) ∙ same_move_self act.what
 
 -- there is no remark exactly where the act is the turn of the opening, or the opening has no turn there

@@ -37,7 +37,8 @@ use Rattle.crib_know.proofs.Deals.{dealt_is}
 use Rattle.crib_sure.specs.Sure.{IsFollowed, IsSure}
 use Rattle.crib_search.specs.Trees.{Tree}
 use Rattle.crib_search.specs.Finder.{Found, options, OwnerFinds, Finds, FindsTree}
-use Rattle.crib_sure.specs.Private.Histories.{place_by, IsStatedEvent, FollowsBy}
+use Rattle.crib_sure.specs.HistoryPlaces.{place_by}
+use Rattle.crib_sure.specs.Private.Histories.{IsStatedEvent, FollowsBy}
 use Rattle.crib_sure.proofs.PlaceByHistory.{begun_late, place_at_start, place_later, place_history, follows_to}
 use Rattle.crib_search.proofs.Options.{IsOption, option_is, no_option, option_left, none_left}
 use Rattle.crib_search.proofs.RecordHistories.{letters_whole, led_by_record, agrees_of_record, is_whole, shown_by, left_of, fits_past}

@@ -42,7 +42,8 @@ use Rattle.crib_know.proofs.OpeningLawProofs.{played_led}
 use Rattle.crib_sure.specs.Sure.{IsFollowed, IsSure}
 use Rattle.crib_sure.specs.Shows.{full_behind}
 use Rattle.crib_search.specs.Finder.{Found, options, OwnerFinds, Tries, Finds}
-use Rattle.crib_sure.specs.Private.Histories.{place_by, IsStatedEvent, FollowsBy}
+use Rattle.crib_sure.specs.HistoryPlaces.{place_by}
+use Rattle.crib_sure.specs.Private.Histories.{IsStatedEvent, FollowsBy}
 use Rattle.crib_sure.proofs.PlaceByHistory.{follows_at_start, place_history, follows_from}
 use Rattle.crib_sure.proofs.RecordsFromOpening.{begun_plays}
 use Rattle.crib_search.proofs.Options.{IsOption, option_is, option_from, no_option, option_left, left_option}

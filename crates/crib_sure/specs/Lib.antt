@@ -1,4 +1,5 @@
 pub mod Sure
 pub mod Shows
+pub mod HistoryPlaces
 pub mod SuitOrder
 pub mod Private

@@ -19,7 +19,8 @@ use Rattle.crib_game.specs.Replay.{acts_back}
 use Rattle.crib_cards.specs.Deals.{deal_numbers, is_in_pack_order}
 use Rattle.crib_check.specs.declared.keys.Key.{Key}
 use Rattle.crib_check.specs.Failing.{IsFailing, comes_before, is_suited}
-use Rattle.crib_sure.specs.Private.Histories.{place_by, FollowsBy, IsStatedEvent, Extends, history_of_game}
+use Rattle.crib_sure.specs.HistoryPlaces.{place_by}
+use Rattle.crib_sure.specs.Private.Histories.{FollowsBy, IsStatedEvent, Extends, history_of_game}
 
 -- a position represents a history: the history follows the plan, the knowledge is what the owner knows after it, and
 -- the place is that of the plan after it

@@ -1,7 +1,7 @@
 //! The replay of a game against its problem.
 ghost use Rattle.std.specs.Prelude.{◌≡◌, List, reverse, OnOk, OnErr};
 ghost use Rattle.crib_cards.specs.declared.moves.Move.{Move};
-ghost use Rattle.crib_problem.specs.Setup.{start_of};
+ghost use Rattle.crib_problem.specs.Setup.{IsSetup, start_of};
 ghost use Rattle.crib_game.specs.Replay.{IsRecordOf, act_rows, by_rules, full_with, replay_result};
 
 use super::judge::{Follower, judge};
@@ -31,6 +31,7 @@ pub fn replay(problem: &Problem, game: &Game) -> Result<Report, GameFault>
     ensures legal { OnOk result ((played : List Move) × IsRecordOf problem.now game.now played) }
     ensures refused { OnErr result ((played : List Move) → IsRecordOf problem.now game.now played → ⊥) }
     ensures exact { result ≡ replay_result problem.now game.now }
+    ensures setup { IsSetup problem.now }
 {
     let mut follower = RowsSoFar {
         rows: ArrayVec::new(),

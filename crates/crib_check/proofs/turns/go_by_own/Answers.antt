@@ -1,7 +1,7 @@
 use Rattle.std.proofs.Common.{◌≡◌, sym, subst, ◌∙◌}
 use Rattle.crib_cards.specs.declared.moves.Move.{Move}
 use Rattle.crib_play.specs.History.{Own}
-use Rattle.crib_sure.specs.Private.Histories.{place_after_event}
+use Rattle.crib_sure.specs.HistoryPlaces.{place_after_event}
 use Rattle.crib_check.proofs.PositionHistories.{stands_with}
 use Rattle.crib_check.proofs.turns.go_by_own.Goals as goal
 use Rattle.crib_check.proofs.turns.go_by_own.Goals.{in-Card, in-Go}

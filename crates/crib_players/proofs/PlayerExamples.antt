@@ -17,7 +17,11 @@ use Rattle.crib_problem.specs.declared.problem.Version.TheVariants.{Two}
 use Rattle.crib_problem.specs.Setup.{Setup, IsDealOf, start_of, hands_of}
 use Rattle.crib_problem.proofs.ExampleProblems.{plays, level, four_twos, close_to_lost, pairing}
 use Rattle.crib_plan.specs.declared.plan.Next.TheVariants.{End, To}
-use Rattle.crib_plan.specs.declared.plan.Node.TheVariants.{Play}
+use Rattle.crib_plan.specs.declared.plan.Node.TheVariants.{Play, See}
+use Rattle.crib_sure.specs.HistoryPlaces.{place_by}
+use Rattle.crib_cards.specs.declared.letters.Letter.TheVariants.{Seen}
+use Rattle.std.specs.Prelude.{replicate}
+use Rattle.crib_play.specs.History.{Own, Theirs}
 use Rattle.std.proofs.Common.{◌++◌}
 use Rattle.crib_players.specs.Players.{IsPlayedBy, Player, player_by, follower_of, AreBy, is_at_loss, IsSurePlayer}
 
@@ -67,6 +71,17 @@ pub seen_by_players :
     × (player_by (λ (act : Act). act.side) (λ (sides : List Side). Some (length sides)) (plays Opponent 0 ∷ plays Owner 4 ∷ []) ≡ Some 2)
     × (by_suit (plays Opponent 0 ∷ plays Owner 6 ∷ []) ≡ Some 4) × (by_suit (plays Opponent 1 ∷ plays Owner 6 ∷ []) ≡ Some 5)
 seen_by_players = (refl, refl, refl, refl, refl)
+
+-- after the two of clubs an ace leads back to the first node, and any other letter to the end. After an ace the two of clubs ends the plan. In the opening,
+-- which is two turns here, the plan stays at its start
+pub places_of_plans :
+    (map (place_by (Play 4 (To 1) ∷ See (To 0 ∷ replicate 13 End) ∷ []) [])
+    ((Theirs (Seen 1) ∷ Own (Card 4) ∷ []) ∷ (Theirs (Seen 2) ∷ Own (Card 4) ∷ []) ∷ (Own Go ∷ Own (Card 4) ∷ []) ∷ []) ≡ To 0 ∷ End ∷ To 1 ∷ [])
+    × (map (place_by (See (To 1 ∷ replicate 13 End) ∷ Play 4 End ∷ []) []) ((Theirs (Seen 1) ∷ []) ∷ (Own (Card 4) ∷ Theirs (Seen 1) ∷ []) ∷ [])
+    ≡ To 1 ∷ End ∷ [])
+    × (map (place_by (Play 4 (To 1) ∷ Play 5 End ∷ []) (plays Owner 6 ∷ plays Opponent 0 ∷ []))
+    ((Theirs (Seen 1) ∷ Own (Card 6) ∷ []) ∷ (Own (Card 4) ∷ Theirs (Seen 1) ∷ Own (Card 6) ∷ []) ∷ []) ≡ To 0 ∷ To 1 ∷ [])
+places_of_plans = (refl, refl, refl)
 
 -- ---- records that a player plays
 abbrev pub ace_led : Setup

@@ -74,14 +74,17 @@ find_sheets() {
 }
 
 # keep_input WORD..: for a recipe that has no words of its own. Keeps standard input in $room/input, in which a byte
-# more than cribplan reads is enough.
+# more than cribplan reads is enough. If it can't be read, the answer is the fault of cribplan.
 keep_input() {
     if [ $# -eq 1 ] && [ -f "$1" ]; then
         say "it reads standard input; type $name < $1"
         exit 2
     fi
     [ $# -eq 0 ] || refuse_words "$@"
-    head -c 8388609 >"$room/input" || exit 3
+    head -c 8388609 >"$room/input" 2>/dev/null && return
+    say "the input can't be read"
+    echo "fault 9" >"$room/out"
+    finish 3
 }
 
 # ask COMMAND < INPUT: asks cribplan. Its answer is in $room/answer and by lines in $answer, its status, 0 to 2, in
@@ -144,25 +147,21 @@ stop_if_refused() {
 
 # finish STATUS: prints what is kept in $room/out, and ends the recipe.
 finish() {
-    cat "$room/out" || exit 3
-    exit "$1"
+    cat "$room/out" 2>/dev/null && exit "$1"
+    say "the answer can't be written"
+    exit 3
 }
 
-# An awk function that several recipes need: a word as it is meant, which is a card, a keyword, or the word itself.
-# shellcheck disable=SC2016
-meant='
-    function meant(word,    capital, small) {
-        capital = toupper(word)
-        sub(/^10/, "T", capital)
-        sub(/\342\231\243/, "C", capital)
-        sub(/\342\231\246/, "D", capital)
-        sub(/\342\231\245/, "H", capital)
-        sub(/\342\231\240/, "S", capital)
-        if (capital ~ /^[A23456789TJQK][CDHS]$/) return capital
-        small = tolower(word)
-        return small ~ ("^(problem|dealer|owner|opponent|score|starter|hold|throw|goal|win|holes|stop|played|own|opp|go|" \
-            "game|acts|plan|nodes|play|see|end)$") ? small : word
-    }'
+# run_python FILE WORD..: runs the part of the recipe that is in Python, and ends the recipe with what it prints and its
+# status. An error that it doesn't expect, and a missing Python, are a fault.
+run_python() {
+    name=$name python3 -EsB "$shared/$1" "${@:2}" >"$room/out"
+    status=$?
+    case $status in
+    1 | 127) exit 3 ;;
+    *) finish "$status" ;;
+    esac
+}
 
 # The parts of a problem that cribplan has accepted: its lines from `dealer` to `throw`, its goal, and its turns.
 facts=()
@@ -281,16 +280,6 @@ print_pegs() {
     [ "${#turns[@]}" -eq 0 ] || echo "pegs now: owner $own_now, opponent $opponent_now"
 }
 
-case ${1-} in
---help | -h)
-    print_help || exit 3
-    exit
-    ;;
---version)
-    print_version || exit 3
-    exit
-    ;;
-esac
 # stop STATUS: ends the recipe for a signal. A second one, as of a key pressed twice, doesn't stop the tidying up.
 stop() {
     trap '' HUP INT PIPE TERM
@@ -299,10 +288,17 @@ stop() {
 
 # The name is known before the folder is there, so that a signal leaves nothing.
 room=${TMPDIR:-/tmp}/$name.$$.$RANDOM
-part=
 trap 'stop 129' HUP
 trap 'stop 130' INT
 trap 'stop 141' PIPE
 trap 'stop 143' TERM
-trap 'trap "" HUP INT PIPE TERM; rm -rf "$room" ${part:+"$part"}' EXIT
-mkdir -m 700 "$room" || { trap - EXIT && exit 3; }
+trap 'trap "" HUP INT PIPE TERM; rm -rf "$room"' EXIT
+mkdir -m 700 "$room" 2>/dev/null || {
+    trap - EXIT
+    say "there can be no folder $room"
+    exit 3
+}
+case ${1-} in
+--help | -h) print_help >"$room/out" && finish 0 ;;
+--version) print_version >"$room/out" && finish 0 ;;
+esac

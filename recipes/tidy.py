@@ -1,0 +1,249 @@
+"""The part of cribplan-tidy that reads the text which the recipe has kept, on standard input, and prints it mended."""
+
+import os
+import re
+import sys
+from collections import Counter
+from contextlib import suppress
+from graphlib import CycleError, TopologicalSorter
+
+RANKS = "A23456789TJQK"
+LETTERS = f"{RANKS}g"
+CARD = f"[{RANKS}][CDHS]"
+KEYWORDS = "problem dealer owner opponent score starter hold throw goal win holes stop played own opp go".split()
+KEYWORDS += "game acts plan nodes play see end".split()
+SIGNS = str.maketrans(  # suits, dashes and blanks; what is written for them; and what is left out
+    "♣♧♦♢♥♡♠♤\u2010\u2011\u2012\u2013\u2014\u2212\t\r\u00a0", "CCDDHHSS------   ",
+    "\"“”„‟«»‘’‚\u200b\u200c\u200d\u2060\ufe0e\ufe0f\ufeff",
+)
+ARROW = r"\s*(?:[-=]>|=|[→⇒])\s*"
+BRANCH = rf"(?:(?:10|[{RANKS}])(?:-(?:10|[{RANKS}]))?|GO?)+"
+COUNTED, ACTS = ("played", "acts", "nodes"), ("own", "opp")
+END = -1  # the place after a plan
+MARK = "\ud800"  # no text has it; it is before the place of a node without a name, and around a place in a note
+SHEET = re.compile(r"You are the (?:pone|dealer) at \d|This plan is (?:not )?sure[.:] ")
+ROWS = re.compile(r"^(?:This plan is sure[^\n]*|The plan:)\n(.*?)(?=^Play a row|\Z)", re.M | re.S)
+ROW = r"(?i)( *)(?:(\[\d+\]) |([^:]*?) *: )?((?:(?:10|\w)[CDHS] ?)*)(?:(?:, then )?(?:(look):|see (\[\d+\])))?"
+
+
+def say(text: str, head: str = os.environ.get("name", "") + ": ") -> None:
+    """Prints a message of a recipe on standard error."""
+    with suppress(OSError):
+        os.write(2, f"{head}{text}\n".encode(errors="surrogateescape"))
+
+
+def meant(word: str) -> str:
+    """A word as it is meant, after its signs are mended: a card, a keyword, or the word itself."""
+    card = re.sub("^1?0", "T", word.upper())
+    small = word.lower().rstrip(":")
+    return card if re.fullmatch(CARD, card) else small if small in KEYWORDS else word
+
+
+def letters_of(word: str, others: str = LETTERS) -> str:
+    """The letters that a branch such as `A4-Kgo` lists, in order and each once; "" if it lists something else."""
+    found = {*LETTERS} - {*others} if word.lower() == "else" else set()
+    letters = re.sub("GO?", "g", word.upper().replace("10", "T")) if re.fullmatch(BRANCH, word, re.I) else ""
+    for first, last in re.findall("(.)(?:-(.))?", letters):
+        low, high = sorted(map(LETTERS.index, (first, last or first)))
+        found.update(LETTERS[low : high + 1])
+    return "".join(sorted(found, key=LETTERS.index))
+
+
+def joined(words: str) -> list[str]:
+    """The branches of a see line, each as one word."""
+    words = re.sub(" +- *|- +", "-", re.sub(" *: *", ":", re.sub("[,; ]+", " ", words)))
+    return re.sub(rf"(?<!\S)({BRANCH}) (?=(?:{BRANCH} ){{0,13}}{BRANCH}:)", r"\1", words, flags=re.I).split()
+
+
+class Node:
+    """A line of a plan: its name, what it does, and the rest, as words."""
+
+    def __init__(self, words: list[str], has_name: bool = True, has_kind: bool = True) -> None:
+        self.name = re.sub("[:.)]$", "", words[0]) if has_name else ""
+        self.kind = meant(words[has_name]) if has_kind else ""
+        rest = words[has_name + has_kind :]
+        self.is_see = self.kind == "see" or self.kind != "play" and ":" in "".join(rest[:1])
+        self.rest = joined(" ".join(rest)) if self.is_see else rest
+        names = [word.rpartition(":")[2] for word in self.rest if ":" in word] if self.is_see else self.rest[1:]
+        self.places: dict[str, int | None] = dict.fromkeys(filter(None, names))  # what each name means
+
+
+def node_of(line: str, in_plan: bool) -> Node | None:
+    """Reads a line as that of a node. If `play` or `see` is mistyped or missing behind a name, the card or the branches
+    show it.
+    """
+    words = re.sub(ARROW, ":", re.sub(rf"\b({CARD}|10[CDHS]){ARROW}", r"\1 ", line, flags=re.I)).split()
+    first, second, third = map(meant, [*words, "", ""][:3])
+    if second in ("play", "see"):
+        return Node(words)
+    if not in_plan or not second or first in KEYWORDS:
+        return Node(words, has_name=False) if in_plan and first in ("play", "see") else None
+    if ":" in second or re.fullmatch(CARD, second):
+        return Node(words, has_kind=False)
+    return Node(words) if ":" in third or len(words) < 5 and re.fullmatch(CARD, third) else None
+
+
+class Plan:
+    """The nodes of a plan in the order of their lines, their numbers, and what is reported of them."""
+
+    def __init__(self, nodes: list[Node]) -> None:
+        self.nodes, self.numbers, self.notes = nodes, [*range(len(nodes))], list[str]()
+        self.names, self.twice = {"end": END}, set[str]()
+        self.are_kept = False  # whether all names are kept, with the order of the lines
+        is_named = any(node.name for node in nodes)
+        for at, node in enumerate(nodes):
+            node.name = node.name or f"{MARK * is_named}{at}"
+            other = self.names.setdefault(node.name, at)
+            if other != at:
+                self.twice.add(node.name)
+                means = "means the end of the plan" if other == END else f"is that of line {MARK}{other}{MARK} too"
+                self.notes.append(f'line {MARK}{at}{MARK}: the name "{node.name}" {means}')
+        small = Counter(map(str.lower, self.names))
+        self.names |= {name.lower(): at for name, at in self.names.items() if small[name.lower()] == 1}
+        for at, node in enumerate(nodes):
+            for name in node.places:
+                node.places[name] = self.place_of(name)
+                if node.places[name] is None and (node.is_see or len(node.rest) == 2):
+                    self.notes.append(f'line {MARK}{at}{MARK}: no node has the name "{name}"')
+                    self.are_kept |= name.isdecimal() and int(name) < len(nodes)
+        if not self.are_kept:
+            self.sort()
+
+    def place_of(self, word: str) -> int | None:
+        """The node that a word names, in small letters if need be, or END, or None."""
+        bare = re.sub("[:.)]$", "", word)
+        return next((self.names[name] for name in (word, bare, bare.lower()) if name in self.names), None)
+
+    def sort(self) -> None:
+        """Numbers the nodes: in the order of their lines, if each leads to later ones. Otherwise the first is the node
+        "0", or the first line, or the only one that no other leads to; and each other follows all that lead to it. A
+        play node without a next one leads to the line below it, if nothing else does.
+        """
+        led_to = {place for node in self.nodes for place in node.places.values()}
+        for at, node in enumerate(self.nodes, 1):
+            if not node.is_see and len(node.rest) == 1 and re.fullmatch(CARD, meant(node.rest[0])) and at not in led_to:
+                name, place = (self.nodes[at].name, at) if at < len(self.nodes) else ("end", END)
+                node.rest.append(name)
+                node.places[name] = place
+        leads = [(at, to) for at, node in enumerate(self.nodes) for to in node.places.values() if to not in (END, None)]
+        roots = sorted({*self.numbers} - {to for _, to in leads})
+        firsts = [self.names.get("0"), 0, *roots[: 1 if len(roots) == 1 or self.notes else 0]]
+        first = next((at for at in firsts if at in roots), None)
+        if not first and all(at < to for at, to in leads):
+            return
+        if roots and first is None:
+            self.notes.append("the nodes are not sorted, since the first is not clear")
+            return
+        sorter = TopologicalSorter({first: ()})
+        for at, to in [*((first, at) for at in roots if at != first), *leads]:
+            sorter.add(to, at)
+        try:
+            self.numbers.sort(key=[*sorter.static_order()].__getitem__)
+            self.notes.append("the nodes are sorted: each leads to later ones")
+        except CycleError:
+            self.notes.append("the nodes are not sorted, since some lead in a circle")
+
+    def target(self, word: str) -> str:
+        """The word for what a word leads to."""
+        place = None if self.are_kept else self.place_of(word)
+        return word if place is None else "end" if place == END else str(self.numbers[place])
+
+    def branches(self, at: int) -> list[str]:
+        """The branches of a node in order, one for each node that they lead to; or as typed, if one isn't clear."""
+        parts = [part.rpartition(":")[::2] for part in self.nodes[at].rest]
+        named = "".join(letters_of(front) for front, _ in parts)
+        branches = [(letters_of(front, named), self.target(word)) for front, word in parts]
+        targets: dict[str, str] = {}
+        twice = [letter for front, word in branches for letter in front if targets.setdefault(letter, word) != word]
+        if twice or not all(letters and word for letters, word in branches):
+            unclear = "a branch is not ranks, a colon and a node, as in A4-K:3"
+            fault = f"{twice[0]} leads to two nodes" if twice else unclear
+            self.notes.append(f"line {MARK}{at}{MARK}: {fault}")
+            return [f"{front}:{self.target(word)}" if front else word for front, word in parts]
+        order = sorted(targets, key=LETTERS.index)
+        words = dict.fromkeys(targets[letter] for letter in order)
+        return ["".join(letter for letter in order if targets[letter] == word) + f":{word}" for word in words]
+
+    def line(self, at: int) -> str:
+        """The line of a node."""
+        node = self.nodes[at]
+        name = node.name if self.are_kept or node.name in self.twice else str(self.numbers[at])
+        rest = self.branches(at) if node.is_see else [*map(meant, node.rest[:1]), *map(self.target, node.rest[1:])]
+        return " ".join(word for word in (name, node.kind, *rest) if word and word[0] != MARK)
+
+
+def read_sheet(sheet: str) -> list[str]:
+    """The plan of a printed sheet. Each card and each look is a node, with the name of its paragraph or two numbers."""
+    rows = ROWS.findall(sheet)
+    made = ["plan 1", "nodes"] if rows else sheet.splitlines()
+    looks: list[tuple[int, int]] = []  # the blanks before each look that is open, and the place of its line
+    for at, row in enumerate("".join(rows[-1:]).splitlines()):
+        found = re.fullmatch(ROW, row)
+        if not found:
+            made += [row] * (row not in ("", "No card is needed", "The plan states no card"))
+            continue
+        blanks, name, label, cards, look, target = found.groups()
+        steps = [*cards.split(), *filter(None, [look])]
+        names = [name or f"{at}.0", *(f"{at}.{step}" for step in range(1, len(steps)))]
+        names[len(steps) :] = [target or "end"]
+        while looks and looks[-1][0] >= len(blanks):
+            looks.pop()
+        if label and looks:
+            made[looks[-1][1]] += f" {label.replace(' ', '')}:{names[0]}"
+        for step, name, following in zip(steps, names, names[1:]):
+            looks += [(len(blanks), len(made))] * (step == look)
+            made.append(f"{name} see" if step == look else f"{name} play {step} {following}")
+    return made
+
+
+def section_lines(section: list[tuple[str, list[str] | Node]], start: int, notes: list[str]) -> list[tuple[str, str]]:
+    """The lines of a section, each behind what was typed for it. What is reported of its nodes is put into notes."""
+    for at in [at for at, (_, words) in enumerate(section) if not isinstance(words, Node) and words[0] in COUNTED]:
+        words, below = section[at][1], [words for _, words in section[at + 1 :]]
+        if len(words) == 1 or len(words) == 2 and all(isinstance(words, Node) or words[0] in ACTS for words in below):
+            words[1:] = [str(len(below))]
+    slots = [at for at, (_, words) in enumerate(section) if isinstance(words, Node)]
+    plan = Plan([section[at][1] for at in slots])
+    made = [(typed, "" if isinstance(words, Node) else " ".join(words)) for typed, words in section]
+    for at, slot in enumerate(slots):
+        made[slots[plan.numbers[at]]] = (section[slot][0], plan.line(at))
+    place = [start + slots[number] + 1 for number in plan.numbers]
+    notes += [re.sub(f"{MARK}(.*?){MARK}", lambda at: str(place[int(at[1])]), note) for note in plan.notes]
+    return made
+
+
+def main() -> None:
+    """Mends standard input, and reports what has changed."""
+    given = sys.stdin.buffer.read()
+    if len(given) > 8_388_608:
+        say("the input is longer than 8,388,608 bytes")
+        print("refused line 0: 2")
+        sys.exit(2)
+    *typed, last = given.decode(errors="surrogateescape").split("\n")
+    lines = [(old, re.sub("^ *(> ?)+", "", old.translate(SIGNS)).rstrip(" .")) for old in typed + [last] * bool(last)]
+    start = next((at for at, (_, line) in enumerate(lines) if SHEET.match(line)), len(lines))
+    ends = (at for at in range(start, len(lines)) if re.match("(problem|plan|game) ", lines[at][1], re.I))
+    end = next(ends, len(lines))
+    notes = ["a printed sheet is read as its plan"] * (start < end)
+    printed, blanks, in_plan, sections = [], 0, False, [[]]
+    lines[start:end] = [(MARK, line) for line in read_sheet("".join(f"{line}\n" for _, line in lines[start:end]))]
+    for typed_line, line in lines:
+        bare_line = re.sub("[ \t\r\u00a0\ufeff]+", " ", typed_line).strip()
+        blanks += not line or bare_line != typed_line
+        if line:
+            words = node_of(" ".join(line.split()), in_plan) or [*map(meant, re.findall("[^,; ]+", line))] or [line]
+            if not isinstance(words, Node) and words[0] in ("problem", "plan", "game"):
+                sections.append([])
+                in_plan = words[0] == "plan"
+            sections[-1].append((bare_line, words))
+    for section in sections:
+        printed += section_lines(section, len(printed), notes)
+    notes += [f"line {at}: {line}" for at, (old, line) in enumerate(printed, 1) if old not in (line, MARK)]
+    notes += [f"blanks, line ends or empty lines taken out, lines: {blanks}"] * bool(blanks)
+    for note in notes + ["the end of the last line: added"] * bool(last):
+        say(note)
+    sys.stdout.buffer.write("".join(f"{line}\n" for _, line in printed).encode(errors="surrogateescape"))
+
+
+if __name__ == "__main__":
+    main()

@@ -111,6 +111,7 @@ impl Extremes {
 
     // What is sought by a demand: the deals that miss it, with bounds on the points of every crib. The least and the
     // greatest crib are computed only if the demand may turn on them.
+    #[inline(always)]
     pub(crate) fn sought(
         &mut self,
         worst: &WorstShow,
@@ -184,7 +185,7 @@ impl WorstShow {
 }
 
 /// The place of some rank counts among all choices of this number of cards.
-fn place_among(counts: &[u8], cards: u8) -> usize
+fn place_among(counts: &[u8], cards: usize) -> usize
     requires counts { length counts.now ≤ 13 }
     requires cards { cards ≤ 4 }
     ensures place { result ≡ place_among cards counts.now }
@@ -193,20 +194,20 @@ fn place_among(counts: &[u8], cards: u8) -> usize
     match counts {
         [] => 0,
         [count, others @ ..] => {
-            let left = cards.saturating_sub(*count);
+            let left = cards.saturating_sub(*count as usize);
             below(others.len(), left) + place_among(others, left)
         }
     }
 }
 
 /// How many choices of fewer cards there are among this number of ranks.
-fn below(ranks: usize, cards: u8) -> usize
+fn below(ranks: usize, cards: usize) -> usize
     requires ranks { ranks < 13 }
     requires cards { cards ≤ 4 }
     ensures value { result ≡ below (many ranks) cards }
     ensures range { result ≤ 1000 }
 {
-    FEWER[cards as usize][ranks]
+    FEWER[cards][ranks]
 }
 
 /// How many choices of fewer cards there are: a row for each of 0 to 4 cards, a column for each of 0 to 12 ranks.

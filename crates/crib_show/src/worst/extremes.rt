@@ -207,14 +207,12 @@ fn below(ranks: usize, cards: usize) -> usize
     ensures value { result ≡ below (many ranks) cards }
     ensures range { result ≤ 1000 }
 {
-    FEWER[cards][ranks]
+    FEWER[5 * ranks + cards]
 }
 
-/// How many choices of fewer cards there are: a row for each of 0 to 4 cards, a column for each of 0 to 12 ranks.
-const FEWER: [[usize; 13]; 5] = [
-    [0, 0, 0, 0, 0, 0, 0, 0, 0, 0, 0, 0, 0],
-    [1, 1, 1, 1, 1, 1, 1, 1, 1, 1, 1, 1, 1],
-    [1, 2, 3, 4, 5, 6, 7, 8, 9, 10, 11, 12, 13],
-    [1, 3, 6, 10, 15, 21, 28, 36, 45, 55, 66, 78, 91],
-    [1, 4, 10, 20, 35, 56, 84, 120, 165, 220, 286, 364, 455],
+/// How many choices of fewer cards there are: five numbers for each of 0 to 12 ranks, for 0 to 4 cards.
+const FEWER: [usize; 65] = [
+    0, 1, 1, 1, 1, 0, 1, 2, 3, 4, 0, 1, 3, 6, 10, 0, 1, 4, 10, 20, 0, 1, 5, 15, 35, 0, 1, 6, 21, 56,
+    0, 1, 7, 28, 84, 0, 1, 8, 36, 120, 0, 1, 9, 45, 165, 0, 1, 10, 55, 220, 0, 1, 11, 66, 286, 0, 1,
+    12, 78, 364, 0, 1, 13, 91, 455,
 ];

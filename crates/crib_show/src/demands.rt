@@ -111,12 +111,16 @@ pub fn demand_of_show(
         (crib_points (full.own_throw ++ full.opp.throw) full.starter)) ↔ (outcome_of full ≡ Reached)) }
     ensures decided { IsTrue (are_decided target scores) → IsMetByAll result ⊎ IsMetByNone result }
 {
+    if scores.owner >= target {
+        return Demand::none();
+    }
+    if scores.opponent >= GAME_HOLE {
+        return Demand::impossible();
+    }
     let room = (GAME_HOLE - 1).saturating_sub(scores.opponent);
     let left = target.saturating_sub(scores.with(Side::Owner, own_hand).owner);
     let need = if target > GAME_HOLE { 255 } else { left };
     match dealer {
-        _ if scores.owner >= target => Demand::none(),
-        _ if scores.opponent >= GAME_HOLE => Demand::impossible(),
         Side::Opponent if left == 0 => Demand::none(),
         Side::Opponent if is_to_stop => Demand {
             hand: 255,

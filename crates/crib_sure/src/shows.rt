@@ -71,11 +71,11 @@ pub fn is_reached(problem: &Problem, shows: &mut Shows, know: &Know) -> bool
     ensures shows { AreShowsOf problem.now shows.new }
 {
     let demand = demand_at_end(problem, shows.extremes.own.hand, know);
-    if demand.is_met_by_all() {
-        return true;
-    }
     if demand.is_impossible() {
         return false;
+    }
+    if demand.is_met_by_all() {
+        return true;
     }
     shows.go_to(know);
     shows.extremes.meets_all(&shows.worst, demand)

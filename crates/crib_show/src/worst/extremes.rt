@@ -111,6 +111,7 @@ impl Extremes {
 
     // What is sought by a demand: the deals that miss it, with bounds on the points of every crib. The least and the
     // greatest crib are computed only if the demand may turn on them.
+    #[inline(always)]
     pub(crate) fn sought(
         &mut self,
         worst: &WorstShow,
@@ -184,7 +185,7 @@ impl WorstShow {
 }
 
 /// The place of some rank counts among all choices of this number of cards.
-fn place_among(counts: &[u8], cards: u8) -> usize
+fn place_among(counts: &[u8], cards: usize) -> usize
     requires counts { length counts.now ≤ 13 }
     requires cards { cards ≤ 4 }
     ensures place { result ≡ place_among cards counts.now }
@@ -193,27 +194,25 @@ fn place_among(counts: &[u8], cards: u8) -> usize
     match counts {
         [] => 0,
         [count, others @ ..] => {
-            let left = cards.saturating_sub(*count);
+            let left = cards.saturating_sub(*count as usize);
             below(others.len(), left) + place_among(others, left)
         }
     }
 }
 
 /// How many choices of fewer cards there are among this number of ranks.
-fn below(ranks: usize, cards: u8) -> usize
+fn below(ranks: usize, cards: usize) -> usize
     requires ranks { ranks < 13 }
     requires cards { cards ≤ 4 }
     ensures value { result ≡ below (many ranks) cards }
     ensures range { result ≤ 1000 }
 {
-    FEWER[cards as usize][ranks]
+    FEWER[5 * ranks + cards]
 }
 
-/// How many choices of fewer cards there are: a row for each of 0 to 4 cards, a column for each of 0 to 12 ranks.
-const FEWER: [[usize; 13]; 5] = [
-    [0, 0, 0, 0, 0, 0, 0, 0, 0, 0, 0, 0, 0],
-    [1, 1, 1, 1, 1, 1, 1, 1, 1, 1, 1, 1, 1],
-    [1, 2, 3, 4, 5, 6, 7, 8, 9, 10, 11, 12, 13],
-    [1, 3, 6, 10, 15, 21, 28, 36, 45, 55, 66, 78, 91],
-    [1, 4, 10, 20, 35, 56, 84, 120, 165, 220, 286, 364, 455],
+/// How many choices of fewer cards there are: five numbers for each of 0 to 12 ranks, for 0 to 4 cards.
+const FEWER: [usize; 65] = [
+    0, 1, 1, 1, 1, 0, 1, 2, 3, 4, 0, 1, 3, 6, 10, 0, 1, 4, 10, 20, 0, 1, 5, 15, 35, 0, 1, 6, 21,
+    56, 0, 1, 7, 28, 84, 0, 1, 8, 36, 120, 0, 1, 9, 45, 165, 0, 1, 10, 55, 220, 0, 1, 11, 66, 286,
+    0, 1, 12, 78, 364, 0, 1, 13, 91, 455,
 ];

@@ -12,6 +12,7 @@ ghost use Rattle.crib_show.specs.Worst.{ArePlain};
 use crate::deals::{PlainCribs, WorstShow};
 use crate::demands::Demand;
 use crate::show::points::{counts_of_four, hand_points};
+use crate::worst::hands::know_set;
 use crib_cards::{Card, CardSet, Dealt, Rank};
 
 /// A demand that the sought deals miss, and bounds on the points of every crib.
@@ -153,12 +154,6 @@ fn count_rank(cards: &[Card], rank: Rank) -> u8
 pub(crate) fn has_all(cards: &[Card], set: CardSet) -> bool
     ensures { result ≡ list_all (has cards.now) set }
 {
-    let mut rest = set;
-    while let Some(card) = rest.lowest() {
-        rest = rest.without(card);
-        if !cards.contains(&card) {
-            return false;
-        }
-    }
-    true
+    know_set(set);
+    set.without_all(cards).lowest().is_none()
 }

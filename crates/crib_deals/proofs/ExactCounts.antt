@@ -142,10 +142,19 @@ pub exactly_rest : {Has Part Rest : Dealt → Type 0} {all part : ℕ} (test : D
 exactly_rest {all = all} {part = part} test parts rests exact counted =
     let failed = exactly_passing (λ dealt. not (test dealt)) exact in
     let rest = exactly_same (λ dealt order has. (rests dealt order).1 (has.0, grind (arith, nat_tests, has.1))) (λ dealt order has. let is =
-        (rests dealt order).0 has in (is.0, grind (arith, nat_tests, is.1))) failed.1 in
+    (rests dealt order).0 has in (is.0, grind (arith, nat_tests, is.1))) failed.1 in
     let passed = exactly_same (λ dealt order has. (parts dealt order).0 has) (λ dealt order has. (parts dealt order).1 has) counted in
-    let sum = exactly_one exact (exactly_either (λ dealt has. elim (cases_Bool (test dealt)) [ inl is ↦ inl (has, is) | inr is ↦ inr (has, grind (arith,
-        nat_tests, is)) ])
+    let sum = exactly_one exact (exactly_either (λ dealt has. elim (cases_Bool (test dealt)) [
+      | inl is ↦ inl (has, is)
+      | inr is ↦ inr (
+        has,
+        grind (
+          arith,
+          nat_tests,
+          is,
+        ),
+      )
+    ])
     (λ dealt has. has.0) (λ dealt has. has.0) (λ dealt one other. grind (arith, nat_tests, one.1, other.1)) passed failed.1) in
     let left : failed.0 ≡ all - part = omega (arith, sum) in
     (omega (arith, sum), rw left at rest)

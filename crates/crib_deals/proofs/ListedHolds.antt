@@ -99,7 +99,7 @@ module _ {problem : Setup} {know : Knowledge} {cribs : Cribs} (of : AreOfProblem
       some_held passes test = exactly_same
           (λ dealt order has.
           let passing = (λ i. passes_counts ((sym of.knows.knowledge i).least) ((sym of.knows.knowledge i).ranks_seen) (rank_counts ((ap (map rank_of) has.0
-              ∙ same) i))) ∙ passes in
+          ∙ same) i))) ∙ passes in
           let open_deal = open_from of.knows.setup dealt order of.knows.possible passing (rw has.0 may_here, ap length has.0 ∙ four, rw has.0 has.1) in
           (((open_deal, ap (map rank_of) has.0 ∙ same), rw has.0 has.2), has.0))
           (λ dealt order has. (has.1, rw has.1 at (open_to of.knows.setup dealt order has.0.0.0).2, rw has.1 at has.0.1))
@@ -113,15 +113,23 @@ module _ {problem : Setup} {know : Knowledge} {cribs : Cribs} (of : AreOfProblem
         AreExactly (λ dealt. IsTested behind test dealt × (suits_number dealt.hold < n + 1)) (left_by (unseen_of problem) test holds)
     next_other fails test so_far =
         let more : left_by (unseen_of problem) test holds + 0 ≡ left_by (unseen_of problem) test holds = omega arith in
-        rw more at (next_below (hold_numbered test) small so_far (exactly_same (λ dealt order has. (has.0, has.1 ∙ is)) (λ dealt order has. (has.0, has.1
-            ∙ sym is)) (none_held fixed fixed_is hold fails test)))
+        rw more at (next_below (hold_numbered test) small so_far (exactly_same (λ dealt order has. (has.0, has.1 ∙ is)) (λ dealt order has. (
+          has.0,
+          has.1
+              ∙ sym is,
+        )) (none_held fixed fixed_is hold fails test)))
 
     module _ (ranked : AllByRecursion IsRank ranks) (four : length ranks ≡ 4) (passes : passes_counts know.least know.ranks_seen (rank_counts ranks) ≡ true)
         (may : may_hold cribs.unseen fixed hold ≡ true) where
       pub next_held : AreHeld (unseen_of problem) ranks holds → AreHeld (unseen_of problem) ranks (holds ++ hold ∷ [])
-      next_held are = all_both (λ held. IsHeld (unseen_of problem) held × (map rank_of held ≡ ranks)) holds (hold ∷ []) are
-          ((is_held fixed fixed_is hold may (ap length is) (ap (map rank_of) is ∙ ranks_at ranks n four ranked), ap (map rank_of) is
-              ∙ ranks_at ranks n four ranked), tt)
+      next_held are = all_both (λ held. IsHeld (unseen_of problem) held × (map rank_of held ≡ ranks)) holds (hold ∷ []) are (
+        (
+          is_held fixed fixed_is hold may (ap length is) (ap (map rank_of) is ∙ ranks_at ranks n four ranked),
+          ap (map rank_of) is
+              ∙ ranks_at ranks n four ranked,
+        ),
+        tt,
+      )
 
       pub next_same : (test : List ℕ → List ℕ → Bool) → AreExactly (λ dealt. IsTested behind test dealt × (suits_number dealt.hold < n)) (left_by
           (unseen_of problem) test holds) →
@@ -132,7 +140,7 @@ module _ {problem : Setup} {know : Knowledge} {cribs : Cribs} (of : AreOfProblem
           omega (arith, sum_by-append value holds (hold ∷ []), sum_by-cons value hold []) in
           rw more at (next_below (hold_numbered test) small so_far
           (exactly_same (λ dealt order has. (has.0, has.1 ∙ is)) (λ dealt order has. (has.0, has.1 ∙ sym is)) (some_held fixed fixed_is hold may (ap length is)
-              (ap (map rank_of) is ∙ ranks_at ranks n four ranked) passes test)))
+          (ap (map rank_of) is ∙ ranks_at ranks n four ranked) passes test)))
 
 -- ---- all deals with some ranks
 module _ {behind : Behind} {holds : List (List ℕ)} (setup : IsSetup behind.problem) (listed : AreListed behind holds) where
@@ -146,5 +154,9 @@ module _ {behind : Behind} {holds : List (List ℕ)} (setup : IsSetup behind.pro
       all_left [] are = refl
       all_left (hold ∷ holds) are =
           let first = every_throw _ (left_forty_one setup hold are.0.0) in
-          omega (arith, sum_by-cons (λ h. passing_throws (λ throw. true) (set_without_all (unseen_of behind.problem) h)) hold holds, first,
-              all_left holds are.1)
+          omega (
+            arith,
+            sum_by-cons (λ h. passing_throws (λ throw. true) (set_without_all (unseen_of behind.problem) h)) hold holds,
+            first,
+            all_left holds are.1,
+          )

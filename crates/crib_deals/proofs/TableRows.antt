@@ -174,8 +174,14 @@ module _ {behind : Behind} (setup : IsSetup behind.problem) where
     row_missing past least low fits past_is least_is =
         let few : (past ≤ 30) × (least ≤ past) = (omega (arith, past_is), omega (arith, least_is)) in
         let between = exactly_rest {Rest = λ dealt. IsOfRow dealt × (meets behind.problem demand dealt ≡ true)} (λ dealt. ltb (crib dealt) least)
-        (λ dealt order. (λ has. ((has.0, has.1, let less = has.2 in omega (arith, less, few)), grind (arith, nat_tests, has.2)), λ has. (has.0.0, has.0.1,
-            grind (arith, nat_tests, has.1))))
+        (λ dealt order. (
+          λ has. ((has.0, has.1, let less = has.2 in omega (arith, less, few)), grind (arith, nat_tests, has.2)),
+          λ has. (
+            has.0.0,
+            has.0.1,
+            grind (arith, nat_tests, has.1),
+          ),
+        ))
         (λ dealt order. (λ has. met_to dealt has, λ has. met_from dealt has.0 has.1))
         (row.below past few.0) (row.below least (omega (arith, few))) in
         let missed = exactly_rest {Rest = IsMissingIn behind demand suits} (meets behind.problem demand)

@@ -144,7 +144,7 @@ module _ (points : List ℕ) (starter : ℕ) (holds : List (List ℕ)) (i : ℕ)
         subst (λ n. AreSums points (of_suits starter n) (take (i + 1) holds) (get_or (set sums here added) n no_sums)) e
         (subst (AreSums points (of_suits starter here) (take (i + 1) holds)) (sym (get_or-set_same sums here added no_sums inside))
         (sums_same (of_suits starter here) holds i hold less is (subst (λ n. AreSums points (of_suits starter n) (take i holds) (get_or sums n no_sums))
-            (sym e) so_far)
+        (sym e) so_far)
         (grind (arith, nat_tests, points_are)) added count cards pairs))
     | inr other ↦ subst (AreSums points (of_suits starter suits) (take (i + 1) holds))
         (sym (get_or-set_other sums here suits added no_sums (λ e. grind (arith, nat_tests, other, e))))
@@ -244,7 +244,7 @@ module _ (cribs : Cribs) (ranks : List ℕ) (limit : ℕ) where
           ≡ sum_where kind (λ hold. 1) (hold ∷ holds) * all + sum_where kind (pair_sum below points) (hold ∷ holds)
       one rest of_kind is =
           let first = λ (value : List ℕ → ℕ). sum_by-cons (λ h. cond (kind h) (value h) 0) hold holds
-              ∙ ap (λ (b : Bool). cond b (value hold) 0 + sum_where kind value holds) is in
+          ∙ ap (λ (b : Bool). cond b (value hold) 0 + sum_where kind value holds) is in
           joined of_kind _ _ _ _ _ _ _ (first (λ h. passing_throws (is_below points limit) (set_without_all cribs.unseen h)))
           (first (place_sum (partners_at cribs ranks limit))) (first (λ h. 1)) (first (pair_sum below points)) rest
           (rw (← pairs_are hold are.0.0, ← cards_are hold are.0.0 are.0.1) at (left_by_parts points limit cribs.unseen hold are.0.0))
@@ -254,6 +254,11 @@ module _ (cribs : Cribs) (ranks : List ℕ) (limit : ℕ) where
       left_below cribs kind limit holds + weigh_from 0 (partners_at cribs ranks limit) sums.cards
       ≡ sums.count * slice_index cribs.below limit + weigh_from 0 (λ i. 1) (take limit sums.pairs)
   left_sums kind holds sums counted few are so_far =
-      rw (counted.below limit few, so_far.count, so_far.cards (partners_at cribs ranks limit), sym (weigh_taken 0 limit limit sums.pairs (omega arith)),
-          so_far.pairs below)
+      rw (
+        counted.below limit few,
+        so_far.count,
+        so_far.cards (partners_at cribs ranks limit),
+        sym (weigh_taken 0 limit limit sums.pairs (omega arith)),
+        so_far.pairs below,
+      )
       (parts kind holds are)

@@ -59,7 +59,9 @@ fn left_of(ranks: &[Rank; 4], know: &Know) -> [u8; 13] {
     let mut left = [0u8; 13];
     for number in 1..14u8 {
         if let Some(rank) = Rank::new(number) {
-            left[(number - 1) as usize] = counts.of(rank).saturating_sub(know.ranks_seen().of(rank));
+            left[(number - 1) as usize] = counts
+                .of(rank)
+                .saturating_sub(know.ranks_seen().of(rank));
         }
     }
     left

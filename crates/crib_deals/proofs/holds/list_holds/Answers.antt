@@ -18,11 +18,11 @@ loop-suits-preserved c = elim c.if-may_hold.branch [
     few = rw (w.holds-is, w.push.ensures.items) (search (rules, arith));
     held = λ problem of. rw (w.holds-is, w.push.ensures.items)
         (next_held of c.args.ranks.now c.fixed-fixed.result c.fixed-fixed.ensures c.loop-suits-test.true c.hold_at-hold.ensures c.loop-suits.holds.items
-            c.requires.ranks c.told-ranks
+        c.requires.ranks c.told-ranks
         c.requires.passing (sym c.may_hold.ensures ∙ w.if-may_hold.true) (c.loop-suits.invariant.held problem of));
     exact = λ problem of test. rw (w.holds-is, w.push.ensures.items)
         (next_same of c.args.ranks.now c.fixed-fixed.result c.fixed-fixed.ensures c.loop-suits-test.true c.hold_at-hold.ensures c.loop-suits.holds.items
-            c.requires.ranks c.told-ranks
+        c.requires.ranks c.told-ranks
         c.requires.passing (sym c.may_hold.ensures ∙ w.if-may_hold.true) test (c.loop-suits.invariant.exact problem of test));
   }
   | else-may_hold w ↦ record {

@@ -32,7 +32,7 @@ loop-hold-preserved c =
           c.hold-item.is c.loop-hold.sums
           c.add.new.self c.suit_points.result inside c.suit_points.ensures.value c.add.ensures.count c.add.ensures.cards c.add.ensures.pairs suits
           (count_few (of_suits c.args.starter c.suit_points.result) c.args.holds.now c.loop-hold.hold-index c.loop-hold-test.true c.requires.few
-              (c.loop-hold.invariant.sums c.suit_points.result small))
+          (c.loop-hold.invariant.sums c.suit_points.result small))
           (c.loop-hold.invariant.small c.suit_points.result small) (c.loop-hold.invariant.small suits less);
     }
 

@@ -27,4 +27,4 @@ pub returns-then-is_impossible-clause-missing : goal.returns-then-is_impossible-
 returns-then-is_impossible-clause-missing c =
     let setup = rw c.self.view_is at c.self.invariant.knows.setup in
     rw c.len.ensures.value (all_missing setup c.args.demand (c.is_impossible.ensures.0 c.if-is_impossible.true)
-        (open_listed setup c.holds-holds.ensures.listed))
+    (open_listed setup c.holds-holds.ensures.listed))

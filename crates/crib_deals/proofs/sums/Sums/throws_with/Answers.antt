@@ -16,7 +16,7 @@ loop-index-preserved c = elim c.if-count-gt0.branch [
   | then-count-gt0 w ↦ record {
     each = λ limit few. rw w.with-is
         (let card = ap (λ (card : ℕ). get_or c.args.self.now.cards c.loop-index.index 0 * partners (is_below c.args.cribs.now.points limit) card
-            c.args.cribs.now.unseen)
+        c.args.cribs.now.unseen)
         w.card_in.ensures.value in
         omega (
           arith,

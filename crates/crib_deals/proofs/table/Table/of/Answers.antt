@@ -21,14 +21,20 @@ pub loop-suits-preserved : goal.loop-suits-preserved
 loop-suits-preserved c = record {
   long = length-set c.loop-suits.below c.loop-suits.suits _ ∙ c.loop-suits.invariant.long;
   rows = λ suits limit less few. elim (cases_lt suits c.loop-suits.suits) [
-    | inl before ↦ ap (λ row. slice_index row limit) (get_or-set_other c.loop-suits.below c.loop-suits.suits suits c.below.result [] (λ e. omega (arith, e,
-        before)))
+    | inl before ↦ ap (λ row. slice_index row limit) (get_or-set_other c.loop-suits.below c.loop-suits.suits suits c.below.result [] (λ e. omega (
+      arith,
+      e,
+      before,
+    )))
         ∙ c.loop-suits.invariant.rows suits limit before few
     | inr least ↦ let same : c.loop-suits.suits ≡ suits = omega (arith, less, least) in
         subst (λ n. slice_index (get_or (set c.loop-suits.below c.loop-suits.suits c.below.result) n []) limit ≡ left_below c.args.cribs.now
-            (of_suits c.args.problem.now.starter n) limit c.args.holds.now) same
-        (ap (λ row. slice_index row limit) (get_or-set_same c.loop-suits.below c.loop-suits.suits c.below.result [] (omega (arith, c.loop-suits-test.true,
-            c.loop-suits.invariant.long)))
+        (of_suits c.args.problem.now.starter n) limit c.args.holds.now) same
+        (ap (λ row. slice_index row limit) (get_or-set_same c.loop-suits.below c.loop-suits.suits c.below.result [] (omega (
+          arith,
+          c.loop-suits-test.true,
+          c.loop-suits.invariant.long,
+        )))
         ∙ rw (← c.starter-starter.ensures) (c.below.ensures (of_suits c.starter-starter.result c.loop-suits.suits) c.args.holds.now
         (c.sums_of-sums.ensures.sums c.loop-suits.suits c.loop-suits-test.true) (rw c.requires.cribs.1.unseen_is c.requires.listed.held) limit few))
   ];

@@ -4,7 +4,8 @@ use Rattle.std.proofs.lemmas.Bool.{both_ways, cases_lt}
 use Rattle.std.proofs.lemmas.List.{get_or-set_same, get_or-set_other}
 use Rattle.crib_cards.specs.Sets.{rank_counts}
 use Rattle.crib_check.specs.Beaten.{counts_of}
-use Rattle.crib_beaten.specs.Private.Numbers.{are_in_order, ordered_below, ranks_of_number}
+use Rattle.crib_deals.specs.Choices.{are_in_order, ranks_of_number}
+use Rattle.crib_beaten.specs.Private.Numbers.{ordered_below}
 use Rattle.crib_beaten.specs.Private.Rows.{AreChoices}
 use Rattle.crib_beaten.proofs.HoldNumbers.{earlier_place, ordered_more, small_place}
 

@@ -4,8 +4,12 @@ use Rattle.std.proofs.Common.{refl, ap, subst, ◌∙◌, arith}
 use Rattle.std.proofs.lemmas.Bool.Decides.{nat_tests}
 use Rattle.crib_cards.specs.Cards.{IsCard, rank_of}
 use Rattle.crib_cards.specs.Order.{are_rising, is_before}
+use Rattle.crib_cards.specs.declared.sides.Dealt.{Dealt}
 use Rattle.crib_cards.proofs.Members.{AreCards, all_cards}
-use Rattle.crib_beaten.specs.Private.Numbers.{ranks_of_number, are_in_order, ordered_below, ordered_count}
+use Rattle.crib_deals.specs.Deals.{ranks_held}
+use Rattle.crib_deals.proofs.NumberedDeals.{AreNumbered}
+use Rattle.crib_deals.specs.Choices.{ranks_of_number, are_in_order}
+use Rattle.crib_beaten.specs.Private.Numbers.{ordered_below, ordered_count}
 
 abbrev number_from : ℕ → List ℕ → ℕ
 number_from front [] = front
@@ -34,6 +38,14 @@ numbered (w ∷ x ∷ y ∷ z ∷ []) four cards =
     digits : (a b c d : ℕ) → a < 13 → b < 13 → c < 13 → d < 13 → HasNumber ((a + 1) ∷ (b + 1) ∷ (c + 1) ∷ (d + 1) ∷ [])
     digits a b c d la lb lc ld = grind (arith, la, lb, lc, ld)
 numbered hold four cards = absurd (omega (arith, four))
+
+pub ranks_numbered : (Has : Dealt → Type 0) → ((dealt : Dealt) → Has dealt → (length dealt.hold ≡ 4) × AreCards dealt.hold) →
+    AreNumbered Has ranks_held ranks_number ranks_of_number 28561
+ranks_numbered Has held = record {
+  few = λ dealt has. let is = held dealt has in (numbered dealt.hold is.0 is.1).1;
+  are = λ dealt has. let is = held dealt has in (numbered dealt.hold is.0 is.1).0;
+  back = ranks_back;
+}
 
 -- rising cards have their ranks in order
 pub rising_ranks : (cards : List ℕ) → are_rising cards ≡ true → are_in_order (map rank_of cards) ≡ true

@@ -11,11 +11,12 @@ use Rattle.crib_beaten.specs.declared.tally.Tally.{Tally}
 use Rattle.crib_problem.specs.Setup.{Setup}
 use Rattle.crib_plan.specs.declared.plan.Node.{Node}
 use Rattle.crib_check.specs.Beaten.{Beats}
-use Rattle.crib_beaten.specs.Exact.{AreExactly}
-use Rattle.crib_beaten.specs.Tally.{IsTally, ranks_held}
+use Rattle.crib_deals.specs.Exact.{AreExactly}
+use Rattle.crib_beaten.specs.Tally.{IsTally}
+use Rattle.crib_deals.specs.Deals.{ranks_held}
 use Rattle.crib_beaten.specs.Terms.{AreRows, is_first, meets_none, meets_term}
 use Rattle.crib_beaten.specs.Private.Figures.{AreSums, beaten_where}
-use Rattle.crib_beaten.proofs.ExactCounts.{exactly_one, exactly_same}
+use Rattle.crib_deals.proofs.ExactCounts.{exactly_one, exactly_same}
 use Rattle.crib_beaten.proofs.TallyLaws.{rows_add_up}
 
 -- deals that meet none of some terms meet the next one first, or none with it

@@ -13,10 +13,11 @@ use Rattle.crib_plan.specs.declared.plan.Node.{Node}
 use Rattle.crib_check.specs.Beaten.{Beats}
 use Rattle.crib_check.proofs.UnbeatenPlans.{sure_from, sure_unbeaten}
 use Rattle.crib_beaten.specs.declared.tally.RanksTally.{RanksTally}
-use Rattle.crib_beaten.specs.Exact.{AreExactly, IsIn}
-use Rattle.crib_beaten.specs.Tally.{AreFigures, AreInOrder, HasRow, IsRow, ranks_held}
+use Rattle.crib_deals.specs.Exact.{AreExactly, IsIn}
+use Rattle.crib_beaten.specs.Tally.{AreFigures, AreInOrder, HasRow, IsRow}
+use Rattle.crib_deals.specs.Deals.{ranks_held}
 use Rattle.crib_beaten.specs.Laws.{NoneLaw, OneLaw, SumLaw}
-use Rattle.crib_beaten.proofs.ExactCounts.{exactly_either, exactly_none, exactly_one, exactly_same, exactly_some, exactly_zero, in_all}
+use Rattle.crib_deals.proofs.ExactCounts.{exactly_either, exactly_none, exactly_one, exactly_same, exactly_some, exactly_zero, in_all}
 
 pub none_is_sure : NoneLaw
 none_is_sure problem plan open_deals beaten rows setup is = (

@@ -13,18 +13,22 @@ use Rattle.crib_problem.specs.Setup.{Setup, IsSetup}
 use Rattle.crib_plan.specs.declared.plan.Node.{Node}
 use Rattle.crib_know.proofs.Deals.{hold_cards}
 use Rattle.crib_show.specs.declared.demands.Demand.{Demand}
-use Rattle.crib_check.specs.Beaten.{Beats, Decides, IsOpen}
+use Rattle.crib_check.specs.Beaten.{Beats, Decides}
+use Rattle.crib_know.specs.Hidden.{IsOpen}
 use Rattle.crib_check.proofs.DemandsAfterOpening.{beats_open}
 use Rattle.crib_beaten.specs.declared.tally.RanksTally.{RanksTally}
 use Rattle.crib_beaten.specs.declared.tally.Tally.{Tally}
-use Rattle.crib_beaten.specs.Exact.{AreExactly}
-use Rattle.crib_beaten.specs.Tally.{AreInOrder, HasRow, IsRow, IsTally, ranks_held}
-use Rattle.crib_beaten.specs.Private.ByRanks.{IsMissing}
-use Rattle.crib_beaten.specs.Private.Numbers.{are_in_order, ordered_below, ordered_count, ranks_of_number}
+use Rattle.crib_deals.specs.Exact.{AreExactly}
+use Rattle.crib_beaten.specs.Tally.{AreInOrder, HasRow, IsRow, IsTally}
+use Rattle.crib_deals.specs.Deals.{ranks_held}
+use Rattle.crib_deals.specs.Deals.{IsBehind, IsMissing, behind_by}
+use Rattle.crib_deals.specs.Choices.{are_in_order, ranks_of_number}
+use Rattle.crib_beaten.specs.Private.Numbers.{ordered_below, ordered_count}
 use Rattle.crib_beaten.specs.Private.Rows.{AreCounted, with_row}
-use Rattle.crib_beaten.proofs.ExactCounts.{exactly_none, exactly_same, exactly_zero, in_append}
+use Rattle.crib_deals.proofs.ExactCounts.{exactly_none, exactly_same, exactly_zero, in_append}
 use Rattle.crib_beaten.proofs.HoldNumbers.{number_before, ordered_few, ordered_more, ranks_number, rising_ranks}
-use Rattle.crib_beaten.proofs.NumberedDeals.{AreNumbered, ranks_numbered, none_below, next_below, all_below}
+use Rattle.crib_deals.proofs.NumberedDeals.{AreNumbered, none_below, next_below, all_below}
+use Rattle.crib_beaten.proofs.HoldNumbers.{ranks_numbered}
 
 -- the number of the ranks that the opponent held
 abbrev pub held_number : Dealt → ℕ
@@ -44,7 +48,7 @@ pub record AreRowsBelow (problem : Setup) (plan : List Node) (number : ℕ) (row
 pub record IsBelow (problem : Setup) (plan : List Node) (number open_deals beaten : ℕ) (rows : List RanksTally) : Type 0 where
   pub open_deals_are : AreExactly (λ dealt. IsOpen problem dealt × (held_number dealt < number)) open_deals
   pub beaten_are : AreExactly (λ dealt. Beats problem plan dealt × (held_number dealt < number)) beaten
-  pub few : (open_deals ≤ 209920 * ordered_below number) × (beaten ≤ 545792 * ordered_below number)
+  pub few : (open_deals ≤ 209920 * ordered_below number) × (beaten ≤ 209920 * ordered_below number)
   pub rows_are : AreRowsBelow problem plan number rows
 
 -- a sum with one more row, which fits
@@ -110,12 +114,12 @@ module _ {problem : Setup} {plan : List Node} (setup : IsSetup problem) where
       ];
     }
 
-    pub next_tally : (row.open_deals ≤ 209920 * ordered_count (ranks_of_number number)) × (row.beaten ≤ 545792 * ordered_count (ranks_of_number number)) →
+    pub next_tally : (row.open_deals ≤ 209920 * ordered_count (ranks_of_number number)) × (row.beaten ≤ 209920 * ordered_count (ranks_of_number number)) →
         IsBelow problem plan (number + 1) (sum + row.open_deals) (beaten + row.beaten) (with_row rows row)
     next_tally few = record {
       open_deals_are = next_below (open_numbered setup) small below.open_deals_are (rw ranks at counted.are_open);
       beaten_are = next_below beats_numbered small below.beaten_are (rw ranks at counted.are_beaten);
-      few = ((sum_fits 209920 small (omega arith) below.few.0 few.0).0, (sum_fits 545792 small (omega arith) below.few.1 few.1).0);
+      few = ((sum_fits 209920 small (omega arith) below.few.0 few.0).0, (sum_fits 209920 small (omega arith) below.few.1 few.1).0);
       rows_are = next_rows (ltb 0 row.beaten) refl;
     }
 
@@ -146,10 +150,10 @@ module _ {problem : Setup} {plan : List Node} (setup : IsSetup problem) where
 
     -- a demand decides
     pub counted_by : {demand : Demand} {open_deals missing : ℕ} → Decides problem plan (rank_counts ranks) demand →
-        AreExactly (λ dealt. IsOpen problem dealt × (ranks_held dealt ≡ ranks)) open_deals →
-        AreExactly (λ dealt. IsMissing problem demand dealt × (ranks_held dealt ≡ ranks)) missing → AreCounted problem plan ranks open_deals missing
+        AreExactly (IsBehind (behind_by problem ranks)) open_deals →
+        AreExactly (IsMissing (behind_by problem ranks) demand) missing → AreCounted problem plan ranks open_deals missing
     counted_by decides are_open are_missing = record {
       are_open = are_open;
-      are_beaten = exactly_same (λ dealt order is. grind (arith, nat_tests, is, decides.missed dealt is.0.0 (ap rank_counts is.1)))
+      are_beaten = exactly_same (λ dealt order is. (decides.missed dealt is.0.0 (ap rank_counts is.0.1) is.1, is.0.1))
           (λ dealt order is. grind (arith, nat_tests, is, opened dealt is.0, decides.met dealt (opened dealt is.0) (ap rank_counts is.1))) are_missing;
     }

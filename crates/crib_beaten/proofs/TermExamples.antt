@@ -4,12 +4,14 @@ use Rattle.std.specs.Prelude.{IsTrue, map}
 use Rattle.crib_cards.specs.declared.sides.Dealt.{Dealt}
 use Rattle.crib_problem.specs.Setup.{Setup}
 use Rattle.crib_plan.specs.declared.plan.Node.{Node}
-use Rattle.crib_check.specs.Beaten.{Beats, IsOpen}
+use Rattle.crib_check.specs.Beaten.{Beats}
+use Rattle.crib_know.specs.Hidden.{IsOpen}
 use Rattle.crib_beaten.specs.declared.rows.Row.{Row}
 use Rattle.crib_beaten.specs.declared.tally.RanksTally.{RanksTally}
 use Rattle.crib_beaten.specs.declared.tally.Tally.{Tally}
-use Rattle.crib_beaten.specs.Exact.{AreExactly}
-use Rattle.crib_beaten.specs.Tally.{AreFigures, IsRow, IsTally, ranks_held}
+use Rattle.crib_deals.specs.Exact.{AreExactly}
+use Rattle.crib_beaten.specs.Tally.{AreFigures, IsRow, IsTally}
+use Rattle.crib_deals.specs.Deals.{ranks_held}
 use Rattle.crib_beaten.specs.Terms.{AreRows, has_rank, is_first, meets_none, meets_term, takings}
 
 -- ---- slots: an ace, and a two

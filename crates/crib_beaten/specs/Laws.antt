@@ -6,8 +6,9 @@ use Rattle.crib_plan.specs.declared.plan.Node.{Node}
 use Rattle.crib_check.specs.Beaten.{Beats}
 use Rattle.crib_sure.specs.Sure.{IsSure}
 use Rattle.crib_beaten.specs.declared.tally.RanksTally.{RanksTally}
-use Rattle.crib_beaten.specs.Exact.{AreExactly}
-use Rattle.crib_beaten.specs.Tally.{AreFigures, ranks_held}
+use Rattle.crib_deals.specs.Deals.{ranks_held}
+use Rattle.crib_deals.specs.Exact.{AreExactly}
+use Rattle.crib_beaten.specs.Tally.{AreFigures}
 
 -- no deal beats a plan exactly if the plan is sure
 abbrev pub NoneLaw : Type 0

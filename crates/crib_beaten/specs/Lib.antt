@@ -1,4 +1,3 @@
-pub mod Exact
 pub mod Tally
 pub mod Terms
 pub mod Laws

@@ -1,20 +1,17 @@
 -- How many deals beat a plan, and how many of each choice of four ranks.
-use Rattle.std.specs.Prelude.{◌≡◌, ℕ, ◌<◌, List, [], ◌∷◌, map, IsTrue}
+use Rattle.std.specs.Prelude.{◌≡◌, ℕ, ◌<◌, List, [], ◌∷◌, IsTrue}
 use Rattle.std.specs.List.{All}
-use Rattle.crib_cards.specs.Cards.{rank_of}
 use Rattle.crib_cards.specs.Deals.{is_in_pack_order}
 use Rattle.crib_cards.specs.Order.{is_before}
 use Rattle.crib_cards.specs.declared.sides.Dealt.{Dealt}
 use Rattle.crib_problem.specs.Setup.{Setup}
 use Rattle.crib_plan.specs.declared.plan.Node.{Node}
-use Rattle.crib_check.specs.Beaten.{Beats, IsOpen}
-use Rattle.crib_beaten.specs.Exact.{AreExactly, IsIn}
+use Rattle.crib_know.specs.Hidden.{IsOpen}
+use Rattle.crib_check.specs.Beaten.{Beats}
+use Rattle.crib_deals.specs.Deals.{ranks_held}
+use Rattle.crib_deals.specs.Exact.{AreExactly, IsIn}
 use Rattle.crib_beaten.specs.declared.tally.RanksTally.{RanksTally}
 use Rattle.crib_beaten.specs.declared.tally.Tally.{Tally}
-
--- the ranks of the four cards that the opponent held at the first lead
-abbrev pub ranks_held : Dealt → List ℕ
-ranks_held dealt = map rank_of dealt.hold
 
 -- a row is right: so many open deals have its ranks, and so many of them beat the plan, at least one
 pub record IsRow (problem : Setup) (plan : List Node) (row : RanksTally) : Type 0 where

@@ -4,8 +4,8 @@ use Rattle.std.specs.List.{list_any}
 use Rattle.crib_problem.specs.Setup.{Setup}
 use Rattle.crib_plan.specs.declared.plan.Node.{Node}
 use Rattle.crib_check.specs.Beaten.{Beats}
-use Rattle.crib_beaten.specs.Exact.{AreExactly}
-use Rattle.crib_beaten.specs.Tally.{ranks_held}
+use Rattle.crib_deals.specs.Deals.{ranks_held}
+use Rattle.crib_deals.specs.Exact.{AreExactly}
 use Rattle.crib_beaten.specs.declared.rows.Row.{Row}
 
 -- a slot has a rank: the flag of the rank is set

@@ -1,11 +1,9 @@
 //! How many deals beat a plan, and how many of each choice of four ranks.
 #![tactic(auto)]
 
-mod holds;
 mod laws;
 mod rows;
 mod tally;
-mod throws;
 
 pub use laws::tally_law;
 pub use rows::{Row, Rows, Slot, Term, rows_of};

@@ -1,18 +1,15 @@
 //! Which deals beat a plan, counted.
-ghost use Rattle.std.specs.Prelude.{◌≡◌, ◌≤◌, ◌<◌, ◌+◌, ◌*◌, ◌^◌, ℕ, List, IfOk};
-ghost use Rattle.std.specs.List.{All};
-ghost use Rattle.crib_cards.specs.Cards.{IsRank};
+ghost use Rattle.std.specs.Prelude.{◌≡◌, ◌≤◌, ◌<◌, ◌+◌, ◌*◌, ◌^◌, List, IfOk};
 ghost use Rattle.crib_problem.specs.Setup.{Setup};
 ghost use Rattle.crib_plan.specs.declared.plan.Node.{Node};
 ghost use Rattle.crib_beaten.specs.Tally.{IsTally};
-ghost use Rattle.crib_beaten.specs.Private.Numbers.{ordered_below, ordered_count, ranks_of_number};
+ghost use Rattle.crib_beaten.specs.Private.Numbers.{ordered_below, ordered_count};
+ghost use Rattle.crib_deals.specs.Choices.{ranks_of_number};
 ghost use Rattle.crib_beaten.specs.Private.Rows.{AreChoices, AreCounted, IsFor, with_row};
 
-use crate::holds::{are_in_order, count_by_ranks, ranks_at};
-use crate::throws::Cribs;
-use crib_cards::{Card, CardSet, Rank, RankCounts};
+use crib_cards::{Rank, RankCounts};
 use crib_check::{CHOICES, NoMemory, Plays};
-use crib_know::Know;
+use crib_deals::{Deals, are_in_order, ranks_at};
 use crib_plan::Plan;
 use crib_problem::Problem;
 use crib_show::{Demand, count_ranks};
@@ -86,34 +83,27 @@ impl<A: Allocator> Tally<A> {
 
 /// The open deals of a problem, and what decides which of them beat a plan.
 #[derive(Drop)]
-struct OpenDeals<'a, B: Allocator> {
-    plays: Plays<'a, B>,
+struct OpenDeals<'a> {
+    deals: Deals<'a>,
     // What decides the deals with four ranks, by the place of these ranks among those in order.
     demands: [Demand; CHOICES],
-    // The cards that the opponent played in the opening.
-    fixed: CardSet,
-    starter: Card,
-    cribs: Cribs,
 }
 
-impl<'a, B: Allocator> OpenDeals<'a, B> {
-    fn of(problem: &'a Problem, plan: &'a Plan<B>, choices: &'a [RankCounts; CHOICES]) -> Self
+impl<'a> OpenDeals<'a> {
+    fn of<B: Allocator>(
+        problem: &'a Problem,
+        plan: &Plan<B>,
+        choices: &[RankCounts; CHOICES],
+    ) -> Self
         requires { AreChoices 28561 choices.now }
         ensures { IsFor problem.now plan.now result }
     {
-        let plays = Plays::new(problem, plan, choices);
-        let demands = plays.demands();
         OpenDeals {
-            plays,
-            demands,
-            fixed: Know::start(problem).fixed(),
-            starter: problem.starter(),
-            cribs: Cribs::new(&problem.thrown(), problem.starter(), problem.unseen()),
+            deals: Deals::of(problem),
+            demands: Plays::new(problem, plan, choices).demands(),
         }
     }
-}
 
-impl<B: Allocator> OpenDeals<'_, B> {
     // The row of the four ranks with a number, and with this place among those in order. It counts no deals if they are
     // not in order.
     fn row_at(&self, number: u16, place: usize) -> RanksTally
@@ -124,35 +114,20 @@ impl<B: Allocator> OpenDeals<'_, B> {
         ensures exact { (problem : Setup) (plan : List Node) → IsFor problem plan self.now
             → AreCounted problem plan result.ranks result.open_deals result.beaten }
         ensures few { (result.open_deals ≤ 209920 * ordered_count (ranks_of_number number))
-            × (result.beaten ≤ 545792 * ordered_count (ranks_of_number number)) }
+            × (result.beaten ≤ result.open_deals) }
     {
         let ranks = ranks_at(number);
-        let (open_deals, beaten) = self.count(&ranks, place);
-        RanksTally {
+        let mut row = RanksTally {
             ranks,
-            open_deals,
-            beaten,
+            open_deals: 0,
+            beaten: 0,
+        };
+        if are_in_order(&ranks) {
+            let counted = self.deals.count(&ranks, self.demands[place]);
+            row.open_deals = counted.open_deals;
+            row.beaten = counted.missing;
         }
-    }
-
-    // How many open deals have these ranks, and how many of them beat the plan. None if the ranks are not in order.
-    fn count(&self, ranks: &[Rank; 4], place: usize) -> (u32, u32)
-        requires ranks { All IsRank ranks.now }
-        requires place { (number : ℕ) × (number < 28561) × (ranks.now ≡ ranks_of_number number)
-            × (place ≡ ordered_below number) }
-        requires here { (problem : Setup) × (plan : List Node) × IsFor problem plan self.now }
-        ensures exact { (problem : Setup) (plan : List Node) → IsFor problem plan self.now
-            → AreCounted problem plan ranks.now result.0 result.1 }
-        ensures few { (result.0 ≤ 209920 * ordered_count ranks.now) × (result.1 ≤ 545792 * ordered_count ranks.now) }
-    {
-        if !are_in_order(ranks) {
-            return (0, 0);
-        }
-        if !self.plays.passes(&count_ranks(ranks)) {
-            return (0, 0);
-        }
-        let demand = self.demands[place];
-        count_by_ranks(&self.cribs, self.fixed, ranks, self.starter, demand)
+        row
     }
 }
 

@@ -16,7 +16,9 @@ use Rattle.crib_know.specs.Hidden.{KnowsAfter}
 use Rattle.crib_game.specs.declared.following.ending.Ending.TheVariants as ending
 use Rattle.crib_problem.proofs.ExampleProblems.{four_twos, aces}
 use Rattle.crib_check.specs.declared.beaten.plays.Plays.{Plays}
-use Rattle.crib_check.specs.Beaten.{ArePlays, Beats, Decides, IsOpen, counts_of, demand_of, meets, passes_opening}
+use Rattle.crib_know.specs.Hidden.{IsOpen}
+use Rattle.crib_sure.specs.Shows.{meets}
+use Rattle.crib_check.specs.Beaten.{ArePlays, Beats, Decides, counts_of, demand_of}
 use Rattle.crib_check.specs.Failing.{IsFailing}
 use Rattle.crib_check.proofs.Examples.{aces_are_a_deal, no_acts, stuck_at_once}
 use Rattle.crib_sure.proofs.ExampleOpening.{at_29}
@@ -47,9 +49,6 @@ no_two_is_held is = both_ways false refl is.0.deal.hidden_before
 -- the opponent has played TD
 the_ten_is_held : IsOpen at_29 (record { hold = 1 ∷ 2 ∷ 3 ∷ 38 ∷ []; throw = 8 ∷ 9 ∷ [] }) → ⊥
 the_ten_is_held is = both_ways false refl is.0.fixed
-
-passes_with_a_ten : map (passes_opening at_29) ((1 ∷ 2 ∷ 3 ∷ 38 ∷ []) ∷ (38 ∷ 1 ∷ 2 ∷ 3 ∷ []) ∷ (1 ∷ 2 ∷ 3 ∷ 40 ∷ []) ∷ []) ≡ true ∷ true ∷ false ∷ []
-passes_with_a_ten = refl
 
 -- ---- deals that beat a plan: without a node it is stuck at the first lead
 aces_beat_nothing : Beats four_twos [] aces

@@ -7,13 +7,13 @@ use Rattle.crib_cards.specs.declared.sides.Dealt.{Dealt}
 use Rattle.crib_problem.specs.Setup.{Setup, IsSetup}
 use Rattle.crib_plan.specs.declared.plan.Node.{Node}
 use Rattle.crib_know.specs.Knowledge.{played_events}
-use Rattle.crib_know.proofs.AgreeingIsPassing.{passes_from}
-use Rattle.crib_know.proofs.PassingIsAgreeing.{agrees_passes}
 use Rattle.crib_show.specs.declared.demands.Demand.{Demand}
 use Rattle.crib_check.specs.declared.beaten.plays.Plays.{Plays}
 use Rattle.crib_show.specs.Demands.{is_met}
-use Rattle.crib_check.specs.Beaten.{ArePlays, Beats, Decides, IsOpen, meets, passes_opening}
-use Rattle.crib_check.specs.Private.Demands.{BeatsFrom, IsDemandFrom, IsJoined, passes_counts}
+use Rattle.crib_know.specs.Hidden.{IsOpen}
+use Rattle.crib_sure.specs.Shows.{meets}
+use Rattle.crib_check.specs.Beaten.{ArePlays, Beats, Decides}
+use Rattle.crib_check.specs.Private.Demands.{BeatsFrom, IsDemandFrom, IsJoined}
 use Rattle.crib_check.specs.Private.Positions.{StandsAt}
 use Rattle.crib_check.proofs.BeatingDeals.{beats_agrees}
 use Rattle.crib_sure.proofs.PointsOfDeals.{few_crib, few_hand}
@@ -38,17 +38,6 @@ module _ {A : Type 0} {problem : Setup} {plan : List Node} {plays : Plays A} (ar
   stands_as = rw (are.same_problem, are.same_plan) stands_open
 
   module _ {counts : List ℕ} where
-    -- a hold with these counts passes the test after the opening if they do
-    pub hold_passes : (hold : List ℕ) → rank_counts (map rank_of hold) ≡ counts →
-        passes_opening problem hold ≡ passes_counts plays.start.know.least plays.start.know.ranks_seen counts
-    hold_passes hold is = λ i. passes_counts ((sym are.knows.knowledge i).least) ((sym are.knows.knowledge i).ranks_seen) (is i)
-
-    pub none_open : passes_counts plays.start.know.least plays.start.know.ranks_seen counts ≡ false → (dealt : Dealt) → IsOpen problem dealt →
-        rank_counts (map rank_of dealt.hold) ≡ counts → ⊥
-    none_open none dealt agrees is =
-        both_ways _ (hold_passes dealt.hold is ∙ none)
-        (passes_from _ _ dealt.hold (agrees_passes problem are.knows.setup dealt agrees.0 (played_events problem) agrees))
-
     -- a demand that is joined to one that each deal meets
     pub decided_as : {old new : Demand} → ((hand crib : ℕ) → hand ≤ 102 → crib ≤ 102 → is_met old hand crib ≡ true) →
         IsJoined (IsDemandFrom plays.problem.now plays.plan.now plays.start counts) old new → Decides problem plan counts new

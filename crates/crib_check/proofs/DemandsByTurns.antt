@@ -32,7 +32,7 @@ use Rattle.crib_game.specs.Private.Judging.{full_at}
 use Rattle.crib_show.specs.declared.demands.Demand.{Demand}
 use Rattle.crib_check.specs.declared.keys.Key.{Key}
 use Rattle.crib_show.specs.Demands.{IsMetByNone, is_met}
-use Rattle.crib_check.specs.Beaten.{meets}
+use Rattle.crib_sure.specs.Shows.{meets}
 use Rattle.crib_check.specs.Failing.{IsFailingEnding}
 use Rattle.crib_check.specs.Private.Demands.{BeatsFrom, IsAfterSome, IsDemandAfter, IsDemandAt, IsDemandFrom, may_show}
 use Rattle.crib_check.specs.Private.Positions.{IsStuckAt, MayTakeAt, StandsAt}

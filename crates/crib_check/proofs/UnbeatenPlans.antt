@@ -24,7 +24,7 @@ use Rattle.crib_game.specs.Private.Judging.{full_at}
 use Rattle.crib_check.specs.Beaten.{Beats}
 use Rattle.crib_check.specs.Failing.{IsFailing}
 use Rattle.crib_sure.specs.Private.Histories.{history_of_game}
-use Rattle.crib_check.specs.Private.Demands.{passes_counts}
+use Rattle.crib_know.specs.Hidden.{passes_counts}
 use Rattle.crib_sure.specs.Sure.{IsSure}
 use Rattle.crib_check.proofs.BeatingDeals.{beats_here}
 use Rattle.crib_sure.proofs.PointsOfDeals.{hidden}

@@ -1,26 +1,21 @@
 -- Deals that beat a plan, and demands that decide which of the open deals do. The opening is the visible turns that the
 -- problem lists as played.
-use Rattle.std.specs.Prelude.{◌≡◌, ℕ, ◌≤◌, Bool, List, [], ◌++◌, map, get_or}
-use Rattle.std.specs.Prelude.{IsTrue, IsFalse}
+use Rattle.std.specs.Prelude.{◌≡◌, ℕ, ◌≤◌, List, [], map, get_or, IsTrue, IsFalse}
 use Rattle.crib_cards.specs.Cards.{rank_of}
 use Rattle.crib_cards.specs.Sets.{rank_counts}
 use Rattle.crib_cards.specs.declared.sides.Dealt.{Dealt}
-use Rattle.crib_show.specs.Demands.{is_met}
-use Rattle.crib_show.specs.Show.{hand_points, crib_points}
+use Rattle.crib_show.specs.Show.{hand_points}
 use Rattle.crib_show.specs.declared.demands.Demand.{Demand}
 use Rattle.crib_problem.specs.Setup.{Setup}
 use Rattle.crib_plan.specs.declared.plan.Node.{Node}
 use Rattle.crib_plan.specs.Places.{plan_start}
-use Rattle.crib_know.specs.Knowledge.{least_value, played_events, their_ranks}
-use Rattle.crib_know.specs.Hidden.{AgreesWith, KnowsAfter, passes}
+use Rattle.crib_know.specs.Knowledge.{played_events}
+use Rattle.crib_know.specs.Hidden.{IsOpen, KnowsAfter}
+use Rattle.crib_sure.specs.Shows.{meets}
 use Rattle.crib_game.specs.declared.section.game.Game.{Game}
 use Rattle.crib_game.specs.declared.following.ending.Ending.{Ending}
 use Rattle.crib_check.specs.declared.beaten.plays.Plays.{Plays}
 use Rattle.crib_check.specs.Failing.{IsFailing}
-
--- an open deal: one that agrees with the opening
-abbrev pub IsOpen : Setup → Dealt → Type 0
-IsOpen problem dealt = AgreesWith problem (played_events problem) dealt
 
 -- a deal beats a plan: it is the deal of some failing game
 pub record Beats (problem : Setup) (plan : List Node) (dealt : Dealt) : Type 0 where
@@ -29,12 +24,6 @@ pub record Beats (problem : Setup) (plan : List Node) (dealt : Dealt) : Type 0 w
   pub failing : IsFailing problem plan game result
   pub of_deal : game.opp ≡ dealt
 
--- whether a deal of a problem meets a demand
-abbrev pub meets : Setup → Demand → Dealt → Bool
-meets problem demand dealt =
-    is_met demand (hand_points dealt.hold problem.starter)
-    (crib_points (problem.thrown ++ dealt.throw) problem.starter)
-
 -- a demand decides which deals beat a plan, among the open deals whose hold has so many cards of each rank: those that
 -- meet it do not beat the plan, and the others do
 pub record Decides (problem : Setup) (plan : List Node) (counts : List ℕ) (demand : Demand) : Type 0 where
@@ -42,11 +31,6 @@ pub record Decides (problem : Setup) (plan : List Node) (counts : List ℕ) (dem
       IsTrue (meets problem demand dealt) → ¬ Beats problem plan dealt
   pub missed : (dealt : Dealt) → IsOpen problem dealt → rank_counts (map rank_of dealt.hold) ≡ counts →
       IsFalse (meets problem demand dealt) → Beats problem plan dealt
-
--- whether a hold passes the test of what the owner knows after the opening. That of each open deal does
-abbrev pub passes_opening : Setup → List ℕ → Bool
-passes_opening problem hold =
-    passes (least_value problem (played_events problem)) (rank_counts (their_ranks (played_events problem))) hold
 
 -- how many cards of each rank the choice at a place has
 abbrev pub counts_of : List (List ℕ) → ℕ → List ℕ

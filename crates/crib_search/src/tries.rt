@@ -5,6 +5,7 @@ ghost use Rattle.crib_search.specs.Finder.{ExceedsLimit, IsFound};
 ghost use Rattle.crib_search.specs.Winnable.{IsWinnable};
 
 mod greedy;
+mod trials;
 
 use crate::finder::{Found, SearchFault, find, plan_from};
 use crate::nodes::Nodes;

@@ -6,8 +6,9 @@ use Rattle.crib_plan.specs.declared.plan.Node.{Node}
 use Rattle.crib_game.specs.declared.section.game.Game.{Game}
 use Rattle.crib_game.specs.declared.following.ending.Ending.{Ending}
 use Rattle.crib_check.specs.declared.verdict.Verdict.TheVariants.{Fails}
-use Rattle.crib_check.specs.Beaten.{Beats, IsOpen}
-use Rattle.crib_beaten.specs.Exact.{AreExactly}
+use Rattle.crib_check.specs.Beaten.{Beats}
+use Rattle.crib_know.specs.Hidden.{IsOpen}
+use Rattle.crib_deals.specs.Exact.{AreExactly}
 use Rattle.crib_beaten.specs.Terms.{AreRows}
 use Rattle.crib_beaten.specs.declared.rows.Row.{Row}
 use Rattle.crib_sheet.specs.declared.verdict.losses.Losses.{Losses}

@@ -6,10 +6,11 @@ use Rattle.std.specs.List.{list_all}
 use Rattle.crib_text.specs.Spelling.{space}
 use Rattle.crib_problem.specs.Setup.{Setup}
 use Rattle.crib_plan.specs.declared.plan.Node.{Node}
-use Rattle.crib_check.specs.Beaten.{Beats, IsOpen}
+use Rattle.crib_check.specs.Beaten.{Beats}
+use Rattle.crib_know.specs.Hidden.{IsOpen}
 use Rattle.crib_check.specs.declared.verdict.Verdict.{Verdict}
 use Rattle.crib_check.specs.declared.verdict.Verdict.TheVariants.{Holds, Fails}
-use Rattle.crib_beaten.specs.Exact.{AreExactly}
+use Rattle.crib_deals.specs.Exact.{AreExactly}
 use Rattle.crib_beaten.specs.Terms.{AreRows}
 use Rattle.crib_beaten.specs.declared.rows.Row.{Row}
 use Rattle.crib_plan_sheet.specs.PlanText.{label}

@@ -1,5 +1,5 @@
 -- The hidden deals that are possible in the show, and whether each of them reaches the goal.
-use Rattle.std.specs.Prelude.{◌≡◌, ◌↔◌, List, IsTrue}
+use Rattle.std.specs.Prelude.{◌≡◌, ◌↔◌, ◌++◌, Bool, List, IsTrue}
 use Rattle.crib_cards.specs.Sets.{set_of}
 use Rattle.crib_cards.specs.declared.sides.Dealt.{Dealt}
 use Rattle.crib_play.specs.Score.{scores_after}
@@ -9,7 +9,8 @@ use Rattle.crib_show.specs.declared.deals.Full.{Full}
 use Rattle.crib_show.specs.declared.deals.WorstShow.{WorstShow}
 use Rattle.crib_show.specs.declared.worst.extremes.ExtremesByRanks.{ExtremesByRanks}
 use Rattle.crib_show.specs.Extremes.{AreExtremes}
-use Rattle.crib_show.specs.Demands.{is_met_by}
+use Rattle.crib_show.specs.Demands.{is_met, is_met_by}
+use Rattle.crib_show.specs.Show.{crib_points, hand_points}
 use Rattle.crib_show.specs.Outcome.{outcome_of}
 use Rattle.crib_show.specs.declared.demands.Demand.{Demand}
 use Rattle.crib_show.specs.declared.show.outcomes.Outcome.TheVariants.{Reached}
@@ -49,6 +50,12 @@ abbrev pub full_behind : Setup → List Event → Dealt → Full
 full_behind problem history dealt =
     full_with problem dealt (scores_after (start_of problem)
     (filled_record (start_of problem) (history_letters history)))
+
+-- whether a deal of a problem meets a demand
+abbrev pub meets : Setup → Demand → Dealt → Bool
+meets problem demand dealt =
+    is_met demand (hand_points dealt.hold problem.starter)
+    (crib_points (problem.thrown ++ dealt.throw) problem.starter)
 
 -- of the deals that agree with a history after which this is known, exactly those meet the demand that reach the goal.
 -- It is used only for a deal that is done

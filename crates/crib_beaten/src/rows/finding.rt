@@ -2,11 +2,11 @@
 //! the plan.
 ghost use Rattle.std.specs.Prelude.{◌<◌, ◌≤◌};
 
-use crate::holds::{are_in_order, ranks_at};
 use crate::rows::{MOST_ROWS, Slot, Term, meets};
 use crate::tally::RanksTally;
 use arrayvec::ArrayVec;
 use crib_cards::{CardSet, Rank};
+use crib_deals::{are_in_order, ranks_at};
 use crib_show::count_ranks;
 
 // How many choices of four ranks there are.

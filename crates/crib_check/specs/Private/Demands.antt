@@ -1,7 +1,6 @@
 -- What the opponent's hand and the crib must count so that no game from a position on fails.
 use Rattle.std.specs.Prelude.{◌≡◌, ℕ, ◌≤◌, nat_lt, Bool, ◌&&◌, List, ◌∷◌, map, ◌↔◌, IsTrue, IsFalse}
-use Rattle.std.specs.List.{list_all}
-use Rattle.crib_cards.specs.Cards.{rank_of, ranks}
+use Rattle.crib_cards.specs.Cards.{rank_of}
 use Rattle.crib_cards.specs.Sets.{count_at, has, rank_counts}
 use Rattle.crib_cards.specs.declared.letters.Letter.{Letter}
 use Rattle.crib_cards.specs.declared.letters.Letter.TheVariants.{Seen, Go}
@@ -11,11 +10,12 @@ use Rattle.crib_show.specs.Show.{hand_points}
 use Rattle.crib_problem.specs.Setup.{Setup}
 use Rattle.crib_plan.specs.declared.plan.Node.{Node}
 use Rattle.crib_know.specs.Knowledge.{Knowledge}
-use Rattle.crib_know.specs.Hidden.{AgreesWith, passes_rank}
+use Rattle.crib_know.specs.Hidden.{AgreesWith, passes_counts}
 use Rattle.crib_show.specs.declared.demands.Demand.{Demand}
 use Rattle.crib_check.specs.declared.keys.Key.{Key}
 use Rattle.crib_show.specs.Demands.{is_met}
-use Rattle.crib_check.specs.Beaten.{Beats, counts_of, demand_of, meets}
+use Rattle.crib_sure.specs.Shows.{meets}
+use Rattle.crib_check.specs.Beaten.{Beats, counts_of, demand_of}
 use Rattle.crib_sure.specs.Private.Histories.{Extends, history_of_game}
 use Rattle.crib_check.specs.Private.Positions.{StandsAt}
 
@@ -47,10 +47,6 @@ IsDemandFrom problem plan key counts = IsDemandAt problem plan key counts (Beats
 abbrev pub IsDemandAfter : Setup → List Node → Key → List ℕ → Letter → Demand → Type 0
 IsDemandAfter problem plan key counts letter =
     IsDemandAt problem plan key counts (λ history. BeatsFrom problem plan (Theirs letter ∷ history))
-
--- whether a hold with these counts passes the test of a knowledge
-abbrev pub passes_counts : ℕ → List ℕ → List ℕ → Bool
-passes_counts least seen counts = list_all (passes_rank least seen counts) ranks
 
 -- whether a hold with these counts may show a letter: it has a card left for it, or passes the test after a go
 abbrev pub may_show : Knowledge → Knowledge → Letter → List ℕ → Bool

@@ -1,21 +1,17 @@
 //! What the plays that follow a plan demand of a deal.
-ghost use Rattle.std.specs.Prelude.{◌≡◌, ◌≢◌, ◌≤◌, ◌<◌, ◌*◌, ℕ, List, filter, length, map, take, IsTrue};
-ghost use Rattle.std.specs.Prelude.{IsFalse};
+ghost use Rattle.std.specs.Prelude.{◌≡◌, ◌≤◌, ◌<◌, ◌*◌, ℕ, List, filter, length, take, IsTrue};
 ghost use Rattle.std.specs.List.{All};
-ghost use Rattle.crib_cards.specs.Cards.{rank_of};
-ghost use Rattle.crib_cards.specs.Sets.{has, rank_counts};
-ghost use Rattle.crib_cards.specs.declared.sides.Dealt.{Dealt};
-ghost use Rattle.crib_know.specs.Hidden.{passes_rank};
+ghost use Rattle.crib_cards.specs.Sets.{has};
 ghost use Rattle.crib_know.specs.Private.Ahead.{turns_ahead};
 ghost use Rattle.crib_problem.specs.Setup.{Setup};
 ghost use Rattle.crib_plan.specs.declared.plan.Node.{Node};
-ghost use Rattle.crib_check.specs.Beaten.{ArePlays, Decides, IsOpen, counts_of, demand_of, passes_opening};
+ghost use Rattle.crib_check.specs.Beaten.{ArePlays, Decides, counts_of, demand_of};
 ghost use Rattle.crib_check.specs.Private.Demands.{AreJoined, IsAfterSome, IsDemandAfter, IsDemandFrom, IsOwnHand};
-ghost use Rattle.crib_check.specs.Private.Demands.{may_show, passes_counts};
+ghost use Rattle.crib_check.specs.Private.Demands.{may_show};
 
 use crate::keys::Key;
 use crate::turns::{go_by_own, go_by_theirs, own_move};
-use crib_cards::{Letter, Rank, RankCounts};
+use crib_cards::{Letter, RankCounts};
 use crib_know::Know;
 use crib_plan::{Plan, start};
 use crib_play::Turn;
@@ -64,18 +60,6 @@ impl<'a, A: Allocator> Plays<'a, A> {
 }
 
 impl<A: Allocator> Plays<'_, A> {
-    /// Whether holds with so many cards of each rank pass the test of what the owner knows after the opening. The hold
-    /// of each open deal does. An open deal is one that agrees with the opening.
-    pub fn passes(&self, counts: &RankCounts) -> bool
-        requires { (problem : Setup) × (plan : List Node) × ArePlays problem plan self.now }
-        ensures test { (problem : Setup) (plan : List Node) → ArePlays problem plan self.now
-            → (hold : List ℕ) → rank_counts (map rank_of hold) ≡ counts.now → passes_opening problem hold ≡ result }
-        ensures none { IsFalse result → (problem : Setup) (plan : List Node) → ArePlays problem plan self.now
-            → (dealt : Dealt) → IsOpen problem dealt → rank_counts (map rank_of dealt.hold) ≢ counts.now }
-    {
-        passes(&self.start.know, counts)
-    }
-
     /// What an open deal must meet so that it does not beat the plan, for each of the choices.
     pub fn demands(&self) -> [Demand; CHOICES]
         requires { (problem : Setup) × (plan : List Node) × ArePlays problem plan self.now }
@@ -241,7 +225,7 @@ fn may_show(before: &Know, after: &Know, letter: &Letter, counts: &RankCounts) -
 {
     match *letter {
         Letter::Seen(rank) => before.ranks_seen().of(rank) < counts.of(rank),
-        Letter::Go => passes(after, counts),
+        Letter::Go => after.passes(counts),
     }
 }
 
@@ -255,29 +239,4 @@ fn join(demand: Demand, places: &[u16], demands: &mut [Demand; CHOICES])
         let place = *place as usize;
         demands[place] = demands[place].and(demand);
     }
-}
-
-// Whether a hold with these ranks passes the test of a knowledge.
-fn passes(know: &Know, counts: &RankCounts) -> bool
-    ensures { result ≡ passes_counts know.now.least know.now.ranks_seen counts.now }
-{
-    for number in 1..14u8 {
-        let Some(rank) = Rank::new(number) else {
-            unreachable!()
-        };
-        if !passes_rank(know, counts, rank) {
-            return false;
-        }
-    }
-    true
-}
-
-// Whether a hold with these ranks passes the test of a knowledge for one rank.
-#[inline(always)]
-fn passes_rank(know: &Know, counts: &RankCounts, rank: Rank) -> bool
-    ensures { result ≡ passes_rank know.now.least know.now.ranks_seen counts.now rank }
-{
-    let seen = know.ranks_seen().of(rank);
-    let count = counts.of(rank);
-    seen <= count && (know.least() <= rank.value() || count <= seen)
 }

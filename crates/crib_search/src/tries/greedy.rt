@@ -9,6 +9,7 @@ ghost use Rattle.crib_search.specs.Private.Search.{IsHere};
 use crate::choices::options;
 use crate::join::join;
 use crate::nodes::{DraftNode, DraftPlace, Nodes};
+use crate::tries::trials::Trial;
 use arrayvec::ArrayVec;
 use crib_cards::{Card, Letter};
 use crib_know::Know;
@@ -16,7 +17,6 @@ use crib_play::Turn;
 use crib_problem::Problem;
 use crib_show::hand_points;
 use crib_sure::demand_at_end;
-use crib_trial::Trial;
 use std::alloc::{AllocError, Allocator};
 
 /// What a plan for a problem is made with.
@@ -50,7 +50,7 @@ impl Greedy<'_> {
         &self,
         nodes: &mut Nodes<A>,
         know: &Know,
-        trial: &mut Trial<A>,
+        trial: &mut Trial<'_, A>,
     ) -> Result<DraftPlace, AllocError>
         requires here { IsHere self.now.problem.now know.now }
         ensures kept { IsMore nodes.old nodes.new }
@@ -75,7 +75,7 @@ impl Greedy<'_> {
         &self,
         nodes: &mut Nodes<A>,
         know: &Know,
-        trial: &mut Trial<A>,
+        trial: &mut Trial<'_, A>,
     ) -> Result<DraftPlace, AllocError>
         requires here { IsHere self.now.problem.now know.now }
         requires asked { know.now.round.asked ≡ Turn.Owner }
@@ -101,7 +101,7 @@ impl Greedy<'_> {
         nodes: &mut Nodes<A>,
         know: &Know,
         cards: &[Card],
-        trial: &mut Trial<A>,
+        trial: &mut Trial<'_, A>,
     ) -> Result<DraftPlace, AllocError>
         requires here { IsHere self.now.problem.now know.now }
         requires asked { know.now.round.asked ≡ Turn.Owner }
@@ -130,7 +130,7 @@ impl Greedy<'_> {
         nodes: &mut Nodes<A>,
         know: &Know,
         card: Card,
-        trial: &mut Trial<A>,
+        trial: &mut Trial<'_, A>,
     ) -> Result<DraftPlace, AllocError>
         requires here { IsHere self.now.problem.now know.now }
         requires asked { know.now.round.asked ≡ Turn.Owner }
@@ -154,7 +154,7 @@ impl Greedy<'_> {
         &self,
         nodes: &mut Nodes<A>,
         know: &Know,
-        trial: &mut Trial<A>,
+        trial: &mut Trial<'_, A>,
     ) -> Result<DraftPlace, AllocError>
         requires here { IsHere self.now.problem.now know.now }
         ensures kept { IsMore nodes.old nodes.new }
@@ -179,7 +179,7 @@ impl Greedy<'_> {
         nodes: &mut Nodes<A>,
         know: &Know,
         letter: &Letter,
-        trial: &mut Trial<A>,
+        trial: &mut Trial<'_, A>,
     ) -> Result<DraftPlace, AllocError>
         requires here { IsHere self.now.problem.now know.now }
         ensures kept { IsMore nodes.old nodes.new }

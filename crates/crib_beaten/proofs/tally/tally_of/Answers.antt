@@ -7,7 +7,7 @@ use Rattle.crib_beaten.proofs.tally.tally_of.Goals as goal
 
 pub loop-number-init : goal.loop-number-init
 loop-number-init g c = record {
-  below = rw c.new.ensures.items (none_yet c.of-deals.ensures.cards.setup);
+  below = rw c.new.ensures.items (none_yet c.of-deals.ensures.setup);
   place = (none_chosen []).0;
   few = omega arith;
 }
@@ -18,13 +18,14 @@ add-requires-clause-open_deals g c =
 
 pub add-requires-clause-beaten : goal.add-requires-clause-beaten
 add-requires-clause-beaten g c =
-    (sum_fits 545792 (omega arith) (omega arith) c.loop-number.invariant.below.few.1 c.row_at-row.ensures.few.1).1
+    (sum_fits 209920 (omega arith) (omega arith) c.loop-number.invariant.below.few.1 (let few = c.row_at-row.ensures.few in omega (arith, few))).1
 
 pub loop-number-preserved : goal.loop-number-preserved
 loop-number-preserved g c =
     let sums = c.in_ok-add.ensures in
-    let next = next_tally c.of-deals.ensures.cards.setup c.row_at-row.result (omega arith) c.loop-number.invariant.below c.row_at-row.ensures.ranks
-    (c.row_at-row.ensures.exact c.args.problem.now c.args.plan.now c.of-deals.ensures) c.row_at-row.ensures.few in
+    let next = next_tally c.of-deals.ensures.setup c.row_at-row.result (omega arith) c.loop-number.invariant.below c.row_at-row.ensures.ranks
+    (c.row_at-row.ensures.exact c.args.problem.now c.args.plan.now c.of-deals.ensures)
+    (let few = c.row_at-row.ensures.few in (few.0, omega (arith, few))) in
     let count = ap ordered_count c.row_at-row.ensures.ranks in record {
       below = rw (sums.open_deals, sums.beaten, sums.rows) next;
       place = omega (arith, c.place_after-place.ensures.value, count, c.loop-number.invariant.place, ordered_more c.loop-number.number);
@@ -32,5 +33,5 @@ loop-number-preserved g c =
     }
 
 pub returns : goal.returns
-returns g c = whole_tally c.of-deals.ensures.cards.setup c.loop-number.tally (omega (arith, c.loop-number.auto.number-end, c.loop-number-test.false))
+returns g c = whole_tally c.of-deals.ensures.setup c.loop-number.tally (omega (arith, c.loop-number.auto.number-end, c.loop-number-test.false))
     c.loop-number.invariant.below

@@ -1,16 +1,24 @@
+use Rattle.std.proofs.Common.{sym, ap, ◌∙◌, arith}
+use Rattle.crib_deals.specs.Choices.{are_in_order}
+use Rattle.crib_beaten.proofs.HoldNumbers.{small_place}
+use Rattle.crib_beaten.proofs.TallyRows.{counted_by, none_ordered}
 use Rattle.crib_beaten.proofs.tally.OpenDeals.row_at.Goals as goal
 
-pub count-open_deals-requires-clause-place : goal.count-open_deals-requires-clause-place
-count-open_deals-requires-clause-place g c = (c.args.number, c.requires.number, c.ranks_at-ranks.ensures, c.requires.place)
+pub bounds-self-place : goal.bounds-self-place
+bounds-self-place c =
+    let order = ap are_in_order (sym c.ranks_at-ranks.ensures) ∙ sym c.are_in_order.ensures ∙ c.if-are_in_order.true in
+    omega (arith, small_place c.args.number order c.requires.number, c.requires.place)
 
-pub count-open_deals-requires-clause-here : goal.count-open_deals-requires-clause-here
-count-open_deals-requires-clause-here g c = c.requires.here
+pub offset_bounds-self-place : goal.offset_bounds-self-place
+offset_bounds-self-place c =
+    let order = ap are_in_order (sym c.ranks_at-ranks.ensures) ∙ sym c.are_in_order.ensures ∙ c.if-are_in_order.true in
+    omega (arith, small_place c.args.number order c.requires.number, c.requires.place)
 
-pub returns-clause-ranks : goal.returns-clause-ranks
-returns-clause-ranks g c = c.ranks_at-ranks.ensures
+pub returns-then-are_in_order-clause-exact : goal.returns-then-are_in_order-clause-exact
+returns-then-are_in_order-clause-exact c = λ problem plan is.
+    let order = ap are_in_order (sym c.ranks_at-ranks.ensures) ∙ sym c.are_in_order.ensures ∙ c.if-are_in_order.true in
+    counted_by is.setup (rw (c.ranks_at-ranks.ensures, c.requires.place) (is.decided c.args.number c.requires.number order))
+    (rw is.same_problem at c.count-counted.ensures.open) (rw is.same_problem at c.count-counted.ensures.missing)
 
-pub returns-clause-exact : goal.returns-clause-exact
-returns-clause-exact g c = c.count-open_deals.ensures.exact
-
-pub returns-clause-few : goal.returns-clause-few
-returns-clause-few g c = rw c.ranks_at-ranks.ensures at c.count-open_deals.ensures.few
+pub returns-else-are_in_order-clause-exact : goal.returns-else-are_in_order-clause-exact
+returns-else-are_in_order-clause-exact c = λ problem plan is. none_ordered is.setup (sym c.are_in_order.ensures ∙ c.if-are_in_order.false)

@@ -1,0 +1,4 @@
+-- Definitions that only private functions cite. No public contract rests on them.
+pub mod Holds
+pub mod Sums
+pub mod Rows

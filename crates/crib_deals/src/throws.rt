@@ -1,0 +1,160 @@
+//! The throws that the opponent may have made, and the points of the crib with each.
+ghost use Rattle.std.specs.Prelude.{◌≡◌, ℕ, ◌<◌, ◌+◌, ◌%◌, ◌*◌, ◌≤◌, ◌∷◌, [], cond, length, get_or, slice_index};
+ghost use Rattle.crib_cards.specs.Cards.{IsCard, suit_number};
+ghost use Rattle.crib_deals.specs.Throws.{AreCribs, AreFew, AreThrowsCounted, is_below, partners};
+ghost use Rattle.crib_deals.specs.Throws.{passing_throws};
+
+use crib_cards::{Card, CardSet, Rank, Suit};
+use crib_know::lowest_of;
+use crib_show::crib_points;
+
+/// How many throws each hold leaves: two of the 41 cards that are neither known nor held.
+pub(crate) const THROWS: u32 = 820;
+
+/// The limits of the tables are from 0 to 30: no crib has more than 29 points.
+pub(crate) const LIMITS: usize = 31;
+
+// No crib has more points.
+const MOST_POINTS: u8 = 29;
+
+/// The cribs that the opponent's throws of two unseen cards make, counted.
+#[derive(Clone, Copy)]
+pub(crate) struct Cribs {
+    /// The unseen cards.
+    pub(crate) unseen: CardSet,
+    // The points of the crib for each two cards.
+    points: [u8; 2704],
+    /// For each limit, how many throws make a crib with fewer points.
+    pub(crate) below: [u16; LIMITS],
+    /// For each card and each limit, with how many unseen cards it makes such a crib.
+    pub(crate) partners: [u8; 52 * LIMITS],
+}
+
+impl Cribs {
+    /// Counts the cribs with the owner's throw.
+    pub(crate) fn new(thrown: &[Card; 2], starter: Card, unseen: CardSet) -> Self
+        requires { length unseen ≡ 45 }
+        ensures unseen { result.unseen ≡ unseen }
+        ensures cribs { AreCribs thrown.now starter result.points }
+        ensures counted { AreThrowsCounted result }
+    {
+        let cards: [Card; 45] = lowest_of(unseen);
+        let points = cribs_of(thrown, starter);
+        Cribs {
+            unseen,
+            points,
+            below: throws_below(&points, &cards),
+            partners: partners_below(&points, &cards),
+        }
+    }
+
+    /// The points of the crib with a throw of two cards in pack order.
+    pub(crate) fn points_with(&self, first: Card, second: Card) -> usize
+        requires { AreThrowsCounted self.now }
+        ensures value { result ≡ slice_index self.now.points (52 * first + second) }
+        ensures few { result ≤ 29 }
+    {
+        self.points[52 * first.number() as usize + second.number() as usize] as usize
+    }
+}
+
+// For each limit, how many throws of two of these cards make a crib with fewer points.
+fn throws_below(points: &[u8; 2704], cards: &[Card]) -> [u16; LIMITS]
+    requires { length cards.now ≤ 52 }
+    ensures { (limit : ℕ) → limit ≤ 30
+        → get_or result limit 0 ≡ passing_throws (is_below points.now limit) cards.now }
+{
+    let mut counts = [0; LIMITS];
+    for limit in 0..LIMITS {
+        counts[limit] = count_throws(points, cards, limit as u8) as u16;
+    }
+    counts
+}
+
+// For each card and each limit, with how many of these cards it makes a crib with fewer points.
+fn partners_below(points: &[u8; 2704], cards: &[Card]) -> [u8; 52 * LIMITS]
+    requires { length cards.now ≤ 52 }
+    ensures { (card limit : ℕ) → IsCard card → limit ≤ 30
+        → get_or result (31 * card + limit) 0 ≡ partners (is_below points.now limit) card cards.now }
+{
+    let mut counts = [0; 52 * LIMITS];
+    for place in 0..52 * LIMITS {
+        let limit = (place % LIMITS) as u8;
+        counts[place] = count_partners(points, card_at(place / LIMITS), cards, limit) as u8;
+    }
+    counts
+}
+
+// How many throws of two of these cards make a crib below a limit.
+fn count_throws(points: &[u8; 2704], cards: &[Card], limit: u8) -> u32
+    requires { length cards.now ≤ 52 }
+    ensures value { result ≡ passing_throws (is_below points.now limit) cards.now }
+    ensures few { result ≤ 52 * length cards.now }
+{
+    match cards {
+        [] => 0,
+        [first, others @ ..] => {
+            count_partners(points, *first, others, limit) + count_throws(points, others, limit)
+        }
+    }
+}
+
+// With how many of these cards a card makes a crib below a limit.
+fn count_partners(points: &[u8; 2704], card: Card, cards: &[Card], limit: u8) -> u32
+    requires { length cards.now ≤ 52 }
+    ensures value { result ≡ partners (is_below points.now limit) card cards.now }
+    ensures few { result ≤ length cards.now }
+{
+    let mut count = 0;
+    for other in cards {
+        count += count_pair(points, card, *other, limit);
+    }
+    count
+}
+
+// One if two cards are different and make a crib below a limit, otherwise none.
+#[inline(always)]
+fn count_pair(points: &[u8; 2704], first: Card, second: Card, limit: u8) -> u32
+    ensures value { result ≡ cond (is_below points.now limit (first ∷ second ∷ [])) 1 0 }
+    ensures few { result ≤ 1 }
+{
+    let (first, second) = (first.number(), second.number());
+    let place = 52 * first.min(second) as usize + first.max(second) as usize;
+    (first != second && points[place] < limit) as u32
+}
+
+// The points of the crib for each two cards that the opponent may have thrown.
+fn cribs_of(thrown: &[Card; 2], starter: Card) -> [u8; 2704]
+    ensures cribs { AreCribs thrown.now starter result }
+    ensures few { AreFew result }
+{
+    let [one, other] = *thrown;
+    let mut points = [0; 2704];
+    for place in 0..2704usize {
+        let throw = [one, other, card_at(place / 52), card_at(place % 52)];
+        points[place] = crib_points(&throw, starter).min(MOST_POINTS);
+    }
+    points
+}
+
+/// The card with a number.
+pub(crate) fn card_at(number: usize) -> Card
+    requires { number < 52 }
+    ensures { result ≡ number }
+{
+    let Some(rank) = Rank::new((number / 4) as u8 + 1) else {
+        unreachable!()
+    };
+    Card::of(rank, suit_at(number))
+}
+
+pub(crate) fn suit_at(number: usize) -> Suit
+    ensures { suit_number result ≡ number % 4 }
+{
+    match number % 4 {
+        0 => Suit::Clubs,
+        1 => Suit::Diamonds,
+        2 => Suit::Hearts,
+        _ => Suit::Spades,
+    }
+}

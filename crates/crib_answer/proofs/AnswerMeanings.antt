@@ -16,9 +16,11 @@ use Rattle.crib_answer.specs.declared.job.Job.TheVariants.{Replay, Follow, Check
 use Rattle.crib_input.specs.Input.{problem_of_input, question_of_input}
 use Rattle.crib_run.specs.Reply.{Reply}
 use Rattle.crib_run.specs.Reply.{fault_reply}
+use Rattle.crib_run.specs.Run.{HaveMeaning}
 use Rattle.crib_answer.specs.Answer.{AnswersCheck, AnswersProblem, AnswersSolve, Makes, verdict_reply, found_reply}
 use Rattle.crib_input.specs.Spelled.{SpellsProblem, SpellsPlan}
 use Rattle.crib_answer.specs.Meaning.{CheckMeans, SolveMeans, StatusMeans}
+use Rattle.crib_answer.proofs.RightReplies.{long_answers}
 use Rattle.crib_input.proofs.Inputs.{problem_accepted, problem_spelled, question_accepted, question_spelled}
 
 -- ---- check
@@ -90,3 +92,10 @@ makes_means Check input reply (inr want) = subst (Checks input) (sym want.1) (me
 makes_means Solve input reply (inl answers) = solve_means input (problem_of_input input) reply refl answers
 makes_means Solve input reply (inr want) = subst (Solves input) (sym want.1) (memory_means Solve input)
 makes_means Board input reply made = tt
+
+pub job_means : (job : Job) → HaveMeaning (Makes job) (StatusMeans job)
+job_means job = record {
+  answers = makes_means job;
+  long = λ input long. makes_means job input _ (inl (long_answers job input _ long refl));
+  memory = memory_means job;
+}

@@ -44,7 +44,11 @@ pub fn answer_to<A: Allocator + Copy>(alloc: A, job: Job, input: &[u8]) -> Answe
 
 /// Returns the answer of a job to an input of any length, with the status `Yes` or `No`, or the reason why there is
 /// none: its refusal, or a fault. [`answer_to`] is the same with the reason as its line. It reads the input once.
-pub fn answer_of<A: Allocator + Copy>(alloc: A, job: Job, input: &[u8]) -> Result<Answer<A>, Reason>
+pub(crate) fn answer_of<A: Allocator + Copy>(
+    alloc: A,
+    job: Job,
+    input: &[u8],
+) -> Result<Answer<A>, Reason>
     ensures { IsOutcome reply_of (Makes job input.now) result }
 {
     if input.len() > MAX_INPUT {

@@ -1,8 +1,7 @@
 //! The jobs that the program can do.
 ghost use Rattle.std.specs.Prelude.{◌≡◌};
-ghost use Rattle.crib_answer.specs.Job.{job_called, sections_of};
+ghost use Rattle.crib_answer.specs.Job.{job_called};
 
-use crib_input::Sections;
 use std::str::FromStr;
 use thiserror::Error;
 
@@ -21,32 +20,8 @@ pub enum Job {
     Board,
 }
 
-const REPLAY: &str = "replay";
-
-const FOLLOW: &str = "follow";
-
-const CHECK: &str = "check";
-
-const SOLVE: &str = "solve";
-
-const BOARD: &str = "board";
-
 /// The names of the jobs, in the order in which the help text lists them.
-pub static NAMES: [&str; 5] = [CHECK, SOLVE, REPLAY, BOARD, FOLLOW];
-
-impl Job {
-    /// Returns the sections that the input of the job has to have.
-    pub fn sections(self) -> Sections
-        ensures { result ≡ sections_of self }
-    {
-        match self {
-            Job::Solve => Sections::Problem,
-            Job::Check => Sections::Question,
-            Job::Replay | Job::Board => Sections::Played,
-            Job::Follow => Sections::PlayedUnder,
-        }
-    }
-}
+pub static NAMES: [&str; 5] = ["check", "solve", "replay", "board", "follow"];
 
 /// The error of a word that is not the name of a job.
 #[derive(Clone, Copy, Debug, PartialEq, Eq, Error)]
@@ -60,11 +35,11 @@ impl FromStr for Job {
 
     fn from_str(text: &str) -> Result<Job, UnknownJob> {
         match text {
-            REPLAY => Ok(Job::Replay),
-            FOLLOW => Ok(Job::Follow),
-            CHECK => Ok(Job::Check),
-            SOLVE => Ok(Job::Solve),
-            BOARD => Ok(Job::Board),
+            "replay" => Ok(Job::Replay),
+            "follow" => Ok(Job::Follow),
+            "check" => Ok(Job::Check),
+            "solve" => Ok(Job::Solve),
+            "board" => Ok(Job::Board),
             _ => Err(UnknownJob),
         }
     }

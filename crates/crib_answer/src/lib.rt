@@ -2,6 +2,7 @@
 #![tactic(auto)]
 
 mod answering;
+mod asking;
 mod ending;
 mod job;
 mod laws;
@@ -10,6 +11,6 @@ mod report;
 mod solve;
 mod verdict;
 
-pub use answering::{answer_of, answer_to};
+pub use answering::answer_to;
 pub use job::{Job, NAMES, UnknownJob};
 pub use laws::{agreement_law, check_law, reply_law, solve_law};

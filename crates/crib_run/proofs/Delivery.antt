@@ -1,17 +1,13 @@
 -- What is delivered: an answer, or the reason why there is none, and the words beside it.
-use Rattle.std.proofs.Common.{◌≡◌, ◌⊎◌, inl, inr, List, ℕ, [], Option, Result, Ok, Err}
+use Rattle.std.proofs.Common.{◌≡◌, ◌⊎◌, ◌<◌, inl, inr, List, ℕ, [], length, take, Option, Result, Ok, Err, OnOk, OnErr, IfErr}
 use Rattle.std.specs.Io.KnownBytes.{Appends}
 use Rattle.crib_input.specs.declared.reason.Reason.{Reason}
 use Rattle.crib_run.specs.declared.status.Status.{Status}
 use Rattle.crib_run.specs.declared.status.Status.TheVariants.{Yes, No}
 use Rattle.crib_run.specs.Beside.{Explains}
-use Rattle.crib_run.specs.Reply.{IsOutcome, Reply, outcome_reply, reason_reply}
+use Rattle.crib_run.specs.Reply.{IsOutcome, Reply, reason_reply}
 
 -- ---- outcomes
-
-pub outcome_made : {A : Type 0} (reply : A → Reply) (may : Reply → Type 0) (r : Result A Reason) → IsOutcome reply may r → may (outcome_reply reply r)
-outcome_made reply may (Ok answer) is = is.1
-outcome_made reply may (Err reason) is = is
 
 -- the same outcome of another question
 pub outcome_map : {A : Type 0} (reply : A → Reply) (may other : Reply → Type 0) → ((r : Reply) → may r → other r) → (r : Result A Reason)
@@ -28,3 +24,13 @@ silent says reply Yes old new failed nothing quiet = nothing
 silent says reply No old new failed nothing quiet = nothing
 silent says reply ended old new failed said (inl is) = cc
 silent says reply ended old new failed said (inr is) = cc
+
+-- ---- a text
+
+-- bytes were sent whole, or a proper beginning of them
+pub sent_part : {E : Type 0} (sent : E → ℕ) (result : Result (Unit {0}) E) (old new : Option (List ℕ)) (bytes : List ℕ) (failed : Type 0) →
+    OnOk result (Appends old new bytes) → IfErr result (λ stopped. Appends old new (take (sent stopped) bytes)) →
+    IfErr result (λ stopped. sent stopped < length bytes) → OnErr result failed →
+    Appends old new bytes ⊎ ((count : ℕ) × (count < length bytes) × Appends old new (take count bytes) × failed)
+sent_part sent (Ok done) old new bytes failed all part cut stop = inl all
+sent_part sent (Err stopped) old new bytes failed all part cut stop = inr (sent stopped, cut, part, stop)

@@ -1,6 +1,6 @@
 -- Worked examples of replies, of the statuses, and of what a run reads and sends.
 use Rattle.std.specs.Prelude.{map}
-use Rattle.std.proofs.Common.{arith, ◌≡◌, ◌∙◌, refl, ap, subst, inl, inr, ℕ, List, [], ◌∷◌, codes, length, Option, Some, None, Ok, Err}
+use Rattle.std.proofs.Common.{arith, ◌≡◌, ◌∙◌, refl, ap, subst, inl, inr, ◌<◌, ℕ, List, [], ◌∷◌, codes, length, Option, Some, None, Ok, Err}
 use Rattle.std.specs.Fmt.{digits}
 use Rattle.std.proofs.lemmas.List.{length-take-le}
 use Rattle.crib_text.specs.declared.fault.TextCause.TheVariants as causes
@@ -10,11 +10,12 @@ use Rattle.crib_run.specs.declared.answer.Answer as answers
 use Rattle.crib_run.specs.declared.text.Text.TheVariants as texts
 use Rattle.crib_input.specs.declared.reason.FaultCause.TheVariants.{ReadFailed, WriteFailed, NoMemory, TooLarge}
 use Rattle.crib_input.specs.declared.reason.Reason.TheVariants as reasons
+use Rattle.crib_input.specs.Input.{most_bytes}
 use Rattle.crib_input.specs.Refusals.{fault_number}
 use Rattle.crib_run.specs.declared.status.Status.{Status}
 use Rattle.crib_run.specs.declared.status.Status.TheVariants.{Yes, No, Refused, Fault}
-use Rattle.crib_run.specs.Reply.{IsAnswer, IsOutcome, Reply, fault_line, fault_reply, outcome_reply, reason_reply, refusal_reply, reply_of}
-use Rattle.crib_run.specs.Run.{AnswersRead, Delivers, IsRead, RunMeans, Sends, unread_reply}
+use Rattle.crib_run.specs.Reply.{IsAnswer, IsOutcome, Reply, fault_line, fault_reply, reason_reply, refusal_reply, reply_of}
+use Rattle.crib_run.specs.Run.{AnswersRead, Delivers, HaveMeaning, IsRead, RunMeans, Sends, unread_reply}
 use Rattle.crib_run.specs.Status.{code_of}
 use Rattle.crib_run.specs.Text.{text_bytes}
 
@@ -55,13 +56,6 @@ replies_by_number = refl
 
 abbrev holds_reply : Reply
 holds_reply = record { output = codes "holds\n"; status = Yes }
-
--- ---- outcomes
-abbrev itself : Reply → Reply
-itself reply = reply
-
-pub replies_of_outcomes : map (outcome_reply itself) (Ok holds_reply ∷ Err (reasons.Fault NoMemory) ∷ []) ≡ holds_reply ∷ fault_reply 11 ∷ []
-replies_of_outcomes = refl
 
 -- ---- reading
 pub unread_inputs : map unread_reply (causes.TooLong ∷ causes.CutShort ∷ causes.BadByte ∷ causes.ReadFault ∷ causes.NoMemory ∷ [])
@@ -186,6 +180,9 @@ run_without_its_text (inr failed) = failed.1
 pub yes_and_no : IsAnswer Yes × IsAnswer No × (IsAnswer Refused → ⊥) × (IsAnswer Fault → ⊥)
 yes_and_no = (inl refl, inr refl, λ is. elim is [ inl e ↦ absurd cc | inr e ↦ absurd cc ], λ is. elim is [ inl e ↦ absurd cc | inr e ↦ absurd cc ])
 
+abbrev itself : Reply → Reply
+itself reply = reply
+
 pub are_outcomes : IsOutcome itself (λ reply. reply ≡ holds_reply) (Ok holds_reply)
     × IsOutcome itself (λ reply. reply ≡ fault_reply 11) (Err (reasons.Fault NoMemory))
 are_outcomes = ((inl refl, refl), refl)
@@ -194,3 +191,9 @@ are_outcomes = ((inl refl, refl), refl)
 pub no_outcomes : (IsOutcome itself (λ reply. Unit {0}) (Ok (a_refusal [])) → ⊥) × (IsOutcome itself (λ reply. ⊥) (Ok holds_reply) → ⊥)
     × (IsOutcome itself (λ reply. ⊥) (Err (reasons.Fault NoMemory)) → ⊥)
 no_outcomes = (λ is. yes_and_no.2 is.0, λ is. is.1, λ is. is)
+
+-- ---- each reply that answers an input has its meaning, and so have the two replies to what no job has read
+pub meanings : (may means : List ℕ → Reply → Type 0) → HaveMeaning may means → ((input : List ℕ) (reply : Reply) → may input reply → means input reply)
+    × ((input : List ℕ) → most_bytes < length input → means input (a_refusal (codes "refused line 0: 2\n"))) × means [] (a_fault (codes "fault 11\n"))
+unfolding digits
+meanings may means have = (have.answers, have.long, have.memory [])

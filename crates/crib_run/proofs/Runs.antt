@@ -8,7 +8,7 @@ use Rattle.crib_run.specs.declared.status.Status.{Status}
 use Rattle.crib_input.specs.Input.{most_bytes}
 use Rattle.crib_run.specs.Reply.{Reply}
 use Rattle.crib_run.specs.Reply.{refusal_reply, fault_reply}
-use Rattle.crib_run.specs.Run.{IsRead, AnswersRead, Sends, Delivers, RunMeans}
+use Rattle.crib_run.specs.Run.{IsRead, AnswersRead, HaveMeaning, Sends, Delivers, RunMeans}
 
 -- the bytes of a device if they are known, and other bytes if not
 abbrev known_or : Option (List ℕ) → List ℕ → List ℕ
@@ -33,12 +33,6 @@ one_more = omega arith
 long_known : (known : Option (List ℕ)) → IfSome known (λ bytes. most_bytes < length bytes) → most_bytes < length (known_or known (zeros 8388609))
 long_known None long = subst (λ (n : ℕ). most_bytes < n) (sym (zeros_long 8388609)) one_more
 long_known (Some bytes) long = long
-
--- each reply that answers an input has the meaning that is stated. So do the refusal of an input that is too long and the fault of a failed allocation
-pub record HaveMeaning (may means : List ℕ → Reply → Type 0) : Type 0 where
-  pub answers : (input : List ℕ) (reply : Reply) → may input reply → means input reply
-  pub long : (input : List ℕ) → most_bytes < length input → means input (refusal_reply (record { line = 0; number = too_long }))
-  pub memory : (input : List ℕ) → means input (fault_reply no_memory)
 
 abbrev MeaningOf : (List ℕ → Reply → Type 0) → Option (List ℕ) → Option (List ℕ) → Option (List ℕ) → Type 0 → Status → Type 0
 MeaningOf means known old new failed ended = (input : List ℕ) × IfSome known (λ bytes. input ≡ bytes) × RunMeans means input old new failed ended

@@ -40,11 +40,6 @@ abbrev pub reason_reply : Reason → Reply
 reason_reply (reasons.Refused refusal) = refusal_reply (refusal_of refusal)
 reason_reply (reasons.Fault cause) = fault_reply (fault_number cause)
 
--- the reply of an outcome: that of the answer, or that with the reason why there is none
-abbrev pub outcome_reply : {A : Type 0} → (A → Reply) → Result A Reason → Reply
-outcome_reply reply (Ok answer) = reply answer
-outcome_reply reply (Err reason) = reason_reply reason
-
 -- a status is that of an answer: yes or no
 abbrev pub IsAnswer : Status → Type 0
 IsAnswer status = (status ≡ Yes) ⊎ (status ≡ No)

@@ -7,6 +7,7 @@ mod answer;
 mod making;
 mod page;
 mod reply;
+mod running;
 mod sending;
 mod status;
 mod text;
@@ -16,6 +17,7 @@ pub use making::{line_answer, reason_answer, section_answer};
 pub use page::{
     Page, Printer, put_card, put_cards, put_move, put_number, put_other_score, put_role, put_small,
 };
-pub use sending::{Explain, Sendable, deliver, deliver_reason, unread_reason};
+pub use running::{Asks, Explain, deliver_reason, run_with_words};
+pub use sending::Sendable;
 pub use status::Status;
 pub use text::{ShortText, Text, add, add_number};

@@ -20,7 +20,7 @@ use Rattle.crib_input.specs.Spelled.{SpellsPlan, SpellsProblem}
 use Rattle.crib_input.proofs.Inputs.{problem_accepted, problem_spelled, question_accepted, question_spelled, read_of_long}
 use Rattle.crib_input.proofs.GameInputs.{played_accepted}
 use Rattle.crib_run.specs.Reply.{Reply, fault_reply, refusal_reply}
-use Rattle.crib_run.proofs.Runs.{HaveMeaning}
+use Rattle.crib_run.specs.Run.{HaveMeaning}
 use Rattle.crib_answer.specs.Answer.{reply_by}
 use Rattle.crib_answer.specs.Meaning.{HasSurePlan}
 use Rattle.crib_answer.proofs.AnswerMeanings.{found_means}

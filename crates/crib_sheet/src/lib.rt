@@ -5,5 +5,5 @@ mod answer;
 mod tally;
 mod verdict;
 
-pub use answer::{GameSheet, NAMES, PlanSheet, Sheet, SheetJob, sheet_of};
+pub use answer::{GameSheet, NAMES, PlanSheet, Sheet, SheetJob};
 pub use verdict::Losses;

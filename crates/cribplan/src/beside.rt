@@ -7,19 +7,14 @@ use crib_message::message_of;
 use crib_run::Explain;
 use crib_text::{Sink, put};
 
-/// What the words beside an answer are about: the sections that the input has to have, and the input, which is empty
-/// if it was not read.
-#[derive(Clone, Copy)]
-pub struct Asked<'a> {
-    pub sections: Sections,
-    pub input: &'a [u8],
-}
+/// The messages of the program.
+pub enum Messages {}
 
-impl Explain for Asked<'_> {
-    ghost says = { λ asked reason text. IsMessage (codes "cribplan") asked.input.now reason text };
+impl Explain for Messages {
+    ghost says = { IsMessage (codes "cribplan") };
 
-    fn explain<E: Sink>(&self, words: &mut E, reason: &Reason) {
-        let message = message_of(b"cribplan", self.sections, self.input, reason);
+    fn explain<E: Sink>(sections: Sections, input: &[u8], reason: &Reason, words: &mut E) {
+        let message = message_of(b"cribplan", sections, input, reason);
         let _sent = put(words, message.as_slice());
     }
 }

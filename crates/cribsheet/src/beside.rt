@@ -1,6 +1,4 @@
 //! The words beside a sheet: why there is none, and how far a refused game was accepted.
-ghost use Rattle.std.specs.Prelude.{◌≤◌, length};
-ghost use Rattle.crib_input.specs.Input.{most_bytes};
 ghost use Rattle.cribsheet.specs.Beside.{IsSaid};
 
 use crib_game_sheet::put_acts_beside;
@@ -9,26 +7,20 @@ use crib_message::message_of;
 use crib_run::{Explain, Page, Printer};
 use crib_text::Sink;
 
-/// What the words beside a sheet are about: the sections that the input has to have, and the input, which is empty if
-/// it was not read.
-#[derive(Clone, Copy)]
-pub struct Asked<'a> {
-    pub sections: Sections,
-    pub input: &'a [u8],
-    ghost short: { length input.now ≤ most_bytes },
-}
+/// The messages of the program, each with the acts before a refused one.
+pub enum Messages {}
 
-impl Explain for Asked<'_> {
-    ghost says = { λ asked reason text. IsSaid asked.input.now reason text };
+impl Explain for Messages {
+    ghost says = { IsSaid };
 
-    fn explain<E: Sink>(&self, words: &mut E, reason: &Reason) {
-        let message = message_of(b"cribsheet", self.sections, self.input, reason);
+    fn explain<E: Sink>(sections: Sections, input: &[u8], reason: &Reason, words: &mut E) {
+        let message = message_of(b"cribsheet", sections, input, reason);
         let mut page = Printer {
             sink: words,
             is_cut: false,
         };
         page.put(message.as_slice());
-        put_acts_beside(&mut page, self.input, reason);
+        put_acts_beside(&mut page, input, reason);
         let Printer { sink, is_cut: _ } = page;
         // The proof reads what the device holds from this use of it.
         let _ = &*sink;

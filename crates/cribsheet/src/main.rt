@@ -1,12 +1,11 @@
 //! `cribsheet plan|game|beaten|try` reads standard input to its end, and writes a sheet to standard output.
 #![tactic(auto)]
 
-ghost use Rattle.std.specs.Prelude.{◌≡◌, ◌⊎◌, ◌≤◌, ℕ, List, IfSome, [], length};
+ghost use Rattle.std.specs.Prelude.{◌≡◌, ◌⊎◌, ℕ, List, IfSome, []};
 ghost use Rattle.std.specs.Io.KnownBytes.{Appends};
 ghost use Rattle.crib_text.specs.Device.{HasFailed};
 ghost use Rattle.crib_run.specs.Beside.{Explains, input_of};
-ghost use Rattle.crib_run.specs.Reply.{Reply};
-ghost use Rattle.crib_run.specs.Run.{Delivers, RunMeans, Sends};
+ghost use Rattle.crib_run.specs.Run.{Delivers, RunMeans};
 ghost use Rattle.crib_sheet.specs.Meaning.{SheetMeans};
 ghost use Rattle.crib_sheet.specs.Sheet.{SheetMakes};
 ghost use Rattle.cribsheet.specs.Beside.{IsSaid};
@@ -14,17 +13,16 @@ ghost use Rattle.cribsheet.specs.Beside.{IsSaid};
 mod beside;
 mod command;
 
-use beside::Asked;
+use beside::Messages;
 use clap::Error;
 use clap::error::ErrorKind;
 use command::program;
 use crib_command::{command_of, command_without_words, show, words_of_args};
 use crib_input::{FaultCause, Reason, Sections};
 pub use crib_run::Status;
-use crib_run::{deliver, deliver_reason, unread_reason};
+use crib_run::deliver_reason;
 pub use crib_sheet::SheetJob;
-use crib_sheet::sheet_of;
-use crib_text::{Counted, MAX_INPUT, Sink, Source, read_all};
+use crib_text::{Counted, Sink, Source};
 use std::alloc::Allocator;
 use std::process::ExitCode;
 use std::rt::Env;
@@ -39,11 +37,7 @@ fn main(rt: HostRuntime) -> ExitCode {
         }
         Err(error) if error.kind() == ErrorKind::OutOfMemory => {
             let reason = Reason::Fault(FaultCause::NoMemory);
-            let asked = Asked {
-                sections: Sections::Problem,
-                input: b"",
-            };
-            deliver_reason(reason, &asked, &mut sink, &mut words)
+            deliver_reason::<Messages, _, _>(Sections::Problem, b"", reason, &mut sink, &mut words)
         }
         Err(error) => show(&rt, &program(), &error),
     };
@@ -100,39 +94,7 @@ pub fn run_with_words<A: Allocator + Copy, S: Source, W: Sink, E: Sink>(
     ensures silent { (result ≡ Status.Yes) ⊎ (result ≡ Status.No)
         → Appends (E.contents words.old) (E.contents words.new) [] }
 {
-    match read_all(alloc, source) {
-        Ok(input) => answer(alloc, job, input.as_slice(), sink, words),
-        Err(fault) => {
-            let asked = Asked {
-                sections: job.sections(),
-                input: b"",
-            };
-            deliver_reason(unread_reason(fault), &asked, sink, words)
-        }
-    }
-}
-
-// Answers an input that was read, and says why there is no sheet.
-fn answer<A: Allocator + Copy, W: Sink, E: Sink>(
-    alloc: A,
-    job: SheetJob,
-    input: &[u8],
-    sink: &mut W,
-    words: &mut E,
-) -> Status
-    requires { length input.now ≤ MAX_INPUT }
-    ensures { (reply : Reply) × SheetMakes job input.now reply
-        × Sends reply (W.contents sink.old) (W.contents sink.new)
-        (HasFailed (W.faults sink.old) (W.faults sink.new)) result
-        × Explains (IsSaid input.now) reply result (E.contents words.old) (E.contents words.new)
-        (HasFailed (E.faults words.old) (E.faults words.new)) }
-{
-    let outcome = sheet_of(alloc, job, input);
-    let asked = Asked {
-        sections: job.sections(),
-        input,
-    };
-    deliver(&outcome, &asked, sink, words)
+    crib_run::run_with_words::<A, SheetJob, Messages, S, W, E>(alloc, job, source, sink, words)
 }
 
 #[cfg(test)]

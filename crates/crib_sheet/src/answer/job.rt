@@ -1,9 +1,8 @@
 //! The sheets that the program can make.
 ghost use Rattle.std.specs.Prelude.{◌≡◌};
-ghost use Rattle.crib_sheet.specs.Job.{job_called, sections_of};
+ghost use Rattle.crib_sheet.specs.Job.{job_called};
 
 use crib_answer::UnknownJob;
-use crib_input::Sections;
 use std::str::FromStr;
 
 /// What the program does with its input. Each command of the command line names one job (docs/GUIDE.md, "Sheets").
@@ -21,19 +20,6 @@ pub enum SheetJob {
 
 /// The names of the jobs, in the order in which the help text lists them.
 pub static NAMES: [&str; 4] = ["plan", "game", "beaten", "try"];
-
-impl SheetJob {
-    /// Returns the sections that the input of the job has to have.
-    pub fn sections(self) -> Sections
-        ensures { result ≡ sections_of self }
-    {
-        match self {
-            SheetJob::Plan | SheetJob::Beaten => Sections::Question,
-            SheetJob::Game => Sections::Played,
-            SheetJob::Try => Sections::Problem,
-        }
-    }
-}
 
 impl FromStr for SheetJob {
     type Err = UnknownJob;

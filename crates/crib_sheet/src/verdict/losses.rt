@@ -1,6 +1,6 @@
 //! The deals that beat a plan that is not sure.
 ghost use Rattle.std.specs.Prelude.{IfOk};
-ghost use Rattle.crib_sheet.specs.PlanLosses.{AreLosses, AreLossesOf};
+ghost use Rattle.crib_sheet.specs.PlanLosses.{AreLossesOf};
 
 use arrayvec::ArrayVec;
 use crib_beaten::{Rows, rows_of, tally_of};
@@ -20,37 +20,8 @@ pub struct Losses {
     pub rows: Rows,
 }
 
-impl Losses {
-    /// Returns the figures of a sure plan. None of its deals is counted.
-    fn none() -> Self {
-        Losses {
-            open_deals: 0,
-            beaten: 0,
-            rows: Rows {
-                rows: ArrayVec::new(),
-                others: 0,
-            },
-        }
-    }
-
-    /// Counts the deals that beat a plan. It fails if an allocation fails.
-    fn of<A: Allocator, B: Allocator>(
-        alloc: A,
-        problem: &Problem,
-        plan: &Plan<B>,
-    ) -> Result<Self, NoMemory>
-        ensures { IfOk result (λ losses. AreLosses problem.now plan.now losses) }
-    {
-        let tally = tally_of(alloc, problem, plan)?;
-        Ok(Losses {
-            open_deals: tally.open_deals,
-            beaten: tally.beaten,
-            rows: rows_of(problem, &tally),
-        })
-    }
-}
-
-/// Counts the deals that beat a plan if the verdict on it is that it fails. It fails if an allocation fails.
+/// Counts the deals that beat a plan if the verdict on it is that it fails, and no deals of a sure plan. It fails if an
+/// allocation fails.
 pub(crate) fn losses_by<A: Allocator, B: Allocator>(
     alloc: A,
     problem: &Problem,
@@ -60,7 +31,21 @@ pub(crate) fn losses_by<A: Allocator, B: Allocator>(
     ensures { IfOk result (λ losses. AreLossesOf problem.now plan.now verdict.now losses) }
 {
     match verdict {
-        Verdict::Holds => Ok(Losses::none()),
-        Verdict::Fails(_, _) => Losses::of(alloc, problem, plan),
+        Verdict::Holds => Ok(Losses {
+            open_deals: 0,
+            beaten: 0,
+            rows: Rows {
+                rows: ArrayVec::new(),
+                others: 0,
+            },
+        }),
+        Verdict::Fails(_, _) => {
+            let tally = tally_of(alloc, problem, plan)?;
+            Ok(Losses {
+                open_deals: tally.open_deals,
+                beaten: tally.beaten,
+                rows: rows_of(problem, &tally),
+            })
+        }
     }
 }

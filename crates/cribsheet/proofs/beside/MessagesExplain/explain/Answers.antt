@@ -1,7 +1,7 @@
 use Rattle.std.proofs.Common.{rules, refl}
 use Rattle.crib_run.proofs.Printing.{as_text}
 use Rattle.cribsheet.proofs.Runs.{said}
-use Rattle.cribsheet.proofs.beside.AskedExplain.explain.Goals as goal
+use Rattle.cribsheet.proofs.beside.MessagesExplain.explain.Goals as goal
 
 pub returns : goal.returns
 returns g c =

@@ -1,0 +1,41 @@
+//! What the program is asked: a job.
+ghost use Rattle.crib_sheet.specs.Job.{sections_of};
+ghost use Rattle.crib_sheet.specs.Meaning.{SheetMeans};
+ghost use Rattle.crib_sheet.specs.Sheet.{SheetMakes};
+
+use crate::answer::Sheet;
+use crate::answer::beaten::beaten_tally;
+use crate::answer::job::SheetJob;
+use crate::answer::plan::plan_sheet;
+use crate::answer::played::game_sheet;
+use crate::answer::to_try::answer_to_try;
+use crib_input::{Reason, Sections};
+use crib_run::Asks;
+use std::alloc::Allocator;
+
+impl<A: Allocator + Copy> Asks<A> for SheetJob {
+    ghost makes = { SheetMakes };
+
+    ghost means = { SheetMeans };
+
+    ghost reads = { sections_of };
+
+    type Made = Sheet<A>;
+
+    fn sections(self) -> Sections {
+        match self {
+            SheetJob::Plan | SheetJob::Beaten => Sections::Question,
+            SheetJob::Game => Sections::Played,
+            SheetJob::Try => Sections::Problem,
+        }
+    }
+
+    fn answer(self, alloc: A, input: &[u8]) -> Result<Sheet<A>, Reason> {
+        match self {
+            SheetJob::Plan => Ok(Sheet::Plan(plan_sheet(alloc, input)?)),
+            SheetJob::Game => Ok(Sheet::Game(game_sheet(input)?)),
+            SheetJob::Beaten => Ok(Sheet::Beaten(beaten_tally(alloc, input)?)),
+            SheetJob::Try => Ok(Sheet::Try(answer_to_try(alloc, input)?)),
+        }
+    }
+}

@@ -25,10 +25,9 @@ impl Demand {
     pub fn none() -> Self
         ensures { IsMetByAll result }
     {
-        let most = 255;
         Demand {
-            hand: most,
-            total: most,
+            hand: u8::MAX,
+            total: u8::MAX,
             crib: 0,
         }
     }

@@ -78,7 +78,9 @@ pub fn is_reached(problem: &Problem, shows: &mut Shows, know: &Know) -> bool
         return true;
     }
     shows.go_to(know);
-    shows.extremes.meets_all(&shows.worst, demand)
+    let Demand { hand, total, crib } = demand;
+    let left = Demand { hand, total, crib };
+    shows.extremes.meets_all(&shows.worst, left)
 }
 
 /// Returns what the show demands of the opponent's hand and the crib when the deal is done, where the owner's hand has

@@ -85,6 +85,7 @@ impl Extremes {
     }
 
     // The points of the greatest crib, computed unless they are kept. Some hidden deal must agree.
+    #[inline(always)]
     pub(crate) fn greatest_crib(&mut self, worst: &WorstShow, own: &mut OwnPoints) -> u8
         requires { HasRightPoints worst.now own.old self.old }
         ensures greatest { IsGreatestCrib worst.now result }
@@ -149,6 +150,10 @@ impl Extremes {
         let hand = self.greatest_hand(worst);
         if hand > demand.hand {
             return false;
+        }
+        know_set(worst.unseen);
+        if demand.crib == 0 && demand.total >= 204 {
+            return true;
         }
         let sought = self.sought(worst, own, demand);
         !sought.may_miss(hand)

@@ -72,8 +72,7 @@ impl ExtremesByRanks {
         ensures first { IsFirstMissingOrNone worst.now demand result }
         ensures shows { AreExtremesFor worst.now self.new }
     {
-        let place = worst.place();
-        let mut kept = self.kept[place];
+        let mut kept = self.kept[worst.place()];
         let sought = kept.sought(worst, &mut self.own, demand);
         worst.first_sought(sought, &self.own.plain(worst))
     }

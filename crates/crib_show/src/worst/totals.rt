@@ -45,6 +45,7 @@ impl WorstShow {
     }
 
     // The points of the greatest crib among the hidden deals that agree. Some hidden deal must agree.
+    #[inline(never)]
     pub(crate) fn greatest_crib(&self, plain: &PlainCribs) -> u8
         requires deal { HasDeal self.now }
         requires plain { ArePlain self.now.starter self.now.own_throw plain.now }

@@ -1,16 +1,26 @@
--- Worked examples: exact counts, choices of ranks, and the deals with some ranks.
-use Rattle.std.proofs.Common.{◌≡◌, ◌⊎◌, ℕ, List, [], ◌∷◌, true, false, map, refl, ap, ◌∙◌, arith}
+-- Worked examples: exact counts, choices of ranks, the deals with some ranks, throws and tables.
+use Rattle.std.proofs.Common.{◌≡◌, ◌⊎◌, ℕ, ◌+◌, ◌<◌, ◌≤◌, ◌==◌, List, [], ◌∷◌, ◌++◌, true, false, map, length, replicate, refl, ap, ◌∙◌, arith, lit<}
+use Rattle.std.specs.Prelude.{get_or, slice_index}
 use Rattle.std.proofs.lemmas.Bool.{both_ways}
-use Rattle.crib_cards.specs.Deals.{is_in_pack_order}
+use Rattle.std.proofs.lemmas.List.{length-map}
+use Rattle.std.proofs.lemmas.List.Elements.{All-from_recursion, All-head, All-tail}
+use Rattle.crib_cards.specs.Cards.{rank_of}
+use Rattle.crib_cards.specs.Deals.{is_in_pack_order, unseen_from}
 use Rattle.crib_cards.specs.Sets.{AreDifferent}
 use Rattle.crib_cards.specs.declared.sides.Dealt.{Dealt}
-use Rattle.crib_problem.specs.Setup.{Setup}
-use Rattle.crib_know.specs.Hidden.{IsOpen}
+use Rattle.crib_problem.specs.Setup.{IsSetup, Setup}
+use Rattle.crib_problem.proofs.ExampleProblems.{level, level_deal}
+use Rattle.crib_know.specs.Hidden.{IsOpen, KnowsAfter}
+use Rattle.crib_know.specs.Knowledge.{Knowledge}
+use Rattle.crib_show.specs.Show.{crib_points}
 use Rattle.crib_show.specs.declared.demands.Demand.{Demand}
 use Rattle.crib_sure.specs.Shows.{meets}
 use Rattle.crib_deals.specs.Choices.{are_in_order, ranks_of_number}
-use Rattle.crib_deals.specs.Deals.{IsBehind, IsMissing, behind_by, ranks_held}
+use Rattle.crib_deals.specs.Deals.{Behind, IsBehind, IsMissing, behind_by, ranks_held}
 use Rattle.crib_deals.specs.Exact.{AreExactly}
+use Rattle.crib_deals.specs.Tables.{IsBelow, IsRow, IsTable, suit_points}
+use Rattle.crib_deals.specs.Throws.{AreCribs, AreFew, AreOfProblem, AreThrowsCounted, are_two, crib_with, is_below, partners, passing_throws}
+use Rattle.crib_deals.specs.declared.throws.Cribs.{Cribs}
 use Rattle.crib_deals.proofs.ExactCounts.{exactly_deal, exactly_either, exactly_none, exactly_one}
 
 -- ---- exact counts
@@ -57,3 +67,104 @@ behind_ranks : (problem : Setup) (ranks : List ℕ) (demand : Demand) →
     (IsBehind (behind_by problem ranks) with_six ≡ (IsOpen problem with_six × (ranks_held with_six ≡ ranks)))
     × (IsMissing (behind_by problem ranks) demand with_six ≡ (IsBehind (behind_by problem ranks) with_six × (meets problem demand with_six ≡ false)))
 behind_ranks problem ranks demand = (refl, refl)
+
+-- ---- throws
+-- of 2C 3C 4C 5C, three throws begin with 2C, two end with 4C, and six are all
+throws_of_four : map (λ test. passing_throws test (4 ∷ 8 ∷ 12 ∷ 16 ∷ []))
+    ((λ throw. slice_index throw 0 == 4) ∷ (λ throw. slice_index throw 1 == 12) ∷ (λ throw. true) ∷ []) ≡ 3 ∷ 2 ∷ 6 ∷ []
+throws_of_four = refl
+
+-- with AC AD AH AS, AC makes cribs of 9, 7, 5 and 3 points, and AD of 2, 8, 6 and 4. The same card twice is no throw
+abbrev some_points : List ℕ
+some_points = 9 ∷ 7 ∷ 5 ∷ 3 ∷ (replicate 48 0 ++ 2 ∷ 8 ∷ 6 ∷ 4 ∷ [])
+
+cribs_with_throws : map (crib_with some_points) ((0 ∷ 1 ∷ []) ∷ (1 ∷ 0 ∷ []) ∷ (0 ∷ 3 ∷ []) ∷ (2 ∷ 1 ∷ []) ∷ []) ≡ 7 ∷ 7 ∷ 3 ∷ 6 ∷ []
+cribs_with_throws = refl
+
+below_a_limit : map are_two ((0 ∷ 0 ∷ []) ∷ (0 ∷ 1 ∷ []) ∷ (1 ∷ 0 ∷ []) ∷ []) ∷ map (λ limit. is_below some_points limit (0 ∷ 1 ∷ [])) (7 ∷ 8 ∷ [])
+    ∷ map (is_below some_points 10) ((0 ∷ 0 ∷ []) ∷ (3 ∷ 0 ∷ []) ∷ []) ∷ []
+    ≡ (false ∷ true ∷ true ∷ []) ∷ (false ∷ true ∷ []) ∷ (false ∷ true ∷ []) ∷ []
+below_a_limit = refl
+
+partners_of_aces : map (λ card. partners (is_below some_points 6) card (0 ∷ 1 ∷ 2 ∷ 3 ∷ [])) (0 ∷ 1 ∷ []) ∷ map
+    (λ card. partners (λ throw. slice_index throw 0 == 4) card (4 ∷ 8 ∷ [])) (4 ∷ 8 ∷ []) ∷ [] ≡ (2 ∷ 1 ∷ []) ∷ (2 ∷ 0 ∷ []) ∷ []
+partners_of_aces = refl
+
+-- 5C 5D with 5H turned up: 29 points with 5S JH, 8 with AC 2C. Five fives, which are no crib, would have 40 points
+cribs_of_fives : (points : List ℕ) → AreCribs (16 ∷ 17 ∷ []) 18 points →
+    (slice_index points 1030 ≡ 29) × (slice_index points 4 ≡ 8) × (slice_index points 1007 ≡ 29)
+unfolding crib_points
+cribs_of_fives points cribs = (cribs 19 42 (lit< tt) (lit< tt), cribs 0 4 (lit< tt) (lit< tt), cribs 19 19 (lit< tt) (lit< tt))
+
+few_and_many : AreFew (29 ∷ 0 ∷ []) × ¬ AreFew (0 ∷ 30 ∷ [])
+few_and_many = (
+  All-from_recursion (λ crib. crib ≤ 29) (29 ∷ 0 ∷ []) (omega arith, (omega arith, tt)),
+  λ few. absurd (omega (arith, All-head (λ crib. crib ≤ 29) 30 [] (All-tail (λ crib. crib ≤ 29) 0 (30 ∷ []) few))),
+)
+
+abbrev three_aces : List ℕ → List ℕ → List ℕ → Cribs
+three_aces points below partners = record { unseen = 0 ∷ 1 ∷ 2 ∷ []; points = points; below = below; partners = partners }
+
+-- of the three throws of AC AD AH two have fewer than 7 points, one of them with AD
+counts_of_aces : (below partners : List ℕ) → (AreThrowsCounted (three_aces some_points below partners) → (slice_index below 7 ≡ 2)
+    × (slice_index below 30 ≡ 3) × (slice_index partners 38 ≡ 1) × (slice_index partners 61 ≡ 2)) × ¬ AreThrowsCounted (three_aces (0 ∷ 30 ∷ []) below partners)
+counts_of_aces below partners = (
+  λ counted. (
+    counted.below 7 (omega arith),
+    counted.below 30 (omega arith),
+    counted.partners 1 7 (lit< tt) (omega arith),
+    counted.partners 1 30 (lit< tt) (omega arith),
+  ),
+  λ counted. few_and_many.1 counted.few,
+)
+
+-- 3H is turned up, and 4S 6S with 5H 7D have 9 points
+known_of_level : (know : Knowledge) (cribs : Cribs) → AreOfProblem level know cribs → KnowsAfter know level [] × AreThrowsCounted cribs
+    × (cribs.unseen ≡ unseen_from (10 ∷ 36 ∷ 32 ∷ 4 ∷ 28 ∷ 15 ∷ 23 ∷ [])) × (slice_index cribs.points 961 ≡ 9)
+unfolding crib_points
+known_of_level know cribs known = (known.knows, known.counted, known.unseen_is, known.cribs_are 18 25 (lit< tt) (lit< tt))
+
+-- ---- tables
+-- 2C 4C 6C JC with TC and with TD; a diamond in place of 2C leaves the jack
+points_of_suits : map (suit_points (4 ∷ 12 ∷ 20 ∷ 40 ∷ [])) (36 ∷ 37 ∷ []) ∷ map (suit_points (5 ∷ 12 ∷ 20 ∷ 40 ∷ [])) (36 ∷ []) ∷ []
+    ≡ (6 ∷ 4 ∷ []) ∷ (1 ∷ []) ∷ []
+points_of_suits = refl
+
+-- the ranks of TD KD KH QS
+abbrev behind_tens : Behind
+behind_tens = behind_by level (10 ∷ 13 ∷ 13 ∷ 12 ∷ [])
+
+nine_in_the_crib : IsOpen level level_deal → IsBelow behind_tens 0 10 level_deal × ¬ IsBelow behind_tens 0 9 level_deal × ¬ IsBelow behind_tens 1 10 level_deal
+unfolding crib_points
+nine_in_the_crib open_deal = (
+  ((open_deal, refl), refl, lit< tt),
+  λ below. let less : 9 < 9 = below.2 in absurd (omega (arith, less)),
+  λ below. let same : 0 ≡ 1 = below.1 in absurd (omega (arith, same)),
+)
+
+-- two kings are 2 points, beside a flush 6
+row_of_tens : (counts : List ℕ) (hand : ℕ) → (IsRow behind_tens 4 counts hand → IsSetup level × (hand ≡ 6)
+    × AreExactly (IsBelow behind_tens 4 30) (slice_index counts 30)) × ¬ IsRow behind_tens 4 (replicate 30 0 ++ 209921 ∷ []) hand
+row_of_tens counts hand = (λ row. (row.setup, row.hand_is, row.below 30 (omega arith)), λ row. absurd (omega (arith, row.few)))
+
+table_of_tens : (open_deals plain : ℕ) (below : List (List ℕ)) → (IsTable behind_tens open_deals plain below → AreExactly (IsBehind behind_tens) open_deals
+    × (plain ≡ 2) × IsRow behind_tens 6 (get_or below 6 []) (plain + 6))
+    × ¬ IsTable behind_tens 209921 plain below × ¬ IsTable behind_tens open_deals 97 below
+table_of_tens open_deals plain below = (
+  λ table. (table.are_open, table.plain_is, table.rows 6 (omega arith)),
+  λ table. absurd (omega (arith, table.few)),
+  λ table. absurd (omega (arith, table.small)),
+)
+
+-- no deal has a hold without cards
+empty_table : IsSetup level → IsTable (behind_by level []) 0 0 []
+empty_table setup = record {
+  are_open = exactly_none (λ dealt order has. none dealt has);
+  few = omega arith;
+  plain_is = refl;
+  small = omega arith;
+  rows = λ suits small. record { setup = setup; hand_is = refl; below = λ limit low. exactly_none (λ dealt order has. none dealt has.0); few = omega arith };
+}
+  where
+    none : (dealt : Dealt) → IsBehind (behind_by level []) dealt → ⊥
+    none dealt behind = absurd (omega (arith, behind.0.0.deal.held, length-map dealt.hold rank_of, ap (λ (ranks : List ℕ). length ranks) behind.1))

@@ -2,9 +2,7 @@
 use Rattle.std.proofs.Common.{◌≡◌, ◌⊎◌, ℕ, ◌+◌, ◌<◌, ◌≤◌, ◌==◌, ◌&&◌, List, [], ◌∷◌, ◌++◌, true, false, map, length, replicate, refl, ap, ◌∙◌, arith, lit<}
 use Rattle.std.specs.Prelude.{get_or, slice_index}
 use Rattle.std.proofs.lemmas.Bool.{both_ways}
-use Rattle.std.proofs.lemmas.List.{length-map}
 use Rattle.std.proofs.lemmas.List.Elements.{All-from_recursion, All-head, All-tail}
-use Rattle.crib_cards.specs.Cards.{rank_of}
 use Rattle.crib_cards.specs.Deals.{is_in_pack_order, unseen_from}
 use Rattle.crib_cards.specs.Sets.{AreDifferent}
 use Rattle.crib_cards.specs.declared.sides.Dealt.{Dealt}
@@ -21,7 +19,7 @@ use Rattle.crib_deals.specs.Exact.{AreExactly}
 use Rattle.crib_deals.specs.Tables.{IsBelow, IsRow, IsTable, suit_points}
 use Rattle.crib_deals.specs.Throws.{AreCribs, AreFew, AreOfProblem, AreThrowsCounted, are_two, crib_with, is_below, partners, passing_throws}
 use Rattle.crib_deals.specs.declared.throws.Cribs.{Cribs}
-use Rattle.crib_deals.proofs.ExactCounts.{exactly_deal, exactly_either, exactly_none, exactly_one}
+use Rattle.crib_deals.proofs.ExactCounts.{exactly_deal, exactly_either, exactly_one}
 
 -- ---- exact counts
 -- AC 2C 3C 4C with the throw 5C 6C, and with the throw 5C 7C
@@ -46,7 +44,12 @@ abbrev turned : Dealt
 turned = record { hold = 0 ∷ 4 ∷ 8 ∷ 12 ∷ []; throw = 20 ∷ 16 ∷ [] }
 
 turned_deal_is_not_counted : AreExactly (λ dealt. turned ≡ dealt) 0
-turned_deal_is_not_counted = exactly_none (λ dealt order e. both_ways (is_in_pack_order turned) refl (ap is_in_pack_order e ∙ order))
+turned_deal_is_not_counted = record {
+  deals = [];
+  different = tt;
+  each = λ dealt. (λ h. absurd h, λ has. absurd (both_ways (is_in_pack_order turned) refl (ap is_in_pack_order has.1 ∙ has.0)));
+  counted = refl;
+}
 
 no_deal_is_listed_twice : AreDifferent (with_six ∷ with_six ∷ []) → ⊥
 no_deal_is_listed_twice different = different.0.0 refl
@@ -156,16 +159,3 @@ table_with_jack open_deals plain below table = (table.are_open, table.plain_is, 
 
 too_large : (behind : Behind) (count : ℕ) (below : List (List ℕ)) → ¬ IsTable behind 209921 count below × ¬ IsTable behind count 97 below
 too_large behind count below = (λ table. absurd (omega (arith, table.few)), λ table. absurd (omega (arith, table.small)))
-
--- no deal has a hold without cards
-empty_table : IsSetup level → IsTable (behind_by level []) 0 0 []
-empty_table setup = record {
-  are_open = exactly_none (λ dealt order has. none dealt has);
-  few = omega arith;
-  plain_is = refl;
-  small = omega arith;
-  rows = λ suits small. record { setup = setup; hand_is = refl; below = λ limit low. exactly_none (λ dealt order has. none dealt has.0); few = omega arith };
-}
-  where
-    none : (dealt : Dealt) → IsBehind (behind_by level []) dealt → ⊥
-    none dealt behind = absurd (omega (arith, behind.0.0.deal.held, length-map dealt.hold rank_of, ap (λ (ranks : List ℕ). length ranks) behind.1))

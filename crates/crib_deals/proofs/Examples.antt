@@ -1,15 +1,13 @@
 -- Worked examples: exact counts, choices of ranks, the deals with some ranks, throws and tables.
-use Rattle.std.proofs.Common.{◌≡◌, ◌⊎◌, ℕ, ◌+◌, ◌<◌, ◌≤◌, ◌==◌, List, [], ◌∷◌, ◌++◌, true, false, map, length, replicate, refl, ap, ◌∙◌, arith, lit<}
+use Rattle.std.proofs.Common.{◌≡◌, ◌⊎◌, ℕ, ◌+◌, ◌<◌, ◌≤◌, ◌==◌, ◌&&◌, List, [], ◌∷◌, ◌++◌, true, false, map, length, replicate, refl, ap, ◌∙◌, arith, lit<}
 use Rattle.std.specs.Prelude.{get_or, slice_index}
 use Rattle.std.proofs.lemmas.Bool.{both_ways}
-use Rattle.std.proofs.lemmas.List.{length-map}
 use Rattle.std.proofs.lemmas.List.Elements.{All-from_recursion, All-head, All-tail}
-use Rattle.crib_cards.specs.Cards.{rank_of}
 use Rattle.crib_cards.specs.Deals.{is_in_pack_order, unseen_from}
 use Rattle.crib_cards.specs.Sets.{AreDifferent}
 use Rattle.crib_cards.specs.declared.sides.Dealt.{Dealt}
 use Rattle.crib_problem.specs.Setup.{IsSetup, Setup}
-use Rattle.crib_problem.proofs.ExampleProblems.{level, level_deal}
+use Rattle.crib_problem.proofs.ExampleProblems.{level}
 use Rattle.crib_know.specs.Hidden.{IsOpen, KnowsAfter}
 use Rattle.crib_know.specs.Knowledge.{Knowledge}
 use Rattle.crib_show.specs.Show.{crib_points}
@@ -21,7 +19,7 @@ use Rattle.crib_deals.specs.Exact.{AreExactly}
 use Rattle.crib_deals.specs.Tables.{IsBelow, IsRow, IsTable, suit_points}
 use Rattle.crib_deals.specs.Throws.{AreCribs, AreFew, AreOfProblem, AreThrowsCounted, are_two, crib_with, is_below, partners, passing_throws}
 use Rattle.crib_deals.specs.declared.throws.Cribs.{Cribs}
-use Rattle.crib_deals.proofs.ExactCounts.{exactly_deal, exactly_either, exactly_none, exactly_one}
+use Rattle.crib_deals.proofs.ExactCounts.{exactly_deal, exactly_either, exactly_one}
 
 -- ---- exact counts
 -- AC 2C 3C 4C with the throw 5C 6C, and with the throw 5C 7C
@@ -46,14 +44,19 @@ abbrev turned : Dealt
 turned = record { hold = 0 ∷ 4 ∷ 8 ∷ 12 ∷ []; throw = 20 ∷ 16 ∷ [] }
 
 turned_deal_is_not_counted : AreExactly (λ dealt. turned ≡ dealt) 0
-turned_deal_is_not_counted = exactly_none (λ dealt order e. both_ways (is_in_pack_order turned) refl (ap is_in_pack_order e ∙ order))
+turned_deal_is_not_counted = record {
+  deals = [];
+  different = tt;
+  each = λ dealt. (λ h. absurd h, λ has. absurd (both_ways (is_in_pack_order turned) refl (ap is_in_pack_order has.1 ∙ has.0)));
+  counted = refl;
+}
 
 no_deal_is_listed_twice : AreDifferent (with_six ∷ with_six ∷ []) → ⊥
 no_deal_is_listed_twice different = different.0.0 refl
 
 -- ---- choices of ranks
-first_and_last : map ranks_of_number (0 ∷ 1 ∷ 13 ∷ 170 ∷ 28560 ∷ [])
-    ≡ (1 ∷ 1 ∷ 1 ∷ 1 ∷ []) ∷ (1 ∷ 1 ∷ 1 ∷ 2 ∷ []) ∷ (1 ∷ 1 ∷ 2 ∷ 1 ∷ []) ∷ (1 ∷ 2 ∷ 1 ∷ 2 ∷ []) ∷ (13 ∷ 13 ∷ 13 ∷ 13 ∷ []) ∷ []
+first_and_last : map ranks_of_number (0 ∷ 1 ∷ 13 ∷ 169 ∷ 2197 ∷ 28560 ∷ [])
+    ≡ (1 ∷ 1 ∷ 1 ∷ 1 ∷ []) ∷ (1 ∷ 1 ∷ 1 ∷ 2 ∷ []) ∷ (1 ∷ 1 ∷ 2 ∷ 1 ∷ []) ∷ (1 ∷ 2 ∷ 1 ∷ 1 ∷ []) ∷ (2 ∷ 1 ∷ 1 ∷ 1 ∷ []) ∷ (13 ∷ 13 ∷ 13 ∷ 13 ∷ []) ∷ []
 first_and_last = refl
 
 in_order : map are_in_order ([] ∷ (5 ∷ []) ∷ (1 ∷ 1 ∷ 2 ∷ 13 ∷ []) ∷ (1 ∷ 3 ∷ 2 ∷ 13 ∷ []) ∷ (2 ∷ 1 ∷ []) ∷ []) ≡ true ∷ true ∷ true ∷ false ∷ false ∷ []
@@ -71,23 +74,24 @@ behind_ranks problem ranks demand = (refl, refl)
 -- ---- throws
 -- of 2C 3C 4C 5C, three throws begin with 2C, two end with 4C, and six are all
 throws_of_four : map (λ test. passing_throws test (4 ∷ 8 ∷ 12 ∷ 16 ∷ []))
-    ((λ throw. slice_index throw 0 == 4) ∷ (λ throw. slice_index throw 1 == 12) ∷ (λ throw. true) ∷ []) ≡ 3 ∷ 2 ∷ 6 ∷ []
+    ((λ throw. slice_index throw 0 == 4) ∷ (λ throw. slice_index throw 1 == 12) ∷ (λ throw. length throw == 2) ∷ []) ≡ 3 ∷ 2 ∷ 6 ∷ []
 throws_of_four = refl
 
 -- with AC AD AH AS, AC makes cribs of 9, 7, 5 and 3 points, and AD of 2, 8, 6 and 4. The same card twice is no throw
 abbrev some_points : List ℕ
 some_points = 9 ∷ 7 ∷ 5 ∷ 3 ∷ (replicate 48 0 ++ 2 ∷ 8 ∷ 6 ∷ 4 ∷ [])
 
-cribs_with_throws : map (crib_with some_points) ((0 ∷ 1 ∷ []) ∷ (1 ∷ 0 ∷ []) ∷ (0 ∷ 3 ∷ []) ∷ (2 ∷ 1 ∷ []) ∷ []) ≡ 7 ∷ 7 ∷ 3 ∷ 6 ∷ []
+cribs_with_throws : map (crib_with some_points) ((0 ∷ 1 ∷ []) ∷ (1 ∷ 0 ∷ []) ∷ (0 ∷ 3 ∷ []) ∷ (2 ∷ 1 ∷ []) ∷ (1 ∷ 3 ∷ []) ∷ [])
+    ≡ 7 ∷ 7 ∷ 3 ∷ 6 ∷ 4 ∷ []
 cribs_with_throws = refl
 
-below_a_limit : map are_two ((0 ∷ 0 ∷ []) ∷ (0 ∷ 1 ∷ []) ∷ (1 ∷ 0 ∷ []) ∷ []) ∷ map (λ limit. is_below some_points limit (0 ∷ 1 ∷ [])) (7 ∷ 8 ∷ [])
+below_a_limit : map are_two ((0 ∷ 0 ∷ []) ∷ (0 ∷ 1 ∷ []) ∷ (1 ∷ 0 ∷ []) ∷ []) ∷ map (λ limit. is_below some_points limit (1 ∷ 3 ∷ [])) (4 ∷ 5 ∷ [])
     ∷ map (is_below some_points 10) ((0 ∷ 0 ∷ []) ∷ (3 ∷ 0 ∷ []) ∷ []) ∷ []
     ≡ (false ∷ true ∷ true ∷ []) ∷ (false ∷ true ∷ []) ∷ (false ∷ true ∷ []) ∷ []
 below_a_limit = refl
 
 partners_of_aces : map (λ card. partners (is_below some_points 6) card (0 ∷ 1 ∷ 2 ∷ 3 ∷ [])) (0 ∷ 1 ∷ []) ∷ map
-    (λ card. partners (λ throw. slice_index throw 0 == 4) card (4 ∷ 8 ∷ [])) (4 ∷ 8 ∷ []) ∷ [] ≡ (2 ∷ 1 ∷ []) ∷ (2 ∷ 0 ∷ []) ∷ []
+    (λ card. partners (λ throw. (slice_index throw 0 == 4) && (length throw == 2)) card (4 ∷ 8 ∷ [])) (4 ∷ 8 ∷ []) ∷ [] ≡ (2 ∷ 1 ∷ []) ∷ (2 ∷ 0 ∷ []) ∷ []
 partners_of_aces = refl
 
 -- 5C 5D with 5H turned up: 29 points with 5S JH, 8 with AC 2C. Five fives, which are no crib, would have 40 points
@@ -125,46 +129,33 @@ unfolding crib_points
 known_of_level know cribs known = (known.knows, known.counted, known.unseen_is, known.cribs_are 18 25 (lit< tt) (lit< tt))
 
 -- ---- tables
--- 2C 4C 6C JC with TC and with TD; a diamond in place of 2C leaves the jack
-points_of_suits : map (suit_points (4 ∷ 12 ∷ 20 ∷ 40 ∷ [])) (36 ∷ 37 ∷ []) ∷ map (suit_points (5 ∷ 12 ∷ 20 ∷ 40 ∷ [])) (36 ∷ []) ∷ []
-    ≡ (6 ∷ 4 ∷ []) ∷ (1 ∷ []) ∷ []
+-- 2C 4C 6C JC with TC and with TD; with a diamond first or last the jack is left
+points_of_suits : map (suit_points (4 ∷ 12 ∷ 20 ∷ 40 ∷ [])) (36 ∷ 37 ∷ []) ∷ map (λ hold. suit_points hold 36)
+    ((5 ∷ 12 ∷ 20 ∷ 40 ∷ []) ∷ (40 ∷ 12 ∷ 20 ∷ 5 ∷ []) ∷ []) ∷ [] ≡ (6 ∷ 4 ∷ []) ∷ (1 ∷ 1 ∷ []) ∷ []
 points_of_suits = refl
 
--- the ranks of TD KD KH QS
-abbrev behind_tens : Behind
-behind_tens = behind_by level (10 ∷ 13 ∷ 13 ∷ 12 ∷ [])
+-- TD JH 2D QS: with 3H a run, three fifteens and the jack. With 5H 7D in the crib
+abbrev with_jack : Dealt
+with_jack = record { hold = 37 ∷ 42 ∷ 5 ∷ 47 ∷ []; throw = 18 ∷ 25 ∷ [] }
 
-nine_in_the_crib : IsOpen level level_deal → IsBelow behind_tens 0 10 level_deal × ¬ IsBelow behind_tens 0 9 level_deal × ¬ IsBelow behind_tens 1 10 level_deal
+abbrev behind_jack : Behind
+behind_jack = behind_by level (ranks_held with_jack)
+
+nine_in_the_crib : IsOpen level with_jack → IsBelow behind_jack 1 10 with_jack × ¬ IsBelow behind_jack 1 9 with_jack × ¬ IsBelow behind_jack 0 10 with_jack
 unfolding crib_points
 nine_in_the_crib open_deal = (
   ((open_deal, refl), refl, lit< tt),
   λ below. let less : 9 < 9 = below.2 in absurd (omega (arith, less)),
-  λ below. let same : 0 ≡ 1 = below.1 in absurd (omega (arith, same)),
+  λ below. let same : 1 ≡ 0 = below.1 in absurd (omega (arith, same)),
 )
 
--- two kings are 2 points, beside a flush 6
-row_of_tens : (counts : List ℕ) (hand : ℕ) → (IsRow behind_tens 4 counts hand → IsSetup level × (hand ≡ 6)
-    × AreExactly (IsBelow behind_tens 4 30) (slice_index counts 30)) × ¬ IsRow behind_tens 4 (replicate 30 0 ++ 209921 ∷ []) hand
-row_of_tens counts hand = (λ row. (row.setup, row.hand_is, row.below 30 (omega arith)), λ row. absurd (omega (arith, row.few)))
+row_with_jack : (counts : List ℕ) (hand : ℕ) → (IsRow behind_jack 1 counts hand → IsSetup level × (hand ≡ 10)
+    × AreExactly (IsBelow behind_jack 1 30) (slice_index counts 30)) × ¬ IsRow behind_jack 1 (replicate 30 0 ++ 209921 ∷ []) hand
+row_with_jack counts hand = (λ row. (row.setup, row.hand_is, row.below 30 (omega arith)), λ row. absurd (omega (arith, row.few)))
 
-table_of_tens : (open_deals plain : ℕ) (below : List (List ℕ)) → (IsTable behind_tens open_deals plain below → AreExactly (IsBehind behind_tens) open_deals
-    × (plain ≡ 2) × IsRow behind_tens 6 (get_or below 6 []) (plain + 6))
-    × ¬ IsTable behind_tens 209921 plain below × ¬ IsTable behind_tens open_deals 97 below
-table_of_tens open_deals plain below = (
-  λ table. (table.are_open, table.plain_is, table.rows 6 (omega arith)),
-  λ table. absurd (omega (arith, table.few)),
-  λ table. absurd (omega (arith, table.small)),
-)
+table_with_jack : (open_deals plain : ℕ) (below : List (List ℕ)) → IsTable behind_jack open_deals plain below → AreExactly (IsBehind behind_jack) open_deals
+    × (plain ≡ 9) × IsRow behind_jack 6 (get_or below 6 []) (plain + 6)
+table_with_jack open_deals plain below table = (table.are_open, table.plain_is, table.rows 6 (omega arith))
 
--- no deal has a hold without cards
-empty_table : IsSetup level → IsTable (behind_by level []) 0 0 []
-empty_table setup = record {
-  are_open = exactly_none (λ dealt order has. none dealt has);
-  few = omega arith;
-  plain_is = refl;
-  small = omega arith;
-  rows = λ suits small. record { setup = setup; hand_is = refl; below = λ limit low. exactly_none (λ dealt order has. none dealt has.0); few = omega arith };
-}
-  where
-    none : (dealt : Dealt) → IsBehind (behind_by level []) dealt → ⊥
-    none dealt behind = absurd (omega (arith, behind.0.0.deal.held, length-map dealt.hold rank_of, ap (λ (ranks : List ℕ). length ranks) behind.1))
+too_large : (behind : Behind) (count : ℕ) (below : List (List ℕ)) → ¬ IsTable behind 209921 count below × ¬ IsTable behind count 97 below
+too_large behind count below = (λ table. absurd (omega (arith, table.few)), λ table. absurd (omega (arith, table.small)))

@@ -8,7 +8,6 @@ use crib_know::{Know, some_deal};
 use crib_plan::Plan;
 use crib_problem::Problem;
 use crib_show::{count_ranks, crib_points, hand_points};
-use example_texts::plans::REST;
 use example_texts::problems::BEGUN;
 use std::alloc::Global;
 use std::process::Abort;
@@ -64,9 +63,6 @@ fn deals_meet_the_demand_of_a_sure_plan(rt: HostRuntime) {
 #[test]
 fn holds_that_the_opening_rules_out_do_not_pass(rt: HostRuntime) {
     let five = Rank::new(5).expect(&rt, "a rank");
-    let problem = problem(&rt, BEGUN);
-    let plan = plan(&rt, REST);
-    let fives = count_ranks(&[five; 4]);
-    let passes = Plays::new(&problem, &plan, &[fives; CHOICES]).passes(&fives);
-    same(&rt, passes, false);
+    let start = Know::start(&problem(&rt, BEGUN));
+    same(&rt, start.passes(&count_ranks(&[five; 4])), false);
 }

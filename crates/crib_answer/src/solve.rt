@@ -9,7 +9,7 @@ use crib_input::{FaultCause, Reason};
 use crib_plan::write_plan;
 use crib_problem::Problem;
 use crib_run::{Answer, Status, line_answer, section_answer};
-use crib_search::{Found, SearchFault, find};
+use crib_search::{Found, SearchFault, find_with_shows};
 use std::alloc::Allocator;
 
 /// Returns the answer to a problem (docs/FORMATS.md, "solve"): the plan that was found, with the status `Yes`, after
@@ -21,8 +21,9 @@ pub(crate) fn solve_answer<A: Allocator + Copy>(
 ) -> Result<Answer<A>, Reason>
     ensures { IsOutcome reply_of (λ reply. AnswersProblem problem.now reply ⊎ (reply ≡ fault_reply no_memory)) result }
 {
-    match find(alloc, problem) {
-        Ok(Found::Plan(plan)) => match passed(alloc, problem, &plan) {
+    let (found, shows) = find_with_shows(alloc, problem, 65_535);
+    match found {
+        Ok(Found::Plan(plan)) => match passed(alloc, problem, &plan, shows) {
             Some(passed) => plan_answer(alloc, &passed),
             None => unreachable!(),
         },

@@ -38,8 +38,8 @@ walk-returns-then-is_none g t c =
     record { kept = assumption; back = walked.back; found = walked.found }
 
 -- ---- the owner's turn
-pub own_turn-take-requires : goal.own_turn-take-requires
-own_turn-take-requires g t c κs within =
+pub own_turn-take-failed-requires : goal.own_turn-take-failed-requires
+own_turn-take-failed-requires g t c κs within =
     let walk = c.args.self.now in
     let goes = rw c.copy-next.ensures at c.go_by_own.ensures in
     let may : MayWalk g.T.Settled.holds walk c.go_by_own.new.key (as_event (Own c.in-Some.what) ∷ history_at walk) =
@@ -48,46 +48,47 @@ own_turn-take-requires g t c κs within =
 
 pub own_turn-returns-in-Some : goal.own_turn-returns-in-Some
 own_turn-returns-in-Some g t c =
-    gone_as c.take.ensures (own_found c.take.new.self.trail.items c.in-Some.what c.take.new.self.failure c.requires.here.here c.in-Some.ensures
+    gone_as c.take-failed.ensures.walked (own_found c.take-failed.new.self.trail.items c.in-Some.what c.take-failed.new.self.failure
+    c.requires.here.here c.in-Some.ensures
     (rw c.copy-next.ensures at c.go_by_own.ensures c.args.self.now.problem.now))
 
 -- ---- the opponent's turn
-pub their_turn-returns-then-is_some : goal.their_turn-returns-then-is_some
-their_turn-returns-then-is_some g t c =
+pub their_turn-returns-then-they_show : goal.their_turn-returns-then-they_show
+their_turn-returns-then-they_show g t c =
     let walk = c.args.self.now in
     let after = c.they_show.new.self in
-    gone_as (shown_next c.loop-place.invariant c.at.result c.at.ensures.place c.they_show.ensures)
+    gone_as (shown_next c.loop-place.invariant c.at.result c.at.ensures.place c.they_show.ensures.shown)
     (found_from walk.problem.now walk.plan.now c.args.key.now _ (history_at walk) after.trail.items after.failure (λ none.
-    absurd (some_failure after.failure (sym c.is_some.ensures ∙ c.if-is_some.true) none)))
+    absurd (some_failure after.failure (sym c.they_show.ensures.failed ∙ c.if-they_show.true) none)))
 
 pub their_turn-they_show-requires : goal.their_turn-they_show-requires
 their_turn-they_show-requires g t c κs within =
     let may = may_show c.loop-place.invariant c.requires.here.here in
     (omega (arith, ap length c.loop-place.invariant.back), (within.0, (within.1, (c.requires.asked, (may, c.at.ensures.valid)))))
 
-pub their_turn-they_show-requires-2 : goal.their_turn-they_show-requires-2
-their_turn-they_show-requires-2 g t c κs within =
+pub their_turn-they_show-failed-requires : goal.their_turn-they_show-failed-requires
+their_turn-they_show-failed-requires g t c κs within =
     let may = may_show c.loop-place.invariant c.requires.here.here in
     (omega (arith, ap length c.loop-place.invariant.back), (within.0, (within.1, (c.requires.asked, (may, search rules)))))
 
 pub their_turn-loop-place-preserved : goal.their_turn-loop-place-preserved
 their_turn-loop-place-preserved g t c =
-    let shown = shown_next c.loop-place.invariant c.at.result c.at.ensures.place c.they_show.ensures in
-    let none = no_failure c.they_show.new.self.failure (sym c.is_some.ensures ∙ c.if-is_some.false) in
+    let shown = shown_next c.loop-place.invariant c.at.result c.at.ensures.place c.they_show.ensures.shown in
+    let none = no_failure c.they_show.new.self.failure (sym c.they_show.ensures.failed ∙ c.if-they_show.false) in
     record { kept = shown.kept; none = none; back = shown.back none; below = rw none at shown.found }
 
 pub their_turn-returns : goal.their_turn-returns
 their_turn-returns g t c =
     let walk = c.args.self.now in
-    let after = c.they_show-2.new.self in
+    let after = c.they_show-failed.new.self in
     let all : 13 ≡ c.loop-place.place = omega (arith, c.loop-place.auto.place-end, c.loop-place-test.false) in
-    gone_as (shown_next c.loop-place.invariant Go all c.they_show-2.ensures) (λ found.
+    gone_as (shown_next c.loop-place.invariant Go all c.they_show-failed.ensures.shown) (λ found.
     found_from walk.problem.now walk.plan.now c.args.key.now 14 (history_at walk) after.trail.items after.failure (λ none. settled_theirs c.requires.asked)
     (rw (← all) at found))
 
 -- ---- a letter of the opponent
 pub they_show-go_by_theirs-requires : goal.they_show-go_by_theirs-requires
-they_show-go_by_theirs-requires g t c = rw c.copy-next.ensures (c.can_show.ensures.shown c.if-can_show.true)
+they_show-go_by_theirs-requires g t c = rw c.copy-next.ensures (c.can_show.ensures.shown c.if-not-can_show.false)
 
 pub they_show-take-requires : goal.they_show-take-requires
 they_show-take-requires g t c κs within =
@@ -97,23 +98,23 @@ they_show-take-requires g t c κs within =
     record { kept = c.requires.here.kept; none = c.requires.here.none; here = goes walk.problem.now (history_at walk) c.requires.here.here } in
     (omega arith, (within.0, (within.1, may)))
 
-pub they_show-returns-then-can_show : goal.they_show-returns-then-can_show
-they_show-returns-then-can_show g t c =
-    gone_as c.take.ensures (theirs_found c.take.new.self.trail.items c.args.letter.now c.take.new.self.failure c.requires.here.here c.requires.asked
+pub they_show-returns-clause-shown : goal.they_show-returns-clause-shown
+they_show-returns-clause-shown g t c =
+    gone_as c.take.ensures.walked (theirs_found c.take.new.self.trail.items c.args.letter.now c.take.new.self.failure c.requires.here.here c.requires.asked
     c.requires.letter (rw c.copy-next.ensures at c.go_by_theirs.ensures c.args.self.now.problem.now))
 
-pub they_show-returns-else-can_show : goal.they_show-returns-else-can_show
-they_show-returns-else-can_show g t c = stays c.requires.here.kept (λ below.
+pub they_show-returns-then-not-can_show-clause-shown : goal.they_show-returns-then-not-can_show-clause-shown
+they_show-returns-then-not-can_show-clause-shown g t c = stays c.requires.here.kept (λ below.
     rw c.requires.here.none (below_more c.args.letter.now c.requires.letter refl below (λ h stands can.
-    absurd (both_ways _ c.if-can_show.false ((c.can_show.ensures.exact c.args.self.now.problem.now h stands.knows).1 can)))))
+    absurd (both_ways _ c.if-not-can_show.true ((c.can_show.ensures.exact c.args.self.now.problem.now h stands.knows).1 can)))))
 
 -- ---- a turn
 falls_by_one : (before after : List TrailEvent) (event : TrailEvent) {t : ℕ} → after ≡ before ++ event ∷ [] → length before < 29 →
     4 * (29 - length before) ≡ t → 4 * (29 - length after) + 3 < t
 falls_by_one before after event is room all = omega (arith, room, all, simp length-append at (ap length is))
 
-pub take-returns-then-ends_well : goal.take-returns-then-ends_well
-take-returns-then-ends_well g t c =
+pub take-returns-then-ends_well-clause-walked : goal.take-returns-then-ends_well-clause-walked
+take-returns-then-ends_well-clause-walked g t c =
     stays (kept_with c.requires.kept c.ends_well.ensures.shows) (rw c.requires.none (settled_over (c.ends_well.ensures.over c.if-ends_well.true)
     (λ history knows. all_reach knows (c.ends_well.ensures.reached c.if-ends_well.true history knows))))
 
@@ -142,8 +143,8 @@ take-walk-requires g t c κs within =
       ),
     )
 
-pub take-returns-then-is_none : goal.take-returns-then-is_none
-take-returns-then-is_none g t c =
+pub take-returns-then-is_none-clause-walked : goal.take-returns-then-is_none-clause-walked
+take-returns-then-is_none-clause-walked g t c =
     let walk = c.args.self.now in
     let walked = c.walk.ensures in
     let none = no_failure c.walk.new.self.failure (c.is_none.ensures ∙ ap not {x = c.is_none.result} c.if-is_none.true) in
@@ -154,8 +155,8 @@ take-returns-then-is_none g t c =
       found = rw none (rw none at walked.found);
     }
 
-pub take-returns-else-is_none : goal.take-returns-else-is_none
-take-returns-else-is_none g t c =
+pub take-returns-clause-walked : goal.take-returns-clause-walked
+take-returns-clause-walked g t c =
     let walk = c.args.self.now in
     failed_from (trail_more walk.problem.now walk.trail.items c.push.new.self.items c.args.event c.push.ensures.items) c.walk.ensures
     (c.is_none.ensures ∙ ap not {x = c.is_none.result} c.if-is_none.false)

@@ -78,6 +78,7 @@ pub fn is_reached(problem: &Problem, shows: &mut Shows, know: &Know) -> bool
         return true;
     }
     shows.go_to(know);
+    // Another value is lent, so that an end whose scores decide needs none in memory.
     let Demand { hand, total, crib } = demand;
     let left = Demand { hand, total, crib };
     shows.extremes.meets_all(&shows.worst, left)

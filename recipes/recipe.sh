@@ -96,7 +96,7 @@ ask() {
     case $status:${answer[0]-} in
     '0:plan 1' | 0:holds | '0:board 1' | '0:play '* | 0:reached) ;;
     1:none | '1:fails '* | 1:open | 1:stuck | 1:lost | 1:short | '2:refused line '*) ;;
-    '0:beaten 0 of '* | '1:beaten '[1-9]* | '1:This plan is not sure. '*) ;;
+    '0:beaten 0 of '* | '1:beaten '[1-9]* | '1:You are the '*) ;;
     *)
         [ "$1:$status:${answer[0]-}" != "try:1:plan 1" ] || return 0
         cat "$room/answer"

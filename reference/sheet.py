@@ -170,7 +170,7 @@ class Head:
     """The head of the sheet of a plan that isn't sure."""
 
     def __init__(self, text: str) -> None:
-        head, game, _ = text.partition("In this game ")
+        head, game, _ = text[text.find("This plan is not sure") :].partition("In this game ")
         lines = [line for line in head.rstrip().split("\n") if line]
         rows = [DEALS.fullmatch(line) for line in lines if line.startswith(" ")]
         found = FIGURES.fullmatch(" ".join(line for line in lines if not line.startswith(" ")))

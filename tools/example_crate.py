@@ -133,12 +133,12 @@ def opened(text: str) -> str:
 
 
 def without_lemmas(text: str) -> str:
-    """A module of examples without those that rest on a lemma of another module, or on one of these."""
+    """A module of examples without those that rest on a lemma of a module (`Example..` has none), or on one of these."""
     lost: set[str] = set()
     for one in imports_of(text):
         its = module_of(one.crate, one.kind, one.place)
         below = modules_in(path_of(its).read_text()) if its and its[0] == "proofs" else set()
-        if any(kind == "proofs" for kind, _, _ in below - {its}):
+        if any(kind == "proofs" and not name.startswith("Example") for kind, _, name in below - {its}):
             lost.update(one.names.values())
             text = re.sub(rf"^use Rattle\.{one.crate}\.proofs\.{re.escape(one.place)}\b.*\n", "", text, flags=re.M)
     blocks = paragraphs(text)

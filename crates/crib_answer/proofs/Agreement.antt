@@ -159,8 +159,8 @@ pub same_report_law : SameReportLaw
 same_report_law input reply more answers e =
     let read = replayed_report (report_of_input input) reply more answers e in
     let has = report_accepted input read.0 read.1 in
-    let is = is_report_of (game_fault has.problem has.game) (report_of has.problem has.game) read.0 has.replayed in
-    (has.problem, has.game, reported input has.problem has.game has.spelled is)
+    let is = is_report_of (game_fault has.0 has.1) (report_of has.0 has.1) read.0 has.3 in
+    (has.0, has.1, reported input has.0 has.1 has.2 is)
 
 -- ---- a game that is followed
 
@@ -190,21 +190,22 @@ unfolding reported
 followed_game_law input result answers =
     let read = followed_ending (ending_of_input input) result answers in
     let has = ending_accepted input result read in
-    let problem = has.problem in
-    let game = has.game in
-    let setup = has.spelled.problem_is in
-    let stands = answer_law problem has.plan game result setup has.spelled.game_is.six has.followed in
+    let problem = has.0 in
+    let plan = has.1 in
+    let game = has.2 in
+    let setup = has.3.problem_is in
+    let stands = answer_law problem plan game result setup has.3.game_is.six has.4 in
     let none = no_fault_is problem game (record_of problem game) setup stands.of_game.of_game in
     let spelled : SpellsGame (problem_text problem ++ game_text game) problem game =
-    record { problem_is = setup; game_is = has.spelled.game_is; text = refl } in
+    record { problem_is = setup; game_is = has.3.game_is; text = refl } in
     let replayed = ap (λ (fault : Option GameFault). unless_fault fault (report_of problem game)) none in
     let over = outcome_after problem game.opp (record_of problem game) in
-    let stuck = is_stuck has.plan problem.played (start_of problem) (hands_of problem game.opp) (record_of problem game) in
-    let same = ending_is (follow_fault problem has.plan game) (ending_of problem has.plan game.opp (record_of problem game)) result has.followed in (
+    let stuck = is_stuck plan problem.played (start_of problem) (hands_of problem game.opp) (record_of problem game) in
+    let same = ending_is (follow_fault problem plan game) (ending_of problem plan game.opp (record_of problem game)) result has.4 in (
       problem,
-      has.plan,
+      plan,
       game,
-      has.spelled,
+      has.3,
       reported (problem_text problem ++ game_text game) problem game spelled replayed,
       outcome_is over stuck ∙ ap outcome_with same,
     )

@@ -33,22 +33,12 @@ unfolding board_of_input
 board_spelled input problem game board spelled e = let read = played_spelled input problem game spelled in rw (read.1, e) refl
 
 -- if `replay` reads a report, the input spells a problem and a game with this report
-pub record HasGame (input : List ℕ) (report : Report) : Type 0 where
-  pub problem : Setup
-  pub game : Game
-  pub spelled : SpellsGame input problem game
-  pub replayed : replay_result problem game ≡ Ok report
-
-pub report_accepted : (input : List ℕ) (report : Report) → report_of_input input ≡ Ok report → HasGame input report
+pub report_accepted : (input : List ℕ) (report : Report) → report_of_input input ≡ Ok report
+    → (problem : Setup) × (game : Game) × SpellsGame input problem game × (replay_result problem game ≡ Ok report)
 unfolding report_of_input
 report_accepted input report e =
     let a = bind_ok (played_of_input input) _ report e in
-    record {
-      problem = a.0.0;
-      game = a.0.1;
-      spelled = played_accepted input a.0 a.1;
-      replayed = judged_ok a.0.1 a.0.2 (replay_result a.0.0 a.0.1) report a.2;
-    }
+    (a.0.0, a.0.1, played_accepted input a.0 a.1, judged_ok a.0.1 a.0.2 (replay_result a.0.0 a.0.1) report a.2)
 
 -- ---- a problem, a plan and a game
 
@@ -59,21 +49,9 @@ unfolding ending_of_input
 ending_spelled input problem plan game result spelled e = let read = played_under_spelled input problem plan game spelled in rw (read.1, e) refl
 
 -- if `follow` reads an ending, the input spells a problem, a plan and a game with this ending
-pub record HasPlannedGame (input : List ℕ) (result : Ending) : Type 0 where
-  pub problem : Setup
-  pub plan : List Node
-  pub game : Game
-  pub spelled : SpellsPlannedGame input problem plan game
-  pub followed : follow_result problem plan game ≡ Ok result
-
-pub ending_accepted : (input : List ℕ) (result : Ending) → ending_of_input input ≡ Ok result → HasPlannedGame input result
+pub ending_accepted : (input : List ℕ) (result : Ending) → ending_of_input input ≡ Ok result
+    → (problem : Setup) × (plan : List Node) × (game : Game) × SpellsPlannedGame input problem plan game × (follow_result problem plan game ≡ Ok result)
 unfolding ending_of_input
 ending_accepted input result e =
     let a = bind_ok (played_under_of_input input) _ result e in
-    record {
-      problem = a.0.0;
-      plan = a.0.1;
-      game = a.0.2;
-      spelled = played_under_accepted input a.0 a.1;
-      followed = judged_ok a.0.2 a.0.3 (follow_result a.0.0 a.0.1 a.0.2) result a.2;
-    }
+    (a.0.0, a.0.1, a.0.2, played_under_accepted input a.0 a.1, judged_ok a.0.2 a.0.3 (follow_result a.0.0 a.0.1 a.0.2) result a.2)

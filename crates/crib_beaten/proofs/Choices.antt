@@ -1,34 +1,37 @@
--- The choices of four ranks in order, each at its place.
-use Rattle.std.proofs.Common.{◌≡◌, ℕ, ◌+◌, ◌<◌, Bool, true, false, cond, List, length, set, refl, ap, subst, ◌∙◌, inl, inr, arith}
-use Rattle.std.proofs.lemmas.Bool.{both_ways, cases_lt}
+-- The choices of four ranks in order, each at its index.
+use Rattle.std.proofs.Common.{◌≡◌, ℕ, ◌+◌, ◌<◌, false, List, length, set, sym, ap, ◌∙◌, inl, inr, arith}
+use Rattle.std.proofs.lemmas.Bool.{both_ways, cases_eq, cases_lt}
 use Rattle.std.proofs.lemmas.List.{get_or-set_same, get_or-set_other}
-use Rattle.crib_cards.specs.Sets.{rank_counts}
-use Rattle.crib_check.specs.Beaten.{counts_of}
+use Rattle.crib_show.specs.Indices.{index_among}
+use Rattle.crib_show.proofs.IndexLemmas.{choice_of_index, index_few}
+use Rattle.crib_beaten.specs.Beaten.{counts_of}
 use Rattle.crib_deals.specs.Choices.{are_in_order, ranks_of_number}
-use Rattle.crib_beaten.specs.Private.Numbers.{ordered_below}
-use Rattle.crib_beaten.specs.Private.Rows.{AreChoices}
-use Rattle.crib_beaten.proofs.HoldNumbers.{earlier_place, ordered_more, small_place}
+use Rattle.crib_beaten.specs.Private.Rows.{AreChoices, counts_of_number}
+use Rattle.crib_beaten.proofs.HoldNumbers.{four_numbered}
 
-pub none_chosen : (choices : List (List ℕ)) → (0 ≡ ordered_below 0) × AreChoices 0 choices
-unfolding ordered_below
-none_chosen choices = (refl, λ n less. absurd (omega (arith, less)))
+-- the index of the ranks with a number
+abbrev pub index_at : ℕ → ℕ
+index_at number = index_among 4 (counts_of_number number)
+
+pub index_small : (number : ℕ) → number < 28561 → index_at number < 1820
+index_small number small = index_few (counts_of_number number) (four_numbered number small)
 
 module _ (number : ℕ) (choices : List (List ℕ)) (so_far : AreChoices number choices) where
-  pub not_chosen : are_in_order (ranks_of_number number) ≡ false → (ordered_below (number + 1) ≡ ordered_below number) × AreChoices (number + 1) choices
-  not_chosen no_order = (
-    ordered_more number ∙ ap (λ (b : Bool). cond b 1 0 + ordered_below number) no_order ∙ omega arith,
-    λ n less is. elim (cases_lt n number) [
-      | inl before ↦ so_far n before is
-      | inr least ↦ let same : n ≡ number = omega (arith, less, least) in absurd (both_ways _ no_order (rw same at is))
-    ],
-  )
+  pub not_chosen : are_in_order (ranks_of_number number) ≡ false → AreChoices (number + 1) choices
+  not_chosen no_order n less is = elim (cases_lt n number) [
+    | inl before ↦ so_far n before is
+    | inr least ↦ let same : n ≡ number = omega (arith, less, least) in absurd (both_ways _ no_order (rw same at is))
+  ]
 
-  pub chosen : number < 28561 → length choices ≡ 1820 → are_in_order (ranks_of_number number) ≡ true →
-      AreChoices (number + 1) (set choices (ordered_below number) (rank_counts (ranks_of_number number)))
-  chosen small long order n less is = elim (cases_lt n number) [
-    | inl before ↦ get_or-set_other choices (ordered_below number) (ordered_below n) _ _
-        (λ e. let apart = earlier_place n is number before in absurd (omega (arith, e, apart))) ∙ so_far n before is
-    | inr least ↦ let same : number ≡ n = omega (arith, less, least) in
-        subst (λ k. counts_of (set choices (ordered_below number) (rank_counts (ranks_of_number number))) (ordered_below k) ≡ rank_counts (ranks_of_number k))
-        same (get_or-set_same choices (ordered_below number) _ _ (let here = small_place number order small in omega (arith, here, long)))
+  pub chosen : number < 28561 → length choices ≡ 1820 → AreChoices (number + 1) (set choices (index_at number) (counts_of_number number))
+  chosen small long n less is = elim (cases_eq (index_at n) (index_at number)) [
+    | inl same ↦
+        let counts = choice_of_index _ _ (four_numbered number small) (four_numbered n (omega (arith, less, small))) (sym same) in
+        let inside = index_small number small in
+        ap (λ k. counts_of (set choices (index_at number) (counts_of_number number)) k) same
+        ∙ get_or-set_same choices (index_at number) _ _ (omega (arith, inside, long)) ∙ counts
+    | inr apart ↦ elim (cases_lt n number) [
+      | inl before ↦ get_or-set_other choices (index_at number) (index_at n) _ _ apart ∙ so_far n before is
+      | inr least ↦ let same : n ≡ number = omega (arith, less, least) in absurd (apart (ap index_at same))
+    ]
   ]

@@ -1,15 +1,18 @@
 -- Four ranks as a number.
-use Rattle.std.proofs.Common.{◌≡◌, ℕ, zero, suc, ◌+◌, ◌-◌, ◌*◌, ◌/◌, ◌<◌, ◌≤◌, Bool, true, cond, List, [], ◌∷◌, length, map, add-one}
+use Rattle.std.proofs.Common.{◌≡◌, ℕ, zero, suc, ◌+◌, ◌-◌, ◌*◌, ◌/◌, ◌<◌, ◌≤◌, true, cond, List, [], ◌∷◌, length, map, add-one}
 use Rattle.std.proofs.Common.{refl, ap, subst, ◌∙◌, arith}
 use Rattle.std.proofs.lemmas.Bool.Decides.{nat_tests}
-use Rattle.crib_cards.specs.Cards.{IsCard, rank_of}
+use Rattle.std.specs.List.{AllByRecursion}
+use Rattle.crib_cards.specs.Cards.{IsCard, IsRank, rank_of}
+use Rattle.crib_cards.specs.Sets.{rank_counts}
 use Rattle.crib_cards.specs.Order.{are_rising, is_before}
 use Rattle.crib_cards.specs.declared.sides.Dealt.{Dealt}
 use Rattle.crib_cards.proofs.Members.{AreCards, all_cards}
 use Rattle.crib_deals.specs.Deals.{ranks_held}
 use Rattle.crib_deals.proofs.NumberedDeals.{AreNumbered}
 use Rattle.crib_deals.specs.Choices.{ranks_of_number, are_in_order}
-use Rattle.crib_beaten.specs.Private.Numbers.{ordered_below, ordered_count}
+use Rattle.crib_show.specs.Indices.{AreFour}
+use Rattle.crib_show.proofs.IndexLemmas.{four_counted}
 
 abbrev number_from : ℕ → List ℕ → ℕ
 number_from front [] = front
@@ -57,33 +60,35 @@ rising_ranks (card ∷ next ∷ cards) rising = let below = rising_ranks (next �
 pub number_before : (m n : ℕ) → m < n → is_before (ranks_of_number m) (ranks_of_number n) ≡ true
 number_before m n less = grind (arith, nat_tests, less)
 
--- ---- how many numbers have ranks in order
-pub ordered_more : (number : ℕ) → ordered_below (number + 1) ≡ ordered_count (ranks_of_number number) + ordered_below number
-unfolding ordered_below
-ordered_more number = ap ordered_below (add-one number)
+-- the ranks with a number are four ranks
+pub four_numbered : (number : ℕ) → number < 28561 → AreFour (rank_counts (ranks_of_number number))
+four_numbered number less =
+    let all : AllByRecursion IsRank (ranks_of_number number) =
+    ((omega arith, omega (arith, less)), ((omega arith, omega arith), ((omega arith, omega arith), ((omega arith, omega arith), tt)))) in
+    four_counted (ranks_of_number number) all refl
 
-ordered_up : (number more : ℕ) → ordered_below number ≤ ordered_below (more + number)
-ordered_up number zero = grind arith
-ordered_up number (suc more) = grind (arith, ordered_up number more, ordered_more (more + number))
+-- ---- how many deals there are at most
+-- with the ranks that have a number, and with those that have a smaller one
+abbrev pub most_at : ℕ → ℕ
+most_at number = cond (are_in_order (ranks_of_number number)) 209920 0
 
-all_ordered : ordered_below 28561 ≡ 1820
-unfolding ordered_below
-all_ordered = refl
+unfoldable pub most_below : ℕ → ℕ
+most_below zero = 0
+most_below (suc number) = most_at number + most_below number
 
-pub ordered_few : (number : ℕ) → number ≤ 28561 → ordered_below number ≤ 1820
-ordered_few number few =
+pub most_more : (number : ℕ) → most_below (number + 1) ≡ most_at number + most_below number
+unfolding most_below
+most_more number = ap most_below (add-one number)
+
+most_up : (number more : ℕ) → most_below number ≤ most_below (more + number)
+most_up number zero = grind arith
+most_up number (suc more) = grind (arith, most_up number more, most_more (more + number))
+
+most_of_all : most_below 28561 ≡ 382054400
+unfolding most_below
+most_of_all = refl
+
+pub most_few : (number : ℕ) → number ≤ 28561 → most_below number ≤ 382054400
+most_few number few =
     let whole : 28561 - number + number ≡ 28561 = omega (arith, few) in
-    subst (λ (n : ℕ). ordered_below number ≤ n) (ap ordered_below whole ∙ all_ordered) (ordered_up number (28561 - number))
-
--- the place of ranks in order is below that of later ones, and below 1820
-module _ (number : ℕ) (order : are_in_order (ranks_of_number number) ≡ true) where
-  pub next_place : ordered_below (number + 1) ≡ ordered_below number + 1
-  next_place = ordered_more number ∙ ap (λ (b : Bool). cond b 1 0 + ordered_below number) order ∙ omega arith
-
-  pub earlier_place : (later : ℕ) → number < later → ordered_below number < ordered_below later
-  earlier_place later before =
-      let whole : later - (number + 1) + (number + 1) ≡ later = omega (arith, before) in
-      let up = rw whole at (ordered_up (number + 1) (later - (number + 1))) in omega (arith, next_place, up)
-
-  pub small_place : number < 28561 → ordered_below number < 1820
-  small_place small = let few = ordered_few (number + 1) (omega (arith, small)) in omega (arith, few, next_place)
+    subst (λ (n : ℕ). most_below number ≤ n) (ap most_below whole ∙ most_of_all) (most_up number (28561 - number))

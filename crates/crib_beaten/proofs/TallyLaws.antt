@@ -10,8 +10,8 @@ use Rattle.crib_cards.specs.declared.sides.Dealt.{Dealt}
 use Rattle.crib_cards.proofs.DictionaryOrder.{not_before_self}
 use Rattle.crib_problem.specs.Setup.{Setup}
 use Rattle.crib_plan.specs.declared.plan.Node.{Node}
-use Rattle.crib_check.specs.Beaten.{Beats}
-use Rattle.crib_check.proofs.UnbeatenPlans.{sure_from, sure_unbeaten}
+use Rattle.crib_beaten.specs.Beaten.{Beats}
+use Rattle.crib_beaten.proofs.UnbeatenPlans.{sure_from, sure_unbeaten}
 use Rattle.crib_beaten.specs.declared.tally.RanksTally.{RanksTally}
 use Rattle.crib_deals.specs.Exact.{AreExactly, IsIn}
 use Rattle.crib_beaten.specs.Tally.{AreFigures, AreInOrder, HasRow, IsRow}

@@ -1,5 +1,5 @@
 -- The tally of the deals whose ranks have a number below another.
-use Rattle.std.proofs.Common.{◌≡◌, ◌⊎◌, ◌≤◌, ◌<◌, ℕ, ◌+◌, ◌*◌, ◌^◌, Bool, true, false, cond, ltb, List, [], ◌∷◌, ◌++◌, refl, ap}
+use Rattle.std.proofs.Common.{◌≡◌, ◌⊎◌, ◌≤◌, ◌<◌, ℕ, ◌+◌, ◌^◌, Bool, true, false, cond, ltb, List, [], ◌∷◌, ◌++◌, refl, ap}
 use Rattle.std.proofs.Common.{inl, inr, arith}
 use Rattle.std.specs.List.{All}
 use Rattle.std.proofs.lemmas.Bool.{cases_lt, ltb-true}
@@ -13,9 +13,9 @@ use Rattle.crib_problem.specs.Setup.{Setup, IsSetup}
 use Rattle.crib_plan.specs.declared.plan.Node.{Node}
 use Rattle.crib_know.proofs.Deals.{hold_cards}
 use Rattle.crib_show.specs.declared.demands.Demand.{Demand}
-use Rattle.crib_check.specs.Beaten.{Beats, Decides}
+use Rattle.crib_beaten.specs.Beaten.{Beats, Decides}
 use Rattle.crib_know.specs.Hidden.{IsOpen}
-use Rattle.crib_check.proofs.DemandsAfterOpening.{beats_open}
+use Rattle.crib_beaten.proofs.DemandsAfterOpening.{beats_open}
 use Rattle.crib_beaten.specs.declared.tally.RanksTally.{RanksTally}
 use Rattle.crib_beaten.specs.declared.tally.Tally.{Tally}
 use Rattle.crib_deals.specs.Exact.{AreExactly}
@@ -23,10 +23,9 @@ use Rattle.crib_beaten.specs.Tally.{AreInOrder, HasRow, IsRow, IsTally}
 use Rattle.crib_deals.specs.Deals.{ranks_held}
 use Rattle.crib_deals.specs.Deals.{IsBehind, IsMissing, behind_by}
 use Rattle.crib_deals.specs.Choices.{are_in_order, ranks_of_number}
-use Rattle.crib_beaten.specs.Private.Numbers.{ordered_below, ordered_count}
-use Rattle.crib_beaten.specs.Private.Rows.{AreCounted, with_row}
+use Rattle.crib_beaten.specs.Private.Rows.{AreCounted, with_figures}
 use Rattle.crib_deals.proofs.ExactCounts.{exactly_none, exactly_same, exactly_zero, in_append}
-use Rattle.crib_beaten.proofs.HoldNumbers.{number_before, ordered_few, ordered_more, ranks_number, rising_ranks}
+use Rattle.crib_beaten.proofs.HoldNumbers.{most_at, most_below, most_few, most_more, number_before, ranks_number, rising_ranks}
 use Rattle.crib_deals.proofs.NumberedDeals.{AreNumbered, none_below, next_below, all_below}
 use Rattle.crib_beaten.proofs.HoldNumbers.{ranks_numbered}
 
@@ -48,14 +47,15 @@ pub record AreRowsBelow (problem : Setup) (plan : List Node) (number : ℕ) (row
 pub record IsBelow (problem : Setup) (plan : List Node) (number open_deals beaten : ℕ) (rows : List RanksTally) : Type 0 where
   pub open_deals_are : AreExactly (λ dealt. IsOpen problem dealt × (held_number dealt < number)) open_deals
   pub beaten_are : AreExactly (λ dealt. Beats problem plan dealt × (held_number dealt < number)) beaten
-  pub few : (open_deals ≤ 209920 * ordered_below number) × (beaten ≤ 209920 * ordered_below number)
+  pub few : (open_deals ≤ most_below number) × (beaten ≤ most_below number)
   pub rows_are : AreRowsBelow problem plan number rows
 
 -- a sum with one more row, which fits
-pub sum_fits : (most : ℕ) {number sum more : ℕ} → number < 28561 → most ≤ 1000000 → sum ≤ most * ordered_below number →
-    more ≤ most * ordered_count (ranks_of_number number) → (sum + more ≤ most * ordered_below (number + 1)) × (sum + more < 2 ^ 32)
-sum_fits most {number} small low one other =
-    rw (ordered_more number) (grind (arith, low, ordered_more number, ordered_few (number + 1) (omega (arith, small)), one, other))
+pub sum_fits : {number sum more : ℕ} → number < 28561 → sum ≤ most_below number → more ≤ most_at number →
+    (sum + more ≤ most_below (number + 1)) × (sum + more < 2 ^ 32)
+sum_fits {number} small one other =
+    let few = most_few (number + 1) (omega (arith, small)) in
+    (omega (arith, most_more number, one, other), omega (arith, most_more number, one, other, few))
 
 abbrev ComesBefore : RanksTally → RanksTally → Type 0
 ComesBefore later row = is_before row.ranks later.ranks ≡ true
@@ -114,12 +114,12 @@ module _ {problem : Setup} {plan : List Node} (setup : IsSetup problem) where
       ];
     }
 
-    pub next_tally : (row.open_deals ≤ 209920 * ordered_count (ranks_of_number number)) × (row.beaten ≤ 209920 * ordered_count (ranks_of_number number)) →
-        IsBelow problem plan (number + 1) (sum + row.open_deals) (beaten + row.beaten) (with_row rows row)
+    pub next_tally : (row.open_deals ≤ most_at number) × (row.beaten ≤ most_at number) →
+        IsBelow problem plan (number + 1) (sum + row.open_deals) (beaten + row.beaten) (with_figures rows row)
     next_tally few = record {
       open_deals_are = next_below (open_numbered setup) small below.open_deals_are (rw ranks at counted.are_open);
       beaten_are = next_below beats_numbered small below.beaten_are (rw ranks at counted.are_beaten);
-      few = ((sum_fits 209920 small (omega arith) below.few.0 few.0).0, (sum_fits 209920 small (omega arith) below.few.1 few.1).0);
+      few = ((sum_fits small below.few.0 few.0).0, (sum_fits small below.few.1 few.1).0);
       rows_are = next_rows (ltb 0 row.beaten) refl;
     }
 

@@ -1,14 +1,29 @@
--- The laws of tallies.
+-- The laws of deals that beat a plan, and of tallies.
 use Rattle.std.specs.Prelude.{◌≡◌, ◌↔◌, ℕ, cond, Bool, List, IsTrue}
 use Rattle.std.specs.List.{sum_by}
+use Rattle.crib_cards.specs.Deals.{is_in_pack_order}
+use Rattle.crib_cards.specs.declared.sides.Dealt.{Dealt}
 use Rattle.crib_problem.specs.Setup.{Setup, IsSetup}
 use Rattle.crib_plan.specs.declared.plan.Node.{Node}
-use Rattle.crib_check.specs.Beaten.{Beats}
+use Rattle.crib_know.specs.Hidden.{IsOpen}
+use Rattle.crib_beaten.specs.Beaten.{Beats}
 use Rattle.crib_sure.specs.Sure.{IsSure}
 use Rattle.crib_beaten.specs.declared.tally.RanksTally.{RanksTally}
 use Rattle.crib_deals.specs.Deals.{ranks_held}
 use Rattle.crib_deals.specs.Exact.{AreExactly}
 use Rattle.crib_beaten.specs.Tally.{AreFigures}
+
+-- a plan is sure exactly if no deal in pack order beats it
+abbrev pub UnbeatenLaw : Type 0
+UnbeatenLaw =
+    (problem : Setup) (plan : List Node) → IsSetup problem →
+    IsSure problem plan ↔ ((dealt : Dealt) → IsTrue (is_in_pack_order dealt) → ¬ Beats problem plan dealt)
+
+-- each deal that beats a plan is open
+abbrev pub OpenLaw : Type 0
+OpenLaw =
+    (problem : Setup) (plan : List Node) (dealt : Dealt) → IsSetup problem → Beats problem plan dealt →
+    IsOpen problem dealt
 
 -- no deal beats a plan exactly if the plan is sure
 abbrev pub NoneLaw : Type 0

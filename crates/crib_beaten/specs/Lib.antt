@@ -1,3 +1,4 @@
+pub mod Beaten
 pub mod Tally
 pub mod Terms
 pub mod Laws

@@ -1,4 +1,4 @@
 -- Definitions that only private functions cite. No public contract rests on them.
+pub mod Demands
 pub mod Figures
-pub mod Numbers
 pub mod Rows

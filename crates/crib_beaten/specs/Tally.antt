@@ -7,7 +7,7 @@ use Rattle.crib_cards.specs.declared.sides.Dealt.{Dealt}
 use Rattle.crib_problem.specs.Setup.{Setup}
 use Rattle.crib_plan.specs.declared.plan.Node.{Node}
 use Rattle.crib_know.specs.Hidden.{IsOpen}
-use Rattle.crib_check.specs.Beaten.{Beats}
+use Rattle.crib_beaten.specs.Beaten.{Beats}
 use Rattle.crib_deals.specs.Deals.{ranks_held}
 use Rattle.crib_deals.specs.Exact.{AreExactly, IsIn}
 use Rattle.crib_beaten.specs.declared.tally.RanksTally.{RanksTally}

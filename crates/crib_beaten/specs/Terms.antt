@@ -1,9 +1,10 @@
 -- Terms, what holds have at least, and the rows that say which hands beat a plan.
-use Rattle.std.specs.Prelude.{ℕ, ◌-◌, Bool, true, false, not, ◌&&◌, List, [], ◌∷◌, ◌++◌, map, get_or, IsTrue}
-use Rattle.std.specs.List.{list_any}
+use Rattle.std.specs.Prelude.{◌≡◌, ℕ, ◌+◌, ◌-◌, ◌*◌, ◌==◌, ◌<◌, ◌≤◌, min, Bool, true, false, not, ◌&&◌, if◌then◌else◌}
+use Rattle.std.specs.Prelude.{List, [], ◌∷◌, ◌++◌, length, map, sum_by, get_or, IsTrue}
+use Rattle.std.specs.List.{All, list_all, list_any}
 use Rattle.crib_problem.specs.Setup.{Setup}
 use Rattle.crib_plan.specs.declared.plan.Node.{Node}
-use Rattle.crib_check.specs.Beaten.{Beats}
+use Rattle.crib_beaten.specs.Beaten.{Beats}
 use Rattle.crib_deals.specs.Deals.{ranks_held}
 use Rattle.crib_deals.specs.Exact.{AreExactly}
 use Rattle.crib_beaten.specs.declared.rows.Row.{Row}
@@ -40,3 +41,34 @@ AreRows problem plan above [] others =
 AreRows problem plan above (row ∷ rows) others =
     AreExactly (λ dealt. Beats problem plan dealt × IsTrue (is_first above row.term (ranks_held dealt))) row.deals
     × AreRows problem plan (above ++ row.term ∷ []) rows others
+
+-- rows are best first: each has a deal, and none below has more
+abbrev pub AreBestFirst : List Row → Type 0
+AreBestFirst [] = Unit {0}
+AreBestFirst (row ∷ rows) =
+    (0 < row.deals) × All (λ (later : Row). later.deals ≤ row.deals) rows × AreBestFirst rows
+
+-- ---- columns
+
+-- how many ranks of a slot are printed, after some neighbouring ranks. Of neighbours the first and the last are
+unfoldable pub printed_ranks : ℕ → List Bool → ℕ
+printed_ranks before [] = min before 2
+printed_ranks before (true ∷ slot) = printed_ranks (before + 1) slot
+printed_ranks before (false ∷ slot) = min before 2 + printed_ranks 0 slot
+
+-- the columns of a printed slot: a blank and a rank, or a blank, brackets, and ranks with a sign between two. One of
+-- any card has none
+abbrev pub slot_columns : List Bool → ℕ
+slot_columns slot =
+    if list_all (λ flag. flag) slot then 0
+    else if printed_ranks 0 slot == 1 then 2
+    else 3 + (2 * printed_ranks 0 slot - 1)
+
+-- the columns of a printed term
+abbrev pub columns : List (List Bool) → ℕ
+columns term = sum_by slot_columns term
+
+-- a term has slots of thirteen ranks, and is printed in few columns
+pub record IsNarrow (term : List (List Bool)) : Type 0 where
+  pub slots : All (λ slot. length slot ≡ 13) term
+  pub few : columns term ≤ 24

@@ -1,5 +1,14 @@
-//! The laws of tallies. The function does nothing, and its contract is the laws.
-ghost use Rattle.crib_beaten.specs.Laws.{NoneLaw, OneLaw, SumLaw};
+//! The laws of deals that beat a plan, and of tallies. Each function does nothing, and its contract is the laws.
+ghost use Rattle.crib_beaten.specs.Laws.{NoneLaw, OneLaw, OpenLaw, SumLaw, UnbeatenLaw};
+
+/// A plan that is not sure is beaten by some deal, and only by open ones.
+///
+/// - `sure`: a plan is sure exactly if no deal in pack order beats it.
+/// - `agrees`: each deal that beats a plan is open: it agrees with the opening.
+pub fn beaten_law()
+    ensures sure { UnbeatenLaw }
+    ensures agrees { OpenLaw }
+{}
 
 /// What the figures of a tally mean together.
 ///

@@ -2,9 +2,11 @@
 #![tactic(auto)]
 
 mod laws;
+mod plays;
 mod rows;
 mod tally;
 
-pub use laws::tally_law;
+pub use laws::{beaten_law, tally_law};
+pub use plays::Plays;
 pub use rows::{Row, Rows, Slot, Term, rows_of};
 pub use tally::{RanksTally, Tally, tally_of};

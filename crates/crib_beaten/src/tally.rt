@@ -1,22 +1,22 @@
 //! Which deals beat a plan, counted.
-ghost use Rattle.std.specs.Prelude.{◌≡◌, ◌≤◌, ◌<◌, ◌+◌, ◌*◌, ◌^◌, List, IfOk};
+ghost use Rattle.std.specs.Prelude.{◌≡◌, ◌≤◌, ◌<◌, ◌+◌, ◌^◌, List, IfOk, cond};
 ghost use Rattle.crib_problem.specs.Setup.{Setup};
 ghost use Rattle.crib_plan.specs.declared.plan.Node.{Node};
 ghost use Rattle.crib_beaten.specs.Tally.{IsTally};
-ghost use Rattle.crib_beaten.specs.Private.Numbers.{ordered_below, ordered_count};
-ghost use Rattle.crib_deals.specs.Choices.{ranks_of_number};
-ghost use Rattle.crib_beaten.specs.Private.Rows.{AreChoices, AreCounted, IsFor, with_row};
+ghost use Rattle.crib_deals.specs.Choices.{are_in_order, ranks_of_number};
+ghost use Rattle.crib_beaten.specs.Private.Rows.{AreChoices, AreCounted, IsFor, with_figures};
 
+use crate::plays::Plays;
 use crib_cards::{Rank, RankCounts};
-use crib_check::{CHOICES, NoMemory, Plays};
+use crib_check::NoMemory;
 use crib_deals::{Deals, are_in_order, ranks_at};
 use crib_plan::Plan;
 use crib_problem::Problem;
-use crib_show::{Demand, count_ranks};
+use crib_show::{CHOICES, Demand, choice_index, count_ranks};
 use std::alloc::{Allocator, Global};
 
 /// The open deals whose hold has four ranks, and how many of them beat a plan.
-#[derive(Clone, Copy)]
+#[derive(Clone, Copy, Default)]
 pub struct RanksTally {
     /// The ranks of the four cards that the opponent held at the first lead, in order.
     pub ranks: [Rank; 4],
@@ -47,33 +47,30 @@ pub fn tally_of<A: Allocator, B: Allocator>(
 {
     let choices = choices();
     let deals = OpenDeals::of(problem, plan, &choices);
-    let mut place = 0;
     let mut tally = Tally {
         open_deals: 0,
         beaten: 0,
         rows: Vec::new(alloc),
     };
     for number in 0..28_561u16 {
-        let row = deals.row_at(number, place);
-        place = place_after(place, &row.ranks);
-        tally.add(row)?;
+        tally.add(deals.figures_at(number))?;
     }
     Ok(tally)
 }
 
 impl<A: Allocator> Tally<A> {
     // Adds the deals with some ranks. It fails if the rows cannot grow.
-    fn add(&mut self, row: RanksTally) -> Result<(), NoMemory>
-        requires open_deals { self.old.open_deals + row.open_deals < 2 ^ 32 }
-        requires beaten { self.old.beaten + row.beaten < 2 ^ 32 }
-        ensures open_deals { IfOk result (λ _. self.new.open_deals ≡ self.old.open_deals + row.open_deals) }
-        ensures beaten { IfOk result (λ _. self.new.beaten ≡ self.old.beaten + row.beaten) }
-        ensures rows { IfOk result (λ _. self.new.rows.items ≡ with_row self.old.rows.items row) }
+    fn add(&mut self, figures: RanksTally) -> Result<(), NoMemory>
+        requires open_deals { self.old.open_deals + figures.open_deals < 2 ^ 32 }
+        requires beaten { self.old.beaten + figures.beaten < 2 ^ 32 }
+        ensures open_deals { IfOk result (λ _. self.new.open_deals ≡ self.old.open_deals + figures.open_deals) }
+        ensures beaten { IfOk result (λ _. self.new.beaten ≡ self.old.beaten + figures.beaten) }
+        ensures rows { IfOk result (λ _. self.new.rows.items ≡ with_figures self.old.rows.items figures) }
     {
-        self.open_deals += row.open_deals;
-        self.beaten += row.beaten;
-        if row.beaten > 0 {
-            let Ok(()) = self.rows.push(row) else {
+        self.open_deals += figures.open_deals;
+        self.beaten += figures.beaten;
+        if figures.beaten > 0 {
+            let Ok(()) = self.rows.push(figures) else {
                 return Err(NoMemory);
             };
         }
@@ -85,7 +82,7 @@ impl<A: Allocator> Tally<A> {
 #[derive(Drop)]
 struct OpenDeals<'a> {
     deals: Deals<'a>,
-    // What decides the deals with four ranks, by the place of these ranks among those in order.
+    // What decides the deals with four ranks, by the index of these ranks.
     demands: [Demand; CHOICES],
 }
 
@@ -104,59 +101,45 @@ impl<'a> OpenDeals<'a> {
         }
     }
 
-    // The row of the four ranks with a number, and with this place among those in order. It counts no deals if they are
-    // not in order.
-    fn row_at(&self, number: u16, place: usize) -> RanksTally
+    // The figures of the four ranks with a number. They count no deals if the ranks are not in order.
+    fn figures_at(&self, number: u16) -> RanksTally
         requires number { number < 28561 }
-        requires place { place ≡ ordered_below number }
         requires here { (problem : Setup) × (plan : List Node) × IsFor problem plan self.now }
         ensures ranks { result.ranks ≡ ranks_of_number number }
         ensures exact { (problem : Setup) (plan : List Node) → IsFor problem plan self.now
             → AreCounted problem plan result.ranks result.open_deals result.beaten }
-        ensures few { (result.open_deals ≤ 209920 * ordered_count (ranks_of_number number))
+        ensures few { (result.open_deals ≤ cond (are_in_order (ranks_of_number number)) 209920 0)
             × (result.beaten ≤ result.open_deals) }
     {
         let ranks = ranks_at(number);
-        let mut row = RanksTally {
+        let mut figures = RanksTally {
             ranks,
             open_deals: 0,
             beaten: 0,
         };
         if are_in_order(&ranks) {
-            let counted = self.deals.count(&ranks, self.demands[place]);
-            row.open_deals = counted.open_deals;
-            row.beaten = counted.missing;
+            let index = choice_index(&count_ranks(&ranks));
+            let counted = self.deals.count(&ranks, self.demands[index]);
+            figures.open_deals = counted.open_deals;
+            figures.beaten = counted.missing;
         }
-        row
+        figures
     }
 }
 
-// The place of the next ranks in order, after some ranks with this place, or none if they are not in order.
-fn place_after(place: usize, ranks: &[Rank; 4]) -> usize
-    requires { place ≤ 28561 }
-    ensures value { result ≡ place + ordered_count ranks.now }
-    ensures few { result ≤ place + 1 }
-{
-    if are_in_order(ranks) {
-        place + 1
-    } else {
-        place
-    }
-}
-
-// How many cards of each rank the choices of four ranks in order have, by their place.
+// How many cards of each rank the choices of four ranks have, by their indices.
 fn choices() -> [RankCounts; CHOICES]
     ensures { AreChoices 28561 result }
 {
     let mut choices = [RankCounts::new(); CHOICES];
-    let mut place = 0;
     for number in 0..28_561 {
         let ranks = ranks_at(number);
         if !are_in_order(&ranks) {
             continue;
         }
-        choices[place] = count_ranks(&ranks);
-        place += 1;
+        let counts = count_ranks(&ranks);
+        let index = choice_index(&counts);
+        choices[index] = counts;
     }
     choices
 }

@@ -69,19 +69,19 @@ no_rows old number = append-nil old
 
 rows_and_row : (number : ℕ) (rows : List Row) (row : Row) → row_lines number (rows ++ row ∷ []) ≡ row_lines number rows ++ row_line (number + length rows) row
 unfolding row_lines
-rows_and_row number [] row = append-nil (row_line number row) ∙ ap (λ (place : ℕ). row_line place row) (omega arith)
+rows_and_row number [] row = append-nil (row_line number row) ∙ ap (λ (n : ℕ). row_line n row) (omega arith)
 rows_and_row number (first ∷ rows) row =
     ap (λ (rest : List ℕ). row_line number first ++ rest) (rows_and_row (number + 1) rows row)
     ∙ sym (append_assoc (row_line number first) (row_lines (number + 1) rows) (row_line (number + 1 + length rows) row))
-    ∙ ap (λ (place : ℕ). row_lines number (first ∷ rows) ++ row_line place row) (omega arith)
+    ∙ ap (λ (n : ℕ). row_lines number (first ∷ rows) ++ row_line n row) (omega arith)
 
 pub rows_more : (rows : List Row) (at number : ℕ) (row : Row) → at < length rows → row ≡ get_or rows at row → number ≡ at + 1
     → row_lines 1 (take at rows) ++ row_line number row ≡ row_lines 1 (take (at + 1) rows)
 rows_more rows at number row inside is counted =
     let so_far : List Row = take at rows in
-    let place : number ≡ 1 + length so_far = omega (arith, counted, length-take-le at rows (omega arith)) in
+    let here : number ≡ 1 + length so_far = omega (arith, counted, length-take-le at rows (omega arith)) in
     let taken : take (at + 1) rows ≡ so_far ++ row ∷ [] = take_more rows at row inside ∙ ap (λ (last : Row). so_far ++ last ∷ []) (sym is) in
-    ap (λ (n : ℕ). row_lines 1 so_far ++ row_line n row) place ∙ sym (rows_and_row 1 so_far row) ∙ ap (row_lines 1) (sym taken)
+    ap (λ (n : ℕ). row_lines 1 so_far ++ row_line n row) here ∙ sym (rows_and_row 1 so_far row) ∙ ap (row_lines 1) (sym taken)
 
 pub hands_more : (hands : List ShowRow) (at : ℕ) (other : ShowRow) → at < length hands
     → flat_map show_line (take at hands) ++ show_line (get_or hands at other) ≡ flat_map show_line (take (at + 1) hands)

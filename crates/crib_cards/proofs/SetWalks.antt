@@ -11,7 +11,7 @@ use Rattle.crib_cards.proofs.SetFacts.{has-append, set_without-lowest}
 
 -- ---- one card more
 
--- the cards of a list before a place, and the one at that place
+-- the cards of a list before an index, and the one with that index
 pub take_card : (cards : List ℕ) (i card : ℕ) → i < length cards → card ≡ get_or cards i card → take (i + 1) cards ≡ take i cards ++ card ∷ []
 take_card cards i card inside is = take_more cards i card inside ∙ ap (λ (k : ℕ). take i cards ++ k ∷ []) (sym is)
 

@@ -8,16 +8,16 @@ use Rattle.crib_play.specs.History.{Event, event_of}
 use Rattle.crib_problem.specs.Setup.{Setup, IsSetup, start_of, played_back}
 use Rattle.crib_plan.specs.declared.plan.Node.{Node}
 use Rattle.crib_know.specs.Knowledge.{played_events, knowledge_after}
-use Rattle.crib_check.specs.declared.keys.Key.{Key}
-use Rattle.crib_check.specs.Private.Positions.{StandsAt}
+use Rattle.crib_sure.specs.declared.keys.Key.{Key}
+use Rattle.crib_sure.specs.Positions.{StandsAt}
 use Rattle.crib_know.specs.Hidden.{AgreesWith, BeginsAfter}
 use Rattle.crib_know.proofs.LedHistories.{MayCome}
 use Rattle.crib_know.proofs.RecordTurns.{agrees_before, agreeing_led}
 use Rattle.crib_game.specs.declared.section.game.Game.{Game}
 use Rattle.crib_game.specs.declared.following.ending.Ending.{Ending}
 use Rattle.crib_check.specs.Failing.{IsFailing}
-use Rattle.crib_sure.specs.HistoryPlaces.{place_by}
-use Rattle.crib_sure.specs.Private.Histories.{IsStatedEvent, FollowsBy, Extends, history_of_game}
+use Rattle.crib_sure.specs.HistoryPlaces.{place_by, IsStatedEvent, FollowsBy}
+use Rattle.crib_sure.specs.Private.Histories.{Extends, history_of_game}
 use Rattle.crib_sure.proofs.PlaceByHistory.{begun_late, follows_to}
 
 pub extends_less : {event : Event} {history longer : List Event} → Extends (event ∷ history) longer → Extends history longer

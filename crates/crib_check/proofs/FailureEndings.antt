@@ -42,11 +42,11 @@ use Rattle.crib_game.proofs.FollowLawProofs.{ended_law, answer_law}
 use Rattle.crib_game.proofs.GameFaults.{hands_are}
 use Rattle.crib_cards.proofs.SetFacts.{in_set_where}
 use Rattle.crib_game.specs.Private.Judging.{left_by}
-use Rattle.crib_check.specs.declared.keys.Key.{Key}
+use Rattle.crib_sure.specs.declared.keys.Key.{Key}
 use Rattle.crib_check.specs.Failing.{IsFailingEnding, IsFailing}
 use Rattle.crib_sure.specs.HistoryPlaces.{place_by}
 use Rattle.crib_sure.specs.Private.Histories.{history_of_game}
-use Rattle.crib_check.specs.Private.Positions.{StandsAt}
+use Rattle.crib_sure.specs.Positions.{StandsAt}
 use Rattle.crib_sure.proofs.PlaceByHistory.{place_history}
 use Rattle.crib_know.proofs.OpeningLawProofs.{letters_same}
 use Rattle.crib_sure.proofs.AgreeingInSuitOrder.{filter_same}

@@ -1,5 +1,5 @@
 -- The first deal that misses the goal at the end of the play.
-use Rattle.std.proofs.Common.{◌≡◌, List, length, Option, Some, None, MatchOption, ap, ◌∙◌}
+use Rattle.std.proofs.Common.{◌≡◌, true, ◌↔◌, List, length, Option, Some, None, MatchOption, refl, ap, ◌∙◌}
 use Rattle.std.proofs.lemmas.Bool.{both_ways, false_from_ne_true}
 use Rattle.crib_cards.specs.declared.sides.Dealt.{Dealt}
 use Rattle.crib_cards.specs.declared.sides.Scores.{Scores}
@@ -7,7 +7,7 @@ use Rattle.crib_play.specs.History.{Event, history_letters}
 use Rattle.crib_play.specs.Filled.{filled_record}
 use Rattle.crib_play.specs.Score.{scores_after}
 use Rattle.crib_show.specs.Outcome.{outcome_of}
-use Rattle.crib_show.specs.Demands.{IsFirstMissingOrNone, IsMetByAll, IsMetByNone}
+use Rattle.crib_show.specs.Demands.{IsFirstMissingOrNone, IsMetByNone}
 use Rattle.crib_show.specs.declared.demands.Demand.{Demand}
 use Rattle.crib_show.specs.declared.deals.WorstShow.{WorstShow}
 use Rattle.crib_problem.specs.Setup.{Setup, start_of}
@@ -15,7 +15,6 @@ use Rattle.crib_know.specs.Knowledge.{Knowledge, their_ranks}
 use Rattle.crib_know.specs.Hidden.{KnowsAfter, IsFirstDeal}
 use Rattle.crib_game.specs.Replay.{full_with}
 use Rattle.crib_sure.specs.Shows.{IsDemandAtEnd, IsReachedBehind, worst_of}
-use Rattle.crib_sure.proofs.PointsOfDeals.{few_crib, few_hand}
 use Rattle.crib_sure.proofs.ShowsBehind.{behind_to, behind_from}
 use Rattle.crib_check.specs.Private.Positions.{AllReach, IsFirstShortfall}
 
@@ -31,11 +30,7 @@ module _ {problem : Setup} {know : Knowledge} {history : List Event} (knows : Kn
 
   -- what the show demands
   module _ (demand : Demand) (shown : IsDemandAtEnd problem know demand) where
-    -- all deals meet it
-    pub all_met : IsMetByAll demand → AllReach problem history know.round
-    all_met all dealt agrees = (shown history dealt knows agrees).0 (all _ _ (few_hand knows.setup agrees.0) (few_crib knows.setup agrees.0))
-
-    -- none does, and so the first deal that agrees is the first that falls short
+    -- no deal meets it, and so the first deal that agrees is the first that falls short
     pub none_met : {dealt : Dealt} → IsMetByNone demand → IsFirstDeal problem history dealt → IsFirstShortfall problem history know.round dealt
     none_met {dealt} none first = record {
       agrees = first.agrees;
@@ -55,3 +50,9 @@ module _ {problem : Setup} {know : Knowledge} {history : List Event} (knows : Kn
           first = λ other agrees fails. first.first other (behind_to knows four other agrees)
               (false_from_ne_true _ (λ met. fails ((shown history other knows agrees).0 met)));
         }
+
+-- all deals reach the goal
+pub all_met : {problem : Setup} {know : Knowledge} →
+    ((history : List Event) → KnowsAfter know problem history → (true ≡ true) ↔ IsReachedBehind problem history) →
+    (history : List Event) → KnowsAfter know problem history → AllReach problem history know.round
+all_met reached history knows = all_reach knows ((reached history knows).0 refl)

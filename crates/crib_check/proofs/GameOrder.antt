@@ -8,7 +8,7 @@ use Rattle.std.proofs.lemmas.Slice.Eq.{bytes_eq-Decides}
 use Rattle.std.proofs.lemmas.List.{map-append, reverse-append}
 use Rattle.crib_cards.specs.Order.{is_before}
 use Rattle.crib_cards.specs.Deals.{deal_numbers}
-use Rattle.crib_cards.specs.Letters.{letter_of, letter_place}
+use Rattle.crib_cards.specs.Letters.{letter_of, letter_index}
 use Rattle.crib_cards.specs.Sides.{same_side}
 use Rattle.crib_cards.specs.declared.sides.Side.{Side}
 use Rattle.crib_cards.specs.declared.sides.Side.TheVariants.{Owner, Opponent}
@@ -21,10 +21,10 @@ use Rattle.crib_check.specs.Failing.{opponent_letters, comes_before}
 use Rattle.crib_sure.specs.Private.Histories.{Extends, history_of_game}
 use Rattle.crib_cards.proofs.DictionaryOrder.{before_first, before_rest, not_before_rest, not_before_self}
 
--- the places of the opponent's letters in a history, the last one first
+-- the indices of the opponent's letters in a history, the last one first
 abbrev pub letter_in : Event → List ℕ → List ℕ
 letter_in (Own turn) letters = letters
-letter_in (Theirs letter) letters = letter_place letter ∷ letters
+letter_in (Theirs letter) letters = letter_index letter ∷ letters
 
 abbrev pub letters_in : List Event → List ℕ
 letters_in [] = []
@@ -38,9 +38,9 @@ letters_appended : (later history : List Event) → letters_in (later ++ history
 letters_appended [] history = refl
 letters_appended (event ∷ later) history = ap (letter_in event) (letters_appended later history) ∙ letter_appended event (letters_in later) (letters_in history)
 
--- the places in the order of play are those of the history, reversed
+-- the indices in the order of play are those of the history, reversed
 abbrev letters_shown : List Act → List ℕ
-letters_shown acts = map (λ (act : Act). letter_place (letter_of act.what)) (filter (λ (act : Act). same_side act.side Opponent) acts)
+letters_shown acts = map (λ (act : Act). letter_index (letter_of act.what)) (filter (λ (act : Act). same_side act.side Opponent) acts)
 
 letter_first : (side : Side) (what : Move) (acts : List Act) →
     letters_shown (record { side = side; what = what } ∷ acts) ≡ reverse (letter_in (event_by side what) []) ++ letters_shown acts
@@ -63,14 +63,14 @@ letters_of_game game = letters_turned game.acts.items
 
 -- the letters of a game that goes on with a letter: the earlier ones, that one, and some others
 pub letters_go_on : (game : Game) (history : List Event) (letter : Letter) (ext : Extends (Theirs letter ∷ history) (history_of_game game)) →
-    opponent_letters game ≡ reverse (letters_in history) ++ letter_place letter ∷ reverse (letters_in ext.0)
+    opponent_letters game ≡ reverse (letters_in history) ++ letter_index letter ∷ reverse (letters_in ext.0)
 letters_go_on game history letter ext =
     letters_of_game game
     ∙ ap (λ (h : List Event). reverse (letters_in h)) ext.1
     ∙ ap reverse (letters_appended ext.0 (Theirs letter ∷ history))
-    ∙ reverse-append (letters_in ext.0) (letter_place letter ∷ letters_in history)
-    ∙ ap (λ (front : List ℕ). front ++ reverse (letters_in ext.0)) (reverse-append (letter_place letter ∷ []) (letters_in history))
-    ∙ append_assoc (reverse (letters_in history)) (letter_place letter ∷ []) (reverse (letters_in ext.0))
+    ∙ reverse-append (letters_in ext.0) (letter_index letter ∷ letters_in history)
+    ∙ ap (λ (front : List ℕ). front ++ reverse (letters_in ext.0)) (reverse-append (letter_index letter ∷ []) (letters_in history))
+    ∙ append_assoc (reverse (letters_in history)) (letter_index letter ∷ []) (reverse (letters_in ext.0))
 
 -- ---- dictionary order
 pub larger_is_later : (before : List ℕ) (x y : ℕ) (xs ys : List ℕ) → y < x → is_before (before ++ x ∷ xs) (before ++ y ∷ ys) ≡ false
@@ -85,15 +85,15 @@ smaller_is_before (b ∷ before) x y xs ys less = before_rest b (before ++ y ∷
 -- a game that goes on with a later letter does not come before
 pub later_letter : (game other : Game) (history : List Event) (letter others : Letter) (ext : Extends (Theirs letter ∷ history) (history_of_game game))
     (ext_other : Extends (Theirs others ∷ history) (history_of_game other)) →
-    letter_place letter < letter_place others → comes_before other game ≡ false
+    letter_index letter < letter_index others → comes_before other game ≡ false
 later_letter game other history letter others ext ext_other less =
     let before = reverse (letters_in history) in
     let mine = letters_go_on game history letter ext in
     let theirs = letters_go_on other history others ext_other in
     let later : is_before (opponent_letters other) (opponent_letters game) ≡ false =
-    (λ i. is_before (theirs i) (mine i)) ∙ larger_is_later before (letter_place others) (letter_place letter) _ _ less in
+    (λ i. is_before (theirs i) (mine i)) ∙ larger_is_later before (letter_index others) (letter_index letter) _ _ less in
     let earlier : is_before (opponent_letters game) (opponent_letters other) ≡ true =
-    (λ i. is_before (mine i) (theirs i)) ∙ smaller_is_before before (letter_place others) (letter_place letter) _ _ less in
+    (λ i. is_before (mine i) (theirs i)) ∙ smaller_is_before before (letter_index others) (letter_index letter) _ _ less in
     or_from _ _ later (and_left _ _ (false_from_ne_true _ (λ same.
     let letters = (bytes_eq-Decides (opponent_letters other) (opponent_letters game)).0 same in
     both_ways _ (ap (is_before (opponent_letters game)) letters ∙ not_before_self (opponent_letters game)) earlier)))

@@ -24,10 +24,11 @@ use Rattle.crib_game.specs.Replay.{acts_back, record_of}
 use Rattle.crib_game.specs.Followed.{IsRecordUnder, ending_with}
 use Rattle.crib_game.specs.Private.Judging.{full_at}
 use Rattle.crib_game.specs.Private.Tracing.{ending_at}
-use Rattle.crib_check.specs.declared.keys.Key.{Key}
+use Rattle.crib_sure.specs.declared.keys.Key.{Key}
 use Rattle.crib_check.specs.Failing.{IsFailingEnding, IsFailing, is_suited}
 use Rattle.crib_sure.specs.Private.Histories.{history_of_game}
-use Rattle.crib_check.specs.Private.Positions.{StandsAt, IsFirstFrom, IsStuckAt, IsFirstShortfall}
+use Rattle.crib_sure.specs.Positions.{StandsAt, IsStuckAt}
+use Rattle.crib_check.specs.Private.Positions.{IsFirstFrom, IsFirstShortfall}
 use Rattle.crib_sure.specs.Private.Suits.{acts_in_suits}
 use Rattle.crib_sure.proofs.PlaceByHistory.{follows_from}
 use Rattle.crib_check.proofs.FailureEndings.{record_ends, reached_is_none}

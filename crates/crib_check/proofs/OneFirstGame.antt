@@ -10,7 +10,7 @@ use Rattle.crib_cards.specs.Cards.{IsCard}
 use Rattle.crib_cards.specs.Deals.{six_cards, deal_numbers, is_in_pack_order}
 use Rattle.crib_cards.specs.Order.{is_before, are_rising}
 use Rattle.crib_cards.specs.Sets.{set_of}
-use Rattle.crib_cards.specs.Letters.{letter_place}
+use Rattle.crib_cards.specs.Letters.{letter_index}
 use Rattle.crib_cards.specs.declared.sides.Dealt.{Dealt}
 use Rattle.crib_cards.specs.declared.moves.Act.{Act}
 use Rattle.crib_cards.proofs.SetFacts.{set_of-rising}
@@ -29,16 +29,16 @@ use Rattle.crib_game.specs.Followed.{ending_with, ending_without}
 use Rattle.crib_check.specs.declared.verdict.Verdict.TheVariants.{Holds, Fails}
 use Rattle.crib_sure.specs.Sure.{IsFollowed, IsSure}
 use Rattle.crib_check.specs.Failing.{IsFailingEnding, IsFailing, IsFirstFailing, opponent_letters}
-use Rattle.crib_sure.specs.HistoryPlaces.{place_by}
-use Rattle.crib_sure.specs.Private.Histories.{IsStatedEvent, Extends, history_of_game}
-use Rattle.crib_check.specs.Private.Positions.{StandsAt}
+use Rattle.crib_sure.specs.HistoryPlaces.{place_by, IsStatedEvent}
+use Rattle.crib_sure.specs.Private.Histories.{Extends, history_of_game}
+use Rattle.crib_sure.specs.Positions.{StandsAt}
 use Rattle.crib_check.specs.Laws.{ExactLaw, SameLaw}
 use Rattle.crib_check.proofs.ExtendedGames.{next_turn, failing_begins, key_at, stands_at}
 use Rattle.crib_check.proofs.FailureEndings.{six_is, open_is_none, reached_is_none, failing_stands, failing_at, seen_legal, events_are}
 use Rattle.crib_check.proofs.GameOrder.{letters_in, letters_go_on}
 use Rattle.crib_check.proofs.WalkConclusions.{own_turn_may, own_event, ended}
 use Rattle.crib_know.proofs.PassingIsAgreeing.{theirs_letter}
-use Rattle.crib_cards.proofs.LetterPlaces.{same_letter}
+use Rattle.crib_cards.proofs.LetterIndices.{same_letter}
 use Rattle.crib_check.proofs.SuitOrder.{same_suits}
 use Rattle.crib_problem.proofs.StartLemmas.{each_has}
 use Rattle.crib_problem.proofs.CardLemmas.{all_parts}
@@ -120,9 +120,9 @@ module _ (problem : Setup) (plan : List Node) (setup : IsSetup problem) (game ot
   same_event stands (Theirs letter) (Own what) to to_other may may_next is is_next =
       own_event stands what (own_turn_may stands what may_next, is_next) (Theirs letter) may is
   same_event {history} stands (Theirs letter) (Theirs next) to to_other may may_next is is_next =
-      let places = same_next (reverse (letters_in history)) (letter_place letter) (letter_place next) _ _
+      let same = same_next (reverse (letters_in history)) (letter_index letter) (letter_index next) _ _
       (sym (letters_go_on game history letter to) ∙ letters_same ∙ letters_go_on other history next to_other) in
-      ap Theirs (same_letter letter next (theirs_letter problem setup history letter may) (theirs_letter problem setup history next may_next) places)
+      ap Theirs (same_letter letter next (theirs_letter problem setup history letter may) (theirs_letter problem setup history next may_next) same)
 
   -- nothing comes after a game has failed, so both games go on with the same event or end
   same_from : (n : ℕ) (history : List Event) → length (history_of_game game) < n + length history → BeginsAfter problem history →

@@ -21,7 +21,7 @@ use Rattle.crib_know.proofs.Equality.{same_knows}
 use Rattle.crib_check.specs.Table.{Table, entry_of, IsInside, AreInside}
 use Rattle.crib_check.specs.Private.Numbers.{IsMore, IsNumber}
 use Rattle.crib_check.specs.declared.entries.Entry.{Entry}
-use Rattle.crib_check.specs.declared.keys.Key.{Key}
+use Rattle.crib_sure.specs.declared.keys.Key.{Key}
 use Rattle.crib_check.specs.contracts.entries.EntryPartialEq.TheImpl as entries_compared
 use Rattle.crib_check.proofs.Equality.{same_nexts, same_showns}
 

@@ -33,13 +33,14 @@ use Rattle.crib_game.specs.declared.following.ending.Ending.TheVariants as endin
 use Rattle.crib_game.specs.Replay.{full_of, is_done_for}
 use Rattle.crib_game.specs.Following.{place_of, IsAsStated, is_playable, is_stuck}
 use Rattle.crib_game.specs.Followed.{IsRecordUnder, ending_of, ending_with, ending_without}
-use Rattle.crib_check.specs.declared.keys.Key.{Key}
+use Rattle.crib_sure.specs.declared.keys.Key.{Key}
 use Rattle.crib_check.specs.declared.verdict.Verdict.{Verdict}
 use Rattle.crib_check.specs.declared.verdict.Verdict.TheVariants.{Holds, Fails}
 use Rattle.crib_sure.specs.Sure.{IsFollowed, IsSure, GoesOn, Ends}
 use Rattle.crib_check.specs.Failing.{IsFailing, IsFailingEnding, IsFirstFailing}
-use Rattle.crib_check.specs.Private.Positions.{StandsAt, HoldsFrom, IsSettled, IsFirstFrom}
-use Rattle.crib_check.specs.Verdicts.{IsRight, IsSoFollowed, KeepsOn}
+use Rattle.crib_sure.specs.Positions.{StandsAt}
+use Rattle.crib_check.specs.Private.Positions.{HoldsFrom, IsSettled, IsFirstFrom}
+use Rattle.crib_check.specs.Private.Walks.{IsAnswer}
 use Rattle.crib_check.proofs.ExtendedGames.{failing_begins}
 use Rattle.crib_check.proofs.FailureEndings.{failing_followed}
 use Rattle.crib_sure.proofs.PlaceByHistory.{not_stuck}
@@ -158,7 +159,13 @@ IsRightFrom problem plan key history (Fails result game) = IsFirstFrom problem p
 
 module _ (problem : Setup) (plan : List Node) (key : Key) (stands : StandsAt problem plan key (played_events problem)) where
   pub verdict_at_start : (verdict : Verdict) → IsRightFrom problem plan key (played_events problem) verdict →
-      IsRight problem plan verdict × IsSoFollowed problem plan verdict × KeepsOn problem plan verdict
-  verdict_at_start Holds settled = let sure = sure_from problem plan (settled (played_events problem) stands) in (sure, tt, sure_goes_on problem plan sure)
-  verdict_at_start (Fails result game) first =
-      (first_of_all problem plan game result first, failing_followed problem plan stands.knows.setup game result first.failing, tt)
+      IsAnswer problem plan verdict
+  verdict_at_start Holds settled =
+      let sure = sure_from problem plan (settled (played_events problem) stands) in
+      record { right = sure; followed = tt; goes_on = sure_goes_on problem plan sure; ends = ends problem stands.knows.setup }
+  verdict_at_start (Fails result game) first = record {
+    right = first_of_all problem plan game result first;
+    followed = failing_followed problem plan stands.knows.setup game result first.failing;
+    goes_on = tt;
+    ends = ends problem stands.knows.setup;
+  }

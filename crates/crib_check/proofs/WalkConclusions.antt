@@ -5,7 +5,7 @@ use Rattle.std.proofs.lemmas.Bool.{cases_lt, cases_order, both_ways, le-leb}
 use Rattle.std.proofs.lemmas.Bool.Decides.{nat_tests}
 use Rattle.crib_cards.specs.Order.{is_before}
 use Rattle.crib_cards.specs.Deals.{deal_numbers, is_in_pack_order}
-use Rattle.crib_cards.specs.Letters.{IsLetter, letter_place}
+use Rattle.crib_cards.specs.Letters.{IsLetter, letter_index}
 use Rattle.crib_cards.specs.declared.sides.Dealt.{Dealt}
 use Rattle.crib_cards.specs.declared.sides.Side.TheVariants.{Owner}
 use Rattle.crib_cards.specs.declared.letters.Letter.{Letter}
@@ -27,7 +27,7 @@ use Rattle.crib_know.specs.Hidden.{AgreesWith, CanDoAt, CanShow, KnowsAfter}
 use Rattle.crib_know.proofs.LedHistories.{MayCome}
 use Rattle.crib_know.proofs.CallLemmas.{own_may}
 use Rattle.crib_know.proofs.PassingIsAgreeing.{theirs_asked, theirs_letter}
-use Rattle.crib_cards.proofs.LetterPlaces.{place_small, same_letter}
+use Rattle.crib_cards.proofs.LetterIndices.{index_small, same_letter}
 use Rattle.crib_game.specs.declared.section.game.Game.{Game}
 use Rattle.crib_game.specs.declared.following.ending.Ending.{Ending}
 use Rattle.crib_game.specs.declared.following.ending.Ending.TheVariants as ending
@@ -36,11 +36,12 @@ use Rattle.crib_game.specs.Followed.{ending_with, ending_without}
 use Rattle.crib_game.specs.Replay.{outcome_if_done}
 use Rattle.crib_game.specs.Private.Judging.{is_over, full_at}
 use Rattle.crib_game.specs.Private.Tracing.{is_stuck_at, ending_at}
-use Rattle.crib_check.specs.declared.keys.Key.{Key}
+use Rattle.crib_sure.specs.declared.keys.Key.{Key}
 use Rattle.crib_check.specs.Failing.{comes_before, IsFailingEnding, IsFailing, is_suited}
-use Rattle.crib_sure.specs.HistoryPlaces.{place_by}
-use Rattle.crib_sure.specs.Private.Histories.{IsStatedEvent, Extends, history_of_game}
-use Rattle.crib_check.specs.Private.Positions.{StandsAt, HoldsFrom, IsSettled, IsFirstFrom, MayTakeAt, IsStuckAt, AllReach}
+use Rattle.crib_sure.specs.HistoryPlaces.{place_by, IsStatedEvent}
+use Rattle.crib_sure.specs.Private.Histories.{Extends, history_of_game}
+use Rattle.crib_sure.specs.Positions.{StandsAt, MayTakeAt, IsStuckAt}
+use Rattle.crib_check.specs.Private.Positions.{HoldsFrom, IsSettled, IsFirstFrom, AllReach}
 use Rattle.crib_check.specs.Private.Found.{IsSettledBelow}
 use Rattle.crib_check.proofs.ExtendedGames.{NextTurn, extends_less, next_turn, failing_agrees}
 use Rattle.crib_check.proofs.FailureEndings.{open_is_none, reached_is_none, failing_at}
@@ -120,12 +121,8 @@ module _ {problem : Setup} {plan : List Node} {key : Key} {history : List Event}
   ]
 
   -- ---- the owner is asked and stuck
-  asked_if_stuck : (turn : Turn) (fits playable : Bool) → (asks turn Owner && fits && not playable) ≡ true → turn ≡ turns.Owner
-  asked_if_stuck turns.Owner fits playable e = refl
-  asked_if_stuck turn fits playable e = absurd cc
-
   pub stuck_ends : IsStuckAt plan key → (dealt : Dealt) → ending_here dealt ≡ ending.Stuck
-  stuck_ends stuck = ends_as turns.Owner true (asked_if_stuck table.asked _ _ stuck) stuck
+  stuck_ends stuck = ends_as turns.Owner true stuck.0 (λ i. asks (stuck.0 i) Owner && stuck.1 i && not (stuck.2 i))
 
   -- ---- the owner makes the move of his plan
   not_stuck : (what : Move) → MayTakeAt plan key what → is_stuck_at table key.know.own_left stated ≡ false
@@ -183,12 +180,12 @@ module _ {problem : Setup} {plan : List Node} {key : Key} {history : List Event}
       let next = goes_on (theirs_open asked _) failing ext in next_letter next.event (sym asked ∙ may_asked next.event next.may) next.may next.extends
 
   pub theirs_first : {game : Game} {result : Ending} → table.asked ≡ turns.Opponent → (letter : Letter) → IsLetter letter →
-      IsSettledBelow problem plan key (letter_place letter) → IsFirstFrom problem plan (Theirs letter ∷ history) game result →
+      IsSettledBelow problem plan key (letter_index letter) → IsFirstFrom problem plan (Theirs letter ∷ history) game result →
       IsFirstFrom problem plan history game result
   theirs_first {game} asked letter is below first = first_of_all first (λ other others_ending fails ext.
       let next = theirs_goes_on asked fails ext in
       let is_next = theirs_letter problem stands.knows.setup history next.letter next.can in
-      elim (cases_order (letter_place next.letter) (letter_place letter)) [
+      elim (cases_order (letter_index next.letter) (letter_index letter)) [
         | inl e ↦ first.first other others_ending fails (rw (same_letter next.letter letter is_next is e) at next.extends)
         | inr (inl less) ↦ absurd (below history next.letter stands next.can less other others_ending fails next.extends)
         | inr (inr more) ↦ later_letter game other history letter next.letter first.extends next.extends more
@@ -237,15 +234,15 @@ module _ {problem : Setup} {plan : List Node} {key : Key} where
   pub settled_theirs : key.know.round.asked ≡ turns.Opponent → IsSettledBelow problem plan key 14 → IsSettled problem plan key
   settled_theirs asked below history stands game result failing ext =
       let next = theirs_goes_on stands asked failing ext in
-      let small = place_small next.letter (theirs_letter problem stands.knows.setup history next.letter next.can) in
+      let small = index_small next.letter (theirs_letter problem stands.knows.setup history next.letter next.can) in
       below history next.letter stands next.can small game result failing next.extends
 
-  pub below_more : {place : ℕ} (letter : Letter) → IsLetter letter → letter_place letter ≡ place → IsSettledBelow problem plan key place →
+  pub below_more : {index : ℕ} (letter : Letter) → IsLetter letter → letter_index letter ≡ index → IsSettledBelow problem plan key index →
       ((history : List Event) → StandsAt problem plan key history → CanShow problem history letter → HoldsFrom problem plan (Theirs letter ∷ history)) →
-      IsSettledBelow problem plan key (place + 1)
-  below_more {place} letter is at_place below here history other stands can less = elim (cases_lt (letter_place other) place) [
+      IsSettledBelow problem plan key (index + 1)
+  below_more {index} letter is at_index below here history other stands can less = elim (cases_lt (letter_index other) index) [
     | inl before ↦ below history other stands can before
     | inr most ↦
         let is_other = theirs_letter problem stands.knows.setup history other can in
-        let same = same_letter other letter is_other is (omega (arith, less, most, at_place)) in rw same (here history stands (rw same at can))
+        let same = same_letter other letter is_other is (omega (arith, less, most, at_index)) in rw same (here history stands (rw same at can))
   ]

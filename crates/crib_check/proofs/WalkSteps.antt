@@ -2,17 +2,17 @@
 use Rattle.std.proofs.Common.{◌≡◌, ◌+◌, ℕ, true, false, List, None, Some, Option, refl, sym, subst}
 use Rattle.std.specs.Option.{is_some}
 use Rattle.std.proofs.lemmas.Option.{none-some}
-use Rattle.crib_cards.specs.Letters.{letter_place}
+use Rattle.crib_cards.specs.Letters.{letter_index}
 use Rattle.crib_cards.specs.declared.letters.Letter.{Letter}
 use Rattle.crib_problem.specs.Setup.{Setup}
 use Rattle.crib_plan.specs.declared.plan.Node.{Node}
 use Rattle.crib_check.specs.declared.failure.Failure.{Failure}
-use Rattle.crib_check.specs.declared.keys.Key.{Key}
+use Rattle.crib_sure.specs.declared.keys.Key.{Key}
 use Rattle.crib_check.specs.declared.trails.Event.{Event as TrailEvent}
 use Rattle.crib_check.specs.declared.walk.Walk.{Walk}
 use Rattle.crib_check.specs.Private.Found.{IsFoundBelow, IsFoundFrom, IsSettledBelow}
 use Rattle.crib_check.specs.Private.Trails.{history_of_trail}
-use Rattle.crib_check.specs.Private.Positions.{StandsAt}
+use Rattle.crib_sure.specs.Positions.{StandsAt}
 use Rattle.crib_check.specs.Private.Walks.{IsKept, IsWalkOf, MayWalk, HasGone, HasShown, history_at}
 use Rattle.crib_sure.specs.Shows.{AreShowsOf}
 use Rattle.crib_sure.specs.declared.shows.Shows.{Shows}
@@ -56,14 +56,14 @@ pub failed_from : {A T : Type 0} {holds : T → Key → Type 0} {problem : Setup
 failed_from {problem = problem} {plan} {key} {walk = walk} same gone some =
     failed gone.kept (some_failure walk.failure some) (subst (λ h. IsFoundFrom problem plan key h walk.trail.items walk.failure) same gone.found)
 
--- a walk after the letters below a place, none of which led to a failure
-pub record HasShownBelow {A T : Type 0} (holds : T → Key → Type 0) (start : Walk A T) (key : Key) (place : ℕ) (walk : Walk A T) : Type 0 where
+-- a walk after the letters below an index, none of which led to a failure
+pub record HasShownBelow {A T : Type 0} (holds : T → Key → Type 0) (start : Walk A T) (key : Key) (index : ℕ) (walk : Walk A T) : Type 0 where
   pub kept : IsWalkOf holds start.problem.now start.plan.now walk
   pub none : walk.failure ≡ None
   pub back : walk.trail.items ≡ start.trail.items
-  pub below : IsSettledBelow start.problem.now start.plan.now key place
+  pub below : IsSettledBelow start.problem.now start.plan.now key index
 
-module _ {A T : Type 0} {holds : T → Key → Type 0} {start walk : Walk A T} {key : Key} {place : ℕ} (shown : HasShownBelow holds start key place walk) where
+module _ {A T : Type 0} {holds : T → Key → Type 0} {start walk : Walk A T} {key : Key} {index : ℕ} (shown : HasShownBelow holds start key index walk) where
   same : ◌≡◌ {A = Setup × List Node × List TrailEvent} (start.problem.now, start.plan.now, start.trail.items)
       (walk.problem.now, walk.plan.now, walk.trail.items)
   same = λ i. ((sym shown.kept.same_problem) i, (sym shown.kept.same_plan) i, (sym shown.back) i)
@@ -76,11 +76,11 @@ module _ {A T : Type 0} {holds : T → Key → Type 0} {start walk : Walk A T} {
       record { kept = both.0; none = shown.none; here = both.1 }
 
   -- what it has done after one letter more
-  pub shown_next : {after : Walk A T} (letter : Letter) → letter_place letter ≡ place → HasShown holds walk key letter (history_at walk) after →
-      HasGone holds start.problem.now start.plan.now start.trail.items (IsFoundBelow start.problem.now start.plan.now key (place + 1) (history_at start)) after
+  pub shown_next : {after : Walk A T} (letter : Letter) → letter_index letter ≡ index → HasShown holds walk key letter (history_at walk) after →
+      HasGone holds start.problem.now start.plan.now start.trail.items (IsFoundBelow start.problem.now start.plan.now key (index + 1) (history_at start)) after
   shown_next {after} letter at next =
       let S : (Setup × List Node × List TrailEvent) → Type 0 = λ x.
-      HasGone holds x.0 x.1 x.2 (λ trail found. IsSettledBelow x.0 x.1 key (letter_place letter) →
-      IsFoundBelow x.0 x.1 key (letter_place letter + 1) (history_of_trail x.0 x.2) trail found) after in
+      HasGone holds x.0 x.1 x.2 (λ trail found. IsSettledBelow x.0 x.1 key (letter_index letter) →
+      IsFoundBelow x.0 x.1 key (letter_index letter + 1) (history_of_trail x.0 x.2) trail found) after in
       let done = rw at at (subst S (sym same) next) in
       record { kept = done.kept; back = done.back; found = done.found shown.below }

@@ -1,5 +1,4 @@
 -- Definitions that only private functions cite. No public contract rests on them.
-pub mod Demands
 pub mod Found
 pub mod Numbers
 pub mod Positions

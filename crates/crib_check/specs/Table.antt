@@ -4,7 +4,7 @@ use Rattle.std.specs.List.{position_or_len, AllByRecursion}
 use Rattle.crib_know.specs.Knowledge.{sight_of, shown_of}
 use Rattle.crib_know.specs.declared.knowledge.Sight.{Sight}
 use Rattle.crib_check.specs.declared.entries.Entry.{Entry}
-use Rattle.crib_check.specs.declared.keys.Key.{Key}
+use Rattle.crib_sure.specs.declared.keys.Key.{Key}
 
 -- the contents of a position table: a list of what the owner sees, and an entry for each position. An entry has an
 -- index into that list, what the opponent has shown, and the place of the plan

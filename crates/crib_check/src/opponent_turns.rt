@@ -2,12 +2,12 @@
 ghost use Rattle.std.specs.Prelude.{◌≡◌, ◌⊎◌, ◌↔◌, IsTrue, OnOk, OnErr};
 ghost use Rattle.crib_play.specs.declared.turns.Turn.TheVariants as turns;
 ghost use Rattle.crib_know.specs.Hidden.{IsKnown};
-ghost use Rattle.crib_check.specs.declared.keys.Key.{Key};
+ghost use Rattle.crib_sure.specs.declared.keys.Key.{Key};
 
 use crate::key_sets::KeySet;
-use crate::keys::Key;
 use crate::tables::{NoMemory, Settled};
 use crib_play::Turn;
+use crib_sure::Key;
 use std::alloc::{Allocator, Global};
 
 /// A table that keeps the keys in which the opponent is to move, unless an allocation fails. It drops the others.

@@ -12,7 +12,7 @@ use Rattle.crib_cards.proofs.SetCounts.{count_cons}
 use Rattle.crib_know.proofs.CardLists.{one_if}
 use Rattle.crib_deals.specs.declared.sums.Sums.{Sums}
 use Rattle.crib_deals.specs.declared.throws.Cribs.{Cribs}
-use Rattle.crib_deals.specs.Private.Sums.{AreHeld, AreSmall, AreSums, left_below, no_sums, of_suits, pair_sum, partners_at, place_sum, sum_where, weigh_from}
+use Rattle.crib_deals.specs.Private.Sums.{AreHeld, AreSmall, AreSums, card_sum, left_below, no_sums, of_suits, pair_sum, partners_at, sum_where, weigh_from}
 use Rattle.crib_deals.specs.Tables.{suit_points}
 use Rattle.crib_deals.specs.Throws.{AreThrowsCounted, is_below, partners, passing_throws}
 use Rattle.crib_deals.specs.Private.Sums.{IsHeld}
@@ -106,17 +106,17 @@ module _ {points : List ℕ} (kind : List ℕ → Bool) (holds : List (List ℕ)
   pub sums_other : kind hold ≡ false → AreSums points kind (take (i + 1) holds) sums
   sums_other fails = record {
     count = omega (arith, so_far.count, where_more kind (λ h. 1) holds i hold false less is fails);
-    cards = λ weight. omega (arith, so_far.cards weight, where_more kind (place_sum weight) holds i hold false less is fails);
+    cards = λ weight. omega (arith, so_far.cards weight, where_more kind (card_sum weight) holds i hold false less is fails);
     pairs = λ weight. omega (arith, so_far.pairs weight, where_more kind (pair_sum weight points) holds i hold false less is fails);
   }
 
   pub sums_same : kind hold ≡ true → (added : Sums) → added.count ≡ sums.count + 1 →
-      ((weight : ℕ → ℕ) → weigh_from 0 weight added.cards ≡ weigh_from 0 weight sums.cards + place_sum weight hold) →
+      ((weight : ℕ → ℕ) → weigh_from 0 weight added.cards ≡ weigh_from 0 weight sums.cards + card_sum weight hold) →
       ((weight : ℕ → ℕ) → weigh_from 0 weight added.pairs ≡ weigh_from 0 weight sums.pairs + pair_sum weight points hold) →
       AreSums points kind (take (i + 1) holds) added
   sums_same passes added count cards pairs = record {
     count = omega (arith, so_far.count, count, where_more kind (λ h. 1) holds i hold true less is passes);
-    cards = λ weight. omega (arith, so_far.cards weight, cards weight, where_more kind (place_sum weight) holds i hold true less is passes);
+    cards = λ weight. omega (arith, so_far.cards weight, cards weight, where_more kind (card_sum weight) holds i hold true less is passes);
     pairs = λ weight. omega (arith, so_far.pairs weight, pairs weight, where_more kind (pair_sum weight points) holds i hold true less is passes);
   }
 
@@ -134,7 +134,7 @@ count_few kind holds i less small are =
 module _ (points : List ℕ) (starter : ℕ) (holds : List (List ℕ)) (i : ℕ) (hold : List ℕ) (less : i < length holds) (is : hold ≡ get_or holds i hold)
     (sums : List Sums) (added : Sums) (here : ℕ) (inside : here < length sums) (points_are : here ≡ suit_points hold starter)
     (count : added.count ≡ (get_or sums here no_sums).count + 1)
-    (cards : (weight : ℕ → ℕ) → weigh_from 0 weight added.cards ≡ weigh_from 0 weight (get_or sums here no_sums).cards + place_sum weight hold)
+    (cards : (weight : ℕ → ℕ) → weigh_from 0 weight added.cards ≡ weigh_from 0 weight (get_or sums here no_sums).cards + card_sum weight hold)
     (pairs : (weight : ℕ → ℕ) → weigh_from 0 weight added.pairs ≡ weigh_from 0 weight (get_or sums here no_sums).pairs + pair_sum weight points hold)
     (suits : ℕ) where
   pub next_sums : AreSums points (of_suits starter suits) (take i holds) (get_or sums suits no_sums) →
@@ -200,14 +200,14 @@ module _ (cribs : Cribs) (ranks : List ℕ) (limit : ℕ) where
       )
   pairs_are hold is = absurd (omega (arith, is.four))
 
-  card_is : (place card rank : ℕ) → rank_of card ≡ rank → slice_index ranks place ≡ rank → partners_at cribs ranks limit (4 * place + card % 4) ≡ with card
-  card_is place card rank its of_place =
-      let index : (4 * place + card % 4) / 4 ≡ place = omega arith in
-      let suit : (4 * place + card % 4) % 4 ≡ card % 4 = omega arith in
-      rw (index, suit, of_place, sym its) (ap with (omega arith))
+  card_is : (at card rank : ℕ) → rank_of card ≡ rank → slice_index ranks at ≡ rank → partners_at cribs ranks limit (4 * at + card % 4) ≡ with card
+  card_is at card rank its of_at =
+      let index : (4 * at + card % 4) / 4 ≡ at = omega arith in
+      let suit : (4 * at + card % 4) % 4 ≡ card % 4 = omega arith in
+      rw (index, suit, of_at, sym its) (ap with (omega arith))
 
   cards_are : (hold : List ℕ) → IsHeld cribs.unseen hold → map rank_of hold ≡ ranks →
-      place_sum (partners_at cribs ranks limit) hold ≡ throws_with (is_below points limit) hold cribs.unseen
+      card_sum (partners_at cribs ranks limit) hold ≡ throws_with (is_below points limit) hold cribs.unseen
   cards_are (a ∷ b ∷ c ∷ d ∷ []) is same =
       let at = λ (i : ℕ). ap (λ (listed : List ℕ). slice_index listed i) (sym same) in
       omega (
@@ -226,27 +226,27 @@ module _ (cribs : Cribs) (ranks : List ℕ) (limit : ℕ) where
   abbrev all : ℕ
   all = passing_throws (is_below points limit) cribs.unseen
 
-  joined : (of_kind : Bool) (left_here place_here pair_here lefts places ones pairs : ℕ) {left place one pair : ℕ} → left ≡ cond of_kind left_here 0 + lefts →
-      place ≡ cond of_kind place_here 0 + places → one ≡ cond of_kind 1 0 + ones → pair ≡ cond of_kind pair_here 0 + pairs →
-      lefts + places ≡ ones * all + pairs → left_here + place_here ≡ all + pair_here → left + place ≡ one * all + pair
+  joined : (of_kind : Bool) (left_here card_here pair_here lefts cards ones pairs : ℕ) {left card one pair : ℕ} → left ≡ cond of_kind left_here 0 + lefts →
+      card ≡ cond of_kind card_here 0 + cards → one ≡ cond of_kind 1 0 + ones → pair ≡ cond of_kind pair_here 0 + pairs →
+      lefts + cards ≡ ones * all + pairs → left_here + card_here ≡ all + pair_here → left + card ≡ one * all + pair
   joined true lh ch ph l c n p a b d e rest here = rw (a, b, d, e) (grind (arith, rest, here))
   joined false lh ch ph l c n p a b d e rest here = rw (a, b, d, e) (grind (arith, rest))
 
   parts : (kind : List ℕ → Bool) (holds : List (List ℕ)) → AreHeld cribs.unseen ranks holds →
-      left_below cribs kind limit holds + sum_where kind (place_sum (partners_at cribs ranks limit)) holds
+      left_below cribs kind limit holds + sum_where kind (card_sum (partners_at cribs ranks limit)) holds
       ≡ sum_where kind (λ hold. 1) holds * all + sum_where kind (pair_sum below points) holds
   parts kind [] are = omega arith
   parts kind (hold ∷ holds) are = one (parts kind holds are.1) (kind hold) refl
     where
-      one : left_below cribs kind limit holds + sum_where kind (place_sum (partners_at cribs ranks limit)) holds
+      one : left_below cribs kind limit holds + sum_where kind (card_sum (partners_at cribs ranks limit)) holds
           ≡ sum_where kind (λ hold. 1) holds * all + sum_where kind (pair_sum below points) holds → (of_kind : Bool) → kind hold ≡ of_kind →
-          left_below cribs kind limit (hold ∷ holds) + sum_where kind (place_sum (partners_at cribs ranks limit)) (hold ∷ holds)
+          left_below cribs kind limit (hold ∷ holds) + sum_where kind (card_sum (partners_at cribs ranks limit)) (hold ∷ holds)
           ≡ sum_where kind (λ hold. 1) (hold ∷ holds) * all + sum_where kind (pair_sum below points) (hold ∷ holds)
       one rest of_kind is =
           let first = λ (value : List ℕ → ℕ). sum_by-cons (λ h. cond (kind h) (value h) 0) hold holds
           ∙ ap (λ (b : Bool). cond b (value hold) 0 + sum_where kind value holds) is in
           joined of_kind _ _ _ _ _ _ _ (first (λ h. passing_throws (is_below points limit) (set_without_all cribs.unseen h)))
-          (first (place_sum (partners_at cribs ranks limit))) (first (λ h. 1)) (first (pair_sum below points)) rest
+          (first (card_sum (partners_at cribs ranks limit))) (first (λ h. 1)) (first (pair_sum below points)) rest
           (rw (← pairs_are hold are.0.0, ← cards_are hold are.0.0 are.0.1) at (left_by_parts points limit cribs.unseen hold are.0.0))
 
   pub left_sums : (kind : List ℕ → Bool) (holds : List (List ℕ)) (sums : Sums) → AreThrowsCounted cribs → limit ≤ 30 → AreHeld cribs.unseen ranks holds →

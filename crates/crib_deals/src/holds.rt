@@ -1,13 +1,13 @@
 //! The holds that the opponent may have.
 ghost use Rattle.std.specs.Prelude.{◌≡◌, ◌≤◌, length, IsTrue};
-ghost use Rattle.crib_know.specs.Hidden.{passes_counts};
-ghost use Rattle.crib_cards.specs.Order.{are_rising};
-ghost use Rattle.crib_cards.specs.Sets.{has, rank_counts};
 ghost use Rattle.std.specs.List.{AllByRecursion, list_all};
 ghost use Rattle.crib_cards.specs.Cards.{IsRank};
+ghost use Rattle.crib_cards.specs.Order.{are_rising};
+ghost use Rattle.crib_cards.specs.Sets.{has, rank_counts};
 ghost use Rattle.crib_problem.specs.Setup.{Setup};
-ghost use Rattle.crib_deals.specs.Deals.{behind_by};
+ghost use Rattle.crib_know.specs.Hidden.{passes_counts};
 ghost use Rattle.crib_deals.specs.Private.Holds.{AreListed, hold_at, is_empty, may_hold};
+ghost use Rattle.crib_deals.specs.Deals.{behind_by};
 ghost use Rattle.crib_deals.specs.Throws.{AreOfProblem};
 
 use crate::throws::{Cribs, suit_at};

@@ -2,7 +2,7 @@
 ghost use Rattle.std.specs.Prelude.{◌≡◌, ◌+◌, ◌*◌, ◌/◌, ◌%◌, ◌<◌, ◌≤◌, [], ℕ, Bool, List, get_or, length, slice_index};
 ghost use Rattle.crib_cards.specs.Cards.{IsCard, card_of, suit_of};
 ghost use Rattle.crib_deals.specs.Private.Sums.{AreHeld, AreSmall, AreSums, left_below, no_sums, of_suits};
-ghost use Rattle.crib_deals.specs.Private.Sums.{pair_sum, partners_at, place_sum, weigh_from};
+ghost use Rattle.crib_deals.specs.Private.Sums.{card_sum, pair_sum, partners_at, weigh_from};
 ghost use Rattle.crib_deals.specs.Throws.{AreThrowsCounted, is_below, partners};
 
 use crate::points::suit_points;
@@ -13,7 +13,7 @@ use crib_cards::{Card, Rank};
 #[derive(Clone, Copy)]
 pub(crate) struct Sums {
     count: u32,
-    // How many holds have each suit at each place, by 4 times the place and the suit.
+    // How many holds have each suit at each index, by 4 times the index and the suit.
     cards: [u32; 16],
     // How many times two cards of one hold would make a crib of so many points.
     pairs: [u32; 30],
@@ -39,7 +39,7 @@ impl Sums {
         requires few { self.old.count < 256 }
         ensures count { self.new.count ≡ self.old.count + 1 }
         ensures cards { (weight : ℕ → ℕ)
-            → weigh_from 0 weight self.new.cards ≡ weigh_from 0 weight self.old.cards + place_sum weight hold.now }
+            → weigh_from 0 weight self.new.cards ≡ weigh_from 0 weight self.old.cards + card_sum weight hold.now }
         ensures pairs { (weight : ℕ → ℕ) → weigh_from 0 weight self.new.pairs
             ≡ weigh_from 0 weight self.old.pairs + pair_sum weight cribs.now.points hold.now }
     {
@@ -124,14 +124,14 @@ fn card_in(ranks: &[Rank; 4], index: usize) -> usize
     4 * (ranks[index / 4].number() - 1) as usize + index % 4
 }
 
-// The index of a card at a place.
+// The index of the suit of a card at an index of a hold.
 #[inline(always)]
-fn index_at(place: usize, card: Card) -> usize
-    requires { place < 4 }
-    ensures value { result ≡ 4 * place + suit_of card }
+fn index_at(at: usize, card: Card) -> usize
+    requires { at < 4 }
+    ensures value { result ≡ 4 * at + suit_of card }
     ensures few { result < 16 }
 {
-    4 * place + (card.number() % 4) as usize
+    4 * at + (card.number() % 4) as usize
 }
 
 #[inline(always)]

@@ -1,8 +1,7 @@
 //! The throws that the opponent may have made, and the points of the crib with each.
 ghost use Rattle.std.specs.Prelude.{◌≡◌, ℕ, ◌<◌, ◌+◌, ◌%◌, ◌*◌, ◌≤◌, ◌∷◌, [], cond, length, get_or, slice_index};
 ghost use Rattle.crib_cards.specs.Cards.{IsCard, suit_number};
-ghost use Rattle.crib_deals.specs.Throws.{AreCribs, AreFew, AreThrowsCounted, is_below, partners};
-ghost use Rattle.crib_deals.specs.Throws.{passing_throws};
+ghost use Rattle.crib_deals.specs.Throws.{AreCribs, AreFew, AreThrowsCounted, is_below, partners, passing_throws};
 
 use crib_cards::{Card, CardSet, Rank, Suit};
 use crib_know::lowest_of;
@@ -78,9 +77,9 @@ fn partners_below(points: &[u8; 2704], cards: &[Card]) -> [u8; 52 * LIMITS]
         → get_or result (31 * card + limit) 0 ≡ partners (is_below points.now limit) card cards.now }
 {
     let mut counts = [0; 52 * LIMITS];
-    for place in 0..52 * LIMITS {
-        let limit = (place % LIMITS) as u8;
-        counts[place] = count_partners(points, card_at(place / LIMITS), cards, limit) as u8;
+    for index in 0..52 * LIMITS {
+        let limit = (index % LIMITS) as u8;
+        counts[index] = count_partners(points, card_at(index / LIMITS), cards, limit) as u8;
     }
     counts
 }
@@ -119,8 +118,8 @@ fn count_pair(points: &[u8; 2704], first: Card, second: Card, limit: u8) -> u32
     ensures few { result ≤ 1 }
 {
     let (first, second) = (first.number(), second.number());
-    let place = 52 * first.min(second) as usize + first.max(second) as usize;
-    (first != second && points[place] < limit) as u32
+    let index = 52 * first.min(second) as usize + first.max(second) as usize;
+    (first != second && points[index] < limit) as u32
 }
 
 // The points of the crib for each two cards that the opponent may have thrown.
@@ -130,9 +129,9 @@ fn cribs_of(thrown: &[Card; 2], starter: Card) -> [u8; 2704]
 {
     let [one, other] = *thrown;
     let mut points = [0; 2704];
-    for place in 0..2704usize {
-        let throw = [one, other, card_at(place / 52), card_at(place % 52)];
-        points[place] = crib_points(&throw, starter).min(MOST_POINTS);
+    for index in 0..2704usize {
+        let throw = [one, other, card_at(index / 52), card_at(index % 52)];
+        points[index] = crib_points(&throw, starter).min(MOST_POINTS);
     }
     points
 }

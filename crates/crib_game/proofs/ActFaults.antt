@@ -28,15 +28,15 @@ use Rattle.crib_game.specs.Replay.{Judge, first_fault, move_fault, act_fault, ac
 pub cond_none : {A : Type 0} (b : Bool) (first : A) (rest : Option A) → cond b (Some first) rest ≡ None → (b ≡ false) × (rest ≡ None)
 cond_none b first rest e = grind arith
 
-move_right : (hands : Hands) (side : Side) (turn : Move) (past : List Move) (place : ℕ) → move_fault hands side turn past place ≡ None →
+move_right : (hands : Hands) (side : Side) (turn : Move) (past : List Move) (number : ℕ) → move_fault hands side turn past number ≡ None →
     MayTake hands side turn past
-move_right hands side (move.Card card) past place e = grind (arith, e)
-move_right hands side move.Go past place e = grind (arith, e)
+move_right hands side (move.Card card) past number e = grind (arith, e)
+move_right hands side move.Go past number e = grind (arith, e)
 
-right_move : (hands : Hands) (side : Side) (turn : Move) (past : List Move) (place : ℕ) → MayTake hands side turn past →
-    move_fault hands side turn past place ≡ None
-right_move hands side (move.Card card) past place may = grind (arith, may.0, may.1)
-right_move hands side move.Go past place may = grind (arith, may)
+right_move : (hands : Hands) (side : Side) (turn : Move) (past : List Move) (number : ℕ) → MayTake hands side turn past →
+    move_fault hands side turn past number ≡ None
+right_move hands side (move.Card card) past number may = grind (arith, may.0, may.1)
+right_move hands side move.Go past number may = grind (arith, may)
 
 -- an act of the side that is asked, which may take this turn and has no remark
 pub record IsRight (judge : Judge) (start : Start) (hands : Hands) (act : Act) (past : List Move) : Type 0 where
@@ -44,30 +44,30 @@ pub record IsRight (judge : Judge) (start : Start) (hands : Hands) (act : Act) (
   pub may : MayCome start hands act.what past
   pub follows : judge act past ≡ Fine
 
-pub first_none : (remark : Remark) (done asked : Bool) (wrong : Option GameFault) (place : ℕ) → first_fault remark done asked wrong place ≡ None →
+pub first_none : (remark : Remark) (done asked : Bool) (wrong : Option GameFault) (number : ℕ) → first_fault remark done asked wrong number ≡ None →
     (remark ≡ Fine) × (done ≡ false) × (asked ≡ true) × (wrong ≡ None)
-first_none remark done asked wrong place e = grind (arith, e)
+first_none remark done asked wrong number e = grind (arith, e)
 
-pub act_right : (judge : Judge) (start : Start) (hands : Hands) (act : Act) (past : List Move) (place : ℕ) → act_fault judge start hands act past place
+pub act_right : (judge : Judge) (start : Start) (hands : Hands) (act : Act) (past : List Move) (number : ℕ) → act_fault judge start hands act past number
     ≡ None → IsRight judge start hands act past
-act_right judge start hands act past place e =
+act_right judge start hands act past number e =
     let m = mover (pone_of start) (letters_of past) in
-    let none = first_none (judge act past) (is_done start (letters_of past)) (same_side act.side m) (move_fault hands act.side act.what past place) place
+    let none = first_none (judge act past) (is_done start (letters_of past)) (same_side act.side m) (move_fault hands act.side act.what past number) number
     e in
     let side : act.side ≡ m = same_is act.side m none.2 in
     let T : Side → Type 0 = λ x. MayTake hands x act.what past in
     record {
       side = side;
-      may = record { not_done = none.1; may_take = subst T side (move_right hands act.side act.what past place none.3) };
+      may = record { not_done = none.1; may_take = subst T side (move_right hands act.side act.what past number none.3) };
       follows = none.0;
     }
 
-right_act : (judge : Judge) (start : Start) (hands : Hands) (turn : Move) (past : List Move) (place : ℕ) → judge (act_by (pone_of start) turn past) past
+right_act : (judge : Judge) (start : Start) (hands : Hands) (turn : Move) (past : List Move) (number : ℕ) → judge (act_by (pone_of start) turn past) past
     ≡ Fine → MayCome start hands turn past →
-    act_fault judge start hands (act_by (pone_of start) turn past) past place ≡ None
-right_act judge start hands turn past place follows may =
+    act_fault judge start hands (act_by (pone_of start) turn past) past number ≡ None
+right_act judge start hands turn past number follows may =
     let m = mover (pone_of start) (letters_of past) in
-    λ i. first_fault (follows i) (may.not_done i) (same_self m i) (right_move hands m turn past place may.may_take i) place
+    λ i. first_fault (follows i) (may.not_done i) (same_self m i) (right_move hands m turn past number may.may_take i) number
 
 -- ---- all acts
 pub option_or_none : (earlier later : Option GameFault) → option_or earlier later ≡ None → (earlier ≡ None) × (later ≡ None)

@@ -47,20 +47,20 @@ AreNew known cards = (card : ℕ) → has cards card ≡ true → has known card
 not_here : (known cards : List ℕ) (card : ℕ) → AreNew (card ∷ known) cards → has cards card ≡ false
 not_here known cards card new = grind (arith, nat_tests, new card)
 
-pub new_distinct : (known cards : List ℕ) (place : ℕ) → first_seen known place cards ≡ None → AreNew known cards × (are_distinct cards ≡ true)
-new_distinct known [] place e = ((λ card is. cc), refl)
-new_distinct known (card ∷ cards) place e =
-    let parts = cond_none (has known card) place (first_seen (card ∷ known) (place + 1) cards) e in
-    let later = new_distinct (card ∷ known) cards (place + 1) parts.1 in
+pub new_distinct : (known cards : List ℕ) (number : ℕ) → first_seen known number cards ≡ None → AreNew known cards × (are_distinct cards ≡ true)
+new_distinct known [] number e = ((λ card is. cc), refl)
+new_distinct known (card ∷ cards) number e =
+    let parts = cond_none (has known card) number (first_seen (card ∷ known) (number + 1) cards) e in
+    let later = new_distinct (card ∷ known) cards (number + 1) parts.1 in
     let once = not_here known cards card later.0 in
     (λ other is. grind (arith, nat_tests, is, parts.0, later.0 other), grind (arith, once, later.1))
 
-pub none_seen : (known cards : List ℕ) (place : ℕ) → AreNew known cards → are_distinct cards ≡ true → first_seen known place cards ≡ None
-none_seen known [] place new distinct = refl
-none_seen known (card ∷ cards) place new distinct =
+pub none_seen : (known cards : List ℕ) (number : ℕ) → AreNew known cards → are_distinct cards ≡ true → first_seen known number cards ≡ None
+none_seen known [] number new distinct = refl
+none_seen known (card ∷ cards) number new distinct =
     let parts = distinct_parts card cards distinct in
     rw (new card (has_here card cards))
-    (none_seen (card ∷ known) cards (place + 1) (λ other is. grind (arith, nat_tests, is, parts.0, new other (has_there card other cards is))) parts.1)
+    (none_seen (card ∷ known) cards (number + 1) (λ other is. grind (arith, nat_tests, is, parts.0, new other (has_there card other cards is))) parts.1)
 
 -- ---- deals
 pub deal_is : (problem : Setup) (dealt : Dealt) → AreSixCards dealt → first_seen (known_cards problem) 1 (six_cards dealt) ≡ None →
@@ -91,8 +91,8 @@ hands_are problem dealt is six = record {
 }
 
 -- ---- a game
-pub first_seen_none : (place : Option ℕ) → deal_fault place ≡ None → place ≡ None
-first_seen_none place e = grind arith
+pub first_seen_none : (number : Option ℕ) → deal_fault number ≡ None → number ≡ None
+first_seen_none number e = grind arith
 
 pub no_fault_in_acts : (judge : Judge) (problem : Setup) (game : Game) → first_seen (known_cards problem) 1 (six_cards game.opp) ≡ None →
     acts_fault judge (start_of problem) (hands_of problem game.opp) (acts_back game) ≡ None →

@@ -67,34 +67,35 @@ held_step hands (move.Card card) seen =
 held_step hands move.Go seen = refl
 
 -- ---- one act
-asked_step : (remark : Remark) (done : Bool) (who side : Side) (wrong : Option GameFault) (place : ℕ) →
-    first_fault remark (is_over (cond done turns.Over (side_asked who))) (asks (cond done turns.Over (side_asked who)) side) wrong place
-    ≡ first_fault remark done (same_side side who) wrong place
-asked_step remark done who side wrong place = grind arith
+asked_step : (remark : Remark) (done : Bool) (who side : Side) (wrong : Option GameFault) (number : ℕ) →
+    first_fault remark (is_over (cond done turns.Over (side_asked who))) (asks (cond done turns.Over (side_asked who)) side) wrong number
+    ≡ first_fault remark done (same_side side who) wrong number
+asked_step remark done who side wrong number = grind arith
 
-move_step : (hands : Hands) (side : Side) (turn : Move) (past : List Move) (place : ℕ) → AreCards hands →
-    move_fault_at (count_of (pile_of (letters_of past))) (set_of (cards_left hands side past)) turn place ≡ move_fault hands side turn past place
-move_step hands side (move.Card card) past place are = rw (has-set_of (cards_left hands side past) card (all_left hands side past are)) refl
-move_step hands side move.Go past place are = rw (any-set_of (fits past) (cards_left hands side past) (all_left hands side past are)) refl
+move_step : (hands : Hands) (side : Side) (turn : Move) (past : List Move) (number : ℕ) → AreCards hands →
+    move_fault_at (count_of (pile_of (letters_of past))) (set_of (cards_left hands side past)) turn number ≡ move_fault hands side turn past number
+move_step hands side (move.Card card) past number are = rw (has-set_of (cards_left hands side past) card (all_left hands side past are)) refl
+move_step hands side move.Go past number are = rw (any-set_of (fits past) (cards_left hands side past) (all_left hands side past are)) refl
 
 -- the round after some turns represents the filled record of their moves
 pub shows_filled : (table : Standing) (start : Start) (seen : List Move) → table ≡ standing_after start (filled_record start (letters_of seen)) →
     table ≡ standing_after start (letters_of (filled_moves start seen))
 shows_filled table start seen shows = shows ∙ ap (standing_after start) (sym (letters_filled start seen))
 
-fault_is : (judge : Judge) (table : Standing) (start : Start) (hands : Hands) (act : Act) (seen : List Move) (place : ℕ) → AreCards hands →
+fault_is : (judge : Judge) (table : Standing) (start : Start) (hands : Hands) (act : Act) (seen : List Move) (number : ℕ) → AreCards hands →
     table ≡ standing_after start (filled_record start (letters_of seen)) →
-    fault_at (judge act (filled_moves start seen)) table (set_of (cards_left hands act.side seen)) act place ≡ act_fault judge start hands act
-    (filled_moves start seen) place
-fault_is judge table start hands act seen place are shows =
+    fault_at (judge act (filled_moves start seen)) table (set_of (cards_left hands act.side seen)) act number ≡ act_fault judge start hands act
+    (filled_moves start seen) number
+fault_is judge table start hands act seen number are shows =
     let past = filled_moves start seen in
     let remark = judge act past in
     let done = is_done start (letters_of past) in
     let who = mover (pone_of start) (letters_of past) in
-    ap (λ (x : Standing). fault_at remark x (set_of (cards_left hands act.side seen)) act place) (shows_filled table start seen shows)
-    ∙ ap (λ (cards : List ℕ). fault_at remark (standing_after start (letters_of past)) (set_of cards) act place) (sym (left_filled start hands act.side seen))
-    ∙ asked_step remark done who act.side (move_fault_at (count_of (pile_of (letters_of past))) (set_of (cards_left hands act.side past)) act.what place) place
-    ∙ ap (λ (wrong : Option GameFault). first_fault remark done (same_side act.side who) wrong place) (move_step hands act.side act.what past place are)
+    ap (λ (x : Standing). fault_at remark x (set_of (cards_left hands act.side seen)) act number) (shows_filled table start seen shows)
+    ∙ ap (λ (cards : List ℕ). fault_at remark (standing_after start (letters_of past)) (set_of cards) act number) (sym (left_filled start hands act.side seen))
+    ∙ asked_step remark done who act.side
+    (move_fault_at (count_of (pile_of (letters_of past))) (set_of (cards_left hands act.side past)) act.what number) number
+    ∙ ap (λ (wrong : Option GameFault). first_fault remark done (same_side act.side who) wrong number) (move_step hands act.side act.what past number are)
 
 -- ---- the first refusal stays the first
 pub fault_stays : (judge : Judge) (start : Start) (hands : Hands) (later before : List Act) (fault : GameFault) →
@@ -117,11 +118,11 @@ module _ {judge : Judge} {start : Start} {hands : Hands} {walk : JudgedGame} {be
   abbrev past : List Move
   past = filled_moves start (moves_of before)
 
-  judged_is : (place : ℕ) → fault_at (judge act past) walk.round (held_cards_of walk.held act.side) act place ≡ act_fault judge start hands act past place
-  judged_is place =
-      ap (λ (cards : List ℕ). fault_at (judge act past) walk.round cards act place) (ap (λ (h : HeldCards). held_cards_of h act.side) j.holds
+  judged_is : (number : ℕ) → fault_at (judge act past) walk.round (held_cards_of walk.held act.side) act number ≡ act_fault judge start hands act past number
+  judged_is number =
+      ap (λ (cards : List ℕ). fault_at (judge act past) walk.round cards act number) (ap (λ (h : HeldCards). held_cards_of h act.side) j.holds
       ∙ held_left hands act.side (moves_of before))
-      ∙ fault_is judge walk.round start hands act (moves_of before) place are j.stands.shows
+      ∙ fault_is judge walk.round start hands act (moves_of before) number are j.stands.shows
 
   pub judged_fault : (fault : Option GameFault) → fault_at (judge act past) walk.round (held_cards_of walk.held act.side) act (length before + 1) ≡ fault →
       acts_fault judge start hands (act ∷ before) ≡ fault

@@ -27,11 +27,11 @@ use Rattle.crib_problem.proofs.StartLemmas.{hands_dealt}
 use Rattle.crib_game.proofs.GameFaults.{deal_is, hands_are}
 use Rattle.crib_game.proofs.Reports.{row_is}
 
--- the acts before a place
+-- the acts before an index
 abbrev pub acts_before : List Act → ℕ → List Act
 acts_before acts i = reverse (take i acts)
 
--- the filled record of the acts before a place
+-- the filled record of the acts before an index
 abbrev pub record_before : Setup → List Act → ℕ → List Move
 record_before problem acts i = record_after problem (acts_before acts i)
 
@@ -45,7 +45,7 @@ module _ {problem : Setup} {dealt : Dealt} (can : CanBeJudged problem dealt) whe
   are_dealt : IsDealt (hands_of problem dealt)
   are_dealt = hands_dealt problem can.setup dealt (deal_is problem dealt can.six can.unseen)
 
--- the walk has taken the acts before a place, none of which is refused, and has counted them
+-- the walk has taken the acts before an index, none of which is refused, and has counted them
 pub record WalksTo (judge : Judge) (problem : Setup) (dealt : Dealt) (acts : List Act) (walk : JudgedGame) (i number : ℕ) : Type 0 where
   pub judged : IsJudged judge (start_of problem) (hands_of problem dealt) walk (acts_before acts i)
   pub counted : number ≡ i

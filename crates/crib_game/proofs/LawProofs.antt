@@ -77,28 +77,28 @@ first_fault_law judge start hands (act ∷ before) fault e =
 pub dealt_law : DealtLaw
 dealt_law problem dealt six = (deal_is problem dealt six, deal_unseen problem dealt)
 
--- the same with places counted from any number
-record IsFirstFrom (known : List ℕ) (first : ℕ) (cards : List ℕ) (place : ℕ) : Type 0 where
+-- the same with numbers counted from any number
+record IsFirstFrom (known : List ℕ) (first : ℕ) (cards : List ℕ) (number : ℕ) : Type 0 where
   before : List ℕ
   card : ℕ
   later : List ℕ
   here : cards ≡ before ++ card ∷ later
-  counted : place ≡ length before + first
+  counted : number ≡ length before + first
   stood : (has known card || has before card) ≡ true
   none_before : first_seen known first before ≡ None
 
-some_place : (first place : ℕ) → ◌≡◌ {A = Option ℕ} (Some first) (Some place) → place ≡ first
-some_place first place e = cc
+some_number : (first number : ℕ) → ◌≡◌ {A = Option ℕ} (Some first) (Some number) → number ≡ first
+some_number first number e = cc
 
-first_from : (known : List ℕ) (first : ℕ) (cards : List ℕ) (place : ℕ) → first_seen known first cards ≡ Some place → IsFirstFrom known first cards place
-first_from known first [] place e = cc
-first_from known first (card ∷ cards) place e =
+first_from : (known : List ℕ) (first : ℕ) (cards : List ℕ) (number : ℕ) → first_seen known first cards ≡ Some number → IsFirstFrom known first cards number
+first_from known first [] number e = cc
+first_from known first (card ∷ cards) number e =
     elim (cases_Bool (has known card)) [
       | inl is ↦
-          let at = some_place first place (rw is at e) in
+          let at = some_number first number (rw is at e) in
           record { before = []; card = card; later = cards; here = refl; counted = omega (arith, at); stood = or_left _ false is; none_before = refl }
       | inr lacks ↦
-          let rest = first_from (card ∷ known) (first + 1) cards place (rw lacks at e) in
+          let rest = first_from (card ∷ known) (first + 1) cards number (rw lacks at e) in
           record {
             before = card ∷ rest.before;
             card = rest.card;
@@ -111,6 +111,6 @@ first_from known first (card ∷ cards) place e =
     ]
 
 pub first_seen_law : FirstSeenLaw
-first_seen_law known cards place e =
-    let is = first_from known 1 cards place e in
+first_seen_law known cards number e =
+    let is = first_from known 1 cards number e in
     record { before = is.before; card = is.card; later = is.later; here = is.here; counted = is.counted; stood = is.stood; none_before = is.none_before }

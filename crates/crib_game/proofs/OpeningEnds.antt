@@ -17,14 +17,14 @@ use Rattle.crib_play.proofs.FilledRecords.{acts_visible, acts_silent}
 use Rattle.crib_problem.specs.Setup.{start_of, played_back}
 use Rattle.crib_game.specs.FollowLaws.{OverLaw, StaysOverLaw, OverAfterLaw}
 
--- a list has an item at each place below its length, and at no other
-at_place : (played : List Act) (n : ℕ) → leb (length played) n ≡ not (is_some (slice_get played n))
-at_place [] n = grind (arith, nat_tests)
-at_place (act ∷ played) zero = grind (arith, nat_tests)
-at_place (act ∷ played) (suc n) = grind (arith, nat_tests, at_place played n)
+-- a list has an item at each index below its length, and at no other
+at_index : (played : List Act) (n : ℕ) → leb (length played) n ≡ not (is_some (slice_get played n))
+at_index [] n = grind (arith, nat_tests)
+at_index (act ∷ played) zero = grind (arith, nat_tests)
+at_index (act ∷ played) (suc n) = grind (arith, nat_tests, at_index played n)
 
 pub over_is : OverLaw
-over_is played pone past = at_place played (length (acts_of pone past))
+over_is played pone past = at_index played (length (acts_of pone past))
 
 -- each further turn adds a visible turn or none
 acts_more : (pone : Side) (turn : Move) (past : List Move) → length (acts_of pone past) ≤ length (acts_of pone (turn ∷ past))

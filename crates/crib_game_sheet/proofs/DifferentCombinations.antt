@@ -56,28 +56,28 @@ choices_differ (card ∷ cards) are =
     (λ set. all_weaker (λ other. (rest : List ℕ) → card ∷ rest ≢ other) (λ other. card ∷ set ≢ other) (λ other begins. begins set) (choices cards)
     (begins card cards (not-true (has cards card) parts.0))) (choices cards)))
 
--- different entries, whose places are before a place
-pub record Stands {X : Type 0} (order : X → ℕ) (place : ℕ) (made : List X) : Type 0 where
-  pub before : AllByRecursion (λ one. order one < place) made
+-- different entries, whose indices are below this one
+pub record Stands {X : Type 0} (order : X → ℕ) (index : ℕ) (made : List X) : Type 0 where
+  pub before : AllByRecursion (λ one. order one < index) made
   pub differ : AreDifferent made
 
--- more entries, which have this place
-pub joined : {X : Type 0} (order : X → ℕ) (place : ℕ) (made more : List X) → Stands order place made → AllByRecursion (λ one. order one ≡ place) more →
-    AreDifferent more → Stands order (suc place) (made ++ more)
-joined order place made more stands at differ = record {
+-- more entries, which have this index
+pub joined : {X : Type 0} (order : X → ℕ) (index : ℕ) (made more : List X) → Stands order index made → AllByRecursion (λ one. order one ≡ index) more →
+    AreDifferent more → Stands order (suc index) (made ++ more)
+joined order index made more stands at differ = record {
   before =
-      all_both (λ one. order one < suc place) made more
-      (all_weaker (λ one. order one < place) (λ one. order one < suc place) (λ one below. omega (arith, below)) made stands.before)
-      (all_weaker (λ one. order one ≡ place) (λ one. order one < suc place) (λ one is. omega (arith, is)) more at);
+      all_both (λ one. order one < suc index) made more
+      (all_weaker (λ one. order one < index) (λ one. order one < suc index) (λ one below. omega (arith, below)) made stands.before)
+      (all_weaker (λ one. order one ≡ index) (λ one. order one < suc index) (λ one is. omega (arith, is)) more at);
   differ =
       differ_both made more stands.differ differ
-      (all_weaker (λ one. order one < place) (λ one. AllByRecursion (λ other. one ≢ other) more)
-      (λ one below. all_weaker (λ other. order other ≡ place) (λ other. one ≢ other)
+      (all_weaker (λ one. order one < index) (λ one. AllByRecursion (λ other. one ≢ other) more)
+      (λ one below. all_weaker (λ other. order other ≡ index) (λ other. one ≢ other)
       (λ other is e. let same : order one ≡ order other = ap order e in absurd (omega (arith, below, is, same))) more at) made
       stands.before);
 }
 
--- the place of a kind in a list of combinations
+-- the index of a kind in a list of combinations
 abbrev order : Kind → ℕ
 order Fifteen = 0
 order Pair = 1
@@ -89,7 +89,7 @@ abbrev kind_order : Combination → ℕ
 kind_order made = order made.kind
 
 abbrev AreAt : ℕ → List Combination → Type 0
-AreAt place made = AllByRecursion (λ one. kind_order one ≡ place) made
+AreAt index made = AllByRecursion (λ one. kind_order one ≡ index) made
 
 kind_at : (kind : Kind) (all : List ℕ) → AreAt (order kind) (combinations_of kind all)
 unfolding combinations_of
@@ -109,7 +109,7 @@ plain_stands all are =
 
 -- a list of one combination of a kind, or of none
 abbrev AreAlone : ℕ → List Combination → Type 0
-AreAlone place made = AreAt place made × AreDifferent made
+AreAlone index made = AreAt index made × AreDifferent made
 
 hand_flush_alone : (cards : List ℕ) (starter : ℕ) → AreAlone 3 (flush_in_hand cards starter)
 hand_flush_alone cards starter = grind (arith)

@@ -45,22 +45,22 @@ use Rattle.crib_game_sheet.proofs.ReasonsAdded.{gos_after, not_closed, pile_afte
 
 -- ---- no reason twice
 
--- the place of a reason in the list of an act
-abbrev place : PlayReason → ℕ
-place Fifteen = 0
-place ThirtyOne = 1
-place (Alike cards) = 2
-place (Run cards) = 3
-place LastCard = 4
-place Go = 5
+-- the index of a reason among those of an act
+abbrev reason_index : PlayReason → ℕ
+reason_index Fifteen = 0
+reason_index ThirtyOne = 1
+reason_index (Alike cards) = 2
+reason_index (Run cards) = 3
+reason_index LastCard = 4
+reason_index Go = 5
 
--- one more reason, at its place, or none
-with_next : (before : ℕ) (reasons : List PlayReason) (holds : Bool) (reason : PlayReason) → place reason ≡ before → Stands place before reasons
-    → Stands place (suc before) (reasons ++ reason_if holds reason)
-with_next before reasons true reason at stand = joined place before reasons (reason ∷ []) stand (at, tt) (tt, tt)
-with_next before reasons false reason at stand = joined place before reasons [] stand tt tt
+-- one more reason, at its index, or none
+with_next : (before : ℕ) (reasons : List PlayReason) (holds : Bool) (reason : PlayReason) → reason_index reason ≡ before → Stands reason_index before reasons
+    → Stands reason_index (suc before) (reasons ++ reason_if holds reason)
+with_next before reasons true reason at stand = joined reason_index before reasons (reason ∷ []) stand (at, tt) (tt, tt)
+with_next before reasons false reason at stand = joined reason_index before reasons [] stand tt tt
 
-card_stands : (before count : ℕ) (pile : List ℕ) → Stands place 5 (card_reasons_at before count pile)
+card_stands : (before count : ℕ) (pile : List ℕ) → Stands reason_index 5 (card_reasons_at before count pile)
 card_stands before count pile =
     let alike = most_last_cards are_alike (length pile) pile in
     let run = most_last_cards is_run (length pile) pile in

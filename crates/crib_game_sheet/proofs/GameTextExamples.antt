@@ -17,7 +17,7 @@ use Rattle.crib_game_sheet.specs.Heading.{goal_line, heading_text, opening_line,
 use Rattle.crib_game_sheet.specs.GameShow.{combination, combinations_of, hand_combinations, crib_combinations}
 use Rattle.crib_game_sheet.specs.GameText.{act_line, act_lines, act_text, combination_line, combination_lines}
 use Rattle.crib_game_sheet.specs.GameText.{counted_name, counted_points, counted_text, dealt_line, game_sheet_text, outcome_text}
-use Rattle.crib_game_sheet.specs.GameText.{points_text, reason_text, run_word, score_text, sheet_of}
+use Rattle.crib_game_sheet.specs.GameText.{pegged_line, pegged_points, played_text, points_text, reason_text, run_word, score_text, sheet_of}
 
 -- the acts of a whole deal, and the pone's hand
 abbrev acts_and_hand : List ℕ
@@ -35,6 +35,7 @@ rest_of_the_show =
     codes "\nThe dealer's hand: TD KD KH QS with 3H, 2 points (you 11, they 6)\n  pair 2: KD KH\n\n"
     ++ codes "The dealer's crib: 4S 6S 5H 7D with 3H, 9 points (you 11, they 15)\n  fifteen 2: 4S 6S 5H\n  fifteen 2: 5H 7D 3H\n"
     ++ codes "  run of five 5: 4S 6S 5H 7D 3H\n\nThe deal is over: you fall short of your goal.\n"
+    ++ codes "In the play you pegged 2, they 4.\n"
 
 -- the heading of each sheet, but for the goal
 abbrev level_head : List ℕ
@@ -47,14 +48,15 @@ sheets_of_games :
     × (game_sheet_text (record level { played = take 6 level_acts }) (game_with level_deal level_acts) ≡ Ok (level_head
     ++ codes "You want to win.\nThe first 6 turns were played. Scores and cards are those before them.\n" ++ acts_and_hand ++ rest_of_the_show))
     × (game_sheet_text (record level { goal = Holes 11 }) (game_with level_deal level_acts) ≡ Ok (level_head
-    ++ codes "You want 11 holes or more in this deal.\n" ++ acts_and_hand ++ codes "\nYou have reached your goal; the deal isn't counted further.\n"))
+    ++ codes "You want 11 holes or more in this deal.\n" ++ acts_and_hand ++ codes "\nYou have reached your goal; the deal isn't counted further.\n"
+    ++ codes "In the play you pegged 2, they 4.\n"))
     × (game_sheet_text (record level { goal = Stop }) (game_with level_deal []) ≡ Ok (level_head
     ++ codes "You want to keep the dealer from winning in this deal.\nThe dealer holds TD KD KH QS and threw 5H 7D.\n\n"
-    ++ codes " # side   card count you they  points\n\nThe deal isn't over yet.\n"))
+    ++ codes " # side   card count you they  points\n\nThe deal isn't over yet.\nIn the play you pegged 0, they 0.\n"))
     × (game_sheet_text level (game_with level_deal (plays Opponent 37 ∷ [])) ≡ Err (NotTurn 1))
-unfolding digits right_in heading_text scores_line other_score own_line goal_line opening_line sheet_of dealt_line reason_text points_text score_text act_text
-    act_line act_lines counted_text counted_name counted_points combination_line combinations_of hand_combinations crib_combinations show_of outcome_of
-    hand_points crib_points
+unfolding digits right_in heading_text scores_line other_score own_line goal_line opening_line sheet_of played_text dealt_line reason_text points_text
+    score_text act_text act_line act_lines counted_text counted_name counted_points combination_line combinations_of hand_combinations
+    crib_combinations show_of outcome_of hand_points crib_points pegged_line pegged_points
 sheets_of_games = (refl, refl, refl, refl, refl)
 
 -- ---- words that these sheets don't have

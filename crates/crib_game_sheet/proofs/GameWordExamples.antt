@@ -20,7 +20,7 @@ use Rattle.crib_game_sheet.specs.GamePlay.{alike_reasons, card_reasons, card_rea
 use Rattle.crib_game_sheet.specs.GamePlay.{reason_if, reason_points, run_reasons, silent_gos_close}
 use Rattle.crib_game_sheet.specs.GameShow.{combination, combinations_of, flush_in_crib, jack_among, no_combination, plain_combinations, points_of, worth}
 use Rattle.crib_game_sheet.specs.GameText.{act_lines, act_text, alike_word, counted_cards, counted_name, counted_points, dealt_line, kind_word, last_after}
-use Rattle.crib_game_sheet.specs.GameText.{next_reason, over_text, points_text, reached_line, reason_text, reason_word}
+use Rattle.crib_game_sheet.specs.GameText.{next_reason, over_text, pegged_line, pegged_points, points_text, reached_line, reason_text, reason_word}
 use Rattle.crib_game_sheet.specs.GameText.{run_word, score_text, sheet_for, taker_text}
 
 -- ---- reasons
@@ -73,6 +73,14 @@ acts_in_words :
     × (act_lines Opponent 1 Owner (card_of_owner ∷ []) [] ∷ act_lines Opponent 1 Owner [] ([] ∷ []) ∷ [] ≡ [] ∷ [] ∷ [])
 unfolding digits reason_text points_text right_in score_text act_text act_lines
 acts_in_words = (refl, refl, refl, refl, refl, refl)
+
+-- the go of the opponent is for the owner, who played the last card
+points_by_sides :
+    (map (λ side. pegged_points side Opponent (card_of_owner ∷ go_of_opponent ∷ [])) (Owner ∷ Opponent ∷ []) ≡ 5 ∷ 0 ∷ [])
+    × (map (λ last. pegged_points Owner last (go_of_opponent ∷ go_of_opponent ∷ [])) (Owner ∷ Opponent ∷ []) ≡ 2 ∷ 0 ∷ [])
+    × (pegged_line Opponent (card_of_owner ∷ go_of_opponent ∷ []) ≡ codes "In the play you pegged 5, they 0.\n")
+unfolding digits pegged_points pegged_line
+points_by_sides = (refl, refl, refl)
 
 -- ---- combinations
 -- of 5D 5C TC the fifteens are before the pair

@@ -38,7 +38,8 @@ use Rattle.crib_game_sheet.specs.declared.game.reason.PlayReason.{PlayReason}
 use Rattle.crib_game_sheet.specs.GamePlay.{act_reasons, game_reasons, reasons_added}
 use Rattle.crib_game_sheet.specs.GameLaws.{SheetsHaveOneGameLaw}
 use Rattle.crib_game_sheet.specs.GameText.{act_line, act_lines, act_text, columns_line, counted_name, counted_text, dealt_line, game_sheet_text, last_after}
-use Rattle.crib_game_sheet.specs.GameText.{outcome_text, points_text, rows_text, score_text, sheet_for, sheet_of}
+use Rattle.crib_game_sheet.specs.GameText.{outcome_text, pegged_line, played_text, points_text, rows_text, score_text}
+use Rattle.crib_game_sheet.specs.GameText.{sheet_for, sheet_of}
 use Rattle.crib_game_sheet.specs.Heading.{heading_text}
 use Rattle.crib_game_sheet.proofs.PlayWalks.{each_from, forward, rows_from, rows_of_report}
 use Rattle.crib_cards.proofs.CardBytes.{no_card, same_cards}
@@ -150,22 +151,23 @@ same_acts dealer start number last before (act ∷ acts) (act' ∷ acts') rest r
 
 -- ---- what comes after the acts
 
-outcome_feeds : (dealer : Side) (goal : Goal) (over : Option Outcome) → (rest : List ℕ) × (outcome_text dealer goal over ≡ line_feed ∷ rest)
-outcome_feeds dealer Win (Some Reached) = (_, refl)
-outcome_feeds dealer (Holes holes) (Some Reached) = (_, refl)
-outcome_feeds dealer Stop (Some Reached) = (_, refl)
-outcome_feeds dealer goal _ = (_, refl)
+outcome_feeds : (dealer : Side) (goal : Goal) (over : Option Outcome) (after : List ℕ)
+    → (rest : List ℕ) × (outcome_text dealer goal over ++ after ≡ line_feed ∷ rest)
+outcome_feeds dealer Win (Some Reached) after = (_, refl)
+outcome_feeds dealer (Holes holes) (Some Reached) after = (_, refl)
+outcome_feeds dealer Stop (Some Reached) after = (_, refl)
+outcome_feeds dealer goal _ after = (_, refl)
 
-show_feeds : (problem : Setup) (dealt : Dealt) (rows : List ShowRow) (over : Option Outcome)
-    → (rest : List ℕ) × (flat_map (counted_text problem dealt) rows ++ outcome_text problem.dealer problem.goal over ≡ line_feed ∷ rest)
+show_feeds : (problem : Setup) (dealt : Dealt) (rows : List ShowRow) (over : Option Outcome) (after : List ℕ)
+    → (rest : List ℕ) × (flat_map (counted_text problem dealt) rows ++ (outcome_text problem.dealer problem.goal over ++ after) ≡ line_feed ∷ rest)
 unfolding counted_text counted_name
-show_feeds problem dealt [] over = outcome_feeds problem.dealer problem.goal over
-show_feeds problem dealt (row ∷ rows) over = (_, refl)
+show_feeds problem dealt [] over after = outcome_feeds problem.dealer problem.goal over after
+show_feeds problem dealt (row ∷ rows) over after = (_, refl)
 
 -- ---- the sheet
 
-regroup : (h d c r s o : List ℕ) → ((((h ++ d) ++ c) ++ r) ++ s) ++ o ≡ h ++ (d ++ (c ++ (r ++ (s ++ o))))
-regroup h d c r s o = simp append_assoc
+regroup : (d c r s o p : List ℕ) → ((((d ++ c) ++ r) ++ s) ++ o) ++ p ≡ d ++ (c ++ (r ++ (s ++ (o ++ p))))
+regroup d c r s o p = simp append_assoc
 
 opened_deal : (a role b hold c throw d rest : List ℕ)
     → ((((((a ++ role) ++ b) ++ hold) ++ c) ++ throw) ++ d) ++ rest ≡ a ++ (role ++ (b ++ (hold ++ (c ++ (throw ++ (d ++ rest))))))
@@ -196,9 +198,13 @@ rows_are problem game = λ i. act_lines problem.dealer 1 (pone_of (start_of prob
 
 sheet_opened : (problem : Setup) (opp : Dealt) (report : Report) (reasons : List (List PlayReason)) → sheet_of problem opp report reasons
     ≡ heading_text problem ++ (dealt_line problem.dealer opp ++ (columns_line ++ (rows_text problem report reasons
-    ++ (flat_map (counted_text problem opp) report.show.items ++ outcome_text problem.dealer problem.goal report.over))))
-unfolding sheet_of
-sheet_opened problem opp report reasons = search regroup
+    ++ (flat_map (counted_text problem opp) report.show.items ++ (outcome_text problem.dealer problem.goal report.over
+    ++ pegged_line (pone_of (start_of problem)) report.rows.items)))))
+unfolding sheet_of played_text
+sheet_opened problem opp report reasons =
+    ap (λ (played : List ℕ). heading_text problem ++ played)
+    (regroup (dealt_line problem.dealer opp) columns_line (rows_text problem report reasons) (flat_map (counted_text problem opp) report.show.items)
+    (outcome_text problem.dealer problem.goal report.over) (pegged_line (pone_of (start_of problem)) report.rows.items))
 
 -- the sheet of a game, piece by piece: the heading, the deal, the acts, and then a line feed
 abbrev Opens : Setup → Game → List ℕ → Type 0
@@ -212,7 +218,8 @@ opened_sheet problem game text is = of_fault (game_fault problem game) is
     of_fault : (fault : Option GameFault) → sheet_for problem game (unless_fault fault (report_of problem game)) ≡ Ok text → Opens problem game text
     of_fault None is =
         let report = report_of problem game in
-        let feeds = show_feeds problem game.opp report.show.items report.over in
+        let pegged = pegged_line (pone_of (start_of problem)) report.rows.items in
+        let feeds = show_feeds problem game.opp report.show.items report.over pegged in
         let whole : sheet_of problem game.opp report (game_reasons problem game) ≡ text = cc in (
           feeds.0,
           sym whole ∙ sheet_opened problem game.opp report (game_reasons problem game)

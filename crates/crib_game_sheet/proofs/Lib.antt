@@ -10,6 +10,7 @@ pub mod DifferentCombinations
 pub mod GameLawProofs
 pub mod GamePlayExamples
 pub mod GamesOfSheets
+pub mod PeggedPoints
 pub mod PlayWalks
 pub mod ReasonPoints
 pub mod ReasonsAdded

@@ -6,8 +6,9 @@ use Rattle.crib_cards.specs.declared.moves.Move.{Move}
 use Rattle.crib_cards.specs.declared.moves.Move.TheVariants as move
 use Rattle.crib_cards.specs.declared.sides.Dealt.{Dealt}
 use Rattle.crib_cards.specs.declared.sides.Side.{Side}
-use Rattle.crib_cards.specs.declared.sides.Side.TheVariants.{Opponent}
+use Rattle.crib_cards.specs.declared.sides.Side.TheVariants.{Owner, Opponent}
 use Rattle.crib_cards.specs.declared.sides.Scores.{Scores}
+use Rattle.crib_cards.specs.Sides.{same_side}
 use Rattle.crib_cards.specs.Start.{pone_of, hand_of}
 use Rattle.crib_show.specs.Words.{show_word}
 use Rattle.crib_show.specs.declared.show.outcomes.Outcome.{Outcome}
@@ -107,6 +108,20 @@ act_lines dealer number last (row ∷ rows) (reasons ∷ others) =
     act_line dealer number (last_after row.act.side row.act.what last) row reasons
     ++ act_lines dealer (number + 1) (last_after row.act.side row.act.what last) rows others
 
+-- the points of some acts that count for a side: for the one that played the last card. `last` is the side that played
+-- the last card before them
+unfoldable pub pegged_points : Side → Side → List Row → ℕ
+pegged_points side last [] = 0
+pegged_points side last (row ∷ rows) =
+    (if same_side (last_after row.act.side row.act.what last) side then row.points else 0)
+    + pegged_points side (last_after row.act.side row.act.what last) rows
+
+-- the line of what both sides pegged in some acts. `last` is the side that played the last card before them
+unfoldable pub pegged_line : Side → List Row → List ℕ
+pegged_line last rows =
+    codes "In the play you pegged " ++ decimal (pegged_points Owner last rows) ++ codes ", they "
+    ++ decimal (pegged_points Opponent last rows) ++ codes ".\n"
+
 -- the lines of the acts of a report with their reasons. Before the first card there is no point
 abbrev pub rows_text : Setup → Report → List (List PlayReason) → List ℕ
 rows_text problem report reasons =
@@ -192,12 +207,17 @@ outcome_text dealer goal (Some outcome) = over_text dealer goal outcome
 abbrev pub columns_line : List ℕ
 columns_line = codes "\n # side   card count you they  points\n"
 
--- the sheet of a game with this report and these reasons of its acts
-unfoldable pub sheet_of : Setup → Dealt → Report → List (List PlayReason) → List ℕ
-sheet_of problem dealt report reasons =
-    heading_text problem ++ dealt_line problem.dealer dealt ++ columns_line ++ rows_text problem report reasons
+-- what the sheet of a game with this report and these reasons of its acts has below the position
+unfoldable pub played_text : Setup → Dealt → Report → List (List PlayReason) → List ℕ
+played_text problem dealt report reasons =
+    dealt_line problem.dealer dealt ++ columns_line ++ rows_text problem report reasons
     ++ flat_map (counted_text problem dealt) report.show.items
     ++ outcome_text problem.dealer problem.goal report.over
+    ++ pegged_line (pone_of (start_of problem)) report.rows.items
+
+-- the sheet of a game with this report and these reasons of its acts
+unfoldable pub sheet_of : Setup → Dealt → Report → List (List PlayReason) → List ℕ
+sheet_of problem dealt report reasons = heading_text problem ++ played_text problem dealt report reasons
 
 -- the sheet of a replay: that of its report, or its refusal
 abbrev pub sheet_for : Setup → Game → Result Report GameFault → Result (List ℕ) GameFault

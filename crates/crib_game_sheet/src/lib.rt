@@ -7,7 +7,7 @@ mod puts;
 
 pub use game::{
     Combination, Combinations, Kind, PlayReason, PlayReasons, combination_law, crib_combinations,
-    game_sheet_law, hand_combinations, points_law, put_acts_beside, put_sheet, reasons_of,
-    send_game_sheet,
+    game_sheet_law, hand_combinations, points_law, put_acts_beside, put_game_sheet, put_played,
+    reasons_of,
 };
 pub use heading::put_heading;

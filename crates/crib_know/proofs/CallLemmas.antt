@@ -37,7 +37,7 @@ use Rattle.crib_know.proofs.RecordTurns.{possible_led}
 use Rattle.crib_know.proofs.KnowledgeFacts.{led_possible, needs_history, begin_more, least_low, are_taken, high_own_go, holds_one, shows}
 
 -- with one more card played, one card less is left
-left_less : (hold played : List ℕ) (card : ℕ) →
+pub left_less : (hold played : List ℕ) (card : ℕ) →
     set_without (set_of (filter (λ c. not (has played c)) hold)) card ≡ set_of (filter (λ c. not (has (card ∷ played) c)) hold)
 left_less hold played card =
     set_where_agree _ _ (λ other is.

@@ -11,10 +11,10 @@ use Rattle.crib_text.specs.declared.fault.TextCause.TheVariants.{BadCard}
 use Rattle.crib_input.specs.declared.refusal.Cause.TheVariants.{Text}
 use Rattle.crib_input.specs.declared.reason.FaultCause.TheVariants.{NoMemory}
 use Rattle.crib_input.specs.declared.reason.Reason.TheVariants.{Refused, Fault}
-use Rattle.crib_message.specs.declared.scene.Place.{Place}
+use Rattle.crib_message.specs.declared.scene.Spot.{Spot}
 use Rattle.crib_message.specs.declared.scene.Section.TheVariants.{Problem, Plan, Game, After}
 use Rattle.crib_message.specs.Message.{IsExcerpt, IsFaultMessage, IsMark, IsMessage, IsRefusalMessage}
-use Rattle.crib_message.specs.Message.{blanks, carets, dots, heading, hex_digit, is_plain, mark_line, marks_below, numbered_line, place_words}
+use Rattle.crib_message.specs.Message.{blanks, carets, dots, heading, hex_digit, is_plain, mark_line, marks_below, numbered_line, spot_words}
 use Rattle.crib_message.specs.Message.{section_words, shown_byte, shown_line}
 
 -- ---- the lines of an input
@@ -67,8 +67,8 @@ unfolding digits
 behind_the_end = record { left = codes "own"; meant = []; right = []; cut = refl; is = refl }
 
 -- ---- headings
--- the place of a line of a game
-abbrev pub in_a_game : ℕ → Place
+-- the spot of a line of a game
+abbrev pub in_a_game : ℕ → Spot
 in_a_game number = record { section = Game; number = number }
 
 -- of a problem, of a plan, of a game, behind the sections, and without a line: line 0 is no line of the input
@@ -92,7 +92,7 @@ pub a_card_with_10 :
     (codes "cribplan: line 2: \"10S\" is not a card.\n  2 | hold 10S\n    |      ^^^\n")
 unfolding digits lines_of
 a_card_with_10 = record {
-  place = record { section = Problem; number = 2 };
+  spot = record { section = Problem; number = 2 };
   sentence = codes "\"10S\" is not a card.";
   excerpt = codes "  2 | hold 10S\n    |      ^^^\n";
   is = refl;
@@ -129,10 +129,10 @@ pub mark_lines : mark_line 12 (codes "0") (codes "a" ++ 9 ∷ []) (codes "bab") 
 unfolding digits
 mark_lines = refl
 
-pub words_of_places : place_words (in_a_game 7) ∷ map (section_words 12) (Problem ∷ Plan ∷ Game ∷ After ∷ [])
+pub words_of_spots : spot_words (in_a_game 7) ∷ map (section_words 12) (Problem ∷ Plan ∷ Game ∷ After ∷ [])
     ≡ codes ", line 7 of the game" ∷ [] ∷ codes ", line 12 of the plan" ∷ codes ", line 12 of the game" ∷ [] ∷ []
 unfolding digits
-words_of_places = refl
+words_of_spots = refl
 
 -- ---- marks, excerpts and messages that are none
 abbrev byte_of : List ℕ → ℕ

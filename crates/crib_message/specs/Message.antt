@@ -8,7 +8,7 @@ use Rattle.crib_input.specs.Refusals.{refusal_of}
 use Rattle.crib_input.specs.declared.reason.Reason.{Reason}
 use Rattle.crib_input.specs.declared.reason.Reason.TheVariants.{Refused, Fault}
 use Rattle.crib_message.specs.declared.message.Message.{Message}
-use Rattle.crib_message.specs.declared.scene.Place.{Place}
+use Rattle.crib_message.specs.declared.scene.Spot.{Spot}
 use Rattle.crib_message.specs.declared.scene.Section.{Section}
 use Rattle.crib_message.specs.declared.scene.Section.TheVariants.{Problem, Plan, Game, After}
 
@@ -94,22 +94,22 @@ section_words number Plan = codes ", line " ++ (decimal number ++ codes " of the
 section_words number Game = codes ", line " ++ (decimal number ++ codes " of the game")
 section_words number After = []
 
--- the words for a place in a section
-abbrev pub place_words : Place → List ℕ
-place_words place = section_words place.number place.section
+-- the words for the spot of a line
+abbrev pub spot_words : Spot → List ℕ
+spot_words spot = section_words spot.number spot.section
 
 -- the heading of a refusal: the program, and the number of the line if it is not 0
-abbrev pub heading : List ℕ → ℕ → Place → List ℕ
-heading program line place =
+abbrev pub heading : List ℕ → ℕ → Spot → List ℕ
+heading program line spot =
     if line == 0 then program ++ codes ": "
-    else program ++ (codes ": line " ++ (decimal line ++ (place_words place ++ codes ": ")))
+    else program ++ (codes ": line " ++ (decimal line ++ (spot_words spot ++ codes ": ")))
 
 -- a message is a heading, a sentence of bytes 32 to 126, an LF, and the excerpt of the refused line if the input has it
 pub record IsRefusalMessage (program input : List ℕ) (line : ℕ) (text : List ℕ) : Type 0 where
-  pub place : Place
+  pub spot : Spot
   pub sentence : List ℕ
   pub excerpt : List ℕ
-  pub is : text ≡ heading program line place ++ (sentence ++ line_feed ∷ excerpt)
+  pub is : text ≡ heading program line spot ++ (sentence ++ line_feed ∷ excerpt)
   pub plain : All (λ byte. is_plain byte ≡ true) sentence
   pub shows : MatchOption (numbered_line input line) (excerpt ≡ []) (λ bytes. IsExcerpt line bytes excerpt)
 

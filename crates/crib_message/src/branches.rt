@@ -5,10 +5,8 @@ use crate::scene::{Scene, Word, is_blank, is_colon};
 use crate::sentence::{Hint, Sentence, tell, typed};
 use crate::spelling::is_word;
 use crib_input::Cause;
+use crib_plan::LETTERS;
 use crib_text::read_number;
-
-/// The letters in their order: the ranks, and `g` for a go.
-pub(crate) const LETTERS: &[u8; 14] = b"A23456789TJQKg";
 
 /// Returns why a branch does not fit, if it doesn't: for its letters first, then for its node.
 pub(crate) fn branch_cause(scene: &Scene<'_>, branch: &Word<'_>) -> Option<Cause> {
@@ -24,18 +22,18 @@ pub(crate) fn branch_cause(scene: &Scene<'_>, branch: &Word<'_>) -> Option<Cause
 pub(crate) fn branch_fault(scene: &Scene<'_>, branch: &Word<'_>) -> Hint {
     let mut last = (' ', None);
     for byte in branch.letters() {
-        let (letter, place) = (char::from(*byte), place_of(Some(byte)));
+        let (letter, index) = (char::from(*byte), index_of(Some(byte)));
         let (before, least) = last;
-        match place {
+        match index {
             None => {
                 let (typed, hint) = (typed(&[*byte]), letter_hint(branch, *byte));
                 return tell(format_args!("{typed} is none of the letters A23456789TJQKg; {hint}"));
             }
-            _ if place == least => return tell(format_args!("{letter} stands in it twice")),
-            _ if place < least => return tell(format_args!(
+            _ if index == least => return tell(format_args!("{letter} stands in it twice")),
+            _ if index < least => return tell(format_args!(
                 "{letter} comes before {before} in the order A23456789TJQKg"
             )),
-            _ => last = (letter, place),
+            _ => last = (letter, index),
         }
     }
     match branch.letters() {
@@ -64,7 +62,7 @@ fn fault_beside(scene: &Scene<'_>, branch: &Word<'_>) -> Hint {
     let mut same = None;
     for word in scene.text().split(is_blank).take(branch.index).skip(2) {
         let old = Word::of(word);
-        if place_of(old.letters().first()) > place_of(branch.letters().first()) {
+        if index_of(old.letters().first()) > index_of(branch.letters().first()) {
             let old = typed(word);
             return tell(format_args!(
                 "it belongs before {old}: branches are sorted by their first letters"
@@ -82,7 +80,7 @@ fn same_node(old: &Word<'_>, branch: &Word<'_>) -> Hint {
         return None;
     }
     let mut both = Sentence::of("");
-    for letter in LETTERS {
+    for letter in &LETTERS {
         if old.letters().contains(letter) || branch.letters().contains(letter) {
             both.add(char::from(*letter));
         }
@@ -93,8 +91,8 @@ fn same_node(old: &Word<'_>, branch: &Word<'_>) -> Hint {
     ))
 }
 
-// Returns the place of a letter in their order.
-fn place_of(letter: Option<&u8>) -> Option<usize> {
+// Returns the index of a letter in their order.
+fn index_of(letter: Option<&u8>) -> Option<usize> {
     LETTERS.iter().position(|one| Some(one) == letter)
 }
 

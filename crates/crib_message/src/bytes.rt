@@ -65,6 +65,8 @@ fn byte_hint(rest: &[u8]) -> &'static str {
         [0xE2, 0x99, 0xA1 | 0xA5, ..] => "Write the suit sign of hearts as the letter H.",
         [0xE2, 0x99, 0xA2 | 0xA6, ..] => "Write the suit sign of diamonds as the letter D.",
         [0xE2, 0x99, 0xA3 | 0xA7, ..] => "Write the suit sign of clubs as the letter C.",
+        [0xEF, 0xB8, 0x8F, ..] => "Remove the invisible sign here.",
+        [0xE2, 0x80, 0x98..=0x9F, ..] => "Remove the quotation mark.",
         [0xF0, 0x9F, 0x82 | 0x83, ..] => TWO_LETTERS,
         _ => "Write plain ASCII letters, digits and signs.",
     }

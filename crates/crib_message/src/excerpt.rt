@@ -51,7 +51,7 @@ fn window_on(line: &[u8], mark: Option<Mark>) -> Window<'_>
     cut(line, wanted.min(line.len().saturating_sub(SHOWN)), SHOWN)
 }
 
-// Cuts bytes in three, the middle one from a place on, with so many bytes if there are.
+// Cuts bytes in three, the middle one from an index on, with so many bytes if there are.
 fn cut(bytes: &[u8], from: usize, len: usize) -> Window<'_>
     ensures cut { bytes.now ≡ result.before.now ++ (result.shown.now ++ result.after.now) }
     ensures wide { length result.shown.now ≡ min len (length bytes.now - from) }

@@ -98,7 +98,7 @@ fn bad_line(scene: &Scene<'_>, cause: Cause) -> Option<Explained> {
     Some(said(format_args!("{found} is {BAD_LINE}"), mark, hint))
 }
 
-// Returns a blank at an end of a line, or of two blanks side by side the second, and its place.
+// Returns a blank at an end of a line, or of two blanks side by side the second, and its index.
 fn blank(scene: &Scene<'_>) -> Option<(&'static str, usize)> {
     let line = scene.text();
     match line.windows(2).position(|pair| pair == b"  ".as_slice()) {
@@ -136,11 +136,11 @@ fn bad_word(scene: &Scene<'_>, cause: Cause) -> Option<Explained> {
 fn same_card(scene: &Scene<'_>, card: &Word<'_>) -> Option<Explained> {
     let name = named(read_card(card.bytes)?);
     let line = earlier_line(scene, card)?;
-    let place = match line == scene.number {
+    let on_line = match line == scene.number {
         true => Sentence::of(" on this line"),
         false => Sentence::of(format_args!(", on line {line}")),
     };
-    let text = format_args!("{name} is {SAME_CARD}{place}");
+    let text = format_args!("{name} is {SAME_CARD}{on_line}");
     Some(said(text, card.mark(), None))
 }
 

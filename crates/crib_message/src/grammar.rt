@@ -7,7 +7,7 @@ use crate::grammar::Slot::{
     Actor, Aim, Branch, Card, Count, Extra, Holes, Keyword, Kind, Many, Move, Own, Points, Side,
     Stated, Target, Version,
 };
-use crate::scene::{Place, Section};
+use crate::scene::{Section, Spot};
 
 /// A line of a section, by its keyword.
 #[derive(Clone, Copy, PartialEq, Eq)]
@@ -32,7 +32,7 @@ pub(crate) enum Row {
     End,
 }
 
-/// What is at a place of a line.
+/// What a word of a line may be.
 #[derive(Clone, Copy)]
 pub(crate) enum Slot {
     /// The first word of the line.
@@ -77,9 +77,9 @@ const KEYWORDS: [Row; 12] = [
 ];
 
 impl Row {
-    /// Returns the line that is at this place. The last one of a section may be there many times.
-    pub(crate) fn at(place: Place) -> Row {
-        let rows: &[Row] = match place.section {
+    /// Returns the line that is at this spot. The last one of a section may be there many times.
+    pub(crate) fn at(spot: Spot) -> Row {
+        let rows: &[Row] = match spot.section {
             Section::Problem => &[
                 Problem, Dealer, Score, Starter, Hold, Throw, Goal, Played, Act,
             ],
@@ -87,7 +87,7 @@ impl Row {
             Section::Game => &[Game, Hold, Throw, Acts, Act],
             Section::After => &[End],
         };
-        let index = place.number.saturating_sub(1) as usize;
+        let index = spot.number.saturating_sub(1) as usize;
         rows.get(index).or(rows.last()).copied().unwrap_or(End)
     }
 

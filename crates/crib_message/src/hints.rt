@@ -4,7 +4,7 @@ use crate::cards::{TWO_LETTERS, card_hint, card_meant, is_like_card, suitless};
 use crate::grammar::{Row, Slot};
 use crate::misfit::{BAD_LINE, Misfit};
 use crate::order::{COMMENT, is_act, is_comment, is_node, order_hint};
-use crate::scene::{Scene, Word, is_blank};
+use crate::scene::{Scene, Word, is_blank, text_at};
 use crate::sentence::{Hint, tell};
 use crate::spelling::{bare, is_either, is_word, number_hint, two_numbers_hint, word_hint};
 use crib_cards::read_card;
@@ -79,8 +79,12 @@ fn cards_hint(scene: &Scene<'_>) -> Hint {
         return None;
     }
     let cards = scene.word_count().saturating_sub(1);
-    let more = match scene.row {
-        Row::Hold if cards == 6 => ": hold has four, and throw has the other two",
+    let mut next = text_at(scene.input, scene.number.saturating_add(1)).split(is_blank);
+    let more = match (next.next().unwrap_or(b""), scene.row) {
+        (_, Row::Hold) if cards == 6 => ": hold has four, and throw has the other two",
+        (b"throw", Row::Hold) if cards == 2 && next.count() == 4 =>
+            ": hold has four, and throw has two, so exchange them",
+        (card, _) if read_card(card).is_some() => ": the cards on the next line belong on this one",
         _ => "",
     };
     tell(format_args!("The number of cards here is {cards}{more}."))
@@ -89,6 +93,7 @@ fn cards_hint(scene: &Scene<'_>) -> Hint {
 fn keyword_hint(scene: &Scene<'_>, word: &[u8]) -> Hint {
     let keyword = scene.row.keyword();
     let begin = match scene.word(1) == keyword.as_bytes() {
+        true if word == b">".as_slice() => tell("Remove the mark > in front of each line."),
         true => tell(format_args!("Begin this line with the word {keyword}.")),
         false => order_hint(scene),
     };
@@ -97,6 +102,7 @@ fn keyword_hint(scene: &Scene<'_>, word: &[u8]) -> Hint {
 
 fn aim_hint(word: &[u8]) -> Hint {
     tell(match read_number(bare(word)) {
+        Some(121) => "Write goal win to be at hole 121 first.",
         Some(number @ 1..) => return tell(format_args!("Write goal holes {number}.")),
         None if word == b"stop".as_slice() =>
             "The goal stop needs problem 2 on line 1, and a line played 0 behind the goal.",

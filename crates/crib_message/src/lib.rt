@@ -1,4 +1,4 @@
-//! What a refusal says in words: a sentence, and the line of the input with the place marked.
+//! What a refusal says in words: a sentence, and the line of the input with a mark below it.
 //!
 //! The answer knows nothing of it. A message is made of an input and of the reason why there is no answer, and takes no
 //! memory.

@@ -3,11 +3,11 @@ ghost use Rattle.std.specs.Prelude.{◌≡◌, ◌≤◌, ◌+◌, ◌++◌, len
 ghost use Rattle.std.specs.List.{filter};
 ghost use Rattle.arrayvec.specs.ArrayVec.{array_vec_len};
 ghost use Rattle.crib_message.specs.Message.{IsMessage, IsRefusalMessage, IsFaultMessage};
-ghost use Rattle.crib_message.specs.Message.{heading, is_plain, message_text, place_words};
+ghost use Rattle.crib_message.specs.Message.{heading, is_plain, message_text, spot_words};
 
 use crate::excerpt::{excerpt_of, is_plain};
 use crate::explained::{Explained, explain};
-use crate::scene::{Place, Scene, Section};
+use crate::scene::{Scene, Section, Spot};
 use crate::sentence::Sentence;
 use arrayvec::ArrayVec;
 use crib_input::{FaultCause, Reason, Refusal, Sections};
@@ -71,17 +71,17 @@ impl Message {
         self.add(Buffer::new().format(number).as_bytes());
     }
 
-    fn add_place(&mut self, line: u32, place: Place)
+    fn add_spot(&mut self, line: u32, spot: Spot)
         requires { array_vec_len self.old.text ≤ 1400 }
         ensures items { self.new.text.items ≡ self.old.text.items
-            ++ (codes "line " ++ (decimal line ++ (place_words place ++ codes ": "))) }
+            ++ (codes "line " ++ (decimal line ++ (spot_words spot ++ codes ": "))) }
         ensures len { array_vec_len self.new.text ≤ array_vec_len self.old.text + 46 }
     {
         self.add(b"line ");
         self.add_number(line);
-        match place.section {
-            Section::Plan => self.add_line_of(place.number, b" of the plan"),
-            Section::Game => self.add_line_of(place.number, b" of the game"),
+        match spot.section {
+            Section::Plan => self.add_line_of(spot.number, b" of the plan"),
+            Section::Game => self.add_line_of(spot.number, b" of the game"),
             Section::Problem | Section::After => {}
         }
         self.add(b": ");
@@ -119,7 +119,7 @@ fn refusal_message(program: &[u8], sections: Sections, input: &[u8], refusal: &R
 {
     let scene = Scene::new(sections, input, refusal.line);
     let Explained { sentence, mark } = explain(&scene, refusal.cause);
-    let mut message = headed(program, refusal.line, scene.place);
+    let mut message = headed(program, refusal.line, scene.spot);
     message.add_sentence(sentence.0.as_str().as_bytes());
     message.add(b"\n");
     if let Some(line) = scene.line {
@@ -129,14 +129,14 @@ fn refusal_message(program: &[u8], sections: Sections, input: &[u8], refusal: &R
 }
 
 // Returns the heading of a refusal.
-fn headed(program: &[u8], line: u32, place: Place) -> Message
+fn headed(program: &[u8], line: u32, spot: Spot) -> Message
     requires { length program.now ≤ 20 }
-    ensures items { result.text.items ≡ heading program.now line place }
+    ensures items { result.text.items ≡ heading program.now line spot }
     ensures len { array_vec_len result.text ≤ 68 }
 {
     let mut message = Message::of_program(program);
     if line > 0 {
-        message.add_place(line, place);
+        message.add_spot(line, spot);
     }
     message
 }

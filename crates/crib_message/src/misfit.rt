@@ -9,7 +9,7 @@ use crib_plan::PlanCause;
 use crib_problem::ProblemCause;
 use crib_text::{TextCause, read_number};
 
-/// The cause of a word that has no place in its line.
+/// The cause of a word that its line doesn't have.
 pub(crate) const BAD_LINE: Cause = Cause::Text(TextCause::BadLine);
 
 pub(crate) const BAD_CARD: Cause = Cause::Text(TextCause::BadCard);
@@ -84,7 +84,7 @@ fn is_fitting(scene: &Scene<'_>, slot: Slot, word: &[u8]) -> bool {
 
 /// Returns the first line of a problem that has a card before this word, if there is one.
 pub(crate) fn earlier_line(scene: &Scene<'_>, card: &Word<'_>) -> Option<u32> {
-    if !matches!(scene.place.section, Section::Problem) {
+    if !matches!(scene.spot.section, Section::Problem) {
         return None;
     }
     (1..=scene.number).find(|line| {

@@ -66,7 +66,7 @@ pub(crate) fn order_hint(scene: &Scene<'_>) -> Hint {
     let line = scene.text();
     let row = Row::of_keyword(scene.word(0));
     let is_item = is_act(line) || is_node(line);
-    let is_played = row == Some(Row::Played) && matches!(scene.place.section, Section::Problem);
+    let is_played = row == Some(Row::Played) && matches!(scene.spot.section, Section::Problem);
     match (scene.row, row) {
         _ if is_comment(line) => tell(COMMENT),
         (Row::Act | Row::Node, row) => row.and(count_hint(scene)),
@@ -119,7 +119,7 @@ fn missing_or_moved(scene: &Scene<'_>) -> Sentence {
     let words = lines.map(|line| word_in(line, 0));
     let mut others = words.take_while(|word| !is_either(word, b"plan", b"game"));
     match others.any(|word| word == keyword.as_bytes()) {
-        true => section_order(scene.place.section),
+        true => section_order(scene.spot.section),
         false => Sentence::of(format_args!("The line {keyword} is missing.")),
     }
 }

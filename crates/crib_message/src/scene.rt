@@ -1,4 +1,4 @@
-//! A refused line: its section, its place there, and its words.
+//! A refused line: its section, its number there, and its words.
 ghost use Rattle.std.specs.Prelude.{◌≡◌, ◌==◌, option_map};
 ghost use Rattle.crib_message.specs.Message.{numbered_line};
 
@@ -53,13 +53,13 @@ pub(crate) struct Mark {
 }
 
 impl Mark {
-    /// Returns the stretch of so many bytes from a place.
+    /// Returns the stretch of so many bytes from an index.
     pub(crate) fn of(from: usize, len: usize) -> Mark {
         Mark { from, len }
     }
 }
 
-/// A word of a line, its index there, and the place of its first byte.
+/// A word of a line, its index there, and that of its first byte in the line.
 #[derive(Clone, Copy)]
 pub(crate) struct Word<'a> {
     pub(crate) bytes: &'a [u8],
@@ -103,15 +103,15 @@ pub(crate) enum Section {
     After,
 }
 
-/// The place of a line: its section, and its number there, from 1.
+/// The spot of a line: its section, and its number there, from 1.
 #[derive(Clone, Copy)]
-pub(crate) struct Place {
+pub(crate) struct Spot {
     pub(crate) section: Section,
     pub(crate) number: u32,
 }
 
-// Returns the place of a line. The lines before it are valid, so their counts state how long a section is.
-fn place_of(sections: Sections, input: &[u8], line: u32) -> Place {
+// Returns the spot of a line. The lines before it are valid, so their counts state how long a section is.
+fn spot_of(sections: Sections, input: &[u8], line: u32) -> Spot {
     let mut number = line;
     for section in [Section::Problem, Section::Plan, Section::Game] {
         let before = line.saturating_sub(number);
@@ -123,12 +123,12 @@ fn place_of(sections: Sections, input: &[u8], line: u32) -> Place {
             _ => 0,
         };
         if number <= len {
-            return Place { section, number };
+            return Spot { section, number };
         }
         number = number.saturating_sub(len);
     }
     let section = Section::After;
-    Place { section, number }
+    Spot { section, number }
 }
 
 /// Returns the number of lines of the problem.
@@ -143,7 +143,7 @@ pub(crate) fn count_at(input: &[u8], line: u32) -> u32 {
     read_number(word_in(text_at(input, line), 1)).unwrap_or(0)
 }
 
-/// A line that is refused, or the place of one that is missing.
+/// A line that is refused, or the spot of one that is missing.
 #[derive(Clone, Copy)]
 pub(crate) struct Scene<'a> {
     /// The sections that the input has to have.
@@ -153,8 +153,8 @@ pub(crate) struct Scene<'a> {
     pub(crate) number: u32,
     /// The bytes of the line, without its LF, unless the line is missing.
     pub(crate) line: Option<&'a [u8]>,
-    pub(crate) place: Place,
-    /// The line that the grammar has at this place.
+    pub(crate) spot: Spot,
+    /// The line that the grammar has at this spot.
     pub(crate) row: Row,
 }
 
@@ -163,14 +163,14 @@ impl<'a> Scene<'a> {
     pub(crate) fn new(sections: Sections, input: &'a [u8], number: u32) -> Scene<'a>
         ensures { option_map (λ line. line.now) result.line ≡ numbered_line input.now number }
     {
-        let place = place_of(sections, input, number);
+        let spot = spot_of(sections, input, number);
         Scene {
             sections,
             input,
             number,
             line: line_at(input, number),
-            place,
-            row: Row::at(place),
+            spot,
+            row: Row::at(spot),
         }
     }
 
@@ -211,12 +211,12 @@ impl<'a> Scene<'a> {
 
     /// Returns the number of lines before the section.
     pub(crate) fn before(&self) -> u32 {
-        self.number.saturating_sub(self.place.number)
+        self.number.saturating_sub(self.spot.number)
     }
 
     /// Returns the node that a line of a plan has to state.
     pub(crate) fn node(&self) -> u32 {
-        self.place.number.saturating_sub(3)
+        self.spot.number.saturating_sub(3)
     }
 
     /// Returns the number of nodes that the plan announces.

@@ -36,9 +36,9 @@ impl State {
     /// refused themselves.
     pub(crate) fn before(scene: &Scene<'_>, further: usize) -> Option<State> {
         let (mut state, acts) = State::read(scene)?;
-        let place = scene.number.saturating_sub(state.line).saturating_sub(1) as usize;
-        state.act = acts.get(place).copied().unwrap_or_default();
-        for act in acts.iter().take(place.saturating_add(further)) {
+        let index = scene.number.saturating_sub(state.line).saturating_sub(1) as usize;
+        state.act = acts.get(index).copied().unwrap_or_default();
+        for act in acts.iter().take(index.saturating_add(further)) {
             state.take(act);
         }
         Some(state)
@@ -46,7 +46,7 @@ impl State {
 
     // Reads the problem and the acts: those of the game, or the turns up to the refused line.
     fn read(scene: &Scene<'_>) -> Option<(State, Acts)> {
-        let is_game = matches!(scene.place.section, Section::Game);
+        let is_game = matches!(scene.spot.section, Section::Game);
         let head = if is_game { scene.before() } else { 8 };
         let opening = scene.number.saturating_sub(head);
         let text = text_of(scene, head as usize);

@@ -1,8 +1,9 @@
-//! The place of a plan at an act that strays from it.
-use crate::branches::{LETTERS, branch_with};
+//! Where a plan is at an act that strays from it.
+use crate::branches::branch_with;
 use crate::scene::{count_at, problem_len, text_at, word_in};
 use crate::sentence::{Sentence, named};
 use crib_cards::{Act, Move, Side, read_card};
+use crib_plan::LETTERS;
 use crib_text::read_number;
 
 /// Appends what the plan of an input states after some acts. Node 0 has the line `first`.
@@ -38,6 +39,6 @@ fn node_after(input: &[u8], first: u32, acts: &[Act]) -> Option<u32> {
 
 // Returns the node behind the branch of a see line that has a move.
 fn node_behind(line: &[u8], what: &Move) -> Option<u32> {
-    let letter = *LETTERS.get(usize::from(what.letter().place()))?;
+    let letter = *LETTERS.get(usize::from(what.letter().index()))?;
     read_number(branch_with(line, usize::MAX, letter)?.target().bytes)
 }

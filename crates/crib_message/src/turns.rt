@@ -35,8 +35,8 @@ fn mark_of(row: Row, cause: Cause) -> Option<Mark> {
         Game(Fault::AfterEnd(_)) => None,
         Game(Fault::NotAsPlayed(_)) if row == Row::Acts => None,
         Game(Fault::NotAsPlayed(_)) => Some(Mark::of(0, 6)),
-        Game(Fault::NotUnseen(place @ 5..)) => Some(Mark::of(3 * usize::from(place) - 9, 2)),
-        Game(Fault::NotUnseen(place)) => Some(Mark::of(3 * usize::from(place) + 2, 2)),
+        Game(Fault::NotUnseen(number @ 5..)) => Some(Mark::of(3 * usize::from(number) - 9, 2)),
+        Game(Fault::NotUnseen(number)) => Some(Mark::of(3 * usize::from(number) + 2, 2)),
         Game(Fault::NotTurn(_)) | Problem(Rule::NotTurn) => Some(Mark::of(0, 3)),
         _ => Some(Mark::of(4, 2)),
     }
@@ -62,8 +62,8 @@ fn add_reason(to: &mut Sentence, state: &State, scene: &Scene<'_>, cause: Cause)
         }
         (Problem(Rule::MustPlay | Rule::NoDeal) | Game(Fault::MustPlay(_)), _) => add_go(to, state),
         (Problem(Rule::AlreadyOver) | Game(Fault::AfterEnd(_)), _) => add_end(to, state, cause),
-        (Game(Fault::NotUnseen(place)), _) => add_seen(to, state, place)?,
-        (Game(Fault::NotAsPlayed(place)), _) => add_as_played(to, scene, place),
+        (Game(Fault::NotUnseen(number)), _) => add_seen(to, state, number)?,
+        (Game(Fault::NotAsPlayed(number)), _) => add_as_played(to, scene, number),
         (Game(Fault::Strays(_)), what) => {
             add_stray(to, scene.input, state.acts.as_slice());
             to.add(format_args!(", and the owner plays {}", moved(&what)));
@@ -73,9 +73,9 @@ fn add_reason(to: &mut Sentence, state: &State, scene: &Scene<'_>, cause: Cause)
     Some(())
 }
 
-// Appends which turn the opening has at a place.
-fn add_as_played(to: &mut Sentence, scene: &Scene<'_>, place: u8) {
-    let line = u32::from(place).saturating_add(8);
+// Appends which turn of this number the opening has.
+fn add_as_played(to: &mut Sentence, scene: &Scene<'_>, number: u8) {
+    let line = u32::from(number).saturating_add(8);
     let turn = typed(text_at(scene.input, line));
     let (front, end) = match scene.row {
         Row::Acts => (ALL_TURNS, "is missing"),
@@ -105,9 +105,10 @@ fn add_not_turn(to: &mut Sentence, state: &State) {
     to.add(format_args!("it is {mover}'s turn, and the count is {count}"));
     match state.held(other) {
         _ if is_idle || is_said => to.add("; leave this line out"),
-        Some(held) if held.has_fitting => to.add(format_args!("; they hold {}", held.text)),
+        _ if state.acts.is_empty() => to.add("; the pone leads, and line 2 says who deals"),
+        Some(held) if held.has_fitting => to.add(format_args!("; {mover} holds {}", held.text)),
         Some(Held { cards, .. }) => to.add(format_args!(
-            "; none of their cards fits ({cards}), so {go} is missing before this line"
+            "; none of {mover}'s cards fits ({cards}), so {go} is missing before this line"
         )),
         None if is_go => {}
         None if count < 22 => to.add("; a card of theirs is missing before this line"),
@@ -165,7 +166,7 @@ fn add_too_high(to: &mut Sentence, state: &State, card: Card) {
 }
 
 // Returns where a card is that the lines above name, and the number of its line.
-fn place_of(state: &State, card: Card) -> Option<(&'static str, u32)> {
+fn where_named(state: &State, card: Card) -> Option<(&'static str, u32)> {
     let problem = &state.problem;
     match state.line_of(&Move::Card(card)) {
         Some(line) => Some(("was played", line)),
@@ -183,7 +184,7 @@ fn add_not_held(to: &mut Sentence, state: &State, card: Card) {
     let is_held = state.dealt.is_some_and(|dealt| dealt.hold.contains(&card));
     let is_thrown = state.dealt.is_some_and(|dealt| dealt.throw.contains(&card));
     let mut joint = "; ";
-    match place_of(state, card) {
+    match where_named(state, card) {
         Some((_, 5)) => to.add(format_args!("the owner holds {name}")),
         Some((at, line)) => to.add(format_args!("{name} {at} (line {line})")),
         None if is_held => to.add(format_args!("the opponent holds {name}")),
@@ -199,17 +200,17 @@ fn add_not_held(to: &mut Sentence, state: &State, card: Card) {
     }
 }
 
-// Appends where a card of the opponent is before, from its place among the six.
-fn add_seen(to: &mut Sentence, state: &State, place: u8) -> Option<()> {
+// Appends where a card of the opponent is before, from its number among the six.
+fn add_seen(to: &mut Sentence, state: &State, number: u8) -> Option<()> {
     let dealt = state.dealt?;
-    let at = usize::from(place).saturating_sub(1);
+    let at = usize::from(number).saturating_sub(1);
     let thrown = dealt.throw.get(at.saturating_sub(4));
     let card = *dealt.hold.get(at).or(thrown)?;
     let name = named(card);
     let line = state.line.saturating_sub(2);
-    match place_of(state, card) {
+    match where_named(state, card) {
         Some((at, line)) => to.add(format_args!("{name} {at} (line {line})")),
-        None if place > 4 && dealt.hold.contains(&card) => {
+        None if number > 4 && dealt.hold.contains(&card) => {
             to.add(format_args!("{name} is in the opponent's hold (line {line})"));
         }
         None => to.add(format_args!("{name} stands twice in this line")),

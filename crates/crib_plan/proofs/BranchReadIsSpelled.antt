@@ -93,42 +93,42 @@ letters_found before bytes letters e =
 abbrev pub IsPlain : Branch → Type 0
 IsPlain branch = (list_any is_colon branch.set ≡ false) × (list_any is_colon (decimal branch.node) ≡ false) × (branch.node < 2 ^ 32)
 
-branch_found : (place count : ℕ) (earlier : List Branch) (before after : Branches) (word : List ℕ) → Stand place count earlier before
-    → branch_in place count before word ≡ Ok after
-    → (branch : Branch) × (word ≡ branch_spelling branch) × IsPlain branch × Stand place count (earlier ++ branch ∷ []) after
+branch_found : (number count : ℕ) (earlier : List Branch) (before after : Branches) (word : List ℕ) → Stand number count earlier before
+    → branch_in number count before word ≡ Ok after
+    → (branch : Branch) × (word ≡ branch_spelling branch) × IsPlain branch × Stand number count (earlier ++ branch ∷ []) after
 unfolding branch_in
-branch_found place count earlier before after word stand e =
+branch_found number count earlier before after word stand e =
     let a = bind_ok (parts_in word) _ after e in
     let b = bind_ok (letters_in before a.0.front) _ after a.2 in
-    let d = bind_ok (branch_node_in place count a.0.back) _ after b.2 in
+    let d = bind_ok (branch_node_in number count a.0.back) _ after b.2 in
     let f = bind_ok (unless_refused bad_set (not (list_any (leads_to d.0) before.nexts))) _ after d.2 in
     let parts = parts_found word a.0 a.1 in
     let letters = letters_found before a.0.front b.0 b.1 in
-    let node = branch_node_found place count a.0.back d.0 d.1 in
+    let node = branch_node_found number count a.0.back d.0 d.1 in
     let branch : Branch = record { set = a.0.front; node = d.0 } in (
       branch,
       parts.whole ∙ ap (λ (w : List ℕ). a.0.front ++ colon ∷ w) node.0,
       (parts.none_in_front, ap (list_any is_colon) (sym node.0) ∙ parts.none_behind, node.1),
-      subst (λ (v : Branches). Stand place count (earlier ++ branch ∷ []) v) (ok_is _ after f.2)
-          (one_more place count earlier before branch b.0 stand letters (node.2, node.3) (not-true _ (unless_ok _ bad_set f.0 f.1))),
+      subst (λ (v : Branches). Stand number count (earlier ++ branch ∷ []) v) (ok_is _ after f.2)
+          (one_more number count earlier before branch b.0 stand letters (node.2, node.3) (not-true _ (unless_ok _ bad_set f.0 f.1))),
     )
 
-pub branches_found : (place count : ℕ) (earlier : List Branch) (before after : Branches) (words : List (List ℕ)) → Stand place count earlier before
-    → branches_in place count before words ≡ Ok after
-    → (more : List Branch) × (words ≡ map branch_spelling more) × AllByRecursion IsPlain more × Stand place count (earlier ++ more) after
+pub branches_found : (number count : ℕ) (earlier : List Branch) (before after : Branches) (words : List (List ℕ)) → Stand number count earlier before
+    → branches_in number count before words ≡ Ok after
+    → (more : List Branch) × (words ≡ map branch_spelling more) × AllByRecursion IsPlain more × Stand number count (earlier ++ more) after
 unfolding branches_in
-branches_found place count earlier before after [] stand e =
-    ([], refl, tt, subst (λ (v : Branches). Stand place count (earlier ++ []) v) (ok_is before after e) (rw (append-nil earlier) stand))
-branches_found place count earlier before after (word ∷ words) stand e =
-    let a = bind_ok (branch_in place count before word) _ after e in
-    let one = branch_found place count earlier before a.0 word stand a.1 in
-    let more = branches_found place count (earlier ++ one.0 ∷ []) a.0 after words one.3 a.2 in
-    let stands = subst (λ (bs : List Branch). Stand place count bs after) (append_assoc earlier (one.0 ∷ []) more.0) more.3 in
+branches_found number count earlier before after [] stand e =
+    ([], refl, tt, subst (λ (v : Branches). Stand number count (earlier ++ []) v) (ok_is before after e) (rw (append-nil earlier) stand))
+branches_found number count earlier before after (word ∷ words) stand e =
+    let a = bind_ok (branch_in number count before word) _ after e in
+    let one = branch_found number count earlier before a.0 word stand a.1 in
+    let more = branches_found number count (earlier ++ one.0 ∷ []) a.0 after words one.3 a.2 in
+    let stands = subst (λ (bs : List Branch). Stand number count bs after) (append_assoc earlier (one.0 ∷ []) more.0) more.3 in
     (one.0 ∷ more.0, cc (one.1, more.1), (one.2, more.2), stands)
 
 -- all branches of a line were read
-pub line_found : (place count : ℕ) (words : List (List ℕ)) (after : Branches) → branches_in place count no_branches words ≡ Ok after
-    → (words ≡ map (branch_word after.nexts) (nodes_of [] after.nexts)) × (length after.nexts ≡ 14) × AllByRecursion (IsLater place count) after.nexts
-line_found place count words after e =
-    let h = branches_found place count [] no_branches after words (none_stand place count) e in
+pub line_found : (number count : ℕ) (words : List (List ℕ)) (after : Branches) → branches_in number count no_branches words ≡ Ok after
+    → (words ≡ map (branch_word after.nexts) (nodes_of [] after.nexts)) × (length after.nexts ≡ 14) × AllByRecursion (IsLater number count) after.nexts
+line_found number count words after e =
+    let h = branches_found number count [] no_branches after words (none_stand number count) e in
     (h.1 ∙ ap (map branch_spelling) h.3.are ∙ map-map branch_spelling (branch_at after.nexts) (nodes_of [] after.nexts), h.3.long, h.3.later)

@@ -19,19 +19,19 @@ use Rattle.crib_plan.proofs.WordLemmas.{decimal_not_end}
 
 -- ---- where a node goes on
 
-pub later_spelled : (place count node : ℕ) → place < node → node < count → later_node place count node ≡ Ok node
+pub later_spelled : (number count node : ℕ) → number < node → node < count → later_node number count node ≡ Ok node
 unfolding later_node
-later_spelled place count node above below = rw (lt-ltb place node above, lt-ltb node count below) refl
+later_spelled number count node above below = rw (lt-ltb number node above, lt-ltb node count below) refl
 
-node_spelled : (place count node : ℕ) → count ≤ 65535 → place < node → node < count → node_in place count (decimal node) ≡ Ok node
+node_spelled : (number count node : ℕ) → count ≤ 65535 → number < node → node < count → node_in number count (decimal node) ≡ Ok node
 unfolding node_in
-node_spelled place count node few above below = rw (number_spelled node (omega arith)) (later_spelled place count node above below)
+node_spelled number count node few above below = rw (number_spelled node (omega arith)) (later_spelled number count node above below)
 
-pub next_spelled : (place count : ℕ) (next : Next) → count ≤ 65535 → IsLater place count next → next_in place count (next_word next) ≡ Ok next
+pub next_spelled : (number count : ℕ) (next : Next) → count ≤ 65535 → IsLater number count next → next_in number count (next_word next) ≡ Ok next
 unfolding next_in
-next_spelled place count End few later = refl
-next_spelled place count (To node) few later =
-    rw (decimal_not_end node (omega (arith, later.1)), node_spelled place count node few later.0 later.1) refl
+next_spelled number count End few later = refl
+next_spelled number count (To node) few later =
+    rw (decimal_not_end node (omega (arith, later.1)), node_spelled number count node few later.0 later.1) refl
 
 -- ---- the two parts of a word
 

@@ -38,17 +38,17 @@ first_of_node node nexts long less =
     ap first_number (letters_chosen node letter_bytes nexts)
     ∙ number_of_first (map (leads_to node) nexts) letter_bytes refl (all ∙ long) (omega (arith, first, all, long, less)) ∙ first
 
-found_before : (node : ℕ) (nexts : List Next) (place : ℕ) → leads (take place nexts) node ≡ true → position_or_len (leads_to node) nexts < place
-found_before node (next ∷ nexts) (suc place) e = grind (arith, e, found_before node nexts place)
-found_before node [] (suc place) e = absurd cc
+found_before : (node : ℕ) (nexts : List Next) (index : ℕ) → leads (take index nexts) node ≡ true → position_or_len (leads_to node) nexts < index
+found_before node (next ∷ nexts) (suc index) e = grind (arith, e, found_before node nexts index)
+found_before node [] (suc index) e = absurd cc
 found_before node nexts zero e = absurd cc
 
-found_at : (node : ℕ) (nexts : List Next) (place : ℕ) → place < length nexts → leads (take place nexts) node ≡ false → get_or nexts place End ≡ To node
-    → position_or_len (leads_to node) nexts ≡ place
-found_at node nexts place inside fresh is =
-    position_or_len_is (leads_to node) nexts place End (omega arith)
-    (λ k below. ap (leads_to node) (sym (get_or-take place nexts k End below))
-    ∙ none_at (leads_to node) (take place nexts) k End (omega (arith, length-take place nexts)) fresh)
+found_at : (node : ℕ) (nexts : List Next) (index : ℕ) → index < length nexts → leads (take index nexts) node ≡ false → get_or nexts index End ≡ To node
+    → position_or_len (leads_to node) nexts ≡ index
+found_at node nexts index inside fresh is =
+    position_or_len_is (leads_to node) nexts index End (omega arith)
+    (λ k below. ap (leads_to node) (sym (get_or-take index nexts k End below))
+    ∙ none_at (leads_to node) (take index nexts) k End (omega (arith, length-take index nexts)) fresh)
     (λ there. ap (leads_to node) is ∙ eq-eqb node node refl)
 
 -- ---- each branch of a node is allowed after those of the nodes before it
@@ -56,19 +56,19 @@ found_at node nexts place inside fresh is =
 leads_to_is : (next : Next) (node : ℕ) → leads_to node next ≡ true → next ≡ To node
 leads_to_is next node e = grind (arith, nat_tests, e)
 
-behind_all : (nexts : List Next) (nodes : List ℕ) (number : ℕ)
-    → ((node : ℕ) → has nodes node ≡ true → first_number (letters_to node letter_bytes nexts) < number) → IsBehindLast (map (branch_at nexts) nodes) number
-behind_all nexts [] number all = tt
-behind_all nexts (node ∷ []) number all = all node (has_here node [])
-behind_all nexts (node ∷ next ∷ nodes) number all =
-    behind_all nexts (next ∷ nodes) number (λ other h. all other (has_there node other (next ∷ nodes) h))
+behind_all : (nexts : List Next) (nodes : List ℕ) (index : ℕ)
+    → ((node : ℕ) → has nodes node ≡ true → first_number (letters_to node letter_bytes nexts) < index) → IsBehindLast (map (branch_at nexts) nodes) index
+behind_all nexts [] index all = tt
+behind_all nexts (node ∷ []) index all = all node (has_here node [])
+behind_all nexts (node ∷ next ∷ nodes) index all =
+    behind_all nexts (next ∷ nodes) index (λ other h. all other (has_there node other (next ∷ nodes) h))
 
-is_next : (all : List Next) (place node : ℕ) → length all ≡ 14 → place < 14 → get_or all place End ≡ To node → leads (take place all) node ≡ false
-    → IsNextSet (map (branch_at all) (nodes_of [] (take place all))) (letters_to node letter_bytes all)
-is_next all place node long inside is fresh =
-    let front : List Next = take place all in
-    let at = found_at node all place (omega (arith, long, inside)) fresh is in
-    let first : first_number (letters_to node letter_bytes all) ≡ place = first_of_node node all long (omega (arith, at, inside)) ∙ at in
+is_next : (all : List Next) (index node : ℕ) → length all ≡ 14 → index < 14 → get_or all index End ≡ To node → leads (take index all) node ≡ false
+    → IsNextSet (map (branch_at all) (nodes_of [] (take index all))) (letters_to node letter_bytes all)
+is_next all index node long inside is fresh =
+    let front : List Next = take index all in
+    let at = found_at node all index (omega (arith, long, inside)) fresh is in
+    let first : first_number (letters_to node letter_bytes all) ≡ index = first_of_node node all long (omega (arith, at, inside)) ∙ at in
     record {
       some = some_bytes (letters_to node letter_bytes all) (omega (arith, first, inside));
       in_order = subst (λ (bytes : List ℕ). AreInOrder bytes letter_bytes) (sym (letters_chosen node letter_bytes all))
@@ -79,62 +79,62 @@ is_next all place node long inside is fresh =
           (where_among all letter (To node) (nodes_of [] front) (λ other. letter_at all letter other long ∙ ap (leads_to other) to)
           ∙ ap (λ (b : Bool). cond b (To node) End) (has_nodes front node ∙ fresh));
       behind = behind_all all (nodes_of [] front) (first_number (letters_to node letter_bytes all)) (λ other h.
-          let before = found_before other all place (sym (has_nodes front other) ∙ h) in
+          let before = found_before other all index (sym (has_nodes front other) ∙ h) in
           omega (arith, first, before, first_of_node other all long (omega (arith, before, inside))));
     }
 
 -- ---- all branches of a line pass
 
-later_at : (place count : ℕ) (nexts : List Next) (k : ℕ) → AllByRecursion (IsLater place count) nexts → IsLater place count (get_or nexts k End)
-later_at place count [] k all = tt
-later_at place count (next ∷ nexts) zero all = all.0
-later_at place count (next ∷ nexts) (suc k) all = later_at place count nexts k all.1
+later_at : (number count : ℕ) (nexts : List Next) (k : ℕ) → AllByRecursion (IsLater number count) nexts → IsLater number count (get_or nexts k End)
+later_at number count [] k all = tt
+later_at number count (next ∷ nexts) zero all = all.0
+later_at number count (next ∷ nexts) (suc k) all = later_at number count nexts k all.1
 
 -- the branches of the nodes that the first letters lead to
 abbrev first_branches : List Next → List Next → List Branch
 first_branches all front = map (branch_at all) (nodes_of [] front)
 
-one_passes : (place count : ℕ) (all : List Next) (k : ℕ) (next : Next) → count ≤ 65535 → length all ≡ 14 → k < 14 → get_or all k End ≡ next
-    → IsLater place count next → Pass place count (first_branches all (take k all)) → Pass place count (first_branches all (take k all ++ next ∷ []))
-one_passes place count all k End few long inside is later so_far =
-    subst (λ (nodes : List ℕ). Pass place count (map (branch_at all) nodes))
+one_passes : (number count : ℕ) (all : List Next) (k : ℕ) (next : Next) → count ≤ 65535 → length all ≡ 14 → k < 14 → get_or all k End ≡ next
+    → IsLater number count next → Pass number count (first_branches all (take k all)) → Pass number count (first_branches all (take k all ++ next ∷ []))
+one_passes number count all k End few long inside is later so_far =
+    subst (λ (nodes : List ℕ). Pass number count (map (branch_at all) nodes))
     (sym (nodes_of-append [] (take k all) (End ∷ []) ∙ append-nil (nodes_of [] (take k all)))) so_far
-one_passes place count all k (To node) few long inside is later so_far =
+one_passes number count all k (To node) few long inside is later so_far =
     let front : List Next = take k all in
     elim (cases_Bool (leads front node)) [
-      | inl old ↦ subst (λ (nodes : List ℕ). Pass place count (map (branch_at all) nodes))
+      | inl old ↦ subst (λ (nodes : List ℕ). Pass number count (map (branch_at all) nodes))
           (sym (nodes_more front node true old ∙ append-nil (nodes_of [] front))) so_far
       | inr fresh ↦
           let below = later.1 in
           let letters = no_colon (letters_to node letter_bytes all) (all_letters (λ byte. not (is_colon byte)) node letter_bytes all refl) in
           let digits = digits_colon (decimal node) (decimal_digits node (omega arith)) in
           let new : _ ≡ false = has_node_at all (nodes_of [] front) node ∙ has_nodes front node ∙ fresh in
-          let ok = pass_law place count (first_branches all front) (letters_to node letter_bytes all) (decimal node) node so_far letters digits
+          let ok = pass_law number count (first_branches all front) (letters_to node letter_bytes all) (decimal node) node so_far letters digits
           (is_next all k node long inside is fresh) (number_read-decimal node (omega arith)) later new in
-          let passed = subst (λ (ws : List (List ℕ)). IsOk (branches_in place count no_branches ws))
+          let passed = subst (λ (ws : List (List ℕ)). IsOk (branches_in number count no_branches ws))
           (sym (map-append branch_spelling (first_branches all front) (branch_at all node ∷ []))) ok in
-          subst (λ (bs : List Branch). Pass place count bs)
+          subst (λ (bs : List Branch). Pass number count bs)
           (sym (ap (map (branch_at all)) (nodes_more front node false fresh) ∙ map-append (branch_at all) (nodes_of [] front) (node ∷ [])))
           (all_more (λ (branch : Branch). branch.node ≤ 4294967295) (first_branches all front) (branch_at all node) so_far.0 (omega arith), passed)
     ]
 
-passes : (place count : ℕ) (all : List Next) (k : ℕ) → count ≤ 65535 → length all ≡ 14 → AllByRecursion (IsLater place count) all → k ≤ 14
-    → Pass place count (first_branches all (take k all))
+passes : (number count : ℕ) (all : List Next) (k : ℕ) → count ≤ 65535 → length all ≡ 14 → AllByRecursion (IsLater number count) all → k ≤ 14
+    → Pass number count (first_branches all (take k all))
 unfolding branches_in
-passes place count all zero few long later inside = (tt, refl)
-passes place count all (suc k) few long later inside =
+passes number count all zero few long later inside = (tt, refl)
+passes number count all (suc k) few long later inside =
     let more : take (suc k) all ≡ take k all ++ get_or all k End ∷ [] =
     ap (λ (i : ℕ). take i all) {x = suc k} {y = k + 1} (omega arith) ∙ take_more all k End (omega (arith, long, inside)) in
-    subst (λ (ns : List Next). Pass place count (first_branches all ns)) (sym more)
-    (one_passes place count all k (get_or all k End) few long (omega arith) refl (later_at place count all k later)
-    (passes place count all k few long later (omega arith)))
+    subst (λ (ns : List Next). Pass number count (first_branches all ns)) (sym more)
+    (one_passes number count all k (get_or all k End) few long (omega arith) refl (later_at number count all k later)
+    (passes number count all k few long later (omega arith)))
 
-pub line_spelled : (place count : ℕ) (nexts : List Next) → count ≤ 65535 → length nexts ≡ 14 → AllByRecursion (IsLater place count) nexts
-    → (last : ℕ) × (branches_in place count no_branches (map (branch_word nexts) (nodes_of [] nexts)) ≡ Ok (record { nexts = nexts; least = last }))
-line_spelled place count nexts few long later =
-    let pass = subst (λ (ns : List Next). Pass place count (first_branches nexts ns)) (take_all 14 nexts (omega (arith, long)))
-    (passes place count nexts 14 few long later (omega arith)) in
-    let p = passing place count (branches_of nexts) pass in
+pub line_spelled : (number count : ℕ) (nexts : List Next) → count ≤ 65535 → length nexts ≡ 14 → AllByRecursion (IsLater number count) nexts
+    → (last : ℕ) × (branches_in number count no_branches (map (branch_word nexts) (nodes_of [] nexts)) ≡ Ok (record { nexts = nexts; least = last }))
+line_spelled number count nexts few long later =
+    let pass = subst (λ (ns : List Next). Pass number count (first_branches nexts ns)) (take_all 14 nexts (omega (arith, long)))
+    (passes number count nexts 14 few long later (omega arith)) in
+    let p = passing number count (branches_of nexts) pass in
     let same = same_nexts p.before.nexts nexts p.stand.long long (sym p.stand.are) in
-    let words = ap (branches_in place count no_branches) (sym (map-map branch_spelling (branch_at nexts) (nodes_of [] nexts))) in
+    let words = ap (branches_in number count no_branches) (sym (map-map branch_spelling (branch_at nexts) (nodes_of [] nexts))) in
     (p.before.least, words ∙ p.read ∙ ap (λ (ns : List Next). Ok (record { nexts = ns; least = p.before.least })) same)

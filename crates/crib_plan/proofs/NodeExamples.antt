@@ -10,7 +10,7 @@ use Rattle.crib_plan.specs.Nodes.{ArePlan, AreNodes, most_nodes}
 pub are_a_plan : ArePlan (Play 4 (To 1) ∷ See (To 2 ∷ replicate 13 End) ∷ Play 51 End ∷ [])
 are_a_plan = omega arith
 
--- a node to itself, also a look and a third one; a place behind the last node; a see node that has a branch for each rank and none for the go; and no card
+-- a node to itself, also a look and a third one; a number behind the last node; a see node that has a branch for each rank and none for the go; and no card
 pub no_plans :
     ¬ (ArePlan (Play 4 (To 1) ∷ Play 5 (To 1) ∷ [])) × ¬ (ArePlan (Play 4 (To 1) ∷ Play 5 (To 2) ∷ Play 6 (To 2) ∷ []))
     × ¬ (ArePlan (See (To 0 ∷ replicate 13 End) ∷ [])) × ¬ (ArePlan (Play 4 (To 1) ∷ [])) × ¬ (ArePlan (See (To 1 ∷ replicate 13 End) ∷ []))
@@ -24,9 +24,9 @@ node_numbers_of_two_bytes = refl
 pub too_many_nodes_for_a_plan : ArePlan (replicate 65536 (Play 4 End)) → ⊥
 too_many_nodes_for_a_plan is = omega (arith, is.0, length-replicate 65536 (Play 4 End))
 
-ends_are_nodes : (more place count : ℕ) → AreNodes place count (replicate more (Play 4 End))
-ends_are_nodes zero place count = tt
-ends_are_nodes (suc more) place count = ((omega arith, tt), ends_are_nodes more (place + 1) count)
+ends_are_nodes : (more number count : ℕ) → AreNodes number count (replicate more (Play 4 End))
+ends_are_nodes zero number count = tt
+ends_are_nodes (suc more) number count = ((omega arith, tt), ends_are_nodes more (number + 1) count)
 
 pub most_nodes_are_a_plan : ArePlan (replicate 65535 (Play 4 End))
 most_nodes_are_a_plan =

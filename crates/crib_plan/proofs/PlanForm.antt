@@ -21,17 +21,17 @@ use Rattle.crib_plan.proofs.WrittenIsSpelled.{branches_len}
 use Rattle.crib_plan.proofs.ReadIsSpelled.{node_found}
 use Rattle.crib_plan.proofs.SpelledIsRead.{node_spelled}
 
--- what a node is to be at its place, in a plan of so many nodes
+-- what a node with a number is to be in a plan of so many nodes
 abbrev IsRow : ℕ → ℕ → Node → Type 0
-IsRow count place node = (place < 2 ^ 32) × IsNode place count node
+IsRow count number node = (number < 2 ^ 32) × IsNode number count node
 
-some_words : (place : ℕ) (node : Node) → are_words (node_line place node) ≡ list_all is_word (node_line place node)
-some_words place (Play card next) = refl
-some_words place (See nexts) = refl
+some_words : (number : ℕ) (node : Node) → are_words (node_line number node) ≡ list_all is_word (node_line number node)
+some_words number (Play card next) = refl
+some_words number (See nexts) = refl
 
-next_short : (place count : ℕ) (next : Next) → count ≤ most_nodes → IsLater place count next → length (next_word next) ≤ 5
-next_short place count End few later = omega arith
-next_short place count (To node) few later = five_digits node (omega (arith, few, later.1))
+next_short : (number count : ℕ) (next : Next) → count ≤ most_nodes → IsLater number count next → length (next_word next) ≤ 5
+next_short number count End few later = omega arith
+next_short number count (To node) few later = five_digits node (omega (arith, few, later.1))
 
 branches_length : (all : List Next) (nodes : List ℕ) → words_length (map (branch_word all) nodes) ≡ length (flat_map (spaced_branch all) nodes)
 branches_length all [] = refl
@@ -39,18 +39,18 @@ branches_length all (node ∷ nodes) =
     omega (arith, branches_length all nodes, length-append (spaced_branch all node) (flat_map (spaced_branch all) nodes))
 
 -- at most ten digits, a keyword, and fourteen branches with a letter each
-node_short : (place count : ℕ) (node : Node) → count ≤ most_nodes → IsRow count place node → words_length (node_line place node) ≤ 127
-node_short place count (Play card next) few is = omega (arith, ten_digits place is.0, next_short place count next few is.1.1)
-node_short place count (See nexts) few is =
-    let branches = branches_len place count nexts is.1.1 is.1.0 few in
-    omega (arith, ten_digits place is.0, branches_length nexts (nodes_of [] nexts), branches)
+node_short : (number count : ℕ) (node : Node) → count ≤ most_nodes → IsRow count number node → words_length (node_line number node) ≤ 127
+node_short number count (Play card next) few is = omega (arith, ten_digits number is.0, next_short number count next few is.1.1)
+node_short number count (See nexts) few is =
+    let branches = branches_len number count nexts is.1.1 is.1.0 few in
+    omega (arith, ten_digits number is.0, branches_length nexts (nodes_of [] nexts), branches)
 
-node_form : (count : ℕ) → count ≤ most_nodes → (place : ℕ) → AreWordsForm (node_from place count) (node_line place) (IsRow count place) (λ node. 127)
-node_form count few place = record {
-  found = λ words node e. let line = node_found place count words node e in (line.0, (line.1, line.2));
-  spelled = λ node is. node_spelled place count node is.0 few is.1;
-  full = λ node is. sym (some_words place node) ∙ node_words place count node is.0 few is.1;
-  short = λ node is. node_short place count node few is;
+node_form : (count : ℕ) → count ≤ most_nodes → (number : ℕ) → AreWordsForm (node_from number count) (node_line number) (IsRow count number) (λ node. 127)
+node_form count few number = record {
+  found = λ words node e. let line = node_found number count words node e in (line.0, (line.1, line.2));
+  spelled = λ node is. node_spelled number count node is.0 few is.1;
+  full = λ node is. sym (some_words number node) ∙ node_words number count node is.0 few is.1;
+  short = λ node is. node_short number count node few is;
 }
 
 count_form : AreWordsForm count_in (λ count. codes "nodes" ∷ decimal count ∷ []) (λ count. count ≤ most_nodes) (λ count. 12)
@@ -64,17 +64,17 @@ unfolding count_at
 count_at_form =
     then_form _ (λ _. tt) (line_form (header_form (codes "plan") refl) (λ _. refl)) (λ header. line_form count_form (λ _. refl)) (λ header count is few. refl)
 
-nodes_of_rows : (place count : ℕ) (nodes : List Node) → AreRows (IsRow count) place nodes → AreNodes place count nodes
-nodes_of_rows place count [] are = tt
-nodes_of_rows place count (node ∷ nodes) are = (are.0.1, nodes_of_rows (place + 1) count nodes are.1)
+nodes_of_rows : (number count : ℕ) (nodes : List Node) → AreRows (IsRow count) number nodes → AreNodes number count nodes
+nodes_of_rows number count [] are = tt
+nodes_of_rows number count (node ∷ nodes) are = (are.0.1, nodes_of_rows (number + 1) count nodes are.1)
 
-rows_of_nodes : (place count : ℕ) (nodes : List Node) → place + length nodes ≤ most_nodes → AreNodes place count nodes → AreRows (IsRow count) place nodes
-rows_of_nodes place count [] few are = tt
-rows_of_nodes place count (node ∷ nodes) few are = ((omega arith, are.0), rows_of_nodes (place + 1) count nodes (omega arith) are.1)
+rows_of_nodes : (number count : ℕ) (nodes : List Node) → number + length nodes ≤ most_nodes → AreNodes number count nodes → AreRows (IsRow count) number nodes
+rows_of_nodes number count [] few are = tt
+rows_of_nodes number count (node ∷ nodes) few are = ((omega arith, are.0), rows_of_nodes (number + 1) count nodes (omega arith) are.1)
 
-same_lines : (place : ℕ) (nodes : List Node) → row_lines node_line place nodes ≡ node_lines place nodes
-same_lines place [] = refl
-same_lines place (node ∷ nodes) = ap (λ ls. node_line place node ∷ ls) (same_lines (place + 1) nodes)
+same_lines : (number : ℕ) (nodes : List Node) → row_lines node_line number nodes ≡ node_lines number nodes
+same_lines number [] = refl
+same_lines number (node ∷ nodes) = ap (λ ls. node_line number node ∷ ls) (same_lines (number + 1) nodes)
 
 -- 19 bytes for the first two lines, and at most 127 for the line of each node
 pub plan_form : IsForm plan_at plan_lines ArePlan (λ plan. 19 + 127 * length plan)

@@ -17,7 +17,7 @@ use Rattle.crib_plan.specs.Spelling.{letter_bytes, leads_to, letters_to, nodes_o
 use Rattle.crib_plan.specs.Reading.{is_end, is_free, are_free, led_by, Branches, no_branches, Letters}
 use Rattle.crib_plan.specs.SeeLaws.{Branch, AreInOrder, letter_number, first_number, has_letter, has_node, IsBehindLast, IsNextSet}
 use Rattle.crib_plan.proofs.LeadsTo.{leads, leads_in, has_nodes}
-use Rattle.crib_plan.proofs.SeeSets.{chosen, chosen_in_order, place_of, has_chosen, letters_chosen, number_of_first, free_at}
+use Rattle.crib_plan.proofs.SeeSets.{chosen, chosen_in_order, index_of, has_chosen, letters_chosen, number_of_first, free_at}
 
 -- ---- nodes
 
@@ -37,7 +37,7 @@ no_more node before holding nexts long none = absurd (omega arith)
 first_later : (holding : List Bool) → position_or_len (λ holds. holds) (false ∷ holding) + 1 ≡ suc (position_or_len (λ holds. holds) holding + 1)
 first_later holding = omega arith
 
--- a new node is last among the nodes, if no branch from the place of its first letter on has a new node
+-- a new node is last among the nodes, if no branch from the index of its first letter on has a new node
 nodes_led : (node : ℕ) (before : List ℕ) (holding : List Bool) (nexts : List Next) (least : ℕ) → length holding ≡ length nexts
     → are_free holding nexts ≡ true → leads nexts node ≡ false → has before node ≡ false
     → least ≤ position_or_len (λ holds. holds) holding → position_or_len (λ holds. holds) holding < length holding
@@ -96,16 +96,16 @@ letters_new node (letter ∷ letters) (holds ∷ holding) (next ∷ nexts) fresh
     grind (arith, nat_tests, apart.0, letters_new node letters holding nexts apart.1 (omega arith))
 letters_new node letters holding nexts fresh long = absurd (omega arith)
 
-all_led : (place count node : ℕ) → IsLater place count (To node) → (holding : List Bool) (nexts : List Next) → AllByRecursion (IsLater place count) nexts →
-    AllByRecursion (IsLater place count) (led_by node holding nexts)
-all_led place count node later [] nexts all = all
-all_led place count node later (holds ∷ holding) [] all = tt
-all_led place count node later (true ∷ holding) (next ∷ nexts) all = (later, all_led place count node later holding nexts all.1)
-all_led place count node later (false ∷ holding) (next ∷ nexts) all = (all.0, all_led place count node later holding nexts all.1)
+all_led : (number count node : ℕ) → IsLater number count (To node) → (holding : List Bool) (nexts : List Next) → AllByRecursion (IsLater number count) nexts →
+    AllByRecursion (IsLater number count) (led_by node holding nexts)
+all_led number count node later [] nexts all = all
+all_led number count node later (holds ∷ holding) [] all = tt
+all_led number count node later (true ∷ holding) (next ∷ nexts) all = (later, all_led number count node later holding nexts all.1)
+all_led number count node later (false ∷ holding) (next ∷ nexts) all = (all.0, all_led number count node later holding nexts all.1)
 
-all_ends : (place count k : ℕ) → AllByRecursion (IsLater place count) (replicate k End)
-all_ends place count zero = tt
-all_ends place count (suc k) = (tt, all_ends place count k)
+all_ends : (number count k : ℕ) → AllByRecursion (IsLater number count) (replicate k End)
+all_ends number count zero = tt
+all_ends number count (suc k) = (tt, all_ends number count k)
 
 -- ---- the branches so far
 
@@ -121,20 +121,20 @@ map_agree f g [] same = refl
 map_agree f g (node ∷ nodes) same = cc (same node (has_here node nodes), map_agree f g nodes (λ other h. same other (has_there node other nodes h)))
 
 -- what the code keeps represents the branches that were read
-pub record Stand (place count : ℕ) (earlier : List Branch) (before : Branches) : Type 0 where
+pub record Stand (number count : ℕ) (earlier : List Branch) (before : Branches) : Type 0 where
   pub long : length before.nexts ≡ 14
-  pub later : AllByRecursion (IsLater place count) before.nexts
+  pub later : AllByRecursion (IsLater number count) before.nexts
   pub low : nodes_of [] (take before.least before.nexts) ≡ nodes_of [] before.nexts
   pub are : earlier ≡ branches_of before.nexts
-  pub behind : (number : ℕ) → (before.least ≤ number → IsBehindLast earlier number) × (IsBehindLast earlier number → before.least ≤ number)
+  pub behind : (index : ℕ) → (before.least ≤ index → IsBehindLast earlier index) × (IsBehindLast earlier index → before.least ≤ index)
 
-pub none_stand : (place count : ℕ) → Stand place count [] no_branches
-none_stand place count = record { long = refl; later = all_ends place count 14; low = refl; are = refl; behind = λ number. (λ h. tt, λ h. omega arith) }
+pub none_stand : (number count : ℕ) → Stand number count [] no_branches
+none_stand number count = record { long = refl; later = all_ends number count 14; low = refl; are = refl; behind = λ index. (λ h. tt, λ h. omega arith) }
 
-behind_last : (earlier : List Branch) (branch : Branch) (number : ℕ) → IsBehindLast (earlier ++ branch ∷ []) number ↔ first_number branch.set < number
-behind_last [] branch number = (λ h. h, λ h. h)
-behind_last (one ∷ []) branch number = (λ h. h, λ h. h)
-behind_last (one ∷ next ∷ earlier) branch number = behind_last (next ∷ earlier) branch number
+behind_last : (earlier : List Branch) (branch : Branch) (index : ℕ) → IsBehindLast (earlier ++ branch ∷ []) index ↔ first_number branch.set < index
+behind_last [] branch index = (λ h. h, λ h. h)
+behind_last (one ∷ []) branch index = (λ h. h, λ h. h)
+behind_last (one ∷ next ∷ earlier) branch index = behind_last (next ∷ earlier) branch index
 
 -- bytes that were read as the letters of the next branch
 pub record AreLetters (before : Branches) (bytes : List ℕ) (letters : Letters) : Type 0 where
@@ -156,10 +156,10 @@ length-led node (holds ∷ holding) [] = refl
 length-led node (holds ∷ holding) (next ∷ nexts) = ap suc (length-led node holding nexts)
 
 -- one more branch was read
-pub one_more : (place count : ℕ) (earlier : List Branch) (before : Branches) (branch : Branch) (letters : Letters) → Stand place count earlier before
-    → AreLetters before branch.set letters → IsLater place count (To branch.node) → leads before.nexts branch.node ≡ false
-    → Stand place count (earlier ++ branch ∷ []) (record { nexts = led_by branch.node letters.set before.nexts; least = letters.first + 1 })
-one_more place count earlier before branch letters stand are later fresh =
+pub one_more : (number count : ℕ) (earlier : List Branch) (before : Branches) (branch : Branch) (letters : Letters) → Stand number count earlier before
+    → AreLetters before branch.set letters → IsLater number count (To branch.node) → leads before.nexts branch.node ≡ false
+    → Stand number count (earlier ++ branch ∷ []) (record { nexts = led_by branch.node letters.set before.nexts; least = letters.first + 1 })
+one_more number count earlier before branch letters stand are later fresh =
     let nexts : List Next = before.nexts in
     let node : ℕ = branch.node in
     let after : List Next = led_by node letters.set nexts in
@@ -171,15 +171,15 @@ one_more place count earlier before branch letters stand are later fresh =
     ap (λ (ls : List ℕ). record { set = ls; node = other }) (letters_kept other node differs letter_bytes letters.set nexts are.free)) in
     let new : branch_at after node ≡ branch =
     ap (λ (ls : List ℕ). record { set = ls; node = node }) (letters_new node letter_bytes letters.set nexts fresh long ∙ sym are.bytes_are) in
-    let number = first_is before branch.set letters are in
+    let same_first = first_is before branch.set letters are in
     record {
       long = length-led node letters.set nexts ∙ stand.long;
-      later = all_led place count node later letters.set nexts stand.later;
+      later = all_led number count node later letters.set nexts stand.later;
       low = ap (λ (k : ℕ). nodes_of [] (take (k + 1) after)) (sym are.first_is) ∙ nodes.1 ∙ sym nodes.0;
       are = ap (λ (bs : List Branch). bs ++ branch ∷ []) (stand.are ∙ sym kept)
           ∙ ap (λ (b : Branch). map (branch_at after) (nodes_of [] nexts) ++ b ∷ []) (sym new)
           ∙ sym (map-append (branch_at after) (nodes_of [] nexts) (node ∷ [])) ∙ ap (map (branch_at after)) (sym nodes.0);
-      behind = λ first. let last = behind_last earlier branch first in (λ h. last.1 (omega (arith, number, h)), λ h. omega (arith, number, last.0 h));
+      behind = λ first. let last = behind_last earlier branch first in (λ h. last.1 (omega (arith, same_first, h)), λ h. omega (arith, same_first, last.0 h));
     }
 
 -- ---- the letters and the nodes of branches
@@ -188,9 +188,9 @@ pub has_node_at : (nexts : List Next) (nodes : List ℕ) (node : ℕ) → has_no
 has_node_at nexts [] node = refl
 has_node_at nexts (other ∷ nodes) node = ap (λ (b : Bool). eqb other node || b) (has_node_at nexts nodes node)
 
-pub node_stands : (place count : ℕ) (earlier : List Branch) (before : Branches) (node : ℕ) → Stand place count earlier before
+pub node_stands : (number count : ℕ) (earlier : List Branch) (before : Branches) (node : ℕ) → Stand number count earlier before
     → leads before.nexts node ≡ has_node earlier node
-node_stands place count earlier before node stand =
+node_stands number count earlier before node stand =
     sym (ap (λ (bs : List Branch). has_node bs node) stand.are ∙ has_node_at before.nexts (nodes_of [] before.nexts) node ∙ has_nodes before.nexts node)
 
 -- where a letter leads
@@ -227,17 +227,17 @@ where_is nexts letter long =
         let inside = list_any_at (leads_to node) nexts (letter_number letter) End in
         grind (arith, nat_tests, is, has_nodes nexts node, inside, get_or_past nexts (letter_number letter) End)
 
-pub letter_stands : (place count : ℕ) (earlier : List Branch) (before : Branches) (letter : ℕ) → Stand place count earlier before
+pub letter_stands : (number count : ℕ) (earlier : List Branch) (before : Branches) (letter : ℕ) → Stand number count earlier before
     → has_letter earlier letter ≡ not (is_end (get_or before.nexts (letter_number letter) End))
-letter_stands place count earlier before letter stand =
+letter_stands number count earlier before letter stand =
     ap (λ (bs : List Branch). has_letter bs letter) stand.are ∙ has_where (branches_of before.nexts) letter
     ∙ ap (λ (to : Next). not (is_end to)) (where_is before.nexts letter stand.long)
 
 -- branches that have the same letters and nodes are the same
 pub same_nexts : (nexts other : List Next) → length nexts ≡ 14 → length other ≡ 14 → branches_of nexts ≡ branches_of other → nexts ≡ other
-same_nexts nexts other long long2 same = ext_get_or End nexts other (long ∙ sym long2) (λ place inside.
-    let letter : ℕ = get_or letter_bytes place 0 in
-    let at : letter_number letter ≡ place = place_of letter_bytes place refl (omega (arith, long, inside)) in
+same_nexts nexts other long long2 same = ext_get_or End nexts other (long ∙ sym long2) (λ index inside.
+    let letter : ℕ = get_or letter_bytes index 0 in
+    let at : letter_number letter ≡ index = index_of letter_bytes index refl (omega (arith, long, inside)) in
     ap (λ (k : ℕ). get_or nexts k End) (sym at) ∙ sym (where_is nexts letter long) ∙ ap (λ (bs : List Branch). where_to bs letter) same
     ∙ where_is other letter long2 ∙ ap (λ (k : ℕ). get_or other k End) at)
 
@@ -247,13 +247,13 @@ pub some_bytes : (set : List ℕ) → first_number set < 14 → 0 < length set
 some_bytes [] less = absurd (omega (arith, less))
 some_bytes (byte ∷ set) less = omega arith
 
-pub next_set_found : (place count : ℕ) (earlier : List Branch) (before : Branches) (set : List ℕ) (letters : Letters) → Stand place count earlier before
+pub next_set_found : (number count : ℕ) (earlier : List Branch) (before : Branches) (set : List ℕ) (letters : Letters) → Stand number count earlier before
     → AreLetters before set letters → IsNextSet earlier set
-next_set_found place count earlier before set letters stand are = record {
+next_set_found number count earlier before set letters stand are = record {
   some = some_bytes set (omega (arith, first_is before set letters are, are.some, are.long));
   in_order = subst (λ (bytes : List ℕ). AreInOrder bytes letter_bytes) (sym are.bytes_are) (chosen_in_order letters.set letter_bytes);
   once = λ letter there.
       let held = sym (has_chosen letters.set letter_bytes letter refl are.long) ∙ ap (λ (s : List ℕ). has s letter) (sym are.bytes_are) ∙ there in
-      letter_stands place count earlier before letter stand ∙ ap not (free_at letters.set before.nexts (letter_number letter) are.free held);
+      letter_stands number count earlier before letter stand ∙ ap not (free_at letters.set before.nexts (letter_number letter) are.free held);
   behind = (stand.behind (first_number set)).0 (omega (arith, first_is before set letters are, are.behind));
 }

@@ -26,7 +26,7 @@ use Rattle.crib_plan.proofs.BranchReadIsSpelled.{letters_found, parts_found, rea
 use Rattle.crib_plan.proofs.LeadsTo.{leads}
 use Rattle.crib_plan.proofs.MemoryLemmas.{Refuses, parts_refuse, letters_refuse}
 use Rattle.crib_plan.proofs.BranchSpelledIsRead.{later_spelled, position_there, parts_spelled}
-use Rattle.crib_plan.proofs.SeeSets.{read_in_order, place_of, has_chosen, chosen_none, number_of_first, free_from}
+use Rattle.crib_plan.proofs.SeeSets.{read_in_order, index_of, has_chosen, chosen_none, number_of_first, free_from}
 use Rattle.crib_plan.proofs.SeeLines.{Stand, none_stand, node_stands, letter_stands, next_set_found}
 
 -- ---- colons
@@ -61,30 +61,30 @@ else_refused number (Err refused) only never = ap Err (only.each refused refl)
 no_cut : (word : List ℕ) → count_by is_colon word ≢ 1 → parts_in word ≡ Err bad_line
 no_cut word other = else_refused bad_line (parts_in word) (parts_refuse refl word) (λ parts e. other (cut_count word parts e))
 
-next_set_read : (place count : ℕ) (earlier : List Branch) (before : Branches) (set : List ℕ) → Stand place count earlier before → IsNextSet earlier set
+next_set_read : (number count : ℕ) (earlier : List Branch) (before : Branches) (set : List ℕ) → Stand number count earlier before → IsNextSet earlier set
     → (letters : Letters) × (letters_in before set ≡ Ok letters)
 unfolding letters_in
-next_set_read place count earlier before set stand is =
+next_set_read number count earlier before set stand is =
     let read = read_in_order letter_bytes set is.in_order in
     let found = read_found letter_bytes set read.0 read.1 in
     let first : ℕ = position_or_len (λ (b : Bool). b) read.0 in
     let some : first < length read.0 =
     grind (arith, found.0, chosen_none read.0 letter_bytes, is.some) in
     let there = position_there (λ (b : Bool). b) read.0 first refl some in
-    let number : first_number set ≡ first = ap (λ (bytes : List ℕ). first_number bytes) found.0 ∙ number_of_first read.0 letter_bytes refl found.1 some in
-    let behind : before.least ≤ first = omega (arith, (stand.behind (first_number set)).1 is.behind, number) in
+    let same_first : first_number set ≡ first = ap (λ (bytes : List ℕ). first_number bytes) found.0 ∙ number_of_first read.0 letter_bytes refl found.1 some in
+    let behind : before.least ≤ first = omega (arith, (stand.behind (first_number set)).1 is.behind, same_first) in
     let free = free_from read.0 before.nexts (λ at inside e.
     let letter : ℕ = get_or letter_bytes at 0 in
-    let same : letter_number letter ≡ at = place_of letter_bytes at refl (omega (arith, found.1, inside)) in
+    let same : letter_number letter ≡ at = index_of letter_bytes at refl (omega (arith, found.1, inside)) in
     let there : has set letter ≡ true = ap (λ (s : List ℕ). has s letter) found.0 ∙ has_chosen read.0 letter_bytes letter refl found.1
     ∙ ap (λ (k : ℕ). get_or read.0 k false) same ∙ e in
-    let ends = sym (letter_stands place count earlier before letter stand) ∙ is.once letter there in
+    let ends = sym (letter_stands number count earlier before letter stand) ∙ is.once letter there in
     ap (λ (k : ℕ). is_end (get_or before.nexts k End)) (sym same) ∙ not-false _ ends) in
     (record { set = read.0; first = first }, rw (read.1, there, le-leb before.least first behind, free) refl)
 
-number_node : (place count node : ℕ) → node ≤ 4294967295 → branch_node_in place count (decimal node) ≡ later_node place count node
+number_node : (number count node : ℕ) → node ≤ 4294967295 → branch_node_in number count (decimal node) ≡ later_node number count node
 unfolding branch_node_in node_in
-number_node place count node small = rw (decimal_not_end node (omega arith), number_spelled node (omega arith)) refl
+number_node number count node small = rw (decimal_not_end node (omega arith), number_spelled node (omega arith)) refl
 
 -- ---- the branches of a line so far
 
@@ -124,119 +124,119 @@ same_branches (branch ∷ branches) (other ∷ plain) small are e =
     ∙ ap (λ (n : ℕ). record { set = other.set; node = n } ∷ branches) node ∙ ap (λ (bs : List Branch). other ∷ bs) rest
 
 -- the branches so far, and what was read of them
-pub record Passing (place count : ℕ) (earlier : List Branch) : Type 0 where
+pub record Passing (number count : ℕ) (earlier : List Branch) : Type 0 where
   pub before : Branches
-  pub read : branches_in place count no_branches (map branch_spelling earlier) ≡ Ok before
-  pub stand : Stand place count earlier before
+  pub read : branches_in number count no_branches (map branch_spelling earlier) ≡ Ok before
+  pub stand : Stand number count earlier before
 
-pub passing : (place count : ℕ) (earlier : List Branch) → Pass place count earlier → Passing place count earlier
-passing place count earlier pass =
-    let read = ok_of (branches_in place count no_branches (map branch_spelling earlier)) pass.1 in
-    let found = branches_found place count [] no_branches read.0 (map branch_spelling earlier) (none_stand place count) read.1 in
+pub passing : (number count : ℕ) (earlier : List Branch) → Pass number count earlier → Passing number count earlier
+passing number count earlier pass =
+    let read = ok_of (branches_in number count no_branches (map branch_spelling earlier)) pass.1 in
+    let found = branches_found number count [] no_branches read.0 (map branch_spelling earlier) (none_stand number count) read.1 in
     let same = same_branches earlier found.0 pass.0 found.2 found.1 in
-    record { before = read.0; read = read.1; stand = subst (λ (bs : List Branch). Stand place count bs read.0) (sym same) found.3 }
+    record { before = read.0; read = read.1; stand = subst (λ (bs : List Branch). Stand number count bs read.0) (sym same) found.3 }
 
-group : (place count : ℕ) (front back : List (List ℕ)) (read : Result Branches ℕ)
-    → ((b : Branches) → branches_in place count b (front ++ back) ≡ (branches_in place count b front >>= λ more. branches_in place count more back))
-    → (read >>= λ b. branches_in place count b (front ++ back)) ≡ ((read >>= λ b. branches_in place count b front) >>= λ more. branches_in place count more
+group : (number count : ℕ) (front back : List (List ℕ)) (read : Result Branches ℕ)
+    → ((b : Branches) → branches_in number count b (front ++ back) ≡ (branches_in number count b front >>= λ more. branches_in number count more back))
+    → (read >>= λ b. branches_in number count b (front ++ back)) ≡ ((read >>= λ b. branches_in number count b front) >>= λ more. branches_in number count more
     back)
-group place count front back (Ok b) all = all b
-group place count front back (Err refused) all = refl
+group number count front back (Ok b) all = all b
+group number count front back (Err refused) all = refl
 
-front_then : (place count : ℕ) (front back : List (List ℕ)) (before : Branches)
-    → branches_in place count before (front ++ back) ≡ (branches_in place count before front >>= λ more. branches_in place count more back)
+front_then : (number count : ℕ) (front back : List (List ℕ)) (before : Branches)
+    → branches_in number count before (front ++ back) ≡ (branches_in number count before front >>= λ more. branches_in number count more back)
 unfolding branches_in
-front_then place count [] back before = refl
-front_then place count (word ∷ front) back before = group place count front back (branch_in place count before word) (front_then place count front back)
+front_then number count [] back before = refl
+front_then number count (word ∷ front) back before = group number count front back (branch_in number count before word) (front_then number count front back)
 
-after_passing : (place count : ℕ) (earlier : List Branch) (pass : Passing place count earlier) (words : List (List ℕ))
-    → branches_in place count no_branches (map branch_spelling earlier ++ words) ≡ branches_in place count pass.before words
-after_passing place count earlier pass words =
-    front_then place count (map branch_spelling earlier) words no_branches ∙ ap (λ (r : Result Branches ℕ). r >>= λ more. branches_in place count more words)
+after_passing : (number count : ℕ) (earlier : List Branch) (pass : Passing number count earlier) (words : List (List ℕ))
+    → branches_in number count no_branches (map branch_spelling earlier ++ words) ≡ branches_in number count pass.before words
+after_passing number count earlier pass words =
+    front_then number count (map branch_spelling earlier) words no_branches ∙ ap (λ (r : Result Branches ℕ). r >>= λ more. branches_in number count more words)
     pass.read
 
-refused_there : (place count : ℕ) (earlier : List Branch) (pass : Passing place count earlier) (word : List ℕ) (number : ℕ)
-    → branch_in place count pass.before word ≡ Err number → IsRefused place count earlier word number
+refused_there : (number count : ℕ) (earlier : List Branch) (pass : Passing number count earlier) (word : List ℕ) (refusal : ℕ)
+    → branch_in number count pass.before word ≡ Err refusal → IsRefused number count earlier word refusal
 unfolding branches_in
-refused_there place count earlier pass word number e = λ more. after_passing place count earlier pass (word ∷ more) ∙ rw e refl
+refused_there number count earlier pass word refusal e = λ more. after_passing number count earlier pass (word ∷ more) ∙ rw e refl
 
 -- ---- the laws
 
 pub colon_law : ColonLaw
 unfolding branch_in
-colon_law place count earlier word pass other =
-    refused_there place count earlier (passing place count earlier pass) word bad_line (rw (no_cut word other) refl)
+colon_law number count earlier word pass other =
+    refused_there number count earlier (passing number count earlier pass) word bad_line (rw (no_cut word other) refl)
 
 pub set_law : SetLaw
 unfolding branch_in
-set_law place count earlier set next pass none none2 never =
-    let p = passing place count earlier pass in
+set_law number count earlier set next pass none none2 never =
+    let p = passing number count earlier pass in
     let bad = else_refused bad_set (letters_in p.before set) (letters_refuse refl p.before set)
-    (λ letters e. never (next_set_found place count earlier p.before set letters p.stand (letters_found p.before set letters e))) in
-    refused_there place count earlier p (set ++ colon ∷ next) bad_set (rw (parts_spelled set next none none2, bad) refl)
+    (λ letters e. never (next_set_found number count earlier p.before set letters p.stand (letters_found p.before set letters e))) in
+    refused_there number count earlier p (set ++ colon ∷ next) bad_set (rw (parts_spelled set next none none2, bad) refl)
 
 -- a branch whose letters are allowed is refused or passes by its node
-next_read : (place count : ℕ) (earlier : List Branch) (set next : List ℕ) (p : Passing place count earlier) → HasNoColon set → HasNoColon next
-    → IsNextSet earlier set → (letters : Letters) × ((read : Result ℕ ℕ) → branch_node_in place count next ≡ read
-    → branch_in place count p.before (set ++ colon ∷ next) ≡ (read >>= λ node. unless_refused bad_set (not (leads p.before.nexts node)) >>= λ _. Ok (record {
+next_read : (number count : ℕ) (earlier : List Branch) (set next : List ℕ) (p : Passing number count earlier) → HasNoColon set → HasNoColon next
+    → IsNextSet earlier set → (letters : Letters) × ((read : Result ℕ ℕ) → branch_node_in number count next ≡ read
+    → branch_in number count p.before (set ++ colon ∷ next) ≡ (read >>= λ node. unless_refused bad_set (not (leads p.before.nexts node)) >>= λ _. Ok (record {
       nexts = led_by node letters.set p.before.nexts;
       least = letters.first + 1;
     })))
 unfolding branch_in
-next_read place count earlier set next p none none2 is =
-    let letters = next_set_read place count earlier p.before set p.stand is in
+next_read number count earlier set next p none none2 is =
+    let letters = next_set_read number count earlier p.before set p.stand is in
     (letters.0, λ read e. rw (parts_spelled set next none none2, letters.1, e) refl)
 
-next_refused : (place count : ℕ) (earlier : List Branch) (set next : List ℕ) (number : ℕ) → Pass place count earlier → HasNoColon set
+next_refused : (number count : ℕ) (earlier : List Branch) (set next : List ℕ) (refusal : ℕ) → Pass number count earlier → HasNoColon set
     → HasNoColon next → IsNextSet earlier set
-    → branch_node_in place count next ≡ Err number → IsRefused place count earlier (set ++ colon ∷ next) number
-next_refused place count earlier set next number pass none none2 is bad =
-    let p = passing place count earlier pass in
-    refused_there place count earlier p (set ++ colon ∷ next) number ((next_read place count earlier set next p none none2 is).1 (Err number) bad)
+    → branch_node_in number count next ≡ Err refusal → IsRefused number count earlier (set ++ colon ∷ next) refusal
+next_refused number count earlier set next refusal pass none none2 is bad =
+    let p = passing number count earlier pass in
+    refused_there number count earlier p (set ++ colon ∷ next) refusal ((next_read number count earlier set next p none none2 is).1 (Err refusal) bad)
 
 pub end_law : EndLaw
 unfolding branch_node_in
-end_law place count earlier set pass none is = next_refused place count earlier set (codes "end") bad_next pass none refl is refl
+end_law number count earlier set pass none is = next_refused number count earlier set (codes "end") bad_next pass none refl is refl
 
 not_end : (word : List ℕ) → word ≢ codes "end" → bytes_eq word (codes "end") ≡ false
 not_end word other = false_from_ne_true (bytes_eq word (codes "end")) (λ same. other ((bytes_eq-Decides word (codes "end")).0 same))
 
-no_number : (place count : ℕ) (next : List ℕ) → next ≢ codes "end" → number_read next ≡ None → branch_node_in place count next ≡ Err bad_number
+no_number : (number count : ℕ) (next : List ℕ) → next ≢ codes "end" → number_read next ≡ None → branch_node_in number count next ≡ Err bad_number
 unfolding branch_node_in node_in number_in
-no_number place count next other none = rw (not_end next other, none) refl
+no_number number count next other none = rw (not_end next other, none) refl
 
 pub number_law : NumberLaw
-number_law place count earlier set next pass none none2 is other bad = next_refused place count earlier set next bad_number pass none none2 is
-    (no_number place count next other bad)
+number_law number count earlier set next pass none none2 is other bad = next_refused number count earlier set next bad_number pass none none2 is
+    (no_number number count next other bad)
 
-read_node : (place count : ℕ) (next : List ℕ) (node : ℕ) → number_read next ≡ Some node → branch_node_in place count next ≡ later_node place count node
+read_node : (number count : ℕ) (next : List ℕ) (node : ℕ) → number_read next ≡ Some node → branch_node_in number count next ≡ later_node number count node
 unfolding number_in
-read_node place count next node e =
+read_node number count next node e =
     let found = number_found next node (ap (or_refused bad_number) e) in
-    ap (branch_node_in place count) found.0 ∙ number_node place count node (omega (arith, found.1))
+    ap (branch_node_in number count) found.0 ∙ number_node number count node (omega (arith, found.1))
 
-not_later : (place count node : ℕ) → ¬ IsLaterNode place count node → later_node place count node ≡ Err bad_next
+not_later : (number count node : ℕ) → ¬ IsLaterNode number count node → later_node number count node ≡ Err bad_next
 unfolding later_node
-not_later place count node never = grind (arith, nat_tests, never)
+not_later number count node never = grind (arith, nat_tests, never)
 
 pub range_law : RangeLaw
-range_law place count earlier set next node pass none none2 is e never = next_refused place count earlier set next bad_next pass none none2 is
-    (read_node place count next node e ∙ not_later place count node never)
+range_law number count earlier set next node pass none none2 is e never = next_refused number count earlier set next bad_next pass none none2 is
+    (read_node number count next node e ∙ not_later number count node never)
 
-later_read : (place count : ℕ) (next : List ℕ) (node : ℕ) → number_read next ≡ Some node → IsLaterNode place count node
-    → branch_node_in place count next ≡ Ok node
-later_read place count next node e later = read_node place count next node e ∙ later_spelled place count node later.0 later.1
+later_read : (number count : ℕ) (next : List ℕ) (node : ℕ) → number_read next ≡ Some node → IsLaterNode number count node
+    → branch_node_in number count next ≡ Ok node
+later_read number count next node e later = read_node number count next node e ∙ later_spelled number count node later.0 later.1
 
 pub node_law : NodeLaw
-node_law place count earlier set next node pass none none2 is e later again =
-    let p = passing place count earlier pass in
-    let read = (next_read place count earlier set next p none none2 is).1 (Ok node) (later_read place count next node e later) in
-    refused_there place count earlier p (set ++ colon ∷ next) bad_set (read ∙ rw (node_stands place count earlier p.before node p.stand ∙ again) refl)
+node_law number count earlier set next node pass none none2 is e later again =
+    let p = passing number count earlier pass in
+    let read = (next_read number count earlier set next p none none2 is).1 (Ok node) (later_read number count next node e later) in
+    refused_there number count earlier p (set ++ colon ∷ next) bad_set (read ∙ rw (node_stands number count earlier p.before node p.stand ∙ again) refl)
 
 pub pass_law : PassLaw
 unfolding branches_in
-pass_law place count earlier set next node pass none none2 is e later new =
-    let p = passing place count earlier pass in
-    let read = (next_read place count earlier set next p none none2 is).1 (Ok node) (later_read place count next node e later) in
-    subst (λ (r : Result Branches ℕ). IsOk r) (sym (after_passing place count earlier p ((set ++ colon ∷ next) ∷ [])))
-    (rw (read, node_stands place count earlier p.before node p.stand ∙ new) refl)
+pass_law number count earlier set next node pass none none2 is e later new =
+    let p = passing number count earlier pass in
+    let read = (next_read number count earlier set next p none none2 is).1 (Ok node) (later_read number count next node e later) in
+    subst (λ (r : Result Branches ℕ). IsOk r) (sym (after_passing number count earlier p ((set ++ colon ∷ next) ∷ [])))
+    (rw (read, node_stands number count earlier p.before node p.stand ∙ new) refl)

@@ -68,35 +68,35 @@ chosen_in_order (false ∷ holding) (letter ∷ letters) = passed_in_order (chos
 
 -- ---- the places of letters
 
-pub none_at : {X : Type 0} (p : X → Bool) (xs : List X) (place : ℕ) (d : X) → place < length xs → list_any p xs ≡ false → p (get_or xs place d) ≡ false
-none_at p xs place d inside none = grind (arith, list_any_at p xs place d inside)
+pub none_at : {X : Type 0} (p : X → Bool) (xs : List X) (index : ℕ) (d : X) → index < length xs → list_any p xs ≡ false → p (get_or xs index d) ≡ false
+none_at p xs index d inside none = grind (arith, list_any_at p xs index d inside)
 
--- a letter that is not in a list has no place there
-not_placed : (letters : List ℕ) (letter : ℕ) → has letters letter ≡ false → position_or_len (λ l. eqb l letter) letters ≡ length letters
-not_placed letters letter none = position_or_len_is (λ (l : ℕ). eqb l letter) letters (length letters) 0 (omega arith)
+-- a letter that is not in a list has no index there
+no_index : (letters : List ℕ) (letter : ℕ) → has letters letter ≡ false → position_or_len (λ l. eqb l letter) letters ≡ length letters
+no_index letters letter none = position_or_len_is (λ (l : ℕ). eqb l letter) letters (length letters) 0 (omega arith)
     (λ k below. none_at (λ (l : ℕ). eqb l letter) letters k 0 below none) (λ inside. absurd (omega arith))
 
--- each place of a list of distinct letters is that of its letter
-pub place_of : (letters : List ℕ) (place : ℕ) → are_distinct letters ≡ true → place < length letters
-    → position_or_len (λ l. eqb l (get_or letters place 0)) letters ≡ place
-place_of [] place distinct inside = absurd (omega arith)
-place_of (first ∷ letters) zero distinct inside = place_here (λ (l : ℕ). eqb l first) first letters (eq-eqb first first refl)
-place_of (first ∷ letters) (suc place) distinct inside =
+-- each index of a list of distinct letters is that of its letter
+pub index_of : (letters : List ℕ) (index : ℕ) → are_distinct letters ≡ true → index < length letters
+    → position_or_len (λ l. eqb l (get_or letters index 0)) letters ≡ index
+index_of [] index distinct inside = absurd (omega arith)
+index_of (first ∷ letters) zero distinct inside = place_here (λ (l : ℕ). eqb l first) first letters (eq-eqb first first refl)
+index_of (first ∷ letters) (suc index) distinct inside =
     let parts = distinct_parts first letters distinct in
-    let there = list_any_at (λ (l : ℕ). eqb l first) letters place 0 (omega arith) in
-    grind (arith, nat_tests, there, parts.0, place_of letters place parts.1 (omega arith))
+    let there = list_any_at (λ (l : ℕ). eqb l first) letters index 0 (omega arith) in
+    grind (arith, nat_tests, there, parts.0, index_of letters index parts.1 (omega arith))
 
--- a set has a letter if it holds the letter's place
+-- a set has a letter if it holds the letter's index
 pub has_chosen : (holding : List Bool) (letters : List ℕ) (letter : ℕ) → are_distinct letters ≡ true → length holding ≡ length letters
     → has (chosen holding letters) letter ≡ get_or holding (position_or_len (λ l. eqb l letter) letters) false
 has_chosen [] letters letter distinct long = refl
 has_chosen (holds ∷ holding) (first ∷ letters) letter distinct long =
     let parts = distinct_parts first letters distinct in
-    let place : ℕ = position_or_len (λ (l : ℕ). eqb l letter) letters in
+    let index : ℕ = position_or_len (λ (l : ℕ). eqb l letter) letters in
     let here = place_here (λ (l : ℕ). eqb l letter) first letters in
     let later = place_later (λ (l : ℕ). eqb l letter) first letters in
     let rest = has_chosen holding letters letter parts.1 (omega arith) in
-    grind (arith, nat_tests, parts.0, here, later, rest, not_placed letters letter, get_or_past holding place false)
+    grind (arith, nat_tests, parts.0, here, later, rest, no_index letters letter, get_or_past holding index false)
 has_chosen holding letters letter distinct long = absurd (omega arith)
 
 -- the letters that lead to a node are those of a set
@@ -107,7 +107,7 @@ letters_chosen node (letter ∷ letters) [] = refl
 letters_chosen node (letter ∷ letters) (next ∷ nexts) =
     ap (λ (ls : List ℕ). cond (leads_to node next) (letter ∷ ls) ls) (letters_chosen node letters nexts)
 
--- a set that holds no place has no letters
+-- a set that holds no index has no letters
 pub chosen_none : (holding : List Bool) (letters : List ℕ) → length holding ≤ position_or_len (λ holds. holds) holding → chosen holding letters ≡ []
 chosen_none [] letters none = refl
 chosen_none (holds ∷ holding) [] none = refl
@@ -122,29 +122,29 @@ first_chosen (false ∷ holding) (letter ∷ letters) long some =
     rw held (first_chosen holding letters (omega arith) (omega arith))
 first_chosen holding letters long some = absurd (omega arith)
 
--- the first letter of a set is at the first place that the set holds
+-- the first letter of a set is at the first index that the set holds
 pub number_of_first : (holding : List Bool) (letters : List ℕ) → are_distinct letters ≡ true → length holding ≡ length letters
     → position_or_len (λ holds. holds) holding < length holding
     → position_or_len (λ letter. eqb letter (get_or (chosen holding letters) 0 0)) letters ≡ position_or_len (λ holds. holds) holding
 number_of_first holding letters distinct long some =
     ap (λ (first : ℕ). position_or_len (λ (letter : ℕ). eqb letter first) letters) (first_chosen holding letters long some)
-    ∙ place_of letters (position_or_len (λ (h : Bool). h) holding) distinct (omega arith)
+    ∙ index_of letters (position_or_len (λ (h : Bool). h) holding) distinct (omega arith)
 
 -- ---- whether the letters of a set lead to the end
 
-pub free_at : (holding : List Bool) (nexts : List Next) (place : ℕ) → are_free holding nexts ≡ true → get_or holding place false ≡ true
-    → is_end (get_or nexts place End) ≡ true
-free_at [] nexts place free e = absurd cc
-free_at (holds ∷ holding) [] place free e = refl
+pub free_at : (holding : List Bool) (nexts : List Next) (index : ℕ) → are_free holding nexts ≡ true → get_or holding index false ≡ true
+    → is_end (get_or nexts index End) ≡ true
+free_at [] nexts index free e = absurd cc
+free_at (holds ∷ holding) [] index free e = refl
 free_at (true ∷ holding) (next ∷ nexts) zero free e = (and_parts (is_end next) (are_free holding nexts) free).0
 free_at (false ∷ holding) (next ∷ nexts) zero free e = absurd cc
-free_at (holds ∷ holding) (next ∷ nexts) (suc place) free e =
-    free_at holding nexts place (and_parts (is_free holds next) (are_free holding nexts) free).1 e
+free_at (holds ∷ holding) (next ∷ nexts) (suc index) free e =
+    free_at holding nexts index (and_parts (is_free holds next) (are_free holding nexts) free).1 e
 
 pub free_from : (holding : List Bool) (nexts : List Next)
-    → ((place : ℕ) → place < length holding → get_or holding place false ≡ true → is_end (get_or nexts place End) ≡ true) → are_free holding nexts ≡ true
+    → ((index : ℕ) → index < length holding → get_or holding index false ≡ true → is_end (get_or nexts index End) ≡ true) → are_free holding nexts ≡ true
 free_from [] nexts all = refl
 free_from (holds ∷ holding) [] all = refl
 free_from (true ∷ holding) (next ∷ nexts) all =
-    and_from (is_end next) (are_free holding nexts) (all 0 (omega arith) refl) (free_from holding nexts (λ place inside. all (suc place) (omega arith)))
-free_from (false ∷ holding) (next ∷ nexts) all = free_from holding nexts (λ place inside. all (suc place) (omega arith))
+    and_from (is_end next) (are_free holding nexts) (all 0 (omega arith) refl) (free_from holding nexts (λ index inside. all (suc index) (omega arith)))
+free_from (false ∷ holding) (next ∷ nexts) all = free_from holding nexts (λ index inside. all (suc index) (omega arith))

@@ -11,13 +11,13 @@ use Rattle.crib_plan.specs.Reading.{own_number_in, play_in, see_in, node_from}
 use Rattle.crib_plan.proofs.BranchSpelledIsRead.{next_spelled}
 use Rattle.crib_plan.proofs.LineSpelledIsRead.{line_spelled}
 
-own_spelled : (place : ℕ) → place < 2 ^ 32 → own_number_in place (decimal place) ≡ Ok tt
+own_spelled : (number : ℕ) → number < 2 ^ 32 → own_number_in number (decimal number) ≡ Ok tt
 unfolding own_number_in
-own_spelled place small = rw (number_spelled place small, eq-eqb place place refl) refl
+own_spelled number small = rw (number_spelled number small, eq-eqb number number refl) refl
 
-pub node_spelled : (place count : ℕ) (node : Node) → place < 2 ^ 32 → count ≤ 65535 → IsNode place count node → node_from place count (node_line place node)
-    ≡ Ok node
+pub node_spelled : (number count : ℕ) (node : Node) → number < 2 ^ 32 → count ≤ 65535 → IsNode number count node →
+    node_from number count (node_line number node) ≡ Ok node
 unfolding node_from play_in see_in
-node_spelled place count (Play card next) small few is =
-    rw (own_spelled place small, card_read-card_text card is.0, next_spelled place count next few is.1) refl
-node_spelled place count (See nexts) small few is = rw (own_spelled place small, (line_spelled place count nexts few is.0 is.1).1) refl
+node_spelled number count (Play card next) small few is =
+    rw (own_spelled number small, card_read-card_text card is.0, next_spelled number count next few is.1) refl
+node_spelled number count (See nexts) small few is = rw (own_spelled number small, (line_spelled number count nexts few is.0 is.1).1) refl

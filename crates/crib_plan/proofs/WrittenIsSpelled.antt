@@ -1,6 +1,6 @@
 -- The text that the code writes is the spelling, and no line is longer than the room that was made.
 use Rattle.std.proofs.Common.{◌≡◌, ℕ, zero, suc, ◌+◌, ◌*◌, ◌<◌, ◌≤◌, Bool, true, false, cond, List, [], ◌∷◌, ◌++◌, length, map, get_or, take, drop}
-use Rattle.std.proofs.Common.{codes, decimal, refl, sym, ap, subst, ◌∙◌, append_assoc, arith}
+use Rattle.std.proofs.Common.{Option, Some, None, option_map, unwrap_or, codes, decimal, refl, sym, ap, subst, ◌∙◌, append_assoc, arith}
 use Rattle.std.proofs.lemmas.Grind.{flat_map-append}
 use Rattle.std.specs.List.{flat_map, count_by, sum_by, AllByRecursion}
 use Rattle.std.proofs.lemmas.Bool.Decides.{nat_tests}
@@ -15,14 +15,14 @@ use Rattle.crib_plan.specs.declared.plan.Next.TheVariants.{End, To}
 use Rattle.crib_plan.specs.declared.plan.Node.{Node}
 use Rattle.crib_plan.specs.declared.plan.Node.TheVariants.{Play, See}
 use Rattle.crib_plan.specs.Nodes.{most_nodes, IsLater, IsNode, AreNodes, ArePlan}
-use Rattle.crib_plan.specs.Spelling.{letter_bytes, colon, leads_to, letters_to, branch_word, nodes_of, node_line}
+use Rattle.crib_plan.specs.Spelling.{letter_bytes, colon, leads_to, new_node, letters_to, branch_word, nodes_of, node_line}
 use Rattle.crib_plan.specs.Private.Spelling.{seen_after, spaced_branch, branches_text, longest_line}
 use Rattle.crib_plan.specs.Spelling.{node_lines, plan_text}
-use Rattle.crib_plan.proofs.LeadsTo.{leads, leads_in, nodes_of-append, seen_after-append, has-seen_after, has-nodes_of, has_nodes}
+use Rattle.crib_plan.proofs.LeadsTo.{leads_in, nodes_of-append, seen_after-append, has-seen_after, has-nodes_of, has_nodes}
 use Rattle.crib_plan.proofs.WordLemmas.{later_small}
 
 -- the letters that are still to be written: the next one if it leads to the node, and those behind it
-pub letters_next : (node : ℕ) (letters : List ℕ) (nexts : List Next) (i : ℕ) (b : Bool) → leads_to node (get_or nexts i End) ≡ b →
+pub letters_next : (node : ℕ) (letters : List ℕ) (nexts : List Next) (i : ℕ) (b : Bool) → get_or (map (leads_to node) nexts) i false ≡ b →
     i < length letters → i < length nexts → letters_to node (drop i letters) (drop i nexts)
     ≡ cond b (get_or letters i 0 ∷ []) [] ++ letters_to node (drop (i + 1) letters) (drop (i + 1) nexts)
 letters_next node (letter ∷ letters) (next ∷ nexts) zero b is inside inside2 = grind (arith, is)
@@ -32,7 +32,7 @@ letters_next node (letter ∷ letters) (next ∷ nexts) (suc i) b is inside insi
 letters_next node letters nexts i b is inside inside2 = absurd (omega arith)
 
 -- the branches that are still to be written: that of the next letter, unless an earlier one has its node, and those behind it
-pub branches_next : (nexts : List Next) (i : ℕ) → i < length nexts → branches_text nexts i
+branches_next : (nexts : List Next) (i : ℕ) → i < length nexts → branches_text nexts i
     ≡ flat_map (spaced_branch nexts) (nodes_of (seen_after [] (take i nexts)) (get_or nexts i End ∷ [])) ++ branches_text nexts (i + 1)
 branches_next nexts i inside =
     let before : List ℕ = seen_after [] (take i nexts) in
@@ -43,32 +43,39 @@ branches_next nexts i inside =
     (ap (nodes_of before) (drop_more nexts i End inside) ∙ nodes_of-append before here (drop (i + 1) nexts)
     ∙ ap (λ (ns : List ℕ). nodes_of before here ++ nodes_of ns (drop (i + 1) nexts)) after) ∙ flat_map-append (spaced_branch nexts) _ _
 
-pub branch_next : (nexts : List Next) (i node : ℕ) (led : Bool) → i < length nexts → get_or nexts i End ≡ To node → leads (take i nexts) node ≡ led →
-    branches_text nexts i ≡ cond led [] (spaced_branch nexts node) ++ branches_text nexts (i + 1)
-branch_next nexts i node true inside is seen = branches_next nexts i inside ∙ rw (is, has-seen_after [] (take i nexts) node ∙ seen) refl
-branch_next nexts i node false inside is seen =
-    branches_next nexts i inside ∙ rw (is, has-seen_after [] (take i nexts) node ∙ seen)
+-- the nodes that one branch adds
+nodes_new : (before : List Next) (next : Next) →
+    nodes_of (seen_after [] before) (next ∷ []) ≡ unwrap_or (option_map (λ node. node ∷ []) (new_node before next)) []
+nodes_new before End = refl
+nodes_new before (To node) = grind (arith, has-seen_after [] before node)
+
+pub branch_next : (nexts : List Next) (i : ℕ) (found : Option ℕ) → i < length nexts → new_node (take i nexts) (get_or nexts i End) ≡ found →
+    branches_text nexts i ≡ unwrap_or (option_map (spaced_branch nexts) found) [] ++ branches_text nexts (i + 1)
+branch_next nexts i None inside is = branches_next nexts i inside ∙ rw (nodes_new (take i nexts) (get_or nexts i End), is) refl
+branch_next nexts i (Some node) inside is =
+    branches_next nexts i inside ∙ rw (nodes_new (take i nexts) (get_or nexts i End), is)
     (ap (λ (piece : List ℕ). piece ++ branches_text nexts (i + 1)) (append-nil (spaced_branch nexts node)))
 
-all_fewer : (place count more : ℕ) → count ≤ more → (nexts : List Next) → AllByRecursion (IsLater place count) nexts → AllByRecursion (IsLater place more) nexts
-all_fewer place count more fewer [] all = tt
-all_fewer place count more fewer (End ∷ nexts) all = (tt, all_fewer place count more fewer nexts all.1)
-all_fewer place count more fewer (To node ∷ nexts) all = ((all.0.0, let h = all.0.1 in omega arith), all_fewer place count more fewer nexts all.1)
+all_fewer : (number count more : ℕ) → count ≤ more → (nexts : List Next) → AllByRecursion (IsLater number count) nexts →
+    AllByRecursion (IsLater number more) nexts
+all_fewer number count more fewer [] all = tt
+all_fewer number count more fewer (End ∷ nexts) all = (tt, all_fewer number count more fewer nexts all.1)
+all_fewer number count more fewer (To node ∷ nexts) all = ((all.0.0, let h = all.0.1 in omega arith), all_fewer number count more fewer nexts all.1)
 
-pub node_fewer : (place count more : ℕ) → count ≤ more → (node : Node) → IsNode place count node → IsNode place more node
-node_fewer place count more fewer (Play card End) is = is
-node_fewer place count more fewer (Play card (To node)) is = (is.0, (is.1.0, let h = is.1.1 in omega arith))
-node_fewer place count more fewer (See nexts) is = (is.0, all_fewer place count more fewer nexts is.1)
+pub node_fewer : (number count more : ℕ) → count ≤ more → (node : Node) → IsNode number count node → IsNode number more node
+node_fewer number count more fewer (Play card End) is = is
+node_fewer number count more fewer (Play card (To node)) is = (is.0, (is.1.0, let h = is.1.1 in omega arith))
+node_fewer number count more fewer (See nexts) is = (is.0, all_fewer number count more fewer nexts is.1)
 
-node_there : (place count : ℕ) (nodes : List Node) (i : ℕ) (d : Node) → AreNodes place count nodes → i < length nodes →
-    IsNode (place + i) count (get_or nodes i d)
-node_there place count [] i d are inside = absurd (omega arith)
-node_there place count (node ∷ nodes) zero d are inside = let e : place ≡ place + 0 = omega arith in subst (λ (k : ℕ). IsNode k count node) e are.0
-node_there place count (node ∷ nodes) (suc i) d are inside =
-    let e : place + 1 + i ≡ place + suc i = omega arith in
-    subst (λ (k : ℕ). IsNode k count (get_or nodes i d)) e (node_there (place + 1) count nodes i d are.1 (omega arith))
+node_there : (number count : ℕ) (nodes : List Node) (i : ℕ) (d : Node) → AreNodes number count nodes → i < length nodes →
+    IsNode (number + i) count (get_or nodes i d)
+node_there number count [] i d are inside = absurd (omega arith)
+node_there number count (node ∷ nodes) zero d are inside = let e : number ≡ number + 0 = omega arith in subst (λ (k : ℕ). IsNode k count node) e are.0
+node_there number count (node ∷ nodes) (suc i) d are inside =
+    let e : number + 1 + i ≡ number + suc i = omega arith in
+    subst (λ (k : ℕ). IsNode k count (get_or nodes i d)) e (node_there (number + 1) count nodes i d are.1 (omega arith))
 
--- the node at a place of a plan
+-- the node with a number in a plan
 pub plan_node : (nodes : List Node) (i : ℕ) (d : Node) → ArePlan nodes → i < length nodes → IsNode i most_nodes (get_or nodes i d)
 plan_node nodes i d plan inside =
     let e : 0 + i ≡ i = omega arith in
@@ -141,10 +148,10 @@ words_len all (node ∷ nodes) small =
     let one = branch_len all node in
     omega (arith, length-append (spaced_branch all node) (flat_map (spaced_branch all) nodes))
 
-pub branches_len : (place count : ℕ) (nexts : List Next) → AllByRecursion (IsLater place count) nexts → length nexts ≡ 14 → count ≤ 65535 →
+pub branches_len : (number count : ℕ) (nexts : List Next) → AllByRecursion (IsLater number count) nexts → length nexts ≡ 14 → count ≤ 65535 →
     length (branches_text nexts 0) ≤ 112
-branches_len place count nexts later long few =
-    let words = words_len nexts (nodes_of [] nexts) (λ node h. later_small place count few nexts later node (sym (has_nodes nexts node) ∙ h)) in
+branches_len number count nexts later long few =
+    let words = words_len nexts (nodes_of [] nexts) (λ node h. later_small number count few nexts later node (sym (has_nodes nexts node) ∙ h)) in
     let letters = total_small (nodes_of [] nexts) letter_bytes nexts (distinct_nodes [] nexts) in
     omega (arith, words, letters, count_by-le-length (leads_in (nodes_of [] nexts)) nexts, few_nodes [] nexts)
 
@@ -153,14 +160,14 @@ spaced_words : (all : List Next) (word : List ℕ) (nodes : List ℕ) → line_b
 spaced_words all word [] = sym (append-nil word)
 spaced_words all word (node ∷ nodes) = ap (λ (rest : List ℕ). word ++ space ∷ rest) (spaced_words all (branch_word all node) nodes)
 
-pub see_text : (place : ℕ) (nexts : List Next) (old : List ℕ) →
-    (((old ++ decimal place) ++ codes " see") ++ flat_map (spaced_branch nexts) (nodes_of [] nexts)) ++ codes "\n" ≡ old
-    ++ line_text (node_line place (See nexts))
-see_text place nexts old =
+pub see_text : (number : ℕ) (nexts : List Next) (old : List ℕ) →
+    (((old ++ decimal number) ++ codes " see") ++ flat_map (spaced_branch nexts) (nodes_of [] nexts)) ++ codes "\n" ≡ old
+    ++ line_text (node_line number (See nexts))
+see_text number nexts old =
     let words = spaced_words nexts (codes "see") (nodes_of [] nexts) in
     rw words (simp append_assoc)
 
--- the lines that are still to be written, from a place on
+-- the lines that are still to be written, from a node on
 lines_next : (nodes : List Node) (i : ℕ) (d : Node) → i < length nodes → lines_text (node_lines i (drop i nodes)) ≡ line_text
     (node_line i (get_or nodes i d)) ++ lines_text (node_lines (i + 1) (drop (i + 1) nodes))
 lines_next nodes i d inside = ap (λ (ns : List Node). lines_text (node_lines i ns)) (drop_more nodes i d inside)

@@ -25,11 +25,11 @@ AreInOrder (byte ∷ bytes) [] = ⊥
 AreInOrder (byte ∷ bytes) (letter ∷ letters) =
     ((byte ≡ letter) × AreInOrder bytes letters) ⊎ AreInOrder (byte ∷ bytes) letters
 
--- the place of a letter among the fourteen, from 0
+-- the index of a letter among the fourteen, from 0
 abbrev pub letter_number : ℕ → ℕ
 letter_number byte = position_or_len (λ letter. letter == byte) letter_bytes
 
--- the place of the first letter of a branch
+-- the index of the first letter of a branch
 abbrev pub first_number : List ℕ → ℕ
 first_number set = letter_number (slice_index set 0)
 
@@ -41,11 +41,11 @@ has_letter branches letter = list_any (λ branch. has branch.set letter) branche
 abbrev pub has_node : List Branch → ℕ → Bool
 has_node branches node = list_any (λ branch. branch.node == node) branches
 
--- a place is after that of the first letter of the last branch, if there is a branch
+-- an index is above that of the first letter of the last branch, if there is a branch
 abbrev pub IsBehindLast : List Branch → ℕ → Type 0
-IsBehindLast [] number = Unit {0}
-IsBehindLast (branch ∷ []) number = first_number branch.set < number
-IsBehindLast (branch ∷ next ∷ branches) number = IsBehindLast (next ∷ branches) number
+IsBehindLast [] index = Unit {0}
+IsBehindLast (branch ∷ []) index = first_number branch.set < index
+IsBehindLast (branch ∷ next ∷ branches) index = IsBehindLast (next ∷ branches) index
 
 -- letters that are allowed in the next branch: they are one or more letters in their order, none is in an earlier
 -- branch, and the first one is after the first letter of the branch before
@@ -57,15 +57,15 @@ pub record IsNextSet (earlier : List Branch) (set : List ℕ) : Type 0 where
 
 -- the branches of a line so far pass
 abbrev pub Pass : ℕ → ℕ → List Branch → Type 0
-Pass place count earlier =
+Pass number count earlier =
     AllByRecursion (λ branch. branch.node ≤ 4294967295) earlier
-    × IsOk (branches_in place count no_branches (map branch_spelling earlier))
+    × IsOk (branches_in number count no_branches (map branch_spelling earlier))
 
--- after branches that pass, a word is refused with this number, whatever words follow it
+-- after branches that pass, a word is refused with this refusal, whatever words follow it
 abbrev pub IsRefused : ℕ → ℕ → List Branch → List ℕ → ℕ → Type 0
-IsRefused place count earlier word number =
+IsRefused number count earlier word refusal =
     (more : List (List ℕ)) →
-    branches_in place count no_branches (map branch_spelling earlier ++ word ∷ more) ≡ Err number
+    branches_in number count no_branches (map branch_spelling earlier ++ word ∷ more) ≡ Err refusal
 
 -- bytes contain no colon
 abbrev pub HasNoColon : List ℕ → Type 0
@@ -73,53 +73,53 @@ HasNoColon bytes = list_any (λ byte. byte == colon) bytes ≡ false
 
 -- a node is a later node of the plan
 abbrev pub IsLaterNode : ℕ → ℕ → ℕ → Type 0
-IsLaterNode place count node = (place < node) × (node < count)
+IsLaterNode number count node = (number < node) × (node < count)
 
 -- first: a word without exactly one colon is refused
 abbrev pub ColonLaw : Type 0
 ColonLaw =
-    (place count : ℕ) (earlier : List Branch) (word : List ℕ) → Pass place count earlier →
-    count_by (λ byte. byte == colon) word ≢ 1 → IsRefused place count earlier word bad_line
+    (number count : ℕ) (earlier : List Branch) (word : List ℕ) → Pass number count earlier →
+    count_by (λ byte. byte == colon) word ≢ 1 → IsRefused number count earlier word bad_line
 
 -- second: letters that are not allowed there are refused
 abbrev pub SetLaw : Type 0
 SetLaw =
-    (place count : ℕ) (earlier : List Branch) (set next : List ℕ) → Pass place count earlier →
+    (number count : ℕ) (earlier : List Branch) (set next : List ℕ) → Pass number count earlier →
     HasNoColon set → HasNoColon next → ¬ IsNextSet earlier set →
-    IsRefused place count earlier (set ++ colon ∷ next) bad_set
+    IsRefused number count earlier (set ++ colon ∷ next) bad_set
 
 -- third: the target `end` is refused
 abbrev pub EndLaw : Type 0
 EndLaw =
-    (place count : ℕ) (earlier : List Branch) (set : List ℕ) → Pass place count earlier →
-    HasNoColon set → IsNextSet earlier set → IsRefused place count earlier (set ++ colon ∷ codes "end") bad_next
+    (number count : ℕ) (earlier : List Branch) (set : List ℕ) → Pass number count earlier →
+    HasNoColon set → IsNextSet earlier set → IsRefused number count earlier (set ++ colon ∷ codes "end") bad_next
 
 -- fourth: a target that is no number is refused
 abbrev pub NumberLaw : Type 0
 NumberLaw =
-    (place count : ℕ) (earlier : List Branch) (set next : List ℕ) → Pass place count earlier →
+    (number count : ℕ) (earlier : List Branch) (set next : List ℕ) → Pass number count earlier →
     HasNoColon set → HasNoColon next → IsNextSet earlier set → next ≢ codes "end" → number_read next ≡ None →
-    IsRefused place count earlier (set ++ colon ∷ next) bad_number
+    IsRefused number count earlier (set ++ colon ∷ next) bad_number
 
 -- fifth: a number that is not that of a later node is refused
 abbrev pub RangeLaw : Type 0
 RangeLaw =
-    (place count : ℕ) (earlier : List Branch) (set next : List ℕ) (node : ℕ) → Pass place count earlier →
+    (number count : ℕ) (earlier : List Branch) (set next : List ℕ) (node : ℕ) → Pass number count earlier →
     HasNoColon set → HasNoColon next → IsNextSet earlier set → number_read next ≡ Some node →
-    ¬ IsLaterNode place count node → IsRefused place count earlier (set ++ colon ∷ next) bad_next
+    ¬ IsLaterNode number count node → IsRefused number count earlier (set ++ colon ∷ next) bad_next
 
 -- sixth: the node of an earlier branch is refused
 abbrev pub NodeLaw : Type 0
 NodeLaw =
-    (place count : ℕ) (earlier : List Branch) (set next : List ℕ) (node : ℕ) → Pass place count earlier →
+    (number count : ℕ) (earlier : List Branch) (set next : List ℕ) (node : ℕ) → Pass number count earlier →
     HasNoColon set → HasNoColon next → IsNextSet earlier set → number_read next ≡ Some node →
-    IsLaterNode place count node → has_node earlier node ≡ true →
-    IsRefused place count earlier (set ++ colon ∷ next) bad_set
+    IsLaterNode number count node → has_node earlier node ≡ true →
+    IsRefused number count earlier (set ++ colon ∷ next) bad_set
 
 -- every other branch passes
 abbrev pub PassLaw : Type 0
 PassLaw =
-    (place count : ℕ) (earlier : List Branch) (set next : List ℕ) (node : ℕ) → Pass place count earlier →
+    (number count : ℕ) (earlier : List Branch) (set next : List ℕ) (node : ℕ) → Pass number count earlier →
     HasNoColon set → HasNoColon next → IsNextSet earlier set → number_read next ≡ Some node →
-    IsLaterNode place count node → has_node earlier node ≡ false →
-    IsOk (branches_in place count no_branches (map branch_spelling earlier ++ (set ++ colon ∷ next) ∷ []))
+    IsLaterNode number count node → has_node earlier node ≡ false →
+    IsOk (branches_in number count no_branches (map branch_spelling earlier ++ (set ++ colon ∷ next) ∷ []))

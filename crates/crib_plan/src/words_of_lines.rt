@@ -26,57 +26,57 @@ pub(crate) fn count_of(line: &Line<'_>) -> Result<u16, PlanCause>
     Ok(count as u16)
 }
 
-// The node of a line, at `place` in a plan of `count` nodes. The second word states the kind of node. A line with
+// The node of a line, with this number in a plan of `count` nodes. The second word states the kind of node. A line with
 // another second word is refused (4).
 #[tactic(auto, using(crate::proofs::LineLemmas::in_node))]
-pub(crate) fn read_node_line(line: &Line<'_>, place: u16, count: u16) -> Result<Node, PlanCause>
-    ensures { Gives (λ node. node) plan_cause_number result (node_from place count (line_of line.now).words) }
+pub(crate) fn read_node_line(line: &Line<'_>, number: u16, count: u16) -> Result<Node, PlanCause>
+    ensures { Gives (λ node. node) plan_cause_number result (node_from number count (line_of line.now).words) }
 {
     if line.word_count() < 2 {
         return Err(BAD_LINE);
     }
     let kind = word_at(line, 1);
     if kind == b"play".as_slice() {
-        play_of(line, place, count)
+        play_of(line, number, count)
     } else if kind == b"see".as_slice() {
-        see_of(line, place, count)
+        see_of(line, number, count)
     } else {
         Err(BAD_LINE)
     }
 }
 
 #[tactic(auto, using(crate::proofs::LineLemmas::in_play))]
-fn play_of(line: &Line<'_>, place: u16, count: u16) -> Result<Node, PlanCause>
+fn play_of(line: &Line<'_>, number: u16, count: u16) -> Result<Node, PlanCause>
     requires { 2 ≤ length (line_of line.now).words }
-    ensures { Gives (λ node. node) plan_cause_number result (play_in place count (line_of line.now).words) }
+    ensures { Gives (λ node. node) plan_cause_number result (play_in number count (line_of line.now).words) }
 {
     if line.word_count() != 4 {
         return Err(BAD_LINE);
     }
-    check_own_number(place, word_at(line, 0))?;
+    check_own_number(number, word_at(line, 0))?;
     let card = read_card(word_at(line, 2)).ok_or(PlanCause::Text(TextCause::BadCard))?;
-    let next = next_of(place, count, word_at(line, 3))?;
+    let next = next_of(number, count, word_at(line, 3))?;
     Ok(Node::Play { card, next })
 }
 
 #[tactic(auto, using(crate::proofs::LineLemmas::in_see))]
-fn see_of(line: &Line<'_>, place: u16, count: u16) -> Result<Node, PlanCause>
+fn see_of(line: &Line<'_>, number: u16, count: u16) -> Result<Node, PlanCause>
     requires { 2 ≤ length (line_of line.now).words }
-    ensures { Gives (λ node. node) plan_cause_number result (see_in place count (line_of line.now).words) }
+    ensures { Gives (λ node. node) plan_cause_number result (see_in number count (line_of line.now).words) }
 {
-    check_own_number(place, word_at(line, 0))?;
-    let next = branches_of(line, place, count)?.next;
+    check_own_number(number, word_at(line, 0))?;
+    let next = branches_of(line, number, count)?.next;
     Ok(Node::See { next })
 }
 
 // Checks that a line begins with the number of its node. It refuses a word that is no number (6) and another number
 // (4).
 #[tactic(auto, unfolding(crate::specs::Reading::own_number_in))]
-fn check_own_number(place: u16, word: &[u8]) -> Result<(), PlanCause>
-    ensures { Gives (λ _. tt) plan_cause_number result (own_number_in place word.now) }
+fn check_own_number(number: u16, word: &[u8]) -> Result<(), PlanCause>
+    ensures { Gives (λ _. tt) plan_cause_number result (own_number_in number word.now) }
 {
-    let number = number_of(word)?;
-    if number != u32::from(place) {
+    let own = number_of(word)?;
+    if own != u32::from(number) {
         return Err(BAD_LINE);
     }
     Ok(())

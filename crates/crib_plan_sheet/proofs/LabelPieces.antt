@@ -7,11 +7,11 @@ use Rattle.std.proofs.lemmas.List.{append-nil, length-take, take-replicate, drop
 use Rattle.crib_text.specs.Spelling.{space}
 use Rattle.crib_plan.specs.declared.plan.Next.{Next}
 use Rattle.crib_plan.specs.declared.plan.Next.TheVariants.{End, To}
-use Rattle.crib_plan.specs.Spelling.{leads_to}
+use Rattle.crib_plan.specs.Spelling.{leads_to, new_node}
 use Rattle.crib_plan_sheet.specs.PlanSheet.{Paragraph, Lines, lines_to, row_to, Line}
 use Rattle.crib_plan_sheet.specs.PlanOutline.{apart_in}
 use Rattle.crib_plan_sheet.specs.PlanText.{range_words, rank_words, go_words, label, label_column, label_width}
-use Rattle.crib_plan_sheet.specs.Private.Pages.{new_node, spaced, spaced_label, width_at}
+use Rattle.crib_plan_sheet.specs.Private.Pages.{spaced, spaced_label, width_at}
 
 -- words with a space between two, and words with a space before each
 spaced_words : (word : List ℕ) (words : List (List ℕ)) → space ∷ join_with_byte space (word ∷ words) ≡ spaced (word ∷ words)
@@ -93,7 +93,7 @@ unfolding width_at
 wider all i node width now size d inside some long is so_far =
     let e = ap label_width (line_at (apart_in []) [] all i d (Some node) inside some) in omega (arith, e, long, is, so_far)
 
--- all words of ranks, behind the last place
+-- all words of ranks, behind the last index
 pub ranks_done : (set : List Bool) (i before : ℕ) (front items : List ℕ) → i ≡ 13 → length set ≡ 14 → items ≡ front ++ spaced (range_words 13 before) →
     front ++ spaced (rank_words i before (drop i (take 13 set))) ≡ spaced (rank_words 0 0 (take 13 set)) →
     items ≡ spaced (rank_words 0 0 (take 13 set))

@@ -2,7 +2,7 @@
 use Rattle.std.proofs.Common.{◌≡◌, ℕ, zero, suc, ◌+◌, ◌<◌, ◌≤◌, Bool, true, false, List, [], ◌∷◌, length, map, slice_get, get_or}
 use Rattle.std.proofs.Common.{Some, unwrap_or, sym, ap, subst, ◌∙◌, arith, true≢false}
 use Rattle.std.proofs.lemmas.Option.{slice_get-get_or, slice_get_cases, slice_get_within}
-use Rattle.crib_cards.specs.Letters.{letter_place}
+use Rattle.crib_cards.specs.Letters.{letter_index}
 use Rattle.crib_cards.specs.declared.letters.Letter.{Letter}
 use Rattle.crib_cards.specs.declared.letters.Letter.TheVariants.{Seen}
 use Rattle.crib_plan.specs.declared.plan.Next.{Next}
@@ -46,40 +46,40 @@ module _ (spots : List Spot) (plan : List Node) (long : length spots ≡ length 
     pub cards : node_cards spots node ≤ first_cards row
 
   abbrev KnownFrom : ℕ → Type 0
-  KnownFrom place = (i : ℕ) (node : Node) → place < i → slice_get plan i ≡ Some node → IsKnown node (row_named rows i)
+  KnownFrom number = (i : ℕ) (node : Node) → number < i → slice_get plan i ≡ Some node → IsKnown node (row_named rows i)
 
-  led : (place : ℕ) (next : Next) → KnownFrom place → IsLater place (length plan) next →
-      (levels_at spots next ≤ level_count (row_to apart (behind apart plan place) next))
-      × (cards_at spots next ≤ first_cards (row_to apart (behind apart plan place) next))
-  led place End known later = (omega arith, omega arith)
-  led place (To i) known later =
+  led : (number : ℕ) (next : Next) → KnownFrom number → IsLater number (length plan) next →
+      (levels_at spots next ≤ level_count (row_to apart (behind apart plan number) next))
+      × (cards_at spots next ≤ first_cards (row_to apart (behind apart plan number) next))
+  led number End known later = (omega arith, omega arith)
+  led number (To i) known later =
       let target = get_or plan i (Play 0 End) in
       let found = slice_get-get_or plan i (Play 0 End) later.1 in
-      let row = later_is apart plan place i later.0 in
+      let row = later_is apart plan number i later.0 in
       let broken = sized.broken i target (omega (arith, later.0)) found in
       let whole = sized.whole i target (omega (arith, later.0)) found in
       grind (arith, apart_same spots i (omega (arith, long, later.1)), broken, whole, known i target later.0 found, ap level_count row, ap first_cards row)
 
-  at_node : (place : ℕ) (node : Node) → slice_get plan place ≡ Some node → KnownFrom place → IsNode place (length plan) node →
-      IsKnown node (row_named rows place)
-  at_node place (Play card next) found known is =
-      let rest = led place next known is.1 in
-      rw (row_is apart plan place (Play card next) found) (record { levels = rest.0; cards = omega (arith, rest.1) })
-  at_node place (See branches) found known is =
-      let lines = lines_to apart (behind apart plan place) branches 0 branches in
+  at_node : (number : ℕ) (node : Node) → slice_get plan number ≡ Some node → KnownFrom number → IsNode number (length plan) node →
+      IsKnown node (row_named rows number)
+  at_node number (Play card next) found known is =
+      let rest = led number next known is.1 in
+      rw (row_is apart plan number (Play card next) found) (record { levels = rest.0; cards = omega (arith, rest.1) })
+  at_node number (See branches) found known is =
+      let lines = lines_to apart (behind apart plan number) branches 0 branches in
       let each : (i : ℕ) → levels_at spots (unwrap_or (slice_get branches i) End) ≤ levels_below lines =
-      λ i. (let e : letter_place (Seen (i + 1)) ≡ i = omega arith in
+      λ i. (let e : letter_index (Seen (i + 1)) ≡ i = omega arith in
       let next : Next = unwrap_or (slice_get branches i) End in
-      let row = ap level_count (line_of apart (behind apart plan place) branches (Seen (i + 1)) next (ap (λ k. unwrap_or (slice_get branches k) End) e)) in
-      let rest = led place next known (branch_later place (length plan) branches i is.1) in
+      let row = ap level_count (line_of apart (behind apart plan number) branches (Seen (i + 1)) next (ap (λ k. unwrap_or (slice_get branches k) End) e)) in
+      let rest = led number next known (branch_later number (length plan) branches i is.1) in
       omega (arith, rest.0, row, one_line_below lines (Seen (i + 1)))) in
-      rw (row_is apart plan place (See branches) found)
+      rw (row_is apart plan number (See branches) found)
       (record { levels = omega (arith, most_below spots branches (levels_below lines) each); cards = omega arith })
 
-  known_from : (fuel place : ℕ) → length plan ≤ place + fuel → KnownFrom place
-  known_from zero place enough i node above found =
+  known_from : (fuel number : ℕ) → length plan ≤ number + fuel → KnownFrom number
+  known_from zero number enough i node above found =
       absurd (omega (arith, slice_get_within plan i node found, above, enough))
-  known_from (suc fuel) place enough i node above found =
+  known_from (suc fuel) number enough i node above found =
       at_node i node found (known_from fuel i (omega (arith, above, enough))) (node_is plan i node are found)
 
   only_large : is_first_apart spots ≡ false → OnlyLargeAreApart apart plan

@@ -31,7 +31,7 @@ small_named : (levels cards number : ℕ) → IsSmall levels cards (Named number
 small_named levels cards number = record { depth = omega arith; width = λ before few. omega arith }
 
 module _ (apart : ℕ → Bool) (spots : List Spot) (low : AreLow spots) where
-  -- a paragraph whose node is in place is as small as is known of it, and each is small
+  -- a row whose node has no paragraph is as small as is known of it, and each is small
   pub record Fits (paragraph : Paragraph) : Type 0 where
     pub known : apart paragraph.number ≡ false → IsSmall (levels_at spots (To paragraph.number)) (cards_at spots (To paragraph.number)) paragraph.row
     pub small : IsSmall 5 5 paragraph.row
@@ -74,18 +74,18 @@ module _ (apart : ℕ → Bool) (spots : List Spot) (low : AreLow spots) where
   each_small (Play card next) = (omega (arith, low.levels next), omega (arith, low.cards next))
   each_small (See branches) = (omega arith, all_every (λ next. levels_at spots next < 5) (λ next. omega (arith, low.levels next)) branches)
 
-  rows_fit : (place : ℕ) (nodes : List Node) →
-      ((i : ℕ) (node : Node) → slice_get nodes i ≡ Some node → apart (place + i) ≡ false →
-      HasSize spots (levels_at spots (To (place + i))) (cards_at spots (To (place + i))) node) →
-      AllByRecursion Fits (rows_from apart place nodes)
-  rows_fit place [] sized = tt
-  rows_fit place (node ∷ nodes) sized =
-      let later = rows_fit (place + 1) nodes
-      (λ i other is. let e : place + suc i ≡ place + 1 + i = omega arith in rw e at (sized (suc i) other is)) in
+  rows_fit : (number : ℕ) (nodes : List Node) →
+      ((i : ℕ) (node : Node) → slice_get nodes i ≡ Some node → apart (number + i) ≡ false →
+      HasSize spots (levels_at spots (To (number + i))) (cards_at spots (To (number + i))) node) →
+      AllByRecursion Fits (rows_from apart number nodes)
+  rows_fit number [] sized = tt
+  rows_fit number (node ∷ nodes) sized =
+      let later = rows_fit (number + 1) nodes
+      (λ i other is. let e : number + suc i ≡ number + 1 + i = omega arith in rw e at (sized (suc i) other is)) in
       let here = rw add-zero at (sized 0 node refl) in (
         record {
-          known = λ inline. node_fits (rows_from apart (place + 1) nodes) (levels_at spots (To place)) (cards_at spots (To place)) node later (here inline);
-          small = node_fits (rows_from apart (place + 1) nodes) 5 5 node later (each_small node);
+          known = λ inline. node_fits (rows_from apart (number + 1) nodes) (levels_at spots (To number)) (cards_at spots (To number)) node later (here inline);
+          small = node_fits (rows_from apart (number + 1) nodes) 5 5 node later (each_small node);
         },
         later,
       )

@@ -18,15 +18,15 @@ other_than byte other = not (eqb other byte)
 
 -- ---- the set that a label gives
 
--- the place of a letter. The second letter of a go has the place behind all
-place_of : ℕ → ℕ
-place_of byte = position_or_len (λ known. eqb known byte) letter_bytes
+-- the index of a letter. The second letter of a go has the index behind all
+index_of : ℕ → ℕ
+index_of byte = position_or_len (λ known. eqb known byte) letter_bytes
 
--- what letters and dashes say of the places from one on: places up to the next letter are in the set after a dash
+-- what letters and dashes say of the letters from an index on: those up to the next letter are in the set after a dash
 abbrev told : ℕ → Bool → List ℕ → List Bool
 told from dashed [] = replicate 14 false
 told from dashed (byte ∷ bytes) =
-    cond (eqb byte 45) (told from true bytes) (replicate (place_of byte - from) dashed ++ true ∷ told (place_of byte + 1) false bytes)
+    cond (eqb byte 45) (told from true bytes) (replicate (index_of byte - from) dashed ++ true ∷ told (index_of byte + 1) false bytes)
 
 abbrev set_told : List ℕ → List Bool
 set_told bytes = take 14 (told 0 false (filter (other_than space) bytes))
@@ -55,7 +55,7 @@ abbrev is_told : List Bool → Bool
 is_told set = pointwise beq (set_told (label set)) set && ((not (list_any (λ flag. flag) set) || is_begun (label set)) && is_plain (label set))
 
 every_told : every 14 is_told ≡ true
-unfolding label rank_words place_of
+unfolding label rank_words index_of
 every_told = refl
 
 all_told : (set : List Bool) → length set ≡ 14 → is_told set ≡ true

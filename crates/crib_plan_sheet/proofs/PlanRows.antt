@@ -34,18 +34,18 @@ place_node flags plan node is = rw is refl
 
 -- ---- nodes
 
-row_agrees : (apart : ℕ → Bool) (plan : List Node) (place count : ℕ) (next : Next) → IsLater place count next →
-    row_to apart (behind apart plan place) next ≡ row_to apart (rows_from apart 0 plan) next
-row_agrees apart plan place count End is = refl
-row_agrees apart plan place count (To node) is = rw (later_is apart plan place node is.0) refl
+row_agrees : (apart : ℕ → Bool) (plan : List Node) (number count : ℕ) (next : Next) → IsLater number count next →
+    row_to apart (behind apart plan number) next ≡ row_to apart (rows_from apart 0 plan) next
+row_agrees apart plan number count End is = refl
+row_agrees apart plan number count (To node) is = rw (later_is apart plan number node is.0) refl
 
-lines_agree : (apart : ℕ → Bool) (plan : List Node) (place count : ℕ) (all : List Next) (from : ℕ) (branches : List Next) →
-    AllByRecursion (IsLater place count) branches →
-    lines_to apart (behind apart plan place) all from branches ≡ lines_to apart (rows_from apart 0 plan) all from branches
-lines_agree apart plan place count all from [] are = refl
-lines_agree apart plan place count all from (End ∷ branches) are = lines_agree apart plan place count all (from + 1) branches are.1
-lines_agree apart plan place count all from (To node ∷ branches) are =
-    rw (lines_agree apart plan place count all (from + 1) branches are.1, later_is apart plan place node are.0.0) refl
+lines_agree : (apart : ℕ → Bool) (plan : List Node) (number count : ℕ) (all : List Next) (from : ℕ) (branches : List Next) →
+    AllByRecursion (IsLater number count) branches →
+    lines_to apart (behind apart plan number) all from branches ≡ lines_to apart (rows_from apart 0 plan) all from branches
+lines_agree apart plan number count all from [] are = refl
+lines_agree apart plan number count all from (End ∷ branches) are = lines_agree apart plan number count all (from + 1) branches are.1
+lines_agree apart plan number count all from (To node ∷ branches) are =
+    rw (lines_agree apart plan number count all (from + 1) branches are.1, later_is apart plan number node are.0.0) refl
 
 pub node_at : (plan : List Node) (i : ℕ) (d node : Node) → ArePlan plan → i < length plan → get_or plan i d ≡ node → IsNode i (length plan) node
 node_at plan i d node are inside is = node_is plan i node are.1 (slice_get-get_or plan i d inside ∙ ap Some is)

@@ -21,9 +21,9 @@ use Rattle.crib_plan_sheet.proofs.PlanTargets.{total, total-append, times, times
 -- ---- rows
 
 -- no row has a number below the first
-not_there : (apart : ℕ → Bool) (place number : ℕ) (nodes : List Node) → number < place → row_named (rows_from apart place nodes) number ≡ Over
-not_there apart place number [] low = refl
-not_there apart place number (node ∷ nodes) low = grind (arith, nat_tests, not_there apart (place + 1) number nodes)
+not_there : (apart : ℕ → Bool) (from number : ℕ) (nodes : List Node) → number < from → row_named (rows_from apart from nodes) number ≡ Over
+not_there apart from number [] low = refl
+not_there apart from number (node ∷ nodes) low = grind (arith, nat_tests, not_there apart (from + 1) number nodes)
 
 -- a count that is at most 1 where it matters
 bounded : (count value : ℕ) → (0 < value → count ≤ 1) → count * value ≤ value
@@ -71,31 +71,31 @@ module _ (apart : ℕ → Bool) where
   nothing (number ∷ numbers) = omega (arith, none_there [] number refl, nothing numbers)
 
   -- the first row has its lines where it is, or in a paragraph
-  first_lines : (place : ℕ) (node : Node) (later : List Paragraph) →
-      kept_lines (with_row apart place node later) + there (with_row apart place node later) place ≡ line_count (row_of apart later node) + kept_lines later
-  first_lines place node later =
+  first_lines : (number : ℕ) (node : Node) (later : List Paragraph) →
+      kept_lines (with_row apart number node later) + there (with_row apart number node later) number ≡ line_count (row_of apart later node) + kept_lines later
+  first_lines number node later =
       grind (arith, nat_tests, sum_by-cons line_count (row_of apart later node) (map (λ (p : Paragraph). p.row) (filter (λ p. apart p.number) later)))
 
   -- rows have no more lines than their nodes have branches, if each with lines is led to once, from these numbers or
   -- from the nodes
-  few_from : (place : ℕ) (nodes : List Node) (numbers : List ℕ) →
-      ((number : ℕ) → place ≤ number → 0 < there (rows_from apart place nodes) number →
+  few_from : (from : ℕ) (nodes : List Node) (numbers : List ℕ) →
+      ((number : ℕ) → from ≤ number → 0 < there (rows_from apart from nodes) number →
       times number numbers + times number (flat_map targets nodes) ≤ 1) →
-      total (there (rows_from apart place nodes)) numbers + kept_lines (rows_from apart place nodes) ≤ sum_by branch_count nodes
-  few_from place [] numbers once = omega (arith, nothing numbers)
-  few_from place (node ∷ nodes) numbers once =
-      let later : List Paragraph = rows_from apart (place + 1) nodes in
-      let rows : List Paragraph = with_row apart place node later in
-      let same : (number : ℕ) → (number ≡ place → ⊥) → there rows number ≡ there later number =
-      λ number differs. rw (ne_eqb place number (λ e. differs (sym e))) refl in
-      let rest = few_from (place + 1) nodes (numbers ++ targets node)
+      total (there (rows_from apart from nodes)) numbers + kept_lines (rows_from apart from nodes) ≤ sum_by branch_count nodes
+  few_from from [] numbers once = omega (arith, nothing numbers)
+  few_from from (node ∷ nodes) numbers once =
+      let later : List Paragraph = rows_from apart (from + 1) nodes in
+      let rows : List Paragraph = with_row apart from node later in
+      let same : (number : ℕ) → (number ≡ from → ⊥) → there rows number ≡ there later number =
+      λ number differs. rw (ne_eqb from number (λ e. differs (sym e))) refl in
+      let rest = few_from (from + 1) nodes (numbers ++ targets node)
       (λ number above some.
       let here : 0 < there rows number = omega (arith, some, same number (λ e. absurd (omega (arith, above, e)))) in
       omega (arith, once number (omega (arith, above)) here, times-append, times-append number (targets node) (flat_map targets nodes))) in
-      let none = none_there later place (not_there apart (place + 1) place nodes (omega arith)) in
-      let few = bounded (times place numbers) (there rows place) (λ some. omega (arith, once place (omega arith) some)) in
-      let parts = split (there rows) (there later) place numbers none same in
-      omega (arith, rest, parts, few, first_lines place node later, node_value later node, total-append, sum_by-cons branch_count node nodes)
+      let none = none_there later from (not_there apart (from + 1) from nodes (omega arith)) in
+      let few = bounded (times from numbers) (there rows from) (λ some. omega (arith, once from (omega arith) some)) in
+      let parts = split (there rows) (there later) from numbers none same in
+      omega (arith, rest, parts, few, first_lines from node later, node_value later node, total-append, sum_by-cons branch_count node nodes)
 
   -- a sheet has no more lines than its plan has branches, if each node behind the first whose row has lines is led to once
   pub few_lines : (plan : List Node) →
@@ -112,9 +112,9 @@ module _ (apart : ℕ → Bool) where
 
 -- ---- paragraphs
 
-length_rows : (apart : ℕ → Bool) (place : ℕ) (nodes : List Node) → length (rows_from apart place nodes) ≡ length nodes
-length_rows apart place [] = refl
-length_rows apart place (node ∷ nodes) = omega (arith, length_rows apart (place + 1) nodes)
+length_rows : (apart : ℕ → Bool) (number : ℕ) (nodes : List Node) → length (rows_from apart number nodes) ≡ length nodes
+length_rows apart number [] = refl
+length_rows apart number (node ∷ nodes) = omega (arith, length_rows apart (number + 1) nodes)
 
 -- a sheet has no more paragraphs than its plan has nodes
 pub paragraphs_are_nodes : (apart : ℕ → Bool) (plan : List Node) → length (sheet_with apart plan).paragraphs ≤ length plan

@@ -6,7 +6,7 @@ use Rattle.std.proofs.lemmas.Bool.Decides.{nat_tests}
 use Rattle.std.proofs.lemmas.Bool.{cond_both, eq-eqb}
 use Rattle.std.proofs.lemmas.Option.{get_or_from_slice_get, slice_get-get_or, slice_get-map, slice_get_within}
 use Rattle.std.proofs.lemmas.List.{drop_all, drop_more}
-use Rattle.crib_cards.specs.Letters.{letter_place}
+use Rattle.crib_cards.specs.Letters.{letter_index}
 use Rattle.crib_cards.specs.declared.letters.Letter.{Letter}
 use Rattle.crib_plan.specs.declared.plan.Next.{Next}
 use Rattle.crib_plan.specs.declared.plan.Next.TheVariants.{End, To}
@@ -32,15 +32,15 @@ named_apart apart [] node here = refl
 named_apart apart (row ∷ rows) node here = grind (arith, nat_tests, named_apart apart rows node here)
 
 -- a node's row names no paragraph
-named_stays : (apart : ℕ → Bool) (sheet : Sheet) (place : ℕ) (nodes : List Node) (node : ℕ) →
-    read_on sheet (row_named (rows_from apart place nodes) node) ≡ row_named (rows_from apart place nodes) node
-named_stays apart sheet place [] node = refl
-named_stays apart sheet place (Play card next ∷ nodes) node =
-    cond_both (eqb place node) _ _ (λ row. read_on sheet row ≡ row) (λ e. refl) (λ e. named_stays apart sheet (place + 1) nodes node)
-named_stays apart sheet place (See branches ∷ nodes) node =
-    cond_both (eqb place node) _ _ (λ row. read_on sheet row ≡ row) (λ e. refl) (λ e. named_stays apart sheet (place + 1) nodes node)
+named_stays : (apart : ℕ → Bool) (sheet : Sheet) (number : ℕ) (nodes : List Node) (node : ℕ) →
+    read_on sheet (row_named (rows_from apart number nodes) node) ≡ row_named (rows_from apart number nodes) node
+named_stays apart sheet number [] node = refl
+named_stays apart sheet number (Play card next ∷ nodes) node =
+    cond_both (eqb number node) _ _ (λ row. read_on sheet row ≡ row) (λ e. refl) (λ e. named_stays apart sheet (number + 1) nodes node)
+named_stays apart sheet number (See branches ∷ nodes) node =
+    cond_both (eqb number node) _ _ (λ row. read_on sheet row ≡ row) (λ e. refl) (λ e. named_stays apart sheet (number + 1) nodes node)
 
--- the rows from a place on are those of the nodes from there on
+-- the rows from a number on are those of the nodes from there on
 pub skip_to : (apart : ℕ → Bool) (from : ℕ) (plan : List Node) (i there other : ℕ) → from + i ≡ there → there ≤ other →
     row_named (rows_from apart from plan) other ≡ row_named (rows_from apart there (drop i plan)) other
 skip_to apart from plan zero there other at above = let e : from ≡ there = omega arith in rw e refl
@@ -67,22 +67,22 @@ past apart plan i is =
     ∙ ap (λ nodes. row_named (rows_from apart i nodes) i) (drop_all i plan (grind (arith, slice_get-get_or plan i (Play 0 End), is)))
 
 -- what is asked of nodes holds of each
-node_fits : (place count : ℕ) (nodes : List Node) (i : ℕ) (node : Node) → AreNodes place count nodes → slice_get nodes i ≡ Some node →
-    IsNode (place + i) count node
-node_fits place count [] i node are is = absurd cc
-node_fits place count (first ∷ nodes) zero node are is = let same : first ≡ node = cc in rw (← same, add-zero) are.0
-node_fits place count (first ∷ nodes) (suc i) node are is =
-    let e : place + 1 + i ≡ place + suc i = omega arith in rw e at (node_fits (place + 1) count nodes i node are.1 is)
+node_fits : (number count : ℕ) (nodes : List Node) (i : ℕ) (node : Node) → AreNodes number count nodes → slice_get nodes i ≡ Some node →
+    IsNode (number + i) count node
+node_fits number count [] i node are is = absurd cc
+node_fits number count (first ∷ nodes) zero node are is = let same : first ≡ node = cc in rw (← same, add-zero) are.0
+node_fits number count (first ∷ nodes) (suc i) node are is =
+    let e : number + 1 + i ≡ number + suc i = omega arith in rw e at (node_fits (number + 1) count nodes i node are.1 is)
 
 pub node_is : (plan : List Node) (i : ℕ) (node : Node) → AreNodes 0 (length plan) plan → slice_get plan i ≡ Some node → IsNode i (length plan) node
 node_is plan i node are is = subst (λ k. IsNode k (length plan) node) (zero-add i) (node_fits 0 (length plan) plan i node are is)
 
 -- the branch of a letter is later, if all branches are
-pub branch_later : (place count : ℕ) (branches : List Next) (i : ℕ) → AllByRecursion (IsLater place count) branches →
-    IsLater place count (unwrap_or (slice_get branches i) End)
-branch_later place count [] i all = tt
-branch_later place count (branch ∷ branches) zero all = all.0
-branch_later place count (branch ∷ branches) (suc i) all = branch_later place count branches i all.1
+pub branch_later : (number count : ℕ) (branches : List Next) (i : ℕ) → AllByRecursion (IsLater number count) branches →
+    IsLater number count (unwrap_or (slice_get branches i) End)
+branch_later number count [] i all = tt
+branch_later number count (branch ∷ branches) zero all = all.0
+branch_later number count (branch ∷ branches) (suc i) all = branch_later number count branches i all.1
 
 -- a row that names a paragraph sends the reader to its node's row
 goes_on : (apart : ℕ → Bool) (plan : List Node) (sheet : Sheet) →
@@ -97,7 +97,7 @@ goes_on apart plan sheet named later (To node) same =
 
 -- the lines of a look
 is_for_is : (all : List Next) (letter : Letter) (node : ℕ) → is_for (map (leads_to node) all) letter ≡ leads_to node (branch_of all letter)
-is_for_is all letter node = grind (arith, slice_get-map (leads_to node) all (letter_place letter))
+is_for_is all letter node = grind (arith, slice_get-map (leads_to node) all (letter_index letter))
 
 no_line : (apart : ℕ → Bool) (later : List Paragraph) (all : List Next) (letter : Letter) → branch_of all letter ≡ End →
     (from : ℕ) (branches : List Next) → row_for (lines_to apart later all from branches) letter ≡ Over
@@ -128,7 +128,7 @@ pub line_of : (apart : ℕ → Bool) (later : List Paragraph) (branches : List N
     row_for (lines_to apart later branches 0 branches) letter ≡ row_to apart later next
 line_of apart later branches letter End is = no_line apart later branches letter is 0 branches
 line_of apart later branches letter (To node) is =
-    line_for apart later branches letter node is 0 branches refl refl (any_at branches (letter_place letter) node is)
+    line_for apart later branches letter node is 0 branches refl refl (any_at branches (letter_index letter) node is)
 
 -- a reader and the plan
 module _ (apart : ℕ → Bool) (plan : List Node) (are : AreNodes 0 (length plan) plan) (sheet : Sheet)
@@ -136,9 +136,9 @@ module _ (apart : ℕ → Bool) (plan : List Node) (are : AreNodes 0 (length pla
   abbrev rows : List Paragraph
   rows = rows_from apart 0 plan
 
-  leads_on : (place : ℕ) (next : Next) → IsLater place (length plan) next → read_on sheet (row_to apart (behind apart plan place) next) ≡ spot rows next
-  leads_on place End is = goes_on apart plan sheet named (behind apart plan place) End refl
-  leads_on place (To other) is = goes_on apart plan sheet named (behind apart plan place) (To other) (sym (later_is apart plan place other is.0))
+  leads_on : (number : ℕ) (next : Next) → IsLater number (length plan) next → read_on sheet (row_to apart (behind apart plan number) next) ≡ spot rows next
+  leads_on number End is = goes_on apart plan sheet named (behind apart plan number) End refl
+  leads_on number (To other) is = goes_on apart plan sheet named (behind apart plan number) (To other) (sym (later_is apart plan number other is.0))
 
   card_at : (node : ℕ) (found : Option Node) → slice_get plan node ≡ found → card_on (row_named rows node) ≡ card_of_node found
   card_at node None is = ap card_on (past apart plan node is)
@@ -157,7 +157,7 @@ module _ (apart : ℕ → Bool) (plan : List Node) (are : AreNodes 0 (length pla
   shown_at node letter (Some (See branches)) is =
       rw (row_is apart plan node (See branches) is, line_of apart (behind apart plan node) branches letter (branch_of branches letter) refl)
       (leads_on node (branch_of branches letter)
-      (branch_later node (length plan) branches (letter_place letter) (node_is plan node (See branches) are is).1))
+      (branch_later node (length plan) branches (letter_index letter) (node_is plan node (See branches) are is).1))
 
   after_turn : (place : Next) (turn : Turn) → read_turn sheet (spot rows place) turn ≡ spot rows (place_after_turn plan place turn)
   after_turn End OwnCard = refl

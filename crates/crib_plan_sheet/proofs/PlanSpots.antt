@@ -1,4 +1,4 @@
--- What is known of the nodes of a plan stays right while nodes before them are settled.
+-- What is known of the nodes of a plan stays right while it is found out of nodes before them.
 use Rattle.std.proofs.Common.{◌≡◌, ◌≢◌, ℕ, zero, suc, ◌+◌, ◌<◌, ◌≤◌, Bool, true, false, Option, List, [], ◌∷◌, length, replicate, slice_get, set}
 use Rattle.std.proofs.Common.{Some, option_map, unwrap_or, refl, sym, ap, ◌∙◌, arith, inl, inr}
 use Rattle.std.specs.List.{AllByRecursion}
@@ -42,36 +42,36 @@ low_set spots i spot low levels cards = record {
 
 -- ---- sizes
 
-module _ (place count from : ℕ) (spots : List Spot) (spot : Spot) (above : place ≤ from) where
-  still_there : (j : ℕ) → IsLater from count (To j) → slice_get (set spots place spot) j ≡ slice_get spots j
-  still_there j later = let far = later.0 in get_set_other spots place j spot (λ e. absurd (omega arith))
+module _ (number count from : ℕ) (spots : List Spot) (spot : Spot) (above : number ≤ from) where
+  still_there : (j : ℕ) → IsLater from count (To j) → slice_get (set spots number spot) j ≡ slice_get spots j
+  still_there j later = let far = later.0 in get_set_other spots number j spot (λ e. absurd (omega arith))
 
-  set_levels : (next : Next) → IsLater from count next → levels_at (set spots place spot) next ≡ levels_at spots next
+  set_levels : (next : Next) → IsLater from count next → levels_at (set spots number spot) next ≡ levels_at spots next
   set_levels End later = refl
   set_levels (To j) later = ap (λ found. unwrap_or (option_map (λ (s : Spot). s.levels) found) 0) (still_there j later)
 
-  set_cards : (next : Next) → IsLater from count next → cards_at (set spots place spot) next ≡ cards_at spots next
+  set_cards : (next : Next) → IsLater from count next → cards_at (set spots number spot) next ≡ cards_at spots next
   set_cards End later = refl
   set_cards (To j) later = ap (λ found. unwrap_or (option_map (λ (s : Spot). s.cards) found) 0) (still_there j later)
 
-  set_most : (branches : List Next) → AllByRecursion (IsLater from count) branches → most_levels (set spots place spot) branches ≡ most_levels spots branches
+  set_most : (branches : List Next) → AllByRecursion (IsLater from count) branches → most_levels (set spots number spot) branches ≡ most_levels spots branches
   set_most [] later = refl
   set_most (next ∷ branches) later = rw (set_levels next later.0, set_most branches later.1) refl
 
-  node_levels_same : (node : Node) → IsNode from count node → node_levels (set spots place spot) node ≡ node_levels spots node
+  node_levels_same : (node : Node) → IsNode from count node → node_levels (set spots number spot) node ≡ node_levels spots node
   node_levels_same (Play card next) is = set_levels next is.1
   node_levels_same (See branches) is = ap (λ n. n + 1) (set_most branches is.1)
 
-  node_cards_same : (node : Node) → IsNode from count node → node_cards (set spots place spot) node ≡ node_cards spots node
+  node_cards_same : (node : Node) → IsNode from count node → node_cards (set spots number spot) node ≡ node_cards spots node
   node_cards_same (Play card next) is = ap (λ n. n + 1) (set_cards next is.1)
   node_cards_same (See branches) is = refl
 
   whole_same : (levels cards ways : ℕ) (node : Node) → IsNode from count node → IsWhole spots levels cards ways node →
-      IsWhole (set spots place spot) levels cards ways node
+      IsWhole (set spots number spot) levels cards ways node
   whole_same levels cards ways node is whole = grind (arith, node_levels_same node is, node_cards_same node is, whole)
 
   broken_same : (levels cards ways : ℕ) (node : Node) → IsNode from count node → IsBroken spots levels cards ways node →
-      IsBroken (set spots place spot) levels cards ways node
+      IsBroken (set spots number spot) levels cards ways node
   broken_same levels cards ways node is broken = grind (arith, node_levels_same node is, node_cards_same node is, broken)
 
 -- what is known of a node, as its entry says
@@ -85,45 +85,45 @@ abbrev apart_from : Option Spot → Bool
 apart_from found = unwrap_or (option_map (λ spot. spot.is_apart) found) true
 
 -- what is known of a node by its entry
-abbrev IsSettled : List Spot → Option Spot → ℕ → Node → Type 0
-IsSettled spots found ways node =
+abbrev IsKnownBy : List Spot → Option Spot → ℕ → Node → Type 0
+IsKnownBy spots found ways node =
     (apart_from found ≡ false → IsWhole spots (levels_in found) (cards_in found) ways node)
     × (apart_from found ≡ true → IsBroken spots (levels_in found) (cards_in found) ways node)
 
--- one more node is settled
-pub sized_set : (place : ℕ) (nodes : List Node) (spots : List Spot) (node : Node) (spot : Spot) → AreNodes 0 (length nodes) nodes →
-    place < length spots → slice_get nodes place ≡ Some node → AreSized (place + 1) nodes spots →
-    (spot.is_apart ≡ false → IsWhole spots spot.levels spot.cards (ways_to nodes place) node) →
-    (spot.is_apart ≡ true → IsBroken spots spot.levels spot.cards (ways_to nodes place) node) →
-    AreSized place nodes (set spots place spot)
-sized_set place nodes spots node spot are within is old whole broken =
-    let new : List Spot = set spots place spot in
-    let settled : (i : ℕ) (other : Node) → place ≤ i → slice_get nodes i ≡ Some other → IsSettled new (slice_get new i) (ways_to nodes i) other =
+-- what is known of one more node
+pub sized_set : (number : ℕ) (nodes : List Node) (spots : List Spot) (node : Node) (spot : Spot) → AreNodes 0 (length nodes) nodes →
+    number < length spots → slice_get nodes number ≡ Some node → AreSized (number + 1) nodes spots →
+    (spot.is_apart ≡ false → IsWhole spots spot.levels spot.cards (ways_to nodes number) node) →
+    (spot.is_apart ≡ true → IsBroken spots spot.levels spot.cards (ways_to nodes number) node) →
+    AreSized number nodes (set spots number spot)
+sized_set number nodes spots node spot are within is old whole broken =
+    let new : List Spot = set spots number spot in
+    let known : (i : ℕ) (other : Node) → number ≤ i → slice_get nodes i ≡ Some other → IsKnownBy new (slice_get new i) (ways_to nodes i) other =
     λ i other above found.
     let fits = node_is nodes i other are found in
-    let had : IsSettled spots (slice_get new i) (ways_to nodes i) other =
-    elim (cases_eq place i) [
+    let had : IsKnownBy spots (slice_get new i) (ways_to nodes i) other =
+    elim (cases_eq number i) [
       | inl e ↦
-          (let at_i : slice_get new i ≡ Some spot = ap (slice_get new) (sym e) ∙ get_set_same spots place spot within in
+          (let at_i : slice_get new i ≡ Some spot = ap (slice_get new) (sym e) ∙ get_set_same spots number spot within in
           let same : node ≡ other = (let f : Some node ≡ Some other = sym is ∙ ap (slice_get nodes) e ∙ found in cc) in
           rw (at_i, ← e, ← same) (whole, broken))
       | inr differs ↦
-          rw (get_set_other spots place i spot differs) (old.whole i other (omega (arith, above)) found, old.broken i other (omega (arith, above)) found)
+          rw (get_set_other spots number i spot differs) (old.whole i other (omega (arith, above)) found, old.broken i other (omega (arith, above)) found)
     ] in (
-      λ inline. whole_same place (length nodes) i spots spot above _ _ (ways_to nodes i) other fits (had.0 inline),
-      λ apart. broken_same place (length nodes) i spots spot above _ _ (ways_to nodes i) other fits (had.1 apart),
+      λ inline. whole_same number (length nodes) i spots spot above _ _ (ways_to nodes i) other fits (had.0 inline),
+      λ apart. broken_same number (length nodes) i spots spot above _ _ (ways_to nodes i) other fits (had.1 apart),
     ) in
-    record { whole = λ i other above found. (settled i other above found).0; broken = λ i other above found. (settled i other above found).1 }
+    record { whole = λ i other above found. (known i other above found).0; broken = λ i other above found. (known i other above found).1 }
 
--- before the first, nothing is settled
-pub none_sized : (place : ℕ) (nodes : List Node) (spots : List Spot) → length nodes ≤ place → AreSized place nodes spots
-none_sized place nodes spots past = record {
+-- at first, nothing is known
+pub none_sized : (number : ℕ) (nodes : List Node) (spots : List Spot) → length nodes ≤ number → AreSized number nodes spots
+none_sized number nodes spots past = record {
   whole = λ i node above found inline. absurd (grind (arith, slice_get_past nodes i, found));
   broken = λ i node above found apart. absurd (grind (arith, slice_get_past nodes i, found));
 }
 
-pub sized_later : (place other : ℕ) (nodes : List Node) (spots : List Spot) → place ≤ other → AreSized place nodes spots → AreSized other nodes spots
-sized_later place other nodes spots less are =
+pub sized_later : (number other : ℕ) (nodes : List Node) (spots : List Spot) → number ≤ other → AreSized number nodes spots → AreSized other nodes spots
+sized_later number other nodes spots less are =
     record { whole = λ i node above. are.whole i node (omega (arith, less, above)); broken = λ i node above. are.broken i node (omega (arith, less, above)) }
 
 -- ---- the first node

@@ -11,9 +11,8 @@ use Rattle.std.proofs.lemmas.Option.{slice_get_past, unwrap_or-slice_get}
 use Rattle.crib_plan.specs.declared.plan.Next.{Next}
 use Rattle.crib_plan.specs.declared.plan.Next.TheVariants.{End, To}
 use Rattle.crib_plan.specs.declared.plan.Node.{Node}
-use Rattle.crib_plan.specs.Spelling.{leads_to}
+use Rattle.crib_plan.specs.Spelling.{leads_to, new_node}
 use Rattle.crib_plan_sheet.specs.PlanBranches.{node_leads}
-use Rattle.crib_plan_sheet.specs.Private.Pages.{new_node}
 use Rattle.crib_plan_sheet.specs.Private.Ways.{ways_in, one_more}
 
 -- whether a place is a node, and none of the places before it is the same
@@ -64,26 +63,26 @@ no_way ways before place new number = sym (ap (one_more (ways_in ways number)) (
 
 -- ---- the letters of a look
 
-pub next_letter : (count now : ℕ) (places : List Next) (letter number : ℕ) → letter < length places →
-    now ≡ one_more count (list_any (leads_to number) (take letter places)) →
-    one_more now (leads_anew number (take letter places) (get_or places letter End)) ≡ one_more count (list_any (leads_to number) (take (letter + 1) places))
-next_letter count now places letter number within is = grind (arith, is, list_any_more (leads_to number) places letter End within)
+pub next_letter : (count now : ℕ) (places : List Next) (index number : ℕ) → index < length places →
+    now ≡ one_more count (list_any (leads_to number) (take index places)) →
+    one_more now (leads_anew number (take index places) (get_or places index End)) ≡ one_more count (list_any (leads_to number) (take (index + 1) places))
+next_letter count now places index number within is = grind (arith, is, list_any_more (leads_to number) places index End within)
 
-pub all_letters : (count now : ℕ) (places : List Next) (letter number : ℕ) → length places ≤ letter →
-    now ≡ one_more count (list_any (leads_to number) (take letter places)) → now ≡ one_more count (list_any (leads_to number) places)
-all_letters count now places letter number past is = rw (take_all letter places past) at is
+pub all_letters : (count now : ℕ) (places : List Next) (index number : ℕ) → length places ≤ index →
+    now ≡ one_more count (list_any (leads_to number) (take index places)) → now ≡ one_more count (list_any (leads_to number) places)
+all_letters count now places index number past is = rw (take_all index places past) at is
 
 -- ---- the nodes of a plan
 
-pub next_node : (now : ℕ) (nodes : List Node) (place number : ℕ) (none : Node) → place < length nodes →
-    now ≡ min 2 (count_by (node_leads number) (take place nodes)) →
-    one_more now (node_leads number (get_or nodes place none)) ≡ min 2 (count_by (node_leads number) (take (place + 1) nodes))
-next_node now nodes place number none within is =
-    grind (arith, is, sum_by_more (λ node. cond (node_leads number node) 1 0) nodes place none within)
+pub next_node : (now : ℕ) (nodes : List Node) (i number : ℕ) (none : Node) → i < length nodes →
+    now ≡ min 2 (count_by (node_leads number) (take i nodes)) →
+    one_more now (node_leads number (get_or nodes i none)) ≡ min 2 (count_by (node_leads number) (take (i + 1) nodes))
+next_node now nodes i number none within is =
+    grind (arith, is, sum_by_more (λ node. cond (node_leads number node) 1 0) nodes i none within)
 
-pub all_nodes : (now : ℕ) (nodes : List Node) (place number : ℕ) → length nodes ≤ place →
-    now ≡ min 2 (count_by (node_leads number) (take place nodes)) → now ≡ min 2 (count_by (node_leads number) nodes)
-all_nodes now nodes place number past is = rw (take_all place nodes past) at is
+pub all_nodes : (now : ℕ) (nodes : List Node) (i number : ℕ) → length nodes ≤ i →
+    now ≡ min 2 (count_by (node_leads number) (take i nodes)) → now ≡ min 2 (count_by (node_leads number) nodes)
+all_nodes now nodes i number past is = rw (take_all i nodes past) at is
 
 -- ---- entries before anything is counted
 

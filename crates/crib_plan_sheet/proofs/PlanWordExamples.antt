@@ -42,7 +42,8 @@ labels_of_lines = (refl, refl, refl, refl, refl, refl, refl)
 plans_in_words :
     (map (no_card true) (Over ∷ Plays 4 Over ∷ Looks NoLine ∷ Named 1 ∷ []) ∷ map (no_card false) (Over ∷ Plays 4 Over ∷ []) ∷ []
     ≡ (codes "No card is needed." ∷ [] ∷ [] ∷ [] ∷ []) ∷ (codes "The plan states no card." ∷ [] ∷ []) ∷ [])
-    × (end_of_row false ≡ codes "At the end of a row, or if there is no line, the plan states nothing more.\n")
+    × (end_of_row false ≡ codes "At the end of a row, if there is no line, or if the next card doesn't fit but\nanother does, the plan states "
+    ++ codes "nothing more, nor at a \"look\" if a card of yours\nfits. Then play what you think best: you may still reach your goal.\n")
     × (map before_rest (Over ∷ Plays 4 Over ∷ Looks NoLine ∷ Named 1 ∷ []) ≡ [] ∷ codes " " ∷ codes ", then " ∷ codes ", then " ∷ [])
 plans_in_words = (refl, refl, refl)
 
@@ -68,19 +69,15 @@ abbrev how_to_read : List ℕ
 how_to_read =
     codes "\nPlay a row in order, one card at each of your turns. If none of your cards\nfits, say go and stay there. "
     ++ codes "At \"look\", go on in the line of what they show\nnext: a rank, or a go, even after yours. At \"see [n]\", go on in paragraph [n].\n"
-    ++ codes "At the end of a row, or if there is no line, "
 
 unfoldable pub if_sure : List ℕ
-if_sure = codes "nothing is left to decide, or\nyour goal is reached: then play as you like.\n"
-
-unfoldable pub otherwise : List ℕ
-otherwise = codes "the plan states nothing more.\n"
+if_sure = codes "At the end of a row, or if there is no line, nothing is left to decide, or\nyour goal is reached: then play as you like.\n"
 
 pages_without_a_look :
     (page_text true (record { first = Over; paragraphs = [] }) ≡ codes "No card is needed.\n" ++ how_to_read ++ if_sure)
-    × (page_text false (record { first = Over; paragraphs = [] }) ≡ codes "The plan states no card.\n" ++ how_to_read ++ otherwise)
+    × (page_text false (record { first = Over; paragraphs = [] }) ≡ codes "The plan states no card.\n" ++ how_to_read ++ end_of_row false)
     × (page_text true (record { first = Plays 31 Over; paragraphs = [] }) ≡ codes "8S\n" ++ how_to_read ++ if_sure)
-unfolding page_text sheet_text legend_text if_sure otherwise
+unfolding page_text sheet_text legend_text if_sure
 pages_without_a_look = (refl, refl, refl)
 
 -- ---- why a plan is stuck

@@ -10,14 +10,14 @@ use Rattle.crib_plan.specs.declared.plan.Next.TheVariants.{End, To}
 use Rattle.crib_plan.specs.declared.plan.Node.{Node}
 use Rattle.crib_plan.specs.declared.plan.Node.TheVariants.{Play, See}
 use Rattle.crib_plan.specs.Nodes.{IsLater, IsNode, ArePlan}
-use Rattle.crib_plan.specs.Spelling.{leads_to}
+use Rattle.crib_plan.specs.Spelling.{leads_to, new_node}
 use Rattle.crib_run.specs.Prints.{Stand, Prints}
 use Rattle.crib_run.proofs.Printing.{SoFar, more, as_text, so_far_more, so_far_skip, so_far_done}
 use Rattle.crib_plan_sheet.specs.PlanSheet.{Paragraph, Named, lines_to, row_of, rows_from, sheet_with, Over}
 use Rattle.crib_plan_sheet.specs.PlanOutline.{apart_in}
 use Rattle.crib_plan_sheet.specs.PlanText.{row_text, lines_text, before_rest, indent, label, label_width, paragraph_text}
 use Rattle.crib_plan_sheet.specs.PlanPage.{end_of_row, legend_text, no_card, page_text}
-use Rattle.crib_plan_sheet.specs.Private.Pages.{first_text, IsDeep, place_row, node_row, lines_at, line_front, width_at, new_node}
+use Rattle.crib_plan_sheet.specs.Private.Pages.{first_text, IsDeep, place_row, node_row, lines_at, line_front, width_at}
 use Rattle.crib_plan_sheet.specs.Private.Pages.{paragraphs_text}
 use Rattle.crib_plan_sheet.proofs.LabelPieces.{column_from, line_at}
 use Rattle.crib_plan_sheet.proofs.PlanRows.{page_is, room, node_at, place_end, place_apart, place_node, node_play, node_see}
@@ -46,13 +46,13 @@ unfolding lines_at width_at
 width_same flags plan branches = any_width (apart_in flags) (rows_from (apart_in flags) 0 plan) branches 0 branches
 
 -- what a walk may ask of the nodes that a node leads to
-pub deep_later : (level place count : ℕ) (next : Next) → level ≤ place + 1 → IsLater place count next → IsDeep level count next
-deep_later level place count End deep later = tt
-deep_later level place count (To node) deep later = let above = later.0 in (omega arith, later.1)
+pub deep_later : (level number count : ℕ) (next : Next) → level ≤ number + 1 → IsLater number count next → IsDeep level count next
+deep_later level number count End deep later = tt
+deep_later level number count (To node) deep later = let above = later.0 in (omega arith, later.1)
 
-pub room_later : (place count : ℕ) (next : Next) → place < count → IsLater place count next → room count next + 1 ≤ count - place
-room_later place count End inside later = omega arith
-room_later place count (To node) inside later = let above = later.0 in let below = later.1 in omega arith
+pub room_later : (number count : ℕ) (next : Next) → number < count → IsLater number count next → room count next + 1 ≤ count - number
+room_later number count End inside later = omega arith
+room_later number count (To node) inside later = let above = later.0 in let below = later.1 in omega arith
 
 -- ---- lines
 

@@ -10,14 +10,17 @@ no_card sure (Plays card row) = []
 no_card sure (Looks lines) = []
 no_card sure (Named number) = []
 
--- what the end of a row means. Only a sure plan leaves nothing to decide there
+-- what the end of a row means. Only a sure plan leaves nothing to decide there, and states no card that doesn't fit
 abbrev pub end_of_row : Bool → List ℕ
 end_of_row sure =
     if sure
     then
     codes "At the end of a row, or if there is no line, nothing is left to decide, or\nyour goal is reached: then "
     ++ codes "play as you like.\n"
-    else codes "At the end of a row, or if there is no line, the plan states nothing more.\n"
+    else
+    codes "At the end of a row, if there is no line, or if the next card doesn't fit but\nanother does, the plan "
+    ++ codes "states nothing more, nor at a \"look\" if a card of yours\nfits. Then play what you think best: "
+    ++ codes "you may still reach your goal.\n"
 
 -- how to read a sheet
 unfoldable pub legend_text : Bool → List ℕ

@@ -2,7 +2,7 @@
 use Rattle.std.specs.Prelude.{ℕ, ◌+◌, ◌==◌, Bool, false, List, [], ◌∷◌, map, filter, slice_get, take}
 use Rattle.std.specs.Prelude.{Option, Some, None, unwrap_or, if◌then◌else◌}
 use Rattle.std.specs.List.{list_any}
-use Rattle.crib_cards.specs.Letters.{letter_place}
+use Rattle.crib_cards.specs.Letters.{letter_index}
 use Rattle.crib_cards.specs.declared.letters.Letter.{Letter}
 use Rattle.crib_plan.specs.declared.plan.Next.{Next}
 use Rattle.crib_plan.specs.declared.plan.Next.TheVariants.{End, To}
@@ -65,7 +65,7 @@ read_card sheet (Named number) = Named number
 
 -- whether a line is for a letter
 abbrev pub is_for : List Bool → Letter → Bool
-is_for set letter = unwrap_or (slice_get set (letter_place letter)) false
+is_for set letter = unwrap_or (slice_get set (letter_index letter)) false
 
 -- the row of the first line that is for a letter. If no line is, nothing more is stated
 abbrev pub row_for : Lines → Letter → Row
@@ -104,7 +104,7 @@ row_to apart later End = Over
 row_to apart later (To node) = if apart node then Named node else row_named later node
 
 -- the lines of a see node, one for each node that a letter leads to, in the order of their first letters. `from` is the
--- place of the first letter that is still ahead
+-- index of the first letter that is still ahead
 abbrev pub lines_to : (ℕ → Bool) → List Paragraph → List Next → ℕ → List Next → Lines
 lines_to apart later all from [] = NoLine
 lines_to apart later all from (End ∷ branches) = lines_to apart later all (from + 1) branches
@@ -120,12 +120,12 @@ row_of apart later (See branches) = Looks (lines_to apart later branches 0 branc
 
 -- a node's row, before those of the later nodes
 abbrev pub with_row : (ℕ → Bool) → ℕ → Node → List Paragraph → List Paragraph
-with_row apart place node later = record { number = place; row = row_of apart later node } ∷ later
+with_row apart number node later = record { number = number; row = row_of apart later node } ∷ later
 
--- the rows of some nodes from a place on
+-- the rows of some nodes from a number on
 abbrev pub rows_from : (ℕ → Bool) → ℕ → List Node → List Paragraph
-rows_from apart place [] = []
-rows_from apart place (node ∷ nodes) = with_row apart place node (rows_from apart (place + 1) nodes)
+rows_from apart number [] = []
+rows_from apart number (node ∷ nodes) = with_row apart number node (rows_from apart (number + 1) nodes)
 
 -- the sheet of a plan with some of its nodes in paragraphs of their own
 unfoldable pub sheet_with : (ℕ → Bool) → List Node → Sheet

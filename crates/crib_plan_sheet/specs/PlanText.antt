@@ -9,24 +9,24 @@ use Rattle.crib_plan_sheet.specs.PlanSheet.{Row, Lines, Paragraph, Sheet, Over, 
 
 -- ---- the letters of a line
 
--- the byte of the letter at a place
+-- the byte of the letter with an index
 abbrev pub letter_byte : ℕ → ℕ
-letter_byte place = unwrap_or (slice_get letter_bytes place) 0
+letter_byte index = unwrap_or (slice_get letter_bytes index) 0
 
--- the words for neighbouring ranks, by the place behind the last one and their number. One or two are words of their
+-- the words for neighbouring ranks, by the index behind the last one and their number. One or two are words of their
 -- own, and three or more are a range
 abbrev pub range_words : ℕ → ℕ → List (List ℕ)
-range_words place zero = []
-range_words place (suc zero) = (letter_byte (place - 1) ∷ []) ∷ []
-range_words place (suc (suc zero)) = (letter_byte (place - 2) ∷ []) ∷ (letter_byte (place - 1) ∷ []) ∷ []
-range_words place (suc (suc (suc more))) =
-    (letter_byte (place - (3 + more)) ∷ codes "-" ++ letter_byte (place - 1) ∷ []) ∷ []
+range_words index zero = []
+range_words index (suc zero) = (letter_byte (index - 1) ∷ []) ∷ []
+range_words index (suc (suc zero)) = (letter_byte (index - 2) ∷ []) ∷ (letter_byte (index - 1) ∷ []) ∷ []
+range_words index (suc (suc (suc more))) =
+    (letter_byte (index - (3 + more)) ∷ codes "-" ++ letter_byte (index - 1) ∷ []) ∷ []
 
--- the words for a set of ranks from a place on, after some neighbouring ranks before it
+-- the words for a set of ranks from an index on, after some neighbouring ranks before it
 unfoldable pub rank_words : ℕ → ℕ → List Bool → List (List ℕ)
-rank_words place before [] = range_words place before
-rank_words place before (true ∷ set) = rank_words (place + 1) (before + 1) set
-rank_words place before (false ∷ set) = range_words place before ++ rank_words (place + 1) 0 set
+rank_words index before [] = range_words index before
+rank_words index before (true ∷ set) = rank_words (index + 1) (before + 1) set
+rank_words index before (false ∷ set) = range_words index before ++ rank_words (index + 1) 0 set
 
 -- the word for a go, if it is in a set
 abbrev pub go_words : List Bool → List (List ℕ)

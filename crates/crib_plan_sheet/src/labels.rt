@@ -1,22 +1,16 @@
 //! The labels of the lines below a look.
-ghost use Rattle.std.specs.Prelude.{◌≡◌, ◌≤◌, ◌<◌, ◌+◌, ◌*◌, ◌++◌, length, map, drop};
-ghost use Rattle.std.specs.List.{list_any};
+ghost use Rattle.std.specs.Prelude.{◌≡◌, ◌≤◌, ◌<◌, ◌+◌, ◌*◌, ◌++◌, length, drop};
 ghost use Rattle.arrayvec.specs.ArrayVec.{array_vec_len};
-ghost use Rattle.crib_plan.specs.Spelling.{leads_to};
 ghost use Rattle.crib_plan_sheet.specs.PlanText.{label, range_words};
 ghost use Rattle.crib_plan_sheet.specs.PlanText as spec;
 ghost use Rattle.crib_plan_sheet.specs.Private.Pages.{spaced, spaced_label, width_at};
-ghost use Rattle.crib_plan_sheet.specs.Private.Pages as pages;
 
 use arrayvec::ArrayVec;
-use crib_plan::Next;
+use crib_plan::{LETTERS, Next, letters_to, new_node};
 use crib_run::add;
 
 /// The most bytes of a label.
 pub(crate) const WIDEST: usize = 28;
-
-// The letters in their order: the ranks, and `g` for a go.
-const LETTERS: [u8; 14] = *b"A23456789TJQKg";
 
 /// The bytes of a label.
 pub type Label = ArrayVec<u8, 28>;
@@ -54,13 +48,13 @@ fn label_after_space(set: &[bool; 14]) -> SpacedLabel
 {
     let mut text = SpacedLabel::new();
     let ranks = &set[..13];
-    // The neighbouring ranks of the set just before a place.
+    // The neighbouring ranks of the set just before an index.
     let mut before = 0;
-    for place in 0..13 {
-        if ranks[place] {
+    for index in 0..13 {
+        if ranks[index] {
             before += 1;
         } else {
-            add_range(&mut text, place, before);
+            add_range(&mut text, index, before);
             before = 0;
         }
     }
@@ -71,19 +65,19 @@ fn label_after_space(set: &[bool; 14]) -> SpacedLabel
     text
 }
 
-// Adds the words of neighbouring ranks, by the place behind the last one and their number.
-fn add_range(text: &mut SpacedLabel, place: usize, before: usize)
-    requires within { before ≤ place }
-    requires ranks { place ≤ 13 }
+// Adds the words of neighbouring ranks, by the index behind the last one and their number.
+fn add_range(text: &mut SpacedLabel, index: usize, before: usize)
+    requires within { before ≤ index }
+    requires ranks { index ≤ 13 }
     requires room { array_vec_len text.old + 2 * before ≤ 26 }
-    ensures items { text.new.items ≡ text.old.items ++ spaced (range_words place before) }
+    ensures items { text.new.items ≡ text.old.items ++ spaced (range_words index before) }
     ensures len { array_vec_len text.new ≤ array_vec_len text.old + 2 * before }
 {
     if before == 0 {
         return;
     }
-    let first = letter_byte(place - before);
-    let last = letter_byte(place - 1);
+    let first = letter_byte(index - before);
+    let last = letter_byte(index - 1);
     match before {
         1 => add(text, &[b' ', last]),
         2 => add(text, &[b' ', first, b' ', last]),
@@ -91,12 +85,12 @@ fn add_range(text: &mut SpacedLabel, place: usize, before: usize)
     }
 }
 
-/// Returns the byte of the letter at a place.
-pub(crate) fn letter_byte(place: usize) -> u8
-    requires { place < 14 }
-    ensures { result ≡ spec.letter_byte place }
+/// Returns the byte of the letter with an index.
+pub(crate) fn letter_byte(index: usize) -> u8
+    requires { index < 14 }
+    ensures { result ≡ spec.letter_byte index }
 {
-    LETTERS[place]
+    LETTERS[index]
 }
 
 /// Returns the length of the longest label of the lines of a look, at most 28.
@@ -105,44 +99,10 @@ pub(crate) fn width_of(branches: &[Next; 14]) -> usize
     ensures narrow { result ≤ WIDEST }
 {
     let mut width = 0;
-    for place in 0..14 {
-        if let Some(node) = new_node(&branches[..place], branches[place]) {
+    for index in 0..14 {
+        if let Some(node) = new_node(&branches[..index], branches[index]) {
             width = width.max(label_of(&letters_to(node, branches)).len());
         }
     }
     width
-}
-
-/// Returns, for each of the fourteen letters, whether it leads to the node.
-pub(crate) fn letters_to(node: u16, branches: &[Next; 14]) -> [bool; 14]
-    ensures { result ≡ map (leads_to node) branches.now }
-{
-    let mut set = [false; 14];
-    for place in 0..14 {
-        set[place] = branches[place] == Next::To(node);
-    }
-    set
-}
-
-/// The node whose line begins with this branch, after the branches before it. There is none if one of those leads to
-/// it, or at the end.
-pub(crate) fn new_node(before: &[Next], branch: Next) -> Option<u16>
-    ensures { result ≡ pages.new_node before.now branch }
-{
-    match branch {
-        Next::End => None,
-        Next::To(node) => {
-            if is_led_to(node, before) {
-                return None;
-            }
-            Some(node)
-        }
-    }
-}
-
-// Whether one of the branches leads to the node.
-fn is_led_to(node: u16, branches: &[Next]) -> bool
-    ensures { result ≡ list_any (leads_to node) branches.now }
-{
-    branches.iter().any(|branch| *branch == Next::To(node))
 }

@@ -18,14 +18,16 @@ fits, say go and stay there. At \"look\", go on in the line of what they show
 next: a rank, or a go, even after yours. At \"see [n]\", go on in paragraph [n].
 ";
 
-// What the end of a row means, if the plan is sure, and if it is not.
+// What the end of a row means, if the plan is sure, and if it is not. Only then a card may be stated that doesn't fit.
 const END_IF_SURE: &[u8] =
     b"At the end of a row, or if there is no line, nothing is left to decide, or
 your goal is reached: then play as you like.
 ";
 
 const END_OTHERWISE: &[u8] =
-    b"At the end of a row, or if there is no line, the plan states nothing more.
+    b"At the end of a row, if there is no line, or if the next card doesn't fit but
+another does, the plan states nothing more, nor at a \"look\" if a card of yours
+fits. Then play what you think best: you may still reach your goal.
 ";
 
 /// Puts the sheet of a plan, by the nodes that have paragraphs of their own, and how to read it. What the end of a row
@@ -64,8 +66,8 @@ fn put_paragraphs<A: Allocator, B: Allocator, P: Page>(page: &mut P, walk: &Walk
     ensures { Prints (paragraphs_text walk.now.outline.now walk.now.plan.now 0) (P.stand page.old)
         (P.stand page.new) }
 {
-    for place in 0..walk.plan.nodes().len() {
-        let node = place as u16;
+    for number in 0..walk.plan.nodes().len() {
+        let node = number as u16;
         if walk.outline.is_apart(node) {
             page.put(b"\n[");
             put_number(page, node as u32);

@@ -8,10 +8,10 @@ ghost use Rattle.crib_plan_sheet.specs.PlanText as spec;
 ghost use Rattle.crib_plan_sheet.specs.PlanText.{row_text, lines_text};
 ghost use Rattle.crib_plan_sheet.specs.Private.Pages.{IsDeep, line_front, lines_at, node_row, place_row, width_at};
 
-use crate::labels::{WIDEST, label_of, letters_to, new_node, width_of};
+use crate::labels::{WIDEST, label_of, width_of};
 use crate::outline::Outline;
 use crib_cards::card_text;
-use crib_plan::{Next, Node, Plan};
+use crib_plan::{Next, Node, Plan, letters_to, new_node};
 use crib_run::{Page, put_number};
 use std::alloc::Allocator;
 
@@ -93,8 +93,8 @@ impl<A: Allocator, B: Allocator> Walk<'_, A, B> {
             branches.now 0)) (P.stand page.old) (P.stand page.new) }
     {
         let width = width_of(branches);
-        for place in 0..14 {
-            if let Some(node) = new_node(&branches[..place], branches[place]) {
+        for index in 0..14 {
+            if let Some(node) = new_node(&branches[..index], branches[index]) {
                 put_front(page, level, width, &letters_to(node, branches));
                 self.put_row(page, level, Next::To(node));
             }

@@ -44,24 +44,24 @@ pub(crate) fn spots_of<A: Allocator + Copy>(
 {
     let ways = ways_of(alloc, nodes)?;
     let mut spots = vec![in alloc; UNKNOWN; nodes.len()]?;
-    // A node leads only to later ones, so the last is settled first.
-    let mut place = nodes.len();
-    while place > 1 {
-        place -= 1;
-        let spot = settled(spots.as_slice(), ways[place], &nodes[place]);
-        spots[place] = spot;
+    // A node leads only to later ones, so the last is looked at first.
+    let mut number = nodes.len();
+    while number > 1 {
+        number -= 1;
+        let spot = spot_of(spots.as_slice(), ways[number], &nodes[number]);
+        spots[number] = spot;
     }
     Ok(spots)
 }
 
 // What is known of a node to which so many ways lead, from the nodes after it.
-fn settled(spots: &[Spot], ways: u8, node: &Node) -> Spot
+fn spot_of(spots: &[Spot], ways: u8, node: &Node) -> Spot
     requires { AreLow spots.now }
     ensures low { (result.levels ≤ 4) × (result.cards ≤ 4) }
     ensures whole { result.is_apart ≡ false → IsWhole spots.now result.levels result.cards ways node.now }
     ensures broken { result.is_apart ≡ true → IsBroken spots.now result.levels result.cards ways node.now }
 {
-    let spot = in_place(spots, node);
+    let spot = inline_spot(spots, node);
     if spot.levels > DEEPEST || spot.cards > LONGEST || (spot.levels > 0 && ways > 1) {
         return Spot {
             is_apart: true,
@@ -72,7 +72,7 @@ fn settled(spots: &[Spot], ways: u8, node: &Node) -> Spot
 }
 
 // What is known of a node if it has no paragraph.
-fn in_place(spots: &[Spot], node: &Node) -> Spot
+fn inline_spot(spots: &[Spot], node: &Node) -> Spot
     requires { AreLow spots.now }
     ensures inline { result.is_apart ≡ false }
     ensures levels { result.levels ≡ node_levels spots.now node.now }

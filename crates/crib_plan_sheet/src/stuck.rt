@@ -150,7 +150,7 @@ pub fn put_letter<P: Page>(page: &mut P, letter: Letter)
     ensures { Prints (letter_word letter) (P.stand page.old) (P.stand page.new) }
 {
     match letter {
-        Letter::Seen(_) => page.put(&[letter_byte(letter.place() as usize)]),
+        Letter::Seen(_) => page.put(&[letter_byte(letter.index() as usize)]),
         Letter::Go => page.put(b"go"),
     }
 }

@@ -5,8 +5,7 @@ ghost use Rattle.crib_plan.specs.Spelling.{leads_to};
 ghost use Rattle.crib_plan_sheet.specs.PlanBranches.{node_leads};
 ghost use Rattle.crib_plan_sheet.specs.Private.Ways.{AreCounted, one_more, ways_in};
 
-use crate::labels::new_node;
-use crib_plan::{Next, Node};
+use crib_plan::{Next, Node, new_node};
 use std::alloc::{AllocError, Allocator};
 
 /// Counts for each node of a plan how many nodes lead to it, up to 2. Fails if its only allocation fails.
@@ -15,8 +14,8 @@ pub(crate) fn ways_of<A: Allocator>(alloc: A, nodes: &[Node]) -> Result<Vec<u8, 
     ensures counted { IfOk result (λ ways. AreCounted nodes.now ways.items) }
 {
     let mut ways = vec![in alloc; 0; nodes.len()]?;
-    for place in 0..nodes.len() {
-        lead_on(&mut ways, &nodes[place]);
+    for number in 0..nodes.len() {
+        lead_on(&mut ways, &nodes[number]);
     }
     Ok(ways)
 }
@@ -39,8 +38,8 @@ fn lead_to_each(ways: &mut [u8], places: &[Next])
     ensures ways { (number : ℕ) → ways_in ways.new number ≡ one_more (ways_in ways.old number)
         (list_any (leads_to number) places.now) }
 {
-    for letter in 0..places.len() {
-        if let Some(node) = new_node(&places[..letter], places[letter]) {
+    for index in 0..places.len() {
+        if let Some(node) = new_node(&places[..index], places[index]) {
             let node = node as usize;
             if node < ways.len() {
                 ways[node] = ways[node].saturating_add(1).min(2);

@@ -59,7 +59,7 @@ may : (turn : Move) (past : List Move) → is_done (start_of close_to_lost) (let
     MayCome (start_of close_to_lost) (hands_of close_to_lost pairing) turn past
 may turn past going take = record { not_done = going; may_take = take }
 
-pairs_miss : (place : ℕ) (game : Game) → slice_get pairs place ≡ Some game → IsMissed close_to_lost game
+pairs_miss : (index : ℕ) (game : Game) → slice_get pairs index ≡ Some game → IsMissed close_to_lost game
 unfolding outcome_of hand_points crib_points
 pairs_miss zero game among = subst (IsMissed close_to_lost) (same_Some (lost_after 0 1) game among)
     (lost 0 1 ((tt, may (Card 0) [] refl (refl, refl)), may (Card 1) (Card 0 ∷ []) refl (refl, refl)) refl refl refl)
@@ -69,7 +69,7 @@ pairs_miss (suc (suc zero)) game among = subst (IsMissed close_to_lost) (same_So
     (lost 5 7 ((tt, may (Card 5) [] refl (refl, refl)), may (Card 7) (Card 5 ∷ []) refl (refl, refl)) refl refl refl)
 pairs_miss (suc (suc (suc zero))) game among = subst (IsMissed close_to_lost) (same_Some (lost_after 6 7) game among)
     (lost 6 7 ((tt, may (Card 6) [] refl (refl, refl)), may (Card 7) (Card 6 ∷ []) refl (refl, refl)) refl refl refl)
-pairs_miss (suc (suc (suc (suc place)))) game among = absurd (none-some game among)
+pairs_miss (suc (suc (suc (suc index)))) game among = absurd (none-some game among)
 
 -- the first acts of a game, the last one first
 pub first_acts : map (acts_before (lost_after 0 1)) (0 ∷ 1 ∷ 2 ∷ 3 ∷ [])
@@ -85,21 +85,21 @@ led_same mine theirs other game among e =
 
 pub begun_in_pairs : IsBegun pairs (plays Owner 6 ∷ []) × IsBegun pairs (plays Opponent 7 ∷ plays Owner 4 ∷ []) × ¬ (IsBegun pairs (plays Owner 7 ∷ []))
 begun_in_pairs = (
-  record { place = 3; game = lost_after 6 7; among = refl; begins = refl },
-  record { place = 1; game = lost_after 4 7; among = refl; begins = refl },
-  λ is. none is.place is.game is.among is.begins,
+  record { index = 3; game = lost_after 6 7; among = refl; begins = refl },
+  record { index = 1; game = lost_after 4 7; among = refl; begins = refl },
+  λ is. none is.index is.game is.among is.begins,
 )
   where
-    none : (place : ℕ) (game : Game) → slice_get pairs place ≡ Some game → acts_before game 1 ≡ plays Owner 7 ∷ [] → ⊥
+    none : (index : ℕ) (game : Game) → slice_get pairs index ≡ Some game → acts_before game 1 ≡ plays Owner 7 ∷ [] → ⊥
     none zero game among e = (let same = led_same 0 1 7 game among e in omega (arith, same))
     none (suc zero) game among e = (let same = led_same 4 7 7 game among e in omega (arith, same))
     none (suc (suc zero)) game among e = (let same = led_same 5 7 7 game among e in omega (arith, same))
     none (suc (suc (suc zero))) game among e = (let same = led_same 6 7 7 game among e in omega (arith, same))
-    none (suc (suc (suc (suc place)))) game among e = none-some game among
+    none (suc (suc (suc (suc index)))) game among e = none-some game among
 
 -- each card of the hold is led, and after the lead there is no card of the owner
-led : (place mine theirs : ℕ) → slice_get pairs place ≡ Some (lost_after mine theirs) → IsBegun pairs (plays Owner mine ∷ [])
-led place mine theirs among = record { place = place; game = lost_after mine theirs; among = among; begins = refl }
+led : (index mine theirs : ℕ) → slice_get pairs index ≡ Some (lost_after mine theirs) → IsBegun pairs (plays Owner mine ∷ [])
+led index mine theirs among = record { index = index; game = lost_after mine theirs; among = among; begins = refl }
 
 pub each_is_led : (mine theirs : ℕ) → HasEachCard close_to_lost pairs (lost_after mine theirs) 0
 each_is_led mine theirs card other at can = leads other can
@@ -127,17 +127,17 @@ pairs_turn : (mine theirs turn : ℕ) → HasEachCard close_to_lost pairs (lost_
 pairs_turn mine theirs zero = each_is_led mine theirs
 pairs_turn mine theirs (suc turn) = lead_alone close_to_lost pairs mine theirs (suc turn) (omega arith)
 
-pairs_each : (place turn : ℕ) (game : Game) → slice_get pairs place ≡ Some game → HasEachCard close_to_lost pairs game turn
+pairs_each : (index turn : ℕ) (game : Game) → slice_get pairs index ≡ Some game → HasEachCard close_to_lost pairs game turn
 pairs_each zero turn game among = subst (λ game. HasEachCard close_to_lost pairs game turn) (same_Some (lost_after 0 1) game among) (pairs_turn 0 1 turn)
 pairs_each (suc zero) turn game among = subst (λ game. HasEachCard close_to_lost pairs game turn) (same_Some (lost_after 4 7) game among) (pairs_turn 4 7 turn)
 pairs_each (suc (suc zero)) turn game among =
     subst (λ game. HasEachCard close_to_lost pairs game turn) (same_Some (lost_after 5 7) game among) (pairs_turn 5 7 turn)
 pairs_each (suc (suc (suc zero))) turn game among =
     subst (λ game. HasEachCard close_to_lost pairs game turn) (same_Some (lost_after 6 7) game among) (pairs_turn 6 7 turn)
-pairs_each (suc (suc (suc (suc place)))) turn game among = absurd (none-some game among)
+pairs_each (suc (suc (suc (suc index)))) turn game among = absurd (none-some game among)
 
 pub pairs_refute : Refutes close_to_lost pairs
-pairs_refute = record { some = (lost_after 0 1, refl); missed = pairs_miss; complete = λ place turn game among late. pairs_each place turn game among }
+pairs_refute = record { some = (lost_after 0 1, refl); missed = pairs_miss; complete = λ index turn game among late. pairs_each index turn game among }
 
 -- so no player is sure, not even the one who looks at suits
 pub nobody_is_sure : ¬ (IsSurePlayer close_to_lost by_suit)
@@ -158,13 +158,13 @@ without_a_two = lost_after 0 1 ∷ lost_after 4 7 ∷ lost_after 5 7 ∷ []
 
 pub each_two_is_needed : ¬ (Refutes close_to_lost without_a_two)
 each_two_is_needed is =
-    let begun = is.complete 0 0 (lost_after 0 1) refl (omega arith) 0 6 refl refl in none begun.place begun.game begun.among begun.begins
+    let begun = is.complete 0 0 (lost_after 0 1) refl (omega arith) 0 6 refl refl in none begun.index begun.game begun.among begun.begins
   where
-    none : (place : ℕ) (game : Game) → slice_get without_a_two place ≡ Some game → acts_before game 1 ≡ plays Owner 6 ∷ [] → ⊥
+    none : (index : ℕ) (game : Game) → slice_get without_a_two index ≡ Some game → acts_before game 1 ≡ plays Owner 6 ∷ [] → ⊥
     none zero game among e = (let same = led_same 0 1 6 game among e in omega (arith, same))
     none (suc zero) game among e = (let same = led_same 4 7 6 game among e in omega (arith, same))
     none (suc (suc zero)) game among e = (let same = led_same 5 7 6 game among e in omega (arith, same))
-    none (suc (suc (suc place))) game among e = none-some game among
+    none (suc (suc (suc index))) game among e = none-some game among
 
 -- an unfinished game; and one in which the owner reaches hole 121
 pub not_missed : ¬ (IsMissed close_to_lost (game_with pairing (plays Owner 0 ∷ [])))
@@ -227,19 +227,19 @@ pub one_game_refutes : Refutes ace_led (lost_after 0 1 ∷ [])
 one_game_refutes = record {
   some = (lost_after 0 1, refl);
   missed = ace_missed;
-  complete = λ place turn game among late. ace_each place turn game among late;
+  complete = λ index turn game among late. ace_each index turn game among late;
 }
   where
-    ace_missed : (place : ℕ) (game : Game) → slice_get (lost_after 0 1 ∷ []) place ≡ Some game → IsMissed ace_led game
+    ace_missed : (index : ℕ) (game : Game) → slice_get (lost_after 0 1 ∷ []) index ≡ Some game → IsMissed ace_led game
     ace_missed zero game among = subst (IsMissed ace_led) (same_Some (lost_after 0 1) game among) ace_lost
-    ace_missed (suc place) game among = absurd (none-some game among)
+    ace_missed (suc index) game among = absurd (none-some game among)
 
-    ace_each : (place turn : ℕ) (game : Game) → slice_get (lost_after 0 1 ∷ []) place ≡ Some game → 1 ≤ turn →
+    ace_each : (index turn : ℕ) (game : Game) → slice_get (lost_after 0 1 ∷ []) index ≡ Some game → 1 ≤ turn →
         HasEachCard ace_led (lost_after 0 1 ∷ []) game turn
     ace_each zero turn game among late =
         subst (λ game. HasEachCard ace_led (lost_after 0 1 ∷ []) game turn) (same_Some (lost_after 0 1) game among)
         (lead_alone ace_led (lost_after 0 1 ∷ []) 0 1 turn late)
-    ace_each (suc place) turn game among late = absurd (none-some game among)
+    ace_each (suc index) turn game among late = absurd (none-some game among)
 
 -- the ace and the two of clubs may be led, and the two of spades, which isn't held, may not
 pub leads : MayPlay close_to_lost 0 × MayPlay close_to_lost 4 × ¬ (MayPlay close_to_lost 7)

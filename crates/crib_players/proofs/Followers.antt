@@ -22,8 +22,7 @@ use Rattle.crib_plan.specs.declared.plan.Node.{Node}
 use Rattle.crib_plan.specs.Places.{stated_card}
 use Rattle.crib_game.specs.Following.{is_playable}
 use Rattle.crib_sure.specs.Sure.{IsFollowed}
-use Rattle.crib_sure.specs.HistoryPlaces.{place_by}
-use Rattle.crib_sure.specs.Private.Histories.{IsStatedEvent, FollowsBy}
+use Rattle.crib_sure.specs.HistoryPlaces.{place_by, IsStatedEvent, FollowsBy}
 use Rattle.crib_sure.proofs.PlaceByHistory.{follows_from, place_history}
 use Rattle.crib_players.specs.Players.{own_card, AreBy, IsPlayedBy, follower_of}
 use Rattle.crib_players.specs.Laws.{FollowerLaw, NoPlanLaw}

@@ -96,7 +96,7 @@ module _ (games : List Game) (before : List Act) (card : ℕ) where
   begun_from e =
       let found = Any-from_list_any (λ (game : Game). goes_on game.acts.items before card) games e in
       record {
-        place = found.0;
+        index = found.0;
         game = found.1;
         among = slice_get-get_or games found.0 found.1 found.2 ∙ ap Some found.3;
         begins = ap (acts_before found.1) here_long ∙ ap reverse (goes_from found.1.acts.items before card found.4) ∙ here_back;
@@ -108,9 +108,9 @@ module _ (games : List Game) (before : List Act) (card : ℕ) where
       let first = ap reverse (ap (acts_before begun.game) (sym here_long) ∙ begun.begins ∙ sym here_back) in
       let parts = sym (reverse-reverse (take (suc (length before)) items)) ∙ first ∙ reverse-reverse (before ++ own_card card ∷ []) in
       let G : Game → Bool = λ (game : Game). goes_on game.acts.items before card in
-      let inside = slice_get_within games begun.place begun.game begun.among in
-      let at = get_or_from_slice_get games begun.place begun.game begun.game begun.among in
-      list_any_at G games begun.place begun.game inside (ap G at ∙ goes_to items before card parts)
+      let inside = slice_get_within games begun.index begun.game begun.among in
+      let at = get_or_from_slice_get games begun.index begun.game begun.game begun.among in
+      list_any_at G games begun.index begun.game inside (ap G at ∙ goes_to items before card parts)
 
 -- ---- each card that may follow
 module _ (problem : Setup) (games : List Game) (game : Game) (turn count : ℕ)
@@ -241,16 +241,16 @@ module _ (problem : Setup) (game : Game) (turn : ℕ) (report : Report) (row : R
 
 -- ---- all games
 pub refutes_from : (problem : Setup) (games : List Game) → 0 < length games →
-    ((place : ℕ) (game : Game) → slice_get games place ≡ Some game → IsAnswered problem games game) → Refutes problem games
+    ((index : ℕ) (game : Game) → slice_get games index ≡ Some game → IsAnswered problem games game) → Refutes problem games
 refutes_from problem games some each = elim (slice_get_cases games 0).1 [
   | inl found ↦ record {
     some = (found.0, found.2);
-    missed = λ place game among. (each place game among).0;
-    complete = λ place turn game among late. (each place game among).1 turn late;
+    missed = λ index game among. (each index game among).0;
+    complete = λ index turn game among late. (each index game among).1 turn late;
   }
   | inr none ↦ (let over = none.0 in absurd (omega (arith, some, over)))
 ]
 
-pub answered : (problem : Setup) (games : List Game) (place : ℕ) (game : Game) → slice_get games place ≡ Some game → Refutes problem games →
+pub answered : (problem : Setup) (games : List Game) (index : ℕ) (game : Game) → slice_get games index ≡ Some game → Refutes problem games →
     IsAnswered problem games game
-answered problem games place game among refutes = (refutes.missed place game among, λ turn late. refutes.complete place turn game among late)
+answered problem games index game among refutes = (refutes.missed index game among, λ turn late. refutes.complete index turn game among late)

@@ -16,22 +16,20 @@ use Rattle.crib_game.specs.Replay.{acts_back}
 use Rattle.crib_players.specs.Players.{own_card}
 use Rattle.crib_players.specs.Refutations.{acts_before, may_play, IsMissed, IsBegun}
 use Rattle.crib_players.specs.Laws.{longer, HasAfter, TurnLaw, CardsLaw}
+use Rattle.crib_players.proofs.LastTurns.{heads}
 use Rattle.crib_players.proofs.Turns.{one_more, opening_before}
 
-rest_all : (p : ℕ → Bool) (side : Side) (what : Move) (before : List Act) →
+pub rest_all : (p : ℕ → Bool) (side : Side) (what : Move) (before : List Act) →
     list_all p (cards_by Opponent (record { side = side; what = what } ∷ before)) ≡ true → list_all p (cards_by Opponent before) ≡ true
 rest_all p Owner what before e = e
 rest_all p Opponent (move.Card card) before e = (and_parts (p card) (list_all p (cards_by Opponent before)) e).1
 rest_all p Opponent move.Go before e = e
 
-heads : (act other : Act) (acts others : List Act) → act ∷ acts ≡ other ∷ others → act ≡ other
-heads act other acts others same = cc
-
 module _ (problem : Setup) (act : Act) where
   abbrev next : Setup
   next = longer problem act
 
-  back : played_back next ≡ act ∷ played_back problem
+  pub back : played_back next ≡ act ∷ played_back problem
   back = reverse-append problem.played (act ∷ [])
 
   pub long_next : length next.played ≡ length problem.played + 1
@@ -69,14 +67,14 @@ module _ (problem : Setup) (act : Act) where
 pub turn : TurnLaw
 turn problem act games is_other refutes = record {
   some = refutes.some;
-  missed = λ place game among. missed_shorter problem act game (refutes.missed place game among);
-  complete = λ place turn game among late card other is may. elim (cases_eq turn (length problem.played)) [
+  missed = λ index game among. missed_shorter problem act game (refutes.missed index game among);
+  complete = λ index turn game among late card other is may. elim (cases_eq turn (length problem.played)) [
     | inl here ↦
-        let begins = (refutes.missed place game among).of_game.begins in
+        let begins = (refutes.missed index game among).of_game.begins in
         let both : act ∷ played_back problem ≡ own_card card ∷ acts_before game turn =
         sym (added problem act game begins) ∙ ap (λ (n : ℕ). acts_before game (n + 1)) (sym here) ∙ one_more game turn (own_card card) is in
         absurd (is_other card (heads _ _ _ _ both))
-    | inr far ↦ (let long = long_next problem act in refutes.complete place turn game among (omega (arith, late, far, long)) card other is may)
+    | inr far ↦ (let long = long_next problem act in refutes.complete index turn game among (omega (arith, late, far, long)) card other is may)
   ];
 }
 
@@ -89,7 +87,7 @@ begun_with problem games card after =
     let back = length-reverse problem.played in
     let size : length (own_card card ∷ played_back problem) ≡ length problem.played + 1 = omega (arith, back) in
     record {
-      place = found.0;
+      index = found.0;
       game = first.0;
       among = found.1;
       begins = ap (acts_before first.0) size ∙ added problem (own_card card) first.0 begins;
@@ -98,11 +96,11 @@ begun_with problem games card after =
 pub cards : CardsLaw
 cards problem games some from each = record {
   some = some;
-  missed = λ place game among. (
-      let found = from place game among in missed_shorter problem (own_card found.0) game (found.1.refutes.missed found.2 game found.3)
+  missed = λ index game among. (
+      let found = from index game among in missed_shorter problem (own_card found.0) game (found.1.refutes.missed found.2 game found.3)
       );
-  complete = λ place turn game among late card other is may. (
-      let found = from place game among in
+  complete = λ index turn game among late card other is may. (
+      let found = from index game among in
       let after = found.1 in
       elim (cases_eq turn (length problem.played)) [
         | inl here ↦
@@ -114,8 +112,8 @@ cards problem games some from each = record {
         | inr far ↦
             let long = long_next problem (own_card found.0) in
             let begun = after.refutes.complete found.2 turn game found.3 (omega (arith, late, far, long)) card other is may in
-            let place = after.among begun.place begun.game begun.among in
-            record { place = place.0; game = begun.game; among = place.1; begins = begun.begins }
+            let index = after.among begun.index begun.game begun.among in
+            record { index = index.0; game = begun.game; among = index.1; begins = begun.begins }
       ]
       );
 }

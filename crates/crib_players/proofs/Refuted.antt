@@ -82,7 +82,7 @@ earlier judge start hands [] before none = none
 earlier judge start hands (act ∷ later) before none = earlier judge start hands later before (option_or_none _ _ none).0
 
 -- ---- the opening is nobody's choice
-by_few : (few : ℕ) (player : Player) (acts : List Act) → length acts ≤ few → AreBy few player acts
+pub by_few : (few : ℕ) (player : Player) (acts : List Act) → length acts ≤ few → AreBy few player acts
 by_few few player [] short = tt
 by_few few player (act ∷ before) short =
     (by_few few player before (omega (arith, short)), λ late card is. absurd (omega (arith, short, late)))
@@ -110,7 +110,7 @@ module _ (problem : Setup) (games : List Game) (player : Player) (setup : IsSetu
     hands = hands_of problem game.opp
 
     missed : IsMissed problem game
-    missed = refutes.missed begun.place game begun.among
+    missed = refutes.missed begun.index game begun.among
 
     dealt : IsDealt hands
     dealt = hands_dealt problem setup game.opp missed.of_game.deal.deal
@@ -176,7 +176,7 @@ module _ (problem : Setup) (games : List Game) (player : Player) (setup : IsSetu
           let choice = plays hands past (player (acts_of pone past)) playable in
           let M : List Act → Type 0 = λ before. may_play problem before choice.card ≡ true in
           let G : List Act → Type 0 = λ before. IsBegun games (own_card choice.card ∷ before) in
-          let on = refutes.complete begun.place (length acts) game begun.among late card choice.card (is ∙ ap Some own)
+          let on = refutes.complete begun.index (length acts) game begun.among late card choice.card (is ∙ ap Some own)
           (subst M (sym begun.begins) (left_may_play problem hands acts choice.card refl choice.left choice.fit)) in (
             choice.card,
             subst G begun.begins on,
@@ -185,7 +185,7 @@ module _ (problem : Setup) (games : List Game) (player : Player) (setup : IsSetu
 
       goes_on : IsBegun games (act ∷ acts)
       goes_on = record {
-        place = begun.place;
+        index = begun.index;
         game = game;
         among = begun.among;
         begins = ap (acts_before game) (sym (add-one (length acts))) ∙ one_more game (length acts) act is
@@ -217,7 +217,7 @@ module _ (problem : Setup) (games : List Game) (player : Player) (setup : IsSetu
       let back = length-reverse problem.played in
       never 29 (played_back problem) (omega arith) (omega (arith, back))
       (record {
-        place = 0;
+        index = 0;
         game = first.0;
         among = first.1;
         begins = ap (acts_before first.0) back ∙ opening_before first.0 problem begins;

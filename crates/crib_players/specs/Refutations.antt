@@ -26,9 +26,9 @@ acts_before game turn = reverse (take turn game.acts.items)
 
 -- one of some games begins with these acts. The last act is first
 pub record IsBegun (games : List Game) (acts : List Act) : Type 0 where
-  pub place : ℕ
+  pub index : ℕ
   pub game : Game
-  pub among : slice_get games place ≡ Some game
+  pub among : slice_get games index ≡ Some game
   pub begins : acts_before game (length acts) ≡ acts
 
 -- whether the owner may play a card as the next turn, where the turn is theirs: they hold it, it wasn't played in these
@@ -49,6 +49,6 @@ HasEachCard problem games game turn =
 -- opening, some game goes on with each other card that they may play
 pub record Refutes (problem : Setup) (games : List Game) : Type 0 where
   pub some : (game : Game) × (slice_get games 0 ≡ Some game)
-  pub missed : (place : ℕ) (game : Game) → slice_get games place ≡ Some game → IsMissed problem game
-  pub complete : (place turn : ℕ) (game : Game) → slice_get games place ≡ Some game → length problem.played ≤ turn →
+  pub missed : (index : ℕ) (game : Game) → slice_get games index ≡ Some game → IsMissed problem game
+  pub complete : (index turn : ℕ) (game : Game) → slice_get games index ≡ Some game → length problem.played ≤ turn →
       HasEachCard problem games game turn

@@ -64,7 +64,7 @@ next_piece : {X : Type 0} (f : X → List ℕ) (xs : List X) (i : ℕ) (d : X) �
     → flat_map f (take i xs) ++ f (get_or xs i d) ≡ flat_map f (take (i + 1) xs)
 next_piece f xs i d below = flat_map_more f [] (take i xs) (get_or xs i d) ∙ ap (flat_map f) (sym (take_more xs i d below))
 
--- the pieces of a list up to a place, and then the next one
+-- the pieces of a list up to an index, and then the next one
 pub piece_at : {X : Type 0} (f : X → List ℕ) (xs : List X) (i : ℕ) (d : X) {s t u : Stand} → i < length xs
     → Prints (flat_map f (take i xs)) s t → Prints (f (get_or xs i d)) t u → Prints (flat_map f (take (i + 1) xs)) s u
 piece_at f xs i d below first next = as_text (more first next) (next_piece f xs i d below)

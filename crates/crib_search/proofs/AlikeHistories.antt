@@ -29,7 +29,7 @@ use Rattle.crib_know.proofs.CardLists.{count_here, count_map, found_by}
 use Rattle.crib_know.proofs.AgreeingIsPassing.{Might}
 use Rattle.crib_know.proofs.PassingIsAgreeing.{can_might}
 use Rattle.crib_know.proofs.KnowledgeFacts.{shows}
-use Rattle.crib_search.proofs.Options.{IsOption}
+use Rattle.crib_search.specs.Private.States.{IsOption}
 use Rattle.crib_cards.proofs.Members.{distinct_left}
 use Rattle.crib_cards.proofs.SetCounts.{count_cons}
 

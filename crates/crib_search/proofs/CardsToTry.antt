@@ -21,7 +21,8 @@ use Rattle.crib_know.specs.Hidden.{KnowsAfter}
 use Rattle.crib_know.proofs.CardsLeft.{has-filter_parts}
 use Rattle.crib_search.specs.Finder.{one_of_each_rank, options}
 use Rattle.crib_search.specs.Private.Search.{may_play}
-use Rattle.crib_search.proofs.Options.{other_rank, first_has, no_option, option_left, IsOption}
+use Rattle.crib_search.specs.Private.States.{IsOption}
+use Rattle.crib_search.proofs.Options.{other_rank, first_has, no_option, option_left}
 use Rattle.crib_sure.proofs.AgreeingInSuitOrder.{filter_same}
 use Rattle.crib_problem.proofs.HonestTurns.{none_any}
 
@@ -68,21 +69,21 @@ first_push (x ∷ cards) card =
           rw (differs, any_kept (rank_of x) (rank_of card) differs firsts) (elim (cases_Bool there) [ inl t ↦ rw t | inr f ↦ rw f ])
     ])
 
--- ---- what is chosen of some cards
-abbrev pub chosen_of : Knowledge → List ℕ → List ℕ
-chosen_of know cards = one_of_each_rank (filter (may_play know) cards)
+-- ---- the options among some cards
+abbrev pub options_of : Knowledge → List ℕ → List ℕ
+options_of know cards = one_of_each_rank (filter (may_play know) cards)
 
-pub chosen_playable : (know : Knowledge) (cards : List ℕ) (card : ℕ) → has (chosen_of know cards) card ≡ true → (has know.own_left card ≡ true) ×
+pub options_playable : (know : Knowledge) (cards : List ℕ) (card : ℕ) → has (options_of know cards) card ≡ true → (has know.own_left card ≡ true) ×
     (count_of know.round.pile + card_value card ≤ 31)
-chosen_playable know cards card h =
+options_playable know cards card h =
     let fit = (has-filter_parts (may_play know) cards card (first_has (filter (may_play know) cards) card h)).1 in
     let parts = and_parts (has know.own_left card) (leb (count_of know.round.pile + card_value card) 31) fit in
     (parts.0, leb-true (count_of know.round.pile + card_value card) 31 parts.1)
 
--- what is chosen of the whole hold
-pub chosen_all : (know : Knowledge) (problem : Setup) (history : List Event) → KnowsAfter know problem history →
-    chosen_of know problem.hold ≡ options problem history
-chosen_all know problem history knows =
+-- the options of the whole hold
+pub hold_options : (know : Knowledge) (problem : Setup) (history : List Event) → KnowsAfter know problem history →
+    options_of know problem.hold ≡ options problem history
+hold_options know problem history knows =
     rw knows.knowledge
     (ap one_of_each_rank (filter_same (may_play (knowledge_after problem history)) (λ card. is_free card && fits_now card) problem.hold playable_is
     ∙ sym (filter_both fits_now is_free problem.hold)))
@@ -98,10 +99,10 @@ chosen_all know problem history knows =
         rw (has-set_where (has (filter is_free problem.hold)) card (hold_is_card problem knows.setup card mine), has-filter is_free problem.hold card, mine)
 
 -- ---- one card further
-abbrev pub AreChosen : Knowledge → List ℕ → ℕ → ℕ → List ℕ → Type 0
-AreChosen know hold index len cards = (len ≤ index) × (length cards ≡ 4) × (take len cards ≡ chosen_of know (take index hold))
+abbrev pub AreOptions : Knowledge → List ℕ → ℕ → ℕ → List ℕ → Type 0
+AreOptions know hold index len cards = (len ≤ index) × (length cards ≡ 4) × (take len cards ≡ options_of know (take index hold))
 
-module _ (know : Knowledge) (hold : List ℕ) (index len : ℕ) (cards : List ℕ) (before : AreChosen know hold index len cards) (within : index < length hold)
+module _ (know : Knowledge) (hold : List ℕ) (index len : ℕ) (cards : List ℕ) (before : AreOptions know hold index len cards) (within : index < length hold)
     (card : ℕ) (is : card ≡ get_or hold index card) where
   abbrev front : List ℕ
   front = filter (may_play know) (take index hold)
@@ -109,18 +110,18 @@ module _ (know : Knowledge) (hold : List ℕ) (index len : ℕ) (cards : List �
   next_front : filter (may_play know) (take (index + 1) hold) ≡ front ++ filter (may_play know) (card ∷ [])
   next_front = rw (take_more hold index card within, ← is) (filter-append (may_play know) (take index hold) (card ∷ []))
 
-  pub step_skip : may_play know card ≡ false → AreChosen know hold (index + 1) len cards
+  pub step_skip : may_play know card ≡ false → AreOptions know hold (index + 1) len cards
   step_skip e = let le = before.0 in (omega (arith, le), before.1, rw (next_front, e, append-nil front) before.2)
 
   module _ (rank : ℕ) (rank_ok : rank ≡ rank_of card) where
-    there_is : list_any (of_rank rank) (take len cards) ≡ list_any (of_rank (rank_of card)) (chosen_of know (take index hold))
+    there_is : list_any (of_rank rank) (take len cards) ≡ list_any (of_rank (rank_of card)) (options_of know (take index hold))
     there_is = rw (rank_ok, before.2)
 
-    pub step_same : may_play know card ≡ true → list_any (of_rank rank) (take len cards) ≡ true → AreChosen know hold (index + 1) len cards
+    pub step_same : may_play know card ≡ true → list_any (of_rank rank) (take len cards) ≡ true → AreOptions know hold (index + 1) len cards
     step_same e there =
         let le = before.0 in (omega (arith, le), before.1, rw (next_front, e, first_push front card, sym there_is ∙ there) before.2)
 
-    pub step_new : length hold ≡ 4 → may_play know card ≡ true → list_any (of_rank rank) (take len cards) ≡ false → AreChosen know hold (index + 1) (len + 1)
+    pub step_new : length hold ≡ 4 → may_play know card ≡ true → list_any (of_rank rank) (take len cards) ≡ false → AreOptions know hold (index + 1) (len + 1)
         (set cards len card)
     step_new four e new =
         let le = before.0 in
@@ -132,12 +133,12 @@ module _ (know : Knowledge) (hold : List ℕ) (index len : ℕ) (cards : List �
         )
 
 -- after all cards were looked at
-pub chosen_end : (know : Knowledge) (problem : Setup) (history : List Event) → KnowsAfter know problem history → (hold cards : List ℕ) (index len : ℕ) →
+pub options_end : (know : Knowledge) (problem : Setup) (history : List Event) → KnowsAfter know problem history → (hold cards : List ℕ) (index len : ℕ) →
     hold ≡ problem.hold → 4 ≤ index →
-    AreChosen know hold index len cards → take len cards ≡ options problem history
-chosen_end know problem history knows hold cards index len same past chosen =
+    AreOptions know hold index len cards → take len cards ≡ options problem history
+options_end know problem history knows hold cards index len same past are =
     let four : length hold ≡ 4 = rw same knows.setup.held in
-    rw (chosen.2, take_all index hold (omega (arith, four, past)), same) (chosen_all know problem history knows)
+    rw (are.2, take_all index hold (omega (arith, four, past)), same) (hold_options know problem history knows)
 
 -- if no card is an option, no card that is left fits
 pub none_left_fits : (problem : Setup) (history : List Event) → ((card : ℕ) → IsOption problem history card → ⊥) →

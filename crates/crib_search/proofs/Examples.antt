@@ -56,7 +56,7 @@ pub plans_of_trees : map plan_of_tree (shared ∷ Finish ∷ [])
     ∷ Play 5 (To 3) ∷ Play 4 (To 3) ∷ Play 6 End ∷ []) ∷ [] ∷ []
 plans_of_trees = refl
 
--- the place of a look is its place in the list
+-- the place of a look is its index in the list
 pub place_of_a_look : place_of_tree (clubs ∷ diamonds ∷ look ∷ []) look ≡ To 2
 place_of_a_look = refl
 
@@ -77,7 +77,7 @@ pub numbers_in_a_list : number_of clubs [] ∷ map (λ tree. number_of tree (loo
     ≡ 0 ∷ 0 ∷ 1 ∷ 2 ∷ 4 ∷ []
 numbers_in_a_list = refl
 
--- a list with the tree of the place 2 behind both others
+-- a list with the tree of index 2 behind both others
 abbrev three_trees : List Tree
 three_trees = shared ∷ clubs ∷ diamonds ∷ []
 

@@ -78,7 +78,7 @@ answers_more problem before after more answers are = record {
 
 module _ {A : Type 0} (problem : Setup) (one two : Search A) (first : IsLater problem one two) where
   pub later_trans : (three : Search A) → IsLater problem two three → IsLater problem one three
-  later_trans three second = record { good = second.good; more = λ place draft_node there. second.more place draft_node (first.more place draft_node there) }
+  later_trans three second = record { good = second.good; more = λ index draft_node there. second.more index draft_node (first.more index draft_node there) }
 
   -- the same search, with more nodes
   pub later_nodes : (after : List DraftNode) → IsMore two.nodes after →
@@ -198,6 +198,13 @@ AreBranches problem draft_nodes know shown draft_places =
     (trees : List Tree) × AllZip (Names draft_nodes) trees draft_places
     × AllZip (BranchFinds (λ further after. Finds more problem further after) problem history) shown trees
 
+-- one more at the end of two lists
+pub zip_push : {X Y : Type 0} (P R : X → Y → Type 0) → ((x : X) (y : Y) → P x y → R x y) → (xs : List X) (ys : List Y) (x : X) (y : Y) → AllZip P xs ys →
+    R x y → AllZip R (xs ++ x ∷ []) (ys ++ y ∷ [])
+zip_push P R map [] [] x y all last = (last, tt)
+zip_push P R map (a ∷ xs) (b ∷ ys) x y all last = (map a b all.0, zip_push P R map xs ys x y all.1 last)
+zip_push P R map xs ys x y all last = absurd all
+
 -- one branch more
 pub branches_more : (problem : Setup) (before after : List DraftNode) → IsMore before after → (know : Knowledge) (letter : Letter) (shown : List Letter)
     (draft_places : List DraftPlace) (next : DraftPlace) → AreBranches problem before know shown draft_places →
@@ -214,12 +221,6 @@ branches_more problem before after later know letter shown draft_places next bra
   where
     finds : ℕ → Found
     finds bound further tree = Finds bound problem further tree
-
-    zip_push : {X Y : Type 0} (P R : X → Y → Type 0) → ((x : X) (y : Y) → P x y → R x y) → (xs : List X) (ys : List Y) (x : X) (y : Y) → AllZip P xs ys →
-        R x y → AllZip R (xs ++ x ∷ []) (ys ++ y ∷ [])
-    zip_push P R map [] [] x y all last = (last, tt)
-    zip_push P R map (a ∷ xs) (b ∷ ys) x y all last = (map a b all.0, zip_push P R map xs ys x y all.1 last)
-    zip_push P R map xs ys x y all last = absurd all
 
 module _ (problem : Setup) (draft_nodes : List DraftNode) (know : Knowledge) (draft_places now : List DraftPlace) (same : now ≡ draft_places)
     (branches : AreBranches problem draft_nodes know letters draft_places) where

@@ -6,7 +6,7 @@ use Rattle.std.proofs.lemmas.Bool.{or_cases, or_right, both_ways, eqb-true}
 use Rattle.std.proofs.lemmas.List.{take_more}
 use Rattle.std.proofs.lemmas.Option.{slice_get_within, get_or_from_slice_get}
 use Rattle.crib_cards.specs.Sets.{has}
-use Rattle.crib_cards.specs.Letters.{IsLetter, letter_place}
+use Rattle.crib_cards.specs.Letters.{IsLetter, letter_index}
 use Rattle.crib_cards.specs.declared.letters.Letter.{Letter}
 use Rattle.crib_cards.specs.declared.letters.Letter.TheVariants.{Seen, Go}
 use Rattle.crib_cards.specs.declared.moves.Move.TheVariants as move
@@ -56,33 +56,33 @@ tries_there finds history (first ∷ cards) found card (None, here, rest) h some
 tries_there finds history (first ∷ cards) found card (Some next, here, e) h some none = absurd cc
 
 -- ---- the opponent
--- what is true of each letter by its place
-pub zip_at : (P : Letter → Tree → Type 0) (shown : List Letter) (trees : List Tree) (place : ℕ) (letter : Letter) → AllZip P shown trees →
-    slice_get shown place ≡ Some letter →
-    (tree : Tree) × (slice_get trees place ≡ Some tree) × P letter tree
-zip_at P [] trees place letter all e = absurd cc
-zip_at P (first ∷ shown) [] place letter all e = absurd all
+-- what is true of each letter by its index
+pub zip_at : (P : Letter → Tree → Type 0) (shown : List Letter) (trees : List Tree) (index : ℕ) (letter : Letter) → AllZip P shown trees →
+    slice_get shown index ≡ Some letter →
+    (tree : Tree) × (slice_get trees index ≡ Some tree) × P letter tree
+zip_at P [] trees index letter all e = absurd cc
+zip_at P (first ∷ shown) [] index letter all e = absurd all
 zip_at P (first ∷ shown) (tree ∷ trees) zero letter all e = let same : first ≡ letter = cc in (tree, refl, rw same at all.0)
-zip_at P (first ∷ shown) (tree ∷ trees) (suc place) letter all e = zip_at P shown trees place letter all.1 e
+zip_at P (first ∷ shown) (tree ∷ trees) (suc index) letter all e = zip_at P shown trees index letter all.1 e
 
--- a letter is in its place among the letters
-letter_at : (letter : Letter) → IsLetter letter → slice_get letters (letter_place letter) ≡ Some letter
+-- a letter is at its index among the letters
+pub letter_at : (letter : Letter) → IsLetter letter → slice_get letters (letter_index letter) ≡ Some letter
 letter_at (Seen rank) is =
-    each_rank (λ r. slice_get letters (letter_place (Seen r)) ≡ Some (Seen r)) refl refl refl refl refl refl refl refl refl refl refl refl refl rank is
+    each_rank (λ r. slice_get letters (letter_index (Seen r)) ≡ Some (Seen r)) refl refl refl refl refl refl refl refl refl refl refl refl refl rank is
 letter_at Go is = refl
 
-pub take_letter : (letter : Letter) (place : ℕ) → IsLetter letter → letter_place letter ≡ place → take (place + 1) letters ≡ take place letters ++ letter ∷ []
-take_letter letter place is at =
+pub take_letter : (letter : Letter) (index : ℕ) → IsLetter letter → letter_index letter ≡ index → take (index + 1) letters ≡ take index letters ++ letter ∷ []
+take_letter letter index is at =
     let found = rw at at (letter_at letter is) in
-    rw (take_more letters place letter (slice_get_within letters place letter found), get_or_from_slice_get letters place letter letter found)
+    rw (take_more letters index letter (slice_get_within letters index letter found), get_or_from_slice_get letters index letter letter found)
 
 module _ (problem : Setup) (setup : IsSetup problem) (history : List Event) where
   -- the branch of a letter that can be shown
   pub branch_found : (finds : Found) (trees : List Tree) (letter : Letter) → CanShow problem history letter →
       AllZip (BranchFinds finds problem history) letters trees →
-      (tree : Tree) × (slice_get trees (letter_place letter) ≡ Some tree) × finds (Theirs letter ∷ history) (Some tree)
+      (tree : Tree) × (slice_get trees (letter_index letter) ≡ Some tree) × finds (Theirs letter ∷ history) (Some tree)
   branch_found finds trees letter can all =
-      let at = zip_at (BranchFinds finds problem history) letters trees (letter_place letter) letter all
+      let at = zip_at (BranchFinds finds problem history) letters trees (letter_index letter) letter all
       (letter_at letter (theirs_letter problem setup history letter can)) in
       elim at.2 [
         | inl found ↦ (at.0, at.1, found.1)

@@ -1,219 +1,117 @@
--- A plan that represents the tree that is found is sure.
-use Rattle.std.proofs.Common.{arith, ◌≡◌, ℕ, Bool, true, false, not, ◌&&◌, List, [], ◌∷◌, ◌++◌, map, Some, refl, sym, ap, ◌∙◌, inl, inr}
-use Rattle.std.specs.List.{list_any}
-use Rattle.std.proofs.lemmas.List.{map-append}
-use Rattle.std.proofs.lemmas.Bool.{and_from}
-use Rattle.std.proofs.lemmas.Bool.Decides.{nat_tests}
-use Rattle.crib_cards.specs.Sets.{has}
-use Rattle.crib_cards.specs.Sides.{same_side}
-use Rattle.crib_cards.specs.Start.{Start, pone_of, Hands}
-use Rattle.crib_cards.specs.declared.sides.Side.TheVariants.{Owner}
+-- A plan that represents the tree that is found is sure. The tree may be found after a longer opening than that of the problem.
+use Rattle.std.proofs.Common.{◌≡◌, ℕ, true, List, [], ◌∷◌, Some, refl, inl, inr}
+use Rattle.crib_cards.specs.Start.{Start, pone_of}
 use Rattle.crib_cards.specs.declared.sides.Dealt.{Dealt}
 use Rattle.crib_cards.specs.declared.letters.Letter.{Letter}
 use Rattle.crib_cards.specs.declared.moves.Move.{Move}
 use Rattle.crib_cards.specs.declared.moves.Move.TheVariants as move
+use Rattle.crib_cards.specs.declared.moves.Act.{Act}
+use Rattle.crib_cards.proofs.Members.{has_here}
 use Rattle.crib_play.specs.declared.turns.Turn.TheVariants as turns
-use Rattle.crib_play.specs.Record.{mover}
 use Rattle.crib_play.specs.Score.{is_done}
-use Rattle.crib_play.specs.Filled.{is_silent_next}
-use Rattle.crib_play.specs.Legal.{letters_of, cards_left, fits, MayCome}
-use Rattle.crib_play.specs.History.{visible_moves, filled_moves, Event, Own, Theirs, event_of, history_of}
-use Rattle.crib_play.proofs.FilledRecords.{not_silent_heard, not_silent_done}
-use Rattle.crib_play.proofs.TurnFacts.{play_of, heard_card, same_is}
+use Rattle.crib_play.specs.Legal.{letters_of}
+use Rattle.crib_play.specs.History.{Event, Own, history_of}
+use Rattle.crib_play.proofs.FilledRecords.{not_silent_done}
 use Rattle.crib_show.specs.Outcome.{outcome_of}
 use Rattle.crib_show.specs.declared.show.outcomes.Outcome.TheVariants.{Reached}
-use Rattle.crib_problem.specs.Setup.{Setup, IsSetup, start_of, hands_of, played_back}
-use Rattle.crib_plan.specs.declared.plan.Next.{Next}
+use Rattle.crib_problem.specs.declared.problem.Version.{Version}
+use Rattle.crib_problem.specs.Setup.{Setup, IsSetup, start_of, IsDealOf}
 use Rattle.crib_plan.specs.declared.plan.Node.{Node}
-use Rattle.crib_plan.specs.declared.plan.Node.TheVariants.{Play}
-use Rattle.crib_plan.specs.Places.{plan_start, node_at, card_of_node, stated_card}
-use Rattle.crib_game.specs.Following.{place_of, is_playable, is_stuck}
+use Rattle.crib_plan.specs.Places.{plan_start}
 use Rattle.crib_game.specs.Replay.{full_of}
 use Rattle.crib_know.specs.Knowledge.{asked_now, played_events}
-use Rattle.crib_know.proofs.LedHistories as know
-use Rattle.crib_know.specs.Hidden.{BeginsAfter, CanShow}
-use Rattle.crib_know.proofs.LedHistories.{IsLed}
-use Rattle.crib_know.proofs.Deals.{dealt_is}
+use Rattle.crib_know.specs.Hidden.{CanShow}
+use Rattle.crib_know.proofs.PassingIsAgreeing.{theirs_asked}
 use Rattle.crib_sure.specs.Sure.{IsFollowed, IsSure}
 use Rattle.crib_search.specs.Trees.{Tree}
-use Rattle.crib_search.specs.Finder.{Found, options, OwnerFinds, Finds, FindsTree}
-use Rattle.crib_sure.specs.HistoryPlaces.{place_by}
-use Rattle.crib_sure.specs.Private.Histories.{IsStatedEvent, FollowsBy}
-use Rattle.crib_sure.proofs.PlaceByHistory.{begun_late, place_at_start, place_later, place_history, follows_to}
-use Rattle.crib_search.proofs.Options.{IsOption, option_is, no_option, option_left, none_left}
-use Rattle.crib_search.proofs.RecordHistories.{letters_whole, led_by_record, agrees_of_record, is_whole, shown_by, left_of, fits_past}
-use Rattle.crib_search.proofs.PlacesOfTrees.{Stands, Does, joined_does}
-use Rattle.std.proofs.lemmas.Option.{same_Some}
-use Rattle.crib_know.proofs.PassingIsAgreeing.{theirs_asked}
-use Rattle.crib_search.proofs.FoundBySide.{finds_of_tree, for_asked, tries_some, branch_found, opponent_some}
-use Rattle.crib_cards.proofs.Members.{has_here, any_found}
+use Rattle.crib_search.specs.Finder.{Found, options, OwnerFinds, Finds}
+use Rattle.crib_search.specs.Private.States.{IsOption}
+use Rattle.crib_search.proofs.Options.{option_is, no_option}
+use Rattle.crib_search.proofs.RecordHistories.{letters_whole, agrees_of_record}
+use Rattle.crib_search.proofs.PlacesOfTrees.{Stands, joined_does}
+use Rattle.crib_search.proofs.FoundBySide.{for_asked, tries_some, branch_found, opponent_some}
+use Rattle.crib_search.proofs.UnstuckPlans.{PlaysOn, SeesOn, GoOn, At, at_record, never_stuck}
 
--- a place is not stuck, if it states a card that may be played where the owner is asked and a card fits
-free_if : (done who any playable : Bool) → (done ≡ false → who ≡ true → any ≡ true → playable ≡ true) → (not done && who && any && not playable) ≡ false
-free_if done who any playable states = grind (arith, nat_tests)
+-- a problem with another opening, each deal of which is a deal of the first problem
+module _ (problem : Setup) (setup : IsSetup problem) (version : Version) (acts : List Act)
+    (setup_later : IsSetup (record problem { version = version; played = acts }))
+    (deals : (dealt : Dealt) → IsDealOf (record problem { version = version; played = acts }) dealt → IsDealOf problem dealt) where
+  abbrev later : Setup
+  later = record problem { version = version; played = acts }
 
-module _ (problem : Setup) (setup : IsSetup problem) (plan : List Node) where
-  -- after a history, the place of the plan will do for the tree that is found
-  record At (history : List Event) : Type 0 where
-    more : ℕ
-    tree : Tree
-    finds : Finds more problem history (Some tree)
-    does : Does plan tree (place_by plan problem.played history)
+  -- the finder finds a tree after a history
+  abbrev IsFoundAt : List Event → Tree → Type 0
+  IsFoundAt history tree = (more : ℕ) × Finds more problem history (Some tree)
 
-  -- ---- the owner is asked and a card fits: the place states a card that is an option
-  record Stated (history : List Event) : Type 0 where
-    more : ℕ
-    card : ℕ
-    next : Tree
-    after : Next
-    option : IsOption problem history card
-    finds : Finds more problem (Own (move.Card card) ∷ history) (Some next)
-    node : node_at plan (place_by plan problem.played history) ≡ Some (Play card after)
-    stands : Stands plan next after
-
-  stated_in : (history : List Event) (more : ℕ) (tree : Tree) (cards : List ℕ) → options problem history ≡ cards → (card : ℕ) → IsOption problem history card →
-      OwnerFinds (λ further after. Finds more problem further after) history cards (Some tree) → Does plan tree (place_by plan problem.played history) →
-      Stated history
-  stated_in history more tree [] none card is finds does = absurd (no_option problem history none card is)
-  stated_in history more tree (first ∷ cards) e card is finds does =
-      let tried = tries_some (λ further after. Finds more problem further after) history (first ∷ cards) tree finds in
-      let option = option_is problem history tried.0 (rw e tried.2) in
-      elim (rw tried.4 at does) [
-        | inl e ↦ absurd cc
-        | inr stands ↦
-            record { more = more; card = tried.0; next = tried.1; after = stands.0; option = option; finds = tried.3; node = stands.1; stands = stands.2 }
-      ]
-
-  stated_at : (history : List Event) → At history → asked_now problem history ≡ turns.Owner → (card : ℕ) → IsOption problem history card → Stated history
-  stated_at history at asked card is =
-      let now = for_asked at.more problem history (Some at.tree) turns.Owner asked at.finds in
-      stated_in history now.0 at.tree (options problem history) refl card is now.1 at.does
-
-  -- ---- one turn further
-  own_card_at : (history : List Event) → BeginsAfter problem history → (card : ℕ) → Stated history → stated_card plan (place_by plan problem.played history)
-      ≡ Some card → At (Own (move.Card card) ∷ history)
-  own_card_at history begun card stated is =
-      let same : stated.card ≡ card = same_Some stated.card card (sym (ap card_of_node stated.node) ∙ is) in
-      record {
-        more = stated.more;
-        tree = stated.next;
-        finds = rw same at stated.finds;
-        does = inr (rw (place_later plan problem (Own (move.Card card)) history begun, stated.node) stated.stands);
-      }
-
-  own_go_at : (history : List Event) → BeginsAfter problem history → At history → asked_now problem history ≡ turns.Owner →
-      ((card : ℕ) → IsOption problem history card → ⊥) → At (Own move.Go ∷ history)
-  own_go_at history begun at asked none =
-      let now = for_asked at.more problem history (Some at.tree) turns.Owner asked at.finds in goes now.0 (options problem history) refl now.1
+  found_plays : (history : List Event) (tree : Tree) (card : ℕ) → IsFoundAt history tree → asked_now later history ≡ turns.Owner →
+      IsOption later history card → PlaysOn later IsFoundAt history tree
+  found_plays history tree card found asked is =
+      let now = for_asked found.0 problem history (Some tree) turns.Owner asked found.1 in by now.0 (options later history) refl now.1
     where
-      goes : (more : ℕ) (cards : List ℕ) → options problem history ≡ cards → OwnerFinds (λ further after. Finds more problem further after) history cards
-          (Some at.tree) → At (Own move.Go ∷ history)
-      goes more [] e finds = record { more = more; tree = at.tree; finds = finds; does = rw (place_later plan problem (Own move.Go) history begun) at.does }
-      goes more (first ∷ cards) e finds = absurd (none first (option_is problem history first (rw e (has_here first cards))))
+      by : (more : ℕ) (cards : List ℕ) → options later history ≡ cards →
+          OwnerFinds (λ further after. Finds more problem further after) history cards (Some tree) → PlaysOn later IsFoundAt history tree
+      by more [] none finds = absurd (no_option later history none card is)
+      by more (first ∷ cards) e finds =
+          let tried = tries_some (λ further after. Finds more problem further after) history (first ∷ cards) tree finds in
+          record {
+            card = tried.0;
+            next = tried.1;
+            option = option_is later history tried.0 (rw e tried.2);
+            goes = (more, tried.3);
+            plays = tried.4;
+          }
 
-  theirs_at : (history : List Event) → BeginsAfter problem history → (letter : Letter) → At history → CanShow problem history letter →
-      At (Theirs letter ∷ history)
-  theirs_at history begun letter at can =
-      let now = for_asked at.more problem history (Some at.tree) turns.Opponent (theirs_asked problem setup history letter can) at.finds in
+  found_passes : (history : List Event) (tree : Tree) → IsFoundAt history tree → asked_now later history ≡ turns.Owner →
+      ((card : ℕ) → IsOption later history card → ⊥) → IsFoundAt (Own move.Go ∷ history) tree
+  found_passes history tree found asked none =
+      let now = for_asked found.0 problem history (Some tree) turns.Owner asked found.1 in by now.0 (options later history) refl now.1
+    where
+      by : (more : ℕ) (cards : List ℕ) → options later history ≡ cards →
+          OwnerFinds (λ further after. Finds more problem further after) history cards (Some tree) → IsFoundAt (Own move.Go ∷ history) tree
+      by more [] e finds = (more, finds)
+      by more (first ∷ cards) e finds = absurd (none first (option_is later history first (rw e (has_here first cards))))
+
+  found_sees : (history : List Event) (tree : Tree) (letter : Letter) → IsFoundAt history tree → CanShow later history letter →
+      SeesOn later IsFoundAt history letter tree
+  found_sees history tree letter found can =
+      let now = for_asked found.0 problem history (Some tree) turns.Opponent (theirs_asked later setup_later history letter can) found.1 in
       let find : Found = λ further after. Finds now.0 problem further after in
-      let some = opponent_some find problem history at.tree now.1 in
-      let branch = branch_found problem setup history find some.0 letter can some.1 in
+      let some = opponent_some find problem history tree now.1 in
+      let branch = branch_found problem setup history find some.0 letter (can.0, (deals can.0 can.1.0, can.1.1)) some.1 in
       record {
-        more = now.0;
-        tree = branch.0;
-        finds = branch.2;
-        does = rw (place_later plan problem (Theirs letter) history begun)
-            (joined_does plan some.0 letter branch.0 branch.1 (place_by plan problem.played history) (rw some.2 at at.does));
+        branch = branch.0;
+        goes = (now.0, branch.2);
+        does = λ plan place does. joined_does plan some.0 letter branch.0 branch.1 place (rw some.2 at does);
       }
 
-  module _ (tree : Tree) (found : FindsTree problem (Some tree)) (stands : Stands plan tree (plan_start plan)) where
-    -- the same after every history that can be next and follows the plan
-    at_all : (later : List Event) → IsLed problem (later ++ played_events problem) → FollowsBy plan problem.played (later ++ played_events problem) →
-        At (later ++ played_events problem)
-    at_all [] led follows =
-        record { more = 30; tree = tree; finds = finds_of_tree problem (Some tree) found; does = inr (rw (place_at_start plan problem) stands) }
-    at_all (event ∷ later) led follows =
-        at_event event (later ++ played_events problem) (record { later = later; parts = refl }) (at_all later led.0 follows.0) led.1
-        (follows.1 (begun_late problem (later ++ played_events problem) (record { later = later; parts = refl })))
-      where
-        at_event : (event : Event) (history : List Event) → BeginsAfter problem history → At history → know.MayCome problem history event →
-            IsStatedEvent plan (place_by plan problem.played history) event → At (event ∷ history)
-        at_event (Own (move.Card card)) history begun at may is =
-            own_card_at history begun card (stated_at history at may.0 card (option_left problem history card may.1 may.2)) is
-        at_event (Own move.Go) history begun at may is = own_go_at history begun at may.0 (λ card option. none_left problem history card setup may.1 option)
-        at_event (Theirs letter) history begun at may is = theirs_at history begun letter at may
+  found_on : GoOn later IsFoundAt
+  found_on = record { plays = found_plays; passes = found_passes; sees = found_sees }
 
-    module _ (dealt : Dealt) (played : List Move) (followed : IsFollowed problem plan dealt played) where
+  module _ (plan : List Node) (tree : Tree) (found : IsFoundAt (played_events later) tree) (stands : Stands plan tree (plan_start plan)) where
+    module _ (dealt : Dealt) (played : List Move) (followed : IsFollowed later plan dealt played) where
       abbrev start : Start
       start = start_of problem
-
-      abbrev hands : Hands
-      hands = hands_of problem dealt
 
       abbrev history : List Event
       history = history_of (pone_of start) played
 
-      at_record : At history
-      at_record =
-          let parts : history ≡ map event_of followed.begins.later ++ played_events problem =
-          ap (map event_of) followed.begins.parts ∙ map-append event_of followed.begins.later (played_back problem) in
-          rw parts
-          (at_all (map event_of followed.begins.later) (rw (← parts) (led_by_record problem setup dealt followed.deal played followed.legal))
-          (rw (← parts) (follows_to plan problem.played (pone_of start) played followed.follows)))
+      here : At later setup_later plan IsFoundAt found_on history
+      here = at_record later setup_later plan IsFoundAt found_on tree found stands dealt played followed
 
-      -- ---- a record that is done
-      reached : is_done start (letters_of played) ≡ true → outcome_of (full_of problem dealt played) ≡ Reached
+      reached : is_done start (letters_of played) ≡ true → outcome_of (full_of later dealt played) ≡ Reached
       reached done =
-          let whole = letters_whole problem setup dealt followed.deal played followed.legal (not_silent_done start (letters_of played) done) in
+          let whole = letters_whole later setup_later dealt followed.deal played followed.legal (not_silent_done start (letters_of played) done) in
           let over : asked_now problem history ≡ turns.Over =
           rw (← whole, done) in
+          let agrees = agrees_of_record later setup_later dealt followed.deal played followed.legal in
           rw whole
-          (elim (for_asked at_record.more problem history (Some at_record.tree) turns.Over over at_record.finds).1 [
-            | inl all ↦ all.0 dealt (agrees_of_record problem setup dealt followed.deal played followed.legal)
+          (elim (for_asked here.goes.0 problem history (Some here.tree) turns.Over over here.goes.1).1 [
+            | inl all ↦ all.0 dealt (deals dealt agrees.0, agrees.1)
             | inr lacks ↦ absurd (cc (lacks.1))
           ])
 
-      -- ---- a record where a card of the owner fits
-      module _ (card : ℕ) (not_done : is_done start (letters_of played) ≡ false) (mine : mover (pone_of start) (letters_of played) ≡ Owner)
-          (held : has (cards_left hands Owner played) card ≡ true) (fit : fits played card ≡ true) where
-        stops : is_silent_next start (letters_of played) ≡ false
-        stops =
-            not_silent_heard start (letters_of played)
-            (rw mine
-            (heard_card start hands played (play_of start hands (dealt_is problem setup dealt followed.deal) played followed.legal) Owner card held fit))
-
-        may : MayCome start hands (move.Card card) played
-        may = record { not_done = not_done; may_take = rw mine (held, fit) }
-
-        can : know.MayCome problem history (Own (move.Card card))
-        can = rw mine at ((led_by_record problem setup dealt followed.deal (move.Card card ∷ played) (followed.legal, may)).1)
-
-        stated : Stated history
-        stated = stated_at history at_record can.0 card (option_left problem history card can.1 can.2)
-
-        whole : filled_moves start (visible_moves (pone_of start) played) ≡ played
-        whole = is_whole problem setup dealt followed.deal played followed.legal stops
-
-        playable : is_playable hands played (stated_card plan (place_of plan problem.played (pone_of start) played)) ≡ true
-        playable =
-            ap (λ (place : Next). is_playable hands played (stated_card plan place)) (place_history plan problem.played (pone_of start) played)
-            ∙ ap (is_playable hands played) (ap card_of_node stated.node)
-            ∙ and_from (has (cards_left hands Owner played) stated.card) (fits played stated.card)
-            (ap (λ (past : List Move). has (cards_left hands Owner past) stated.card) (sym whole)
-            ∙ left_of problem setup dealt followed.deal history (shown_by problem setup dealt followed.deal played followed.legal) stated.card
-            stated.option.held stated.option.free)
-            (ap (λ (past : List Move). fits past stated.card) (sym whole)
-            ∙ fits_past problem setup dealt followed.deal history (shown_by problem setup dealt followed.deal played followed.legal) stated.card
-            ∙ stated.option.fits)
-
-      unstuck : is_stuck plan problem.played start hands played ≡ false
-      unstuck =
-          free_if (is_done start (letters_of played)) (same_side (mover (pone_of start) (letters_of played)) Owner)
-          (list_any (fits played) (cards_left hands Owner played))
-          (is_playable hands played (stated_card plan (place_of plan problem.played (pone_of start) played)))
-          (λ going mine any.
-          let found = any_found (fits played) (cards_left hands Owner played) any in
-          playable found.0 going (same_is (mover (pone_of start) (letters_of played)) Owner mine) found.1 found.2)
-
-    pub sure_from : IsSure problem plan
-    sure_from = record { never_stuck = unstuck; reached = reached }
+    pub sure_from : IsSure later plan
+    sure_from = record {
+      never_stuck = never_stuck later setup_later plan IsFoundAt found_on tree found stands;
+      reached = reached;
+    }

@@ -8,7 +8,7 @@ use Rattle.crib_search.specs.declared.nodes.DraftPlace.TheVariants.{End, At}
 use Rattle.crib_search.specs.declared.nodes.DraftNode.{DraftNode}
 use Rattle.crib_search.specs.declared.nodes.DraftNode.TheVariants.{See}
 use Rattle.crib_search.specs.Trees.{Tree, Finish, Sees, branches_of, same_tree, is_play, joined_tree}
-use Rattle.crib_search.specs.Private.Nodes.{IsEarlier, AreKept, IsMore, IsPlaceOf, Names, NameAll, first_place, goes_to, is_play_at}
+use Rattle.crib_search.specs.Private.Nodes.{IsEarlier, AreKept, IsMore, IsPlaceOf, Names, NameAll, first_node, goes_to, is_play_at}
 use Rattle.crib_search.proofs.Trees.{goes_on, same_self}
 use Rattle.crib_search.proofs.KeptNodes.{all_more, same_for}
 
@@ -20,13 +20,13 @@ module _ (draft_nodes : List DraftNode) where
 
   pub draft_place_earlier : (tree : Tree) (draft_place : DraftPlace) → Names draft_nodes tree draft_place → IsEarlier (length draft_nodes) draft_place
   draft_place_earlier tree End names = tt
-  draft_place_earlier Finish (At place) names = absurd cc
-  draft_place_earlier tree (At place) names =
-      let e : place ≡ names.0 = cc (names.2) in let h = slice_get_within draft_nodes names.0 _ names.3 in omega (arith, e, h)
+  draft_place_earlier Finish (At index) names = absurd cc
+  draft_place_earlier tree (At index) names =
+      let e : index ≡ names.0 = cc (names.2) in let h = slice_get_within draft_nodes names.0 _ names.3 in omega (arith, e, h)
 
-  play_is : (tree : Tree) (place : ℕ) → Names draft_nodes tree (At place) → is_play tree ≡ is_play_at (slice_get draft_nodes place)
-  play_is Finish place names = absurd cc
-  play_is tree place names = let e : place ≡ names.0 = cc (names.2) in rw (e, names.3)
+  play_is : (tree : Tree) (index : ℕ) → Names draft_nodes tree (At index) → is_play tree ≡ is_play_at (slice_get draft_nodes index)
+  play_is Finish index names = absurd cc
+  play_is tree index names = let e : index ≡ names.0 = cc (names.2) in rw (e, names.3)
 
   -- ---- all places
   pub all_named : (trees : List Tree) (nexts : List DraftPlace) → AllZip (Names draft_nodes) trees nexts → NameAll draft_nodes (branches_of trees) nexts
@@ -41,64 +41,64 @@ module _ (draft_nodes : List DraftNode) where
   all_earlier trees nexts zip = absurd zip
 
   -- if all are the end, none is left that is not
-  pub none_left : (trees : List Tree) (nexts : List DraftPlace) → AllZip (Names draft_nodes) trees nexts → first_place nexts ≡ None → filter goes_on trees ≡ []
+  pub none_left : (trees : List Tree) (nexts : List DraftPlace) → AllZip (Names draft_nodes) trees nexts → first_node nexts ≡ None → filter goes_on trees ≡ []
   none_left [] nexts zip e = refl
   none_left (tree ∷ trees) [] zip e = absurd zip
   none_left (Finish ∷ trees) (End ∷ nexts) zip e = none_left trees nexts zip.1 e
   none_left (tree ∷ trees) (End ∷ nexts) zip e = absurd (cc (zip.0.2))
-  none_left (tree ∷ trees) (At place ∷ nexts) zip e = absurd cc
+  none_left (tree ∷ trees) (At index ∷ nexts) zip e = absurd cc
 
   -- the first of the trees that are not the end, and the others
-  record First (left : List Tree) (place : ℕ) : Type 0 where
+  record First (left : List Tree) (index : ℕ) : Type 0 where
     first : Tree
     others : List Tree
     are : left ≡ first ∷ others
-    names : Names draft_nodes first (At place)
+    names : Names draft_nodes first (At index)
 
-  first_of : (trees : List Tree) (nexts : List DraftPlace) (place : ℕ) → AllZip (Names draft_nodes) trees nexts → first_place nexts ≡ Some place →
-      First (filter goes_on trees) place
-  first_of (Finish ∷ trees) (End ∷ nexts) place zip e = first_of trees nexts place zip.1 e
-  first_of (Finish ∷ trees) (At at ∷ nexts) place zip e = absurd (cc (zip.0))
-  first_of (tree ∷ trees) (End ∷ nexts) place zip e = absurd (cc (zip.0.2))
-  first_of (tree ∷ trees) (At at ∷ nexts) place zip e =
-      let same : place ≡ at = cc in
+  first_of : (trees : List Tree) (nexts : List DraftPlace) (index : ℕ) → AllZip (Names draft_nodes) trees nexts → first_node nexts ≡ Some index →
+      First (filter goes_on trees) index
+  first_of (Finish ∷ trees) (End ∷ nexts) index zip e = first_of trees nexts index zip.1 e
+  first_of (Finish ∷ trees) (At at ∷ nexts) index zip e = absurd (cc (zip.0))
+  first_of (tree ∷ trees) (End ∷ nexts) index zip e = absurd (cc (zip.0.2))
+  first_of (tree ∷ trees) (At at ∷ nexts) index zip e =
+      let same : index ≡ at = cc in
       record { first = tree; others = filter goes_on trees; are = refl; names = rw same zip.0 }
-  first_of [] [] place zip e = absurd cc
-  first_of trees nexts place zip e = absurd zip
+  first_of [] [] index zip e = absurd cc
+  first_of trees nexts index zip e = absurd zip
 
   -- the first node is kept
-  pub first_within : (trees : List Tree) (nexts : List DraftPlace) (place : ℕ) → AllZip (Names draft_nodes) trees nexts → first_place nexts ≡ Some place →
-      place < length draft_nodes
-  first_within trees nexts place zip e = let first = first_of trees nexts place zip e in draft_place_earlier first.first (At place) first.names
+  pub first_within : (trees : List Tree) (nexts : List DraftPlace) (index : ℕ) → AllZip (Names draft_nodes) trees nexts → first_node nexts ≡ Some index →
+      index < length draft_nodes
+  first_within trees nexts index zip e = let first = first_of trees nexts index zip e in draft_place_earlier first.first (At index) first.names
 
   module _ (kept : AreKept draft_nodes) where
-    all_same : (one : Tree) (place : ℕ) → Names draft_nodes one (At place) → (trees : List Tree) (nexts : List DraftPlace) →
+    all_same : (one : Tree) (index : ℕ) → Names draft_nodes one (At index) → (trees : List Tree) (nexts : List DraftPlace) →
         AllZip (Names draft_nodes) trees nexts →
-        list_all (same_tree one) (filter goes_on trees) ≡ list_all (goes_to place) nexts
-    all_same one place names [] [] zip = refl
-    all_same one place names (Finish ∷ trees) (End ∷ nexts) zip = all_same one place names trees nexts zip.1
-    all_same one place names (Finish ∷ trees) (At at ∷ nexts) zip = absurd (cc (zip.0))
-    all_same one place names (tree ∷ trees) (End ∷ nexts) zip = absurd (cc (zip.0.2))
-    all_same one place names (tree ∷ trees) (At at ∷ nexts) zip =
-        rw (same_for draft_nodes kept one tree place at names zip.0, all_same one place names trees nexts zip.1)
-    all_same one place names trees nexts zip = absurd zip
+        list_all (same_tree one) (filter goes_on trees) ≡ list_all (goes_to index) nexts
+    all_same one index names [] [] zip = refl
+    all_same one index names (Finish ∷ trees) (End ∷ nexts) zip = all_same one index names trees nexts zip.1
+    all_same one index names (Finish ∷ trees) (At at ∷ nexts) zip = absurd (cc (zip.0))
+    all_same one index names (tree ∷ trees) (End ∷ nexts) zip = absurd (cc (zip.0.2))
+    all_same one index names (tree ∷ trees) (At at ∷ nexts) zip =
+        rw (same_for draft_nodes kept one tree index at names zip.0, all_same one index names trees nexts zip.1)
+    all_same one index names trees nexts zip = absurd zip
 
-    module _ (trees : List Tree) (nexts : List DraftPlace) (place : ℕ) (zip : AllZip (Names draft_nodes) trees nexts) (e : first_place nexts ≡ Some place) where
+    module _ (trees : List Tree) (nexts : List DraftPlace) (index : ℕ) (zip : AllZip (Names draft_nodes) trees nexts) (e : first_node nexts ≡ Some index) where
       abbrev one_play : Bool
-      one_play = is_play_at (slice_get draft_nodes place) && list_all (goes_to place) nexts
+      one_play = is_play_at (slice_get draft_nodes index) && list_all (goes_to index) nexts
 
-      joined_is : (first : First (filter goes_on trees) place) → joined_tree trees ≡ cond one_play first.first (Sees (branches_of trees))
+      joined_is : (first : First (filter goes_on trees) index) → joined_tree trees ≡ cond one_play first.first (Sees (branches_of trees))
       joined_is first =
-          let same = all_same first.first place first.names trees nexts zip in
-          rw (← same, first.are, same_self first.first, play_is first.first place first.names)
+          let same = all_same first.first index first.names trees nexts zip in
+          rw (← same, first.are, same_self first.first, play_is first.first index first.names)
 
       -- all that are not the end are one play node
-      pub joined_play : one_play ≡ true → Names draft_nodes (joined_tree trees) (At place)
-      joined_play b = let first = first_of trees nexts place zip e in rw (joined_is first, b) first.names
+      pub joined_play : one_play ≡ true → Names draft_nodes (joined_tree trees) (At index)
+      joined_play b = let first = first_of trees nexts index zip e in rw (joined_is first, b) first.names
 
       -- otherwise the plan looks at the letter
       pub joined_see : one_play ≡ false → (after : List DraftNode) → IsMore draft_nodes after → (draft_place : DraftPlace) →
           IsPlaceOf after (See nexts) draft_place → Names after (joined_tree trees) draft_place
       joined_see b after more draft_place at =
-          rw (joined_is (first_of trees nexts place zip e), b)
+          rw (joined_is (first_of trees nexts index zip e), b)
           (at.0, nexts, at.1, at.2, all_more draft_nodes after more (branches_of trees) nexts (all_named trees nexts zip))

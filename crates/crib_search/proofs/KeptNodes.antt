@@ -23,15 +23,15 @@ use Rattle.crib_search.proofs.Trees.{differ}
 abbrev pub IsAdded : List DraftNode → DraftNode → List DraftNode → Type 0
 IsAdded before draft_node after = (after ≡ before) ⊎ (after ≡ before ++ draft_node ∷ [])
 
--- ---- places
+-- ---- indices
 -- each node is there once if the nodes are distinct
-once_of : (draft_nodes : List DraftNode) → IsDistinct compared.ghosts.eq draft_nodes → (place other : ℕ) (draft_node : DraftNode) →
-    slice_get draft_nodes place ≡ Some draft_node → slice_get draft_nodes other ≡ Some draft_node → place ≡ other
-once_of draft_nodes distinct place other draft_node e f =
-    elim (cases_order place other) [
+once_of : (draft_nodes : List DraftNode) → IsDistinct compared.ghosts.eq draft_nodes → (index other : ℕ) (draft_node : DraftNode) →
+    slice_get draft_nodes index ≡ Some draft_node → slice_get draft_nodes other ≡ Some draft_node → index ≡ other
+once_of draft_nodes distinct index other draft_node e f =
+    elim (cases_order index other) [
       | inl same ↦ same
-      | inr (inl before) ↦ absurd (apart place other before e f)
-      | inr (inr after) ↦ absurd (apart other place after f e)
+      | inr (inl before) ↦ absurd (apart index other before e f)
+      | inr (inr after) ↦ absurd (apart other index after f e)
     ]
   where
     apart : (one two : ℕ) → one < two → slice_get draft_nodes one ≡ Some draft_node → slice_get draft_nodes two ≡ Some draft_node → ⊥
@@ -42,27 +42,27 @@ once_of draft_nodes distinct place other draft_node e f =
         both_ways (compared.ghosts.eq draft_node draft_node) (rw (first, second) at differ) ((same_draft_nodes draft_node draft_node).1 refl)
 
 -- a node of a list with one more
-push_get : (draft_nodes : List DraftNode) (new : DraftNode) (place : ℕ) (draft_node : DraftNode) → slice_get (draft_nodes ++ new ∷ []) place ≡ Some draft_node →
-    (slice_get draft_nodes place ≡ Some draft_node) ⊎ ((place ≡ length draft_nodes) × (new ≡ draft_node))
+push_get : (draft_nodes : List DraftNode) (new : DraftNode) (index : ℕ) (draft_node : DraftNode) → slice_get (draft_nodes ++ new ∷ []) index ≡ Some draft_node →
+    (slice_get draft_nodes index ≡ Some draft_node) ⊎ ((index ≡ length draft_nodes) × (new ≡ draft_node))
 push_get [] new zero draft_node e = let same : new ≡ draft_node = cc in inr (refl, same)
-push_get [] new (suc place) draft_node e = absurd cc
+push_get [] new (suc index) draft_node e = absurd cc
 push_get (first ∷ draft_nodes) new zero draft_node e = inl e
-push_get (first ∷ draft_nodes) new (suc place) draft_node e =
-    elim (push_get draft_nodes new place draft_node e) [
+push_get (first ∷ draft_nodes) new (suc index) draft_node e =
+    elim (push_get draft_nodes new index draft_node e) [
       | inl there ↦ inl there
       | inr last ↦ let at = last.0 in inr (omega (arith, at), last.1)
     ]
 
-get_push : (draft_nodes : List DraftNode) (new : DraftNode) (place : ℕ) (draft_node : DraftNode) → slice_get draft_nodes place ≡ Some draft_node →
-    slice_get (draft_nodes ++ new ∷ []) place ≡ Some draft_node
-get_push [] new place draft_node e = absurd cc
+get_push : (draft_nodes : List DraftNode) (new : DraftNode) (index : ℕ) (draft_node : DraftNode) → slice_get draft_nodes index ≡ Some draft_node →
+    slice_get (draft_nodes ++ new ∷ []) index ≡ Some draft_node
+get_push [] new index draft_node e = absurd cc
 get_push (first ∷ draft_nodes) new zero draft_node e = e
-get_push (first ∷ draft_nodes) new (suc place) draft_node e = get_push draft_nodes new place draft_node e
+get_push (first ∷ draft_nodes) new (suc index) draft_node e = get_push draft_nodes new index draft_node e
 
 pub more_added : (before : List DraftNode) (draft_node : DraftNode) (after : List DraftNode) → IsAdded before draft_node after → IsMore before after
-more_added before draft_node after (inl e) place other there = ap (λ (draft_nodes : List DraftNode). slice_get draft_nodes place) e ∙ there
-more_added before draft_node after (inr e) place other there =
-    ap (λ (draft_nodes : List DraftNode). slice_get draft_nodes place) e ∙ get_push before draft_node place other there
+more_added before draft_node after (inl e) index other there = ap (λ (draft_nodes : List DraftNode). slice_get draft_nodes index) e ∙ there
+more_added before draft_node after (inr e) index other there =
+    ap (λ (draft_nodes : List DraftNode). slice_get draft_nodes index) e ∙ get_push before draft_node index other there
 
 pub added_by : (before : List DraftNode) (draft_node : DraftNode) (after : List DraftNode) (there : Bool) →
     after ≡ cond there before (before ++ draft_node ∷ []) →
@@ -76,13 +76,13 @@ pub kept_added : (before : List DraftNode) (draft_node : DraftNode) (after : Lis
     IsDistinct compared.ghosts.eq after → AreKept after
 kept_added before draft_node after kept below added distinct = record { earlier = earlier added; once = once_of after distinct }
   where
-    earlier : IsAdded before draft_node after → (place : ℕ) (other : DraftNode) → slice_get after place ≡ Some other → IsBelow place other
-    earlier (inl e) place other there = kept.earlier place other (ap (λ (draft_nodes : List DraftNode). slice_get draft_nodes place) (sym e) ∙ there)
-    earlier (inr e) place other there =
-        elim (push_get before draft_node place other (ap (λ (draft_nodes : List DraftNode). slice_get draft_nodes place) (sym e) ∙ there)) [
-          | inl old ↦ kept.earlier place other old
+    earlier : IsAdded before draft_node after → (index : ℕ) (other : DraftNode) → slice_get after index ≡ Some other → IsBelow index other
+    earlier (inl e) index other there = kept.earlier index other (ap (λ (draft_nodes : List DraftNode). slice_get draft_nodes index) (sym e) ∙ there)
+    earlier (inr e) index other there =
+        elim (push_get before draft_node index other (ap (λ (draft_nodes : List DraftNode). slice_get draft_nodes index) (sym e) ∙ there)) [
+          | inl old ↦ kept.earlier index other old
           | inr last ↦
-              subst (λ (s : DraftNode). IsBelow place s) last.1 (subst (λ (count : ℕ). IsBelow count draft_node) (sym last.0) below)
+              subst (λ (s : DraftNode). IsBelow index s) last.1 (subst (λ (count : ℕ). IsBelow count draft_node) (sym last.0) below)
         ]
 
 -- ---- trees
@@ -128,19 +128,19 @@ module _ (draft_nodes : List DraftNode) (kept : AreKept draft_nodes) where
         (Decides-and (same_tree one other) (same_branches ones others) (same_where one other a.0 b.0 a.3 b.3)
         (all_same_where ones others a.1 b.1 a.4 b.4))
 
-  pub same_for : (one other : Tree) (place at : ℕ) → Names draft_nodes one (At place) → Names draft_nodes other (At at) → same_tree one other ≡ eqb at place
-  same_for one other place at a b =
-      same_from_decides (same_tree one other) (eqb at place) (same_where one other (At place) (At at) a b)
-      (Decides-like (eqb at place) (λ e. cc) (λ e. cc) (Decides-eqb at place))
+  pub same_for : (one other : Tree) (index at : ℕ) → Names draft_nodes one (At index) → Names draft_nodes other (At at) → same_tree one other ≡ eqb at index
+  same_for one other index at a b =
+      same_from_decides (same_tree one other) (eqb at index) (same_where one other (At index) (At at) a b)
+      (Decides-like (eqb at index) (λ e. cc) (λ e. cc) (Decides-eqb at index))
 
 -- the stored node is the one that was asked for
-pub stored_is : (draft_nodes : List DraftNode) (place : ℕ) (draft_node : DraftNode) → (there : DraftNode) × (slice_get draft_nodes place ≡ Some there) ×
-    (compared.ghosts.eq draft_node there ≡ true) → slice_get draft_nodes place ≡ Some draft_node
-stored_is draft_nodes place draft_node stored = stored.1 ∙ ap (λ (s : DraftNode). Some s) (sym ((same_draft_nodes draft_node stored.0).0 stored.2))
+pub stored_is : (draft_nodes : List DraftNode) (index : ℕ) (draft_node : DraftNode) → (there : DraftNode) × (slice_get draft_nodes index ≡ Some there) ×
+    (compared.ghosts.eq draft_node there ≡ true) → slice_get draft_nodes index ≡ Some draft_node
+stored_is draft_nodes index draft_node stored = stored.1 ∙ ap (λ (s : DraftNode). Some s) (sym ((same_draft_nodes draft_node stored.0).0 stored.2))
 
 -- so is the one that is found by a search for it
-pub found_is : (draft_nodes : List DraftNode) (place : ℕ) (draft_node : DraftNode) →
-    position (compared.ghosts.eq draft_node) draft_nodes ≡ Some place → slice_get draft_nodes place ≡ Some draft_node
-found_is draft_nodes place draft_node at =
-    let found = position-Some (compared.ghosts.eq draft_node) draft_nodes place draft_node at in
-    stored_is draft_nodes place draft_node (get_or draft_nodes place draft_node, slice_get-get_or draft_nodes place draft_node found.0, found.1)
+pub found_is : (draft_nodes : List DraftNode) (index : ℕ) (draft_node : DraftNode) →
+    position (compared.ghosts.eq draft_node) draft_nodes ≡ Some index → slice_get draft_nodes index ≡ Some draft_node
+found_is draft_nodes index draft_node at =
+    let found = position-Some (compared.ghosts.eq draft_node) draft_nodes index draft_node at in
+    stored_is draft_nodes index draft_node (get_or draft_nodes index draft_node, slice_get-get_or draft_nodes index draft_node found.0, found.1)

@@ -1,7 +1,7 @@
 -- The plans after each lead of a worked problem. The opening is 2C, own 6C, 4C, own JH, and a go of each side at 22, so the opponent has 2C, 4C and two
 -- ten-cards. The owner has KC and QH left, and plays one of them on the lead.
 use Rattle.std.proofs.Common.{◌≡◌, refl, ℕ, Bool, true, false, eqb, not, ◌&&◌, ◌||◌, Option, Some, None, is_some}
-use Rattle.std.proofs.Common.{List, [], ◌∷◌, filter}
+use Rattle.std.proofs.Common.{List, [], ◌∷◌, ◌++◌, filter}
 use Rattle.std.specs.Prelude.{if◌then◌else◌}
 use Rattle.std.specs.List.{list_all, list_any}
 use Rattle.std.proofs.lemmas.Bool.{both_ways, eqb-true, true_from_ne_false}
@@ -17,9 +17,7 @@ use Rattle.crib_show.specs.Outcome.{outcome_of}
 use Rattle.crib_show.specs.Show.{hand_points}
 use Rattle.crib_show.specs.declared.show.outcomes.Outcome.{Outcome}
 use Rattle.crib_show.specs.declared.show.outcomes.Outcome.TheVariants.{Reached}
-use Rattle.crib_problem.specs.declared.problem.Goal.TheVariants.{Win}
-use Rattle.crib_problem.specs.declared.problem.Version.TheVariants.{Two}
-use Rattle.crib_problem.proofs.ExampleProblems.{plays, says_go}
+use Rattle.crib_problem.proofs.ExampleProblems.{after_tens, plays, says_go}
 use Rattle.crib_problem.specs.Setup.{Setup, start_of, hands_of, unseen_of}
 use Rattle.crib_plan.specs.declared.plan.Next.{Next}
 use Rattle.crib_plan.specs.declared.plan.Next.TheVariants.{End, To}
@@ -31,22 +29,18 @@ use Rattle.crib_game.specs.Following.{is_stuck}
 -- the owner deals, and wants to win; the starter is KS. Two gos end the pile of 2C 6C 4C JH, and KC and QH are left to the owner. The opponent is at 113, and
 -- wins with eight points in the play and the hand
 abbrev pub before_the_lead : Setup
-before_the_lead = record {
-  version = Two;
+before_the_lead = record after_tens {
   dealer = Owner;
   scores = record { owner = 111; opponent = 113 };
   starter = 51;
   hold = 20 ∷ 42 ∷ 48 ∷ 46 ∷ [];
   thrown = 44 ∷ 47 ∷ [];
-  goal = Win;
   played = plays Opponent 4 ∷ plays Owner 20 ∷ plays Opponent 12 ∷ plays Owner 42 ∷ says_go Opponent ∷ says_go Owner ∷ [];
 }
 
 -- the same problem after the lead of a card
 abbrev pub after_lead : ℕ → Setup
-after_lead lead = record before_the_lead {
-  played = plays Opponent 4 ∷ plays Owner 20 ∷ plays Opponent 12 ∷ plays Owner 42 ∷ says_go Opponent ∷ says_go Owner ∷ plays Opponent lead ∷ [];
-}
+after_lead lead = record before_the_lead { played = before_the_lead.played ++ plays Opponent lead ∷ [] }
 
 -- the ten-cards that are unseen: the tens, JC JD JS, QD, and KD KH
 abbrev pub leads : List ℕ

@@ -13,41 +13,40 @@ use Rattle.crib_cards.specs.declared.letters.Letter.{Letter}
 use Rattle.crib_cards.specs.declared.letters.Letter.TheVariants.{Seen}
 use Rattle.crib_cards.specs.declared.moves.Move.{Move}
 use Rattle.crib_cards.specs.declared.moves.Move.TheVariants as move
+use Rattle.crib_cards.specs.declared.moves.Act.{Act}
 use Rattle.crib_play.specs.declared.turns.Turn.{Turn}
 use Rattle.crib_play.specs.declared.turns.Turn.TheVariants as turns
 use Rattle.crib_play.specs.Record.{Record, mover}
 use Rattle.crib_play.specs.Score.{scores_after, is_done, side_asked, asked_after}
 use Rattle.crib_play.specs.Filled.{filled_record}
 use Rattle.crib_play.specs.Legal.{letters_of, cards_left, fits, MayCome, IsLegal}
-use Rattle.crib_play.specs.History.{filled_moves, Event, Own, Theirs, acts_of, history_of, history_letters}
-use Rattle.crib_play.proofs.LegalRecords.{legal_filled, visible_filled}
+use Rattle.crib_play.specs.History.{filled_moves, Event, Own, Theirs, history_of, history_letters}
 use Rattle.crib_play.proofs.RecordsReached.{asked_mover}
 use Rattle.crib_show.specs.Outcome.{outcome_of}
 use Rattle.crib_show.specs.declared.show.outcomes.Outcome.TheVariants.{Reached}
-use Rattle.crib_problem.specs.Setup.{Setup, IsSetup, start_of, hands_of, IsDealOf, BeginsAsPlayed}
+use Rattle.crib_problem.specs.Setup.{Setup, IsSetup, start_of, hands_of, IsDealOf}
 use Rattle.crib_problem.proofs.StartLemmas.{started}
 use Rattle.crib_plan.specs.declared.plan.Node.{Node}
 use Rattle.crib_plan.specs.Places.{stated_card}
-use Rattle.crib_game.specs.Replay.{full_with}
-use Rattle.crib_game.specs.Following.{place_of, is_playable}
+use Rattle.crib_game.specs.Replay.{is_done_for, full_with, full_of}
+use Rattle.crib_game.specs.Following.{place_of, is_playable, is_stuck}
 use Rattle.crib_know.specs.Knowledge.{played_events, count_after, asked_now}
 use Rattle.crib_know.proofs.LedHistories as know
 use Rattle.crib_know.specs.Hidden.{AgreesWith, BeginsAfter}
 use Rattle.crib_know.proofs.LedHistories.{IsLed}
-use Rattle.crib_know.proofs.Events.{Plays, plays_of, events, history_events}
-use Rattle.crib_know.proofs.PassingIsAgreeing.{agrees_passes, passing_plays}
+use Rattle.crib_know.proofs.Events.{Plays, plays_of}
+use Rattle.crib_know.proofs.PassingIsAgreeing.{agrees_passes, passing_agrees}
 use Rattle.crib_know.proofs.Deals.{dealt_is}
 use Rattle.crib_know.proofs.KnowledgeFacts.{begin_more, first_deal_is}
-use Rattle.crib_know.proofs.OpeningLawProofs.{played_led}
 use Rattle.crib_sure.specs.Sure.{IsFollowed, IsSure}
 use Rattle.crib_sure.specs.Shows.{full_behind}
 use Rattle.crib_search.specs.Finder.{Found, options, OwnerFinds, Tries, Finds}
-use Rattle.crib_sure.specs.HistoryPlaces.{place_by}
-use Rattle.crib_sure.specs.Private.Histories.{IsStatedEvent, FollowsBy}
+use Rattle.crib_sure.specs.HistoryPlaces.{place_by, IsStatedEvent, FollowsBy}
 use Rattle.crib_sure.proofs.PlaceByHistory.{follows_at_start, place_history, follows_from}
 use Rattle.crib_sure.proofs.RecordsFromOpening.{begun_plays}
-use Rattle.crib_search.proofs.Options.{IsOption, option_is, option_from, no_option, option_left, left_option}
-use Rattle.crib_search.proofs.RecordHistories.{letters_past, left_of, fits_past, led_by_record}
+use Rattle.crib_search.specs.Private.States.{IsOption}
+use Rattle.crib_search.proofs.Options.{option_is, option_from, no_option, option_left, left_option}
+use Rattle.crib_search.proofs.RecordHistories.{legal_past, history_past, letters_past, left_of, fits_past, led_by_record}
 use Rattle.crib_search.proofs.FoundBySide.{for_turn, tries_there, opponent_none}
 use Rattle.crib_search.proofs.AlikeHistories.{AreAlike, sight_of, alike_more, letters_alike, asked_alike, theirs_alike, least_alike, option_alike, show_alike}
 use Rattle.crib_cards.proofs.Members.{has_here, any_from}
@@ -67,31 +66,53 @@ playable_some : (hands : Hands) (past : List Move) (stated : Option ℕ) → is_
 playable_some hands past None e = absurd (both_ways false refl e)
 playable_some hands past (Some card) e = let parts = and_parts (has (cards_left hands Owner past) card) (fits past card) e in (card, refl, parts.0, parts.1)
 
-module _ (problem : Setup) (setup : IsSetup problem) (plan : List Node) (sure : IsSure problem plan) where
+-- ---- the visible turns of a deal that show a history, and what a plan does after them
+pub record Serves (problem : Setup) (plan : List Node) (given : List Act) (history : List Event) (dealt : Dealt) : Type 0 where
+  pub plays : Plays (start_of problem) (hands_of problem dealt) history
+  pub unstuck : is_stuck plan given (start_of problem) (hands_of problem dealt) (filled_moves (start_of problem) plays.seen) ≡ false
+  pub reached : is_done_for problem (filled_moves (start_of problem) plays.seen) ≡ true →
+      outcome_of (full_of problem dealt (filled_moves (start_of problem) plays.seen)) ≡ Reached
+
+pub sure_serves : (problem : Setup) → IsSetup problem → (plan : List Node) → IsSure problem plan → (dealt : Dealt) (history : List Event) →
+    AgreesWith problem history dealt → BeginsAfter problem history → FollowsBy plan problem.played history → Serves problem plan problem.played history dealt
+sure_serves problem setup plan sure dealt history agrees begun follows =
+    let start = start_of problem in
+    let hands = hands_of problem dealt in
+    let real = dealt_is problem setup dealt agrees.0 in
+    let some = begun_plays problem setup dealt agrees.0 history begun (plays_of start hands history (started problem setup) real agrees.1) in
+    let past : List Move = filled_moves start some.plays.seen in
+    let followed : IsFollowed problem plan dealt past = record {
+      deal = agrees.0;
+      legal = legal_past problem setup dealt agrees.0 history some.plays;
+      begins = some.begins;
+      follows = follows_from plan problem.played (pone_of start) past (rw (history_past problem setup dealt agrees.0 history some.plays) follows);
+    } in
+    record { plays = some.plays; unstuck = sure.never_stuck dealt past followed; reached = sure.reached dealt past followed }
+
+-- a plan serves after each history that begins with an opening and follows it. The opening begins with that of the problem
+module _ (problem : Setup) (setup : IsSetup problem) (plan : List Node) (longer : Setup)
+    (wider : (history : List Event) → BeginsAfter longer history → BeginsAfter problem history)
+    (serves : (dealt : Dealt) (history : List Event) → AgreesWith problem history dealt → BeginsAfter longer history → FollowsBy plan longer.played history →
+    Serves problem plan longer.played history dealt) where
   abbrev start : Start
   start = start_of problem
 
-  -- ---- visible turns of a deal that follow the plan
-  module _ (dealt : Dealt) (deal : IsDealOf problem dealt) (history : List Event) (plays : Plays start (hands_of problem dealt) history)
-      (begins : BeginsAsPlayed problem (acts_of (pone_of start) (filled_moves start plays.seen))) (follows : FollowsBy plan problem.played history) where
+  -- ---- a deal in which the plan serves
+  module _ (dealt : Dealt) (deal : IsDealOf problem dealt) (history : List Event) (served : Serves problem plan longer.played history dealt) where
     abbrev hands : Hands
     hands = hands_of problem dealt
+
+    abbrev plays : Plays start hands history
+    plays = served.plays
 
     abbrev past : List Move
     past = filled_moves start plays.seen
 
     legal : IsLegal start hands past
-    legal = legal_filled start hands plays.seen (dealt_is problem setup dealt deal) plays.legal
+    legal = legal_past problem setup dealt deal history plays
 
     shows : history_of (pone_of start) past ≡ history
-    shows =
-        history_events start hands past (started problem setup) (dealt_is problem setup dealt deal) legal
-        ∙ ap (events start) (visible_filled start hands plays.seen (started problem setup) (dealt_is problem setup dealt deal) plays.legal)
-        ∙ plays.shows
-
-    followed : IsFollowed problem plan dealt past
-    followed =
-        record { deal = deal; legal = legal; begins = begins; follows = follows_from plan problem.played (pone_of start) past (rw shows follows) }
+    shows = history_past problem setup dealt deal history plays
 
     letters_are : letters_of past ≡ filled_record start (history_letters history)
     letters_are = letters_past problem setup dealt deal history plays
@@ -101,7 +122,7 @@ module _ (problem : Setup) (setup : IsSetup problem) (plan : List Node) (sure : 
         let done : is_done start (letters_of past) ≡ true = ap (is_done start) letters_are
         ∙ over_done start (filled_record start (history_letters history)) over in
         ap (λ (letters : Record). outcome_of (full_with problem dealt (scores_after start letters))) (sym letters_are)
-        ∙ sure.reached dealt past followed done
+        ∙ served.reached done
 
     module _ (asked : asked_now problem history ≡ turns.Owner) (card : ℕ) (option : IsOption problem history card) where
       not_done : is_done start (letters_of past) ≡ false
@@ -115,37 +136,32 @@ module _ (problem : Setup) (setup : IsSetup problem) (plan : List Node) (sure : 
           any_from (fits past) (cards_left hands Owner past) card (left_of problem setup dealt deal history plays card option.held option.free)
           (fits_past problem setup dealt deal history plays card ∙ option.fits)
 
-      plays_one : is_playable hands past (stated_card plan (place_of plan problem.played (pone_of start) past)) ≡ true
+      plays_one : is_playable hands past (stated_card plan (place_of plan longer.played (pone_of start) past)) ≡ true
       plays_one =
           not_stuck (is_done start (letters_of past)) (same_side (mover (pone_of start) (letters_of past)) Owner)
           (list_any (fits past) (cards_left hands Owner past))
-          (is_playable hands past (stated_card plan (place_of plan problem.played (pone_of start) past))) (sure.never_stuck dealt past followed) not_done
+          (is_playable hands past (stated_card plan (place_of plan longer.played (pone_of start) past))) served.unstuck not_done
           (ap (λ (side : Side). same_side side Owner) mine) some_fits
 
-      place_is : place_of plan problem.played (pone_of start) past ≡ place_by plan problem.played history
-      place_is = place_history plan problem.played (pone_of start) past ∙ ap (place_by plan problem.played) shows
+      place_is : place_of plan longer.played (pone_of start) past ≡ place_by plan longer.played history
+      place_is = place_history plan longer.played (pone_of start) past ∙ ap (place_by plan longer.played) shows
 
       -- the plan states a card, and the card may be next
-      stated_here : (stated : ℕ) × (stated_card plan (place_by plan problem.played history) ≡ Some stated) ×
+      stated_here : (stated : ℕ) × (stated_card plan (place_by plan longer.played history) ≡ Some stated) ×
           know.MayCome problem history (Own (move.Card stated))
       stated_here =
-          let one = playable_some hands past (stated_card plan (place_of plan problem.played (pone_of start) past)) plays_one in
+          let one = playable_some hands past (stated_card plan (place_of plan longer.played (pone_of start) past)) plays_one in
           let may : MayCome start hands (move.Card one.0) past = record { not_done = not_done; may_take = rw mine (one.2, one.3) } in
           let led = led_by_record problem setup dealt deal (move.Card one.0 ∷ past) (legal, may) in
           (one.0, ap (stated_card plan) (sym place_is) ∙ one.1, rw (mine, shows) at led.1)
 
   -- ---- some deal has a history that can be next
-  stated_at : (history : List Event) → IsLed problem history → BeginsAfter problem history → FollowsBy plan problem.played history →
+  stated_at : (history : List Event) → IsLed problem history → BeginsAfter longer history → FollowsBy plan longer.played history →
       asked_now problem history ≡ turns.Owner → (card : ℕ) → IsOption problem history card →
-      (stated : ℕ) × (stated_card plan (place_by plan problem.played history) ≡ Some stated) × know.MayCome problem history (Own (move.Card stated))
-  stated_at history led begun follows asked card option = for_deal _ (first_deal_is problem setup history led begun).agrees
-    where
-      for_deal : (dealt : Dealt) → AgreesWith problem history dealt → (stated : ℕ) × (stated_card plan (place_by plan problem.played history) ≡ Some stated) ×
-          know.MayCome problem history (Own (move.Card stated))
-      for_deal dealt agrees =
-          let some = begun_plays problem setup dealt agrees.0 history begun (plays_of start (hands_of problem dealt) history (started problem setup)
-          (dealt_is problem setup dealt agrees.0) agrees.1) in
-          stated_here dealt agrees.0 history some.plays some.begins follows asked card option
+      (stated : ℕ) × (stated_card plan (place_by plan longer.played history) ≡ Some stated) × know.MayCome problem history (Own (move.Card stated))
+  stated_at history led begun follows asked card option =
+      let first = first_deal_is problem setup history led (wider history begun) in
+      stated_here _ first.agrees.0 history (serves _ history first.agrees begun follows) asked card option
 
   -- if no card is an option, the owner may say go
   go_may : (history : List Event) → asked_now problem history ≡ turns.Owner → ((card : ℕ) → IsOption problem history card → ⊥) →
@@ -157,17 +173,17 @@ module _ (problem : Setup) (setup : IsSetup problem) (plan : List Node) (sure : 
     led : IsLed problem one
     led_other : IsLed problem other
     begun : BeginsAfter problem one
-    begun_other : BeginsAfter problem other
+    begun_other : BeginsAfter longer other
     alike : AreAlike one other
-    follows : FollowsBy plan problem.played other
+    follows : FollowsBy plan longer.played other
 
   twins_more : (one other : List Event) → AreTwins one other → (event twin : Event) → sight_of event ≡ sight_of twin → know.MayCome problem one event →
-      know.MayCome problem other twin → IsStatedEvent plan (place_by plan problem.played other) twin → AreTwins (event ∷ one) (twin ∷ other)
+      know.MayCome problem other twin → IsStatedEvent plan (place_by plan longer.played other) twin → AreTwins (event ∷ one) (twin ∷ other)
   twins_more one other twins event twin same may may_other stated = record {
     led = (twins.led, may);
     led_other = (twins.led_other, may_other);
     begun = begin_more problem event one twins.begun;
-    begun_other = begin_more problem twin other twins.begun_other;
+    begun_other = begin_more longer twin other twins.begun_other;
     alike = alike_more event twin one other same twins.alike;
     follows = (twins.follows, λ late. stated);
   }
@@ -187,10 +203,10 @@ module _ (problem : Setup) (setup : IsSetup problem) (plan : List Node) (sure : 
     reached over dealt agrees =
         let passes = rw (theirs_alike one other twins.alike, least_alike problem one other twins.alike) at
         (agrees_passes problem setup dealt agrees.0 one agrees) in
-        let some = begun_plays problem setup dealt agrees.0 other twins.begun_other (passing_plays problem setup dealt agrees.0 other twins.led_other passes) in
+        let also = passing_agrees problem setup dealt agrees.0 other twins.led_other passes in
         ap (λ (letters : List Letter). outcome_of (full_with problem dealt (scores_after start (filled_record start letters))))
         (letters_alike one other twins.alike)
-        ∙ reached_here dealt agrees.0 other some.plays some.begins twins.follows (asked_other turns.Over over)
+        ∙ reached_here dealt agrees.0 other (serves dealt other also twins.begun_other twins.follows) (asked_other turns.Over over)
 
     goes : asked_now problem one ≡ turns.Owner → options problem one ≡ [] → Finds more problem (Own move.Go ∷ one) None → ⊥
     goes asked none found =
@@ -229,16 +245,21 @@ module _ (problem : Setup) (setup : IsSetup problem) (plan : List Node) (sure : 
         let lacks = opponent_none find problem one (for_turn more problem one None turns.Opponent e finds) in
         later (Theirs lacks.0 ∷ one) (Theirs lacks.0 ∷ other) lacks.2
         (twins_more one other twins (Theirs lacks.0) (Theirs lacks.0) refl lacks.1
-        (show_alike problem setup one other twins.alike twins.led twins.led_other twins.begun_other lacks.0 lacks.1) tt)
+        (show_alike problem setup one other twins.alike twins.led twins.led_other (wider other twins.begun_other) lacks.0 lacks.1) tt)
 
   none_after : (more : ℕ) (one other : List Event) → Finds more problem one None → AreTwins one other → ⊥
   none_after zero one other finds twins = finds
   none_after (suc more) one other finds twins = by_turn more (none_after more) one other finds twins (asked_now problem one) refl
 
-  -- so a tree is found at the start
-  pub none_is_found : Finds 30 problem (played_events problem) None → ⊥
-  none_is_found finds =
-      let led = played_led problem setup in
-      let begun : BeginsAfter problem (played_events problem) = record { later = []; parts = refl } in
-      none_after 30 (played_events problem) (played_events problem) finds
-      (record { led = led; led_other = led; begun = begun; begun_other = begun; alike = refl; follows = follows_at_start plan problem })
+  -- so a tree is found after the opening
+  pub none_is_found : (more : ℕ) → IsLed problem (played_events longer) → Finds more problem (played_events longer) None → ⊥
+  none_is_found more led finds =
+      let begun : BeginsAfter longer (played_events longer) = record { later = []; parts = refl } in
+      none_after more (played_events longer) (played_events longer) finds (record {
+        led = led;
+        led_other = led;
+        begun = wider (played_events longer) begun;
+        begun_other = begun;
+        alike = refl;
+        follows = follows_at_start plan longer;
+      })

@@ -16,22 +16,22 @@ use Rattle.crib_search.specs.declared.nodes.DraftPlace.TheVariants.{At}
 use Rattle.crib_search.specs.declared.nodes.DraftNode.{DraftNode}
 use Rattle.crib_search.specs.Trees.{Tree, Finish, Plays, Sees, Branches, NoBranch, Branch, trees_of, same_tree, number_of, place_of_tree, nodes_for}
 use Rattle.crib_search.specs.Private.Nodes.{AreKept, Names, NameAll}
-use Rattle.crib_search.specs.Private.Numbers.{AreLeft, mark_of, next_for, node_for, nodes_at, nodes_of_places}
+use Rattle.crib_search.specs.Private.Numbers.{AreLeft, mark_of, next_for, node_for, nodes_at, nodes_of_indices}
 use Rattle.crib_search.proofs.Trees.{same_is, same_self}
 use Rattle.crib_search.proofs.KeptNodes.{same_for}
 use Rattle.crib_search.proofs.NodeWalks.{left_in}
 use Rattle.crib_search.proofs.TreeWalks.{is_in, Placed, AllPlaced, Leads, IsClosed}
 
--- ---- the nodes of places
+-- ---- the nodes of indices
 -- one node more, by its number
-pub nodes_step : (draft_nodes : List DraftNode) (left : List ℕ) (number place : ℕ) (draft_node : DraftNode) → slice_get left number ≡ Some place →
-    slice_get draft_nodes place ≡ Some draft_node →
-    nodes_of_places draft_nodes left (take (number + 1) left) ≡ nodes_of_places draft_nodes left (take number left) ++ node_for left draft_node ∷ []
-nodes_step draft_nodes left number place draft_node at there =
+pub nodes_step : (draft_nodes : List DraftNode) (left : List ℕ) (number index : ℕ) (draft_node : DraftNode) → slice_get left number ≡ Some index →
+    slice_get draft_nodes index ≡ Some draft_node →
+    nodes_of_indices draft_nodes left (take (number + 1) left) ≡ nodes_of_indices draft_nodes left (take number left) ++ node_for left draft_node ∷ []
+nodes_step draft_nodes left number index draft_node at there =
     rw (
-      take_more left number place (slice_get_within left number place at),
-      get_or_from_slice_get left number place place at,
-      flat_map-append (λ p. nodes_at left (slice_get draft_nodes p)) (take number left) (place ∷ []),
+      take_more left number index (slice_get_within left number index at),
+      get_or_from_slice_get left number index index at,
+      flat_map-append (λ p. nodes_at left (slice_get draft_nodes p)) (take number left) (index ∷ []),
       there,
     )
 
@@ -42,23 +42,23 @@ some_of (Some n) e = (n, refl)
 
 module _ (draft_nodes : List DraftNode) (kept : AreKept draft_nodes) where
   -- the number of a node is how many nodes were left after it
-  number_mark : (tree : Tree) (place : ℕ) → Names draft_nodes tree (At place) → (trees : List Tree) (left : List ℕ) → AreLeft draft_nodes trees left →
+  number_mark : (tree : Tree) (index : ℕ) → Names draft_nodes tree (At index) → (trees : List Tree) (left : List ℕ) → AreLeft draft_nodes trees left →
       (mark : ℕ) →
-      mark_of place left ≡ Some mark → number_of tree trees + mark + 1 ≡ length left
-  number_mark tree place names [] [] are mark e = absurd cc
-  number_mark tree place names (other ∷ trees) (at ∷ left) are mark e =
-      let same = same_for draft_nodes kept tree other place at names are.0 in
-      elim (cases_Bool (eqb at place)) [
+      mark_of index left ≡ Some mark → number_of tree trees + mark + 1 ≡ length left
+  number_mark tree index names [] [] are mark e = absurd cc
+  number_mark tree index names (other ∷ trees) (at ∷ left) are mark e =
+      let same = same_for draft_nodes kept tree other index at names are.0 in
+      elim (cases_Bool (eqb at index)) [
         | inl here ↦ let is = same_Some (length left) mark (rw here at e) in rw (same, here) (omega (arith, is))
-        | inr apart ↦ let rest = number_mark tree place names trees left are.1 mark (rw apart at e) in rw (same, apart) (omega (arith, rest))
+        | inr apart ↦ let rest = number_mark tree index names trees left are.1 mark (rw apart at e) in rw (same, apart) (omega (arith, rest))
       ]
-  number_mark tree place names trees left are mark e = absurd are
+  number_mark tree index names trees left are mark e = absurd are
 
   module _ (all : List Tree) (left : List ℕ) (are : AreLeft draft_nodes all left) where
-    at_next : (tree : Tree) (place : ℕ) → Names draft_nodes tree (At place) → is_in tree all ≡ true → next_for left (At place) ≡ next.To (number_of tree all)
-    at_next tree place names there =
-        let found = some_of (mark_of place left) (sym (left_in draft_nodes kept tree place names all left are) ∙ there) in
-        let number = number_mark tree place names all left are found.0 found.1 in
+    at_next : (tree : Tree) (index : ℕ) → Names draft_nodes tree (At index) → is_in tree all ≡ true → next_for left (At index) ≡ next.To (number_of tree all)
+    at_next tree index names there =
+        let found = some_of (mark_of index left) (sym (left_in draft_nodes kept tree index names all left are) ∙ there) in
+        let number = number_mark tree index names all left are found.0 found.1 in
         let e : length left - 1 - found.0 ≡ number_of tree all = omega (arith, number) in
         rw (found.1, e)
 
@@ -73,23 +73,23 @@ module _ (draft_nodes : List DraftNode) (kept : AreKept draft_nodes) where
     nexts_are (Branch tree branches) draft_places names placed =
         rw (names.2, next_is tree names.0 names.3 placed.0, nexts_are branches names.1 names.4 placed.1)
 
-    node_is : (tree : Tree) (place : ℕ) → Names draft_nodes tree (At place) → Leads tree all →
-        nodes_at left (slice_get draft_nodes place) ≡ nodes_for all tree
-    node_is Finish place names leads = absurd leads
-    node_is (Plays card next) place names leads =
-        let e : place ≡ names.0 = cc (names.2) in rw (e, names.3, next_is next names.1 names.4 leads)
-    node_is (Sees branches) place names leads =
-        let e : place ≡ names.0 = cc (names.2) in rw (e, names.3, nexts_are branches names.1 names.4 leads)
+    node_is : (tree : Tree) (index : ℕ) → Names draft_nodes tree (At index) → Leads tree all →
+        nodes_at left (slice_get draft_nodes index) ≡ nodes_for all tree
+    node_is Finish index names leads = absurd leads
+    node_is (Plays card next) index names leads =
+        let e : index ≡ names.0 = cc (names.2) in rw (e, names.3, next_is next names.1 names.4 leads)
+    node_is (Sees branches) index names leads =
+        let e : index ≡ names.0 = cc (names.2) in rw (e, names.3, nexts_are branches names.1 names.4 leads)
 
-    pub nodes_are : (trees : List Tree) (places : List ℕ) → AreLeft draft_nodes trees places → ((tree : Tree) → is_in tree trees ≡ true → Leads tree all) →
-        nodes_of_places draft_nodes left places ≡ flat_map (nodes_for all) trees
+    pub nodes_are : (trees : List Tree) (indices : List ℕ) → AreLeft draft_nodes trees indices → ((tree : Tree) → is_in tree trees ≡ true → Leads tree all) →
+        nodes_of_indices draft_nodes left indices ≡ flat_map (nodes_for all) trees
     nodes_are [] [] zip leads = refl
-    nodes_are (tree ∷ trees) (place ∷ places) zip leads =
+    nodes_are (tree ∷ trees) (index ∷ indices) zip leads =
         rw (
-          node_is tree place zip.0 (leads tree (or_left (same_tree tree tree) (is_in tree trees) (same_self tree))),
-          nodes_are trees places zip.1 (λ other h. leads other (or_right (same_tree other tree) (is_in other trees) h)),
+          node_is tree index zip.0 (leads tree (or_left (same_tree tree tree) (is_in tree trees) (same_self tree))),
+          nodes_are trees indices zip.1 (λ other h. leads other (or_right (same_tree other tree) (is_in other trees) h)),
         )
-    nodes_are trees places zip leads = absurd zip
+    nodes_are trees indices zip leads = absurd zip
 
 -- ---- these nodes are a plan
 number_below : (tree : Tree) (trees : List Tree) → is_in tree trees ≡ true → number_of tree trees < length trees
@@ -120,22 +120,22 @@ AreFine [] = Unit {0}
 AreFine (tree ∷ trees) = IsFine tree × AreFine trees
 
 module _ (all : List Tree) (count : ℕ) (long : count ≡ length all) where
-  module _ (front rest : List Tree) (closed : IsClosed (front ++ rest)) (same : front ++ rest ≡ all) (place : ℕ) (below : place < length front) where
-    within : (tree : Tree) → is_in tree rest ≡ true → (place < number_of tree all) × (number_of tree all < count)
+  module _ (front rest : List Tree) (closed : IsClosed (front ++ rest)) (same : front ++ rest ≡ all) (number : ℕ) (below : number < length front) where
+    within : (tree : Tree) → is_in tree rest ≡ true → (number < number_of tree all) × (number_of tree all < count)
     within tree there =
         let after = rw same at (number_after tree front rest closed there) in
         let most = number_below tree all (rw (← same) (in_append tree front rest there)) in
         (omega (arith, after, below), omega (arith, most, long))
 
-    later_is : (tree : Tree) → Placed tree rest → IsLater place count (place_of_tree all tree)
+    later_is : (tree : Tree) → Placed tree rest → IsLater number count (place_of_tree all tree)
     later_is Finish placed = tt
     later_is tree placed = within tree placed
 
-    all_later : (branches : Branches) → AllPlaced branches rest → AllByRecursion (IsLater place count) (map (place_of_tree all) (trees_of branches))
+    all_later : (branches : Branches) → AllPlaced branches rest → AllByRecursion (IsLater number count) (map (place_of_tree all) (trees_of branches))
     all_later NoBranch placed = tt
     all_later (Branch tree branches) placed = (later_is tree placed.0, all_later branches placed.1)
 
-  -- from a place on
+  -- from a number on
   pub nodes_from : (front trees : List Tree) → IsClosed (front ++ trees) → IsClosed trees → front ++ trees ≡ all → AreFine trees →
       AreNodes (length front) count (flat_map (nodes_for all) trees)
   nodes_from front [] closed rest same fine = tt
@@ -165,5 +165,5 @@ plan_count all (tree ∷ trees) closed = ap suc (plan_count all trees closed.2)
 
 pub same_count : (draft_nodes : List DraftNode) (trees : List Tree) (left : List ℕ) → AreLeft draft_nodes trees left → length trees ≡ length left
 same_count draft_nodes [] [] are = refl
-same_count draft_nodes (tree ∷ trees) (place ∷ left) are = ap suc (same_count draft_nodes trees left are.1)
+same_count draft_nodes (tree ∷ trees) (index ∷ left) are = ap suc (same_count draft_nodes trees left are.1)
 same_count draft_nodes trees left are = absurd are

@@ -10,7 +10,7 @@ use Rattle.crib_search.specs.declared.nodes.DraftPlace.{DraftPlace}
 use Rattle.crib_search.specs.declared.nodes.DraftNode.{DraftNode}
 use Rattle.crib_search.specs.Trees.{Tree, trees_after_walk, plan_of_tree}
 use Rattle.crib_search.specs.Private.Nodes.{AreKept, Names, NamesFound}
-use Rattle.crib_search.specs.Private.Numbers.{AreLeft, IsWalk, Walked, nodes_of_places}
+use Rattle.crib_search.specs.Private.Numbers.{AreLeft, IsWalk, Walked, nodes_of_indices}
 use Rattle.crib_search.specs.Finder.{FindsTree, IsFound}
 use Rattle.crib_know.specs.Private.Ahead.{turns_ahead}
 use Rattle.crib_search.specs.Private.Search.{IsAnswer}
@@ -32,7 +32,7 @@ module _ (draft_nodes : List DraftNode) (kept : AreKept draft_nodes) (first : Dr
   pub size_is : length (plan_of_tree tree) ≡ length walked.left
   size_is = plan_count all all (walk_closed tree) ∙ same_count draft_nodes all walked.left are
 
-  pub plan_is : nodes_of_places walked.draft_nodes walked.left walked.left ≡ plan_of_tree tree
+  pub plan_is : nodes_of_indices walked.draft_nodes walked.left walked.left ≡ plan_of_tree tree
   plan_is = rw same (nodes_are draft_nodes kept all walked.left are all walked.left are (λ other h. leads_in all (walk_closed tree) other h))
 
 -- ---- from the start

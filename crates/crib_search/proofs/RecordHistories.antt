@@ -11,13 +11,13 @@ use Rattle.crib_play.specs.Filled.{is_silent_next, filled_record}
 use Rattle.crib_play.specs.Legal.{letters_of, cards_of, cards_left, fits, IsLegal}
 use Rattle.crib_play.specs.History.{visible_moves, filled_moves, Event, history_of, history_letters}
 use Rattle.crib_play.proofs.FilledRecords.{filled_whole, cards_filled}
-use Rattle.crib_play.proofs.LegalRecords.{visible_legal}
+use Rattle.crib_play.proofs.LegalRecords.{legal_filled, visible_filled, visible_legal}
 use Rattle.crib_problem.specs.Setup.{Setup, IsSetup, start_of, hands_of, IsDealOf}
 use Rattle.crib_problem.proofs.StartLemmas.{started}
 use Rattle.crib_know.specs.Knowledge.{own_cards, count_after}
 use Rattle.crib_know.specs.Hidden.{AgreesWith}
 use Rattle.crib_know.proofs.LedHistories.{IsLed}
-use Rattle.crib_know.proofs.Events.{Plays, history_events, plays_filled}
+use Rattle.crib_know.proofs.Events.{Plays, events, history_events, plays_filled}
 use Rattle.crib_know.proofs.CardsLeft.{has-filter_from, own_played}
 use Rattle.crib_know.proofs.Deals.{dealt_is}
 use Rattle.crib_know.proofs.RecordTurns.{agreeing_led}
@@ -36,6 +36,15 @@ module _ (problem : Setup) (setup : IsSetup problem) (dealt : Dealt) (deal : IsD
 
     pub letters_past : letters_of past_of ≡ filled_record start (history_letters history)
     letters_past = plays_filled start hands history plays
+
+    pub legal_past : IsLegal start hands past_of
+    legal_past = legal_filled start hands plays.seen (dealt_is problem setup dealt deal) plays.legal
+
+    pub history_past : history_of (pone_of start) past_of ≡ history
+    history_past =
+        history_events start hands past_of (started problem setup) (dealt_is problem setup dealt deal) legal_past
+        ∙ ap (events start) (visible_filled start hands plays.seen (started problem setup) (dealt_is problem setup dealt deal) plays.legal)
+        ∙ plays.shows
 
     pub unplayed : (card : ℕ) → has problem.hold card ≡ true → has (cards_of past_of) card ≡ has (own_cards history) card
     unplayed card mine =

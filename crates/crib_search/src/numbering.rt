@@ -3,7 +3,7 @@ ghost use Rattle.std.specs.Prelude.{◌≡◌, ◌<◌, ◌≤◌, [], ◌∷◌
 ghost use Rattle.std.specs.List.{AllByRecursion};
 ghost use Rattle.crib_search.specs.Private.Nodes.{AreKept, IsBelow, IsEarlier};
 ghost use Rattle.crib_search.specs.Private.Numbers.{AreMarks, IsWalk, IsWalkBelow, mark_of};
-ghost use Rattle.crib_search.specs.Private.Numbers.{next_for, node_for, nodes_of_places};
+ghost use Rattle.crib_search.specs.Private.Numbers.{next_for, node_for, nodes_of_indices};
 
 use crate::nodes::{DraftNode, DraftPlace, Nodes};
 use crib_plan::{Next, Node};
@@ -15,9 +15,9 @@ use std::marker::Model;
 #[derive(Drop)]
 pub(crate) struct Numbering<'a, A: Allocator> {
     nodes: &'a Nodes<A>,
-    // The places that the walk left, the first one first.
+    // The indices of the nodes that the walk left, the first one first.
     order: Vec<usize, A>,
-    // For each place how many were left before it.
+    // For each node how many were left before it.
     marks: Vec<Option<usize>, A>,
 }
 
@@ -31,9 +31,9 @@ impl<'a, A: Allocator> Model for Numbering<'a, A> {
 
     ghost view = { λ n. record { draft_nodes = n.nodes.now; left = reverse n.order.items } };
 
-    // The marks are those of the places that were left, each of which is the place of a kept node.
+    // The marks are those of the nodes that were left, each of which is kept.
     ghost invariant = { λ n. AreKept n.nodes.now
-        × AllByRecursion (λ place. place < length n.nodes.now) (reverse n.order.items)
+        × AllByRecursion (λ index. index < length n.nodes.now) (reverse n.order.items)
         × AreMarks n.marks.items (reverse n.order.items) × (length n.marks.items ≡ length n.nodes.now) };
 }
 
@@ -69,12 +69,12 @@ impl<'a, A: Allocator + Copy> Numbering<'a, A> {
     pub(crate) fn plan_nodes(&self, alloc: A) -> Result<Vec<Node, A>, AllocError>
         requires { length self.now.left ≤ 65535 }
         ensures { IfOk result
-            (λ plan. plan.items ≡ nodes_of_places self.now.draft_nodes self.now.left self.now.left) }
+            (λ plan. plan.items ≡ nodes_of_indices self.now.draft_nodes self.now.left self.now.left) }
     {
         let mut plan = Vec::with_capacity(alloc, self.len())?;
         for number in 0..self.len() {
-            let place = self.place_numbered(number);
-            plan.push(self.numbered(self.nodes.draft_node(place)))?;
+            let index = self.index_numbered(number);
+            plan.push(self.numbered(self.nodes.draft_node(index)))?;
         }
         Ok(plan)
     }
@@ -86,25 +86,25 @@ impl<'a, A: Allocator + Copy> Numbering<'a, A> {
         ensures same { self.new.draft_nodes ≡ self.old.draft_nodes }
         ensures walk { IfOk result (λ _. IsWalk self.old.draft_nodes draft_place self.old.left self.new.left) }
     {
-        let DraftPlace::At(place) = draft_place else {
+        let DraftPlace::At(index) = draft_place else {
             return Ok(());
         };
-        if self.is_left(place) {
+        if self.is_left(index) {
             return Ok(());
         }
-        self.number_below(place)?;
-        self.leave(place)?;
+        self.number_below(index)?;
+        self.leave(index)?;
         Ok(())
     }
 
     // Walks on from all places that a node leads to.
     #[cycle(number_from)]
-    fn number_below(&mut self, place: usize) -> Result<(), AllocError>
-        requires { place < length self.old.draft_nodes }
+    fn number_below(&mut self, index: usize) -> Result<(), AllocError>
+        requires { index < length self.old.draft_nodes }
         ensures same { self.new.draft_nodes ≡ self.old.draft_nodes }
-        ensures walk { IfOk result (λ _. IsWalkBelow self.old.draft_nodes place self.old.left self.new.left) }
+        ensures walk { IfOk result (λ _. IsWalkBelow self.old.draft_nodes index self.old.left self.new.left) }
     {
-        match self.nodes.draft_node(place) {
+        match self.nodes.draft_node(index) {
             DraftNode::Play { card: _, next } => self.number_from(next)?,
             DraftNode::See { next } => {
                 for draft_place in next {
@@ -115,31 +115,31 @@ impl<'a, A: Allocator + Copy> Numbering<'a, A> {
         Ok(())
     }
 
-    // Leaves a node: adds its place and marks it.
-    fn leave(&mut self, place: usize) -> Result<(), AllocError>
-        requires { place < length self.old.draft_nodes }
+    // Leaves a node: adds its index and marks it.
+    fn leave(&mut self, index: usize) -> Result<(), AllocError>
+        requires { index < length self.old.draft_nodes }
         ensures same { self.new.draft_nodes ≡ self.old.draft_nodes }
-        ensures left { IfOk result (λ _. self.new.left ≡ place ∷ self.old.left) }
+        ensures left { IfOk result (λ _. self.new.left ≡ index ∷ self.old.left) }
     {
         let before = self.order.len();
-        self.order.push(place)?;
-        self.marks[place] = Some(before);
+        self.order.push(index)?;
+        self.marks[index] = Some(before);
         Ok(())
     }
 
     // Whether the walk left a node.
-    fn is_left(&self, place: usize) -> bool
-        requires { place < length self.now.draft_nodes }
-        ensures marked { result ≡ is_some (mark_of place self.now.left) }
+    fn is_left(&self, index: usize) -> bool
+        requires { index < length self.now.draft_nodes }
+        ensures marked { result ≡ is_some (mark_of index self.now.left) }
         ensures kept { AreKept self.now.draft_nodes }
     {
-        self.marks[place].is_some()
+        self.marks[index].is_some()
     }
 
-    // The place of the node with a number.
-    fn place_numbered(&self, number: usize) -> usize
+    // The index of the node with a number.
+    fn index_numbered(&self, number: usize) -> usize
         requires { number < length self.now.left }
-        ensures place { slice_get self.now.left number ≡ Some result }
+        ensures index { slice_get self.now.left number ≡ Some result }
         ensures kept { result < length self.now.draft_nodes }
     {
         self.order[self.order.len() - 1 - number]
@@ -170,8 +170,8 @@ impl<'a, A: Allocator + Copy> Numbering<'a, A> {
         ensures { result ≡ map (next_for self.now.left) draft_places.now }
     {
         let mut nexts = [Next::End; 14];
-        for place in 0..14 {
-            nexts[place] = self.next_of(draft_places[place]);
+        for index in 0..14 {
+            nexts[index] = self.next_of(draft_places[index]);
         }
         nexts
     }
@@ -182,10 +182,10 @@ impl<'a, A: Allocator + Copy> Numbering<'a, A> {
         requires earlier { IsEarlier (length self.now.draft_nodes) draft_place }
         ensures { result ≡ next_for self.now.left draft_place }
     {
-        let DraftPlace::At(place) = draft_place else {
+        let DraftPlace::At(index) = draft_place else {
             return Next::End;
         };
-        match self.marks[place] {
+        match self.marks[index] {
             Some(mark) => Next::To(self.order.len().saturating_sub(1).saturating_sub(mark) as u16),
             None => Next::End,
         }

@@ -1,7 +1,8 @@
 //! A plan to try: a sure one if there is one, otherwise one that few deals beat.
-ghost use Rattle.std.specs.Prelude.{◌≡◌, ◌⊎◌, IfOk, IsErr, Err, Some, IsTrue, IsFalse};
+ghost use Rattle.std.specs.Prelude.{◌≡◌, ◌≢◌, IfOk, IsErr, Err, Some, IsTrue, IsFalse};
 ghost use Rattle.crib_sure.specs.Sure.{IsSure};
 ghost use Rattle.crib_search.specs.Finder.{ExceedsLimit, IsFound};
+ghost use Rattle.crib_search.specs.Tried.{IsNeverStuck};
 ghost use Rattle.crib_search.specs.Winnable.{IsWinnable};
 
 mod greedy;
@@ -9,7 +10,8 @@ mod trials;
 
 use crate::finder::{Found, SearchFault, find, plan_from};
 use crate::nodes::Nodes;
-use crate::tries::greedy::make_plan;
+use crate::tries::greedy::{lowest_first, make_plan};
+use crib_know::Know;
 use crib_plan::Plan;
 use crib_problem::Problem;
 use std::alloc::{Allocator, Global};
@@ -25,9 +27,10 @@ pub struct Tried<A: Allocator = Global> {
 
 /// Returns the plan of [`find`], or, if no plan is sure, a plan that few deals beat.
 ///
-/// How few is not stated by the contract. It fails with [`SearchFault::TooLarge`] if the plan has more than 65,535
-/// nodes. It fails with [`SearchFault::NoMemory`] if an allocation fails, except one for the table of answers: if that
-/// fails, the search is slower.
+/// How few is not stated by the contract. But the plan is never stuck: wherever the owner has to choose a card, it
+/// states one that they hold and that fits. It fails with [`SearchFault::TooLarge`] if the plan of [`find`] has more
+/// than 65,535 nodes. It fails with [`SearchFault::NoMemory`] if an allocation fails, except one for the table of
+/// answers: if that fails, the search is slower.
 pub fn try_plan<A: Allocator + Copy>(alloc: A, problem: &Problem) -> Result<Tried<A>, SearchFault>
     // A plan that is said to be sure is sure, and it is the plan of `find`.
     ensures sure { IfOk result (λ tried. IsTrue tried.is_sure → IsSure problem.now tried.plan) }
@@ -36,11 +39,12 @@ pub fn try_plan<A: Allocator + Copy>(alloc: A, problem: &Problem) -> Result<Trie
     // If the plan is said not to be sure, no plan is.
     ensures unsure { IfOk result (λ tried. IsFalse tried.is_sure → ¬ IsWinnable problem.now) }
 
-    // If the plan of `find` has more nodes than 65,535, the call fails. Otherwise `TooLarge` is returned only if no
-    // plan is sure.
+    // The plan is never stuck.
+    ensures stated { IfOk result (λ tried. IsNeverStuck problem.now tried.plan) }
+
+    // If the plan of `find` has more nodes than 65,535, the call fails. `TooLarge` is returned only then.
     ensures large { ExceedsLimit problem.now 65535 → IsErr result }
-    ensures too_large { result ≡ Err SearchFault.TooLarge
-        → ExceedsLimit problem.now 65535 ⊎ (¬ IsWinnable problem.now) }
+    ensures too_large { result ≡ Err SearchFault.TooLarge → ExceedsLimit problem.now 65535 }
 {
     match find(alloc, problem)? {
         Found::Plan(plan) => Ok(Tried {
@@ -54,10 +58,28 @@ pub fn try_plan<A: Allocator + Copy>(alloc: A, problem: &Problem) -> Result<Trie
     }
 }
 
-// A plan that few deals beat.
-fn greedy_plan<A: Allocator + Copy>(alloc: A, problem: &Problem) -> Result<Plan<A>, SearchFault> {
+// A plan that few deals beat. If it has too many nodes, it is the one that plays the lowest card first.
+fn greedy_plan<A: Allocator + Copy>(alloc: A, problem: &Problem) -> Result<Plan<A>, SearchFault>
+    ensures stated { IfOk result (IsNeverStuck problem.now) }
+    ensures fits { result ≢ Err SearchFault.TooLarge }
+{
+    let Ok((nodes, first)) = make_plan(alloc, problem) else {
+        return Err(SearchFault::NoMemory);
+    };
+    match plan_from(alloc, &nodes, first, 65_535) {
+        Ok(plan) => Ok(plan),
+        Err(SearchFault::TooLarge) => lowest_plan(alloc, problem),
+        Err(SearchFault::NoMemory) => Err(SearchFault::NoMemory),
+    }
+}
+
+// The plan that plays the lowest card first.
+fn lowest_plan<A: Allocator + Copy>(alloc: A, problem: &Problem) -> Result<Plan<A>, SearchFault>
+    ensures stated { IfOk result (IsNeverStuck problem.now) }
+    ensures fits { result ≢ Err SearchFault.TooLarge }
+{
     let mut nodes = Nodes::new(alloc);
-    let Ok(first) = make_plan(alloc, problem, &mut nodes) else {
+    let Ok(first) = lowest_first(&mut nodes, Know::start(problem).own_left()) else {
         return Err(SearchFault::NoMemory);
     };
     plan_from(alloc, &nodes, first, 65_535)

@@ -1,8 +1,9 @@
 -- Worked examples of what the figures of the deals that beat a plan guarantee.
-use Rattle.std.proofs.Common.{◌≡◌, ℕ, List, Ok, Err, codes, refl}
+use Rattle.std.proofs.Common.{◌≡◌, ℕ, List, Ok, Err, IsOk, codes, refl}
 use Rattle.std.specs.Fmt.{digits}
 use Rattle.crib_problem.specs.Setup.{Setup}
 use Rattle.crib_plan.specs.declared.plan.Node.{Node}
+use Rattle.crib_input.specs.Memory.{count_of_input}
 use Rattle.crib_beaten.specs.Tally.{AreFigures}
 use Rattle.crib_beaten.specs.declared.tally.RanksTally.{RanksTally}
 use Rattle.crib_run.specs.declared.status.Status.TheVariants.{Yes, No, Refused}
@@ -11,7 +12,7 @@ use Rattle.crib_answer.specs.Meaning.{HasSurePlan}
 use Rattle.crib_sheet.specs.Beaten.{beaten_reply, beaten_text}
 use Rattle.crib_sheet.specs.Meaning.{BeatenMeans, HasUnsurePlan, SaysHowMany, SheetMeans}
 use Rattle.crib_sheet.specs.Sheet.{AnswersBeaten, SheetAsksForMemory}
-use Rattle.crib_sheet.specs.declared.answer.job.SheetJob.TheVariants.{Plan, Beaten}
+use Rattle.crib_sheet.specs.declared.answer.job.SheetJob.TheVariants.{Beaten}
 
 -- ---- right replies
 figures_are_right_and_written : (problem : Setup) (plan : List Node) (reply : Reply) →
@@ -29,9 +30,9 @@ unfolding digits
 refused_plan_has_no_tally reply is = is
 
 -- ---- what each status guarantees
--- the first row: `beaten` reads what `plan` reads
+-- the first row: `beaten` may ask for memory once the number of nodes is read
 what_beaten_means : (input text : List ℕ) →
-    (SheetAsksForMemory Beaten input ≡ SheetAsksForMemory Plan input)
+    (SheetAsksForMemory Beaten input ≡ IsOk (count_of_input input))
     × (BeatenMeans input text Yes ≡ ((sure : HasSurePlan input) × SaysHowMany sure.problem sure.plan text))
     × (BeatenMeans input text No ≡ ((unsure : HasUnsurePlan input) × SaysHowMany unsure.problem unsure.plan text))
     × (SheetMeans Beaten input (record { output = text; status = No }) ≡ BeatenMeans input text No)

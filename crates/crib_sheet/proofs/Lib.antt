@@ -1,10 +1,15 @@
 mod BeatenExamples
-mod LossExamples
 mod MeaningExamples
+mod PlanBeatenExamples
 mod PlanHeadExamples
+mod RefuteExamples
 mod SheetExamples
 mod TallyExamples
 mod TryExamples
-pub mod LossLines
+pub mod AskedInputs
+pub mod SuitsTexts
+pub mod GameSections
 pub mod MadeSheets
+pub mod PlanBeatenLines
+pub mod RowColumns
 pub mod SheetMeanings

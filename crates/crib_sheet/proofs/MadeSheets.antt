@@ -1,6 +1,7 @@
 -- What the readers and the writers of sheets return is a right reply of the job to the input.
-use Rattle.std.proofs.Common.{◌≡◌, ◌⊎◌, inl, inr, ℕ, zero, suc, Bool, List, Ok, Err, length, refl, ap}
-use Rattle.std.proofs.Common.{true, false, Some, IsTrue, IsFalse}
+use Rattle.std.proofs.Common.{◌≡◌, ◌≤◌, ◌⊎◌, inl, inr, ℕ, zero, suc, Bool, List, Ok, Err, length, refl, ap}
+use Rattle.std.proofs.Common.{true, false, ◌∙◌, Option, Some, None, subst, sym}
+use Rattle.std.specs.Prelude.{MatchResult, Result}
 use Rattle.crib_text.specs.Refusals.{no_memory}
 use Rattle.crib_problem.specs.Setup.{Setup}
 use Rattle.crib_plan.specs.declared.plan.Node.{Node}
@@ -10,46 +11,66 @@ use Rattle.crib_game.specs.Refusals.{game_refusal}
 use Rattle.crib_check.specs.declared.verdict.Verdict.{Verdict}
 use Rattle.crib_check.specs.declared.verdict.Verdict.TheVariants.{Holds, Fails}
 use Rattle.crib_check.specs.Verdicts.{IsRight}
+use Rattle.crib_check.proofs.OneFirstGame.{exact_law}
 use Rattle.crib_input.specs.declared.refusal.Refusal.{Refusal as Refused}
 use Rattle.crib_input.specs.declared.reason.FaultCause.TheVariants.{NoMemory}
+use Rattle.crib_input.specs.declared.reason.Reason.{Reason}
 use Rattle.crib_input.specs.declared.reason.Reason.TheVariants as reasons
 use Rattle.crib_input.specs.Input.{played_of_input, problem_of_input, question_of_input}
 use Rattle.crib_input.specs.Refusals.{refusal_of}
 use Rattle.crib_input.proofs.Inputs.{counted}
-use Rattle.crib_run.specs.Reply.{IsAnswer, Reply, fault_reply, reason_reply, refusal_reply}
+use Rattle.crib_sheet.specs.Asked.{asked_of_input}
+use Rattle.crib_sheet.proofs.AskedInputs.{asked_alone, asked_question}
+use Rattle.crib_run.specs.declared.status.Status.TheVariants.{Yes, No}
+use Rattle.crib_run.specs.Reply.{IsAnswer, IsOutcome, Reply, fault_reply, reason_reply, refusal_reply}
 use Rattle.crib_sheet.specs.declared.answer.job.SheetJob.TheVariants.{Plan, Game as GameJob, Beaten, Try}
+use Rattle.crib_sheet.specs.declared.answer.job.SheetJob.TheVariants.{Refute, Why as WhyJob}
 use Rattle.crib_game.specs.declared.replaying.report.Report.{Report}
 use Rattle.crib_game.specs.Replay.{replay_result}
 use Rattle.crib_game_sheet.specs.GamePlay.{game_reasons}
 use Rattle.crib_game_sheet.specs.GameText.{sheet_of}
-use Rattle.crib_sheet.specs.PlanLosses.{AreLossesOf}
-use Rattle.crib_sheet.specs.declared.verdict.losses.Losses.{Losses}
-use Rattle.crib_plan.specs.Nodes.{ArePlan, most_nodes}
+use Rattle.crib_sheet.specs.PlanBeaten.{AreBeatingOf}
 use Rattle.crib_plan.specs.Spelling.{plan_text}
-use Rattle.crib_search.specs.Finder.{ExceedsLimit, IsFound}
-use Rattle.crib_search.specs.Winnable.{IsWinnable}
 use Rattle.crib_beaten.specs.Tally.{AreFigures}
+use Rattle.crib_beaten.specs.declared.rows.Rows.{Rows}
 use Rattle.crib_beaten.specs.declared.tally.RanksTally.{RanksTally}
 use Rattle.crib_sheet.specs.Beaten.{beaten_reply, beaten_status}
-use Rattle.crib_sheet.specs.Private.Tries.{tried_status}
-use Rattle.crib_sheet.specs.Sheet.{IsToTry, SheetMakes, game_reply, game_sheet_of_input, plan_reply, verdict_status}
+use Rattle.crib_sheet.specs.Private.Tries.{IsTried, IsUntried, tried_status}
+use Rattle.crib_players.specs.Refutations.{Refutes}
+use Rattle.crib_sheet.specs.declared.refutation.InWords.{InWords}
+use Rattle.crib_sheet.specs.Refute.{refute_reply, rows_text, suits_sentences, sure_sentence, words_reply}
+use Rattle.crib_why.specs.Answer.{AreBySuit, HasFewGames, IsRightWhy, SomeIsSure}
+use Rattle.crib_search.specs.Winnable.{IsWinnable}
+use Rattle.crib_why.specs.declared.why.Why.{Why}
+use Rattle.crib_why.specs.declared.why.Why.TheVariants as why
+use Rattle.crib_sheet.specs.Sheet.{AnswersWithPlan, IsSheetOf, IsToTry, SheetMakes, game_reply, game_sheet_of_input, plan_reply, verdict_status}
 
 -- ---- a plan
-
-pub plan_without_memory : (input : List ℕ) (question : Setup × List Node) → question_of_input input ≡ Ok question
-    → SheetMakes Plan input (reason_reply (reasons.Fault NoMemory))
-plan_without_memory input question asked = inr (counted input question asked, refl)
 
 pub plan_answers : (verdict : Verdict) → IsAnswer (verdict_status verdict)
 plan_answers Holds = inl refl
 plan_answers (Fails result game) = inr refl
 
-pub plan_made : (input : List ℕ) (question : Setup × List Node) (verdict : Verdict) (losses : Losses) (apart : ℕ → Bool) (reply : Reply)
-    → question_of_input input ≡ Ok question → IsRight question.0 question.1 verdict → AreLossesOf question.0 question.1 verdict losses
-    → reply ≡ plan_reply question.0 question.1 verdict losses apart
+pub sheet_made : (problem : Setup) (plan : List Node) (verdict : Verdict) (open_deals beaten : ℕ) (hands : Option Rows) (apart : ℕ → Bool) (reply : Reply)
+    → IsRight problem plan verdict → AreBeatingOf problem plan verdict open_deals beaten hands
+    → reply ≡ plan_reply problem plan verdict open_deals beaten hands apart → IsSheetOf problem plan reply ⊎ (reply ≡ fault_reply no_memory)
+sheet_made problem plan verdict open_deals beaten hands apart reply right figures is =
+    inl (verdict, open_deals, beaten, hands, apart, right, figures, is)
+
+-- the sheet of a plan that is spelled
+pub typed_made : (input : List ℕ) (problem : Setup) (behind : Option (List Node)) (plan : List Node) (reply : Reply)
+    → asked_of_input input ≡ Ok (problem, behind) → behind ≡ Some plan → IsSheetOf problem plan reply ⊎ (reply ≡ fault_reply no_memory)
     → SheetMakes Plan input reply
-plan_made input question verdict losses apart reply asked right figures is =
-    inl (rw asked (verdict, losses, apart, right, figures, is))
+typed_made input problem behind plan reply asked same (inl is) = inl (rw (asked, same) is)
+typed_made input problem behind plan reply asked same (inr want) =
+    inr (inl (counted input (problem, plan) (asked_question input problem plan (asked ∙ ap (λ (b : Option (List Node)). Ok (problem, b)) same))), want)
+
+-- the sheet of a plan to try
+pub found_made : (input : List ℕ) (problem : Setup) (behind : Option (List Node)) (reply : Reply) → asked_of_input input ≡ Ok (problem, behind)
+    → behind ≡ None → AnswersWithPlan problem (IsSheetOf problem) reply ⊎ (reply ≡ fault_reply no_memory) → SheetMakes Plan input reply
+found_made input problem behind reply asked same (inl is) = inl (rw (asked, same) is)
+found_made input problem behind reply asked same (inr want) =
+    inr (inr (rw (asked_alone input problem (asked ∙ ap (λ (b : Option (List Node)). Ok (problem, b)) same)) refl), want)
 
 -- ---- a game
 
@@ -88,20 +109,86 @@ beaten_made input question open_deals beaten rows asked right =
 
 -- ---- a plan to try
 
--- what is known of a plan to try
-pub record IsTried (problem : Setup) (plan : List Node) (sure : Bool) : Type 0 where
-  pub valid : ArePlan plan
-  pub found : IsTrue sure → IsFound problem (Some plan)
-  pub none : IsFalse sure → ¬ IsWinnable problem
-  pub small : ¬ ExceedsLimit problem most_nodes
-
 to_try : (problem : Setup) (plan : List Node) (sure : Bool) → IsTried problem plan sure
-    → IsToTry problem (record { output = plan_text plan; status = tried_status sure })
-to_try problem plan true tried = (plan, inl (tried.found refl, tried.small, refl))
-to_try problem plan false tried = (plan, inr (tried.none refl, tried.valid, refl))
+    → IsToTry problem plan (tried_status sure)
+to_try problem plan true tried = inl (refl, tried.found refl, tried.small)
+to_try problem plan false tried = inr (refl, tried.none refl, tried.valid, tried.stated)
 
 pub try_made : (input : List ℕ) (problem : Setup) (plan : List Node) (sure : Bool) (reply : Reply) → problem_of_input input ≡ Ok problem
     → IsTried problem plan sure
     → (reply ≡ record { output = plan_text plan; status = tried_status sure }) ⊎ (reply ≡ fault_reply no_memory) → SheetMakes Try input reply
-try_made input problem plan sure reply asked tried (inl is) = inl (rw (asked, is) (inl (to_try problem plan sure tried)))
+try_made input problem plan sure reply asked tried (inl is) = inl (rw (asked, is) (inl (plan, to_try problem plan sure tried, refl)))
 try_made input problem plan sure reply asked tried (inr want) = inr (rw asked refl, want)
+
+pub untried_sheet : (problem : Setup) (answers : List Node → Reply → Type 0) (reason : Reason) → IsUntried problem reason
+    → AnswersWithPlan problem answers (reason_reply reason) ⊎ (reason_reply reason ≡ fault_reply no_memory)
+untried_sheet problem answers reason (inl want) = inr (rw want refl)
+untried_sheet problem answers reason (inr large) = inl (inr (large.1, rw large.0 refl))
+
+pub try_unmade : (input : List ℕ) (problem : Setup) (reason : Reason) → problem_of_input input ≡ Ok problem → IsUntried problem reason
+    → SheetMakes Try input (reason_reply reason)
+try_unmade input problem reason asked (inl want) = inr (rw asked refl, rw want refl)
+try_unmade input problem reason asked (inr large) = inl (rw asked (inr (large.1, rw large.0 refl)))
+
+-- the sheet of a plan to try has its status
+sheet_status : (problem : Setup) (plan : List Node) (sure : Bool) (verdict : Verdict) → IsTried problem plan sure → IsRight problem plan verdict
+    → verdict_status verdict ≡ tried_status sure
+sheet_status problem plan true Holds tried right = refl
+sheet_status problem plan true (Fails result game) tried right =
+    let holds : Fails result game ≡ Holds = (exact_law problem plan (Fails result game) right).1 (tried.holds refl) in
+    absurd cc
+sheet_status problem plan false Holds tried right = absurd (tried.none refl (record { plan = plan; sure = right }))
+sheet_status problem plan false (Fails result game) tried right = refl
+
+pub tried_sheet : (problem : Setup) (plan : List Node) (sure : Bool) (reply : Reply) → IsTried problem plan sure
+    → IsSheetOf problem plan reply ⊎ (reply ≡ fault_reply no_memory)
+    → AnswersWithPlan problem (IsSheetOf problem) reply ⊎ (reply ≡ fault_reply no_memory)
+tried_sheet problem plan sure reply tried (inl sheet) =
+    let status = ap (λ (r : Reply). r.status) sheet.7 ∙ sheet_status problem plan sure sheet.0 tried sheet.5 in
+    inl (inl (plan, subst (IsToTry problem plan) (sym status) (to_try problem plan sure tried), sheet))
+tried_sheet problem plan sure reply tried (inr want) = inr want
+
+-- ---- why no plan is sure
+
+pub why_without_memory : (input : List ℕ) (problem : Setup) → problem_of_input input ≡ Ok problem
+    → SheetMakes Refute input (reason_reply (reasons.Fault NoMemory))
+why_without_memory input problem asked = inr (rw asked refl, refl)
+
+pub words_without_memory : (input : List ℕ) (problem : Setup) → problem_of_input input ≡ Ok problem
+    → SheetMakes WhyJob input (reason_reply (reasons.Fault NoMemory))
+words_without_memory input problem asked = inr (rw asked refl, refl)
+
+pub why_answers : {A : Type 0} (answer : Why A) → IsAnswer (refute_reply answer).status
+why_answers why.Sure = inl refl
+why_answers (why.Refuted games) = inr refl
+why_answers (why.BySuits ranks) = inr refl
+
+pub why_made : {A : Type 0} (input : List ℕ) (problem : Setup) (answer : Why A) → problem_of_input input ≡ Ok problem → IsRightWhy problem answer
+    → HasFewGames answer → SheetMakes Refute input (refute_reply answer)
+why_made input problem why.Sure asked right few = inl (rw asked (inl (right, refl)))
+why_made input problem (why.Refuted games) asked right few = inl (rw asked (inr (inl (games.items, right, few, refl))))
+why_made input problem (why.BySuits ranks) asked right few = inl (rw asked (inr (inr (ranks.items, right.0, right.1, right.2, refl))))
+
+pub why_outcome : {A : Type 0} (input : List ℕ) (problem : Setup) (result : Result (Why A) Reason) → problem_of_input input ≡ Ok problem
+    → MatchResult result (λ why. IsRightWhy problem why × HasFewGames why) (λ reason. reason ≡ reasons.Fault NoMemory)
+    → IsOutcome refute_reply (SheetMakes Refute input) result
+why_outcome input problem (Ok answer) asked both = (why_answers answer, why_made input problem answer asked both.0 both.1)
+why_outcome input problem (Err reason) asked is = rw is (why_without_memory input problem asked)
+
+-- the same in words, for each of the three answers
+pub sure_in_words : (input : List ℕ) (problem : Setup) → problem_of_input input ≡ Ok problem → IsWinnable problem
+    → SheetMakes WhyJob input (record { output = sure_sentence; status = Yes })
+sure_in_words input problem asked winnable = inl (rw asked (inl (winnable, refl)))
+
+pub refuted_in_words : {A : Type 0} (input : List ℕ) (problem : Setup) (games : List Game) (result : Result (InWords A) Reason)
+    → problem_of_input input ≡ Ok problem → Refutes problem games → length games ≤ 24
+    → MatchResult result (λ words. words_reply words ≡ record { output = rows_text problem games; status = No }) (λ reason. reason ≡ reasons.Fault NoMemory)
+    → IsOutcome words_reply (SheetMakes WhyJob input) result
+refuted_in_words input problem games (Ok words) asked refutes few is =
+    (inr (ap (λ (r : Reply). r.status) is), inl (rw asked (inr (inl (games, refutes, few, is)))))
+refuted_in_words input problem games (Err reason) asked refutes few is = rw is (words_without_memory input problem asked)
+
+pub suits_in_words : (input : List ℕ) (problem : Setup) (ranks : List ℕ) → problem_of_input input ≡ Ok problem
+    → ¬ IsWinnable problem → SomeIsSure problem → AreBySuit problem ranks
+    → SheetMakes WhyJob input (record { output = suits_sentences ranks; status = No })
+suits_in_words input problem ranks asked none some right = inl (rw asked (inr (inr (ranks, none, some, right, refl))))

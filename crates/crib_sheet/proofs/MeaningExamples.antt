@@ -1,5 +1,5 @@
 -- Worked examples of right replies and of what they guarantee, clause by clause.
-use Rattle.std.proofs.Common.{◌≡◌, ◌⊎◌, refl, ap, inl, inr, ℕ, true, false, Bool, List, [], ◌++◌, codes, Ok, Err}
+use Rattle.std.proofs.Common.{◌≡◌, ◌⊎◌, refl, ap, inl, inr, ℕ, true, false, Bool, List, [], ◌++◌, codes, get_or, Option, Some, None, Ok, Err}
 use Rattle.std.proofs.lemmas.Bool.{both_ways}
 use Rattle.std.specs.Fmt.{digits}
 use Rattle.crib_text.specs.Refusals.{Refusal}
@@ -9,25 +9,27 @@ use Rattle.crib_game.specs.declared.section.game.Game.{Game}
 use Rattle.crib_game.specs.declared.following.ending.Ending.TheVariants.{Short}
 use Rattle.crib_check.specs.declared.verdict.Verdict.{Verdict}
 use Rattle.crib_check.specs.declared.verdict.Verdict.TheVariants.{Holds, Fails}
-use Rattle.crib_sure.specs.Sure.{IsSure}
+use Rattle.crib_sure.specs.Sure.{Ends, GoesOn, IsSure}
+use Rattle.crib_search.specs.Tried.{IsNeverStuck}
+use Rattle.crib_search.specs.Winnable.{IsWinnable}
+use Rattle.crib_plan.specs.Nodes.{ArePlan}
 use Rattle.crib_check.specs.Verdicts.{IsRight}
-use Rattle.crib_input.specs.Spelled.{SpellsGame, SpellsPlan}
-use Rattle.crib_input.proofs.InputReaders.{read_count, read_played, read_question, refused}
+use Rattle.crib_input.specs.Spelled.{SpellsGame, SpellsPlan, SpellsProblem}
+use Rattle.crib_input.proofs.InputReaders.{read_count, read_played, read_problem, read_question, refused}
 use Rattle.crib_run.specs.declared.status.Status.TheVariants.{Yes, No, Refused, Fault}
 use Rattle.crib_run.specs.Reply.{Reply}
 use Rattle.crib_answer.specs.Input.{report_of_input}
-use Rattle.crib_answer.specs.Meaning.{HasSurePlan}
 use Rattle.crib_game_sheet.specs.GameText.{game_sheet_text}
-use Rattle.crib_sheet.specs.PlanHead.{failing_text, sure_text}
-use Rattle.crib_sheet.specs.PlanLosses.{AreLosses, AreLossesOf, losses_text}
-use Rattle.crib_sheet.specs.declared.verdict.losses.Losses.{Losses}
+use Rattle.crib_sheet.specs.Asked.{asked_of_input, plan_or_none}
+use Rattle.crib_sheet.specs.PlanHead.{failing_text, position_text, sure_text}
+use Rattle.crib_sheet.specs.PlanBeaten.{AreBeating, AreBeatingOf, beating_text}
+use Rattle.crib_beaten.specs.declared.rows.Rows.{Rows}
 use Rattle.crib_plan_sheet.specs.PlanPage.{page_text}
 use Rattle.crib_plan_sheet.specs.PlanPlay.{ReachesGoal}
-use Rattle.crib_plan_sheet.specs.PlanSheet.{Over, Sheet, sheet_with}
-use Rattle.crib_plan_sheet.specs.PlanTextLaws.{IsSheet}
+use Rattle.crib_plan_sheet.specs.PlanSheet.{Over, sheet_with}
 use Rattle.crib_sheet.specs.declared.answer.job.SheetJob.TheVariants.{Plan, Game as GameJob}
-use Rattle.crib_sheet.specs.Meaning.{GameMeans, HasGameSheet, HasSureSheet, HasUnsurePlan, HasUnsureSheet, IsRefusedByReplay, PlanMeans, SheetMeans}
-use Rattle.crib_sheet.specs.Sheet.{AnswersPlan, SheetAnswers, SheetAsksForMemory, SheetMakes, game_sheet_of_input, plan_reply}
+use Rattle.crib_sheet.specs.Meaning.{AsksAbout, GameMeans, HasGameSheet, HasSureSheet, HasUnsurePlan, HasUnsureSheet, IsRefusedByReplay, PlanMeans, SheetMeans}
+use Rattle.crib_sheet.specs.Sheet.{AnswersPlan, AnswersWithPlan, IsSheetOf, SheetAnswers, SheetAsksForMemory, SheetMakes, game_sheet_of_input, plan_reply}
 
 -- ---- the sections: a problem of seven lines, the beginning of a plan, and a game with a card that isn't held
 abbrev problem_section : List ℕ
@@ -53,40 +55,71 @@ refused_sections :
 unfolding read_played read_question game_sheet_of_input digits
 refused_sections = (refl, refl, refl)
 
+-- a problem alone is read; with a line after it that begins no plan, it is refused
+what_is_read : (problem : Setup) (plan : List Node) (refusal other : Refusal) →
+    (plan_or_none (Ok problem) (Err refusal) ≡ Ok (problem, None))
+    × (plan_or_none (Err refusal) (Ok (problem, plan)) ≡ Ok (problem, Some plan))
+    × (plan_or_none (Err refusal) (Err other) ≡ Err other)
+    × (asked_of_input [] ≡ refused 1 3)
+    × (asked_of_input with_a_bad_node ≡ refused 10 4)
+unfolding read_question
+what_is_read problem plan refusal other = (refl, refl, refl, refl, refl)
+
+a_problem_alone_is_read : asked_of_input problem_section ≡ refused 8 3 → ⊥
+unfolding read_question
+a_problem_alone_is_read e = absurd cc
+
 -- the verdict and the figures are right, and the reply is what is written of them
 reply_of_a_plan : (problem : Setup) (plan : List Node) (reply : Reply) →
-    ((verdict : Verdict) (losses : Losses) (apart : ℕ → Bool) → IsRight problem plan verdict → AreLossesOf problem plan verdict losses →
-    reply ≡ plan_reply problem plan verdict losses apart → ⊥) →
-    AnswersPlan (Ok (problem, plan)) reply → ⊥
-reply_of_a_plan problem plan reply none answers = none answers.0 answers.1 answers.2 answers.3 answers.4 answers.5
+    ((verdict : Verdict) (open_deals beaten : ℕ) (hands : Option Rows) (apart : ℕ → Bool) → IsRight problem plan verdict →
+    AreBeatingOf problem plan verdict open_deals beaten hands → reply ≡ plan_reply problem plan verdict open_deals beaten hands apart → ⊥) →
+    AnswersPlan (Ok (problem, Some plan)) reply → ⊥
+reply_of_a_plan problem plan reply none answers =
+    none answers.0 answers.1 answers.2 answers.3 answers.4 answers.5 answers.6 answers.7
 
-sure_plan_is_written : (problem : Setup) (plan : List Node) (losses : Losses) (apart : ℕ → Bool) → IsSure problem plan →
-    AnswersPlan (Ok (problem, plan)) (plan_reply problem plan Holds losses apart)
-sure_plan_is_written problem plan losses apart sure = (Holds, losses, apart, sure, tt, refl)
+verdict_of_a_plan : (problem : Setup) (plan : List Node) (reply : Reply) (answers : AnswersPlan (Ok (problem, Some plan)) reply) →
+    IsRight problem plan answers.0
+verdict_of_a_plan problem plan reply answers = answers.5
 
-replies_of_verdicts : (problem : Setup) (plan : List Node) (game : Game) (losses : Losses) (apart : ℕ → Bool) →
-    (plan_reply problem [] Holds losses apart
+reply_of_a_problem : (problem : Setup) (reply : Reply) → AnswersPlan (Ok (problem, None)) reply ≡ AnswersWithPlan problem (IsSheetOf problem) reply
+reply_of_a_problem problem reply = refl
+
+sure_plan_is_written : (problem : Setup) (plan : List Node) (open_deals beaten : ℕ) (hands : Option Rows) (apart : ℕ → Bool) → IsSure problem plan →
+    AnswersPlan (Ok (problem, Some plan)) (plan_reply problem plan Holds open_deals beaten hands apart)
+sure_plan_is_written problem plan open_deals beaten hands apart sure = (Holds, open_deals, beaten, hands, apart, sure, tt, refl)
+
+replies_of_verdicts : (problem : Setup) (plan : List Node) (game : Game) (open_deals beaten : ℕ) (hands : Option Rows) (apart : ℕ → Bool) →
+    (plan_reply problem [] Holds open_deals beaten hands apart
     ≡ record { output = sure_text problem ++ page_text true (record { first = Over; paragraphs = [] }); status = Yes })
-    × (plan_reply problem plan (Fails Short game) losses apart
-    ≡ record { output = (losses_text losses ++ failing_text problem plan Short game) ++ page_text false (sheet_with apart plan); status = No })
+    × (plan_reply problem plan (Fails Short game) open_deals beaten hands apart
+    ≡ record {
+      output = (position_text problem ++ beating_text open_deals beaten hands ++ failing_text problem plan Short game)
+          ++ page_text false (sheet_with apart plan);
+      status = No;
+    })
 unfolding sheet_with
-replies_of_verdicts problem plan game losses apart = (refl, refl)
+replies_of_verdicts problem plan game open_deals beaten hands apart = (refl, refl)
 
 refused_plan_is_written : (reply : Reply) → AnswersPlan (Err (record { line = 3; number = 21 })) reply → reply ≡ refused_reply (codes "refused line 3: 21\n")
 unfolding digits
 refused_plan_is_written reply is = is
 
--- ---- memory: `plan` may ask for it once the number of nodes is read, and `game` never
+-- ---- memory: `plan` may ask for it once the number of nodes is read, or the problem alone, and `game` never
 plan_asks_for_memory :
     SheetAsksForMemory Plan with_a_bad_node
     × SheetMakes Plan with_a_bad_node fault_11
     × SheetMakes Plan with_a_bad_node (refused_reply (codes "refused line 10: 4\n"))
 unfolding read_count read_question digits
-plan_asks_for_memory = (refl, inr (refl, refl), inl refl)
+plan_asks_for_memory = (inl refl, inr (inl refl, refl), inl refl)
 
-never_asks : (input : List ℕ) → SheetAsksForMemory Plan problem_section ⊎ SheetAsksForMemory GameJob input → ⊥
+problem_asks_for_memory : SheetAsksForMemory Plan problem_section
+unfolding read_problem
+problem_asks_for_memory = inr refl
+
+never_asks : (input : List ℕ) → SheetAsksForMemory Plan (problem_section ++ codes "plan 1\n") ⊎ SheetAsksForMemory GameJob input → ⊥
 unfolding read_count
-never_asks input (inl asks) = absurd (both_ways false refl asks)
+never_asks input (inl (inl asks)) = absurd (both_ways false refl asks)
+never_asks input (inl (inr asks)) = absurd (both_ways false refl asks)
 never_asks input (inr asks) = asks
 
 game_never_runs_out_of_memory : SheetMakes GameJob with_a_bad_game fault_11 → ⊥
@@ -99,21 +132,32 @@ fault_is_written : SheetMakes Plan with_a_bad_node (record { output = []; status
 fault_is_written (inl right) = right
 fault_is_written (inr memory) = (let text = ap (λ (reply : Reply). reply.output) memory.1 in absurd cc)
 
--- ---- a sheet of a sure plan is valid and printed, and reaches the goal
-sure_sheet : (input text : List ℕ) →
-    ((sure : HasSurePlan input) (sheet : Sheet) → IsSheet sheet → text ≡ sure_text sure.problem ++ page_text true sheet → ReachesGoal sure.problem sheet → ⊥) →
-    HasSureSheet input text → ⊥
-sure_sheet input text none has = none has.sure has.sheet has.valid has.printed has.reaches
+-- ---- a plan is spelled behind the problem, or it is any plan of a problem alone
+asked_about : (input : List ℕ) (problem : Setup) (plan : List Node) →
+    AsksAbout input problem plan ≡ (SpellsPlan input problem plan ⊎ (SpellsProblem input problem × ArePlan plan))
+asked_about input problem plan = refl
 
--- ---- a plan that is not sure, with right figures that are printed, and the sheet of a game
+-- ---- the sheet of a sure plan is printed, and reaches the goal
+sure_sheet : (input text : List ℕ) →
+    ((problem : Setup) (plan : List Node) (apart : ℕ → Bool) → AsksAbout input problem plan → IsSure problem plan → GoesOn problem plan → Ends problem →
+    text ≡ sure_text problem ++ page_text true (sheet_with apart plan) → ReachesGoal problem (sheet_with apart plan) → ⊥) →
+    HasSureSheet input text → ⊥
+sure_sheet input text none has = none has.problem has.plan has.apart has.asked has.sure has.goes_on has.ends has.printed has.reaches
+
+-- ---- a plan that is not sure, with right figures and a sheet that are printed, and the sheet of a game
 unsure_plan : (input : List ℕ) → ((problem : Setup) (plan : List Node) → SpellsPlan input problem plan → (IsSure problem plan → ⊥) → ⊥) →
     HasUnsurePlan input → ⊥
 unsure_plan input none has = none has.problem has.plan has.spelled has.unsure
 
 unsure_sheet : (input text : List ℕ) →
-    ((unsure : HasUnsurePlan input) (losses : Losses) (rest : List ℕ) → AreLosses unsure.problem unsure.plan losses → text ≡ losses_text losses ++ rest → ⊥) →
+    ((problem : Setup) (plan : List Node) (open_deals beaten : ℕ) (hands : Option Rows) (middle : List ℕ) (apart : ℕ → Bool) →
+    AsksAbout input problem plan →
+    (IsSure problem plan → ⊥) → (SpellsProblem input problem → IsWinnable problem → ⊥) → (SpellsProblem input problem → IsNeverStuck problem plan) →
+    AreBeating problem plan open_deals beaten hands →
+    text ≡ position_text problem ++ beating_text open_deals beaten hands ++ middle ++ page_text false (sheet_with apart plan) → ⊥) →
     HasUnsureSheet input text → ⊥
-unsure_sheet input text none has = none has.unsure has.losses has.rest has.figures has.printed
+unsure_sheet input text none has =
+    none has.problem has.plan has.open_deals has.beaten has.hands has.middle has.apart has.asked has.unsure has.none has.stated has.figures has.printed
 
 sheet_of_a_game : (input text : List ℕ) →
     ((problem : Setup) (game : Game) → SpellsGame input problem game → game_sheet_text problem game ≡ Ok text → ⊥) → HasGameSheet input text → ⊥
@@ -130,7 +174,8 @@ line_of_replay input is = (let text = is.line in cc)
 what_statuses_mean : (input text : List ℕ) →
     (PlanMeans input text Yes ≡ HasSureSheet input text)
     × (PlanMeans input text No ≡ HasUnsureSheet input text)
-    × (PlanMeans input text Refused ≡ ((problem : Setup) (plan : List Node) → SpellsPlan input problem plan → ⊥))
+    × (PlanMeans input text Refused
+    ≡ ((problem : Setup) → (SpellsProblem input problem → ⊥) × ((plan : List Node) → SpellsPlan input problem plan → ⊥)))
     × (GameMeans input text Yes ≡ HasGameSheet input text)
     × (GameMeans input text Refused ≡ IsRefusedByReplay input text)
     × (SheetMeans Plan input (record { output = text; status = Yes }) ≡ PlanMeans input text Yes)
@@ -138,5 +183,20 @@ what_statuses_mean : (input text : List ℕ) →
 what_statuses_mean input text = (refl, refl, refl, refl, refl, refl, refl)
 
 no_fault_without_its_line : (input : List ℕ) → PlanMeans input [] Fault ⊎ GameMeans input [] Fault → ⊥
-no_fault_without_its_line input (inl text) = cc
+no_fault_without_its_line input (inl (inl text)) = cc
+no_fault_without_its_line input (inl (inr text)) = (let e = text.2 in cc)
 no_fault_without_its_line input (inr text) = cc
+
+-- a large plan is a fault only if the input has a problem alone
+faults_of_a_plan : (input : List ℕ) (problem : Setup) → SpellsProblem input problem →
+    PlanMeans input (codes "fault 11\n") Fault × PlanMeans input (codes "fault 50\n") Fault
+unfolding digits
+faults_of_a_plan input problem spelled = (inl refl, inr (problem, spelled, refl))
+
+other : ◌≡◌ {A = ℕ} 53 49 → ⊥
+other digit = absurd cc
+
+no_large_plan_is_typed : (input : List ℕ) → ((problem : Setup) → SpellsProblem input problem → ⊥) → PlanMeans input (codes "fault 50\n") Fault → ⊥
+unfolding digits
+no_large_plan_is_typed input none (inl text) = other (ap (λ (bytes : List ℕ). get_or bytes 6 0) text)
+no_large_plan_is_typed input none (inr large) = none large.0 large.1

@@ -1,9 +1,12 @@
 -- A reply that a job makes has the meaning that `specs/Meaning` states.
-use Rattle.std.proofs.Common.{◌≡◌, inl, inr, ℕ, zero, suc, ◌<◌, Bool, List, length, Result, Ok, Err, Some}
-use Rattle.std.proofs.Common.{refl, sym, ap, ◌∙◌, subst, append_assoc}
+use Rattle.std.proofs.Common.{◌≡◌, inl, inr, ℕ, zero, suc, ◌<◌, ◌≤◌, Bool, List, length, Option, Result, Ok, Err, None, Some}
+use Rattle.std.proofs.Common.{refl, sym, ap, ◌∙◌, subst}
+use Rattle.std.proofs.lemmas.Bool.{cases_lt}
 use Rattle.crib_text.specs.Refusals.{Refusal, no_memory, too_long}
 use Rattle.crib_text.specs.Reading.{◌>>=◌}
-use Rattle.crib_problem.specs.Setup.{Setup}
+use Rattle.crib_problem.specs.Setup.{IsSetup, Setup}
+use Rattle.crib_plan.specs.Nodes.{ArePlan, most_nodes}
+use Rattle.crib_plan.specs.Spelling.{plan_text}
 use Rattle.crib_plan.specs.declared.plan.Node.{Node}
 use Rattle.crib_game.specs.declared.fault.GameFault.{GameFault}
 use Rattle.crib_game.specs.declared.section.game.Game.{Game}
@@ -17,31 +20,39 @@ use Rattle.crib_check.proofs.OneFirstGame.{exact_law}
 use Rattle.crib_check.proofs.VerdictAtStart.{ends, sure_goes_on}
 use Rattle.crib_input.specs.Input.{most_bytes, played_at, played_of_input, problem_alone_at, problem_of_input, question_at, question_of_input}
 use Rattle.crib_input.specs.Spelled.{SpellsPlan, SpellsProblem}
+use Rattle.crib_sheet.specs.Asked.{asked_of_input}
+use Rattle.crib_sheet.proofs.AskedInputs.{asked_alone, asked_not_alone, asked_nothing, asked_question}
 use Rattle.crib_input.proofs.Inputs.{problem_accepted, problem_spelled, question_accepted, question_spelled, read_of_long}
 use Rattle.crib_input.proofs.GameInputs.{played_accepted}
 use Rattle.crib_run.specs.Reply.{Reply, fault_reply, refusal_reply}
+use Rattle.crib_run.specs.declared.status.Status.{Status}
+use Rattle.crib_run.specs.declared.status.Status.TheVariants.{No}
 use Rattle.crib_run.specs.Run.{HaveMeaning}
 use Rattle.crib_answer.specs.Answer.{reply_by}
 use Rattle.crib_answer.specs.Meaning.{HasSurePlan}
 use Rattle.crib_answer.proofs.AnswerMeanings.{found_means}
+use Rattle.crib_search.specs.Tried.{IsNeverStuck}
+use Rattle.crib_search.specs.Winnable.{IsWinnable}
+use Rattle.crib_search.proofs.FoundIsPlan.{found_plan}
+use Rattle.crib_players.proofs.Refuted.{refuted}
 use Rattle.crib_answer.specs.Input.{judgement_of, report_of_input}
 use Rattle.crib_beaten.specs.Tally.{AreFigures}
 use Rattle.crib_beaten.specs.declared.tally.RanksTally.{RanksTally}
 use Rattle.crib_beaten.proofs.TallyLaws.{none_is_sure}
 use Rattle.crib_game_sheet.specs.GameText.{game_sheet_text, sheet_for}
 use Rattle.crib_sheet.specs.PlanHead.{failing_text}
-use Rattle.crib_sheet.specs.PlanLosses.{AreLossesOf, losses_text}
-use Rattle.crib_sheet.specs.declared.verdict.losses.Losses.{Losses}
+use Rattle.crib_sheet.specs.PlanBeaten.{AreBeatingOf}
+use Rattle.crib_beaten.specs.declared.rows.Rows.{Rows}
 use Rattle.crib_sheet.specs.Beaten.{beaten_reply}
-use Rattle.crib_plan_sheet.specs.PlanSheet.{sheet_with}
 use Rattle.crib_plan_sheet.proofs.PlanPlays.{sure_is_reached}
-use Rattle.crib_plan_sheet.proofs.PlanSheetRows.{plans_have_sheets}
 use Rattle.crib_sheet.specs.declared.answer.job.SheetJob.{SheetJob}
-use Rattle.crib_sheet.specs.declared.answer.job.SheetJob.TheVariants.{Plan, Game as GameJob, Beaten, Try}
-use Rattle.crib_sheet.specs.Sheet.{AnswersBeaten, AnswersPlan, AnswersTry, IsToTry, SheetAnswers, SheetMakes, game_reply, game_sheet_of_input, plan_reply}
-use Rattle.crib_sheet.specs.Meaning.{HasUnsurePlan, SheetMeans}
+use Rattle.crib_sheet.specs.declared.answer.job.SheetJob.TheVariants.{Plan, Game as GameJob, Beaten, Try, Refute, Why}
+use Rattle.crib_sheet.specs.Sheet.{AnswersBeaten, AnswersPlan, AnswersTry, IsSheetOf, IsToTry, SheetAnswers, SheetMakes, game_reply, game_sheet_of_input}
+use Rattle.crib_sheet.specs.Sheet.{AnswersWhy, SaysWhy, plan_reply, verdict_status}
+use Rattle.crib_sheet.specs.Refute.{WhyTexts, refute_texts, why_texts}
+use Rattle.crib_sheet.specs.Meaning.{AsksAbout, HasUnsurePlan, SheetMeans, TryMeans, WhyMeans}
 
--- ---- a plan
+-- ---- a problem and a plan
 
 abbrev sure_plan : (input : List ℕ) (problem : Setup) (plan : List Node) → SpellsPlan input problem plan → IsSure problem plan → HasSurePlan input
 sure_plan input problem plan spelled sure =
@@ -57,31 +68,101 @@ no_question input refusal asked problem plan spelled =
     let e : ◌≡◌ {A = Result (Setup × List Node) Refusal} (Ok (problem, plan)) (Err refusal) = sym (question_spelled input problem plan spelled) ∙ asked in
     absurd cc
 
-verdict_means : (input : List ℕ) (problem : Setup) (plan : List Node) (verdict : Verdict) (losses : Losses) (apart : ℕ → Bool) → SpellsPlan input problem plan
-    → IsRight problem plan verdict → AreLossesOf problem plan verdict losses → SheetMeans Plan input (plan_reply problem plan verdict losses apart)
-verdict_means input problem plan Holds losses apart spelled right figures =
-    record {
-      sure = sure_plan input problem plan spelled right;
-      sheet = sheet_with apart plan;
-      valid = plans_have_sheets apart plan spelled.plan_is;
-      printed = refl;
-      reaches = (sure_is_reached apart problem plan spelled.plan_is).0 right;
-    }
-verdict_means input problem plan (Fails result game) losses apart spelled right figures = record {
-  unsure = unsure_plan input problem plan spelled
-      (λ sure. let holds : Fails result game ≡ Holds = (exact_law problem plan (Fails result game) right).1 sure in absurd cc);
-  losses = losses;
+-- ---- a plan to try
+
+-- a plan to try is a plan
+tried_plan : (problem : Setup) (plan : List Node) (status : Status) → IsSetup problem → IsToTry problem plan status → ArePlan plan
+tried_plan problem plan status setup (inl found) =
+    let few : length plan ≤ most_nodes = elim (cases_lt most_nodes (length plan)) [
+      | inl more ↦ absurd (found.2 (plan, found.1, more))
+      | inr few ↦ few
+    ] in
+    found_plan problem plan setup found.1 few
+tried_plan problem plan status setup (inr unsure) = unsure.2
+
+tried_stated : (problem : Setup) (plan : List Node) (status : Status) → IsToTry problem plan status → status ≡ No → IsNeverStuck problem plan
+tried_stated problem plan status (inl found) is = absurd (let e = found.0 in cc)
+tried_stated problem plan status (inr unsure) is = unsure.3
+
+-- if the status is no, no plan is sure
+none_is_sure_if_no : (problem : Setup) (plan : List Node) (status : Status) → IsToTry problem plan status → status ≡ No → ¬ IsWinnable problem
+none_is_sure_if_no problem plan status (inl found) is = absurd (let e = found.0 in cc)
+none_is_sure_if_no problem plan status (inr unsure) is = unsure.1
+
+tried_means : (input : List ℕ) (problem : Setup) (plan : List Node) (reply : Reply) → SpellsProblem input problem → IsToTry problem plan reply.status
+    → reply.output ≡ plan_text plan → TryMeans input reply.output reply.status
+tried_means input problem plan reply spelled (inl found) text = rw (text, found.0) (found_means input problem (Some plan) spelled found.1)
+tried_means input problem plan reply spelled (inr unsure) text =
+    rw (text, unsure.0) (record { problem = problem; spelled = spelled; none = unsure.1 }, (plan, unsure.2, unsure.3, refl))
+
+try_means : (input : List ℕ) (said : Result Setup Refusal) (reply : Reply) → problem_of_input input ≡ said → AnswersTry said reply → SheetMeans Try input reply
+try_means input (Ok problem) reply asked (inl (plan, tried, text)) = tried_means input problem plan reply (problem_accepted input problem asked) tried text
+try_means input (Ok problem) reply asked (inr large) = subst (SheetMeans Try input) (sym large.1) (inr refl)
+try_means input (Err refusal) reply asked is = subst (SheetMeans Try input) (sym is) (λ problem spelled.
+    let e : Ok problem ≡ Err refusal = sym (problem_spelled input problem spelled) ∙ asked in
+    absurd cc)
+
+-- ---- the sheet of a plan
+
+-- an input that asks about a plan spells a problem, and the plan is one
+about_problem : (input : List ℕ) (problem : Setup) (plan : List Node) → AsksAbout input problem plan → IsSetup problem
+about_problem input problem plan (inl spelled) = spelled.problem_is
+about_problem input problem plan (inr alone) = alone.0.problem_is
+
+about_plan : (input : List ℕ) (problem : Setup) (plan : List Node) → AsksAbout input problem plan → ArePlan plan
+about_plan input problem plan (inl spelled) = spelled.plan_is
+about_plan input problem plan (inr alone) = alone.1
+
+verdict_means : (input : List ℕ) (problem : Setup) (plan : List Node) (verdict : Verdict) (open_deals beaten : ℕ) (hands : Option Rows) (apart : ℕ → Bool)
+    → AsksAbout input problem plan
+    → (verdict_status verdict ≡ No → SpellsProblem input problem → (¬ IsWinnable problem) × IsNeverStuck problem plan) → IsRight problem plan verdict
+    → AreBeatingOf problem plan verdict open_deals beaten hands → SheetMeans Plan input (plan_reply problem plan verdict open_deals beaten hands apart)
+verdict_means input problem plan Holds open_deals beaten hands apart asked none right figures = record {
+  problem = problem;
+  plan = plan;
+  asked = asked;
+  sure = right;
+  goes_on = sure_goes_on problem plan right;
+  ends = ends problem (about_problem input problem plan asked);
+  apart = apart;
+  printed = refl;
+  reaches = (sure_is_reached apart problem plan (about_plan input problem plan asked)).0 right;
+}
+verdict_means input problem plan (Fails result game) open_deals beaten hands apart asked none right figures = record {
+  problem = problem;
+  plan = plan;
+  asked = asked;
+  unsure = λ sure. let holds : Fails result game ≡ Holds = (exact_law problem plan (Fails result game) right).1 sure in absurd cc;
+  none = λ spelled. (none refl spelled).0;
+  stated = λ spelled. (none refl spelled).1;
+  open_deals = open_deals;
+  beaten = beaten;
+  hands = hands;
   figures = figures;
-  rest = _;
-  printed = append_assoc (losses_text losses) (failing_text problem plan result game) _;
+  middle = failing_text problem plan result game;
+  apart = apart;
+  printed = refl;
 }
 
-plan_means : (input : List ℕ) (said : Result (Setup × List Node) Refusal) (reply : Reply) → question_of_input input ≡ said → AnswersPlan said reply
+sheet_means : (input : List ℕ) (problem : Setup) (plan : List Node) (reply : Reply) → AsksAbout input problem plan
+    → (reply.status ≡ No → SpellsProblem input problem → (¬ IsWinnable problem) × IsNeverStuck problem plan) → IsSheetOf problem plan reply
     → SheetMeans Plan input reply
-plan_means input (Ok question) reply asked answers =
-    subst (SheetMeans Plan input) (sym answers.5)
-    (verdict_means input question.0 question.1 answers.0 answers.1 answers.2 (question_accepted input question asked) answers.3 answers.4)
-plan_means input (Err refusal) reply asked is = subst (SheetMeans Plan input) (sym is) (no_question input refusal asked)
+sheet_means input problem plan reply asked none (verdict, open_deals, beaten, hands, apart, right, figures, is) =
+    subst (SheetMeans Plan input) (sym is)
+    (verdict_means input problem plan verdict open_deals beaten hands apart asked (λ same. none (ap (λ (r : Reply). r.status) is ∙ same)) right figures)
+
+plan_means : (input : List ℕ) (said : Result (Setup × Option (List Node)) Refusal) (reply : Reply) → asked_of_input input ≡ said → AnswersPlan said reply
+    → SheetMeans Plan input reply
+plan_means input (Ok (problem, Some plan)) reply asked answers =
+    sheet_means input problem plan reply (inl (question_accepted input (problem, plan) (asked_question input problem plan asked)))
+    (λ same alone. absurd (asked_not_alone input problem plan problem asked alone)) answers
+plan_means input (Ok (problem, None)) reply asked (inl (plan, tried, answers)) =
+    let spelled = problem_accepted input problem (asked_alone input problem asked) in
+    sheet_means input problem plan reply (inr (spelled, tried_plan problem plan reply.status spelled.problem_is tried))
+    (λ same alone. (none_is_sure_if_no problem plan reply.status tried same, tried_stated problem plan reply.status tried same)) answers
+plan_means input (Ok (problem, None)) reply asked (inr large) =
+    subst (SheetMeans Plan input) (sym large.1) (inr (problem, problem_accepted input problem (asked_alone input problem asked), refl))
+plan_means input (Err refusal) reply asked is = subst (SheetMeans Plan input) (sym is) (λ problem. asked_nothing input refusal problem asked)
 
 -- ---- a game
 
@@ -128,39 +209,63 @@ beaten_means input (Ok question) reply asked answers =
     (counted_means input question.0 question.1 answers.0 answers.1 answers.2 (question_accepted input question asked) answers.3)
 beaten_means input (Err refusal) reply asked is = subst (SheetMeans Beaten input) (sym is) (no_question input refusal asked)
 
--- ---- a plan to try
+-- ---- why no plan is sure
 
-tried_means : (input : List ℕ) (problem : Setup) (reply : Reply) → SpellsProblem input problem → IsToTry problem reply → SheetMeans Try input reply
-tried_means input problem reply spelled (plan, inl found) = subst (SheetMeans Try input) (sym found.2) (found_means input problem (Some plan) spelled found.0)
-tried_means input problem reply spelled (plan, inr none) =
-    subst (SheetMeans Try input) (sym none.2) (record { problem = problem; spelled = spelled; none = none.0 }, (plan, none.1, refl))
+module _ (job : SheetJob) (texts : Setup → WhyTexts) (input : List ℕ)
+    (means : (reply : Reply) → WhyMeans texts input reply.output reply.status → SheetMeans job input reply) where
+  says_means : (problem : Setup) (reply : Reply) → SpellsProblem input problem → SaysWhy (texts problem) problem reply → SheetMeans job input reply
+  says_means problem reply spelled (inl sure) =
+      subst (SheetMeans job input) (sym sure.1) (means _ (record { problem = problem; spelled = spelled; some = sure.0 }, refl))
+  says_means problem reply spelled (inr (inl (games, refutes, few, is))) =
+      subst (SheetMeans job input) (sym is) (means _ (inl (record {
+        problem = problem;
+        spelled = spelled;
+        games = games;
+        refutes = refutes;
+        few = few;
+        nobody = λ player. refuted problem games player spelled.problem_is refutes;
+        printed = refl;
+      })))
+  says_means problem reply spelled (inr (inr (ranks, none, somebody, right, is))) =
+      subst (SheetMeans job input) (sym is) (means _ (inr (record {
+        none = record { problem = problem; spelled = spelled; none = none };
+        somebody = somebody;
+        ranks = ranks;
+        right = right;
+        printed = refl;
+      })))
 
-try_means : (input : List ℕ) (said : Result Setup Refusal) (reply : Reply) → problem_of_input input ≡ said → AnswersTry said reply → SheetMeans Try input reply
-try_means input (Ok problem) reply asked (inl tried) = tried_means input problem reply (problem_accepted input problem asked) tried
-try_means input (Ok problem) reply asked (inr large) = subst (SheetMeans Try input) (sym large.1) (inr refl)
-try_means input (Err refusal) reply asked is = subst (SheetMeans Try input) (sym is) (λ problem spelled.
-    let e : Ok problem ≡ Err refusal = sym (problem_spelled input problem spelled) ∙ asked in
-    absurd cc)
+  why_means : (said : Result Setup Refusal) (reply : Reply) → problem_of_input input ≡ said → AnswersWhy texts said reply → SheetMeans job input reply
+  why_means (Ok problem) reply asked says = says_means problem reply (problem_accepted input problem asked) says
+  why_means (Err refusal) reply asked is = subst (SheetMeans job input) (sym is) (means _ (λ problem spelled.
+      let e : Ok problem ≡ Err refusal = sym (problem_spelled input problem spelled) ∙ asked in
+      absurd cc))
 
 -- ---- each job
 
 memory_means : (job : SheetJob) (input : List ℕ) → SheetMeans job input (fault_reply no_memory)
+memory_means Plan input = inl refl
 memory_means Try input = inl refl
 memory_means _ input = refl
 
 makes_means : (job : SheetJob) (input : List ℕ) (reply : Reply) → SheetMakes job input reply → SheetMeans job input reply
-makes_means Plan input reply (inl answers) = plan_means input (question_of_input input) reply refl answers
+makes_means Plan input reply (inl answers) = plan_means input (asked_of_input input) reply refl answers
 makes_means GameJob input reply (inl is) = game_means input reply is
 makes_means Beaten input reply (inl answers) = beaten_means input (question_of_input input) reply refl answers
 makes_means Try input reply (inl answers) = try_means input (problem_of_input input) reply refl answers
+makes_means Refute input reply (inl answers) = why_means Refute (λ problem. refute_texts) input (λ reply is. is) (problem_of_input input) reply refl answers
+makes_means Why input reply (inl answers) = why_means Why why_texts input (λ reply is. is) (problem_of_input input) reply refl answers
 makes_means job input reply (inr want) = subst (SheetMeans job input) (sym want.1) (memory_means job input)
 
 -- each job refuses an input that is too long
 long_answers : (job : SheetJob) (input : List ℕ) → most_bytes < length input
     → SheetAnswers job input (refusal_reply (record { line = 0; number = too_long }))
 unfolding problem_of_input question_of_input played_of_input game_sheet_of_input
+long_answers Plan input long = rw (read_of_long problem_alone_at input long, read_of_long question_at input long) refl
 long_answers GameJob input long = rw (read_of_long played_at input long) refl
 long_answers Try input long = rw (read_of_long problem_alone_at input long) refl
+long_answers Refute input long = rw (read_of_long problem_alone_at input long) refl
+long_answers Why input long = rw (read_of_long problem_alone_at input long) refl
 long_answers _ input long = rw (read_of_long question_at input long) refl
 
 pub job_means : (job : SheetJob) → HaveMeaning (SheetMakes job) (SheetMeans job)

@@ -5,7 +5,7 @@ use Rattle.crib_answer.specs.declared.job.UnknownJob.{UnknownJob}
 use Rattle.crib_input.specs.declared.sections.Sections.{Sections}
 use Rattle.crib_input.specs.declared.sections.Sections.TheVariants.{Problem, Question, Played}
 use Rattle.crib_sheet.specs.declared.answer.job.SheetJob.{SheetJob}
-use Rattle.crib_sheet.specs.declared.answer.job.SheetJob.TheVariants.{Plan, Game, Beaten, Try}
+use Rattle.crib_sheet.specs.declared.answer.job.SheetJob.TheVariants.{Plan, Game, Beaten, Try, Refute, Why}
 
 -- the name of a job: the command that is typed for it
 abbrev pub name_of : SheetJob → List ℕ
@@ -13,10 +13,12 @@ name_of Plan = codes "plan"
 name_of Game = codes "game"
 name_of Beaten = codes "beaten"
 name_of Try = codes "try"
+name_of Refute = codes "refute"
+name_of Why = codes "why"
 
 -- the jobs, in the order in which the help text lists them
 abbrev pub all_jobs : List SheetJob
-all_jobs = Plan ∷ Game ∷ Beaten ∷ Try ∷ []
+all_jobs = Plan ∷ Game ∷ Beaten ∷ Try ∷ Refute ∷ Why ∷ []
 
 -- the names of the jobs, in the same order
 abbrev pub job_names : List (List ℕ)
@@ -32,3 +34,5 @@ sections_of Plan = Question
 sections_of Game = Played
 sections_of Beaten = Question
 sections_of Try = Problem
+sections_of Refute = Problem
+sections_of Why = Problem

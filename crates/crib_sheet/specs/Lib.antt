@@ -1,7 +1,9 @@
+pub mod Asked
 pub mod Beaten
 pub mod Job
 pub mod Meaning
 pub mod PlanHead
-pub mod PlanLosses
+pub mod PlanBeaten
 pub mod Private
+pub mod Refute
 pub mod Sheet

@@ -1,41 +1,55 @@
 -- What the replies guarantee about the input.
-use Rattle.std.specs.Prelude.{◌≡◌, ◌⊎◌, ℕ, true, List, ◌++◌, Ok, Err}
+use Rattle.std.specs.Prelude.{◌≡◌, ◌≤◌, ◌⊎◌, ℕ, Bool, true, false, List, ◌++◌, length, Option, Ok, Err}
 use Rattle.crib_text.specs.Refusals.{Refusal, no_memory}
 use Rattle.crib_problem.specs.Setup.{Setup}
 use Rattle.crib_plan.specs.Nodes.{ArePlan}
 use Rattle.crib_plan.specs.Spelling.{plan_text}
 use Rattle.crib_plan.specs.declared.plan.Node.{Node}
 use Rattle.crib_game.specs.declared.section.game.Game.{Game}
-use Rattle.crib_sure.specs.Sure.{IsSure}
+use Rattle.crib_sure.specs.Sure.{Ends, GoesOn, IsSure}
 use Rattle.crib_input.specs.Spelled.{SpellsGame, SpellsPlan, SpellsProblem}
 use Rattle.crib_run.specs.declared.status.Status.{Status}
 use Rattle.crib_run.specs.declared.status.Status.TheVariants.{Yes, No, Refused, Fault}
 use Rattle.crib_run.specs.Reply.{Reply, fault_line, refusal_reply}
 use Rattle.crib_answer.specs.Input.{report_of_input}
 use Rattle.crib_answer.specs.Answer.{too_large}
-use Rattle.crib_answer.specs.Meaning.{HasNoPlan, HasSurePlan, IsSolvedBy}
+use Rattle.crib_search.specs.Tried.{IsNeverStuck}
+use Rattle.crib_search.specs.Winnable.{IsWinnable}
+use Rattle.crib_answer.specs.Meaning.{HasNoPlan, HasSomePlan, HasSurePlan, IsSolvedBy}
+use Rattle.crib_players.specs.Players.{IsSurePlayer, Player}
+use Rattle.crib_players.specs.Refutations.{Refutes}
+use Rattle.crib_why.specs.Answer.{AreBySuit, SomeIsSure}
 use Rattle.crib_beaten.specs.Tally.{AreFigures}
+use Rattle.crib_beaten.specs.declared.rows.Rows.{Rows}
 use Rattle.crib_beaten.specs.declared.tally.RanksTally.{RanksTally}
 use Rattle.crib_game_sheet.specs.GameText.{game_sheet_text}
 use Rattle.crib_sheet.specs.Beaten.{beaten_text}
-use Rattle.crib_sheet.specs.PlanHead.{sure_text}
-use Rattle.crib_sheet.specs.PlanLosses.{AreLosses, losses_text}
+use Rattle.crib_sheet.specs.PlanHead.{position_text, sure_text}
+use Rattle.crib_sheet.specs.PlanBeaten.{AreBeating, beating_text}
+use Rattle.crib_sheet.specs.Refute.{WhyTexts, refute_texts, why_texts}
 use Rattle.crib_plan_sheet.specs.PlanPage.{page_text}
-use Rattle.crib_sheet.specs.declared.verdict.losses.Losses.{Losses}
 use Rattle.crib_plan_sheet.specs.PlanPlay.{ReachesGoal}
-use Rattle.crib_plan_sheet.specs.PlanSheet.{Sheet}
-use Rattle.crib_plan_sheet.specs.PlanTextLaws.{IsSheet}
+use Rattle.crib_plan_sheet.specs.PlanSheet.{sheet_with}
 use Rattle.crib_sheet.specs.declared.answer.job.SheetJob.{SheetJob}
 use Rattle.crib_sheet.specs.declared.answer.job.SheetJob.TheVariants.{Plan, Game as GameJob, Beaten, Try}
+use Rattle.crib_sheet.specs.declared.answer.job.SheetJob.TheVariants.{Refute, Why}
 
--- an input spells a problem and a sure plan, and the text has a sheet after the position. Whoever plays from that sheet
--- reaches the goal
+-- an input asks about a plan: it spells a problem and the plan, or the problem alone. Then the plan is any plan
+abbrev pub AsksAbout : List ℕ → Setup → List Node → Type 0
+AsksAbout input problem plan = SpellsPlan input problem plan ⊎ (SpellsProblem input problem × ArePlan plan)
+
+-- an input asks about a sure plan, and the text has its sheet after the position. The play goes on until the deal is
+-- done, and whoever plays from that sheet reaches the goal
 pub record HasSureSheet (input text : List ℕ) : Type 0 where
-  pub sure : HasSurePlan input
-  pub sheet : Sheet
-  pub valid : IsSheet sheet
-  pub printed : text ≡ sure_text sure.problem ++ page_text true sheet
-  pub reaches : ReachesGoal sure.problem sheet
+  pub problem : Setup
+  pub plan : List Node
+  pub asked : AsksAbout input problem plan
+  pub sure : IsSure problem plan
+  pub goes_on : GoesOn problem plan
+  pub ends : Ends problem
+  pub apart : ℕ → Bool
+  pub printed : text ≡ sure_text problem ++ page_text true (sheet_with apart plan)
+  pub reaches : ReachesGoal problem (sheet_with apart plan)
 
 -- an input spells a problem and a plan that is not sure
 pub record HasUnsurePlan (input : List ℕ) : Type 0 where
@@ -44,14 +58,25 @@ pub record HasUnsurePlan (input : List ℕ) : Type 0 where
   pub spelled : SpellsPlan input problem plan
   pub unsure : ¬ IsSure problem plan
 
--- an input spells a problem and a plan that is not sure, and the text begins with how many deals beat the plan and
--- which hands these have
+-- an input asks about a plan that is not sure, and if it spells a problem alone, no plan is sure, and this one is never
+-- stuck. The text has after the position how many deals beat the plan and which hands these have, and ends with the
+-- sheet of the plan
 pub record HasUnsureSheet (input text : List ℕ) : Type 0 where
-  pub unsure : HasUnsurePlan input
-  pub losses : Losses
-  pub figures : AreLosses unsure.problem unsure.plan losses
-  pub rest : List ℕ
-  pub printed : text ≡ losses_text losses ++ rest
+  pub problem : Setup
+  pub plan : List Node
+  pub asked : AsksAbout input problem plan
+  pub unsure : ¬ IsSure problem plan
+  pub none : SpellsProblem input problem → ¬ IsWinnable problem
+  pub stated : SpellsProblem input problem → IsNeverStuck problem plan
+  pub open_deals : ℕ
+  pub beaten : ℕ
+  pub hands : Option Rows
+  pub figures : AreBeating problem plan open_deals beaten hands
+  pub middle : List ℕ
+  pub apart : ℕ → Bool
+  pub printed :
+      text ≡ position_text problem ++ beating_text open_deals beaten hands ++ middle
+      ++ page_text false (sheet_with apart plan)
 
 -- an input spells a problem and a game, and `text` is the sheet of the game
 pub record HasGameSheet (input text : List ℕ) : Type 0 where
@@ -61,13 +86,17 @@ pub record HasGameSheet (input text : List ℕ) : Type 0 where
   pub sheet : game_sheet_text problem game ≡ Ok text
 
 -- what the reply of `plan` guarantees, by its status. Yes: the plan is sure, and so is its sheet. No: the plan is not,
--- and the figures of the deals that beat it are right. Refused: the input spells no problem and plan. Fault: the text
--- says that an allocation failed
+-- and the figures of the deals that beat it are right; if no plan was spelled, no plan is sure. Refused: the input
+-- spells neither a problem and a plan nor a problem. Fault: the text says that an allocation failed, or that the plan
+-- that was found for the problem has too many nodes
 abbrev pub PlanMeans : List ℕ → List ℕ → Status → Type 0
 PlanMeans input text Yes = HasSureSheet input text
 PlanMeans input text No = HasUnsureSheet input text
-PlanMeans input text Refused = (problem : Setup) (plan : List Node) → ¬ SpellsPlan input problem plan
-PlanMeans input text Fault = text ≡ fault_line no_memory
+PlanMeans input text Refused =
+    (problem : Setup) → (¬ SpellsProblem input problem) × ((plan : List Node) → ¬ SpellsPlan input problem plan)
+PlanMeans input text Fault =
+    (text ≡ fault_line no_memory)
+    ⊎ ((problem : Setup) × SpellsProblem input problem × (text ≡ fault_line too_large))
 
 -- `replay` of cribplan refuses an input, and `text` is the line of its refusal
 pub record IsRefusedByReplay (input text : List ℕ) : Type 0 where
@@ -100,14 +129,45 @@ BeatenMeans input text No = (unsure : HasUnsurePlan input) × SaysHowMany unsure
 BeatenMeans input text Refused = (problem : Setup) (plan : List Node) → ¬ SpellsPlan input problem plan
 BeatenMeans input text Fault = text ≡ fault_line no_memory
 
--- what the reply of `try` guarantees, by its status. Yes: the text spells a plan that is sure. No: the text spells a
--- plan, and no plan is sure. Refused: the input spells no problem. Fault: the text says that an allocation failed, or
--- that the plan has too many nodes
+-- what the reply of `try` guarantees, by its status. Yes: the text spells a plan that is sure. No: no plan is sure, and
+-- the text spells one that is never stuck. Refused: the input spells no problem. Fault: the text says that an
+-- allocation failed, or that the plan has too many nodes
 abbrev pub TryMeans : List ℕ → List ℕ → Status → Type 0
 TryMeans input text Yes = IsSolvedBy input text
-TryMeans input text No = HasNoPlan input × ((plan : List Node) × ArePlan plan × (text ≡ plan_text plan))
+TryMeans input text No =
+    (none : HasNoPlan input)
+    × ((plan : List Node) × ArePlan plan × IsNeverStuck none.problem plan × (text ≡ plan_text plan))
 TryMeans input text Refused = (problem : Setup) → ¬ SpellsProblem input problem
 TryMeans input text Fault = (text ≡ fault_line no_memory) ⊎ (text ≡ fault_line too_large)
+
+-- an input spells a problem, and `text` is that of at most 24 games that refute every player. So no player is sure,
+-- whatever they look at
+pub record IsRefutedBy (texts : Setup → WhyTexts) (input text : List ℕ) : Type 0 where
+  pub problem : Setup
+  pub spelled : SpellsProblem input problem
+  pub games : List Game
+  pub refutes : Refutes problem games
+  pub few : length games ≤ 24
+  pub nobody : (player : Player) → ¬ IsSurePlayer problem player
+  pub printed : text ≡ (texts problem).refuted games
+
+-- an input spells a problem for which no plan is sure but some player is, and `text` has the ranks after which suits
+-- decide
+pub record IsDecidedBySuits (texts : Setup → WhyTexts) (input text : List ℕ) : Type 0 where
+  pub none : HasNoPlan input
+  pub somebody : SomeIsSure none.problem
+  pub ranks : List ℕ
+  pub right : AreBySuit none.problem ranks
+  pub printed : text ≡ (texts none.problem).suits ranks
+
+-- what the reply of `refute` or of `why` guarantees, by its status. Yes: some plan is sure. No: the text has games that
+-- refute every player; or no plan is sure, some player is, and the text says after which ranks suits decide. Refused:
+-- the input spells no problem. Fault: the text says that an allocation failed
+abbrev pub WhyMeans : (Setup → WhyTexts) → List ℕ → List ℕ → Status → Type 0
+WhyMeans texts input text Yes = (some : HasSomePlan input) × (text ≡ (texts some.problem).sure)
+WhyMeans texts input text No = IsRefutedBy texts input text ⊎ IsDecidedBySuits texts input text
+WhyMeans texts input text Refused = (problem : Setup) → ¬ SpellsProblem input problem
+WhyMeans texts input text Fault = text ≡ fault_line no_memory
 
 -- what the text and the status of a reply guarantee about the input
 abbrev pub SheetMeans : SheetJob → List ℕ → Reply → Type 0
@@ -115,3 +175,5 @@ SheetMeans Plan input reply = PlanMeans input reply.output reply.status
 SheetMeans GameJob input reply = GameMeans input reply.output reply.status
 SheetMeans Beaten input reply = BeatenMeans input reply.output reply.status
 SheetMeans Try input reply = TryMeans input reply.output reply.status
+SheetMeans Refute input reply = WhyMeans (λ problem. refute_texts) input reply.output reply.status
+SheetMeans Why input reply = WhyMeans why_texts input reply.output reply.status

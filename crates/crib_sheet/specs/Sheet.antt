@@ -1,5 +1,5 @@
 -- The right reply of each job to an input: the text of a sheet, and the exit status.
-use Rattle.std.specs.Prelude.{◌≡◌, ◌⊎◌, ℕ, Bool, List, ◌++◌, Some, Result, Ok, Err, IsOk}
+use Rattle.std.specs.Prelude.{◌≡◌, ◌≤◌, ◌⊎◌, ℕ, Bool, List, ◌++◌, length, Option, Some, None, Result, Ok, Err, IsOk}
 use Rattle.crib_text.specs.Refusals.{Refusal, no_memory}
 use Rattle.crib_text.specs.Reading.{◌>>=◌}
 use Rattle.crib_problem.specs.Setup.{Setup}
@@ -15,26 +15,33 @@ use Rattle.crib_run.specs.declared.status.Status.{Status}
 use Rattle.crib_run.specs.declared.status.Status.TheVariants.{Yes, No}
 use Rattle.crib_run.specs.Reply.{Reply, fault_reply, refusal_reply, reply_of}
 use Rattle.crib_answer.specs.Input.{judgement_of}
-use Rattle.crib_answer.specs.Answer.{found_reply, reply_by, too_large}
+use Rattle.crib_answer.specs.Answer.{reply_by, too_large}
 use Rattle.crib_search.specs.Finder.{ExceedsLimit, IsFound}
+use Rattle.crib_search.specs.Tried.{IsNeverStuck}
 use Rattle.crib_search.specs.Winnable.{IsWinnable}
 use Rattle.crib_beaten.specs.Tally.{AreFigures}
+use Rattle.crib_beaten.specs.declared.rows.Rows.{Rows}
 use Rattle.crib_beaten.specs.declared.tally.RanksTally.{RanksTally}
+use Rattle.crib_game.specs.declared.section.game.Game.{Game}
+use Rattle.crib_players.specs.Refutations.{Refutes}
+use Rattle.crib_why.specs.Answer.{AreBySuit, SomeIsSure}
 use Rattle.crib_game_sheet.specs.GamePlay.{game_reasons}
 use Rattle.crib_game_sheet.specs.GameText.{game_sheet_text, sheet_of as sheet_text_of}
+use Rattle.crib_sheet.specs.Asked.{asked_of_input}
 use Rattle.crib_sheet.specs.Beaten.{beaten_reply, tally_reply}
 use Rattle.crib_sheet.specs.PlanHead.{head_text, is_sure}
-use Rattle.crib_sheet.specs.PlanLosses.{AreLossesOf}
+use Rattle.crib_sheet.specs.PlanBeaten.{AreBeatingOf}
+use Rattle.crib_sheet.specs.Refute.{WhyTexts, words_reply, refute_reply, refute_texts, why_texts}
 use Rattle.crib_plan_sheet.specs.PlanPage.{page_text}
 use Rattle.crib_plan_sheet.specs.PlanSheet.{sheet_with}
 use Rattle.crib_plan_sheet.specs.PlanOutline.{apart_in}
-use Rattle.crib_sheet.specs.declared.verdict.losses.Losses.{Losses}
 use Rattle.crib_sheet.specs.declared.answer.Sheet.{Sheet}
 use Rattle.crib_sheet.specs.declared.answer.Sheet.TheVariants as sheets
 use Rattle.crib_sheet.specs.declared.answer.plan.PlanSheet.{PlanSheet}
 use Rattle.crib_sheet.specs.declared.answer.game.GameSheet.{GameSheet}
 use Rattle.crib_sheet.specs.declared.answer.job.SheetJob.{SheetJob}
-use Rattle.crib_sheet.specs.declared.answer.job.SheetJob.TheVariants.{Plan, Game, Beaten, Try}
+use Rattle.crib_sheet.specs.declared.answer.job.SheetJob.TheVariants.{Plan, Game as GameJob, Beaten, Try}
+use Rattle.crib_sheet.specs.declared.answer.job.SheetJob.TheVariants.{Refute, Why}
 
 -- ---- a game
 
@@ -48,6 +55,28 @@ game_sheet_of_input bytes =
 abbrev pub game_reply : List ℕ → Reply
 game_reply text = record { output = text; status = Yes }
 
+-- ---- a plan to try
+
+-- a plan is one to try with this status. Yes: it is the sure plan that the finder finds. No: no plan is sure, and it is
+-- some plan that is never stuck
+abbrev pub IsToTry : Setup → List Node → Status → Type 0
+IsToTry problem plan status =
+    ((status ≡ Yes) × IsFound problem (Some plan) × (¬ ExceedsLimit problem most_nodes))
+    ⊎ ((status ≡ No) × (¬ IsWinnable problem) × ArePlan plan × IsNeverStuck problem plan)
+
+-- a reply is that of a plan to try, to which `answers` relates it. Or it is a fault if the sure plan that the finder
+-- finds has more nodes than a plan may have
+abbrev pub AnswersWithPlan : Setup → (List Node → Reply → Type 0) → Reply → Type 0
+AnswersWithPlan problem answers reply =
+    ((plan : List Node) × IsToTry problem plan reply.status × answers plan reply)
+    ⊎ (ExceedsLimit problem most_nodes × (reply ≡ fault_reply too_large))
+
+-- a reply is right for `try`, by what was read: it is the text of a plan to try, or that of the refusal
+abbrev pub AnswersTry : Result Setup Refusal → Reply → Type 0
+AnswersTry (Ok problem) reply =
+    AnswersWithPlan problem (λ plan reply. reply.output ≡ plan_text plan) reply
+AnswersTry (Err refusal) reply = reply ≡ refusal_reply refusal
+
 -- ---- a plan
 
 -- the status of a verdict: yes if the plan is sure, and no otherwise
@@ -57,25 +86,32 @@ verdict_status (Fails result game) = No
 
 -- the reply with the sheet of a plan, by the verdict on it, the deals that beat it and which nodes have paragraphs of
 -- their own: the position, verdict and deals in words, the sheet, and how to read it
-abbrev pub plan_reply : Setup → List Node → Verdict → Losses → (ℕ → Bool) → Reply
-plan_reply problem plan verdict losses apart = record {
-  output = head_text problem plan verdict losses
+abbrev pub plan_reply : Setup → List Node → Verdict → ℕ → ℕ → Option Rows → (ℕ → Bool) → Reply
+plan_reply problem plan verdict open_deals beaten hands apart = record {
+  output = head_text problem plan verdict open_deals beaten hands
       ++ page_text (is_sure (verdict_status verdict)) (sheet_with apart plan);
   status = verdict_status verdict;
 }
 
--- a reply is right for `plan`, by what was read: it is that of a right verdict on the problem and the plan, of right
--- figures if the plan fails, and of any nodes with paragraphs of their own, or it is that of the refusal
-abbrev pub AnswersPlan : Result (Setup × List Node) Refusal → Reply → Type 0
-AnswersPlan (Ok question) reply =
-    (verdict : Verdict) × (losses : Losses) × (apart : ℕ → Bool) × IsRight question.0 question.1 verdict
-    × AreLossesOf question.0 question.1 verdict losses × (reply ≡ plan_reply question.0 question.1 verdict losses apart)
+-- a reply is the sheet of a plan: it is that of a right verdict on the problem and the plan, of right figures if the
+-- plan fails, and of any nodes with paragraphs of their own
+abbrev pub IsSheetOf : Setup → List Node → Reply → Type 0
+IsSheetOf problem plan reply =
+    (verdict : Verdict) × (open_deals : ℕ) × (beaten : ℕ) × (hands : Option Rows) × (apart : ℕ → Bool)
+    × IsRight problem plan verdict × AreBeatingOf problem plan verdict open_deals beaten hands
+    × (reply ≡ plan_reply problem plan verdict open_deals beaten hands apart)
+
+-- a reply is right for `plan`, by what was read: it is the sheet of the plan, or that of a plan to try if there is a
+-- problem alone, or it is that of the refusal
+abbrev pub AnswersPlan : Result (Setup × Option (List Node)) Refusal → Reply → Type 0
+AnswersPlan (Ok (problem, Some plan)) reply = IsSheetOf problem plan reply
+AnswersPlan (Ok (problem, None)) reply = AnswersWithPlan problem (IsSheetOf problem) reply
 AnswersPlan (Err refusal) reply = reply ≡ refusal_reply refusal
 
 -- the reply with the parts of a plan's sheet
 unfoldable pub parts_reply : {A : Type 0} → PlanSheet A → Reply
 parts_reply sheet = record {
-  output = head_text sheet.problem sheet.plan sheet.verdict sheet.losses
+  output = head_text sheet.problem sheet.plan sheet.verdict sheet.tally.open_deals sheet.tally.beaten sheet.hands
       ++ page_text (is_sure sheet.status) (sheet_with (apart_in sheet.outline) sheet.plan);
   status = sheet.status;
 }
@@ -95,25 +131,22 @@ AnswersBeaten (Ok question) reply =
     × AreFigures question.0 question.1 open_deals beaten rows × (reply ≡ beaten_reply open_deals beaten rows)
 AnswersBeaten (Err refusal) reply = reply ≡ refusal_reply refusal
 
--- ---- a plan to try
+-- ---- why no plan is sure
 
--- the reply with a plan that is not sure
-abbrev pub unsure_reply : List Node → Reply
-unsure_reply plan = record { output = plan_text plan; status = No }
+-- a reply says by one of three texts whether a plan is sure for a problem, and why none is: some plan is; or games
+-- refute every player, at most 24; or no plan is sure but some player is, and suits decide after these ranks
+abbrev pub SaysWhy : WhyTexts → Setup → Reply → Type 0
+SaysWhy texts problem reply =
+    (IsWinnable problem × (reply ≡ record { output = texts.sure; status = Yes }))
+    ⊎ ((games : List Game) × Refutes problem games × (length games ≤ 24)
+    × (reply ≡ record { output = texts.refuted games; status = No }))
+    ⊎ ((ranks : List ℕ) × (¬ IsWinnable problem) × SomeIsSure problem × AreBySuit problem ranks
+    × (reply ≡ record { output = texts.suits ranks; status = No }))
 
--- a plan to try: the sure plan that the finder finds, or, if no plan is sure, some plan
-abbrev pub IsToTry : Setup → Reply → Type 0
-IsToTry problem reply = (plan : List Node) ×
-    ((IsFound problem (Some plan) × (¬ ExceedsLimit problem most_nodes) × (reply ≡ found_reply (Some plan)))
-    ⊎ ((¬ IsWinnable problem) × ArePlan plan × (reply ≡ unsure_reply plan)))
-
--- a reply is right for `try`, by what was read: it is that of a plan to try, or of the refusal. Or it is a fault if a
--- plan has more nodes than one may have: the sure plan that the finder finds, or, if no plan is sure, some plan
-abbrev pub AnswersTry : Result Setup Refusal → Reply → Type 0
-AnswersTry (Ok problem) reply =
-    IsToTry problem reply
-    ⊎ ((ExceedsLimit problem most_nodes ⊎ (¬ IsWinnable problem)) × (reply ≡ fault_reply too_large))
-AnswersTry (Err refusal) reply = reply ≡ refusal_reply refusal
+-- a reply is right for `refute` or for `why`, by what was read: it says why, or it is that of the refusal
+abbrev pub AnswersWhy : (Setup → WhyTexts) → Result Setup Refusal → Reply → Type 0
+AnswersWhy texts (Ok problem) reply = SaysWhy (texts problem) problem reply
+AnswersWhy texts (Err refusal) reply = reply ≡ refusal_reply refusal
 
 -- ---- each sheet
 
@@ -123,23 +156,29 @@ sheet_reply (sheets.Plan sheet) = parts_reply sheet
 sheet_reply (sheets.Game sheet) = game_parts_reply sheet
 sheet_reply (sheets.Beaten tally) = tally_reply tally
 sheet_reply (sheets.Try answer) = reply_of answer
+sheet_reply (sheets.Refute why) = refute_reply why
+sheet_reply (sheets.Reasons why) = words_reply why
 
 -- ---- right replies
 
 -- a reply is a right one of a job to an input
 abbrev pub SheetAnswers : SheetJob → List ℕ → Reply → Type 0
-SheetAnswers Plan input reply = AnswersPlan (question_of_input input) reply
-SheetAnswers Game input reply = reply ≡ reply_by game_reply (game_sheet_of_input input)
+SheetAnswers Plan input reply = AnswersPlan (asked_of_input input) reply
+SheetAnswers GameJob input reply = reply ≡ reply_by game_reply (game_sheet_of_input input)
 SheetAnswers Beaten input reply = AnswersBeaten (question_of_input input) reply
 SheetAnswers Try input reply = AnswersTry (problem_of_input input) reply
+SheetAnswers Refute input reply = AnswersWhy (λ problem. refute_texts) (problem_of_input input) reply
+SheetAnswers Why input reply = AnswersWhy why_texts (problem_of_input input) reply
 
 -- a job may allocate memory for an input: `plan` and `beaten` if the problem and the first two lines of the plan are
--- not refused, `try` if the input is not refused, and `game` never
+-- not refused, `plan`, `try`, `refute` and `why` if the input has a problem alone, and `game` never
 abbrev pub SheetAsksForMemory : SheetJob → List ℕ → Type 0
-SheetAsksForMemory Plan input = IsOk (count_of_input input)
-SheetAsksForMemory Game input = ⊥
+SheetAsksForMemory Plan input = IsOk (count_of_input input) ⊎ IsOk (problem_of_input input)
+SheetAsksForMemory GameJob input = ⊥
 SheetAsksForMemory Beaten input = IsOk (count_of_input input)
 SheetAsksForMemory Try input = IsOk (problem_of_input input)
+SheetAsksForMemory Refute input = IsOk (problem_of_input input)
+SheetAsksForMemory Why input = IsOk (problem_of_input input)
 
 -- a reply is one that a job makes for an input in memory: it is a right one, or it is the fault of a failed allocation
 -- and the job may allocate memory

@@ -1,6 +1,9 @@
 //! The answers of the second program: a sheet, or the reason why there is none.
+ghost use Rattle.std.specs.Prelude.{◌≡◌};
+ghost use Rattle.crib_run.specs.Prints.{Prints};
 ghost use Rattle.crib_sheet.specs.Sheet.{sheet_reply};
 
+mod asked;
 mod asking;
 mod beaten;
 mod game;
@@ -9,12 +12,14 @@ mod plan;
 mod played;
 mod to_try;
 
-use crate::tally::send_tally;
-use crate::verdict::send_plan_sheet;
+use crate::refutation::{InWords, in_words_status, put_in_words, put_why, why_status};
+use crate::tally::{beaten_status, put_tally};
+use crate::verdict::put_plan_sheet;
 use crib_beaten::Tally;
-use crib_game_sheet::send_game_sheet;
-use crib_run::{Answer, Sendable, Status};
+use crib_game_sheet::put_game_sheet;
+use crib_run::{Answer, Page, Printer, Sendable, Status};
 use crib_text::Sink;
+use crib_why::Why;
 pub use game::GameSheet;
 pub use job::{NAMES, SheetJob};
 pub use plan::PlanSheet;
@@ -31,25 +36,57 @@ pub enum Sheet<A: Allocator> {
     Beaten(Tally<A>),
     /// A plan to try.
     Try(Answer<A>),
+    /// Games that refute every player, if no plan is sure.
+    Refute(Why<A>),
+    /// The same in words.
+    Reasons(InWords<A>),
 }
 
 impl<A: Allocator> Sendable for Sheet<A> {
     ghost reply = { λ sheet. sheet_reply sheet };
 
     fn send<W: Sink>(&self, sink: &mut W) -> Status {
-        match self {
-            Sheet::Plan(sheet) => send_plan_sheet(
-                sink,
-                &sheet.problem,
-                &sheet.plan,
-                &sheet.verdict,
-                &sheet.losses,
-                &sheet.outline,
-                sheet.status,
-            ),
-            Sheet::Game(sheet) => send_game_sheet(sink, &sheet.problem, &sheet.game, &sheet.report),
-            Sheet::Beaten(tally) => send_tally(sink, tally),
-            Sheet::Try(answer) => answer.send(sink),
+        let mut page = Printer {
+            sink,
+            is_cut: false,
+        };
+        put_sheet(&mut page, self);
+        let Printer { sink, is_cut } = page;
+        // The proof reads what the device holds from this use of it.
+        let _ = &*sink;
+        if is_cut {
+            Status::Fault
+        } else {
+            status_of(self)
         }
+    }
+}
+
+// Puts the text of a sheet.
+fn put_sheet<A: Allocator, P: Page>(page: &mut P, sheet: &Sheet<A>)
+    ensures { Prints (sheet_reply sheet.now).output (P.stand page.old) (P.stand page.new) }
+{
+    match sheet {
+        Sheet::Plan(sheet) => put_plan_sheet(page, sheet),
+        Sheet::Game(sheet) => put_game_sheet(page, &sheet.problem, &sheet.game, &sheet.report),
+        Sheet::Beaten(tally) => put_tally(page, tally),
+        Sheet::Try(answer) => page.put(answer.as_slice()),
+        Sheet::Refute(why) => put_why(page, why),
+        Sheet::Reasons(why) => put_in_words(page, why),
+    }
+}
+
+// Returns the status of a sheet.
+#[tactic(auto, unfolding(crate::specs::Sheet::parts_reply, crib_run::specs::Reply::reply_of))]
+fn status_of<A: Allocator>(sheet: &Sheet<A>) -> Status
+    ensures { result ≡ (sheet_reply sheet.now).status }
+{
+    match sheet {
+        Sheet::Plan(sheet) => sheet.status,
+        Sheet::Game(_) => Status::Yes,
+        Sheet::Beaten(tally) => beaten_status(tally.beaten),
+        Sheet::Try(answer) => answer.status(),
+        Sheet::Refute(why) => why_status(why),
+        Sheet::Reasons(why) => in_words_status(why),
     }
 }

@@ -1,9 +1,11 @@
-//! The answers of the second program: sheets of plans and of games, how many deals beat a plan, and a plan to try.
+//! The answers of the second program: sheets of plans and of games, how many deals beat a plan, a plan to try, and
+//! games that refute every player, or the same in words.
 #![tactic(auto)]
 
 mod answer;
+mod refutation;
 mod tally;
 mod verdict;
 
 pub use answer::{GameSheet, NAMES, PlanSheet, Sheet, SheetJob};
-pub use verdict::Losses;
+pub use refutation::InWords;

@@ -1,56 +1,32 @@
 //! How many deals beat a plan, as text.
 ghost use Rattle.std.specs.Prelude.{◌≡◌, flat_map};
-ghost use Rattle.crib_text.specs.Device.{HasFailed};
-ghost use Rattle.crib_run.specs.Run.{Sends};
 ghost use Rattle.crib_run.specs.Prints.{Prints};
-ghost use Rattle.crib_sheet.specs.Beaten.{beaten_status, beaten_text, figures, ranks_text, row_line, tally_reply};
+ghost use Rattle.crib_sheet.specs.Beaten.{beaten_status, figures, ranks_text, row_line, tally_reply};
 
 use crib_beaten::{RanksTally, Tally};
 use crib_cards::{Letter, Rank};
 use crib_plan_sheet::put_letter;
-use crib_run::{Page, Printer, Status, put_number};
-use crib_text::Sink;
+use crib_run::{Page, Status, put_number};
 use std::alloc::Allocator;
 
-/// Writes how many deals beat a plan, of the open deals, and the same for each choice of four ranks of which some deal
-/// does. Returns `Yes` if no deal beats the plan, otherwise `No`, or `Fault` if the device failed. It needs no memory.
-pub(crate) fn send_tally<A: Allocator, W: Sink>(sink: &mut W, tally: &Tally<A>) -> Status
-    ensures { Sends (tally_reply tally.now) (W.contents sink.old) (W.contents sink.new)
-        (HasFailed (W.faults sink.old) (W.faults sink.new)) result }
+/// Puts how many deals beat a plan, of the open deals, and the same for each choice of four ranks of which some deal
+/// does.
+pub(crate) fn put_tally<A: Allocator, P: Page>(page: &mut P, tally: &Tally<A>)
+    ensures { Prints (tally_reply tally.now).output (P.stand page.old) (P.stand page.new) }
 {
-    let mut page = Printer {
-        sink,
-        is_cut: false,
-    };
-    put_tally(&mut page, tally);
-    let Printer { sink, is_cut } = page;
-    // The proof reads what the device holds from this use of it.
-    let _ = &*sink;
-    if is_cut {
-        Status::Fault
-    } else {
-        status_of(tally.beaten)
-    }
+    page.put(b"beaten ");
+    put_figures(page, tally.beaten, tally.open_deals);
+    put_rows(page, tally.rows.as_slice());
 }
 
-// Returns `Yes` if no deal beats a plan, otherwise `No`.
-fn status_of(beaten: u32) -> Status
+/// Returns `Yes` if no deal beats a plan, otherwise `No`.
+pub(crate) fn beaten_status(beaten: u32) -> Status
     ensures { result ≡ beaten_status beaten }
 {
     match beaten {
         0 => Status::Yes,
         _ => Status::No,
     }
-}
-
-// Puts the text of a tally.
-fn put_tally<A: Allocator, P: Page>(page: &mut P, tally: &Tally<A>)
-    ensures { Prints (beaten_text tally.now.open_deals tally.now.beaten tally.now.rows.items) (P.stand page.old)
-        (P.stand page.new) }
-{
-    page.put(b"beaten ");
-    put_figures(page, tally.beaten, tally.open_deals);
-    put_rows(page, tally.rows.as_slice());
 }
 
 // Puts the deals that beat the plan, of all, and ends the line.
@@ -74,8 +50,8 @@ fn put_rows<P: Page>(page: &mut P, rows: &[RanksTally])
     }
 }
 
-// Puts the letters of ranks.
-fn put_ranks<P: Page>(page: &mut P, ranks: &[Rank])
+/// Puts the letters of ranks.
+pub(crate) fn put_ranks<P: Page>(page: &mut P, ranks: &[Rank])
     ensures { Prints (ranks_text ranks.now) (P.stand page.old) (P.stand page.new) }
 {
     for rank in ranks {

@@ -1,9 +1,8 @@
 //! The sheet of a plan, with the verdict on it.
+mod beaten;
 mod figures;
 mod head;
-mod losses;
 mod page;
 
-pub use losses::Losses;
-pub(crate) use losses::losses_by;
-pub(crate) use page::send_plan_sheet;
+pub(crate) use beaten::beaten_by;
+pub(crate) use page::put_plan_sheet;

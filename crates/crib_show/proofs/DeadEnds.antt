@@ -1,4 +1,4 @@
--- Choices of cards that give no deal: a hold whose points meet a demand, and one with too many or too few cards of a rank.
+-- Picks of cards that give no deal: a hold whose points meet a demand, and one with too many or too few cards of a rank.
 use Rattle.std.proofs.Common.{◌≡◌, ℕ, zero, suc, ◌+◌, ◌<◌, ◌≤◌, Bool, true, false, cond, eqb, List, [], ◌∷◌, ◌++◌, map, None, refl, sym, ap, ◌∙◌}
 use Rattle.std.proofs.Common.{inl, inr, arith}
 use Rattle.std.specs.Prelude.{Option}
@@ -10,7 +10,7 @@ use Rattle.crib_cards.specs.Sets.{rank_counts, count_at, count_rank}
 use Rattle.crib_cards.specs.declared.sides.Dealt.{Dealt}
 use Rattle.crib_cards.proofs.CountLemmas.{count_at-rank_counts}
 use Rattle.crib_cards.proofs.SetCounts.{count_cons, count_append}
-use Rattle.crib_show.specs.Private.Listing.{first_choice, may_be_held, may_hold, may_miss, try_hold}
+use Rattle.crib_show.specs.Private.Listing.{first_pick, may_be_held, may_hold, may_miss, try_hold}
 use Rattle.crib_show.specs.Show.{hand_points}
 use Rattle.crib_show.specs.declared.deals.WorstShow.{WorstShow}
 use Rattle.crib_show.specs.declared.worst.listing.Sought.{Sought}
@@ -26,8 +26,8 @@ module _ (gives : List ℕ → Option Dealt) (may : ℕ → Bool) (Dead : List �
   neither true = refl
   neither false = refl
 
-  none_given : (taken : List ℕ) (n : ℕ) (cards : List ℕ) → Dead taken cards → first_choice gives may taken n cards ≡ None
-  unfolding first_choice
+  none_given : (taken : List ℕ) (n : ℕ) (cards : List ℕ) → Dead taken cards → first_pick gives may taken n cards ≡ None
+  unfolding first_pick
   none_given taken zero cards dead = none taken cards dead
   none_given taken (suc n) [] dead = refl
   none_given taken (suc n) (card ∷ cards) dead =
@@ -58,20 +58,20 @@ module _ (worst : WorstShow) (sought : Sought) where
     of_rank card = eqb (rank_of card) rank
 
     too_many : (taken : List ℕ) (n : ℕ) (cards : List ℕ) → count_at worst.ranks rank < count_rank rank taken →
-        first_choice (try_hold worst sought) (may_be_held worst) taken n cards ≡ None
+        first_pick (try_hold worst sought) (may_be_held worst) taken n cards ≡ None
     too_many = none_given (try_hold worst sought) (may_be_held worst) (λ taken cards. count_at worst.ranks rank < count_rank rank taken)
         (λ taken cards more. not_as_many taken (λ same. omega (arith, more, same)))
         (λ taken cards card more. omega (arith, more, count_append of_rank taken (card ∷ [])))
         (λ taken cards card more. more)
 
     pub one_too_many : (taken : List ℕ) (card n : ℕ) (cards : List ℕ) → rank_of card ≡ rank → count_at worst.ranks rank ≤ count_rank rank taken →
-        first_choice (try_hold worst sought) (may_be_held worst) (taken ++ card ∷ []) n cards ≡ None
+        first_pick (try_hold worst sought) (may_be_held worst) (taken ++ card ∷ []) n cards ≡ None
     one_too_many taken card n cards same full =
         let one = count_cons of_rank card [] ∙ ap (λ b. cond b 1 0 + 0) (eq-eqb (rank_of card) rank same) in
         too_many (taken ++ card ∷ []) n cards (omega (arith, full, count_append of_rank taken (card ∷ []), one))
 
     pub too_few : (taken : List ℕ) (n : ℕ) (cards : List ℕ) → count_rank rank taken + count_rank rank cards < count_at worst.ranks rank →
-        first_choice (try_hold worst sought) (may_be_held worst) taken n cards ≡ None
+        first_pick (try_hold worst sought) (may_be_held worst) taken n cards ≡ None
     too_few = none_given (try_hold worst sought) (may_be_held worst)
         (λ taken cards. count_rank rank taken + count_rank rank cards < count_at worst.ranks rank)
         (λ taken cards less. not_as_many taken (λ same. omega (arith, less, same)))

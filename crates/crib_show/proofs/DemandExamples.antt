@@ -10,7 +10,7 @@ use Rattle.crib_cards.specs.declared.sides.Scores.{Scores}
 use Rattle.crib_cards.specs.declared.sides.Side.{Side}
 use Rattle.crib_show.specs.Demands.{AllMeet, IsFirstMissing, IsFirstMissingOrNone, IsMetByAll, IsMetByNone, IsShowAt, is_met, is_met_by}
 use Rattle.crib_show.specs.Worst.{AgreesInShow}
-use Rattle.crib_show.proofs.ShowExamples.{fives, worst}
+use Rattle.crib_show.proofs.ExampleShows.{aces_and_fives, four_aces}
 use Rattle.crib_show.specs.Show.{hand_points, crib_points}
 use Rattle.crib_show.specs.declared.deals.Full.{Full}
 use Rattle.crib_show.specs.declared.demands.Demand.{Demand}
@@ -41,29 +41,29 @@ a_crib_of_20_meets_it : IsMetByNone (record { hand = 12; total = 20; crib = 20 }
 a_crib_of_20_meets_it none = absurd (both_ways _ (none 0 20) refl)
 
 -- with 5C 5D thrown the hand makes 12 and the crib 16: the fives meet a demand of 12, 28 and 16, and no stricter one
-fives_meet : map (λ (demand : Demand). is_met_by worst demand fives)
+fives_meet : map (λ (demand : Demand). is_met_by four_aces demand aces_and_fives)
     (record { hand = 12; total = 28; crib = 16 } ∷ record { hand = 11; total = 28; crib = 16 } ∷ record { hand = 12; total = 27; crib = 16 }
     ∷ record { hand = 12; total = 28; crib = 17 } ∷ [])
     ≡ true ∷ false ∷ false ∷ false ∷ []
 unfolding hand_points crib_points
 fives_meet = refl
 
-all_deals_meet : (demand : Demand) → AllMeet worst demand → AgreesInShow worst fives → IsTrue (is_met_by worst demand fives)
-all_deals_meet demand all agrees = all fives agrees
+all_deals_meet : (demand : Demand) → AllMeet four_aces demand → AgreesInShow four_aces aces_and_fives → IsTrue (is_met_by four_aces demand aces_and_fives)
+all_deals_meet demand all agrees = all aces_and_fives agrees
 
 -- the first deal that misses a demand
-first_of_all : (demand : Demand) (dealt : Dealt) → IsFirstMissing worst demand dealt → AgreesInShow worst dealt
-    × IsFalse (is_met_by worst demand dealt) × IsTrue (is_in_pack_order dealt)
+first_of_all : (demand : Demand) (dealt : Dealt) → IsFirstMissing four_aces demand dealt → AgreesInShow four_aces dealt
+    × IsFalse (is_met_by four_aces demand dealt) × IsTrue (is_in_pack_order dealt)
 first_of_all demand dealt first = (first.agrees, first.misses, first.in_order)
 
-none_comes_before : (demand : Demand) (dealt : Dealt) → IsFirstMissing worst demand dealt → AgreesInShow worst fives →
-    IsFalse (is_met_by worst demand fives) → IsFalse (is_before (deal_numbers fives) (deal_numbers dealt))
-none_comes_before demand dealt first = first.first fives
+none_comes_before : (demand : Demand) (dealt : Dealt) → IsFirstMissing four_aces demand dealt → AgreesInShow four_aces aces_and_fives →
+    IsFalse (is_met_by four_aces demand aces_and_fives) → IsFalse (is_before (deal_numbers aces_and_fives) (deal_numbers dealt))
+none_comes_before demand dealt first = first.first aces_and_fives
 
-first_or_none : (demand : Demand) (dealt : Dealt) → IsFirstMissingOrNone worst demand (Some dealt) ≡ IsFirstMissing worst demand dealt
+first_or_none : (demand : Demand) (dealt : Dealt) → IsFirstMissingOrNone four_aces demand (Some dealt) ≡ IsFirstMissing four_aces demand dealt
 first_or_none demand dealt = refl
 
-none_misses : (demand : Demand) → IsFirstMissingOrNone worst demand None ≡ AllMeet worst demand
+none_misses : (demand : Demand) → IsFirstMissingOrNone four_aces demand None ≡ AllMeet four_aces demand
 none_misses demand = refl
 
 -- ---- the show

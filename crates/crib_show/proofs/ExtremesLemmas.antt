@@ -8,10 +8,10 @@ use Rattle.crib_cards.specs.Deals.{IsDeal}
 use Rattle.crib_cards.specs.Sets.{has}
 use Rattle.crib_cards.specs.declared.sides.Dealt.{Dealt}
 use Rattle.crib_show.specs.Show.{hand_points, crib_points}
-use Rattle.crib_show.specs.Private.Places.{IsPlace}
-use Rattle.crib_show.specs.Places.{AreFour, place_among}
+use Rattle.crib_show.specs.Private.Indices.{IsIndex}
+use Rattle.crib_show.specs.Indices.{AreFour, index_among}
 use Rattle.crib_show.specs.Extremes.{AreKept, AreKeptIn, HasCards}
-use Rattle.crib_show.proofs.PlaceLemmas.{place_of_one}
+use Rattle.crib_show.proofs.IndexLemmas.{choice_of_index}
 use Rattle.crib_show.specs.Worst.{AgreesInShow, hidden_crib, hidden_hand, hidden_total}
 use Rattle.crib_show.specs.declared.deals.WorstShow.{WorstShow}
 use Rattle.crib_show.specs.declared.worst.extremes.Extremes.{Extremes}
@@ -73,21 +73,20 @@ own_cards worst are = record { starter_is = refl; throw_is = refl; unseen_is = r
 pub kept_new : (starter : ℕ) (throw unseen fixed : List ℕ) (n : ℕ) (kept : Extremes) → ((worst : WorstShow) → AreKept worst kept) →
     AreKeptIn starter throw unseen fixed (replicate n kept)
 kept_new starter throw unseen fixed n kept right = λ worst none has inside.
-    let place = place_among 4 worst.ranks in
-    subst (AreKept worst) (sym (get_or-replicate n place kept none (subst (λ k. place < k) (length-replicate n kept) inside))) (right worst)
+    let index = index_among 4 worst.ranks in
+    subst (AreKept worst) (sym (get_or-replicate n index kept none (subst (λ k. index < k) (length-replicate n kept) inside))) (right worst)
 
--- what is right of a show is kept in its place
-pub kept_with : (worst : WorstShow) (all : List Extremes) (place : ℕ) (here : Extremes) → IsPlace worst.ranks place → AreKept worst here →
-    AreKeptIn worst.starter worst.own_throw worst.unseen worst.fixed all → AreKeptIn worst.starter worst.own_throw worst.unseen worst.fixed (set all place here)
-kept_with worst all place here is right kept = λ other none has inside.
-    let within : place_among 4 other.ranks < length all = subst (λ k. place_among 4 other.ranks < k) (length-set all place here) inside in
-    elim (cases_eq (place_among 4 other.ranks) place) [
+-- what is right of a show is kept at its index
+pub kept_with : (worst : WorstShow) (all : List Extremes) (index : ℕ) (here : Extremes) → IsIndex worst.ranks index → AreKept worst here →
+    AreKeptIn worst.starter worst.own_throw worst.unseen worst.fixed all → AreKeptIn worst.starter worst.own_throw worst.unseen worst.fixed (set all index here)
+kept_with worst all index here is right kept = λ other none has inside.
+    let within : index_among 4 other.ranks < length all = subst (λ k. index_among 4 other.ranks < k) (length-set all index here) inside in
+    elim (cases_eq (index_among 4 other.ranks) index) [
       | inl at ↦
-          let same : worst.ranks ≡ other.ranks = place_of_one 4 worst.ranks other.ranks (is.are_four.thirteen ∙ sym has.are_four.thirteen) is.are_four.four
-          has.are_four.four (sym is.place_is ∙ sym at) in
-          subst (AreKept other) (sym (get_or-set_at all place (place_among 4 other.ranks) here none at (subst (λ k. k < length all) at within)))
+          let same : worst.ranks ≡ other.ranks = choice_of_index worst.ranks other.ranks is.are_four has.are_four (sym is.index_is ∙ sym at) in
+          subst (AreKept other) (sym (get_or-set_at all index (index_among 4 other.ranks) here none at (subst (λ k. k < length all) at within)))
           (kept_there worst.starter worst.own_throw worst.unseen worst.fixed worst other (own_cards worst is.are_four) has same here right)
       | inr elsewhere ↦
-          subst (AreKept other) (sym (get_or-set_other all place (place_among 4 other.ranks) here none elsewhere))
+          subst (AreKept other) (sym (get_or-set_other all index (index_among 4 other.ranks) here none elsewhere))
           (kept other none has within)
     ]

@@ -2,5 +2,5 @@
 pub mod Counts
 pub mod Extremes
 pub mod Listing
-pub mod Places
+pub mod Indices
 pub mod Totals

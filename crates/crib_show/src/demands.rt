@@ -77,20 +77,6 @@ impl Demand {
     {
         self.is_met(102, 102) && self.crib == 0
     }
-
-    /// What is left of the demand for the crib, beside a hand of so many points.
-    pub fn behind(self, hand: u8) -> Self
-        ensures { (crib : ℕ) → is_met result 0 crib ≡ is_met self hand crib }
-    {
-        if hand > self.hand || hand > self.total {
-            return Demand::impossible();
-        }
-        Demand {
-            hand: 255,
-            total: self.total - hand,
-            crib: self.crib,
-        }
-    }
 }
 
 /// Returns what the show demands, at these scores before it, where the owner's hand has `own_hand` points.
@@ -116,21 +102,29 @@ pub fn demand_of_show(
     if scores.opponent >= GAME_HOLE {
         return Demand::impossible();
     }
-    let room = (GAME_HOLE - 1).saturating_sub(scores.opponent);
-    let left = target.saturating_sub(scores.with(Side::Owner, own_hand).owner);
-    let need = if target > GAME_HOLE { 255 } else { left };
+    let room = GAME_HOLE - 1 - scores.opponent;
+    let counted = scores.with(Side::Owner, own_hand).owner;
     match dealer {
-        Side::Opponent if left == 0 => Demand::none(),
+        Side::Opponent if counted >= target => Demand::none(),
         Side::Opponent if is_to_stop => Demand {
             hand: 255,
             total: room,
             crib: 0,
         },
         Side::Opponent => Demand::impossible(),
+        Side::Owner if is_to_stop => Demand {
+            hand: room,
+            total: 255,
+            crib: 0,
+        },
         Side::Owner => Demand {
             hand: room,
             total: 255,
-            crib: if is_to_stop { 0 } else { need },
+            crib: if target > GAME_HOLE {
+                255
+            } else {
+                target.saturating_sub(counted)
+            },
         },
     }
 }

@@ -1,4 +1,5 @@
 pub mod PlaceByHistory
+pub mod PositionHistories
 pub mod FirstOfRank
 pub mod AgreeingInSuitOrder
 pub mod RecordsFromOpening
@@ -6,3 +7,4 @@ pub mod ShowsBehind
 pub mod PointsOfDeals
 pub mod EndedDeals
 pub mod ExampleOpening
+mod PositionExamples

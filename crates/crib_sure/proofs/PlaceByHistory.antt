@@ -20,8 +20,7 @@ use Rattle.crib_problem.specs.Setup.{Setup, played_back}
 use Rattle.crib_know.specs.Knowledge.{played_events}
 use Rattle.crib_know.specs.Hidden.{BeginsAfter}
 use Rattle.crib_game.specs.Following.{opening_is_over, place_after_turn, place_of, IsAsStated, Follows}
-use Rattle.crib_sure.specs.HistoryPlaces.{is_late, place_after_event, place_by}
-use Rattle.crib_sure.specs.Private.Histories.{IsStatedEvent, FollowsBy}
+use Rattle.crib_sure.specs.HistoryPlaces.{is_late, place_after_event, place_by, IsStatedEvent, FollowsBy}
 use Rattle.std.proofs.Common.{not, ◌&&◌}
 use Rattle.std.proofs.lemmas.Bool.Decides.{nat_tests}
 

@@ -5,7 +5,7 @@ use Rattle.std.proofs.Common.{arith, rules, ap, sym, subst, ◌∙◌, inl, inr}
 use Rattle.crib_text.specs.Words.{lines_of, words_of}
 use Rattle.crib_text.specs.Counted.{counted_faults, counted_inner}
 use Rattle.crib_text.specs.Device.{CountsFailure, HasFailed, HasNotFallen, glitch_for, next_count}
-use Rattle.crib_text.specs.Lines.{IsAt, IsLineOf, line_of, line_place, place_of, rest_of, source_of, token_place, word_of}
+use Rattle.crib_text.specs.Lines.{IsAt, IsLineOf, line_of, line_start, lines_start, rest_of, source_of, token_start, word_of}
 use Rattle.crib_text.specs.Reading.{Gives, Reads, Rest}
 use Rattle.crib_text.specs.Refusals.{Refusal, cause_number, text_refusal}
 use Rattle.crib_text.specs.Transfer.{IsReadingFault}
@@ -88,20 +88,20 @@ unfolding rest_of lines_of
 second_line_is_next text bytes at = ap (λ bytes. lines_of (drop text.at bytes)) bytes ∙ ap (λ at. lines_of (drop at (codes "a\nb c\na\n"))) at
 
 -- the number of the next line, the text, and the place in bytes
-pub lines_seen : (text : lines.Lines) → ((rest_of text).number ≡ text.number) × (source_of text ≡ text.source.now) × (place_of text ≡ text.at)
-unfolding rest_of source_of place_of
+pub lines_seen : (text : lines.Lines) → ((rest_of text).number ≡ text.number) × (source_of text ≡ text.source.now) × (lines_start text ≡ text.at)
+unfolding rest_of source_of lines_start
 lines_seen text = (refl, refl, refl)
 
 pub line_has_words : (l : line.Line) → l.bytes.now ≡ codes "b c" → (line_of l).words ≡ codes "b" ∷ codes "c" ∷ []
 unfolding line_of words_of
 line_has_words l e = ap words_of e
 
-pub line_seen : (l : line.Line) → ((line_of l).number ≡ l.number) × (line_place l ≡ l.start)
-unfolding line_of line_place
+pub line_seen : (l : line.Line) → ((line_of l).number ≡ l.number) × (line_start l ≡ l.start)
+unfolding line_of line_start
 line_seen l = (refl, refl)
 
-pub word_seen : (word : token.Token) → (word_of word ≡ word.bytes.now) × (token_place word ≡ word.start)
-unfolding word_of token_place
+pub word_seen : (word : token.Token) → (word_of word ≡ word.bytes.now) × (token_start word ≡ word.start)
+unfolding word_of token_start
 word_seen word = (refl, refl)
 
 -- "b c" are three bytes at place 2 of a text of six, and at no other place. The last three bytes begin at place 3

@@ -216,97 +216,97 @@ form_as {A = A} {read = read} {are = are} form to from same within = record {
   steady = form.steady;
 }
 
--- ---- as many lines as there are values, each by its place
+-- ---- as many lines as there are values, each by its index
 
--- the lines of some values, from a place on
+-- the lines of some values, from an index on
 abbrev pub row_lines : {A : Type 0} → (ℕ → A → List (List ℕ)) → ℕ → List A → List (List (List ℕ))
-row_lines words place [] = []
-row_lines words place (value ∷ values) = words place value ∷ row_lines words (place + 1) values
+row_lines words index [] = []
+row_lines words index (value ∷ values) = words index value ∷ row_lines words (index + 1) values
 
--- each value is what it is to be at its place
+-- each value is what it is to be at its index
 abbrev pub AreRows : {A : Type 0} → (ℕ → A → Type 0) → ℕ → List A → Type 0
-AreRows is place [] = Unit {0}
-AreRows is place (value ∷ values) = is place value × AreRows is (place + 1) values
+AreRows is index [] = Unit {0}
+AreRows is index (value ∷ values) = is index value × AreRows is (index + 1) values
 
 pub many_form : {A : Type 0} {read : ℕ → List (List ℕ) → Result A ℕ} {words : ℕ → A → List (List ℕ)} {is : ℕ → A → Type 0} {most : ℕ}
-    → ((place : ℕ) → AreWordsForm (read place) (words place) (is place) (λ value. most))
-    → ((place : ℕ) (value : A) → are_words (words place value) ≡ list_all is_word (words place value)) → (place count : ℕ)
-    → IsForm (values_at read place count) (row_lines words place) (λ values. (length values ≡ count) × AreRows is place values) (λ values. most * length values)
+    → ((index : ℕ) → AreWordsForm (read index) (words index) (is index) (λ value. most))
+    → ((index : ℕ) (value : A) → are_words (words index value) ≡ list_all is_word (words index value)) → (index count : ℕ)
+    → IsForm (values_at read index count) (row_lines words index) (λ values. (length values ≡ count) × AreRows is index values) (λ values. most * length values)
 unfolding values_at
-many_form {A = A} {read = read} {words = words} {is = is} {most = most} each some place count = record {
-  found = found place count;
-  spelled = spelled place count;
-  full = λ values all. full place values all.1;
-  short = λ values all. short place values all.1;
-  steady = steady place count;
+many_form {A = A} {read = read} {words = words} {is = is} {most = most} each some index count = record {
+  found = found index count;
+  spelled = spelled index count;
+  full = λ values all. full index values all.1;
+  short = λ values all. short index values all.1;
+  steady = steady index count;
 }
   where
-    form : (place : ℕ) → IsForm (value_at (read place)) (λ value. words place value ∷ []) (is place) (λ value. most)
-    form place = line_form (each place) (some place)
+    form : (index : ℕ) → IsForm (value_at (read index)) (λ value. words index value ∷ []) (is index) (λ value. most)
+    form index = line_form (each index) (some index)
 
-    found : (place count : ℕ) (rest : Rest) (values : List A) (after : Rest) → values_at read place count rest ≡ Ok (values, after)
-        → ((length values ≡ count) × AreRows is place values) × (rest.lines ≡ map line_bytes (row_lines words place values) ++ after.lines)
-    found place zero rest values after e =
-        subst (λ (got : List A × Rest). ((length got.0 ≡ 0) × AreRows is place got.0) × (rest.lines ≡ map line_bytes (row_lines words place got.0) ++
+    found : (index count : ℕ) (rest : Rest) (values : List A) (after : Rest) → values_at read index count rest ≡ Ok (values, after)
+        → ((length values ≡ count) × AreRows is index values) × (rest.lines ≡ map line_bytes (row_lines words index values) ++ after.lines)
+    found index zero rest values after e =
+        subst (λ (got : List A × Rest). ((length got.0 ≡ 0) × AreRows is index got.0) × (rest.lines ≡ map line_bytes (row_lines words index got.0) ++
         got.1.lines))
         (ok_is ([], rest) (values, after) e) ((refl, tt), refl)
-    found place (suc left) rest values after e =
-        let a = bind_ok (value_at (read place) rest) _ (values, after) e in
-        let b = bind_ok (values_at read (place + 1) left a.0.1) _ (values, after) a.2 in
-        let first = (form place).found rest a.0.0 a.0.1 a.1 in
-        let others = found (place + 1) left a.0.1 b.0.0 b.0.1 b.1 in
-        subst (λ (got : List A × Rest). ((length got.0 ≡ suc left) × AreRows is place got.0) × (rest.lines ≡ map line_bytes (row_lines words place got.0) ++
+    found index (suc left) rest values after e =
+        let a = bind_ok (value_at (read index) rest) _ (values, after) e in
+        let b = bind_ok (values_at read (index + 1) left a.0.1) _ (values, after) a.2 in
+        let first = (form index).found rest a.0.0 a.0.1 a.1 in
+        let others = found (index + 1) left a.0.1 b.0.0 b.0.1 b.1 in
+        subst (λ (got : List A × Rest). ((length got.0 ≡ suc left) × AreRows is index got.0) × (rest.lines ≡ map line_bytes (row_lines words index got.0) ++
         got.1.lines))
         (ok_is (a.0.0 ∷ b.0.0, b.0.1) (values, after) b.2)
-        ((ap suc others.0.0, (first.0, others.0.1)), first.1 ∙ ap (λ ls. line_bytes (words place a.0.0) ∷ ls) others.1)
+        ((ap suc others.0.0, (first.0, others.0.1)), first.1 ∙ ap (λ ls. line_bytes (words index a.0.0) ∷ ls) others.1)
 
-    spelled : (place count : ℕ) (values : List A) (number : ℕ) (rest : List (List ℕ)) → (length values ≡ count) × AreRows is place values
-        → values_at read place count (from_line number (map line_bytes (row_lines words place values) ++ rest))
-        ≡ Ok (values, from_line (number + length (row_lines words place values)) rest)
-    spelled place zero [] number rest all = ap (λ n. Ok ([], from_line n rest)) (omega arith)
-    spelled place zero (value ∷ values) number rest all = absurd (omega (arith, all.0))
-    spelled place (suc left) [] number rest all = absurd (omega (arith, all.0))
-    spelled place (suc left) (value ∷ values) number rest all =
+    spelled : (index count : ℕ) (values : List A) (number : ℕ) (rest : List (List ℕ)) → (length values ≡ count) × AreRows is index values
+        → values_at read index count (from_line number (map line_bytes (row_lines words index values) ++ rest))
+        ≡ Ok (values, from_line (number + length (row_lines words index values)) rest)
+    spelled index zero [] number rest all = ap (λ n. Ok ([], from_line n rest)) (omega arith)
+    spelled index zero (value ∷ values) number rest all = absurd (omega (arith, all.0))
+    spelled index (suc left) [] number rest all = absurd (omega (arith, all.0))
+    spelled index (suc left) (value ∷ values) number rest all =
         rw (
-          (form place).spelled value number (map line_bytes (row_lines words (place + 1) values) ++ rest) all.1.0,
-          spelled (place + 1) left values (number + 1) rest
+          (form index).spelled value number (map line_bytes (row_lines words (index + 1) values) ++ rest) all.1.0,
+          spelled (index + 1) left values (number + 1) rest
               (omega (arith, all.0), all.1.1),
         )
         (ap (λ n. Ok (value ∷ values, from_line n rest)) (omega arith))
 
-    full : (place : ℕ) (values : List A) → AreRows is place values → list_all are_words (row_lines words place values) ≡ true
-    full place [] all = refl
-    full place (value ∷ values) all = rw (some place value, (each place).full value all.0, full (place + 1) values all.1) refl
+    full : (index : ℕ) (values : List A) → AreRows is index values → list_all are_words (row_lines words index values) ≡ true
+    full index [] all = refl
+    full index (value ∷ values) all = rw (some index value, (each index).full value all.0, full (index + 1) values all.1) refl
 
-    short : (place : ℕ) (values : List A) → AreRows is place values → length (lines_text (row_lines words place values)) ≤ most * length values
-    short place [] all = omega arith
-    short place (value ∷ values) all = omega (
+    short : (index : ℕ) (values : List A) → AreRows is index values → length (lines_text (row_lines words index values)) ≤ most * length values
+    short index [] all = omega arith
+    short index (value ∷ values) all = omega (
       arith,
-      length-lines_text (words place value ∷ []) (row_lines words (place + 1) values),
-      (form place).short value all.0,
-      short (place + 1) values all.1,
+      length-lines_text (words index value ∷ []) (row_lines words (index + 1) values),
+      (form index).short value all.0,
+      short (index + 1) values all.1,
       mul-suc most (length values),
     )
 
-    steady : (place count : ℕ) → IsSteady (values_at read place count)
-    steady place zero = steady_ok []
-    steady place (suc left) = steady_then (value_at (read place)) _ (form place).steady (λ value.
-        steady_then (values_at read (place + 1) left) _ (steady (place + 1) left) (λ values. steady_ok (value ∷ values)))
+    steady : (index count : ℕ) → IsSteady (values_at read index count)
+    steady index zero = steady_ok []
+    steady index (suc left) = steady_then (value_at (read index)) _ (form index).steady (λ value.
+        steady_then (values_at read (index + 1) left) _ (steady (index + 1) left) (λ values. steady_ok (value ∷ values)))
 
 -- as many lines as there are values, where their places say nothing
 pub each_line_form : {A : Type 0} {read : List (List ℕ) → Result A ℕ} {words : A → List (List ℕ)} {is : A → Type 0} {most : ℕ}
     → AreWordsForm read words is (λ value. most) → ((value : A) → are_words (words value) ≡ list_all is_word (words value)) → (count : ℕ)
-    → IsForm (values_at (λ place. read) 0 count) (map words) (λ values. (length values ≡ count) × AllByRecursion is values) (λ values. most * length values)
+    → IsForm (values_at (λ index. read) 0 count) (map words) (λ values. (length values ≡ count) × AllByRecursion is values) (λ values. most * length values)
 each_line_form {A = A} {words = words} {is = is} each some count =
-    form_as (many_form (λ place. each) (λ place. some) 0 count)
+    form_as (many_form (λ index. each) (λ index. some) 0 count)
     (λ values all. (all.0, (plain 0 values).0.0 all.1)) (λ values all. (all.0, (plain 0 values).0.1 all.1)) (λ values all. (plain 0 values).1)
     (λ values all. omega arith)
   where
-    plain : (place : ℕ) (values : List A) →
-        (AreRows (λ place. is) place values ↔ AllByRecursion is values) × (row_lines (λ place. words) place values ≡ map words values)
-    plain place [] = ((λ all. all, λ all. all), refl)
-    plain place (value ∷ values) =
-        let rest = plain (place + 1) values in
+    plain : (index : ℕ) (values : List A) →
+        (AreRows (λ index. is) index values ↔ AllByRecursion is values) × (row_lines (λ index. words) index values ≡ map words values)
+    plain index [] = ((λ all. all, λ all. all), refl)
+    plain index (value ∷ values) =
+        let rest = plain (index + 1) values in
         ((λ all. (all.0, rest.0.0 all.1), λ all. (all.0, rest.0.1 all.1)), ap (λ ls. words value ∷ ls) rest.1)
 
 -- ---- the loop that reads a value from each line

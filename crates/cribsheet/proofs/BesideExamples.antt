@@ -18,7 +18,7 @@ said_of_an_act shown = (
   codes "cribsheet: line 13, line 6 of the game: not your turn\n  13 | own 2D\n",
   codes " 1 pone   2C       2   0    0\n",
   record {
-    place = in_a_game 6;
+    spot = in_a_game 6;
     sentence = codes "not your turn";
     excerpt = codes "  13 | own 2D\n";
     is = refl;

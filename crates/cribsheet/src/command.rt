@@ -17,24 +17,27 @@ pub fn program() -> Program
         commands: NAMES.as_slice(),
         after_help: "\
 Commands:
-  plan    reads a problem and a plan, as cribplan check does: the plan in words, and whether it is sure
+  plan    reads a problem and a plan, as cribplan check does, or a problem alone, for which it finds a plan, as try
+          does: the plan in words, and whether it is sure
   game    reads a problem and a game, as cribplan replay does: the game with a reason for each point
   beaten  reads a problem and a plan, as cribplan check does: how many deals beat the plan
   try     reads a problem, as cribplan solve does: a sure plan, or one that few deals beat
+  refute  reads a problem, as cribplan solve does: if no plan is sure, games that show that nobody is, or suits
+  why     reads a problem, as cribplan solve does: the same in words, what beats each card
 
 Exit status:
   0  the sheet is printed, and a plan is sure
-  1  the sheet is printed, and the plan is not sure; for try, no plan is
+  1  the sheet is printed, and the plan is not sure; for try, or if the input has no plan, no plan is
   2  the command line or the input is refused
   3  reading or writing failed, or memory ran out
 
 An example:
-  cribsheet plan < examples/sure-plan.txt
+  cribsheet plan < examples/twelve-holes-to-find.txt
 
 Manual: man cribsheet. Guide, formats and examples: share/doc/cribplan, beside the bin that has the program",
         hint: "
-The command is plan, game, beaten or try. It is the only word, and --help the only option. The input is read from
-standard input, as in
+The command is plan, game, beaten, try, refute or why. It is the only word, and --help the only option. The input is
+read from standard input, as in
   cribsheet plan < FILE
 ",
     }

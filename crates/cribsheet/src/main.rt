@@ -1,4 +1,4 @@
-//! `cribsheet plan|game|beaten|try` reads standard input to its end, and writes a sheet to standard output.
+//! `cribsheet plan|game|beaten|try|refute|why` reads standard input to its end, and writes a sheet to standard output.
 #![tactic(auto)]
 
 ghost use Rattle.std.specs.Prelude.{◌≡◌, ◌⊎◌, ℕ, List, IfSome, []};
@@ -60,15 +60,19 @@ fn job_of_args(rt: &(impl Env + AllocGlobal)) -> Result<SheetJob, Error> {
 /// - `answers`: what is written is a right reply of the job to what was read. It is the whole reply, or a proper
 ///   beginning of it if the writer failed. If the bytes of the reader are known, these are what was read. `plan` writes
 ///   the position and the verdict in words, the sheet of the plan and how to read it, with the status `Yes` if the plan
-///   is sure and `No` if it is not. `game` writes the sheet of the game, with the status `Yes`. `beaten` writes how
-///   many deals beat the plan, of the open deals, and the same for each choice of four ranks of which some deal does,
-///   with the status `Yes` if none does and `No` otherwise. `try` writes a plan: a sure one with the status `Yes`, or,
-///   if no plan is sure, another one with the status `No`. All write the refusal of the input if it has one, or
-///   `fault 11` if an allocation failed. `try` writes `fault 50` if the plan has more than 65,535 nodes.
+///   is sure and `No` if it is not. If the input has no plan, it is that of `try`. `game` writes the sheet of the game,
+///   with the status `Yes`. `beaten` writes how many deals beat the plan, of the open deals, and of each choice of four
+///   ranks of which some deal does, with the status `Yes` if none does and `No` otherwise. `try` writes a plan: a sure
+///   one with the status `Yes`, or, if no plan is sure, another one with the status `No`. `refute` writes that some
+///   plan is sure, with the status `Yes`, or with the status `No` games that refute every player, or that suits decide.
+///   `why` writes the same in words. All write the refusal of the input if it has one, or `fault 11` if an allocation
+///   failed. If the plan of `try` has more than 65,535 nodes, `try` and `plan` write `fault 50`.
 /// - `means`: what the status means for the input. If the bytes of the reader are known, these are the input. The
 ///   status `Yes` of `plan` and of `beaten` means that the plan of the input is sure, and `No` that it is not. With
-///   both the figures are exact. The status `Yes` of `try` means that the plan that is written is sure, and `No` that
-///   no plan is. The status `Fault` means that an allocation or a device failed, or that a plan has too many nodes.
+///   both the figures are exact. The status `Yes` of `try`, and of `plan` if the input has no plan, means that the plan
+///   that is written is sure, and `No` that no plan is. The status `Yes` of `refute` and of `why` means that some plan
+///   is sure, and `No` that none is. The status `Fault` means that an allocation or a device failed, or that a plan has
+///   too many nodes.
 /// - `words`: a refusal or a fault has its message on the third device, whole unless that device fails. After the
 ///   refusal of an act are the acts before it, and after no other message.
 /// - `silent`: nothing is written there if the status is `Yes` or `No`.

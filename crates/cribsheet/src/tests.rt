@@ -5,6 +5,7 @@ mod games;
 mod growths;
 mod messages;
 mod plans;
+mod refutations;
 mod runs;
 mod tries;
 mod words;

@@ -1,8 +1,8 @@
 //! Tests of sheets of games.
 use crib_game::replay;
-use crib_game_sheet::send_game_sheet;
+use crib_game_sheet::put_game_sheet;
 use crib_input::{Played, played_of};
-use crib_run::Status;
+use crib_run::Printer;
 use crib_text::Counted;
 use example_texts::joined;
 use failing_devices::{Tray, Trouble};
@@ -25,16 +25,21 @@ fn played(rt: &impl Abort, input: &str) -> Played {
     played_of(bytes).expect(rt, "a problem and a game")
 }
 
-/// The sheet of a game that is accepted, with the status of the sending. No line has more than 78 columns.
-fn sheet(rt: &(impl Abort + AllocGlobal), played: &Played, trouble: Trouble) -> (String, Status) {
+/// The sheet of a game that is accepted, and whether it is cut. No line has more than 78 columns.
+fn sheet(rt: &(impl Abort + AllocGlobal), played: &Played, trouble: Trouble) -> (String, bool) {
     let report = replay(&played.problem, &played.game).expect(rt, "a report");
     let mut sink = Counted::new(Tray::new(rt.alloc(), 7, trouble));
-    let status = send_game_sheet(&mut sink, &played.problem, &played.game, &report);
+    let mut page = Printer {
+        sink: &mut sink,
+        is_cut: false,
+    };
+    put_game_sheet(&mut page, &played.problem, &played.game, &report);
+    let is_cut = page.is_cut;
     let text = String::from_utf8(sink.into_inner().into_bytes()).expect(rt, "text");
     for line in text.as_str().lines() {
         assert!(rt; line.len() <= 78);
     }
-    (text, status)
+    (text, is_cut)
 }
 
 /// The sheet of the game that these texts spell.
@@ -43,7 +48,7 @@ fn sheet_of(
     problem: &str,
     game: &str,
     trouble: Trouble,
-) -> (String, Status) {
+) -> (String, bool) {
     let played = played(rt, input(rt, problem, game).as_str());
     sheet(rt, &played, trouble)
 }

@@ -107,13 +107,17 @@ const LEGEND: &str = "
 Play a row in order, one card at each of your turns. If none of your cards
 fits, say go and stay there. At \"look\", go on in the line of what they show
 next: a rank, or a go, even after yours. At \"see [n]\", go on in paragraph [n].
-At the end of a row, or if there is no line, ";
+";
 
-const IF_SURE: &str = "nothing is left to decide, or
+const IF_SURE: &str = "At the end of a row, or if there is no line, nothing is left to decide, or
 your goal is reached: then play as you like.
 ";
 
-const OTHERWISE: &str = "the plan states nothing more.\n";
+const OTHERWISE: &str =
+    "At the end of a row, if there is no line, or if the next card doesn't fit but
+another does, the plan states nothing more, nor at a \"look\" if a card of yours
+fits. Then play what you think best: you may still reach your goal.
+";
 
 /// The plan that this text spells.
 pub(crate) fn plan(rt: &(impl Abort + AllocGlobal), text: &str) -> Plan<Global> {

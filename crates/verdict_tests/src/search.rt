@@ -1,5 +1,6 @@
 use crate::same;
 use crate::sections::problem;
+use crib_cards::{Act, Card, Move, Rank, Side, Suit};
 use crib_plan::{Plan, write_plan};
 use crib_problem::Problem;
 use crib_search::*;
@@ -56,6 +57,41 @@ fn the_card_waits_for_the_letter(rt: HostRuntime) {
 #[test]
 fn no_plan_is_sure_where_each_card_fails(rt: HostRuntime) {
     finds_none(&rt, LAST_TWO_BEHIND);
+}
+
+/// At the first lead. The opponent may lead a jack, and the jack of spades may count his nobs.
+const SPADES_UP: &str =
+    "problem 2\ndealer owner\nscore 117 98\nstarter 2S\nhold AD 9S KC 3S\nthrow 8S 7D\ngoal win\nplayed 0\n";
+
+#[test]
+fn one_plan_is_sure_after_each_rank_but_the_jack(rt: HostRuntime) {
+    let before = problem(&rt, SPADES_UP);
+    for number in 1..14u8 {
+        let rank = Rank::new(number).expect(&rt, "a rank");
+        let is = is_winnable_after(rt.alloc(), &before, rank).expect(&rt, "memory");
+        same(&rt, is, number != 11);
+    }
+}
+
+#[test]
+fn a_plan_is_sure_after_each_jack(rt: HostRuntime) {
+    let before = problem(&rt, SPADES_UP);
+    let jack = Rank::new(11).expect(&rt, "a rank");
+    for suit in [Suit::Clubs, Suit::Diamonds, Suit::Hearts, Suit::Spades] {
+        let act = Act {
+            side: Side::Opponent,
+            what: Move::Card(Card::of(jack, suit)),
+        };
+        let after = before.after(act).expect(&rt, "a problem");
+        assert!(rt; matches!(&find(rt.alloc(), &after), Ok(Found::Plan(_))));
+    }
+}
+
+#[test]
+fn a_plan_is_sure_after_a_rank_that_cannot_come(rt: HostRuntime) {
+    let own_turn = problem(&rt, THIRTEEN);
+    let ace = Rank::new(1).expect(&rt, "a rank");
+    assert!(rt; is_winnable_after(rt.alloc(), &own_turn, ace).expect(&rt, "memory"));
 }
 
 /// Searches a plan within a limit, and asserts that it has this text if it is found. The allocation after the first

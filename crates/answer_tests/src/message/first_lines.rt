@@ -170,6 +170,10 @@ a carriage return (CR) is neither LF nor 32 to 126. A line ends with LF alone: s
 # problem 1|dealer owner|score 0 0|
 > starter K\u{2666}|
 \"\\xe2\\x99\\xa6\" is neither LF nor 32 to 126. Write the suit sign of diamonds as the letter D.
+> starter KD\u{fe0f}|
+\"\\xef\\xb8\\x8f\" is neither LF nor 32 to 126. Remove the invisible sign here.
+> starter \u{201c}KD\u{201d}|
+\"\\xe2\\x80\\x9c\" is neither LF nor 32 to 126. Remove the quotation mark.
 ";
 
 #[test]

@@ -33,7 +33,7 @@ cribplan: line 10, line 3 of the game: card 6 of the opponent is known or stood 
      |          ^^
 > game 1|hold 5C 4D KH QS|throw 5H 7D|acts 4|own TC|opp 5C|own 9C|own go|
 cribplan: line 15, line 8 of the game: act 4 is out of turn: it is the opponent's turn, and the count is 24;
-they hold 4D QS KH, of which 4D fits
+the opponent holds 4D QS KH, of which 4D fits
   15 | own go
      | ^^^
 + game 1|hold TD KD KH QS|throw 5H 7D|
@@ -68,7 +68,7 @@ and 2 is left to 31; the opponent holds no card that fits, so "opp go" is missin
      |     ^^
 > acts 4|own TC|opp TD|own 9C|own 2C|
 cribplan: line 15, line 8 of the game: act 4 is out of turn: it is the opponent's turn, and the count is 29;
-none of their cards fits (QS KD KH), so "opp go" is missing before this line
+none of the opponent's cards fits (QS KD KH), so "opp go" is missing before this line
   15 | own 2C
      | ^^^
 > acts 1|own go|
@@ -83,12 +83,12 @@ the opponent holds TD QS KD KH, which fit
      |     ^^
 > acts 1|opp TD|
 cribplan: line 12, line 5 of the game: act 1 is out of turn: it is the owner's turn, and the count is 0;
-they hold 2C 8C 9C TC, which fit
+the pone leads, and line 2 says who deals
   12 | opp TD
      | ^^^
 > acts 2|own TC|own 9C|
 cribplan: line 13, line 6 of the game: act 2 is out of turn: it is the opponent's turn, and the count is 10;
-they hold TD QS KD KH, which fit
+the opponent holds TD QS KD KH, which fit
   13 | own 9C
      | ^^^
 > acts 11|own TC|opp TD|own 9C|opp go|opp go|own 2C|opp KD|own 8C|opp KH|opp go|opp QS|
@@ -98,7 +98,7 @@ and each side says go once a count; it is the owner's turn, and the count is 29;
      | ^^^
 > acts 11|own TC|opp TD|own 9C|opp go|own 2C|own go|opp KD|own 8C|opp KH|opp go|opp QS|
 cribplan: line 17, line 10 of the game: act 6 is out of turn: the count was 31, where nobody says go, and begins again;
-it is the opponent's turn, and the count is 0; they hold QS KD KH, which fit
+it is the opponent's turn, and the count is 0; the opponent holds QS KD KH, which fit
   17 | own go
      | ^^^
 > acts 11|own TC|opp TD|own 9C|opp go|own 2C|opp go|opp KD|own 8C|opp KH|opp go|opp QS|

@@ -29,6 +29,14 @@ the end of the line is not expected here; expected: hold and four cards. The num
 > hold TS 4D 9H JC 5C 6C|
 "5C" is not expected here; expected: hold and four cards.
 The number of cards here is 6: hold has four, and throw has the other two.
+> hold 6C 6D|throw 2C 3C 4C 5C|
+the end of the line is not expected here; expected: hold and four cards.
+The number of cards here is 2: hold has four, and throw has two, so exchange them.
+> hold 2S 8D|8H 8S|
+the end of the line is not expected here; expected: hold and four cards.
+The number of cards here is 2: the cards on the next line belong on this one.
+> > hold 2C 3C 4C 5C|
+">" is not expected here; expected: hold and four cards. Remove the mark > in front of each line.
 > hold KD 4D 9H JC|
 KD is already used, on line 4
 > hold 4D 4D 9H JC|
@@ -63,6 +71,8 @@ Write a number in digits alone.
 "win." is not expected here; expected: goal win or goal holes N. Write no other sign at the word win.
 >
 the input ends here; expected: goal win or goal holes N
+> goal 121|
+"121" is not expected here; expected: goal win or goal holes N. Write goal win to be at hole 121 first.
 > goal 5|
 "5" is not expected here; expected: goal win or goal holes N. Write goal holes 5.
 > goal|

@@ -58,7 +58,7 @@ the owner holds 2C 8C 9C TC, which fit
     |     ^^
 > played 1|opp TD|
 cribplan: line 9: the opponent is not the side to move: it is the owner's turn, and the count is 0;
-they hold 2C 8C 9C TC, which fit
+the pone leads, and line 2 says who deals
   9 | opp TD
     | ^^^
 > played 2|own TC|own 9C|
@@ -68,7 +68,7 @@ a card of theirs is missing before this line
      | ^^^
 > played 5|own TC|opp TD|own 9C|opp go|opp KD|
 cribplan: line 13: the opponent is not the side to move: it is the owner's turn, and the count is 29;
-they hold 2C 8C, of which 2C fits
+the owner holds 2C 8C, of which 2C fits
   13 | opp KD
      | ^^^
 > played 4|own TC|opp TD|own 9C|own 2C|
@@ -96,7 +96,7 @@ and begins again; the count is 0, so every card fits; a go is said at a count of
      |     ^^
 > played 8|own TC|opp KD|own 8C|opp go|own 2C|own go|opp 5D|opp go|
 cribplan: line 16: the opponent is not the side to move:
-it is the owner's turn, and the count is 5; they hold 9C, which fits
+it is the owner's turn, and the count is 5; the owner holds 9C, which fits
   16 | opp go
      | ^^^
 > played 1|opp TC|

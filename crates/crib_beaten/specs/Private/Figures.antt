@@ -1,8 +1,8 @@
 -- The figures of rows, as sums over the rows of a tally.
-use Rattle.std.specs.Prelude.{◌≡◌, ℕ, Bool, List, [], ◌∷◌, ◌++◌, cond, sum_by}
+use Rattle.std.specs.Prelude.{◌≡◌, ℕ, ◌<◌, ◌≤◌, Bool, not, List, [], ◌∷◌, ◌++◌, length, cond, filter, get_or, sum_by}
 use Rattle.crib_beaten.specs.declared.tally.RanksTally.{RanksTally}
 use Rattle.crib_beaten.specs.declared.rows.Row.{Row}
-use Rattle.crib_beaten.specs.Terms.{is_first, meets_none}
+use Rattle.crib_beaten.specs.Terms.{columns, is_first, meets_none, meets_term}
 
 -- how many deals beat the plan, of those whose ranks pass a test
 abbrev pub beaten_where : (List ℕ → Bool) → List RanksTally → ℕ
@@ -15,3 +15,13 @@ AreSums tallied above [] others = others ≡ beaten_where (meets_none above) tal
 AreSums tallied above (row ∷ rows) others =
     (row.deals ≡ beaten_where (is_first above row.term) tallied)
     × AreSums tallied (above ++ row.term ∷ []) rows others
+
+-- the rows of a tally without those that meet a term
+abbrev pub left_by : List (List Bool) → List RanksTally → List RanksTally
+left_by term tallied = filter (λ (row : RanksTally). not (meets_term term row.ranks)) tallied
+
+-- at most so many deals beat the plan and meet a term, of some that are not too wide
+abbrev pub AreAtMost : List (List (List Bool)) → List RanksTally → ℕ → Type 0
+AreAtMost terms tallied most =
+    (k : ℕ) → k < length terms → columns (get_or terms k []) ≤ 24
+    → beaten_where (meets_term (get_or terms k [])) tallied ≤ most

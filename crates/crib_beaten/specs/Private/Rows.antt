@@ -1,35 +1,39 @@
 -- The rows of a tally, and what they are counted from.
 use Rattle.std.specs.Prelude.{◌≡◌, ℕ, ◌<◌, nat_lt, cond, List, [], ◌∷◌, ◌++◌, IsTrue}
 use Rattle.crib_cards.specs.Sets.{rank_counts}
+use Rattle.crib_show.specs.Indices.{index_among}
 use Rattle.crib_problem.specs.Setup.{Setup, IsSetup}
 use Rattle.crib_know.specs.Hidden.{IsOpen}
 use Rattle.crib_plan.specs.declared.plan.Node.{Node}
-use Rattle.crib_check.specs.Beaten.{Beats, Decides, counts_of, demand_of}
+use Rattle.crib_beaten.specs.Beaten.{Beats, Decides, counts_of, demand_of}
 use Rattle.crib_deals.specs.Choices.{are_in_order, ranks_of_number}
 use Rattle.crib_deals.specs.Deals.{ranks_held}
 use Rattle.crib_deals.specs.Exact.{AreExactly}
 use Rattle.crib_beaten.specs.declared.tally.OpenDeals.{OpenDeals}
 use Rattle.crib_beaten.specs.declared.tally.RanksTally.{RanksTally}
-use Rattle.crib_beaten.specs.Private.Numbers.{ordered_below}
 
 -- rows with one more, if some deal with its ranks beats the plan
-abbrev pub with_row : List RanksTally → RanksTally → List RanksTally
-with_row rows row = cond (nat_lt 0 row.beaten) (rows ++ row ∷ []) rows
+abbrev pub with_figures : List RanksTally → RanksTally → List RanksTally
+with_figures rows figures = cond (nat_lt 0 figures.beaten) (rows ++ figures ∷ []) rows
 
 -- so many open deals have four ranks, and so many of them beat the plan
 pub record AreCounted (problem : Setup) (plan : List Node) (ranks : List ℕ) (open_deals beaten : ℕ) : Type 0 where
   pub are_open : AreExactly (λ dealt. IsOpen problem dealt × (ranks_held dealt ≡ ranks)) open_deals
   pub are_beaten : AreExactly (λ dealt. Beats problem plan dealt × (ranks_held dealt ≡ ranks)) beaten
 
--- the counts of ranks are those of the choices in order with a smaller number, each at its place
+-- how many cards of each rank the four ranks with a number have
+abbrev pub counts_of_number : ℕ → List ℕ
+counts_of_number number = rank_counts (ranks_of_number number)
+
+-- the counts of ranks are those of the choices in order with a smaller number, each at its index
 abbrev pub AreChoices : ℕ → List (List ℕ) → Type 0
 AreChoices number choices =
     (n : ℕ) → n < number → IsTrue (are_in_order (ranks_of_number n))
-    → counts_of choices (ordered_below n) ≡ rank_counts (ranks_of_number n)
+    → counts_of choices (index_among 4 (counts_of_number n)) ≡ counts_of_number n
 
 -- these are the open deals of a problem, and the demands decide which of them beat a plan, for each choice of ranks
 pub record IsFor (problem : Setup) (plan : List Node) (deals : OpenDeals) : Type 0 where
   pub setup : IsSetup problem
   pub same_problem : deals.deals ≡ problem
   pub decided : (n : ℕ) → n < 28561 → IsTrue (are_in_order (ranks_of_number n)) →
-      Decides problem plan (rank_counts (ranks_of_number n)) (demand_of deals.demands (ordered_below n))
+      Decides problem plan (counts_of_number n) (demand_of deals.demands (index_among 4 (counts_of_number n)))

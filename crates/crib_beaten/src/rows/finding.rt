@@ -1,73 +1,78 @@
 //! Finds terms that say which hands beat a plan. A term is met by no possible choice of ranks without a deal that beats
 //! the plan.
-ghost use Rattle.std.specs.Prelude.{◌<◌, ◌≤◌};
+ghost use Rattle.std.specs.Prelude.{◌<◌};
 
-use crate::rows::{MOST_ROWS, Slot, Term, meets};
+use crate::rows::{ANY, AllHands, Slot, Term, Three, WIDEST, columns_of, leave_out, meet_three};
 use crate::tally::RanksTally;
 use arrayvec::ArrayVec;
 use crib_cards::{CardSet, Rank};
 use crib_deals::{are_in_order, ranks_at};
 use crib_show::count_ranks;
 
-// How many choices of four ranks there are.
-const CHOICES: usize = 1820;
-
 // How many terms are tried.
-const TRIED: usize = 24;
+pub(crate) const TRIED: usize = 24;
 
-// The most columns of a printed term.
-const WIDEST: usize = 24;
+// For each number of three ranks in order, the ranks that some choices have beside them: a bit for each.
+type Beside = [u16; 2197];
 
-// A choice of four ranks, and how many deals with it beat the plan.
-#[derive(Clone, Copy, Default)]
-struct Hands {
-    ranks: [Rank; 4],
-    beaten: u32,
-}
-
-// Choices of four ranks.
-type AllHands = ArrayVec<Hands, CHOICES>;
-
-/// Returns at most twelve terms that say which hands beat a plan, those with most deals first. Each counts the deals
-/// that meet none of the terms above.
-pub(crate) fn find_terms(unseen: CardSet, tallied: &[RanksTally]) -> ArrayVec<Term, MOST_ROWS> {
-    let beaten = beaten_hands(tallied);
-    let spared = spared_hands(unseen, tallied);
-    let tried = terms_to_try(beaten.as_slice(), spared.as_slice());
-    best_first(beaten.as_slice(), tried.as_slice())
-}
-
-// Returns the choices of a tally.
-fn beaten_hands(tallied: &[RanksTally]) -> AllHands {
-    let mut hands = AllHands::new();
-    for row in tallied {
-        if hands.is_full() {
+/// Returns terms to try, each made as wide as it can be from the choice with most deals that meets none before it.
+pub(crate) fn terms_to_try(unseen: CardSet, tallied: &[RanksTally]) -> ArrayVec<Term, TRIED> {
+    let spared = beside_spared(unseen, tallied);
+    let mut terms = ArrayVec::new();
+    let mut left = AllHands::new();
+    let _fits = left.try_extend_from_slice(tallied);
+    for _count in 0..TRIED {
+        let Some(most) = most_beaten(left.as_slice()) else {
             break;
-        }
-        hands.push(Hands {
-            ranks: row.ranks,
-            beaten: row.beaten,
-        });
+        };
+        let term = widened(&most.ranks, &beside_all(left.as_slice()), &spared);
+        leave_out(&mut left, &term);
+        terms.push(term);
     }
-    hands
+    terms
 }
 
-// Returns the choices that the opponent may have and that are not in a tally.
-fn spared_hands(unseen: CardSet, tallied: &[RanksTally]) -> AllHands {
-    let mut hands = AllHands::new();
+// Returns the ranks beside three others of the choices that the opponent may have and that are not in a tally.
+fn beside_spared(unseen: CardSet, tallied: &[RanksTally]) -> Beside {
+    let mut beside = [0; 2197];
     let mut next = 0;
     for number in 0..28561u16 {
         let ranks = ranks_at(number);
-        if !are_in_order(&ranks) || !are_possible(unseen, &ranks) || hands.is_full() {
+        if !are_in_order(&ranks) || !are_possible(unseen, &ranks) {
             continue;
         }
         if next < tallied.len() && tallied[next].ranks == ranks {
             next += 1;
         } else {
-            hands.push(Hands { ranks, beaten: 0 });
+            add_choice(&mut beside, &ranks);
         }
     }
-    hands
+    beside
+}
+
+// Returns the ranks beside three others of all choices of some rows.
+fn beside_all(hands: &[RanksTally]) -> Beside {
+    let mut beside = [0; 2197];
+    for hand in hands {
+        add_choice(&mut beside, &hand.ranks);
+    }
+    beside
+}
+
+// Adds each rank of a choice beside the other three.
+fn add_choice(beside: &mut Beside, ranks: &[Rank; 4]) {
+    let [a, b, c, d] = ranks.map(|rank| rank.number() - 1);
+    add_beside(beside, a, b, c, d);
+    add_beside(beside, b, a, c, d);
+    add_beside(beside, c, a, b, d);
+    add_beside(beside, d, a, b, c);
+}
+
+fn add_beside(beside: &mut Beside, rank: u8, first: u8, second: u8, third: u8)
+    requires { (rank < 13) × (first < 13) × (second < 13) × (third < 13) }
+{
+    let number = 169 * first as usize + 13 * second as usize + third as usize;
+    beside[number] |= 1 << rank;
 }
 
 // Whether there are enough cards for a choice of ranks among those that are unseen.
@@ -81,24 +86,8 @@ fn are_possible(unseen: CardSet, ranks: &[Rank; 4]) -> bool {
     true
 }
 
-// Returns terms to try, each made as wide as it can be from the choice with most deals among those left.
-fn terms_to_try(beaten: &[Hands], spared: &[Hands]) -> ArrayVec<Term, TRIED> {
-    let mut terms = ArrayVec::new();
-    let mut left = AllHands::new();
-    let _fits = left.try_extend_from_slice(beaten);
-    for _count in 0..TRIED {
-        let Some(most) = most_beaten(left.as_slice()) else {
-            break;
-        };
-        let term = widened(&most.ranks, left.as_slice(), spared);
-        left.retain(|hands| !meets(&term, &hands.ranks));
-        terms.push(term);
-    }
-    terms
-}
-
 // Returns the choice with most deals that beat the plan, the first of equals.
-fn most_beaten(hands: &[Hands]) -> Option<Hands> {
+fn most_beaten(hands: &[RanksTally]) -> Option<RanksTally> {
     let mut most = *hands.first()?;
     for other in hands {
         if other.beaten > most.beaten {
@@ -109,50 +98,67 @@ fn most_beaten(hands: &[Hands]) -> Option<Hands> {
 }
 
 // Returns the widest term from a choice of ranks on. No spared choice meets it, and each rank that it gains is met.
-fn widened(ranks: &[Rank; 4], left: &[Hands], spared: &[Hands]) -> Term {
+fn widened(ranks: &[Rank; 4], left: &Beside, spared: &Beside) -> Term {
     let mut term = with_any_cards(ranks, spared);
     for slot in 0..4 {
+        if term[slot] == ANY {
+            continue;
+        }
+        let gained = ranks_beside(&term, slot, left) & !ranks_beside(&term, slot, spared);
         for rank in 0..13 {
-            if may_gain(&term, slot, rank, left, spared) {
-                term[slot][rank] = true;
+            let mut wider = term;
+            wider[slot][rank] = true;
+            if gained & (1 << rank) != 0 && wider[slot] != ANY && columns_of(&wider) <= WIDEST {
+                term = wider;
             }
         }
     }
     term
 }
 
-// Returns the term of a choice of ranks, with any card in each slot that can have it. One slot at least can't.
-fn with_any_cards(ranks: &[Rank; 4], spared: &[Hands]) -> Term {
+// Returns the term of a choice of ranks, with any card in each slot that can have it, behind the others. One slot at
+// least can't.
+fn with_any_cards(ranks: &[Rank; 4], spared: &Beside) -> Term {
     let [first, second, third, fourth] = *ranks;
     let mut term = [only(first), only(second), only(third), only(fourth)];
-    let mut kept = 4;
-    for slot in 0..4 {
-        let mut wider = term;
-        wider[slot] = [true; 13];
-        if kept > 1 && !is_met(&wider, spared) {
+    let mut slot = 0;
+    for _count in 0..4usize {
+        let wider = with_any_last(&term, slot);
+        if wider[0] != ANY && ranks_beside(&wider, 3, spared) == 0 {
             term = wider;
-            kept -= 1;
+        } else {
+            slot += 1;
         }
     }
     term
 }
 
-// Whether a slot may have one more rank.
-fn may_gain(term: &Term, slot: usize, rank: usize, left: &[Hands], spared: &[Hands]) -> bool
-    requires { (slot < 4) × (rank < 13) }
-{
-    if term[slot][rank] {
-        return false;
+// Returns a term without a slot, and with one of any card behind the others.
+fn with_any_last(term: &Term, slot: usize) -> Term {
+    let mut slots = *term;
+    for next in slot..3 {
+        slots[next] = slots[next + 1];
     }
-    let mut wider = *term;
-    wider[slot][rank] = true;
-    let mut gained = *term;
-    gained[slot] = [false; 13];
-    gained[slot][rank] = true;
-    wider[slot] != [true; 13]
-        && columns_of(&wider) <= WIDEST
-        && is_met(&gained, left)
-        && !is_met(&gained, spared)
+    slots[3] = ANY;
+    slots
+}
+
+// Returns the ranks that a card of some choices has, if the other three meet the other slots of a term.
+fn ranks_beside(term: &Term, slot: usize, beside: &Beside) -> u16 {
+    let [first, second, third, _any] = with_any_last(term, slot);
+    let others = Three(&first, &second, &third);
+    let mut ranks = 0;
+    for number in 0..2197u16 {
+        let here = beside[number as usize];
+        if here & !ranks == 0 {
+            continue;
+        }
+        let [_ace, a, b, c] = ranks_at(number);
+        if meet_three(&others, a, b, c) {
+            ranks |= here;
+        }
+    }
+    ranks
 }
 
 // Returns the slot with one rank.
@@ -160,105 +166,4 @@ fn only(rank: Rank) -> [bool; 13] {
     let mut slot = [false; 13];
     slot[(rank.number() - 1) as usize] = true;
     slot
-}
-
-// Whether one of some choices meets a term.
-fn is_met(term: &Term, hands: &[Hands]) -> bool {
-    hands.iter().any(|hands| meets(term, &hands.ranks))
-}
-
-// Returns the columns of a printed term, with the blank before each slot. A slot with any card isn't printed.
-fn columns_of(term: &Term) -> usize {
-    let [first, second, third, fourth] = term;
-    slot_columns(first) + slot_columns(second) + slot_columns(third) + slot_columns(fourth)
-}
-
-fn slot_columns(slot: &Slot) -> usize
-    ensures few { result ≤ 28 }
-{
-    let mut printed = 0;
-    for rank in 0..13 {
-        let is_inner = 0 < rank && rank < 12 && slot[rank - 1] && slot[rank + 1];
-        if slot[rank] && !is_inner {
-            printed += 1;
-        }
-    }
-    if *slot == [true; 13] {
-        return 0;
-    }
-    match printed {
-        1 => 2,
-        _ => 2 * printed + 2,
-    }
-}
-
-// Returns the best of some terms, narrowed, one after another, each by the deals that are left.
-fn best_first(beaten: &[Hands], tried: &[Term]) -> ArrayVec<Term, MOST_ROWS> {
-    let mut terms = ArrayVec::new();
-    let mut left = AllHands::new();
-    let _fits = left.try_extend_from_slice(beaten);
-    for _count in 0..MOST_ROWS {
-        let Some(best) = best_of(tried, left.as_slice()) else {
-            break;
-        };
-        let mut term = narrowed(&best, left.as_slice());
-        term.sort_unstable_by_key(|slot| slot_order(slot));
-        left.retain(|hands| !meets(&term, &hands.ranks));
-        terms.push(term);
-    }
-    terms
-}
-
-// Returns a number that orders the slots of a term: by their first rank, and then by how many they have.
-fn slot_order(slot: &Slot) -> usize {
-    let mut first = 13;
-    let mut count = 0;
-    for rank in 0..13 {
-        if slot[rank] {
-            first = first.min(rank);
-            count += 1;
-        }
-    }
-    14 * first + count
-}
-
-// Returns the term that most deals meet, or `None` if none meets any.
-fn best_of(terms: &[Term], left: &[Hands]) -> Option<Term> {
-    let mut best = None;
-    let mut most = 0;
-    for term in terms {
-        let deals = deals_of(term, left);
-        if deals > most {
-            best = Some(*term);
-            most = deals;
-        }
-    }
-    best
-}
-
-// Returns a term without the ranks that gain it no deal.
-fn narrowed(term: &Term, left: &[Hands]) -> Term {
-    let deals = deals_of(term, left);
-    let mut term = *term;
-    for slot in 0..4 {
-        for rank in 0..13 {
-            let mut fewer = term;
-            fewer[slot][rank] = false;
-            if term[slot] != [true; 13] && term[slot][rank] && deals_of(&fewer, left) == deals {
-                term = fewer;
-            }
-        }
-    }
-    term
-}
-
-// Returns how many deals meet a term, or a larger number than any.
-fn deals_of(term: &Term, left: &[Hands]) -> u32 {
-    let mut deals = 0u32;
-    for hands in left {
-        if meets(term, &hands.ranks) {
-            deals = deals.saturating_add(hands.beaten);
-        }
-    }
-    deals
 }

@@ -1,6 +1,6 @@
 -- What the walk of the code finds at a position. The opening is the visible turns that the problem lists as played.
 use Rattle.std.specs.Prelude.{◌≡◌, ℕ, ◌+◌, ◌<◌, ◌≤◌, List, ◌∷◌, length, Option, Some, None}
-use Rattle.crib_cards.specs.Letters.{letter_place}
+use Rattle.crib_cards.specs.Letters.{letter_index}
 use Rattle.crib_cards.specs.declared.letters.Letter.{Letter}
 use Rattle.crib_cards.specs.declared.sides.Dealt.{Dealt}
 use Rattle.crib_play.specs.History.{Event, Theirs}
@@ -9,11 +9,12 @@ use Rattle.crib_plan.specs.declared.plan.Node.{Node}
 use Rattle.crib_know.specs.Hidden.{CanShow}
 use Rattle.crib_game.specs.declared.section.game.Game.{Game}
 use Rattle.crib_game.specs.Replay.{acts_back}
-use Rattle.crib_check.specs.declared.keys.Key.{Key}
+use Rattle.crib_sure.specs.declared.keys.Key.{Key}
 use Rattle.crib_check.specs.declared.failure.Failure.{Failure}
 use Rattle.crib_check.specs.declared.trails.Event.{Event as TrailEvent}
 use Rattle.crib_check.specs.Private.Trails.{later_of_trail}
-use Rattle.crib_check.specs.Private.Positions.{StandsAt, HoldsFrom, IsSettled, IsFirstFrom}
+use Rattle.crib_sure.specs.Positions.{StandsAt}
+use Rattle.crib_check.specs.Private.Positions.{HoldsFrom, IsSettled, IsFirstFrom}
 use Rattle.crib_sure.specs.Private.Suits.{acts_in_suits}
 
 -- the game of a deal and a trail: its acts are the opening, and then those of the trail
@@ -35,14 +36,14 @@ abbrev pub IsFoundFrom : Setup → List Node → Key → List Event → List Tra
 IsFoundFrom problem plan key history trail None = IsSettled problem plan key
 IsFoundFrom problem plan key history trail (Some failure) = IsStoppedBy problem plan history trail failure
 
--- the letters before a place are settled: for each of them that can be shown, no failing game goes on from the history
+-- the letters before an index are settled: for each of them that can be shown, no failing game goes on from the history
 -- with that letter
 abbrev pub IsSettledBelow : Setup → List Node → Key → ℕ → Type 0
-IsSettledBelow problem plan key place =
+IsSettledBelow problem plan key index =
     (history : List Event) (letter : Letter) → StandsAt problem plan key history → CanShow problem history letter →
-    letter_place letter < place → HoldsFrom problem plan (Theirs letter ∷ history)
+    letter_index letter < index → HoldsFrom problem plan (Theirs letter ∷ history)
 
--- what the walk finds after the letters before a place: they are settled, or here is the first failing game
+-- what the walk finds after the letters before an index: they are settled, or here is the first failing game
 abbrev pub IsFoundBelow : Setup → List Node → Key → ℕ → List Event → List TrailEvent → Option Failure → Type 0
-IsFoundBelow problem plan key place history trail None = IsSettledBelow problem plan key place
-IsFoundBelow problem plan key place history trail (Some failure) = IsStoppedBy problem plan history trail failure
+IsFoundBelow problem plan key index history trail None = IsSettledBelow problem plan key index
+IsFoundBelow problem plan key index history trail (Some failure) = IsStoppedBy problem plan history trail failure

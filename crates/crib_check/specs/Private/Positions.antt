@@ -1,33 +1,23 @@
--- Positions of the walk of the code, and statements about the games that go on from one.
+-- Statements about the games that go on from a position of the walk of the code.
 use Rattle.std.specs.Prelude.{◌≡◌, ◌≢◌, List, IsTrue, IsFalse}
 use Rattle.crib_cards.specs.Order.{is_before}
 use Rattle.crib_cards.specs.declared.sides.Dealt.{Dealt}
-use Rattle.crib_cards.specs.declared.moves.Move.{Move}
 use Rattle.crib_play.specs.Standing.{Standing}
 use Rattle.crib_show.specs.Outcome.{outcome_of}
 use Rattle.crib_show.specs.declared.show.outcomes.Outcome.TheVariants.{Reached}
-use Rattle.crib_plan.specs.Places.{stated_card}
 use Rattle.crib_game.specs.Private.Judging.{full_at}
-use Rattle.crib_game.specs.Private.Tracing.{is_stuck_at}
-use Rattle.crib_play.specs.History.{Event, Own}
+use Rattle.crib_play.specs.History.{Event}
 use Rattle.crib_problem.specs.Setup.{Setup}
 use Rattle.crib_plan.specs.declared.plan.Node.{Node}
-use Rattle.crib_know.specs.Hidden.{AgreesWith, CanDoAt, KnowsAfter}
+use Rattle.crib_know.specs.Hidden.{AgreesWith}
 use Rattle.crib_game.specs.declared.section.game.Game.{Game}
 use Rattle.crib_game.specs.declared.following.ending.Ending.{Ending}
 use Rattle.crib_game.specs.Replay.{acts_back}
 use Rattle.crib_cards.specs.Deals.{deal_numbers, is_in_pack_order}
-use Rattle.crib_check.specs.declared.keys.Key.{Key}
+use Rattle.crib_sure.specs.declared.keys.Key.{Key}
 use Rattle.crib_check.specs.Failing.{IsFailing, comes_before, is_suited}
-use Rattle.crib_sure.specs.HistoryPlaces.{place_by}
-use Rattle.crib_sure.specs.Private.Histories.{FollowsBy, IsStatedEvent, Extends, history_of_game}
-
--- a position represents a history: the history follows the plan, the knowledge is what the owner knows after it, and
--- the place is that of the plan after it
-pub record StandsAt (problem : Setup) (plan : List Node) (key : Key) (history : List Event) : Type 0 where
-  pub knows : KnowsAfter key.know problem history
-  pub place : key.place ≡ place_by plan problem.played history
-  pub follows : FollowsBy plan problem.played history
+use Rattle.crib_sure.specs.Positions.{StandsAt}
+use Rattle.crib_sure.specs.Private.Histories.{Extends, history_of_game}
 
 -- no failing game goes on from a history
 abbrev pub HoldsFrom : Setup → List Node → List Event → Type 0
@@ -48,14 +38,6 @@ pub record IsFirstFrom (problem : Setup) (plan : List Node) (history : List Even
   pub in_suit_order : IsTrue (is_suited problem game.opp.hold (acts_back game))
   pub first : (other : Game) (others_ending : Ending) → IsFailing problem plan other others_ending →
       Extends history (history_of_game other) → IsFalse (comes_before other game)
-
--- a move that the plan gives the owner at a position: the owner can make it, and a card is the stated one
-abbrev pub MayTakeAt : List Node → Key → Move → Type 0
-MayTakeAt plan key what = CanDoAt key.know what × IsStatedEvent plan key.place (Own what)
-
--- the owner is stuck: they are to move and a card of theirs fits, but no card that they hold and that fits is stated
-abbrev pub IsStuckAt : List Node → Key → Type 0
-IsStuckAt plan key = IsTrue (is_stuck_at key.know.round key.know.own_left (stated_card plan key.place))
 
 -- with the scores of this state, each deal that agrees with a history has the outcome Reached
 abbrev pub AllReach : Setup → List Event → Standing → Type 0

@@ -20,18 +20,18 @@ weigh_from first weight (number ∷ numbers) = number * weight first + weigh_fro
 abbrev pub sum_where : (List ℕ → Bool) → (List ℕ → ℕ) → List (List ℕ) → ℕ
 sum_where kind value holds = sum_by (λ hold. cond (kind hold) (value hold) 0) holds
 
--- the index of a card of a hold at a place: 4 times the place, and the suit
+-- the index of the suit of a card at an index of a hold: 4 times that, and the suit
 abbrev pub index_at : ℕ → List ℕ → ℕ
-index_at place hold = 4 * place + suit_of (slice_index hold place)
+index_at at hold = 4 * at + suit_of (slice_index hold at)
 
 -- the weights of the four cards of a hold, by their indices
-abbrev pub place_sum : (ℕ → ℕ) → List ℕ → ℕ
-place_sum weight hold =
+abbrev pub card_sum : (ℕ → ℕ) → List ℕ → ℕ
+card_sum weight hold =
     weight (index_at 0 hold) + weight (index_at 1 hold) + weight (index_at 2 hold) + weight (index_at 3 hold)
 
--- the points of the crib with the cards of a hold at two places
+-- the points of the crib with the cards of a hold at two indices
 abbrev pub pair_at : List ℕ → List ℕ → ℕ → ℕ → ℕ
-pair_at points hold place later = slice_index points (52 * slice_index hold place + slice_index hold later)
+pair_at points hold at later = slice_index points (52 * slice_index hold at + slice_index hold later)
 
 -- the weights of the points of the cribs with two cards of a hold
 abbrev pub pair_sum : (ℕ → ℕ) → List ℕ → List ℕ → ℕ
@@ -48,7 +48,7 @@ partners_at cribs ranks limit index =
 pub record AreSums (points : List ℕ) (kind : List ℕ → Bool) (holds : List (List ℕ)) (sums : Sums) : Type 0 where
   pub count : sums.count ≡ sum_where kind (λ hold. 1) holds
   pub cards : (weight : ℕ → ℕ) →
-      weigh_from 0 weight sums.cards ≡ sum_where kind (λ hold. place_sum weight hold) holds
+      weigh_from 0 weight sums.cards ≡ sum_where kind (λ hold. card_sum weight hold) holds
   pub pairs : (weight : ℕ → ℕ) →
       weigh_from 0 weight sums.pairs ≡ sum_where kind (λ hold. pair_sum weight points hold) holds
 

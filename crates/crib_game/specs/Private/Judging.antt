@@ -46,9 +46,9 @@ left_by hands moves =
 
 -- the refusal of an act in a round, by the cards that its side has left and the remark on the act
 abbrev pub fault_at : Remark → Standing → List ℕ → Act → ℕ → Option GameFault
-fault_at remark table cards act place =
+fault_at remark table cards act number =
     first_fault remark (is_over table.asked) (asks table.asked act.side)
-    (move_fault_at (count_of table.pile) cards act.what place) place
+    (move_fault_at (count_of table.pile) cards act.what number) number
 
 -- the round allows a move: the count with the card is at most 31, or the go is said at a count of 22 or more
 abbrev pub MayShowAt : Move → Standing → Type 0

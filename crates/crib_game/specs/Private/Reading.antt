@@ -11,5 +11,5 @@ use Rattle.crib_game.specs.declared.section.game.Game.{Game}
 unfoldable pub acts_at : Dealt → Rest → Result (Game × Rest) Refusal
 acts_at dealt rest = do
   count ← value_at (acts_count_in (codes "acts")) rest
-  acts ← values_at (λ place. act_in) 0 count.0 count.1
+  acts ← values_at (λ number. act_in) 0 count.0 count.1
   Ok (record { opp = dealt; acts = record { items = acts.0 } }, acts.1)

@@ -44,7 +44,7 @@ abbrev pub record_after : Setup → List Act → List Move
 record_after problem before = filled_moves (start_of problem) (moves_of before)
 
 -- an act may come next after some acts: its side is to move, and it is visible. `is_played` is whether the opening has
--- a turn at its place, and `row` is the row of the act
+-- a turn with its number, and `row` is the row of the act
 pub record IsNext (problem : Setup) (before : List Act) (act : Act) (is_played : Bool) (row : Row) : Type 0 where
   pub side : act.side ≡ mover (pone_of (start_of problem)) (letters_of (record_after problem before))
   pub visible : IsTrue

@@ -25,7 +25,7 @@ pub(crate) trait Follower {
     // A follower that began as the first one has followed these acts. The list has the last act first.
     ghost has_followed: { Self → Self → Setup → List Act → Type 0 };
 
-    // The remark on the next act. `played` is the turn of the opening at its place, if there is one.
+    // The remark on the next act. `played` is the turn of the opening with its number, if there is one.
     fn remark(&self, played: Option<Act>, act: &Act) -> Remark
         ensures { (first : Self) (problem : Setup) (before : List Act) → has_followed first self.now problem before
             → played ≡ next_played problem.played (pone_of (start_of problem)) (record_after problem before)
@@ -124,11 +124,11 @@ fn deal_fault(problem: &Problem, dealt: &Dealt) -> Option<GameFault>
     ensures cards { IfNone result (CanBeJudged problem.now dealt.now) }
 {
     let mut seen = problem.known();
-    let mut place = 0;
+    let mut number = 0;
     for card in six_cards(dealt) {
-        place += 1;
+        number += 1;
         if !seen.insert(card) {
-            return Some(GameFault::NotUnseen(place));
+            return Some(GameFault::NotUnseen(number));
         }
     }
     None

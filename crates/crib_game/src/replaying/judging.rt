@@ -79,31 +79,31 @@ impl JudgedGame {
         self.round.next() == Turn::Over
     }
 
-    // The refusal of an act, if there is one. `place` is counted from 1. The first of these is returned: the remark
-    // that the opening has another turn (47), an act after the end (45), the other side's turn (44), the remark that
-    // the act strays from the plan (46), and what is wrong with the move (41 to 43).
-    pub(crate) fn fault(&self, act: &Act, place: u8, remark: Remark) -> Option<GameFault>
-        ensures { result ≡ fault_at remark self.now.round (held_cards_of self.now.held act.now.side) act.now place }
+    // The refusal of an act, if there is one. Its `number` is counted from 1. The first of these is returned: the
+    // remark that the opening has another turn (47), an act after the end (45), the other side's turn (44), the remark
+    // that the act strays from the plan (46), and what is wrong with the move (41 to 43).
+    pub(crate) fn fault(&self, act: &Act, number: u8, remark: Remark) -> Option<GameFault>
+        ensures { result ≡ fault_at remark self.now.round (held_cards_of self.now.held act.now.side) act.now number }
     {
-        let turn = self.turn_fault(act, place);
-        let wrong = move_fault(self.held.of(act.side), act.what, self.round.count(), place);
+        let turn = self.turn_fault(act, number);
+        let wrong = move_fault(self.held.of(act.side), act.what, self.round.count(), number);
         match remark {
-            Remark::NotPlayed => Some(GameFault::NotAsPlayed(place)),
-            Remark::Astray => turn.or(Some(GameFault::Strays(place))),
+            Remark::NotPlayed => Some(GameFault::NotAsPlayed(number)),
+            Remark::Astray => turn.or(Some(GameFault::Strays(number))),
             Remark::Fine => turn.or(wrong),
         }
     }
 
     // The refusal of an act after the end of the deal (45), or in the other side's turn (44).
-    fn turn_fault(&self, act: &Act, place: u8) -> Option<GameFault>
-        ensures { result ≡ turn_fault (is_over self.now.round.asked) (asks self.now.round.asked act.now.side) place }
+    fn turn_fault(&self, act: &Act, number: u8) -> Option<GameFault>
+        ensures { result ≡ turn_fault (is_over self.now.round.asked) (asks self.now.round.asked act.now.side) number }
     {
         if self.is_over() {
-            Some(GameFault::AfterEnd(place))
+            Some(GameFault::AfterEnd(number))
         } else if self.round.next().asks(act.side) {
             None
         } else {
-            Some(GameFault::NotTurn(place))
+            Some(GameFault::NotTurn(number))
         }
     }
 
@@ -156,21 +156,21 @@ impl JudgedGame {
     }
 }
 
-// The refusal of a move at this count, by a side that holds these cards. `place` is that of the act, from 1.
-fn move_fault(cards: CardSet, what: Move, count: u8, place: u8) -> Option<GameFault>
-    ensures { result ≡ move_fault_at count cards what place }
+// The refusal of a move at this count, by a side that holds these cards. `number` is that of the act, from 1.
+fn move_fault(cards: CardSet, what: Move, count: u8, number: u8) -> Option<GameFault>
+    ensures { result ≡ move_fault_at count cards what number }
 {
     match what {
         Move::Card(card) => {
             if !cards.has(card) {
-                Some(GameFault::NotHeld(place))
+                Some(GameFault::NotHeld(number))
             } else if !fits(card, count) {
-                Some(GameFault::DoesNotFit(place))
+                Some(GameFault::DoesNotFit(number))
             } else {
                 None
             }
         }
-        Move::Go if any_fits(cards, count) => Some(GameFault::MustPlay(place)),
+        Move::Go if any_fits(cards, count) => Some(GameFault::MustPlay(number)),
         Move::Go => None,
     }
 }

@@ -56,7 +56,7 @@ fn read_act(lines: &mut Lines<'_>) -> Result<Act, TextFault>
 fn read_acts(lines: &mut Lines<'_>, count: u32) -> Result<ArrayVec<Act, 32>, TextFault>
     requires { count ≤ most_acts }
     ensures { Takes (λ acts. acts.items) text_refusal
-        (values_at (λ place. act_in) 0 count (rest_of lines.old)) (rest_of lines.new) result }
+        (values_at (λ number. act_in) 0 count (rest_of lines.old)) (rest_of lines.new) result }
 {
     let mut acts = ArrayVec::new();
     for _ in 0..count {

@@ -40,8 +40,8 @@ pub(crate) fn put_acts<P: Page>(
         put_acts(dealer, number + 1, last, others, more));
 }
 
-// The side that played the last card after an act.
-fn last_after(side: Side, what: Move, last: Side) -> Side
+/// Returns the side that played the last card after an act.
+pub(super) fn last_after(side: Side, what: Move, last: Side) -> Side
     ensures { result ≡ last_after side what last }
 {
     match what {

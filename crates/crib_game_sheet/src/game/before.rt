@@ -25,7 +25,7 @@ pub fn put_acts_beside<P: Page>(page: &mut P, input: &[u8], reason: &Reason)
     }
 }
 
-// Puts the lines of the acts before the one that `fault` refuses, by its place, also if that act is part of the
+// Puts the lines of the acts before the one that `fault` refuses, by its number, also if that act is part of the
 // opening.
 fn put_before<P: Page>(page: &mut P, problem: &Problem, game: &Game, fault: GameFault)
     ensures { Prints (text_before problem.now game.now fault) (P.stand page.old) (P.stand page.new) }

@@ -1,62 +1,47 @@
 //! The text of the sheet of a game.
 ghost use Rattle.std.specs.Prelude.{◌≡◌, Ok};
-ghost use Rattle.crib_text.specs.Device.{HasFailed};
 ghost use Rattle.crib_game.specs.Replay.{replay_result};
-ghost use Rattle.crib_run.specs.Run.{Sends};
 ghost use Rattle.crib_run.specs.Prints.{Prints};
 ghost use Rattle.crib_game_sheet.specs.GamePlay.{game_reasons};
-ghost use Rattle.crib_game_sheet.specs.GameText.{outcome_text, over_text, reached_line, rows_text, sheet_of};
+ghost use Rattle.crib_game_sheet.specs.GameText.{outcome_text, over_text, played_text, reached_line};
+ghost use Rattle.crib_game_sheet.specs.GameText.{rows_text, sheet_of};
 
 use super::acts::put_acts;
 use super::counted::put_show;
+use super::pegged::put_pegged;
 use super::reasons::reasons_of;
 use crate::heading::put_heading;
 use crate::puts::puts;
 use crib_cards::Side;
 use crib_game::{Game, Report};
 use crib_problem::{Goal, Problem};
-use crib_run::{Page, Printer, Status, put_cards, put_role};
+use crib_run::{Page, put_cards, put_role};
 use crib_show::Outcome;
-use crib_text::Sink;
 
-/// Writes the sheet of a game with this report: the problem, a line for each act with the reasons of its points, each
-/// counted hand with what counts in it, and the outcome. docs/GUIDE.md shows one. Returns `Yes`, or `Fault` if the
-/// device failed. It needs no memory.
-pub fn send_game_sheet<W: Sink>(
-    sink: &mut W,
-    problem: &Problem,
-    game: &Game,
-    report: &Report,
-) -> Status
-    requires { replay_result problem.now game.now ≡ Ok report.now }
-    ensures { Sends (record {
-      output = sheet_of problem.now game.now.opp report.now (game_reasons problem.now game.now);
-      status = Status.Yes;
-    }) (W.contents sink.old) (W.contents sink.new) (HasFailed (W.faults sink.old) (W.faults sink.new)) result }
-{
-    let mut page = Printer {
-        sink,
-        is_cut: false,
-    };
-    put_sheet(&mut page, problem, game, report);
-    let Printer { sink, is_cut } = page;
-    // The proof reads what the device holds from this use of it.
-    let _ = &*sink;
-    if is_cut { Status::Fault } else { Status::Yes }
-}
-
-/// Puts the sheet of a game with this report.
-pub fn put_sheet<P: Page>(page: &mut P, problem: &Problem, game: &Game, report: &Report)
+/// Puts the sheet of a game with this report: the problem, a line for each act with the reasons of its points, each
+/// counted hand with what counts in it, the outcome, and what both sides pegged. docs/GUIDE.md shows one. It needs no
+/// memory.
+pub fn put_game_sheet<P: Page>(page: &mut P, problem: &Problem, game: &Game, report: &Report)
     requires { replay_result problem.now game.now ≡ Ok report.now }
     ensures { Prints (sheet_of problem.now game.now.opp report.now (game_reasons problem.now game.now))
         (P.stand page.old) (P.stand page.new) }
 {
+    puts!(page: put_heading(problem) put_played(problem, game, report));
+}
+
+/// Puts what the sheet of a game with this report has below the position.
+pub fn put_played<P: Page>(page: &mut P, problem: &Problem, game: &Game, report: &Report)
+    requires { replay_result problem.now game.now ≡ Ok report.now }
+    ensures { Prints (played_text problem.now game.now.opp report.now (game_reasons problem.now game.now))
+        (P.stand page.old) (P.stand page.new) }
+{
     let dealer = problem.dealer();
-    puts!(page: put_heading(problem) b"The " put_role(dealer, Side::Opponent) b" holds" put_cards(&game.opp.hold)
+    puts!(page: b"The " put_role(dealer, Side::Opponent) b" holds" put_cards(&game.opp.hold)
         b" and threw" put_cards(&game.opp.throw) b".\n" b"\n # side   card count you they  points\n");
     put_rows(page, problem, game, report);
     put_show(page, problem, &game.opp, report.show.as_slice());
     put_outcome(page, dealer, problem.goal(), report.over);
+    put_pegged(page, dealer.other(), report.rows.as_slice());
 }
 
 /// Puts the lines of the acts of a report with their reasons.

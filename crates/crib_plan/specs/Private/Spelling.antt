@@ -20,10 +20,10 @@ seen_after before (To node ∷ branches) =
 abbrev pub spaced_branch : List Next → ℕ → List ℕ
 spaced_branch branches node = space ∷ branch_word branches node
 
--- the branches whose first letters are at this place or later, each after a space
+-- the branches whose first letters have this index or a greater one, each after a space
 abbrev pub branches_text : List Next → ℕ → List ℕ
-branches_text branches place =
-    flat_map (spaced_branch branches) (nodes_of (seen_after [] (take place branches)) (drop place branches))
+branches_text branches index =
+    flat_map (spaced_branch branches) (nodes_of (seen_after [] (take index branches)) (drop index branches))
 
 -- the most bytes of a node's line. A play line has at most two numbers of five digits. A see line has at most fourteen
 -- branches, with a letter each

@@ -1,13 +1,10 @@
 -- The rows and lines of a plan's sheet, by the places of the plan.
 use Rattle.std.specs.Prelude.{ℕ, ◌≤◌, ◌<◌, Bool, List, [], ◌∷◌, ◌++◌, filter, flat_map, take, drop, codes}
-use Rattle.std.specs.Prelude.{Option, Some, None, if◌then◌else◌}
-use Rattle.std.specs.List.{list_any}
 use Rattle.crib_text.specs.Spelling.{space}
 use Rattle.crib_plan.specs.declared.plan.Next.{Next}
 use Rattle.crib_plan.specs.declared.plan.Next.TheVariants.{End, To}
 use Rattle.crib_plan.specs.declared.plan.Node.{Node}
 use Rattle.crib_plan.specs.Places.{plan_start}
-use Rattle.crib_plan.specs.Spelling.{leads_to}
 use Rattle.crib_plan_sheet.specs.PlanSheet.{Row, Lines, row_named, row_to, lines_to, rows_from}
 use Rattle.crib_plan_sheet.specs.PlanText.{indent, label_column, row_text, label_width, rank_words, go_words}
 use Rattle.crib_plan_sheet.specs.PlanText.{paragraph_text}
@@ -35,11 +32,6 @@ lines_at flags plan branches from =
 -- the width of the labels of the lines from a letter on
 unfoldable pub width_at : List Next → ℕ → ℕ
 width_at branches from = label_width (lines_to (apart_in []) [] branches from (drop from branches))
-
--- the node whose line begins with a branch, after some branches. None does if an earlier branch leads to it
-abbrev pub new_node : List Next → Next → Option ℕ
-new_node before End = None
-new_node before (To node) = if list_any (leads_to node) before then None else Some node
 
 -- what is before the row of a line
 unfoldable pub line_front : ℕ → ℕ → List Bool → List ℕ

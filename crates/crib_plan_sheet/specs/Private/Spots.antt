@@ -55,13 +55,13 @@ pub record IsWhole (spots : List Spot) (levels cards ways : ℕ) (node : Node) :
   pub its_cards : cards ≡ node_cards spots node
   pub once : 1 < ways → levels ≡ 0
 
--- the nodes from a place on are settled
-pub record AreSized (place : ℕ) (nodes : List Node) (spots : List Spot) : Type 0 where
+-- what is known of the nodes from a number on is right
+pub record AreSized (number : ℕ) (nodes : List Node) (spots : List Spot) : Type 0 where
   pub whole :
-      (i : ℕ) (node : Node) → place ≤ i → slice_get nodes i ≡ Some node → is_apart_at spots i ≡ false →
+      (i : ℕ) (node : Node) → number ≤ i → slice_get nodes i ≡ Some node → is_apart_at spots i ≡ false →
       IsWhole spots (levels_at spots (To i)) (cards_at spots (To i)) (ways_to nodes i) node
   pub broken :
-      (i : ℕ) (node : Node) → place ≤ i → slice_get nodes i ≡ Some node → is_apart_at spots i ≡ true →
+      (i : ℕ) (node : Node) → number ≤ i → slice_get nodes i ≡ Some node → is_apart_at spots i ≡ true →
       IsBroken spots (levels_at spots (To i)) (cards_at spots (To i)) (ways_to nodes i) node
 
 -- the first node has no paragraph of its own

@@ -15,27 +15,26 @@ use Rattle.crib_search.specs.declared.nodes.DraftNode.TheVariants.{Play, See}
 use Rattle.crib_search.specs.Trees.{Tree, Branches, trees_after_walk, trees_after_walks}
 use Rattle.crib_search.specs.Private.Nodes.{Names, NameAll}
 
--- what a walk has done: the kept nodes that it goes over, and the places that it left, the last one first
+-- what a walk has done: the kept nodes that it goes over, and the indices of those that it left, the last one first
 pub record Walked : Type 0 where
   pub draft_nodes : List DraftNode
   pub left : List ℕ
 
--- the places that a walk left name these trees; both lists have the last one first
+-- the nodes that a walk left represent these trees; both lists have the last one first
 abbrev pub AreLeft : List DraftNode → List Tree → List ℕ → Type 0
-AreLeft draft_nodes trees left = AllZip (λ tree place. Names draft_nodes tree (At place)) trees left
+AreLeft draft_nodes trees left = AllZip (λ tree index. Names draft_nodes tree (At index)) trees left
 
--- how many places the walk left before it left this one; none, if it did not leave it. The list has the last place
--- first
+-- how many nodes the walk left before it left this one; none, if it did not leave it. The list has the last one first
 abbrev pub mark_of : ℕ → List ℕ → Option ℕ
-mark_of place [] = None
-mark_of place (other ∷ left) = if other == place then Some (length left) else mark_of place left
+mark_of index [] = None
+mark_of index (other ∷ left) = if other == index then Some (length left) else mark_of index left
 
--- each place is marked with how many places were left before it, or with none if it was not left
+-- each index is marked with how many nodes were left before its own, or with none if that was not left
 abbrev pub AreMarks : List (Option ℕ) → List ℕ → Type 0
-AreMarks marks left = (place : ℕ) → place < length marks → slice_index_or marks place None ≡ mark_of place left
+AreMarks marks left = (index : ℕ) → index < length marks → slice_index_or marks index None ≡ mark_of index left
 
--- a walk from a place. If the place names a tree, and the places left before name some trees, then the places left
--- after name the trees after a walk of this tree
+-- a walk from a place. If the place names a tree, and the nodes left before represent some trees, then the nodes left
+-- after represent the trees after a walk of this tree
 abbrev pub IsWalk : List DraftNode → DraftPlace → List ℕ → List ℕ → Type 0
 IsWalk draft_nodes draft_place before after =
     (tree : Tree) (trees : List Tree) → Names draft_nodes tree draft_place → AreLeft draft_nodes trees before →
@@ -53,10 +52,10 @@ abbrev pub WalksDraftNode : List DraftNode → DraftNode → List ℕ → List �
 WalksDraftNode draft_nodes (Play card next) before after = IsWalk draft_nodes next before after
 WalksDraftNode draft_nodes (See nexts) before after = IsWalkAll draft_nodes nexts before after
 
--- a walk from all places that the node at a place leads to
+-- a walk from all places that the node at an index leads to
 abbrev pub IsWalkBelow : List DraftNode → ℕ → List ℕ → List ℕ → Type 0
-IsWalkBelow draft_nodes place before after =
-    (draft_node : DraftNode) → slice_get draft_nodes place ≡ Some draft_node →
+IsWalkBelow draft_nodes index before after =
+    (draft_node : DraftNode) → slice_get draft_nodes index ≡ Some draft_node →
     WalksDraftNode draft_nodes draft_node before after
 
 -- where a plan goes on for a mark. The node that was left last has number 0
@@ -67,7 +66,7 @@ number_for count (Some mark) = next.To (count - 1 - mark)
 -- where the plan goes on for a place
 abbrev pub next_for : List ℕ → DraftPlace → Next
 next_for left End = next.End
-next_for left (At place) = number_for (length left) (mark_of place left)
+next_for left (At index) = number_for (length left) (mark_of index left)
 
 -- the node of the plan for a kept node
 abbrev pub node_for : List ℕ → DraftNode → Node
@@ -79,6 +78,6 @@ abbrev pub nodes_at : List ℕ → Option DraftNode → List Node
 nodes_at left None = []
 nodes_at left (Some draft_node) = node_for left draft_node ∷ []
 
--- the nodes of the plan for some places of those that the walk left
-abbrev pub nodes_of_places : List DraftNode → List ℕ → List ℕ → List Node
-nodes_of_places draft_nodes left places = flat_map (λ place. nodes_at left (slice_get draft_nodes place)) places
+-- the nodes of the plan for some of the nodes that the walk left
+abbrev pub nodes_of_indices : List DraftNode → List ℕ → List ℕ → List Node
+nodes_of_indices draft_nodes left indices = flat_map (λ index. nodes_at left (slice_get draft_nodes index)) indices

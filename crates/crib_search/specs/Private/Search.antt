@@ -5,6 +5,7 @@ use Rattle.crib_play.specs.Fitting.{fits_at}
 use Rattle.crib_play.specs.Record.{count_of}
 use Rattle.crib_cards.specs.declared.letters.Letter.{Letter}
 use Rattle.crib_play.specs.History.{Event, Theirs}
+use Rattle.crib_play.specs.declared.turns.Turn.{Turn}
 use Rattle.crib_problem.specs.Setup.{Setup}
 use Rattle.crib_know.specs.Knowledge.{Knowledge}
 use Rattle.crib_know.specs.Hidden.{CanShow, KnowsAfter}
@@ -23,6 +24,11 @@ use Rattle.crib_know.specs.Private.Ahead.{turns_ahead}
 -- the knowledge is what the owner knows after some history of the problem
 abbrev pub IsHere : Setup → Knowledge → Type 0
 IsHere problem know = (history : List Event) × KnowsAfter know problem history
+
+-- such a knowledge, and whose turn it is
+pub record IsTurnOf (problem : Setup) (know : Knowledge) (turn : Turn) : Type 0 where
+  pub here : IsHere problem know
+  pub asked : know.round.asked ≡ turn
 
 -- for each history that the knowledge belongs to, this is true of a tree or none, and the answer names it
 pub record Tells (problem : Setup) (draft_nodes : List DraftNode) (know : Knowledge) (found : Option DraftPlace)
@@ -62,7 +68,13 @@ pub record IsSearch {A : Type 0} (problem : Setup) (search : Search A) : Type 0 
   pub shows : AreShowsOf problem search.shows
   pub answers : AreAnswers problem search.nodes (answer_in search.table)
 
--- a search for the problem at a later time: each kept node stays at its place
+-- such a search, asked at a turn
+pub record IsTurnIn {A : Type 0} (problem : Setup) (search : Search A) (know : Knowledge) (turn : Turn) : Type 0 where
+  pub good : IsSearch problem search
+  pub here : IsHere problem know
+  pub asked : know.round.asked ≡ turn
+
+-- a search for the problem at a later time: each kept node stays at its index
 pub record IsLater {A : Type 0} (problem : Setup) (before after : Search A) : Type 0 where
   pub good : IsSearch problem after
   pub more : IsMore before.nodes after.nodes

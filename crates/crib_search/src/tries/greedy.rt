@@ -3,15 +3,18 @@ ghost use Rattle.std.specs.Prelude.{◌≡◌, ◌+◌, ◌≤◌, ℕ, IsTrue, 
 ghost use Rattle.crib_cards.specs.Cards.{card_value};
 ghost use Rattle.crib_cards.specs.Sets.{has};
 ghost use Rattle.crib_play.specs.Record.{count_of};
-ghost use Rattle.crib_search.specs.Private.Nodes.{IsMore, IsPlanned};
-ghost use Rattle.crib_search.specs.Private.Search.{IsHere};
+ghost use Rattle.crib_search.specs.Private.Nodes.{IsMore};
+ghost use Rattle.crib_search.specs.Private.Search.{IsHere, IsTurnOf};
+ghost use Rattle.crib_search.specs.Private.States.{IsPlanned, StatesAfter, StatesAt, in_order};
+ghost use Rattle.crib_search.specs.Trees.{plan_of_tree};
+ghost use Rattle.crib_search.specs.Tried.{IsNeverStuck};
 
-use crate::choices::options;
 use crate::join::join;
 use crate::nodes::{DraftNode, DraftPlace, Nodes};
+use crate::own_options::options;
 use crate::tries::trials::Trial;
 use arrayvec::ArrayVec;
-use crib_cards::{Card, Letter};
+use crib_cards::{Card, CardSet, Letter};
 use crib_know::Know;
 use crib_play::Turn;
 use crib_problem::Problem;
@@ -19,182 +22,174 @@ use crib_show::hand_points;
 use crib_sure::demand_at_end;
 use std::alloc::{AllocError, Allocator};
 
-/// What a plan for a problem is made with.
+/// A plan in the making: its nodes, and the trial of it.
 #[derive(Drop)]
-struct Greedy<'a> {
-    problem: &'a Problem,
+struct Greedy<'a, A: Allocator> {
     own_hand: u8,
+    nodes: Nodes<A>,
+    trial: Trial<'a, A>,
 }
 
-/// Makes a plan, and returns its first place. It fails if an allocation fails.
+/// A place at which the plan goes on. It fails if an allocation fails.
+type Placed = Result<DraftPlace, AllocError>;
+
+/// Makes a plan, and returns its nodes and its first place. It fails if an allocation fails.
 pub(crate) fn make_plan<A: Allocator + Copy>(
     alloc: A,
     problem: &Problem,
-    nodes: &mut Nodes<A>,
-) -> Result<DraftPlace, AllocError>
-    ensures { IfOk result (IsPlanned nodes.new) }
+) -> Result<(Nodes<A>, DraftPlace), AllocError>
+    ensures { IfOk result (λ made. IsPlanned made.0 (λ tree. IsNeverStuck problem.now (plan_of_tree tree)) made.1) }
 {
     let know = Know::start(problem);
-    let mut trial = Trial::new(alloc, problem, &know)?;
-    let greedy = Greedy {
-        problem,
+    let trial = Trial::new(alloc, problem, &know)?;
+    let mut greedy = Greedy {
         own_hand: hand_points(&problem.hold(), problem.starter()),
+        nodes: Nodes::new(alloc),
+        trial,
     };
-    greedy.place_at(nodes, &know, &mut trial)
+    let first = greedy.place_at(problem, &know)?;
+    let Greedy {
+        own_hand: _,
+        nodes,
+        trial: _,
+    } = greedy;
+    Ok((nodes, first))
 }
 
-impl Greedy<'_> {
-    // The place at which the plan goes on from this knowledge.
+/// The place at which the owner plays some cards, the lowest first, whatever the opponent shows. It fails if an
+/// allocation fails.
+///
+/// If one of them fits, the lowest does.
+pub(crate) fn lowest_first<A: Allocator + Copy>(
+    nodes: &mut Nodes<A>,
+    cards: CardSet,
+) -> Result<DraftPlace, AllocError>
+    ensures kept { IsMore nodes.old nodes.new }
+    ensures planned { IfOk result (IsPlanned nodes.new (λ tree. tree ≡ in_order cards)) }
+{
+    let Some(card) = cards.lowest() else {
+        return Ok(DraftPlace::End);
+    };
+    let next = lowest_first(nodes, cards.without(card))?;
+    nodes.place_of(&DraftNode::Play { card, next })
+}
+
+impl<A: Allocator + Copy> Greedy<'_, A> {
+    // The place at which the plan goes on from this knowledge. If there is nothing more to play for, the owner plays
+    // the lowest card first.
     #[cycle(greedy)]
-    fn place_at<A: Allocator + Copy>(
-        &self,
-        nodes: &mut Nodes<A>,
-        know: &Know,
-        trial: &mut Trial<'_, A>,
-    ) -> Result<DraftPlace, AllocError>
-        requires here { IsHere self.now.problem.now know.now }
-        ensures kept { IsMore nodes.old nodes.new }
-        ensures planned { IfOk result (IsPlanned nodes.new) }
+    fn place_at(&mut self, problem: &Problem, know: &Know) -> Placed
+        requires here { IsHere problem.now know.now }
+        ensures kept { IsMore self.old.nodes self.new.nodes }
+        ensures planned { IfOk result (IsPlanned self.new.nodes (StatesAt problem.now know.now)) }
     {
-        if trial.is_over() {
-            return Ok(DraftPlace::End);
+        if self.trial.is_over() {
+            return lowest_first(&mut self.nodes, know.own_left());
         }
         match know.turn() {
             Turn::Over => {
-                trial.demand(demand_at_end(self.problem, self.own_hand, know));
+                self.trial
+                    .demand(demand_at_end(problem, self.own_hand, know));
                 Ok(DraftPlace::End)
             }
-            Turn::Owner => self.own_place(nodes, know, trial),
-            Turn::Opponent => self.their_place(nodes, know, trial),
+            Turn::Owner => self.own_place(problem, know),
+            Turn::Opponent => self.their_place(problem, know),
         }
     }
 
     // The same if the owner is to move. The owner says go if there is no card to try.
     #[cycle(greedy)]
-    fn own_place<A: Allocator + Copy>(
-        &self,
-        nodes: &mut Nodes<A>,
-        know: &Know,
-        trial: &mut Trial<'_, A>,
-    ) -> Result<DraftPlace, AllocError>
-        requires here { IsHere self.now.problem.now know.now }
-        requires asked { know.now.round.asked ≡ Turn.Owner }
-        ensures kept { IsMore nodes.old nodes.new }
-        ensures planned { IfOk result (IsPlanned nodes.new) }
+    fn own_place(&mut self, problem: &Problem, know: &Know) -> Placed
+        requires turn { IsTurnOf problem.now know.now Turn.Owner }
+        ensures kept { IsMore self.old.nodes self.new.nodes }
+        ensures planned { IfOk result (IsPlanned self.new.nodes (StatesAt problem.now know.now)) }
     {
-        let (cards, len) = options(self.problem, know);
+        let (cards, len) = options(problem, know);
         if len == 0 {
             let mut next = know.copy();
             next.own_go();
-            return self.place_at(nodes, &next, trial);
+            return self.place_at(problem, &next);
         }
         if len == 1 {
-            return self.place_with(nodes, know, cards[0], trial);
+            return self.place_with(problem, know, cards[0]);
         }
-        self.best_place(nodes, know, &cards[..len], trial)
+        self.best_place(problem, know, &cards[..len])
     }
 
-    // The place at which the owner plays the card after which fewest deals are lost, the first of them.
+    // The place at which the owner plays the card after which fewest deals beat the plan, the first of them.
     #[cycle(greedy)]
-    fn best_place<A: Allocator + Copy>(
-        &self,
-        nodes: &mut Nodes<A>,
-        know: &Know,
-        cards: &[Card],
-        trial: &mut Trial<'_, A>,
-    ) -> Result<DraftPlace, AllocError>
-        requires here { IsHere self.now.problem.now know.now }
-        requires asked { know.now.round.asked ≡ Turn.Owner }
+    fn best_place(&mut self, problem: &Problem, know: &Know, cards: &[Card]) -> Placed
+        requires turn { IsTurnOf problem.now know.now Turn.Owner }
         requires playable { (card : ℕ) → IsTrue (has cards.now card)
             → IsTrue (has know.now.own_left card) × (count_of know.now.round.pile + card_value card ≤ 31) }
-        ensures kept { IsMore nodes.old nodes.new }
-        ensures planned { IfOk result (IsPlanned nodes.new) }
+        ensures kept { IsMore self.old.nodes self.new.nodes }
+        ensures planned { IfOk result (IsPlanned self.new.nodes (StatesAt problem.now know.now)) }
     {
-        let mut place = DraftPlace::End;
-        let start = trial.give_up();
+        let mut place = lowest_first(&mut self.nodes, know.own_left())?;
+        let start = self.trial.give_up();
         for card in cards {
-            let best = trial.attempt(start)?;
-            let other_place = self.place_with(nodes, know, *card, trial)?;
-            if trial.adopt(best) {
+            let best = self.trial.attempt(start)?;
+            let other_place = self.place_with(problem, know, *card)?;
+            if self.trial.adopt(best) {
                 place = other_place;
             }
         }
-        trial.adopt(start);
+        self.trial.adopt(start);
         Ok(place)
     }
 
     // The place at which the owner plays a card.
     #[cycle(greedy)]
-    fn place_with<A: Allocator + Copy>(
-        &self,
-        nodes: &mut Nodes<A>,
-        know: &Know,
-        card: Card,
-        trial: &mut Trial<'_, A>,
-    ) -> Result<DraftPlace, AllocError>
-        requires here { IsHere self.now.problem.now know.now }
-        requires asked { know.now.round.asked ≡ Turn.Owner }
+    fn place_with(&mut self, problem: &Problem, know: &Know, card: Card) -> Placed
+        requires turn { IsTurnOf problem.now know.now Turn.Owner }
         requires held { IsTrue (has know.now.own_left card) }
         requires fits { count_of know.now.round.pile + card_value card ≤ 31 }
-        ensures kept { IsMore nodes.old nodes.new }
-        ensures planned { IfOk result (IsPlanned nodes.new) }
+        ensures kept { IsMore self.old.nodes self.new.nodes }
+        ensures planned { IfOk result (IsPlanned self.new.nodes (StatesAt problem.now know.now)) }
     {
         let mut after = know.copy();
         after.own_play(card);
-        let next = self.place_at(nodes, &after, trial)?;
-        if trial.is_over() {
-            return Ok(DraftPlace::End);
-        }
-        nodes.place_of(&DraftNode::Play { card, next })
+        let next = self.place_at(problem, &after)?;
+        self.nodes.place_of(&DraftNode::Play { card, next })
     }
 
     // The same if the opponent is to move. The letters go in their order.
     #[cycle(greedy)]
-    fn their_place<A: Allocator + Copy>(
-        &self,
-        nodes: &mut Nodes<A>,
-        know: &Know,
-        trial: &mut Trial<'_, A>,
-    ) -> Result<DraftPlace, AllocError>
-        requires here { IsHere self.now.problem.now know.now }
-        ensures kept { IsMore nodes.old nodes.new }
-        ensures planned { IfOk result (IsPlanned nodes.new) }
+    fn their_place(&mut self, problem: &Problem, know: &Know) -> Placed
+        requires turn { IsTurnOf problem.now know.now Turn.Opponent }
+        ensures kept { IsMore self.old.nodes self.new.nodes }
+        ensures planned { IfOk result (IsPlanned self.new.nodes (StatesAt problem.now know.now)) }
     {
         let mut nexts: ArrayVec<DraftPlace, 14> = ArrayVec::new();
-        for place in 0..14u8 {
-            let letter = Letter::at(place);
-            let next = self.place_after(nodes, know, &letter, trial)?;
+        for index in 0..14u8 {
+            let letter = Letter::at(index);
+            let next = self.place_after(problem, know, &letter)?;
             nexts.push(next);
-            if trial.is_over() {
-                return Ok(DraftPlace::End);
+            if self.trial.is_over() {
+                return lowest_first(&mut self.nodes, know.own_left());
             }
         }
-        join(nodes, &nexts)
+        join(&mut self.nodes, &nexts)
     }
 
-    // Where the plan goes on after a letter. If no covered deal can show it, this is the end.
+    // Where the plan goes on after a letter. If no deal can show it, this is the end. If no covered deal can, the owner
+    // plays the lowest card first.
     #[cycle(greedy)]
-    fn place_after<A: Allocator + Copy>(
-        &self,
-        nodes: &mut Nodes<A>,
-        know: &Know,
-        letter: &Letter,
-        trial: &mut Trial<'_, A>,
-    ) -> Result<DraftPlace, AllocError>
-        requires here { IsHere self.now.problem.now know.now }
-        ensures kept { IsMore nodes.old nodes.new }
-        ensures planned { IfOk result (IsPlanned nodes.new) }
+    fn place_after(&mut self, problem: &Problem, know: &Know, letter: &Letter) -> Placed
+        requires here { IsHere problem.now know.now }
+        ensures kept { IsMore self.old.nodes self.new.nodes }
+        ensures planned { IfOk result (IsPlanned self.new.nodes (StatesAfter problem.now know.now letter.now)) }
     {
         if !know.can_show(*letter) {
             return Ok(DraftPlace::End);
         }
-        let Some(below) = trial.show(know, letter)? else {
-            return Ok(DraftPlace::End);
+        let Some(below) = self.trial.show(know, letter)? else {
+            return lowest_first(&mut self.nodes, know.own_left());
         };
         let mut next = know.copy();
         next.saw(letter);
-        let place = self.place_at(nodes, &next, trial)?;
-        trial.take_back(below);
+        let place = self.place_at(problem, &next)?;
+        self.trial.take_back(below);
         Ok(place)
     }
 }

@@ -1,4 +1,4 @@
-//! A trial: the choices of ranks that a plan in the making covers, and the deals that it has lost.
+//! A trial: the choices of ranks that a plan in the making covers, and how many deals beat it.
 ghost use Rattle.std.specs.Prelude.{◌≡◌, ◌<◌, ◌≤◌, ◌||◌, ◌↔◌, nat_le, min, length, IfOk, IfSome, IsTrue, Ok, None};
 
 use crib_cards::{Letter, Rank, Side};
@@ -14,21 +14,21 @@ struct Choice {
     ranks: [Rank; 4],
     // The index of its table.
     table: usize,
-    // Its place on the level of which this one is a part.
-    place: usize,
+    // The index of the choice on the level below of which this one is a part.
+    below: usize,
     // How many cards of each rank are left.
     left: [u8; 13],
     demand: Demand,
-    // How many deals miss the demand: those that are lost.
+    // How many deals miss the demand: those that beat the plan.
     missing: u32,
     // How many deals there are.
     open_deals: u32,
 }
 
 impl Choice {
-    // The same choice as a part of one at a place.
-    fn part(&self, place: usize) -> Choice {
-        Choice { place, ..*self }
+    // The same choice as a part of one on the level below.
+    fn part(&self, below: usize) -> Choice {
+        Choice { below, ..*self }
     }
 
     // Whether a card is left that fits.
@@ -67,18 +67,18 @@ fn left_of(ranks: &[Rank; 4], know: &Know) -> [u8; 13] {
     left
 }
 
-// Adds those of the choices from a place on that have a card of the rank left.
+// Adds those of the choices from an index on that have a card of the rank left.
 fn show_rank<A: Allocator>(
     choices: &mut Vec<Choice, A>,
     first: usize,
     rank: Rank,
 ) -> Result<(), AllocError> {
-    let index = (rank.number() - 1) as usize;
-    for place in first..choices.len() {
-        if let Some(choice) = choices.get(place) {
-            if choice.left[index] > 0 && choice.missing < choice.open_deals {
-                let mut next = choice.part(place);
-                next.left[index] = next.left[index].saturating_sub(1);
+    let seen = (rank.number() - 1) as usize;
+    for index in first..choices.len() {
+        if let Some(choice) = choices.get(index) {
+            if choice.left[seen] > 0 && choice.missing < choice.open_deals {
+                let mut next = choice.part(index);
+                next.left[seen] = next.left[seen].saturating_sub(1);
                 choices.push(next)?;
             }
         }
@@ -86,16 +86,16 @@ fn show_rank<A: Allocator>(
     Ok(())
 }
 
-// Adds those of the choices from a place on that have no card left that fits.
+// Adds those of the choices from an index on that have no card left that fits.
 fn show_go<A: Allocator>(
     choices: &mut Vec<Choice, A>,
     first: usize,
     fits: &[bool; 13],
 ) -> Result<(), AllocError> {
-    for place in first..choices.len() {
-        if let Some(choice) = choices.get(place) {
+    for index in first..choices.len() {
+        if let Some(choice) = choices.get(index) {
             if choice.missing < choice.open_deals && !choice.has_fitting(fits) {
-                let part = choice.part(place);
+                let part = choice.part(index);
                 choices.push(part)?;
             }
         }
@@ -103,11 +103,11 @@ fn show_go<A: Allocator>(
     Ok(())
 }
 
-// Drops the choices from a place on. Those of which they are a part take over what they demand.
+// Drops the choices from an index on. Those of which they are a part take over what they demand.
 fn take_back<A: Allocator>(choices: &mut Vec<Choice, A>, first: usize) {
-    for place in first..choices.len() {
-        if let Some(choice) = choices.get(place).copied() {
-            if let Some(other) = choices.get_mut(choice.place) {
+    for index in first..choices.len() {
+        if let Some(choice) = choices.get(index).copied() {
+            if let Some(other) = choices.get_mut(choice.below) {
                 other.demand = choice.demand;
                 other.missing = choice.missing;
             }
@@ -116,7 +116,7 @@ fn take_back<A: Allocator>(choices: &mut Vec<Choice, A>, first: usize) {
     choices.truncate(first);
 }
 
-// Drops the choices between two places.
+// Drops the choices between two indices.
 fn drop_between<A: Allocator>(choices: &mut Vec<Choice, A>, first: usize, end: usize) {
     let len = choices.len();
     let end = end.min(len);
@@ -125,16 +125,16 @@ fn drop_between<A: Allocator>(choices: &mut Vec<Choice, A>, first: usize, end: u
     choices.truncate(first + (len - end));
 }
 
-/// A level of a trial: its choices, how many deals are lost on it, and its limit.
+/// A level of a trial: its choices, how many deals beat the plan on it, and its limit.
 #[derive(Clone, Copy)]
 pub(crate) struct Level {
-    // The place of its first choice. Its choices are those from there up to the next level.
+    // The index of its first choice. Its choices are those from there up to the next level.
     first: usize,
-    lost: u64,
+    beaten: u64,
     limit: u64,
 }
 
-/// The choices that a plan in the making covers and that agree with what was seen, and how many deals it has lost.
+/// The choices that a plan in the making covers and that agree with what was seen, and how many deals beat it.
 ///
 /// What is played next has a level of its own above the one before it.
 #[derive(Drop)]
@@ -149,10 +149,10 @@ pub(crate) struct Trial<'a, A: Allocator> {
 }
 
 impl<'a, A: Allocator + Copy> Trial<'a, A> {
-    /// Returns the trial of a plan that has lost no deal. It has one level, with the choices that agree with what is
+    /// Returns the trial of a plan that no deal beats yet. It has one level, with the choices that agree with what is
     /// known after the opening. It fails if an allocation fails.
     pub(crate) fn new(alloc: A, problem: &'a Problem, know: &Know) -> Result<Self, AllocError>
-        ensures { IfOk result (λ trial. trial.level ≡ record { first = 0; lost = 0; limit = 18446744073709551615 }) }
+        ensures { IfOk result (λ trial. trial.level ≡ record { first = 0; beaten = 0; limit = 18446744073709551615 }) }
     {
         let mut trial = Trial {
             deals: Deals::of(problem),
@@ -160,7 +160,7 @@ impl<'a, A: Allocator + Copy> Trial<'a, A> {
             choices: Vec::new(alloc),
             level: Level {
                 first: 0,
-                lost: 0,
+                beaten: 0,
                 limit: u64::MAX,
             },
         };
@@ -194,11 +194,11 @@ impl<'a, A: Allocator + Copy> Trial<'a, A> {
         if let Some(table) = table {
             self.tables.push(table)?;
         }
-        let place = self.choices.len();
+        let index = self.choices.len();
         self.choices.push(Choice {
             ranks,
-            table: place,
-            place,
+            table: index,
+            below: index,
             left: left_of(&ranks, know),
             demand,
             missing: 0,
@@ -215,30 +215,30 @@ impl<'a, A: Allocator + Copy> Trial<'a, A> {
         }
     }
 
-    /// Whether there is nothing more to play for: the level has no choice, or it has lost as many deals as its limit.
+    /// Whether there is nothing more to play for: the level has no choice, or as many deals as its limit beat the plan.
     pub(crate) fn is_over(&self) -> bool
         ensures { result ≡ (nat_le (length self.now.choices.items) self.now.level.first
-            || nat_le self.now.level.limit self.now.level.lost) }
+            || nat_le self.now.level.limit self.now.level.beaten) }
     {
-        self.choices.len() <= self.level.first || self.level.limit <= self.level.lost
+        self.choices.len() <= self.level.first || self.level.limit <= self.level.beaten
     }
 
-    /// Demands more of each deal of the level. The deals that miss it are lost.
+    /// Demands more of each deal of the level. The deals that miss it beat the plan.
     pub(crate) fn demand(&mut self, demand: Demand)
-        ensures more { self.old.level.lost ≤ self.new.level.lost }
-        ensures level { self.new.level ≡ record self.old.level { lost = self.new.level.lost } }
+        ensures more { self.old.level.beaten ≤ self.new.level.beaten }
+        ensures level { self.new.level ≡ record self.old.level { beaten = self.new.level.beaten } }
     {
-        for place in self.level.first..self.choices.len() {
-            let lost = self.lose(place, demand);
-            self.level.lost = self.level.lost.saturating_add(u64::from(lost));
+        for index in self.level.first..self.choices.len() {
+            let beating = self.demand_more(index, demand);
+            self.level.beaten = self.level.beaten.saturating_add(u64::from(beating));
         }
     }
 
-    // Demands more of the deals of a choice. Returns how many more are lost.
-    fn lose(&mut self, place: usize, demand: Demand) -> u32
+    // Demands more of the deals of a choice. Returns how many more of them beat the plan.
+    fn demand_more(&mut self, index: usize, demand: Demand) -> u32
         ensures { self.new.level ≡ self.old.level }
     {
-        let Some(choice) = self.choices.get(place).copied() else {
+        let Some(choice) = self.choices.get(index).copied() else {
             return 0;
         };
         let joined = choice.demand.and(demand);
@@ -246,7 +246,7 @@ impl<'a, A: Allocator + Copy> Trial<'a, A> {
             return 0;
         }
         let missing = self.missing(&choice, joined);
-        if let Some(changed) = self.choices.get_mut(place) {
+        if let Some(changed) = self.choices.get_mut(index) {
             changed.demand = joined;
             changed.missing = missing;
         }
@@ -254,7 +254,7 @@ impl<'a, A: Allocator + Copy> Trial<'a, A> {
     }
 
     /// Adds a level after a letter of the opponent, and returns the level below it. It has the choices that can show
-    /// the letter, except those all of whose deals are lost. If there are none, no level is added. It fails if an
+    /// the letter, except those all of whose deals beat the plan. If there are none, no level is added. It fails if an
     /// allocation fails.
     pub(crate) fn show(&mut self, know: &Know, letter: &Letter) -> Result<Option<Level>, AllocError>
         ensures below { IfOk result (λ below. IfSome below (λ level. level ≡ self.old.level)) }
@@ -275,66 +275,70 @@ impl<'a, A: Allocator + Copy> Trial<'a, A> {
         Ok(Some(below))
     }
 
-    /// Goes back to the level below, which takes over what this level demands and has lost.
+    /// Goes back to the level below, which takes over what this level demands and by how many deals it is beaten.
     pub(crate) fn take_back(&mut self, below: Level)
-        ensures { self.new.level ≡ record below { lost = self.old.level.lost } }
+        ensures { self.new.level ≡ record below { beaten = self.old.level.beaten } }
     {
         take_back(&mut self.choices, self.level.first);
         self.level = Level {
-            lost: self.level.lost,
+            beaten: self.level.beaten,
             ..below
         };
     }
 
-    /// Adds a level for no play yet: it has no choice, and it has lost as many deals as its limit. Returns
-    /// the level below it.
+    /// Adds a level for no play yet: it has no choice, and it is beaten by as many deals as its limit. Returns the
+    /// level below it.
     pub(crate) fn give_up(&mut self) -> Level
         ensures below { result ≡ self.old.level }
         ensures level { self.new.level ≡ record self.old.level
-            { first = length self.old.choices.items; lost = self.old.level.limit } }
+            { first = length self.old.choices.items; beaten = self.old.level.limit } }
     {
         let below = self.level;
         self.level.first = self.choices.len();
-        self.level.lost = below.limit;
+        self.level.beaten = below.limit;
         below
     }
 
     /// Adds a level for another play after `start`, and returns the level below it. It has the choices of `start`, and
-    /// its limit is what the level below has lost. It fails if an allocation fails.
+    /// its limit is how many deals beat the level below. It fails if an allocation fails.
     pub(crate) fn attempt(&mut self, start: Level) -> Result<Level, AllocError>
         ensures below { IfOk result (λ below. below ≡ self.old.level) }
         ensures level { IfOk result (λ below. self.new.level
-            ≡ record { first = length self.old.choices.items; lost = start.lost; limit = below.lost }) }
+            ≡ record { first = length self.old.choices.items; beaten = start.beaten; limit = below.beaten }) }
     {
         let below = self.level;
         let first = self.choices.len();
-        if start.lost < below.lost {
+        if start.beaten < below.beaten {
             let end = below.first.min(first);
             self.choices.extend_from_within(start.first.min(end)..end)?;
         }
         self.level = Level {
             first,
-            lost: start.lost,
-            limit: below.lost,
+            beaten: start.beaten,
+            limit: below.beaten,
         };
         Ok(below)
     }
 
-    /// Goes back to the level below. If this level has lost fewer deals than its limit, it takes the place of that
-    /// one. Returns whether it does.
+    /// Goes back to the level below. If fewer deals than its limit beat this level, it replaces that one. Returns
+    /// whether it does.
     pub(crate) fn adopt(&mut self, below: Level) -> bool
-        ensures better { IsTrue result ↔ (self.old.level.lost < self.old.level.limit) }
-        ensures level { self.new.level ≡ record below { lost = min self.old.level.lost self.old.level.limit } }
+        ensures better { IsTrue result ↔ (self.old.level.beaten < self.old.level.limit) }
+        ensures level { self.new.level ≡ record below { beaten = min self.old.level.beaten self.old.level.limit } }
     {
-        let Level { first, lost, limit } = self.level;
-        let is_better = lost < limit;
+        let Level {
+            first,
+            beaten,
+            limit,
+        } = self.level;
+        let is_better = beaten < limit;
         if is_better {
             drop_between(&mut self.choices, below.first, first);
         } else {
             self.choices.truncate(first);
         }
         self.level = Level {
-            lost: lost.min(limit),
+            beaten: beaten.min(limit),
             ..below
         };
         is_better

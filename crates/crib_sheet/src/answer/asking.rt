@@ -8,7 +8,8 @@ use crate::answer::beaten::beaten_tally;
 use crate::answer::job::SheetJob;
 use crate::answer::plan::plan_sheet;
 use crate::answer::played::game_sheet;
-use crate::answer::to_try::answer_to_try;
+use crate::answer::to_try::plan_to_try;
+use crate::refutation::{why_in_words, why_none};
 use crib_input::{Reason, Sections};
 use crib_run::Asks;
 use std::alloc::Allocator;
@@ -26,7 +27,7 @@ impl<A: Allocator + Copy> Asks<A> for SheetJob {
         match self {
             SheetJob::Plan | SheetJob::Beaten => Sections::Question,
             SheetJob::Game => Sections::Played,
-            SheetJob::Try => Sections::Problem,
+            SheetJob::Try | SheetJob::Refute | SheetJob::Why => Sections::Problem,
         }
     }
 
@@ -35,7 +36,9 @@ impl<A: Allocator + Copy> Asks<A> for SheetJob {
             SheetJob::Plan => Ok(Sheet::Plan(plan_sheet(alloc, input)?)),
             SheetJob::Game => Ok(Sheet::Game(game_sheet(input)?)),
             SheetJob::Beaten => Ok(Sheet::Beaten(beaten_tally(alloc, input)?)),
-            SheetJob::Try => Ok(Sheet::Try(answer_to_try(alloc, input)?)),
+            SheetJob::Try => Ok(Sheet::Try(plan_to_try(alloc, input)?)),
+            SheetJob::Refute => Ok(Sheet::Refute(why_none(alloc, input)?)),
+            SheetJob::Why => Ok(Sheet::Reasons(why_in_words(alloc, input)?)),
         }
     }
 }

@@ -8,7 +8,7 @@ use std::str::FromStr;
 /// What the program does with its input. Each command of the command line names one job (docs/GUIDE.md, "Sheets").
 #[derive(Clone, Copy, Debug, PartialEq, Eq)]
 pub enum SheetJob {
-    /// `plan`: reads a problem and a plan, and prints the plan in words.
+    /// `plan`: reads a problem and a plan, or a problem alone, for which it finds a plan. It prints the plan in words.
     Plan,
     /// `game`: reads a problem and a game, and prints the game with a reason for each point.
     Game,
@@ -16,10 +16,14 @@ pub enum SheetJob {
     Beaten,
     /// `try`: reads a problem, and prints a plan: a sure one if there is one, otherwise one that few deals beat.
     Try,
+    /// `refute`: reads a problem, and prints games that refute every player if no plan is sure.
+    Refute,
+    /// `why`: reads a problem, and prints the same in words.
+    Why,
 }
 
 /// The names of the jobs, in the order in which the help text lists them.
-pub static NAMES: [&str; 4] = ["plan", "game", "beaten", "try"];
+pub static NAMES: [&str; 6] = ["plan", "game", "beaten", "try", "refute", "why"];
 
 impl FromStr for SheetJob {
     type Err = UnknownJob;
@@ -32,6 +36,8 @@ impl FromStr for SheetJob {
             "game" => Ok(SheetJob::Game),
             "beaten" => Ok(SheetJob::Beaten),
             "try" => Ok(SheetJob::Try),
+            "refute" => Ok(SheetJob::Refute),
+            "why" => Ok(SheetJob::Why),
             _ => Err(UnknownJob),
         }
     }

@@ -1,12 +1,17 @@
 //! The sheet of a plan as an answer.
-ghost use Rattle.std.specs.Prelude.{◌≡◌, ◌≤◌, length};
-ghost use Rattle.crib_run.specs.Reply.{IsOutcome};
-ghost use Rattle.crib_sheet.specs.Sheet.{SheetMakes, parts_reply, verdict_status};
+ghost use Rattle.std.specs.Prelude.{◌≡◌, ◌⊎◌, ◌≤◌, length};
+ghost use Rattle.crib_text.specs.Refusals.{no_memory};
+ghost use Rattle.crib_check.specs.Verdicts.{IsRight};
+ghost use Rattle.crib_run.specs.Reply.{IsOutcome, fault_reply};
+ghost use Rattle.crib_sheet.specs.Sheet.{AnswersWithPlan, IsSheetOf, SheetMakes, parts_reply, verdict_status};
 
+use crate::answer::asked::{Asked, asked_of};
 use crate::answer::job::SheetJob;
-use crate::verdict::{Losses, losses_by};
+use crate::answer::to_try::tried_of;
+use crate::verdict::beaten_by;
+use crib_beaten::{Rows, Tally};
 use crib_check::{Verdict, verdict_on};
-use crib_input::{FaultCause, Reason, question_of};
+use crib_input::{FaultCause, Reason};
 use crib_plan::Plan;
 use crib_plan_sheet::Outline;
 use crib_problem::Problem;
@@ -21,15 +26,18 @@ pub struct PlanSheet<A: Allocator> {
     pub plan: Plan<A>,
     pub verdict: Verdict,
     /// The deals that beat the plan, counted if it is not sure.
-    pub losses: Losses,
+    pub tally: Tally<A>,
+    /// Rows that say which hands beat the plan if it is not sure, unless more than a tenth of all deals do.
+    pub hands: Option<Rows>,
     /// Which nodes have paragraphs of their own.
     pub outline: Outline<A>,
     /// `Yes` if the plan is sure, and `No` if it is not.
     pub status: Status,
 }
 
-/// Returns the sheet of the plan of an input, or the reason why it has none: its refusal, or an allocation that failed.
-/// The position table of the verdict allocates too. A failure there changes nothing.
+/// Returns the sheet of the plan of an input, or that of a plan to try if the input is a problem alone. Otherwise it
+/// returns the reason why there is none: the refusal of the input, a plan to try with more than 65,535 nodes, or an
+/// allocation that failed. The position table of the verdict allocates too. A failure there changes nothing.
 pub(crate) fn plan_sheet<A: Allocator + Copy>(
     alloc: A,
     input: &[u8],
@@ -37,20 +45,55 @@ pub(crate) fn plan_sheet<A: Allocator + Copy>(
     requires { length input.now ≤ MAX_INPUT }
     ensures { IsOutcome parts_reply (SheetMakes SheetJob.Plan input.now) result }
 {
-    let question = question_of(alloc, input)?;
-    let verdict = verdict_on(alloc, &question.problem, &question.plan);
-    let Ok(outline) = Outline::of(alloc, &question.plan) else {
+    let asked = asked_of(alloc, input)?;
+    let Asked { problem, plan } = asked;
+    match plan {
+        Some(plan) => {
+            let verdict = verdict_on(alloc, &problem, &plan);
+            sheet_of(alloc, problem, plan, verdict)
+        }
+        None => sheet_to_try(alloc, problem),
+    }
+}
+
+// The sheet of a plan to try. The search has found that a sure one is sure.
+fn sheet_to_try<A: Allocator + Copy>(alloc: A, problem: Problem) -> Result<PlanSheet<A>, Reason>
+    ensures { IsOutcome parts_reply
+        (λ reply. AnswersWithPlan problem (IsSheetOf problem) reply ⊎ (reply ≡ fault_reply no_memory)) result }
+{
+    let tried = tried_of(alloc, &problem)?;
+    let verdict = if tried.is_sure {
+        Verdict::Holds
+    } else {
+        verdict_on(alloc, &problem, &tried.plan)
+    };
+    sheet_of(alloc, problem, tried.plan, verdict)
+}
+
+// The sheet of a plan by the verdict on it, or `fault 11` if an allocation fails.
+fn sheet_of<A: Allocator + Copy>(
+    alloc: A,
+    problem: Problem,
+    plan: Plan<A>,
+    verdict: Verdict,
+) -> Result<PlanSheet<A>, Reason>
+    requires { IsRight problem plan verdict }
+    ensures { IsOutcome parts_reply
+        (λ reply. IsSheetOf problem plan reply ⊎ (reply ≡ fault_reply no_memory)) result }
+{
+    let Ok(outline) = Outline::of(alloc, &plan) else {
         return Err(Reason::Fault(FaultCause::NoMemory));
     };
-    let Ok(losses) = losses_by(alloc, &question.problem, &question.plan, &verdict) else {
+    let Ok((tally, hands)) = beaten_by(alloc, &problem, &plan, &verdict) else {
         return Err(Reason::Fault(FaultCause::NoMemory));
     };
     Ok(PlanSheet {
         status: status_of(&verdict),
-        problem: question.problem,
-        plan: question.plan,
+        problem,
+        plan,
         verdict,
-        losses,
+        tally,
+        hands,
         outline,
     })
 }

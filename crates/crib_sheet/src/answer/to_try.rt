@@ -1,14 +1,15 @@
 //! A plan to try for the problem that an input spells.
-ghost use Rattle.std.specs.Prelude.{◌≡◌, ◌⊎◌, ◌≤◌, length};
+ghost use Rattle.std.specs.Prelude.{◌≡◌, ◌⊎◌, ◌≤◌, MatchResult, length};
 ghost use Rattle.crib_text.specs.Refusals.{no_memory};
 ghost use Rattle.crib_plan.specs.Spelling.{plan_text};
 ghost use Rattle.crib_run.specs.Reply.{IsOutcome, fault_reply, reply_of};
-ghost use Rattle.crib_sheet.specs.Private.Tries.{tried_status};
+ghost use Rattle.crib_sheet.specs.Private.Tries.{IsTried, IsUntried, tried_status};
 ghost use Rattle.crib_sheet.specs.Sheet.{SheetMakes};
 
 use crate::answer::job::SheetJob;
 use crib_input::{FaultCause, Reason, problem_of};
 use crib_plan::write_plan;
+use crib_problem::Problem;
 use crib_run::{Answer, Status, section_answer};
 use crib_search::{SearchFault, Tried, try_plan};
 use crib_text::MAX_INPUT;
@@ -17,16 +18,22 @@ use std::alloc::Allocator;
 /// Returns a plan to try for the problem of an input: a sure one with the status `Yes`, or, if no plan is sure, one
 /// that few deals beat with the status `No`. Otherwise it returns the reason why there is none: the refusal of the
 /// input, a plan with more than 65,535 nodes, or an allocation that failed.
-pub(crate) fn answer_to_try<A: Allocator + Copy>(
-    alloc: A,
-    input: &[u8],
-) -> Result<Answer<A>, Reason>
+pub(crate) fn plan_to_try<A: Allocator + Copy>(alloc: A, input: &[u8]) -> Result<Answer<A>, Reason>
     requires { length input.now ≤ MAX_INPUT }
     ensures { IsOutcome reply_of (SheetMakes SheetJob.Try input.now) result }
 {
     let problem = problem_of(input)?;
-    match try_plan(alloc, &problem) {
-        Ok(tried) => plan_answer(alloc, &tried),
+    let tried = tried_of(alloc, &problem)?;
+    plan_answer(alloc, &tried)
+}
+
+/// Returns a plan to try for a problem, or the reason why there is none: a plan with more than 65,535 nodes, or an
+/// allocation that failed.
+pub(crate) fn tried_of<A: Allocator + Copy>(alloc: A, problem: &Problem) -> Result<Tried<A>, Reason>
+    ensures { MatchResult result (λ tried. IsTried problem.now tried.plan tried.is_sure) (IsUntried problem.now) }
+{
+    match try_plan(alloc, problem) {
+        Ok(tried) => Ok(tried),
         Err(SearchFault::TooLarge) => Err(Reason::Fault(FaultCause::TooLarge)),
         Err(SearchFault::NoMemory) => Err(Reason::Fault(FaultCause::NoMemory)),
     }

@@ -3,16 +3,16 @@ ghost use Rattle.std.specs.Prelude.{◌≡◌, ◌≤◌, ◌+◌, ◌*◌, ◌+
 ghost use Rattle.std.specs.List.{list_all};
 ghost use Rattle.arrayvec.specs.ArrayVec.{array_vec_len};
 ghost use Rattle.crib_run.specs.Prints.{Prints};
-ghost use Rattle.crib_sheet.specs.PlanLosses.{deals_word, grouped, hands_text, loss_line};
-ghost use Rattle.crib_sheet.specs.PlanLosses.{losses_text, others_line};
-ghost use Rattle.crib_sheet.specs.PlanLosses.{row_lines, rows_lines, slot_part, term_text, with_commas};
+ghost use Rattle.crib_sheet.specs.PlanBeaten.{deals_word, grouped, hands_text, deals_line};
+ghost use Rattle.crib_sheet.specs.PlanBeaten.{beating_text, others_line};
+ghost use Rattle.crib_sheet.specs.PlanBeaten.{row_lines, rows_lines, slot_part, term_text, with_commas};
 
-use crate::verdict::losses::Losses;
 use arrayvec::ArrayVec;
-use crib_beaten::{Row, Slot, Term};
+use crib_beaten::{Row, Rows, Slot, Tally, Term};
 use crib_plan_sheet::label_of;
 use crib_run::{Page, add};
 use itoa::Buffer;
+use std::alloc::Allocator;
 
 // The columns of the ranks in a row, with a space before them, and those of its number.
 const TERM_COLUMNS: usize = 25;
@@ -27,31 +27,39 @@ type TermText = ArrayVec<u8, 128>;
 
 /// Puts how many deals beat a plan that is not sure, and which hands they have, unless more than a tenth of all deals
 /// do.
-pub(crate) fn put_losses<P: Page>(page: &mut P, losses: &Losses)
-    ensures { Prints (losses_text losses.now) (P.stand page.old) (P.stand page.new) }
+pub(crate) fn put_beating<A: Allocator, P: Page>(
+    page: &mut P,
+    tally: &Tally<A>,
+    hands: &Option<Rows>,
+)
+    ensures { Prints (beating_text tally.now.open_deals tally.now.beaten hands.now) (P.stand page.old)
+        (P.stand page.new) }
 {
     page.put(b"This plan is not sure. It reaches your goal with ");
-    put_grouped(page, losses.open_deals.saturating_sub(losses.beaten));
+    put_grouped(page, tally.open_deals.saturating_sub(tally.beaten));
     page.put(b" of the\n");
-    put_grouped(page, losses.open_deals);
+    put_grouped(page, tally.open_deals);
     page.put(b" deals that they may have, whatever they play. With the other\n");
-    put_grouped(page, losses.beaten);
+    put_grouped(page, tally.beaten);
     page.put(b" they can beat it.");
-    put_hands(page, losses);
+    put_hands(page, hands);
 }
 
-// Puts which hands beat the plan, or the end of the line.
-fn put_hands<P: Page>(page: &mut P, losses: &Losses)
-    ensures { Prints (hands_text losses.now) (P.stand page.old) (P.stand page.new) }
+// Puts which hands beat the plan, if there are rows for them, or the end of the line.
+fn put_hands<P: Page>(page: &mut P, hands: &Option<Rows>)
+    ensures { Prints (hands_text hands.now) (P.stand page.old) (P.stand page.new) }
 {
-    if losses.open_deals / 10 < losses.beaten {
-        page.put(b"\n");
-        return;
+    match hands {
+        None => page.put(b"\n"),
+        Some(hands) => {
+            page.put(b" They then hold, at least:\n\n");
+            put_all_rows(page, hands.rows.as_slice());
+            put_others(page, hands.others);
+            page.put(
+                b"\nIn brackets: one card of these ranks. Hands of two rows are in the first.\n",
+            );
+        },
     }
-    page.put(b" They then hold, at least:\n\n");
-    put_all_rows(page, losses.rows.rows.as_slice());
-    put_others(page, losses.rows.others);
-    page.put(b"\nIn brackets: one card of these ranks. Hands of two rows are in the first.\n");
 }
 
 // Puts the lines of all rows.
@@ -91,7 +99,7 @@ fn put_others<P: Page>(page: &mut P, others: u32)
 fn put_line<P: Page>(page: &mut P, front: &[u8], deals: u32, word: &[u8])
     requires front { length front.now ≤ 128 }
     requires word { length word.now ≤ 6 }
-    ensures { Prints (loss_line front.now deals word.now) (P.stand page.old) (P.stand page.new) }
+    ensures { Prints (deals_line front.now deals word.now) (P.stand page.old) (P.stand page.new) }
 {
     let figure = grouped(deals);
     page.put(b"   ");

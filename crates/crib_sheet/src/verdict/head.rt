@@ -1,76 +1,61 @@
 //! The head of a plan's sheet: the position, and whether the plan is sure.
 ghost use Rattle.std.specs.Prelude.{◌≡◌, ◌≤◌, length};
 ghost use Rattle.crib_run.specs.Prints.{Prints};
-ghost use Rattle.crib_game_sheet.specs.GameText.{game_sheet_text};
-ghost use Rattle.crib_sheet.specs.PlanHead.{failing_line, failing_text, game_lines, head_text, sure_text};
-ghost use Rattle.crib_sheet.specs.PlanHead.{turn_lines, why_text};
+ghost use Rattle.crib_game.specs.Replay.{replay_result};
+ghost use Rattle.crib_sheet.specs.PlanHead.{failing_line, game_lines, head_text, position_text, turn_lines};
+ghost use Rattle.crib_sheet.specs.PlanHead.{why_text};
 
-use crate::verdict::figures::put_losses;
-use crate::verdict::losses::Losses;
+use crate::answer::PlanSheet;
+use crate::verdict::figures::put_beating;
 use crib_cards::{Act, Side};
 use crib_check::Verdict;
 use crib_game::{Ending, Game, replay};
-use crib_game_sheet::{put_heading, put_sheet};
+use crib_game_sheet::{put_heading, put_played};
 use crib_plan::Plan;
 use crib_plan_sheet::{put_now, put_stuck};
 use crib_problem::Problem;
 use crib_run::{Page, put_move, put_role};
 use std::alloc::Allocator;
 
-/// Puts the head of the sheet of a plan, by the verdict on it. For a plan that is sure this is the position, the turns
-/// that were played already and what they led to, and that the plan is sure. For any other plan it is how many deals
-/// beat it, why it is not sure, and the sheet of the first game in which it fails.
-pub(crate) fn put_head<A: Allocator, P: Page>(
-    page: &mut P,
-    problem: &Problem,
-    plan: &Plan<A>,
-    verdict: &Verdict,
-    losses: &Losses,
-)
-    ensures { Prints (head_text problem.now plan.now verdict.now losses.now) (P.stand page.old) (P.stand page.new) }
+/// Puts the head of the sheet of a plan, by the verdict on it: the position, the turns that were played already and
+/// what they led to, and that the plan is sure; or how many deals beat it, and the first game in which it fails.
+pub(crate) fn put_head<A: Allocator, P: Page>(page: &mut P, sheet: &PlanSheet<A>)
+    ensures { Prints (head_text sheet.now.problem sheet.now.plan sheet.now.verdict sheet.now.tally.open_deals
+        sheet.now.tally.beaten sheet.now.hands) (P.stand page.old) (P.stand page.new) }
 {
-    match verdict {
-        Verdict::Holds => put_sure(page, problem),
+    let problem = &sheet.problem;
+    put_position(page, problem);
+    match &sheet.verdict {
+        Verdict::Holds => page.put(
+            b"This plan is sure: it reaches your goal against every hand and every play.\n\n",
+        ),
         Verdict::Fails(ending, game) => {
-            put_losses(page, losses);
-            put_failing(page, problem, plan, *ending, game);
+            put_beating(page, &sheet.tally, &sheet.hands);
+            page.put(failing_words(*ending));
+            put_game(page, problem, game);
+            put_why(page, problem, &sheet.plan, *ending, game);
+            page.put(b"\nThe plan:\n\n");
         },
     }
 }
 
-// Puts the head of a plan that is sure.
-fn put_sure<P: Page>(page: &mut P, problem: &Problem)
-    ensures { Prints (sure_text problem.now) (P.stand page.old) (P.stand page.new) }
+// Puts the position at the first lead and now.
+fn put_position<P: Page>(page: &mut P, problem: &Problem)
+    ensures { Prints (position_text problem.now) (P.stand page.old) (P.stand page.new) }
 {
     put_heading(page, problem);
     put_turns(page, problem.dealer(), problem.played());
     put_now(page, problem);
-    page.put(b"This plan is sure: it reaches your goal against every hand and every play.\n\n");
 }
 
-// Puts the head of a plan that fails in a game with this ending.
-fn put_failing<A: Allocator, P: Page>(
-    page: &mut P,
-    problem: &Problem,
-    plan: &Plan<A>,
-    ending: Ending,
-    game: &Game,
-)
-    ensures { Prints (failing_text problem.now plan.now ending game.now) (P.stand page.old) (P.stand page.new) }
-{
-    page.put(failing_words(ending));
-    put_game(page, problem, game);
-    put_why(page, problem, plan, ending, game);
-    page.put(b"\nThe plan:\n\n");
-}
-
-// Puts the sheet of a game, after an empty line. A refused game has none.
+// Puts the sheet of a game but for the position, after an empty line. A refused game has none.
 fn put_game<P: Page>(page: &mut P, problem: &Problem, game: &Game)
-    ensures { Prints (game_lines (game_sheet_text problem.now game.now)) (P.stand page.old) (P.stand page.new) }
+    ensures { Prints (game_lines problem.now game.now (replay_result problem.now game.now)) (P.stand page.old)
+        (P.stand page.new) }
 {
     if let Ok(report) = replay(problem, game) {
         page.put(b"\n");
-        put_sheet(page, problem, game, &report);
+        put_played(page, problem, game, &report);
     }
 }
 

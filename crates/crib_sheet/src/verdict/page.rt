@@ -1,49 +1,22 @@
-//! The sheet of a plan with the verdict on it, written to a device.
-ghost use Rattle.std.specs.Prelude.{◌≡◌, ◌++◌};
-ghost use Rattle.crib_text.specs.Device.{HasFailed};
-ghost use Rattle.crib_run.specs.Run.{Sends};
-ghost use Rattle.crib_plan_sheet.specs.PlanOutline.{apart_in};
-ghost use Rattle.crib_plan_sheet.specs.PlanPage.{page_text};
-ghost use Rattle.crib_plan_sheet.specs.PlanSheet.{sheet_with};
-ghost use Rattle.crib_sheet.specs.PlanHead.{head_text, is_sure};
+//! The sheet of a plan with the verdict on it.
+ghost use Rattle.std.specs.Prelude.{◌≡◌};
+ghost use Rattle.crib_run.specs.Prints.{Prints};
+ghost use Rattle.crib_sheet.specs.PlanHead.{is_sure};
+ghost use Rattle.crib_sheet.specs.Sheet.{parts_reply};
 
+use crate::answer::PlanSheet;
 use crate::verdict::head::put_head;
-use crate::verdict::losses::Losses;
-use crib_check::Verdict;
-use crib_plan::Plan;
-use crib_plan_sheet::{Outline, put_plan};
-use crib_problem::Problem;
-use crib_run::{Printer, Status};
-use crib_text::Sink;
+use crib_plan_sheet::put_plan;
+use crib_run::{Page, Status};
 use std::alloc::Allocator;
 
-/// Writes the head of the sheet of a plan by a verdict on it and the deals that beat it, the sheet, and how to read it.
-/// The plan is sure if `status` is `Yes`. Returns `status`, or `Fault` if the device failed. It needs no memory.
-pub(crate) fn send_plan_sheet<A: Allocator, B: Allocator, W: Sink>(
-    sink: &mut W,
-    problem: &Problem,
-    plan: &Plan<A>,
-    verdict: &Verdict,
-    losses: &Losses,
-    outline: &Outline<B>,
-    status: Status,
-) -> Status
-    ensures { Sends (record {
-      output = head_text problem.now plan.now verdict.now losses.now
-          ++ page_text (is_sure status) (sheet_with (apart_in outline.now) plan.now);
-      status = status;
-    }) (W.contents sink.old) (W.contents sink.new) (HasFailed (W.faults sink.old) (W.faults sink.new)) result }
+/// Puts the head of the sheet of a plan, by the verdict on it and the deals that beat it, the sheet, and how to read
+/// it.
+pub(crate) fn put_plan_sheet<A: Allocator, P: Page>(page: &mut P, sheet: &PlanSheet<A>)
+    ensures { Prints (parts_reply sheet.now).output (P.stand page.old) (P.stand page.new) }
 {
-    let mut page = Printer {
-        sink,
-        is_cut: false,
-    };
-    put_head(&mut page, problem, plan, verdict, losses);
-    put_plan(&mut page, plan, outline, is_sure(status));
-    let Printer { sink, is_cut } = page;
-    // The proof reads what the device holds from this use of it.
-    let _ = &*sink;
-    if is_cut { Status::Fault } else { status }
+    put_head(page, sheet);
+    put_plan(page, &sheet.plan, &sheet.outline, is_sure(sheet.status));
 }
 
 // Whether the status of a sheet says that the plan is sure.

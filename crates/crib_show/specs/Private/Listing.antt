@@ -34,15 +34,15 @@ abbrev pub AreWithin : WorstShow → ℕ → ℕ → Type 0
 AreWithin worst least most =
     (dealt : Dealt) → AgreesInShow worst dealt → (least ≤ hidden_crib worst dealt) × (hidden_crib worst dealt ≤ most)
 
--- the first deal made of the chosen cards and n more cards of a list. The choices are tried in dictionary order, and
+-- the first deal made of the chosen cards and n more cards of a list. The picks are tried in dictionary order, and
 -- only with cards that may be chosen
-unfoldable pub first_choice : (List ℕ → Option Dealt) → (ℕ → Bool) → List ℕ → ℕ → List ℕ → Option Dealt
-first_choice gives may taken zero cards = gives taken
-first_choice gives may taken (suc n) [] = None
-first_choice gives may taken (suc n) (card ∷ cards) =
+unfoldable pub first_pick : (List ℕ → Option Dealt) → (ℕ → Bool) → List ℕ → ℕ → List ℕ → Option Dealt
+first_pick gives may taken zero cards = gives taken
+first_pick gives may taken (suc n) [] = None
+first_pick gives may taken (suc n) (card ∷ cards) =
     option_or
-    (if may card then first_choice gives may (taken ++ card ∷ []) n cards else None)
-    (first_choice gives may taken (suc n) cards)
+    (if may card then first_pick gives may (taken ++ card ∷ []) n cards else None)
+    (first_pick gives may taken (suc n) cards)
 
 -- the deal of a hold and a throw, if it misses a demand
 abbrev pub try_throw : WorstShow → Demand → List ℕ → List ℕ → Option Dealt
@@ -57,7 +57,7 @@ any_card card = true
 
 -- the first deal with this hold that misses a demand and whose throw is two of some other cards
 abbrev pub first_throw : WorstShow → Demand → List ℕ → List ℕ → Option Dealt
-first_throw worst demand hold others = first_choice (try_throw worst demand hold) any_card [] 2 others
+first_throw worst demand hold others = first_pick (try_throw worst demand hold) any_card [] 2 others
 
 -- whether four cards may be the opponent's hold: they have the opponent's ranks, and the fixed cards are among them
 abbrev pub may_hold : WorstShow → List ℕ → Bool
@@ -76,4 +76,4 @@ may_be_held worst card = nat_lt 0 (count_at worst.ranks (rank_of card))
 
 -- the first deal that is sought and whose hold is the chosen cards and n more of a list
 abbrev pub first_hold : WorstShow → Sought → List ℕ → ℕ → List ℕ → Option Dealt
-first_hold worst sought taken n cards = first_choice (try_hold worst sought) (may_be_held worst) taken n cards
+first_hold worst sought taken n cards = first_pick (try_hold worst sought) (may_be_held worst) taken n cards

@@ -37,10 +37,10 @@ pub(crate) fn plain_cribs(throw: &[Card; 2], starter: Card) -> PlainCribs
     ensures { ArePlain starter throw.now result }
 {
     let mut points = [0; 169];
-    for place in 0..PAIRS {
-        let first = rank_numbered(place / 13 + 1);
-        let second = rank_numbered(place % 13 + 1);
-        points[place as usize] = plain_with(throw, starter, first, second);
+    for index in 0..PAIRS {
+        let first = rank_numbered(index / 13 + 1);
+        let second = rank_numbered(index % 13 + 1);
+        points[index as usize] = plain_with(throw, starter, first, second);
     }
     PlainCribs { points }
 }

@@ -1,23 +1,20 @@
 //! The counted shows of one problem, kept between the ends of the play.
-ghost use Rattle.std.specs.Prelude.{◌≡◌, ◌↔◌, ℕ, ◌+◌, ◌*◌, ◌<◌, ◌≤◌, List, length, IsTrue};
+ghost use Rattle.std.specs.Prelude.{◌≡◌, ◌↔◌, ℕ, ◌<◌, List, IsTrue};
 ghost use Rattle.crib_show.specs.Demands.{AllMeet};
 ghost use Rattle.crib_show.specs.Private.Listing.{AreWithin};
-ghost use Rattle.crib_show.specs.Private.Places.{HasRightPoints, IsPlace};
-ghost use Rattle.crib_show.specs.Places.{below, many, place_among};
+ghost use Rattle.crib_show.specs.Private.Indices.{HasRightPoints, IsIndex};
 ghost use Rattle.crib_show.specs.Extremes.{AreKept, AreExtremes};
 ghost use Rattle.crib_show.specs.Worst.{HasDeal, IsGreatestCrib, IsGreatestHand, IsGreatestTotal};
 ghost use Rattle.crib_show.specs.Worst.{IsLeastCrib};
 
 use crate::deals::{OwnPoints, WorstShow};
 use crate::demands::Demand;
+use crate::indices::{CHOICES, choice_index};
 use crate::show::points::hand_points;
 use crate::worst::cribs::known_crib;
 use crate::worst::hands::know_set;
 use crate::worst::listing::Sought;
 use crib_cards::Card;
-
-/// How many choices of four ranks there are.
-const PLACES: usize = 1820;
 
 /// The value of points that have not been computed.
 const NOT_KEPT: u8 = 255;
@@ -30,7 +27,7 @@ const NOT_KEPT: u8 = 255;
 pub struct ExtremesByRanks {
     /// The points that follow from the starter and the owner's cards.
     pub own: OwnPoints,
-    pub(crate) kept: [Extremes; PLACES],
+    pub(crate) kept: [Extremes; CHOICES],
 }
 
 /// The points that have been computed for some ranks of the opponent, in four bytes.
@@ -172,52 +169,19 @@ impl ExtremesByRanks {
                 crib: known_crib(throw, starter),
                 plain: None,
             },
-            kept: [Extremes::new(); PLACES],
+            kept: [Extremes::new(); CHOICES],
         }
     }
 }
 
 impl WorstShow {
-    /// The place of the opponent's ranks among all choices of four. Some deal must agree.
-    pub(crate) fn place(&self) -> usize
+    /// The index of the opponent's ranks among all choices of four. Some deal must agree.
+    pub(crate) fn ranks_index(&self) -> usize
         requires { HasDeal self.now }
-        ensures { IsPlace self.now.ranks result }
+        ensures { IsIndex self.now.ranks result }
     {
         know_set(self.unseen);
         know_set(self.fixed);
-        place_among(self.ranks.as_slice(), 4)
+        choice_index(&self.ranks)
     }
 }
-
-/// The place of some rank counts among all choices of this number of cards.
-fn place_among(counts: &[u8], cards: usize) -> usize
-    requires counts { length counts.now ≤ 13 }
-    requires cards { cards ≤ 4 }
-    ensures place { result ≡ place_among cards counts.now }
-    ensures range { result ≤ 1000 * length counts.now }
-{
-    match counts {
-        [] => 0,
-        [count, others @ ..] => {
-            let left = cards.saturating_sub(*count as usize);
-            below(others.len(), left) + place_among(others, left)
-        }
-    }
-}
-
-/// How many choices of fewer cards there are among this number of ranks.
-fn below(ranks: usize, cards: usize) -> usize
-    requires ranks { ranks < 13 }
-    requires cards { cards ≤ 4 }
-    ensures value { result ≡ below (many ranks) cards }
-    ensures range { result ≤ 1000 }
-{
-    FEWER[5 * ranks + cards]
-}
-
-/// How many choices of fewer cards there are: five numbers for each of 0 to 12 ranks, for 0 to 4 cards.
-const FEWER: [usize; 65] = [
-    0, 1, 1, 1, 1, 0, 1, 2, 3, 4, 0, 1, 3, 6, 10, 0, 1, 4, 10, 20, 0, 1, 5, 15, 35, 0, 1, 6, 21,
-    56, 0, 1, 7, 28, 84, 0, 1, 8, 36, 120, 0, 1, 9, 45, 165, 0, 1, 10, 55, 220, 0, 1, 11, 66, 286,
-    0, 1, 12, 78, 364, 0, 1, 13, 91, 455,
-];

@@ -57,10 +57,10 @@ impl ExtremesByRanks {
         ensures all { IsTrue result ↔ AllMeet worst.now demand }
         ensures shows { AreExtremesFor worst.now self.new }
     {
-        let place = worst.place();
-        let mut kept = self.kept[place];
+        let index = worst.ranks_index();
+        let mut kept = self.kept[index];
         let met = kept.meet(worst, &mut self.own, demand);
-        self.kept[place] = kept;
+        self.kept[index] = kept;
         met
     }
 
@@ -72,7 +72,7 @@ impl ExtremesByRanks {
         ensures first { IsFirstMissingOrNone worst.now demand result }
         ensures shows { AreExtremesFor worst.now self.new }
     {
-        let mut kept = self.kept[worst.place()];
+        let mut kept = self.kept[worst.ranks_index()];
         let sought = kept.sought(worst, &mut self.own, demand);
         worst.first_sought(sought, &self.own.plain(worst))
     }

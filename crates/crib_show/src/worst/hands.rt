@@ -113,20 +113,20 @@ impl WorstShow {
     }
 }
 
-// The rank of the card at a place, counted from 0. `counts` has the rank counts from rank `first` on.
-fn rank_at(counts: &[u8], first: u8, place: u8) -> Rank
-    requires inside { place < length (ranks_from first counts.now) }
+// The rank of the card at an index. `counts` has the rank counts from rank `first` on.
+fn rank_at(counts: &[u8], first: u8, index: u8) -> Rank
+    requires inside { index < length (ranks_from first counts.now) }
     requires ranks { (1 ≤ first) × (first + length counts.now ≤ 14) }
-    ensures value { result ≡ slice_index (ranks_from first counts.now) place }
+    ensures value { result ≡ slice_index (ranks_from first counts.now) index }
     ensures range { IsRank result }
 {
     let Some((count, rest)) = counts.split_first() else {
         unreachable!()
     };
-    if place < *count {
+    if index < *count {
         rank_numbered(first)
     } else {
-        rank_at(rest, first + 1, place - *count)
+        rank_at(rest, first + 1, index - *count)
     }
 }
 

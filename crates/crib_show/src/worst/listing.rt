@@ -11,7 +11,7 @@ ghost use Rattle.crib_show.specs.Worst.{ArePlain};
 
 use crate::deals::{PlainCribs, WorstShow};
 use crate::demands::Demand;
-use crate::show::points::{counts_of_four, hand_points};
+use crate::show::points::{count_ranks, hand_points, ranks_of};
 use crate::worst::hands::know_set;
 use crib_cards::{Card, CardSet, Dealt, Rank};
 
@@ -62,7 +62,7 @@ impl WorstShow {
     pub(crate) fn may_hold(&self, hold: &[Card; 4]) -> bool
         ensures { result ≡ may_hold self.now hold.now }
     {
-        counts_of_four(hold) == self.ranks && has_all(hold, self.fixed)
+        count_ranks(&ranks_of(hold)) == self.ranks && has_all(hold, self.fixed)
     }
 }
 

@@ -24,17 +24,17 @@ impl<'a> Lines<'a> {
     ghost use Rattle.crib_text.specs.Refusals.{text_refusal};
     ghost use Rattle.crib_text.specs.Reading.{Gives, Reads, all_lines, line_at, end_at};
     ghost use Rattle.crib_text.specs.Spelling.{line_text};
-    ghost use Rattle.crib_text.specs.Lines.{IsLineOf, rest_of, source_of, place_of, line_of, line_place};
+    ghost use Rattle.crib_text.specs.Lines.{IsLineOf, rest_of, source_of, lines_start, line_of, line_start};
 
     /// Returns the lines of a text, which may have at most 8,388,608 bytes. The text is refused with 1 if a byte is
     /// neither LF nor 32 to 126, at the line of the first such byte. Otherwise it is refused with 3 if the last byte
     /// isn't LF, at the last line. The empty text has no lines.
-    #[tactic(auto, using(crate::proofs::ByteLemmas::checked_ended), unfolding(crate::specs::Lines::rest_of, crate::specs::Lines::source_of, crate::specs::Lines::place_of, crate::specs::Reading::all_lines))]
+    #[tactic(auto, using(crate::proofs::ByteLemmas::checked_ended), unfolding(crate::specs::Lines::rest_of, crate::specs::Lines::source_of, crate::specs::Lines::lines_start, crate::specs::Reading::all_lines))]
     pub fn new(bytes: &'a [u8]) -> Result<Lines<'a>, TextFault>
         requires { length bytes.now ≤ MAX_INPUT }
         ensures exact { Gives rest_of text_refusal result (all_lines bytes.now) }
         ensures source { IfOk result (λ lines. source_of lines ≡ bytes.now) }
-        ensures place { IfOk result (λ lines. place_of lines ≡ 0) }
+        ensures start { IfOk result (λ lines. lines_start lines ≡ 0) }
     {
         check_bytes(bytes)?;
         Ok(Lines {
@@ -49,9 +49,9 @@ impl<'a> Lines<'a> {
     pub fn next_line(&mut self) -> Result<Line<'a>, TextFault>
         ensures exact { Reads line_of text_refusal line_at (rest_of self.old) (rest_of self.new) result }
         ensures slice { IfOk result (IsLineOf (source_of self.old)) }
-        ensures place { IfOk result (λ line. line_place line ≡ place_of self.old) }
+        ensures start { IfOk result (λ line. line_start line ≡ lines_start self.old) }
         ensures next { IfOk result
-            (λ line. place_of self.new ≡ place_of self.old + length (line_text (line_of line).words)) }
+            (λ line. lines_start self.new ≡ lines_start self.old + length (line_text (line_of line).words)) }
         ensures source { source_of self.new ≡ source_of self.old }
         ensures err { OnErr result (self.new ≡ self.old) }
     {

@@ -1,12 +1,12 @@
 //! Devices that fail or are interrupted.
-use crate::tests::runs::{outcome, written_of};
+use crate::tests::runs::{Written, outcome, written_of};
 use crate::tests::same;
 use crib_run::Status;
 use crib_sheet::SheetJob;
 use example_texts::games::LAST_CARD;
 use example_texts::joined;
 use example_texts::plans::{LOOK, REST};
-use example_texts::problems::{BEGUN, TENS, TWELVE};
+use example_texts::problems::{BEGUN, BEGUN_SHORT, TENS, TWELVE};
 use failing_devices::Trouble;
 use std::io::ErrorKind;
 use std::process::Abort;
@@ -17,6 +17,7 @@ fn sections(job: SheetJob) -> [&'static str; 2] {
         SheetJob::Plan => [TWELVE, LOOK],
         SheetJob::Beaten => [BEGUN, REST],
         SheetJob::Try => [TWELVE, ""],
+        SheetJob::Refute | SheetJob::Why => [BEGUN_SHORT, ""],
         SheetJob::Game => [TENS, LAST_CARD],
     }
 }
@@ -51,7 +52,7 @@ fn fails_to_read(rt: &(impl Abort + AllocGlobal), job: SheetJob) {
         );
         let interrupted = Trouble::At(call, ErrorKind::Interrupted);
         let text = whole.text.as_slice();
-        comes_to(rt, job, (interrupted, Trouble::Never), text, Status::Yes);
+        comes_to(rt, job, (interrupted, Trouble::Never), text, whole.status);
     }
 }
 
@@ -61,23 +62,26 @@ fn a_failed_read_is_fault_9(rt: HostRuntime) {
     fails_to_read(&rt, SheetJob::Game);
     fails_to_read(&rt, SheetJob::Beaten);
     fails_to_read(&rt, SheetJob::Try);
+    fails_to_read(&rt, SheetJob::Refute);
+    fails_to_read(&rt, SheetJob::Why);
 }
 
 // The writer fails or is interrupted after so many bytes of the whole text.
-fn fails_after(rt: &(impl Abort + AllocGlobal), job: SheetJob, sent: usize, text: &[u8]) {
+fn fails_after(rt: &(impl Abort + AllocGlobal), job: SheetJob, sent: usize, whole: &Written) {
     let call = (sent as u64).saturating_add(1);
+    let text = whole.text.as_slice();
     let front = text.get(..sent).expect(rt, "a front");
     let broken = Trouble::At(call, ErrorKind::Other);
     comes_to(rt, job, (Trouble::Never, broken), front, Status::Fault);
     let interrupted = Trouble::At(call, ErrorKind::Interrupted);
-    comes_to(rt, job, (Trouble::Never, interrupted), text, Status::Yes);
+    comes_to(rt, job, (Trouble::Never, interrupted), text, whole.status);
 }
 
 // One of the calls of the writer fails or is interrupted: each 67th is tried.
 fn fails_to_write(rt: &(impl Abort + AllocGlobal), job: SheetJob) {
     let whole = written_of(rt, job, &sections(job));
     for sent in (0..whole.text.len()).step_by(67) {
-        fails_after(rt, job, sent, whole.text.as_slice());
+        fails_after(rt, job, sent, &whole);
     }
 }
 
@@ -87,4 +91,6 @@ fn a_failed_write_leaves_a_front(rt: HostRuntime) {
     fails_to_write(&rt, SheetJob::Game);
     fails_to_write(&rt, SheetJob::Beaten);
     fails_to_write(&rt, SheetJob::Try);
+    fails_to_write(&rt, SheetJob::Refute);
+    fails_to_write(&rt, SheetJob::Why);
 }

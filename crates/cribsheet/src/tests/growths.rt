@@ -6,7 +6,7 @@ use crib_sheet::SheetJob;
 use example_texts::games::LAST_CARD;
 use example_texts::joined;
 use example_texts::plans::{NO_PLAN, TWOS};
-use example_texts::problems::{BEGUN, TENS, THIRTEEN, TWELVE};
+use example_texts::problems::{BEGUN, BEGUN_SHORT, TENS, THIRTEEN, TWELVE};
 use refusing_alloc::Refusing;
 use std::process::Abort;
 
@@ -74,6 +74,30 @@ fn of_a_plan(rt: HostRuntime) {
     assert!(rt; passed_over > 0);
     let (reported, _passed_over) = refuse_each(&rt, SheetJob::Plan, &[THIRTEEN, TWOS]);
     assert!(rt; reported >= 3);
+}
+
+// The same of a plan that is found.
+#[test]
+fn of_a_plan_that_is_found(rt: HostRuntime) {
+    let (reported, passed_over) = refuse_each(&rt, SheetJob::Plan, &[BEGUN_SHORT]);
+    assert!(rt; reported >= 3);
+    assert!(rt; passed_over > 0);
+}
+
+// The input and the games. The position table of the finder allocates too.
+#[test]
+fn of_games_that_refute(rt: HostRuntime) {
+    let (reported, passed_over) = refuse_each(&rt, SheetJob::Refute, &[BEGUN_SHORT]);
+    assert!(rt; reported >= 3);
+    assert!(rt; passed_over > 0);
+}
+
+// And the different games, and the lines.
+#[test]
+fn of_games_in_words(rt: HostRuntime) {
+    let (reported, passed_over) = refuse_each(&rt, SheetJob::Why, &[BEGUN_SHORT]);
+    assert!(rt; reported >= 5);
+    assert!(rt; passed_over > 0);
 }
 
 // The input, the plan and the rows of the tally. Every deal beats a plan without nodes.

@@ -35,6 +35,8 @@ fn each_command_says_why(rt: HostRuntime) {
     says_why(&rt, SheetJob::Game, &[THIRTEEN, OWNER_LEADS]);
     says_why(&rt, SheetJob::Beaten, &[THIRTEEN, TWOS]);
     says_why(&rt, SheetJob::Try, &[THIRTEEN]);
+    says_why(&rt, SheetJob::Refute, &[THIRTEEN]);
+    says_why(&rt, SheetJob::Why, &[THIRTEEN]);
 }
 
 // A run over a game whose seventh act is refused, with the memory of `heap`.

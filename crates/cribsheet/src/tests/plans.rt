@@ -40,6 +40,15 @@ fn prints_plans_that_are_not_sure(rt: HostRuntime) {
     );
 }
 
+// A problem alone has the sheet of a plan that is found: a sure one, or, if no plan is sure, another.
+#[test]
+fn finds_a_plan(rt: HostRuntime) {
+    let parts = ["You are the pone", "This plan is sure", "2C 2D 2H 2S\n"];
+    prints(&rt, SheetJob::Plan, &[TWELVE], &parts, Status::Yes);
+    let parts = ["This plan is not sure", "The plan:\n", "2C 2D 2H 2S\n"];
+    prints(&rt, SheetJob::Plan, &[THIRTEEN], &parts, Status::No);
+}
+
 #[test]
 fn refuses_what_check_refuses(rt: HostRuntime) {
     refuses_plans(&rt, SheetJob::Plan);

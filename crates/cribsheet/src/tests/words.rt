@@ -30,6 +30,8 @@ fn reads_the_words(rt: HostRuntime) {
     reads(&rt, "cribsheet game", Ok(SheetJob::Game));
     reads(&rt, "cribsheet beaten", Ok(SheetJob::Beaten));
     reads(&rt, "cribsheet try", Ok(SheetJob::Try));
+    reads(&rt, "cribsheet refute", Ok(SheetJob::Refute));
+    reads(&rt, "cribsheet why", Ok(SheetJob::Why));
     reads(&rt, "cribsheet check", Err(ErrorKind::InvalidValue));
     reads(&rt, "cribsheet --help", Err(ErrorKind::DisplayHelp));
     reads(&rt, "cribsheet --version", Err(ErrorKind::UnknownArgument));
@@ -53,6 +55,8 @@ fn tells_what_each_command_does(rt: HostRuntime) {
         "\n  game    reads a problem and a game, ",
         "\n  beaten  reads a problem and a plan, ",
         "\n  try     reads a problem, ",
+        "\n  refute  reads a problem, ",
+        "\n  why     reads a problem, ",
         "\nManual: man cribsheet. ",
     ];
     has_parts(&rt, help.as_str(), &parts);

@@ -5,7 +5,6 @@ use crib_cards::{Act, Card, Move, Side};
 use crib_game::{Game, replay};
 use crib_input::Played;
 use crib_problem::Problem;
-use crib_run::Status;
 use example_texts::games::*;
 use example_texts::problems::*;
 use failing_devices::Trouble;
@@ -104,7 +103,7 @@ fn the_sheets_of_dealt_games_are_narrow(rt: HostRuntime) {
         play_out(&mut dealt);
         let report = replay(&dealt.problem, &dealt.game).expect(&rt, "a report");
         assert!(rt; report.over.is_some());
-        let (_, status) = sheet(&rt, &dealt, Trouble::Never);
-        same(&rt, (seed, status), (seed, Status::Yes));
+        let (_, is_cut) = sheet(&rt, &dealt, Trouble::Never);
+        same(&rt, (seed, is_cut), (seed, false));
     }
 }

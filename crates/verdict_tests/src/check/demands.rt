@@ -2,12 +2,12 @@
 use crate::check::rows::{BEGUN_ROWS, LOST, Row, SHORT, STOPPING, STUCK, SURE};
 use crate::same;
 use crate::sections::{game, plan, problem};
+use crib_beaten::Plays;
 use crib_cards::{Card, Dealt, Rank};
-use crib_check::{CHOICES, Plays};
 use crib_know::{Know, some_deal};
 use crib_plan::Plan;
 use crib_problem::Problem;
-use crib_show::{count_ranks, crib_points, hand_points};
+use crib_show::{CHOICES, count_ranks, crib_points, hand_points};
 use example_texts::problems::BEGUN;
 use std::alloc::Global;
 use std::process::Abort;

@@ -1,12 +1,6 @@
-use Rattle.std.proofs.Common.{◌≡◌, ◌≤◌, length}
-use Rattle.crib_beaten.specs.Private.Numbers.{ordered_below}
+use Rattle.std.proofs.Common.{◌≡◌, length}
 use Rattle.crib_beaten.specs.Private.Rows.{AreChoices}
 use Rattle.crib_beaten.proofs.tally.choices.Given as goal
 
 abbrev pub invariant-loop-number : goal.invariant-loop-number
-invariant-loop-number l = record {
-  long : length l.choices ≡ 1820;
-  place : l.place ≡ ordered_below l.number;
-  few : l.place ≤ l.number;
-  are : AreChoices l.number l.choices;
-}
+invariant-loop-number l = record { long : length l.choices ≡ 1820; are : AreChoices l.number l.choices }

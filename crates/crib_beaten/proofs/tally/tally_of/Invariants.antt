@@ -1,11 +1,5 @@
-use Rattle.std.proofs.Common.{◌≡◌, ◌≤◌}
-use Rattle.crib_beaten.specs.Private.Numbers.{ordered_below}
 use Rattle.crib_beaten.proofs.TallyRows.{IsBelow}
 use Rattle.crib_beaten.proofs.tally.tally_of.Given as goal
 
 abbrev pub invariant-loop-number : goal.invariant-loop-number
-invariant-loop-number g l = record {
-  below : IsBelow l.fn.problem l.fn.plan l.number l.tally.open_deals l.tally.beaten l.tally.rows.items;
-  place : l.place ≡ ordered_below l.number;
-  few : l.place ≤ l.number;
-}
+invariant-loop-number g l = IsBelow l.fn.problem l.fn.plan l.number l.tally.open_deals l.tally.beaten l.tally.rows.items

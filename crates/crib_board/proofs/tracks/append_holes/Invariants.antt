@@ -5,7 +5,7 @@ use Rattle.crib_board.specs.Board.{hole_byte}
 use Rattle.crib_board.proofs.tracks.append_holes.Given as goal
 
 -- the holes so far are written, and there is room for the others
-abbrev pub invariant-loop-place : goal.invariant-loop-place
-invariant-loop-place g l = record {
-  written : Appended l.initial.text l.text (map (hole_byte (Some l.pegs.front) l.pegs.back) (range_with_len l.first l.place)) l.place;
+abbrev pub invariant-loop-index : goal.invariant-loop-index
+invariant-loop-index g l = record {
+  written : Appended l.initial.text l.text (map (hole_byte (Some l.pegs.front) l.pegs.back) (range_with_len l.first l.index)) l.index;
 }

@@ -3,15 +3,15 @@ use Rattle.crib_play.specs.History.{Event}
 use Rattle.crib_know.specs.Hidden.{KnowsAfter}
 use Rattle.crib_know.specs.Knowledge.{their_ranks}
 use Rattle.crib_check.proofs.FirstShortfalls.{all_met, none_met, short_by}
-use Rattle.crib_sure.proofs.EndedDeals.{four_shown}
+use Rattle.crib_sure.proofs.EndedDeals.{all_reach, four_shown}
 use Rattle.crib_sure.proofs.ShowsBehind.{gone_for, gone_from, has_deal}
 use Rattle.crib_check.proofs.deals.first_shortfall.Goals as goal
 use Rattle.crib_check.proofs.deals.first_shortfall.Goals.{After-go_to}
 
 pub returns-then-is_met_by_all-clause-first : goal.returns-then-is_met_by_all-clause-first
-returns-then-is_met_by_all-clause-first c = λ history knows.
-    all_met knows c.demand_at_end-demand.result (c.demand_at_end-demand.ensures.show c.requires.shows.0.own.hand)
-    (c.is_met_by_all.ensures.0 c.if-is_met_by_all.true)
+returns-then-is_met_by_all-clause-first c =
+    all_met (all_reach c.demand_at_end-demand.result c.demand_at_end-demand.ensures.show c.requires.shows.0.own.hand
+    (c.is_met_by_all.ensures.0 c.if-is_met_by_all.true))
 
 pub returns-then-is_impossible-clause-first : goal.returns-then-is_impossible-clause-first
 returns-then-is_impossible-clause-first c = λ history knows.

@@ -18,7 +18,7 @@ returns-in-Some c =
     let third : c.add-in-Some.new.self.text.items ≡ second ++ excerpt =
     c.add-in-Some.ensures.items ∙ ap (λ (xs : List ℕ). second ++ xs) c.as_slice.ensures.value in
     record {
-      place = c.new-scene.result.place;
+      spot = c.new-scene.result.spot;
       sentence = sentence;
       excerpt = excerpt;
       is = said start first second c.add-in-Some.new.self.text.items sentence excerpt c.add_sentence.ensures.items
@@ -35,7 +35,7 @@ returns-in_default c =
     let sentence = filter is_plain c.as_bytes.result.now in
     let first = c.add_sentence.new.self.text.items in
     record {
-      place = c.new-scene.result.place;
+      spot = c.new-scene.result.spot;
       sentence = sentence;
       excerpt = [];
       is = said_alone start first c.add.new.self.text.items sentence c.add_sentence.ensures.items c.add.ensures.items

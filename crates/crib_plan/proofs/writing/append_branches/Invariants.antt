@@ -2,9 +2,9 @@ use Rattle.std.proofs.Common.{◌≡◌, ◌≤◌, ◌+◌, ◌++◌, length, v
 use Rattle.crib_plan.specs.Private.Spelling.{branches_text}
 use Rattle.crib_plan.proofs.writing.append_branches.Given as goal
 
-abbrev pub invariant-loop-place : goal.invariant-loop-place
-invariant-loop-place g l = record {
-  items : l.text.items ++ branches_text l.nexts l.place ≡ l.initial.text.items ++ branches_text l.nexts 0;
+abbrev pub invariant-loop-index : goal.invariant-loop-index
+invariant-loop-index g l = record {
+  items : l.text.items ++ branches_text l.nexts l.index ≡ l.initial.text.items ++ branches_text l.nexts 0;
   room : vec_capacity l.initial.text ≤ vec_capacity l.text;
-  len : vec_len l.text + length (branches_text l.nexts l.place) ≡ vec_len l.initial.text + length (branches_text l.nexts 0);
+  len : vec_len l.text + length (branches_text l.nexts l.index) ≡ vec_len l.initial.text + length (branches_text l.nexts 0);
 }

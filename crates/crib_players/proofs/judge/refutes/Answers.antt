@@ -22,7 +22,7 @@ returns-then-not-is_answered c =
     }
 
 pub loop-game-preserved : goal.loop-game-preserved
-loop-game-preserved c = λ place game before among. elim (cases_eq place c.loop-game.game-index) [
+loop-game-preserved c = λ index game before among. elim (cases_eq index c.loop-game.game-index) [
   | inl here ↦
       let games = c.args.games.now in
       let item = c.game-item.result in
@@ -30,7 +30,7 @@ loop-game-preserved c = λ place game before among. elim (cases_eq place c.loop-
       let same : item ≡ game = same_Some item game (sym at ∙ ap (slice_get games) (sym here) ∙ among) in
       let A : Game → Type 0 = λ game. IsAnswered c.args.problem.now games game in
       subst A same (c.is_answered.ensures.0 c.if-not-is_answered.false)
-  | inr other ↦ c.loop-game.invariant place game (omega (arith, before, other)) among
+  | inr other ↦ c.loop-game.invariant index game (omega (arith, before, other)) among
 ]
 
 some_games : (count : ℕ) (empty : Bool) → empty ≡ (count == 0) → not empty ≡ true → 0 < count
@@ -46,9 +46,9 @@ returns c =
     record {
       exact = (
         λ some. refutes_from c.args.problem.now games (some_games (length games) c.is_empty.result c.is_empty.ensures some)
-            (λ place game among. (
-            let inside = slice_get_within games place game among in
-            c.loop-game.invariant place game (omega (arith, inside, over)) among
+            (λ index game among. (
+            let inside = slice_get_within games index game among in
+            c.loop-game.invariant index game (omega (arith, inside, over)) among
             )),
         λ refutes. (
             let first = refutes.some in

@@ -5,4 +5,4 @@ use Rattle.crib_players.specs.Private.Judging.{IsAnswered}
 use Rattle.crib_players.proofs.judge.refutes.Given as goal
 
 abbrev pub invariant-loop-game : goal.invariant-loop-game
-invariant-loop-game l = (place : ℕ) (game : Game) → place < l.game-index → slice_get l.games place ≡ Some game → IsAnswered l.problem l.games game
+invariant-loop-game l = (index : ℕ) (game : Game) → index < l.game-index → slice_get l.games index ≡ Some game → IsAnswered l.problem l.games game

@@ -11,6 +11,7 @@ returns-in-Plan g c = record {
   sure = λ e. c.in_ok-plan.ensures.sure c.in-Plan.plan (ap plan_found c.in-Plan.is);
   found = λ e. rw c.in-Plan.is at c.in_ok-plan.ensures.exact;
   unsure = λ e. not_both e;
+  stated = (c.in_ok-plan.ensures.sure c.in-Plan.plan (ap plan_found c.in-Plan.is)).never_stuck;
   large = c.in_ok-plan.ensures.large;
   too_large = λ e. not_fault e;
 }
@@ -20,6 +21,7 @@ returns-in_ok-greedy_plan-in-None g c = record {
   sure = λ e. not_both (sym e);
   found = λ e. not_both (sym e);
   unsure = λ e. c.in_ok-plan.ensures.none (ap plan_found c.in-None.is);
+  stated = c.in_ok-greedy_plan-in-None.ensures.stated;
   large = c.in_ok-plan.ensures.large;
   too_large = λ e. not_fault e;
 }

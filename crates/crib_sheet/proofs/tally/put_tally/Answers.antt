@@ -1,6 +1,6 @@
+use Rattle.std.proofs.Common.{rules}
 use Rattle.crib_run.proofs.Printing.{as_text, more}
 use Rattle.crib_sheet.specs.Beaten.{beaten_text}
-use Rattle.std.proofs.Common.{rules}
 use Rattle.crib_sheet.proofs.tally.put_tally.Goals as goal
 
 pub returns : goal.returns

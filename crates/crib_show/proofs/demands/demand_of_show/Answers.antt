@@ -3,7 +3,6 @@ use Rattle.std.proofs.lemmas.Bool.Decides.{nat_tests}
 use Rattle.crib_cards.specs.declared.sides.Scores.{Scores}
 use Rattle.crib_show.proofs.ShowDemands.{dealer_met, pone_met, show_lost, show_reached}
 use Rattle.crib_show.proofs.demands.demand_of_show.Goals as goal
-use Rattle.crib_show.proofs.demands.demand_of_show.Goals.{then-target-gt-GAME_HOLE, else-target-gt-GAME_HOLE}
 
 pub returns-then-scores-target-clause-show : goal.returns-then-scores-target-clause-show
 returns-then-scores-target-clause-show c full show = show_reached show c.if-scores-target.true (c.none.ensures _ _ show.few_hand show.few_crib)
@@ -15,28 +14,29 @@ returns-then-scores-ge-GAME_HOLE-clause-show c full show =
 pub returns-in-Opponent-clause-show : goal.returns-in-Opponent-clause-show
 returns-in-Opponent-clause-show c full show =
     pone_met show c.if-scores-target.false c.if-scores-ge-GAME_HOLE.false c.in-Opponent.is
-    (grind (arith, nat_tests, c, ap (λ (s : Scores). s.owner) c.with.ensures, c.none-in-Opponent.ensures _ _ show.few_hand show.few_crib))
+    (grind (arith, nat_tests, c, ap (λ (s : Scores). s.owner) c.with-counted.ensures, c.none-in-Opponent.ensures _ _ show.few_hand show.few_crib))
 
 pub returns-in-Opponent-2-clause-show : goal.returns-in-Opponent-2-clause-show
 returns-in-Opponent-2-clause-show c full show =
     pone_met show c.if-scores-target.false c.if-scores-ge-GAME_HOLE.false c.in-Opponent-2.is
-    (grind (arith, nat_tests, c, ap (λ (s : Scores). s.owner) c.with.ensures, c.if-is_to_stop.true))
+    (grind (arith, nat_tests, c, ap (λ (s : Scores). s.owner) c.with-counted.ensures, c.if-is_to_stop.true))
 
 pub returns-in-Opponent-3-clause-show : goal.returns-in-Opponent-3-clause-show
 returns-in-Opponent-3-clause-show c full show =
     pone_met show c.if-scores-target.false c.if-scores-ge-GAME_HOLE.false c.in-Opponent-2.is
-    (grind (arith, nat_tests, c, ap (λ (s : Scores). s.owner) c.with.ensures, c.if-is_to_stop.false, c.impossible-in-Opponent-3.ensures))
+    (grind (arith, nat_tests, c, ap (λ (s : Scores). s.owner) c.with-counted.ensures, c.if-is_to_stop.false, c.impossible-in-Opponent-3.ensures))
 
-pub returns-then-is_to_stop-2-clause-show : goal.returns-then-is_to_stop-2-clause-show
-returns-then-is_to_stop-2-clause-show c full show =
+pub returns-in-Owner-clause-show : goal.returns-in-Owner-clause-show
+returns-in-Owner-clause-show c full show =
     dealer_met show c.if-scores-target.false c.if-scores-ge-GAME_HOLE.false c.in-Owner.is
-    (grind (arith, nat_tests, c, ap (λ (s : Scores). s.owner) c.with.ensures))
+    (grind (arith, nat_tests, c, ap (λ (s : Scores). s.owner) c.with-counted.ensures))
 
-pub returns-else-is_to_stop-2-clause-show : goal.returns-else-is_to_stop-2-clause-show
-returns-else-is_to_stop-2-clause-show c full show =
-    let counted = ap (λ (s : Scores). s.owner) c.with.ensures in
-    let met = dealer_met show c.if-scores-target.false c.if-scores-ge-GAME_HOLE.false c.in-Owner.is in
-    elim c.if-target-gt-GAME_HOLE.branch [
-      | then-target-gt-GAME_HOLE w ↦ met (grind (arith, nat_tests, c, counted, w.need-is, w.if-target-gt-GAME_HOLE.true, show.few_crib))
-      | else-target-gt-GAME_HOLE w ↦ met (grind (arith, nat_tests, c, counted, w.need-is, w.if-target-gt-GAME_HOLE.false))
-    ]
+pub returns-then-target-gt-GAME_HOLE-clause-show : goal.returns-then-target-gt-GAME_HOLE-clause-show
+returns-then-target-gt-GAME_HOLE-clause-show c full show =
+    dealer_met show c.if-scores-target.false c.if-scores-ge-GAME_HOLE.false c.in-Owner-2.is
+    (grind (arith, nat_tests, c, ap (λ (s : Scores). s.owner) c.with-counted.ensures, c.if-target-gt-GAME_HOLE.true, show.few_crib))
+
+pub returns-else-target-gt-GAME_HOLE-clause-show : goal.returns-else-target-gt-GAME_HOLE-clause-show
+returns-else-target-gt-GAME_HOLE-clause-show c full show =
+    dealer_met show c.if-scores-target.false c.if-scores-ge-GAME_HOLE.false c.in-Owner-2.is
+    (grind (arith, nat_tests, c, ap (λ (s : Scores). s.owner) c.with-counted.ensures, c.if-target-gt-GAME_HOLE.false))

@@ -6,13 +6,13 @@ use Rattle.crib_sure.proofs.shows.is_reached.Goals as goal
 use Rattle.crib_sure.proofs.shows.is_reached.Goals.{After-go_to}
 
 pub returns-then-is_met_by_all-clause-reached : goal.returns-then-is_met_by_all-clause-reached
-returns-then-is_met_by_all-clause-reached c = λ history knows.
-    all_reach knows c.demand_at_end-demand.result (c.demand_at_end-demand.ensures.show c.requires.shows.0.own.hand)
+returns-then-is_met_by_all-clause-reached c =
+    all_reach c.demand_at_end-demand.result c.demand_at_end-demand.ensures.show c.requires.shows.0.own.hand
     (c.is_met_by_all.ensures.0 c.if-is_met_by_all.true)
 
 pub returns-then-is_impossible-clause-reached : goal.returns-then-is_impossible-clause-reached
-returns-then-is_impossible-clause-reached c = λ history knows.
-    none_reaches knows c.demand_at_end-demand.result (c.demand_at_end-demand.ensures.show c.requires.shows.0.own.hand)
+returns-then-is_impossible-clause-reached c =
+    none_reaches c.demand_at_end-demand.result c.demand_at_end-demand.ensures.show c.requires.shows.0.own.hand
     (c.is_impossible.ensures.0 c.if-is_impossible.true)
 
 four : (c : After-go_to) → length (their_ranks c.requires.known.0) ≡ 4
@@ -28,7 +28,7 @@ returns-clause-reached c = λ history knows.
     let worst = c.go_to.ensures.worst c.args.problem.now c.requires.shows in
     let four = four_shown knows c.requires.over c.demand_at_end-demand.result c.demand_at_end-demand.ensures.decided
     c.is_met_by_all.ensures c.if-is_met_by_all.false c.is_impossible.ensures c.if-is_impossible.false in
-    end_is knows c.demand_at_end-demand.result (c.demand_at_end-demand.ensures.show c.requires.shows.0.own.hand) four
+    end_is c.demand_at_end-demand.result c.demand_at_end-demand.ensures.show c.requires.shows.0.own.hand knows four
     (rw worst at c.meets_all.ensures.all)
 
 pub meets_all-requires-clause-shows : goal.meets_all-requires-clause-shows

@@ -1,14 +1,13 @@
 use Rattle.std.proofs.Common.{ℕ, List, ap, subst, ◌∙◌}
-use Rattle.crib_check.specs.Beaten.{Decides, counts_of, demand_of}
-use Rattle.crib_beaten.specs.Private.Numbers.{ordered_below}
-use Rattle.crib_beaten.proofs.HoldNumbers.{small_place}
+use Rattle.crib_beaten.specs.Beaten.{Decides, counts_of, demand_of}
+use Rattle.crib_beaten.proofs.Choices.{index_at, index_small}
 use Rattle.crib_beaten.proofs.tally.OpenDeals.of.Goals as goal
 
 pub returns : goal.returns
 returns g c = record {
-  setup = c.new.ensures.plays.knows.setup;
+  setup = c.new.ensures.plays.start.knows.setup;
   same_problem = c.of.ensures;
-  decided = λ n small is. subst (λ counts. Decides c.args.problem.now c.args.plan.now counts (demand_of c.demands.result (ordered_below n)))
-      (ap (λ (cs : List (List ℕ)). counts_of cs (ordered_below n)) c.new.ensures.choices ∙ c.requires n small is)
-      (c.demands.ensures _ _ c.new.ensures.plays (ordered_below n) (small_place n is small));
+  decided = λ n small is. subst (λ counts. Decides c.args.problem.now c.args.plan.now counts (demand_of c.demands.result (index_at n)))
+      (ap (λ (cs : List (List ℕ)). counts_of cs (index_at n)) c.new.ensures.choices ∙ c.requires n small is)
+      (c.demands.ensures _ _ c.new.ensures.plays (index_at n) (index_small n small));
 }

@@ -4,7 +4,7 @@ use Rattle.crib_cards.specs.declared.letters.Letter.TheVariants.{Go}
 use Rattle.crib_check.specs.Private.Trails.{as_event}
 use Rattle.crib_check.specs.declared.trails.Event.{Event as TrailEvent}
 use Rattle.crib_check.specs.declared.trails.Event.TheVariants.{Own, Theirs}
-use Rattle.crib_check.specs.Private.Positions.{StandsAt}
+use Rattle.crib_sure.specs.Positions.{StandsAt}
 use Rattle.crib_check.specs.Private.Walks.{HasWalked, MayWalk, history_at}
 use Rattle.crib_check.proofs.WalkSteps.{failed_from, gone_as, kept_with, may_show, no_failure, shown_next, some_failure, stays}
 use Rattle.crib_check.proofs.TrailLengths.{trail_more, trail_back, trail_room}
@@ -57,23 +57,23 @@ pub their_turn-returns-then-they_show : goal.their_turn-returns-then-they_show
 their_turn-returns-then-they_show g t c =
     let walk = c.args.self.now in
     let after = c.they_show.new.self in
-    gone_as (shown_next c.loop-place.invariant c.at.result c.at.ensures.place c.they_show.ensures.shown)
+    gone_as (shown_next c.loop-index.invariant c.at.result c.at.ensures.index c.they_show.ensures.shown)
     (found_from walk.problem.now walk.plan.now c.args.key.now _ (history_at walk) after.trail.items after.failure (λ none.
     absurd (some_failure after.failure (sym c.they_show.ensures.failed ∙ c.if-they_show.true) none)))
 
 pub their_turn-they_show-requires : goal.their_turn-they_show-requires
 their_turn-they_show-requires g t c κs within =
-    let may = may_show c.loop-place.invariant c.requires.here.here in
-    (omega (arith, ap length c.loop-place.invariant.back), (within.0, (within.1, (c.requires.asked, (may, c.at.ensures.valid)))))
+    let may = may_show c.loop-index.invariant c.requires.here.here in
+    (omega (arith, ap length c.loop-index.invariant.back), (within.0, (within.1, (c.requires.asked, (may, c.at.ensures.valid)))))
 
 pub their_turn-they_show-failed-requires : goal.their_turn-they_show-failed-requires
 their_turn-they_show-failed-requires g t c κs within =
-    let may = may_show c.loop-place.invariant c.requires.here.here in
-    (omega (arith, ap length c.loop-place.invariant.back), (within.0, (within.1, (c.requires.asked, (may, search rules)))))
+    let may = may_show c.loop-index.invariant c.requires.here.here in
+    (omega (arith, ap length c.loop-index.invariant.back), (within.0, (within.1, (c.requires.asked, (may, search rules)))))
 
-pub their_turn-loop-place-preserved : goal.their_turn-loop-place-preserved
-their_turn-loop-place-preserved g t c =
-    let shown = shown_next c.loop-place.invariant c.at.result c.at.ensures.place c.they_show.ensures.shown in
+pub their_turn-loop-index-preserved : goal.their_turn-loop-index-preserved
+their_turn-loop-index-preserved g t c =
+    let shown = shown_next c.loop-index.invariant c.at.result c.at.ensures.index c.they_show.ensures.shown in
     let none = no_failure c.they_show.new.self.failure (sym c.they_show.ensures.failed ∙ c.if-they_show.false) in
     record { kept = shown.kept; none = none; back = shown.back none; below = rw none at shown.found }
 
@@ -81,8 +81,8 @@ pub their_turn-returns : goal.their_turn-returns
 their_turn-returns g t c =
     let walk = c.args.self.now in
     let after = c.they_show-failed.new.self in
-    let all : 13 ≡ c.loop-place.place = omega (arith, c.loop-place.auto.place-end, c.loop-place-test.false) in
-    gone_as (shown_next c.loop-place.invariant Go all c.they_show-failed.ensures.shown) (λ found.
+    let all : 13 ≡ c.loop-index.index = omega (arith, c.loop-index.auto.index-end, c.loop-index-test.false) in
+    gone_as (shown_next c.loop-index.invariant Go all c.they_show-failed.ensures.shown) (λ found.
     found_from walk.problem.now walk.plan.now c.args.key.now 14 (history_at walk) after.trail.items after.failure (λ none. settled_theirs c.requires.asked)
     (rw (← all) at found))
 

@@ -17,5 +17,5 @@ decreases-they_show g l = 4 * (29 - length l.self.now.trail.items) + 1
 abbrev pub decreases-take : goal.decreases-take
 decreases-take g l = 4 * (29 - length l.self.now.trail.items)
 
-abbrev pub invariant-their_turn-loop-place : goal.invariant-their_turn-loop-place
-invariant-their_turn-loop-place g l = HasShownBelow g.T.Settled.holds l.fn.self l.key l.place l.self
+abbrev pub invariant-their_turn-loop-index : goal.invariant-their_turn-loop-index
+invariant-their_turn-loop-index g l = HasShownBelow g.T.Settled.holds l.fn.self l.key l.index l.self

@@ -11,7 +11,7 @@ returns-then-not-insert-clause-fault c =
     let i = c.loop-card.card-index in
     let inside : i < length cards = omega arith in
     sym (ap (λ six. deal_fault (first_seen known 1 six)) (sym c.six_cards-card-items.ensures.cards)
-    ∙ ap deal_fault (looked_stop known cards c.loop-card.seen i c.loop-card.place (get_or cards i c.card-item.result) c.loop-card.invariant inside
+    ∙ ap deal_fault (looked_stop known cards c.loop-card.seen i c.loop-card.number (get_or cards i c.card-item.result) c.loop-card.invariant inside
     (ap (get_or cards i) c.card-item.is) c.insert.ensures.range (sym c.insert.ensures.new ∙ c.if-not-insert.true)))
 
 pub loop-card-preserved : goal.loop-card-preserved
@@ -19,6 +19,6 @@ loop-card-preserved c =
     let cards = c.six_cards-card-items.result in
     let i = c.loop-card.card-index in
     let inside : i < length cards = omega arith in
-    looked_next (known_cards c.args.problem.now) cards c.loop-card.seen i c.loop-card.place (get_or cards i c.card-item.result) c.loop-card.invariant inside
+    looked_next (known_cards c.args.problem.now) cards c.loop-card.seen i c.loop-card.number (get_or cards i c.card-item.result) c.loop-card.invariant inside
     (ap (get_or cards i) c.card-item.is) c.insert.ensures.range
     c.insert.new.self (sym c.insert.ensures.new ∙ c.if-not-insert.false) c.insert.ensures.set

@@ -8,18 +8,18 @@ use Rattle.crib_game.proofs.section.reading.read_acts.Goals as goal
 pub returns-in_err-read_act : goal.returns-in_err-read_act
 returns-in_err-read_act c =
     let p = err_from_is_err_and c.from_residual.result c.from_residual.ensures.1 in
-    rw (p.1, p.2) (values_stop (λ place. act_in) _ c.args.count c.loop.counter _ _ _ (omega arith) c.in_err-read_act.ensures c.loop.invariant.so_far)
+    rw (p.1, p.2) (values_stop (λ number. act_in) _ c.args.count c.loop.counter _ _ _ (omega arith) c.in_err-read_act.ensures c.loop.invariant.so_far)
 
 pub loop-init : goal.loop-init
 loop-init c = record {
   len = ap length c.new-acts.ensures;
-  so_far = rw c.new-acts.ensures (values_none (λ place. act_in) c.args.count (rest_of c.args.lines.now));
+  so_far = rw c.new-acts.ensures (values_none (λ number. act_in) c.args.count (rest_of c.args.lines.now));
 }
 
 pub loop-preserved : goal.loop-preserved
 loop-preserved c =
-    let more = values_more (λ place. act_in) _ c.args.count c.loop.counter _ _ _ _ (omega arith) c.in_ok-read_act.ensures c.loop.invariant.so_far in
+    let more = values_more (λ number. act_in) _ c.args.count c.loop.counter _ _ _ _ (omega arith) c.in_ok-read_act.ensures c.loop.invariant.so_far in
     record { len = omega (arith, c.loop.invariant.len, c.push.ensures.len); so_far = rw c.push.ensures.items more }
 
 pub returns : goal.returns
-returns c = values_done (λ place. act_in) _ c.args.count c.loop.counter _ _ (omega arith) c.loop.invariant.so_far
+returns c = values_done (λ number. act_in) _ c.args.count c.loop.counter _ _ (omega arith) c.loop.invariant.so_far

@@ -8,6 +8,6 @@ use Rattle.crib_game.proofs.section.reading.read_acts.Given as goal
 abbrev pub invariant-loop : goal.invariant-loop
 invariant-loop l = record {
   len : length l.acts.items ≡ l.counter;
-  so_far : values_at (λ place. act_in) 0 l.count (rest_of l.fn.lines)
-      ≡ with_front l.acts.items (values_at (λ place. act_in) l.counter (l.count - l.counter) (rest_of l.lines));
+  so_far : values_at (λ number. act_in) 0 l.count (rest_of l.fn.lines)
+      ≡ with_front l.acts.items (values_at (λ number. act_in) l.counter (l.count - l.counter) (rest_of l.lines));
 }

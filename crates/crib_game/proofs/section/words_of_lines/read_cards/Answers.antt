@@ -1,4 +1,4 @@
-use Rattle.std.proofs.Common.{◌+◌, take, Ok, refl, ap, ◌∙◌, arith}
+use Rattle.std.proofs.Common.{◌+◌, take, Ok, ap, ◌∙◌, arith}
 use Rattle.std.proofs.lemmas.List.{take_all, take_more_set}
 use Rattle.std.proofs.Math.ListN.{drop_of_length-le}
 use Rattle.std.proofs.lemmas.Result.{err_from_is_err_and}
@@ -7,11 +7,6 @@ use Rattle.crib_text.proofs.SectionLemmas.{drop_get}
 use Rattle.crib_game.specs.Reading.{cards_in_line}
 use Rattle.crib_game.proofs.LineLemmas.{goes_on, stops, all_read}
 use Rattle.crib_game.proofs.section.words_of_lines.read_cards.Goals as goal
-
-pub returns-in_err-check_keyword : goal.returns-in_err-check_keyword
-unfolding cards_in_line
-returns-in_err-check_keyword c =
-    let p = err_from_is_err_and c.from_residual.result c.from_residual.ensures.1 in rw (p.1, p.2, c.in_err-check_keyword.ensures.exact) refl
 
 pub returns-in_err-cards : goal.returns-in_err-cards
 unfolding cards_in_line

@@ -59,22 +59,22 @@ put_node-returns-in-See g t c =
     c.put-in-See.ensures c.put_lines.ensures
 
 -- ---- the lines of a look
-pub put_lines-loop-place-init : goal.put_lines-loop-place-init
-put_lines-loop-place-init g t c = so_far_none _ _
+pub put_lines-loop-index-init : goal.put_lines-loop-index-init
+put_lines-loop-index-init g t c = so_far_none _ _
 
-pub put_lines-loop-place-preserved : goal.put_lines-loop-place-preserved
-put_lines-loop-place-preserved g t c =
+pub put_lines-loop-index-preserved : goal.put_lines-loop-index-preserved
+put_lines-loop-index-preserved g t c =
     elim c.match-new_node.branch [
       | put_lines-in-Some w ↦
           rw w.page-is (put_line c.args.self.now.outline.now c.args.self.now.plan.now c.args.level c.width_of-width.result c.args.branches.now
-          c.loop-place.place w.in-Some.node _ w.letters_to.result c.told-branches c.loop-place-test.true (sym c.new_node.ensures ∙ w.in-Some.is)
-          c.width_of-width.ensures.width w.letters_to.ensures c.loop-place.invariant w.put_front.ensures w.put_row.ensures)
+          c.loop-index.index w.in-Some.node _ w.letters_to.result c.told-branches c.loop-index-test.true (sym c.new_node.ensures ∙ w.in-Some.is)
+          c.width_of-width.ensures.width w.letters_to.ensures c.loop-index.invariant w.put_front.ensures w.put_row.ensures)
       | put_lines-in_default w ↦
-          rw w.page-is (put_none c.args.self.now.outline.now c.args.self.now.plan.now c.args.level c.args.branches.now c.loop-place.place _
-          c.told-branches c.loop-place-test.true (sym c.new_node.ensures ∙ w.in_default.is) c.loop-place.invariant)
+          rw w.page-is (put_none c.args.self.now.outline.now c.args.self.now.plan.now c.args.level c.args.branches.now c.loop-index.index _
+          c.told-branches c.loop-index-test.true (sym c.new_node.ensures ∙ w.in_default.is) c.loop-index.invariant)
     ]
 
 pub put_lines-returns : goal.put_lines-returns
 put_lines-returns g t c =
-    put_all c.args.self.now.outline.now c.args.self.now.plan.now c.args.level c.args.branches.now c.loop-place.place
-    c.told-branches (omega (arith, c.loop-place-test.false)) c.loop-place.invariant
+    put_all c.args.self.now.outline.now c.args.self.now.plan.now c.args.level c.args.branches.now c.loop-index.index
+    c.told-branches (omega (arith, c.loop-index-test.false)) c.loop-index.invariant

@@ -14,8 +14,8 @@ decreases-put_node g l = 3 * (length l.self.now.plan.now - l.node) + 1
 abbrev pub decreases-put_lines : goal.decreases-put_lines
 decreases-put_lines g l = 3 * (length l.self.now.plan.now - l.look)
 
-abbrev pub invariant-put_lines-loop-place : goal.invariant-put_lines-loop-place
-invariant-put_lines-loop-place g l =
-    SoFar (lines_text l.level (width_at l.branches 0) (lines_at l.self.outline.now l.self.plan.now l.branches l.place))
+abbrev pub invariant-put_lines-loop-index : goal.invariant-put_lines-loop-index
+invariant-put_lines-loop-index g l =
+    SoFar (lines_text l.level (width_at l.branches 0) (lines_at l.self.outline.now l.self.plan.now l.branches l.index))
     (lines_text l.level (width_at l.branches 0) (lines_at l.self.outline.now l.self.plan.now l.branches 0))
     (g.P.Page.stand l.initial.page) (g.P.Page.stand l.page)

@@ -25,20 +25,20 @@ number_from-returns-clause-same g t c = c.leave.ensures.same ∙ c.number_below.
 pub number_from-returns-then-is_left-clause-walk : goal.number_from-returns-then-is_left-clause-walk
 number_from-returns-then-is_left-clause-walk g t c =
     rw c.in-At.is
-    (walk_again c.args.self.now.draft_nodes c.is_left.ensures.kept c.in-At.place c.args.self.now.left (sym c.is_left.ensures.marked ∙ c.if-is_left.true))
+    (walk_again c.args.self.now.draft_nodes c.is_left.ensures.kept c.in-At.index c.args.self.now.left (sym c.is_left.ensures.marked ∙ c.if-is_left.true))
 
 pub number_from-returns-clause-walk : goal.number_from-returns-clause-walk
 number_from-returns-clause-walk g t c =
     rw c.in-At.is
-    (walk_new c.args.self.now.draft_nodes c.is_left.ensures.kept c.in-At.place c.args.self.now.left (sym c.is_left.ensures.marked ∙ c.if-is_left.false)
+    (walk_new c.args.self.now.draft_nodes c.is_left.ensures.kept c.in-At.index c.args.self.now.left (sym c.is_left.ensures.marked ∙ c.if-is_left.false)
     c.number_below.new.self.left c.leave.new.self.left c.in_ok-number_below.ensures.walk c.in_ok-leave.ensures.left)
 
 pub number_below-number_from-requires : goal.number_below-number_from-requires
 number_below-number_from-requires g t c κs within =
-    let below = c.draft_node.ensures.kept.earlier c.args.place (Play c.in-Play.card c.in-Play.next) c.in-Play.ensures.node in
-    let low : height c.in-Play.next ≤ c.args.place = below_height c.args.place c.in-Play.next below in
+    let below = c.draft_node.ensures.kept.earlier c.args.index (Play c.in-Play.card c.in-Play.next) c.in-Play.ensures.node in
+    let low : height c.in-Play.next ≤ c.args.index = below_height c.args.index c.in-Play.next below in
     let here = c.requires in
-    let earlier = earlier_more c.args.place (length c.args.self.now.draft_nodes) c.in-Play.next (omega (arith, here)) below in
+    let earlier = earlier_more c.args.index (length c.args.self.now.draft_nodes) c.in-Play.next (omega (arith, here)) below in
     (omega (arith, low), (within, earlier))
 
 pub number_below-loop-draft_place-init : goal.number_below-loop-draft_place-init
@@ -46,17 +46,17 @@ number_below-loop-draft_place-init g t c = record { same = refl; walk = λ after
 
 pub number_below-number_from-requires-in-loop-draft_place : goal.number_below-number_from-requires-in-loop-draft_place
 number_below-number_from-requires-in-loop-draft_place g t c κs within =
-    let all = c.draft_node.ensures.kept.earlier c.args.place (See c.in-See.next) c.in-See.ensures.node in
+    let all = c.draft_node.ensures.kept.earlier c.args.index (See c.in-See.next) c.in-See.ensures.node in
     let next = get_or c.in-See.next c.loop-draft_place.draft_place-index End in
-    let below = All-from_recursion (IsEarlier c.args.place) c.in-See.next all.1 c.loop-draft_place.draft_place-index End (omega (arith, all.0)) in
-    let low : height next ≤ c.args.place = below_height c.args.place next below in
+    let below = All-from_recursion (IsEarlier c.args.index) c.in-See.next all.1 c.loop-draft_place.draft_place-index End (omega (arith, all.0)) in
+    let low : height next ≤ c.args.index = below_height c.args.index next below in
     let here = c.requires in
-    let earlier = earlier_more c.args.place (length c.args.self.now.draft_nodes) next (omega (arith, here)) below in
+    let earlier = earlier_more c.args.index (length c.args.self.now.draft_nodes) next (omega (arith, here)) below in
     (omega (arith, low), (within, rw (← c.loop-draft_place.invariant.same) at earlier))
 
 pub number_below-loop-draft_place-preserved : goal.number_below-loop-draft_place-preserved
 number_below-loop-draft_place-preserved g t c =
-    let all = c.draft_node.ensures.kept.earlier c.args.place (See c.in-See.next) c.in-See.ensures.node in
+    let all = c.draft_node.ensures.kept.earlier c.args.index (See c.in-See.next) c.in-See.ensures.node in
     let within : c.loop-draft_place.draft_place-index < length c.in-See.next = omega (arith, all.0) in
     record {
       same = c.number_from-in-loop-draft_place.ensures.same ∙ c.loop-draft_place.invariant.same;
@@ -68,9 +68,9 @@ number_below-loop-draft_place-preserved g t c =
 
 pub number_below-returns-after-loop-draft_place-clause-walk : goal.number_below-returns-after-loop-draft_place-clause-walk
 number_below-returns-after-loop-draft_place-clause-walk g t c =
-    let all = c.draft_node.ensures.kept.earlier c.args.place (See c.in-See.next) c.in-See.ensures.node in
+    let all = c.draft_node.ensures.kept.earlier c.args.index (See c.in-See.next) c.in-See.ensures.node in
     let nodes : c.self.inside.nodes.now ≡ c.args.self.now.draft_nodes = ap (λ (walked : Walked). walked.draft_nodes) c.self.view_is in
-    walks_at c.args.place c.args.self.now.left c.loop-draft_place.self.left nodes c.in-See.ensures.node
+    walks_at c.args.index c.args.self.now.left c.loop-draft_place.self.left nodes c.in-See.ensures.node
     (c.loop-draft_place.invariant.walk c.loop-draft_place.self.left
     (rw (drop_all c.loop-draft_place.draft_place-index c.in-See.next (omega (arith, all.0)))
     (walk_none c.args.self.now.draft_nodes c.loop-draft_place.self.left)))

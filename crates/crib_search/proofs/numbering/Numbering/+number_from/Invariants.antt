@@ -7,7 +7,7 @@ abbrev pub decreases-number_from : goal.decreases-number_from
 decreases-number_from g l = 2 * height l.draft_place
 
 abbrev pub decreases-number_below : goal.decreases-number_below
-decreases-number_below g l = 2 * l.place + 1
+decreases-number_below g l = 2 * l.index + 1
 
 -- what the walk from the other places still leaves, the walk from all places leaves
 abbrev pub invariant-number_below-loop-draft_place : goal.invariant-number_below-loop-draft_place

@@ -6,5 +6,5 @@ use Rattle.crib_search.proofs.numbering.Numbering.nexts_of.Goals as goal
 
 pub next_of-requires-clause-earlier : goal.next_of-requires-clause-earlier
 next_of-requires-clause-earlier g c =
-    All-from_recursion (IsEarlier (length c.args.self.now.draft_nodes)) c.args.draft_places.now c.requires.earlier c.loop-place.place End
-    (omega (arith, c.requires.all, c.loop-place-test.true))
+    All-from_recursion (IsEarlier (length c.args.self.now.draft_nodes)) c.args.draft_places.now c.requires.earlier c.loop-index.index End
+    (omega (arith, c.requires.all, c.loop-index-test.true))

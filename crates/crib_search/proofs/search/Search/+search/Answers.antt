@@ -14,10 +14,12 @@ search-returns-in-Over-clause-found g t c =
     rw c.then_some.ensures (over_found _ _ _ (sym c.in-Over.ensures) c.is_reached-reached.result c.is_reached-reached.ensures.reached)
 
 pub search-search_own-requires : goal.search-search_own-requires
-search-search_own-requires g t c κs within = (omega arith, (within, (c.requires.good, (c.requires.here, sym c.in-Owner.ensures))))
+search-search_own-requires g t c κs within =
+    (omega arith, (within, record { good = c.requires.good; here = c.requires.here; asked = sym c.in-Owner.ensures }))
 
 pub search-search_theirs-requires : goal.search-search_theirs-requires
-search-search_theirs-requires g t c κs within = (omega arith, (within, (c.requires.good, (c.requires.here, sym c.in-Opponent.ensures))))
+search-search_theirs-requires g t c κs within =
+    (omega arith, (within, record { good = c.requires.good; here = c.requires.here; asked = sym c.in-Opponent.ensures }))
 
 -- ---- one turn further
 pub after_own-search-requires : goal.after_own-search-requires
@@ -66,7 +68,7 @@ search_own-returns-then-len-eq0-clause-found g t c =
 
 pub search_own-loop-card-init : goal.search_own-loop-card-init
 search_own-loop-card-init g t c = record {
-  later = record { good = c.requires.good; more = λ place draft_node there. there };
+  later = record { good = c.requires.good; more = λ index draft_node there. there };
   tried = λ draft_nodes found tried. tried;
 }
 
@@ -120,7 +122,7 @@ pub search_theirs-returns-in-Some-clause-found : goal.search_theirs-returns-in-S
 search_theirs-returns-in-Some-clause-found g t c = c.requires.good.answers.each c.args.know.now c.in-Some.found c.requires.here (sym c.in-Some.ensures)
 
 pub search_theirs-search_all-requires : goal.search_theirs-search_all-requires
-search_theirs-search_all-requires g t c κs within = (omega arith, (within, (c.requires.good, (c.requires.here, c.requires.asked))))
+search_theirs-search_all-requires g t c κs within = (omega arith, (within, c.requires))
 
 pub search_theirs-returns-clause-later : goal.search_theirs-returns-clause-later
 search_theirs-returns-clause-later g t c =
@@ -132,27 +134,27 @@ pub search_all-returns-in_default-clause-found : goal.search_all-returns-in_defa
 search_all-returns-in_default-clause-found g t c = theirs_none _ _ _ c.requires.asked c.at-letter.result (rw c.in_default.is at c.in_ok-next.ensures.found)
 
 pub search_all-returns-in_err-next-clause-later : goal.search_all-returns-in_err-next-clause-later
-search_all-returns-in_err-next-clause-later g t c = later_trans _ _ _ c.loop-place.invariant.later _ c.branch-self.ensures.later
+search_all-returns-in_err-next-clause-later g t c = later_trans _ _ _ c.loop-index.invariant.later _ c.branch-self.ensures.later
 
 pub search_all-returns-in_default-clause-later : goal.search_all-returns-in_default-clause-later
-search_all-returns-in_default-clause-later g t c = later_trans _ _ _ c.loop-place.invariant.later _ c.branch-self.ensures.later
+search_all-returns-in_default-clause-later g t c = later_trans _ _ _ c.loop-index.invariant.later _ c.branch-self.ensures.later
 
 pub search_all-branch-self-requires : goal.search_all-branch-self-requires
-search_all-branch-self-requires g t c κs within = (omega arith, (within, (c.loop-place.invariant.later.good, c.requires.here)))
+search_all-branch-self-requires g t c κs within = (omega arith, (within, (c.loop-index.invariant.later.good, c.requires.here)))
 
-pub search_all-loop-place-preserved : goal.search_all-loop-place-preserved
-search_all-loop-place-preserved g t c = record {
-  later = later_trans _ _ _ c.loop-place.invariant.later _ c.branch-self.ensures.later;
-  count = omega (arith, c.push.ensures.len, c.loop-place.invariant.count);
-  branches = rw (take_letter c.at-letter.result c.loop-place.place c.at-letter.ensures.valid c.at-letter.ensures.place, c.push.ensures.items)
-      (branches_more _ _ _ c.branch-self.ensures.later.more _ _ _ _ c.in-Some.next c.loop-place.invariant.branches
+pub search_all-loop-index-preserved : goal.search_all-loop-index-preserved
+search_all-loop-index-preserved g t c = record {
+  later = later_trans _ _ _ c.loop-index.invariant.later _ c.branch-self.ensures.later;
+  count = omega (arith, c.push.ensures.len, c.loop-index.invariant.count);
+  branches = rw (take_letter c.at-letter.result c.loop-index.index c.at-letter.ensures.valid c.at-letter.ensures.index, c.push.ensures.items)
+      (branches_more _ _ _ c.branch-self.ensures.later.more _ _ _ _ c.in-Some.next c.loop-index.invariant.branches
       (rw c.in-Some.is at c.in_ok-next.ensures.found));
 }
 
 pub search_all-join-requires-clause-named : goal.search_all-join-requires-clause-named
 search_all-join-requires-clause-named g t c =
-    let end : c.loop-place.place ≡ 14 = omega (arith, c.loop-place.auto.place-end, c.loop-place-test.false) in
-    branches_named _ _ _ _ _ c.deref.ensures.0 (rw end at c.loop-place.invariant.branches) c.requires.here
+    let end : c.loop-index.index ≡ 14 = omega (arith, c.loop-index.auto.index-end, c.loop-index-test.false) in
+    branches_named _ _ _ _ _ c.deref.ensures.0 (rw end at c.loop-index.invariant.branches) c.requires.here
 
 pub search_all-returns-in_err-draft_place-clause-later : goal.search_all-returns-in_err-draft_place-clause-later
 search_all-returns-in_err-draft_place-clause-later g t c = search (rules, later_nodes)
@@ -162,6 +164,6 @@ search_all-returns-clause-later g t c = search (rules, later_nodes)
 
 pub search_all-returns-clause-found : goal.search_all-returns-clause-found
 search_all-returns-clause-found g t c =
-    let end : c.loop-place.place ≡ 14 = omega (arith, c.loop-place.auto.place-end, c.loop-place-test.false) in
-    theirs_some _ _ _ _ _ c.deref.ensures.0 (rw end at c.loop-place.invariant.branches) _ c.in_ok-draft_place.draft_place c.requires.asked
+    let end : c.loop-index.index ≡ 14 = omega (arith, c.loop-index.auto.index-end, c.loop-index-test.false) in
+    theirs_some _ _ _ _ _ c.deref.ensures.0 (rw end at c.loop-index.invariant.branches) _ c.in_ok-draft_place.draft_place c.requires.asked
     c.in_ok-draft_place.ensures.joined

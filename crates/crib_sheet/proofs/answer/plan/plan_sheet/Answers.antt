@@ -1,16 +1,12 @@
-use Rattle.std.proofs.Common.{refl}
+use Rattle.crib_run.proofs.Delivery.{outcome_map}
 use Rattle.crib_sheet.specs.Sheet.{parts_reply}
-use Rattle.crib_sheet.proofs.MadeSheets.{plan_answers, plan_made, plan_without_memory}
+use Rattle.crib_sheet.proofs.MadeSheets.{found_made, typed_made}
 use Rattle.crib_sheet.proofs.answer.plan.plan_sheet.Goals as goal
 
-pub returns-in_default : goal.returns-in_default
-returns-in_default g c = plan_without_memory _ _ c.in_ok-question.ensures.read
+pub returns-in-Some : goal.returns-in-Some
+returns-in-Some g c =
+    outcome_map parts_reply _ _ (λ reply. typed_made _ _ _ _ reply c.in_ok-asked.ensures.read c.in-Some.is) c.sheet_of.result c.sheet_of.ensures
 
-pub returns-in_default-losses_by : goal.returns-in_default-losses_by
-returns-in_default-losses_by g c = plan_without_memory _ _ c.in_ok-question.ensures.read
-
-pub returns : goal.returns
-unfolding parts_reply
-returns g c =
-    rw c.status_of.ensures
-    (plan_answers _, plan_made _ _ _ _ _ _ c.in_ok-question.ensures.read c.verdict_on-verdict.ensures.right c.in-Ok-losses_by.ensures refl)
+pub returns-in-None : goal.returns-in-None
+returns-in-None g c =
+    outcome_map parts_reply _ _ (λ reply. found_made _ _ _ reply c.in_ok-asked.ensures.read c.in-None.is) c.sheet_to_try.result c.sheet_to_try.ensures

@@ -1,6 +1,6 @@
 use Rattle.std.proofs.Common.{◌∙◌}
 use Rattle.crib_run.proofs.Printing.{as_text, more}
-use Rattle.crib_sheet.proofs.LossLines.{row_lines_from}
+use Rattle.crib_sheet.proofs.PlanBeatenLines.{row_lines_from}
 use Rattle.crib_sheet.proofs.verdict.figures.+put_rows.Goals as goal
 
 pub returns-in-len1-up : goal.returns-in-len1-up

@@ -1,6 +1,6 @@
 use Rattle.std.proofs.Common.{◌∙◌, ap, sym}
 use Rattle.crib_plan_sheet.specs.PlanText.{label}
-use Rattle.crib_sheet.proofs.LossLines.{slot_several, slot_single}
+use Rattle.crib_sheet.proofs.PlanBeatenLines.{slot_several, slot_single}
 use Rattle.crib_sheet.proofs.verdict.figures.add_slot.Goals as goal
 
 pub returns-then-count-eq1-clause-items : goal.returns-then-count-eq1-clause-items

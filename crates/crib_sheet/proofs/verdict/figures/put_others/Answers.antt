@@ -1,5 +1,5 @@
 use Rattle.crib_run.proofs.Printing.{nothing}
-use Rattle.crib_sheet.proofs.LossLines.{others_listed}
+use Rattle.crib_sheet.proofs.PlanBeatenLines.{others_listed}
 use Rattle.crib_sheet.proofs.verdict.figures.put_others.Goals as goal
 
 pub returns-then-others-ne0 : goal.returns-then-others-ne0

@@ -1,4 +1,4 @@
-use Rattle.crib_sheet.proofs.LossLines.{four_slots}
+use Rattle.crib_sheet.proofs.PlanBeatenLines.{four_slots}
 use Rattle.crib_sheet.proofs.verdict.figures.term_text.Goals as goal
 
 pub returns : goal.returns

@@ -4,6 +4,6 @@ use Rattle.crib_show.proofs.worst.extremes.ExtremesByRanks.meets_all.Goals as go
 pub returns-clause-shows : goal.returns-clause-shows
 returns-clause-shows c = record {
   own = c.meet-met.ensures.right.own_right;
-  kept = kept_with c.args.worst.now c.args.self.now.kept c.place-place.result c.meet-met.new.self c.place-place.ensures c.meet-met.ensures.right.kept_right
-      c.requires.shows.kept;
+  kept = kept_with c.args.worst.now c.args.self.now.kept c.ranks_index-index.result c.meet-met.new.self c.ranks_index-index.ensures
+      c.meet-met.ensures.right.kept_right c.requires.shows.kept;
 }

@@ -1,7 +1,7 @@
 use Rattle.std.proofs.Common.{◌≡◌, ◌+◌, ◌-◌, ◌≤◌, length, take, drop, ap, sym, arith}
 use Rattle.std.proofs.lemmas.List.{length-take, length-drop}
 use Rattle.crib_text.specs.Words.{words_of}
-use Rattle.crib_text.specs.Lines.{line_of, line_place, token_place, word_of, IsLineOf}
+use Rattle.crib_text.specs.Lines.{line_of, line_start, token_start, word_of, IsLineOf}
 use Rattle.crib_text.proofs.WordLemmas.{word_none, word_more, word_here, drop_more, word_offset_more, part_is_at}
 use Rattle.crib_text.proofs.text.line.Line.word.Goals as goal
 
@@ -38,14 +38,14 @@ returns-clause-word c =
     let len : c.loop.start + c.len_before-len.result - c.loop.start ≡ c.len_before-len.result = omega arith in
     rw (len, ← at) (sym here)
 
-pub returns-clause-place : goal.returns-clause-place
-unfolding line_of line_place token_place
-returns-clause-place c =
+pub returns-clause-start : goal.returns-clause-start
+unfolding line_of line_start token_start
+returns-clause-start c =
     let at : c.loop.counter ≡ c.args.index = omega arith in
     rw (← at) (ap (λ k. c.args.self.now.start + k) c.loop.invariant.offset)
 
 pub returns-clause-slice : goal.returns-clause-slice
-unfolding token_place word_of IsLineOf
+unfolding token_start word_of IsLineOf
 returns-clause-slice c = λ source at.
     let bytes = c.args.self.now.bytes.now in
     let len : c.loop.start + c.len_before-len.result - c.loop.start ≡ c.len_before-len.result = omega arith in

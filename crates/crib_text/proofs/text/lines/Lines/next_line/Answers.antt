@@ -1,7 +1,7 @@
 use Rattle.std.proofs.Common.{◌≡◌, ◌-◌, length, take, drop, ap, sym, ◌∙◌, refl, arith}
 use Rattle.std.proofs.lemmas.List.{take_rest, length-drop, length-take}
 use Rattle.crib_text.specs.Reading.{line_at}
-use Rattle.crib_text.specs.Lines.{rest_of, source_of, place_of, line_of, line_place, IsLineOf}
+use Rattle.crib_text.specs.Lines.{rest_of, source_of, lines_start, line_of, line_start, IsLineOf}
 use Rattle.crib_text.proofs.LineLemmas.{no_lines, first_left, length-line_text, line_at-nil, line_at-empty, line_at-cons}
 use Rattle.crib_text.proofs.text.lines.Lines.next_line.Goals as goal
 
@@ -49,9 +49,9 @@ returns-clause-slice c =
       same = ap (λ k. take k (drop l.at l.source.now)) long ∙ sym same;
     }
 
-pub returns-clause-place : goal.returns-clause-place
-unfolding line_place place_of
-returns-clause-place c = refl
+pub returns-clause-start : goal.returns-clause-start
+unfolding line_start lines_start
+returns-clause-start c = refl
 
 pub returns-clause-source : goal.returns-clause-source
 unfolding source_of
@@ -64,7 +64,7 @@ invariant_of-self-clause-within c =
     omega (arith, first_left l.source.now _ l.at _ (take_rest l.source.now l.at) l.ended some c.len_before-len.ensures.value)
 
 pub returns-clause-next : goal.returns-clause-next
-unfolding place_of line_of
+unfolding lines_start line_of
 returns-clause-next c =
     let l = c.args.self.now in
     let rest = take (length l.source.now - l.at) (drop l.at l.source.now) in

@@ -1,8 +1,0 @@
-use Rattle.crib_play.specs.History.{Theirs}
-use Rattle.crib_check.proofs.PositionHistories.{stands_with}
-use Rattle.crib_check.proofs.turns.go_by_theirs.Goals as goal
-
-pub returns : goal.returns
-returns g c = λ problem history stands.
-    stands_with stands (Theirs c.args.letter.now) _ _ (c.saw.ensures problem history stands.knows)
-    c.place_after-key.ensures.place tt

@@ -1,0 +1,113 @@
+-- The deals that beat a plan that is not sure, in words.
+use Rattle.std.specs.Prelude.{ℕ, ◌<◌, ◌≤◌, ◌-◌, ◌/◌, ◌%◌, ◌==◌, Bool, false, ◌&&◌, Option, None, Some}
+use Rattle.std.specs.Prelude.{List, [], ◌∷◌, ◌++◌, length, flat_map}
+use Rattle.std.specs.Prelude.{count_by, replicate, nat_lt, codes, decimal, if◌then◌else◌}
+use Rattle.std.specs.List.{All, list_all}
+use Rattle.crib_text.specs.Spelling.{space}
+use Rattle.crib_problem.specs.Setup.{Setup}
+use Rattle.crib_plan.specs.declared.plan.Node.{Node}
+use Rattle.crib_beaten.specs.Beaten.{Beats}
+use Rattle.crib_know.specs.Hidden.{IsOpen}
+use Rattle.crib_check.specs.declared.verdict.Verdict.{Verdict}
+use Rattle.crib_check.specs.declared.verdict.Verdict.TheVariants.{Holds, Fails}
+use Rattle.crib_deals.specs.Exact.{AreExactly}
+use Rattle.crib_beaten.specs.Terms.{AreBestFirst, AreRows}
+use Rattle.crib_beaten.specs.declared.rows.Row.{Row}
+use Rattle.crib_beaten.specs.declared.rows.Rows.{Rows}
+use Rattle.crib_plan_sheet.specs.PlanText.{label}
+
+-- ---- numbers
+
+-- digits with a comma before each three of them, but not before the first
+abbrev pub with_commas : List ℕ → List ℕ
+with_commas [] = []
+with_commas (digit ∷ digits) =
+    digit ∷ (if nat_lt 0 (length digits) && (length digits % 3 == 0) then codes "," else []) ++ with_commas digits
+
+-- a number: `820`, `121,738,020`
+abbrev pub grouped : ℕ → List ℕ
+grouped number = with_commas (decimal number)
+
+-- ---- rows
+
+-- the ranks of a slot: `9`, or several in brackets, `(A 3 T-K)`
+unfoldable pub slot_text : List Bool → List ℕ
+slot_text slot =
+    if count_by (λ flag. flag) slot == 1 then label (slot ++ false ∷ [])
+    else codes "(" ++ label (slot ++ false ∷ []) ++ codes ")"
+
+-- a slot after a space. One of any card has none
+abbrev pub slot_part : List Bool → List ℕ
+slot_part slot = if list_all (λ flag. flag) slot then [] else space ∷ slot_text slot
+
+-- the slots of a term, each after a space
+abbrev pub term_text : List (List Bool) → List ℕ
+term_text term = flat_map slot_part term
+
+-- a line with a number of deals in its column
+unfoldable pub deals_line : List ℕ → ℕ → List ℕ → List ℕ
+deals_line front deals word =
+    codes "   " ++ front ++ replicate (25 - length front) space ++ replicate (11 - length (grouped deals)) space
+    ++ grouped deals ++ word ++ codes "\n"
+
+-- the word behind a number of deals
+abbrev pub deals_word : ℕ → List ℕ
+deals_word deals = if deals == 1 then codes " deal" else codes " deals"
+
+-- the lines of rows, with a word in the first one
+abbrev pub row_lines : List ℕ → List Row → List ℕ
+row_lines word [] = []
+row_lines word (row ∷ rows) = deals_line (term_text row.term) row.deals word ++ row_lines [] rows
+
+-- the lines of all rows
+abbrev pub rows_lines : List Row → List ℕ
+rows_lines [] = []
+rows_lines (row ∷ rows) = row_lines (deals_word row.deals) (row ∷ rows)
+
+-- the line of the deals that no row has, if there are any
+abbrev pub others_line : ℕ → List ℕ
+others_line others = if others == 0 then [] else deals_line (codes " and others") others []
+
+-- ---- the paragraph
+
+-- which hands beat the plan, if there are rows for them
+abbrev pub hands_text : Option Rows → List ℕ
+hands_text None = codes "\n"
+hands_text (Some rows) =
+    codes " They then hold, at least:\n\n" ++ rows_lines rows.rows.items ++ others_line rows.others
+    ++ codes "\nIn brackets: one card of these ranks. Hands of two rows are in the first.\n"
+
+-- how many deals beat a plan that is not sure, and which hands they have
+unfoldable pub beating_text : ℕ → ℕ → Option Rows → List ℕ
+beating_text open_deals beaten hands =
+    codes "This plan is not sure. It reaches your goal with " ++ grouped (open_deals - beaten)
+    ++ codes " of the\n" ++ grouped open_deals
+    ++ codes " deals that they may have, whatever they play. With the other\n" ++ grouped beaten
+    ++ codes " they can beat it." ++ hands_text hands
+
+-- ---- right figures
+
+-- rows are right: exactly so many deals that beat the plan meet a row and none above. Each has one at least, and none
+-- below has more. Each leaves a blank before the column of these numbers
+pub record AreHands (problem : Setup) (plan : List Node) (rows : Rows) : Type 0 where
+  pub exact : AreRows problem plan [] rows.rows.items rows.others
+  pub best_first : AreBestFirst rows.rows.items
+  pub narrow : All (λ (row : Row). length (term_text row.term) ≤ 24) rows.rows.items
+
+-- rows beside figures are right. There are none if more than a tenth of the deals beat the plan
+abbrev pub AreHandsOf : Setup → List Node → ℕ → ℕ → Option Rows → Type 0
+AreHandsOf problem plan open_deals beaten None = open_deals / 10 < beaten
+AreHandsOf problem plan open_deals beaten (Some rows) = (beaten ≤ open_deals / 10) × AreHands problem plan rows
+
+-- figures are right: exactly so many deals agree with the opening, exactly so many of them beat the plan, and the rows
+-- say which do
+pub record AreBeating (problem : Setup) (plan : List Node) (open_deals beaten : ℕ) (hands : Option Rows) : Type 0
+  where
+    pub are_open : AreExactly (IsOpen problem) open_deals
+    pub are_beaten : AreExactly (Beats problem plan) beaten
+    pub are_hands : AreHandsOf problem plan open_deals beaten hands
+
+-- figures beside a verdict are right: those of a plan that fails are
+abbrev pub AreBeatingOf : Setup → List Node → Verdict → ℕ → ℕ → Option Rows → Type 0
+AreBeatingOf problem plan Holds open_deals beaten hands = Unit {0}
+AreBeatingOf problem plan (Fails ending game) open_deals beaten hands = AreBeating problem plan open_deals beaten hands

@@ -1,0 +1,52 @@
+//! The deals that beat a plan that is not sure.
+ghost use Rattle.std.specs.Prelude.{IfOk, List};
+ghost use Rattle.crib_plan.specs.declared.plan.Node.{Node};
+ghost use Rattle.crib_beaten.specs.Tally.{IsTally};
+ghost use Rattle.crib_sheet.specs.PlanBeaten.{AreBeatingOf, AreHandsOf};
+
+use crib_beaten::{Rows, Tally, rows_of, tally_of};
+use crib_check::{NoMemory, Verdict};
+use crib_plan::Plan;
+use crib_problem::Problem;
+use std::alloc::Allocator;
+
+/// Counts the deals that beat a plan if the verdict on it is that it fails, and no deals of a sure plan. It fails if an
+/// allocation fails.
+pub(crate) fn beaten_by<A: Allocator, B: Allocator>(
+    alloc: A,
+    problem: &Problem,
+    plan: &Plan<B>,
+    verdict: &Verdict,
+) -> Result<(Tally<A>, Option<Rows>), NoMemory>
+    ensures { IfOk result (λ beaten.
+        AreBeatingOf problem.now plan.now verdict.now beaten.0.open_deals beaten.0.beaten beaten.1) }
+{
+    match verdict {
+        Verdict::Holds => {
+            let none = Tally {
+                open_deals: 0,
+                beaten: 0,
+                rows: Vec::new(alloc),
+            };
+            Ok((none, None))
+        }
+        Verdict::Fails(_, _) => {
+            let tally = tally_of(alloc, problem, plan)?;
+            let hands = hands_of(problem, &tally);
+            Ok((tally, hands))
+        }
+    }
+}
+
+// Returns rows that say which hands beat a plan, unless more than a tenth of all deals do.
+fn hands_of<A: Allocator>(problem: &Problem, tally: &Tally<A>) -> Option<Rows>
+    requires { (plan : List Node) × IsTally problem.now plan tally.now }
+    ensures { (plan : List Node) → IsTally problem.now plan tally.now
+        → AreHandsOf problem.now plan tally.now.open_deals tally.now.beaten result }
+{
+    if tally.open_deals / 10 < tally.beaten {
+        None
+    } else {
+        Some(rows_of(problem, tally))
+    }
+}

@@ -1,0 +1,3 @@
+mod WhyExamples
+pub mod WhyLines
+pub mod WhyRowsOfGames

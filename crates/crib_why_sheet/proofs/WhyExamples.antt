@@ -1,0 +1,200 @@
+-- Worked examples of games that refute every player in words: whole lines, and the names in them.
+use Rattle.std.specs.Prelude.{◌≡◌, refl, ℕ, Bool, true, false, List, [], ◌∷◌, ◌++◌, Some, None, codes}
+use Rattle.std.specs.Fmt.{digits}
+use Rattle.crib_cards.specs.declared.moves.Move.TheVariants.{Card, Go}
+use Rattle.crib_cards.specs.declared.sides.Side.TheVariants.{Owner, Opponent}
+use Rattle.crib_cards.specs.declared.sides.Dealt.{Dealt}
+use Rattle.crib_cards.specs.declared.sides.Side.{Side}
+use Rattle.crib_show.specs.declared.show.outcomes.ShowRow.{ShowRow}
+use Rattle.crib_show.specs.Show.{hand_points, crib_points}
+use Rattle.crib_show.specs.Outcome.{outcome_of, show_of}
+use Rattle.crib_problem.specs.declared.problem.Goal.TheVariants.{Stop}
+use Rattle.crib_problem.specs.Setup.{Setup}
+use Rattle.crib_problem.proofs.ExampleProblems.{level, level_deal, plays, says_go}
+use Rattle.crib_game.specs.declared.section.game.Game.{Game}
+use Rattle.crib_game.proofs.ExampleGames.{game_with}
+use Rattle.crib_why_sheet.specs.WhyPlay.{are_alike, held_with, is_flush, joined, own_name, shown_names, spread_with, turn_name, with_turns}
+use Rattle.crib_why_sheet.specs.WhyRows.{are_alike_if_any, level_below, lines_from, play_text, then_line, whatever_names, why_lines}
+use Rattle.crib_why_sheet.specs.WhyText.{columns_text, line_text, lines_text, range_text, spread_text}
+
+-- the pone holds 2S 8D 8H 8S and threw KS QS, and the starter is 5S
+abbrev eights : Setup
+eights = record level {
+  scores = record { owner = 109; opponent = 111 };
+  starter = 19;
+  hold = 7 ∷ 29 ∷ 30 ∷ 31 ∷ [];
+  thrown = 51 ∷ 47 ∷ [];
+}
+
+abbrev eights_to_stop : Setup
+eights_to_stop = record eights { scores = record { owner = 60; opponent = 88 }; goal = Stop }
+
+abbrev win_two_first : Game
+win_two_first = game_with (record { hold = 4 ∷ 8 ∷ 24 ∷ 28 ∷ []; throw = 0 ∷ 1 ∷ [] }) (
+    plays Owner 7 ∷ plays Opponent 4 ∷ plays Owner 29 ∷ plays Opponent 8 ∷ plays Owner 30 ∷
+    plays Opponent 28 ∷ plays Owner 31 ∷ plays Opponent 24 ∷ [])
+
+abbrev win_two_second : Game
+win_two_second = game_with (record { hold = 4 ∷ 5 ∷ 8 ∷ 24 ∷ []; throw = 0 ∷ 1 ∷ [] }) (
+    plays Owner 29 ∷ plays Opponent 4 ∷ plays Owner 7 ∷ plays Opponent 5 ∷ plays Owner 30 ∷
+    plays Opponent 8 ∷ says_go Owner ∷ says_go Opponent ∷ plays Owner 31 ∷ plays Opponent 24 ∷ [])
+
+abbrev win_other_eight : Game
+win_other_eight = game_with (record { hold = 4 ∷ 5 ∷ 8 ∷ 24 ∷ []; throw = 0 ∷ 1 ∷ [] }) (
+    plays Owner 29 ∷ plays Opponent 4 ∷ plays Owner 7 ∷ plays Opponent 5 ∷ plays Owner 31 ∷
+    plays Opponent 8 ∷ says_go Owner ∷ says_go Opponent ∷ plays Owner 30 ∷ plays Opponent 24 ∷ [])
+
+abbrev win_eight_second : Game
+win_eight_second = game_with (record { hold = 4 ∷ 5 ∷ 6 ∷ 24 ∷ []; throw = 0 ∷ 1 ∷ [] }) (
+    plays Owner 29 ∷ plays Opponent 4 ∷ plays Owner 30 ∷ plays Opponent 24 ∷ plays Owner 7 ∷
+    plays Opponent 5 ∷ says_go Owner ∷ plays Opponent 6 ∷ [])
+
+abbrev stop_two_first : Game
+stop_two_first = game_with (record { hold = 0 ∷ 4 ∷ 8 ∷ 24 ∷ []; throw = 16 ∷ 17 ∷ [] }) (
+    plays Owner 7 ∷ plays Opponent 0 ∷ plays Owner 29 ∷ plays Opponent 4 ∷ plays Owner 30 ∷
+    plays Opponent 8 ∷ says_go Owner ∷ plays Opponent 24 ∷ plays Owner 31 ∷ [])
+
+abbrev stop_other_eights : Game
+stop_other_eights = game_with (record { hold = 0 ∷ 4 ∷ 8 ∷ 24 ∷ []; throw = 16 ∷ 17 ∷ [] }) (
+    plays Owner 7 ∷ plays Opponent 0 ∷ plays Owner 30 ∷ plays Opponent 4 ∷ plays Owner 31 ∷
+    plays Opponent 8 ∷ says_go Owner ∷ plays Opponent 24 ∷ plays Owner 29 ∷ [])
+
+abbrev stop_two_second : Game
+stop_two_second = game_with (record { hold = 0 ∷ 4 ∷ 8 ∷ 12 ∷ []; throw = 16 ∷ 17 ∷ [] }) (
+    plays Owner 29 ∷ plays Opponent 0 ∷ plays Owner 7 ∷ plays Opponent 4 ∷ plays Owner 30 ∷
+    plays Opponent 8 ∷ says_go Owner ∷ plays Opponent 12 ∷ plays Owner 31 ∷ [])
+
+abbrev stop_two_last : Game
+stop_two_last = game_with (record { hold = 0 ∷ 4 ∷ 8 ∷ 12 ∷ []; throw = 16 ∷ 17 ∷ [] }) (
+    plays Owner 29 ∷ plays Opponent 0 ∷ plays Owner 30 ∷ plays Opponent 4 ∷ plays Owner 31 ∷
+    plays Opponent 8 ∷ says_go Owner ∷ says_go Opponent ∷ plays Owner 7 ∷ plays Opponent 12 ∷ [])
+
+-- the text of games of a problem
+abbrev text_for : Setup → List Game → List ℕ
+text_for problem games = lines_text (why_lines problem games)
+
+-- a text with these lines
+abbrev text_with : List ℕ → List ℕ
+text_with lines =
+    codes "No player can be sure, whatever they look at. Whatever you play, some hand and\nsome play of theirs beat it:\n\n" ++ lines
+    ++ codes "\nEach row is a play to its end, what they held (and threw, if the crib counts),\nand the scores, yours first.\n"
+
+-- a line above two rows. In the second row either eight is played
+tree :
+    text_for eights (win_two_first ∷ win_two_second ∷ win_other_eight ∷ win_eight_second ∷ [])
+    ≡ text_with (codes "2S, they 2, 8, they 3, 8, they 8, 8, they 7              2 3 7 8    109 121\n8, they 2, then\n"
+    ++ codes "    2S, they 2, 8, they 3, you go, they go, 8, they 7    2 2 3 7    111 121\n"
+    ++ codes "    8, they 7, 2S, they 2, you go, they 2                2 2 2 7    109 121\n")
+unfolding digits lines_from held_with lines_text line_text columns_text spread_text show_of outcome_of hand_points crib_points
+tree = refl
+
+-- a row that is the same whatever the owner plays, the flush of a hand that is counted, and a crib
+whatever :
+    text_for eights_to_stop (stop_two_first ∷ stop_other_eights ∷ stop_two_second ∷ stop_two_last ∷ [])
+    ≡ text_with (codes "2S, they A, 8, they 2, 8, they 3, you go, they 7, 8    AC 2C 3C 7C (5 5)    73 121\n"
+    ++ codes "8, they A, then whatever you play, they 2 3 4          AC 2C 3C 4C (5 5)    72-73 121\n")
+unfolding digits lines_from held_with lines_text line_text columns_text spread_text show_of outcome_of hand_points crib_points
+whatever = refl
+
+-- ---- refused games, and no games
+
+no_games : why_lines level [] ≡ []
+no_games = refl
+
+-- a refused game is a row without columns
+refused_game :
+    text_for level (game_with level_deal (plays Opponent 37 ∷ []) ∷ [])
+    ≡ text_with (codes "they T\n")
+unfolding digits lines_from held_with lines_text line_text columns_text spread_text
+refused_game = refl
+
+-- ---- names
+
+abbrev own_cards : List ℕ
+own_cards = 7 ∷ 29 ∷ 30 ∷ 31 ∷ []
+
+names_of_turns :
+    (turn_name own_cards Owner (Card 7) ≡ codes "2S")
+    × (turn_name own_cards Owner (Card 30) ≡ codes "8")
+    × (turn_name own_cards Owner Go ≡ codes "you go")
+    × (turn_name own_cards Opponent (Card 30) ≡ codes "they 8")
+    × (turn_name own_cards Opponent Go ≡ codes "they go")
+    × (joined [] (codes "2S") ≡ codes "2S")
+    × (joined (codes "2S") (codes "they go") ≡ codes "2S, they go")
+    × (shown_names (plays Owner 0 ∷ plays Opponent 4 ∷ says_go Opponent ∷ plays Opponent 36 ∷ []) ≡ codes " 2 T")
+    × (whatever_names [] [] ≡ codes "whatever you play")
+    × (whatever_names [] (codes " 2 T") ≡ codes "whatever you play, they 2 T")
+    × (whatever_names (codes "they A") [] ≡ codes "they A, then whatever you play")
+names_of_turns = (refl, refl, refl, refl, refl, refl, refl, refl, refl, refl, refl)
+
+turns_alike :
+    (are_alike (plays Opponent 0) (plays Opponent 3) ≡ true)
+    × (are_alike (plays Opponent 0) (plays Owner 0) ≡ false)
+    × (are_alike (plays Opponent 0) (plays Opponent 4) ≡ false)
+    × (are_alike (says_go Owner) (says_go Owner) ≡ true)
+    × (are_alike (says_go Owner) (plays Owner 48) ≡ false)
+turns_alike = (refl, refl, refl, refl, refl)
+
+abbrev with_throw : List ℕ → List ℕ → Dealt
+with_throw hold throw = record { hold = hold; throw = throw }
+
+-- the row of a counted hand or crib
+abbrev counted : Bool → Side → ShowRow
+counted crib side = record { crib = crib; side = side; points = 0; scores = record { owner = 0; opponent = 0 } }
+
+-- the starter is 5S. The jack of spades counts in a counted hand, and so do four clubs. A crib is a flush with the starter alone
+names_of_holds :
+    (held_with eights (with_throw (0 ∷ 4 ∷ 9 ∷ 43 ∷ []) (1 ∷ 2 ∷ [])) (counted false Owner ∷ []) ≡ codes " A 2 3 J")
+    × (held_with eights (with_throw (0 ∷ 4 ∷ 9 ∷ 43 ∷ []) (1 ∷ 2 ∷ [])) (counted false Owner ∷ counted false Opponent ∷ []) ≡ codes " A 2 3 JS")
+    × (held_with eights (with_throw (0 ∷ 4 ∷ 8 ∷ 40 ∷ []) (1 ∷ 2 ∷ [])) (counted false Opponent ∷ []) ≡ codes " AC 2C 3C JC")
+    × (held_with eights (with_throw (0 ∷ 4 ∷ 8 ∷ 41 ∷ []) (1 ∷ 43 ∷ [])) (counted false Opponent ∷ counted true Opponent ∷ []) ≡ codes " A 2 3 J (A JS)")
+    × (held_with eights (with_throw (0 ∷ 4 ∷ 8 ∷ 41 ∷ []) (3 ∷ 11 ∷ [])) (counted true Opponent ∷ []) ≡ codes " A 2 3 J (AS 3S)")
+    × (held_with eights (with_throw (0 ∷ 4 ∷ 8 ∷ 41 ∷ []) (3 ∷ 10 ∷ [])) (counted true Opponent ∷ []) ≡ codes " A 2 3 J (A 3)")
+unfolding held_with
+names_of_holds = (refl, refl, refl, refl, refl, refl)
+
+ranges : (range_text 104 106 ≡ codes "104-106") × (range_text 109 109 ≡ codes "109")
+unfolding digits
+ranges = (refl, refl)
+
+-- a hold with two cards of a rank, first and last, and one with the same card twice
+abbrev pair : List ℕ
+pair = 29 ∷ 7 ∷ 3 ∷ 30 ∷ []
+
+names_of_pairs :
+    (own_name pair 29 ≡ codes "8")
+    × (own_name pair 7 ≡ codes "2S")
+    × (turn_name pair Owner (Card 30) ≡ codes "8")
+    × (with_turns pair [] (plays Owner 30 ∷ plays Owner 3 ∷ plays Owner 29 ∷ []) ≡ codes "8, AS, 8")
+    × (own_name (29 ∷ 29 ∷ []) 29 ≡ codes "8")
+    × (turn_name (29 ∷ 29 ∷ []) Owner (Card 29) ≡ codes "8")
+    × (with_turns (29 ∷ 29 ∷ []) [] (plays Owner 29 ∷ plays Owner 29 ∷ []) ≡ codes "8, 8")
+    × (shown_names (plays Opponent 0 ∷ []) ≡ codes " A")
+    × (is_flush [] ≡ false)
+names_of_pairs = (refl, refl, refl, refl, refl, refl, refl, refl, refl)
+
+-- two games that end alike, but not with the same cards
+ended_alike :
+    text_for level (game_with level_deal [] ∷ game_with (with_throw (0 ∷ 1 ∷ 2 ∷ 3 ∷ []) (18 ∷ 25 ∷ [])) [] ∷ [])
+    ≡ text_with (codes "    T K K Q    0 0\n    A A A A    0 0\n")
+unfolding digits lines_from held_with lines_text line_text columns_text spread_text
+ended_alike = refl
+
+levels :
+    (play_text 2 (codes "T") (codes ", then") ≡ codes "        T, then")
+    × (level_below 1 (codes "T") ≡ 2)
+    × (level_below 1 [] ≡ 1)
+    × (then_line 1 [] ≡ [])
+    × (are_alike_if_any None None ≡ true)
+    × (are_alike_if_any None (Some (plays Owner 0)) ≡ false)
+    × (are_alike_if_any (Some (plays Owner 0)) None ≡ false)
+levels = (refl, refl, refl, refl, refl, refl, refl)
+
+-- each score has a least and a most of its own
+spreads :
+    (spread_with (record { owner = 5; opponent = 9 }) None
+    ≡ record { least = record { owner = 5; opponent = 9 }; most = record { owner = 5; opponent = 9 } })
+    × (spread_with (record { owner = 5; opponent = 9 })
+    (Some (record { least = record { owner = 6; opponent = 3 }; most = record { owner = 7; opponent = 8 } }))
+    ≡ record { least = record { owner = 5; opponent = 3 }; most = record { owner = 7; opponent = 9 } })
+spreads = (refl, refl)

@@ -1,0 +1,20 @@
+//! Runs of consecutive games that go on alike.
+ghost use Rattle.std.specs.Prelude.{◌≡◌, ◌≤◌, length};
+ghost use Rattle.crib_why_sheet.specs.Private.Runs.{run_len};
+
+use crate::groups::go_on_alike;
+use crib_game::Game;
+
+/// Returns how many games the first run of some games has.
+pub(crate) fn run_len(games: &[Game], turn: usize) -> usize
+    ensures value { result ≡ run_len turn games.now }
+    ensures range { result ≤ length games.now }
+{
+    let [first, others @ ..] = games else {
+        return 0;
+    };
+    match others {
+        [second, ..] if go_on_alike(first, second, turn) => 1 + run_len(others, turn),
+        _ => 1,
+    }
+}

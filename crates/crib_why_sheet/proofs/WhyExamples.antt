@@ -128,11 +128,11 @@ names_of_turns :
 names_of_turns = (refl, refl, refl, refl, refl, refl, refl, refl, refl, refl, refl)
 
 turns_alike :
-    (are_alike (plays Opponent 0) (plays Opponent 3) ≡ true)
-    × (are_alike (plays Opponent 0) (plays Owner 0) ≡ false)
-    × (are_alike (plays Opponent 0) (plays Opponent 4) ≡ false)
-    × (are_alike (says_go Owner) (says_go Owner) ≡ true)
-    × (are_alike (says_go Owner) (plays Owner 48) ≡ false)
+    (are_alike eights (plays Opponent 0) (plays Opponent 3) ≡ true)
+    × (are_alike eights (plays Opponent 0) (plays Owner 0) ≡ false)
+    × (are_alike eights (plays Opponent 0) (plays Opponent 4) ≡ false)
+    × (are_alike eights (says_go Owner) (says_go Owner) ≡ true)
+    × (are_alike eights (says_go Owner) (plays Owner 48) ≡ false)
 turns_alike = (refl, refl, refl, refl, refl)
 
 abbrev with_throw : List ℕ → List ℕ → Dealt
@@ -185,9 +185,9 @@ levels :
     × (level_below 1 (codes "T") ≡ 2)
     × (level_below 1 [] ≡ 1)
     × (then_line 1 [] ≡ [])
-    × (are_alike_if_any None None ≡ true)
-    × (are_alike_if_any None (Some (plays Owner 0)) ≡ false)
-    × (are_alike_if_any (Some (plays Owner 0)) None ≡ false)
+    × (are_alike_if_any eights None None ≡ true)
+    × (are_alike_if_any eights None (Some (plays Owner 0)) ≡ false)
+    × (are_alike_if_any eights (Some (plays Owner 0)) None ≡ false)
 levels = (refl, refl, refl, refl, refl, refl, refl)
 
 -- each score has a least and a most of its own

@@ -28,14 +28,14 @@ AreRow test problem games are = (all_with_first test games && all_with_first (he
 
 -- one row
 pub one_row : (problem : Setup) (turn level : ℕ) (names : List ℕ) (games : List Game) → turn < 32
-    → AreRow (play_alike turn) problem games true
+    → AreRow (play_alike problem turn) problem games true
     → row_line problem games level (with_turns problem.hold names (first_turns turn games)) ∷ [] ≡ lines_from (32 - turn) problem turn level names games
 unfolding lines_from
 one_row problem turn level names games below plays = rw (one_less turn below, plays) refl
 
 -- one turn, with which all go on
 pub one_turn : (problem : Setup) (turn level : ℕ) (names : List ℕ) (games : List Game) → turn < 32
-    → AreRow (play_alike turn) problem games false → all_with_first (go_on_alike turn) games ≡ true
+    → AreRow (play_alike problem turn) problem games false → all_with_first (go_on_alike problem turn) games ≡ true
     → next_lines (lines_from (31 - turn) problem (turn + 1) level) problem level names games (first_turn turn games)
     ≡ lines_from (32 - turn) problem turn level names games
 unfolding lines_from
@@ -43,7 +43,7 @@ one_turn problem turn level names games below plays on = rw (one_less turn below
 
 -- one row whatever the owner plays
 pub one_whatever : (problem : Setup) (turn level : ℕ) (names : List ℕ) (games : List Game) → turn < 32
-    → AreRow (play_alike turn) problem games false → all_with_first (go_on_alike turn) games ≡ false
+    → AreRow (play_alike problem turn) problem games false → all_with_first (go_on_alike problem turn) games ≡ false
     → AreRow (show_alike turn) problem games true
     → row_line problem games level (whatever_names names (shown_names (first_turns turn games))) ∷ [] ≡ lines_from (32 - turn) problem turn level names games
 unfolding lines_from
@@ -56,34 +56,36 @@ lines_of_run problem turn level run =
 
 -- a line, and the lines of runs
 pub many_runs : (problem : Setup) (turn level : ℕ) (names : List ℕ) (games : List Game) → turn < 32
-    → AreRow (play_alike turn) problem games false → all_with_first (go_on_alike turn) games ≡ false
+    → AreRow (play_alike problem turn) problem games false → all_with_first (go_on_alike problem turn) games ≡ false
     → AreRow (show_alike turn) problem games false
-    → then_line level names ++ flat_map (lines_of_run problem turn (level_below level names)) (runs_of turn games)
+    → then_line level names ++ flat_map (lines_of_run problem turn (level_below level names)) (runs_of problem turn games)
     ≡ lines_from (32 - turn) problem turn level names games
 unfolding lines_from
 many_runs problem turn level names games below plays on shown = rw (one_less turn below, plays, on, shown) refl
 
 -- ---- runs
 
-longer_run : (turn : ℕ) (game other : Game) (games : List Game) (more : ℕ) (alike : Bool) → go_on_alike turn game other ≡ alike
-    → runs_of turn (other ∷ games) ≡ (other ∷ take more games) ∷ runs_of turn (drop more games)
-    → before_runs turn game (runs_of turn (other ∷ games))
-    ≡ (game ∷ take (if alike then suc more else 0) (other ∷ games)) ∷ runs_of turn (drop (if alike then suc more else 0) (other ∷ games))
-longer_run turn game other games more true is others = rw (others, is) refl
-longer_run turn game other games more false is others =
-    ap (before_runs turn game) others ∙ rw is (ap (λ (runs : List (List Game)). (game ∷ []) ∷ runs) (sym others))
+longer_run : (problem : Setup) (turn : ℕ) (game other : Game) (games : List Game) (more : ℕ) (alike : Bool) → go_on_alike problem turn game other ≡ alike
+    → runs_of problem turn (other ∷ games) ≡ (other ∷ take more games) ∷ runs_of problem turn (drop more games)
+    → before_runs problem turn game (runs_of problem turn (other ∷ games))
+    ≡ (game ∷ take (if alike then suc more else 0) (other ∷ games)) ∷ runs_of problem turn (drop (if alike then suc more else 0) (other ∷ games))
+longer_run problem turn game other games more true is others = rw (others, is) refl
+longer_run problem turn game other games more false is others =
+    ap (before_runs problem turn game) others ∙ rw is (ap (λ (runs : List (List Game)). (game ∷ []) ∷ runs) (sym others))
 
-first_run : (turn : ℕ) (game : Game) (games : List Game)
-    → runs_of turn (game ∷ games) ≡ (game ∷ take (more_in_run turn game games) games) ∷ runs_of turn (drop (more_in_run turn game games) games)
-first_run turn game [] = refl
-first_run turn game (other ∷ games) =
-    longer_run turn game other games (more_in_run turn other games) (go_on_alike turn game other) refl (first_run turn other games)
+first_run : (problem : Setup) (turn : ℕ) (game : Game) (games : List Game)
+    → runs_of problem turn (game ∷ games)
+    ≡ (game ∷ take (more_in_run problem turn game games) games) ∷ runs_of problem turn (drop (more_in_run problem turn game games) games)
+first_run problem turn game [] = refl
+first_run problem turn game (other ∷ games) =
+    longer_run problem turn game other games (more_in_run problem turn other games) (go_on_alike problem turn game other) refl
+    (first_run problem turn other games)
 
 -- the first run of some games, and the runs of those after it
-pub next_run : (turn : ℕ) (games : List Game) → 0 < length games
-    → runs_of turn games ≡ take (run_len turn games) games ∷ runs_of turn (drop (run_len turn games) games)
-next_run turn [] some = absurd (omega (arith, some))
-next_run turn (game ∷ games) some = first_run turn game games
+pub next_run : (problem : Setup) (turn : ℕ) (games : List Game) → 0 < length games
+    → runs_of problem turn games ≡ take (run_len problem turn games) games ∷ runs_of problem turn (drop (run_len problem turn games) games)
+next_run problem turn [] some = absurd (omega (arith, some))
+next_run problem turn (game ∷ games) some = first_run problem turn game games
 
 -- ---- what is written
 
@@ -103,31 +105,31 @@ next_is turn (game ∷ games) first some is = ap (λ (game : Game). slice_get ga
 
 -- no line is written where no turn is named
 pub no_line : (problem : Setup) (turn level : ℕ) (names : List ℕ) (games : List Game) → turn < 32
-    → AreRow (play_alike turn) problem games false → all_with_first (go_on_alike turn) games ≡ false
+    → AreRow (play_alike problem turn) problem games false → all_with_first (go_on_alike problem turn) games ≡ false
     → AreRow (show_alike turn) problem games false → length names ≡ 0
-    → flat_map (lines_of_run problem turn level) (runs_of turn games) ≡ lines_from (32 - turn) problem turn level names games
+    → flat_map (lines_of_run problem turn level) (runs_of problem turn games) ≡ lines_from (32 - turn) problem turn level names games
 no_line problem turn level [] games below plays on shown none = many_runs problem turn level [] games below plays on shown
 no_line problem turn level (byte ∷ names) games below plays on shown none = absurd (omega (arith, none))
 
 -- a line, and the lines of the runs below it
 pub line_before : (problem : Setup) (turn level : ℕ) (names : List ℕ) (games : List Game) (line : WhyLine) → turn < 32
-    → AreRow (play_alike turn) problem games false → all_with_first (go_on_alike turn) games ≡ false
+    → AreRow (play_alike problem turn) problem games false → all_with_first (go_on_alike problem turn) games ≡ false
     → AreRow (show_alike turn) problem games false → (length names ≡ 0 → ⊥) → line ∷ [] ≡ then_line level names
-    → line ∷ flat_map (lines_of_run problem turn (level + 1)) (runs_of turn games) ≡ lines_from (32 - turn) problem turn level names games
+    → line ∷ flat_map (lines_of_run problem turn (level + 1)) (runs_of problem turn games) ≡ lines_from (32 - turn) problem turn level names games
 line_before problem turn level [] games line below plays on shown some is = absurd (some refl)
 line_before problem turn level (byte ∷ names) games line below plays on shown some is =
-    ap (λ (lines : List WhyLine). lines ++ flat_map (lines_of_run problem turn (level + 1)) (runs_of turn games)) is
+    ap (λ (lines : List WhyLine). lines ++ flat_map (lines_of_run problem turn (level + 1)) (runs_of problem turn games)) is
     ∙ many_runs problem turn level (byte ∷ names) games below plays on shown
 
 -- the lines of the next run are written, and those of the games after it are left
 pub run_written : (problem : Setup) (turn level count : ℕ) (names : List ℕ) (rest run others : List Game) (old new whole : List WhyLine)
-    → 0 < length rest → count ≡ run_len turn rest → run ≡ take count rest → others ≡ drop count rest → names ≡ []
+    → 0 < length rest → count ≡ run_len problem turn rest → run ≡ take count rest → others ≡ drop count rest → names ≡ []
     → new ≡ old ++ next_lines (lines_from (31 - turn) problem (turn + 1) level) problem level names run (first_turn turn run)
-    → old ++ flat_map (lines_of_run problem turn level) (runs_of turn rest) ≡ whole
-    → new ++ flat_map (lines_of_run problem turn level) (runs_of turn others) ≡ whole
+    → old ++ flat_map (lines_of_run problem turn level) (runs_of problem turn rest) ≡ whole
+    → new ++ flat_map (lines_of_run problem turn level) (runs_of problem turn others) ≡ whole
 run_written problem turn level count names rest run others old new whole some is first later none written before =
-    let runs : runs_of turn rest ≡ run ∷ runs_of turn others = rw (first, later, is) (next_run turn rest some) in
-    rw (written, none) (append_assoc old (lines_of_run problem turn level run) (flat_map (lines_of_run problem turn level) (runs_of turn others))
+    let runs : runs_of problem turn rest ≡ run ∷ runs_of problem turn others = rw (first, later, is) (next_run problem turn rest some) in
+    rw (written, none) (append_assoc old (lines_of_run problem turn level run) (flat_map (lines_of_run problem turn level) (runs_of problem turn others))
     ∙ ap (λ (lines : List WhyLine). old ++ lines) (sym (ap (flat_map (lines_of_run problem turn level)) runs)) ∙ before)
 
 one_more : (f : List Game → WhyLine) (games : List Game) (index : ℕ) → index < length games

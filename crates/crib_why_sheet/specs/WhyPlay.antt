@@ -1,10 +1,10 @@
 -- How a game of a refutation reads: the names of its turns, what the opponent held, and the scores at its end.
 use Rattle.std.specs.Prelude.{ℕ, ◌-◌, ◌==◌, nat_lt, min, max, Bool, true, false, not, ◌&&◌, ◌||◌, List, [], ◌∷◌, ◌++◌}
-use Rattle.std.specs.Prelude.{length, flat_map, slice_get, Option, Some, None, Result, Ok, Err, codes, if◌then◌else◌}
+use Rattle.std.specs.Prelude.{length, flat_map, slice_get, Option, Some, None, Result, Ok, Err, bytes_eq, codes}
+use Rattle.std.specs.Prelude.{if◌then◌else◌}
 use Rattle.std.specs.List.{list_any}
 use Rattle.crib_cards.specs.Cards.{jack, rank_of, suit_of}
 use Rattle.crib_cards.specs.CardText.{card_text, rank_letter}
-use Rattle.crib_cards.specs.Letters.{letter_index, letter_of}
 use Rattle.crib_cards.specs.Sets.{count_rank}
 use Rattle.crib_cards.specs.Sides.{same_side}
 use Rattle.crib_cards.specs.declared.moves.Act.{Act}
@@ -26,11 +26,6 @@ use Rattle.crib_why_sheet.specs.declared.line.Spread.{Spread}
 
 -- ---- turns
 
--- whether two turns are alike: they have the same side and the same letter
-abbrev pub are_alike : Act → Act → Bool
-are_alike act other =
-    same_side act.side other.side && (letter_index (letter_of act.what) == letter_index (letter_of other.what))
-
 -- the letter of a card's rank
 abbrev pub rank_name : ℕ → List ℕ
 rank_name card = rank_letter (rank_of card) ∷ []
@@ -45,6 +40,11 @@ turn_name hold Owner (move.Card card) = own_name hold card
 turn_name hold Owner move.Go = codes "you go"
 turn_name hold Opponent (move.Card card) = codes "they " ++ rank_name card
 turn_name hold Opponent move.Go = codes "they go"
+
+-- whether two turns are alike: they have the same name
+abbrev pub are_alike : Setup → Act → Act → Bool
+are_alike problem act other =
+    bytes_eq (turn_name problem.hold act.side act.what) (turn_name problem.hold other.side other.what)
 
 -- names with one more, after a comma if it is not the first
 abbrev pub joined : List ℕ → List ℕ → List ℕ

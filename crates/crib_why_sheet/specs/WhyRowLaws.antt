@@ -24,12 +24,14 @@ pub record IsPlayOf (problem : Setup) (game : Game) (play : List ℕ) : Type 0 w
       (play ≡ play_text level (with_turns problem.hold [] named) [])
       ⊎ (play ≡ play_text level (whatever_names (with_turns problem.hold [] named) (shown_names rest)) [])
 
--- the play of a row, and what is beside it, are those of games
+-- the play of a row, and what the opponent held beside it, are those of one game
 pub record IsRowOf (problem : Setup) (games : List Game) (line : WhyLine) (columns : Columns) : Type 0 where
-  pub play : (game : Game) × IsAmong games game × IsPlayOf problem game line.play.items
-  pub held : (game : Game) × IsAmong games game × (columns.held.items ≡ held_text problem game)
+  pub game : Game
+  pub among : IsAmong games game
+  pub play : IsPlayOf problem game line.play.items
+  pub held : columns.held.items ≡ held_text problem game
 
--- each line with columns is a row of the games
+-- each line with columns is a row of one of the games
 abbrev pub RowsAreOfGamesLaw : Type 0
 RowsAreOfGamesLaw =
     (problem : Setup) (games : List Game) (index : ℕ) (line : WhyLine) (columns : Columns) →

@@ -24,19 +24,20 @@ all_with_first test [] = true
 all_with_first test (game ∷ games) = list_all (test game) games
 
 -- whether all turns of two games from an index on are alike
-abbrev pub play_alike : ℕ → Game → Game → Bool
-play_alike turn game other = pointwise are_alike (turns_from turn game) (turns_from turn other)
+abbrev pub play_alike : Setup → ℕ → Game → Game → Bool
+play_alike problem turn game other = pointwise (are_alike problem) (turns_from turn game) (turns_from turn other)
 
 -- whether two turns are alike, or there is neither
-abbrev pub are_alike_if_any : Option Act → Option Act → Bool
-are_alike_if_any None None = true
-are_alike_if_any (Some act) (Some other) = are_alike act other
-are_alike_if_any None (Some other) = false
-are_alike_if_any (Some act) None = false
+abbrev pub are_alike_if_any : Setup → Option Act → Option Act → Bool
+are_alike_if_any problem None None = true
+are_alike_if_any problem (Some act) (Some other) = are_alike problem act other
+are_alike_if_any problem None (Some other) = false
+are_alike_if_any problem (Some act) None = false
 
 -- whether two games go on alike at an index
-abbrev pub go_on_alike : ℕ → Game → Game → Bool
-go_on_alike turn game other = are_alike_if_any (slice_get game.acts.items turn) (slice_get other.acts.items turn)
+abbrev pub go_on_alike : Setup → ℕ → Game → Game → Bool
+go_on_alike problem turn game other =
+    are_alike_if_any problem (slice_get game.acts.items turn) (slice_get other.acts.items turn)
 
 -- whether the opponent shows the same ranks in two games from an index on
 abbrev pub show_alike : ℕ → Game → Game → Bool
@@ -47,17 +48,17 @@ abbrev pub held_alike : Setup → Game → Game → Bool
 held_alike problem game other = bytes_eq (held_text problem game) (held_text problem other)
 
 -- a game before the runs of those after it: in the first run if it goes on alike
-abbrev pub before_runs : ℕ → Game → List (List Game) → List (List Game)
-before_runs turn game [] = (game ∷ []) ∷ []
-before_runs turn game ([] ∷ runs) = (game ∷ []) ∷ runs
-before_runs turn game ((other ∷ others) ∷ runs) =
-    if go_on_alike turn game other then (game ∷ other ∷ others) ∷ runs
+abbrev pub before_runs : Setup → ℕ → Game → List (List Game) → List (List Game)
+before_runs problem turn game [] = (game ∷ []) ∷ []
+before_runs problem turn game ([] ∷ runs) = (game ∷ []) ∷ runs
+before_runs problem turn game ((other ∷ others) ∷ runs) =
+    if go_on_alike problem turn game other then (game ∷ other ∷ others) ∷ runs
     else (game ∷ []) ∷ (other ∷ others) ∷ runs
 
 -- the runs of consecutive games that go on alike at an index
-abbrev pub runs_of : ℕ → List Game → List (List Game)
-runs_of turn [] = []
-runs_of turn (game ∷ games) = before_runs turn game (runs_of turn games)
+abbrev pub runs_of : Setup → ℕ → List Game → List (List Game)
+runs_of problem turn [] = []
+runs_of problem turn (game ∷ games) = before_runs problem turn game (runs_of problem turn games)
 
 -- ---- lines
 
@@ -130,16 +131,16 @@ next_lines later problem level names games (Some act) =
 unfoldable pub lines_from : ℕ → Setup → ℕ → ℕ → List ℕ → List Game → List WhyLine
 lines_from zero problem turn level names games = next_lines (λ names games. []) problem level names games None
 lines_from (suc more) problem turn level names games =
-    if all_with_first (play_alike turn) games && all_with_first (held_alike problem) games
+    if all_with_first (play_alike problem turn) games && all_with_first (held_alike problem) games
     then row_line problem games level (with_turns problem.hold names (first_turns turn games)) ∷ []
-    else if all_with_first (go_on_alike turn) games
+    else if all_with_first (go_on_alike problem turn) games
     then next_lines (lines_from more problem (turn + 1) level) problem level names games (first_turn turn games)
     else if all_with_first (show_alike turn) games && all_with_first (held_alike problem) games
     then row_line problem games level (whatever_names names (shown_names (first_turns turn games))) ∷ []
     else
     then_line level names
     ++ flat_map (λ run. next_lines (lines_from more problem (turn + 1) (level_below level names)) problem
-    (level_below level names) [] run (first_turn turn run)) (runs_of turn games)
+    (level_below level names) [] run (first_turn turn run)) (runs_of problem turn games)
 
 -- the lines of games from the turns after the opening on
 abbrev pub lines_of : Setup → List Game → List WhyLine
@@ -149,7 +150,7 @@ lines_of problem (game ∷ games) =
 
 -- whether a game reads like another one: all turns after the opening are alike, and so is what the opponent held
 abbrev pub reads_like : Setup → Game → Game → Bool
-reads_like problem game other = play_alike (length problem.played) game other && held_alike problem game other
+reads_like problem game other = play_alike problem (length problem.played) game other && held_alike problem game other
 
 -- some games, and behind them those of others that read like none before them
 abbrev pub with_different : Setup → List Game → List Game → List Game

@@ -7,17 +7,17 @@ ghost use Rattle.crib_why_sheet.specs.WhyRows.{all_with_first, go_on_alike, held
 ghost use Rattle.crib_why_sheet.specs.WhyRows.{reads_like, turns_from};
 
 use crate::held::held_text;
-use crate::names::shown_names;
+use crate::names::{shown_names, turn_name};
 use crib_cards::Act;
 use crib_game::Game;
 use crib_problem::Problem;
 
 /// Whether some games are one row from an index on: all turns are alike, and what the opponent held reads the same.
 pub(crate) fn are_one_row(problem: &Problem, games: &[Game], turn: usize) -> bool
-    ensures { result
-        ≡ (all_with_first (play_alike turn) games.now && all_with_first (held_alike problem.now) games.now) }
+    ensures { result ≡ (all_with_first (play_alike problem.now turn) games.now
+        && all_with_first (held_alike problem.now) games.now) }
 {
-    all_play_alike(games, turn) && all_held_alike(problem, games)
+    all_play_alike(problem, games, turn) && all_held_alike(problem, games)
 }
 
 /// Whether some games are one row from an index on whatever the owner plays: the opponent shows the same ranks, and
@@ -30,23 +30,23 @@ pub(crate) fn are_one_row_whatever(problem: &Problem, games: &[Game], turn: usiz
 }
 
 // Whether all turns of some games from an index on are alike.
-fn all_play_alike(games: &[Game], turn: usize) -> bool
-    ensures { result ≡ all_with_first (play_alike turn) games.now }
+fn all_play_alike(problem: &Problem, games: &[Game], turn: usize) -> bool
+    ensures { result ≡ all_with_first (play_alike problem.now turn) games.now }
 {
     match games {
         [] => true,
-        [first, others @ ..] => have_turns(turns_from(first, turn), others, turn),
+        [first, others @ ..] => have_turns(problem, turns_from(first, turn), others, turn),
     }
 }
 
 // Whether the turns of each game from an index on are like some turns.
-fn have_turns(acts: &[Act], games: &[Game], turn: usize) -> bool
-    ensures { result ≡ list_all (λ game. pointwise are_alike acts.now (turns_from turn game)) games.now }
+fn have_turns(problem: &Problem, acts: &[Act], games: &[Game], turn: usize) -> bool
+    ensures { result ≡ list_all (λ game. pointwise (are_alike problem.now) acts.now (turns_from turn game)) games.now }
 {
     match games {
         [] => true,
-        [game, others @ ..] => are_all_alike(acts, turns_from(game, turn))
-            && have_turns(acts, others, turn),
+        [game, others @ ..] => are_all_alike(problem, acts, turns_from(game, turn))
+            && have_turns(problem, acts, others, turn),
     }
 }
 
@@ -67,27 +67,32 @@ fn reads_like(problem: &Problem, game: &Game, other: &Game) -> bool
     ensures { result ≡ reads_like problem.now game.now other.now }
 {
     let opening = problem.played().len();
-    are_all_alike(turns_from(game, opening), turns_from(other, opening))
-        && held_text(problem, game).as_slice() == held_text(problem, other).as_slice()
+    are_all_alike(
+        problem,
+        turns_from(game, opening),
+        turns_from(other, opening),
+    ) && held_text(problem, game).as_slice() == held_text(problem, other).as_slice()
 }
 
 /// Whether some games go on alike at an index, or all have no turn there.
-pub(crate) fn all_go_on_alike(games: &[Game], turn: usize) -> bool
-    ensures { result ≡ all_with_first (go_on_alike turn) games.now }
+pub(crate) fn all_go_on_alike(problem: &Problem, games: &[Game], turn: usize) -> bool
+    ensures { result ≡ all_with_first (go_on_alike problem.now turn) games.now }
 {
     match games {
         [] => true,
-        [first, others @ ..] => go_on_as(first, others, turn),
+        [first, others @ ..] => go_on_as(problem, first, others, turn),
     }
 }
 
 // Whether each game goes on like the first one at an index.
-fn go_on_as(first: &Game, games: &[Game], turn: usize) -> bool
-    ensures { result ≡ list_all (go_on_alike turn first.now) games.now }
+fn go_on_as(problem: &Problem, first: &Game, games: &[Game], turn: usize) -> bool
+    ensures { result ≡ list_all (go_on_alike problem.now turn first.now) games.now }
 {
     match games {
         [] => true,
-        [game, others @ ..] => go_on_alike(first, game, turn) && go_on_as(first, others, turn),
+        [game, others @ ..] => {
+            go_on_alike(problem, first, game, turn) && go_on_as(problem, first, others, turn)
+        }
     }
 }
 
@@ -141,12 +146,12 @@ fn hold_each(problem: &Problem, held: &[u8], games: &[Game]) -> bool
 }
 
 /// Whether two games go on alike at an index, or both have no turn there.
-pub(crate) fn go_on_alike(game: &Game, other: &Game, turn: usize) -> bool
-    ensures { result ≡ go_on_alike turn game.now other.now }
+pub(crate) fn go_on_alike(problem: &Problem, game: &Game, other: &Game, turn: usize) -> bool
+    ensures { result ≡ go_on_alike problem.now turn game.now other.now }
 {
     match (turn_at(game, turn), turn_at(other, turn)) {
         (None, None) => true,
-        (Some(act), Some(other)) => are_alike(&act, &other),
+        (Some(act), Some(other)) => are_alike(problem, &act, &other),
         _ => false,
     }
 }
@@ -168,20 +173,22 @@ pub(crate) fn turns_from(game: &Game, turn: usize) -> &[Act]
 }
 
 // Whether the turns of two lists are alike, one after another.
-fn are_all_alike(acts: &[Act], others: &[Act]) -> bool
-    ensures { result ≡ pointwise are_alike acts.now others.now }
+fn are_all_alike(problem: &Problem, acts: &[Act], others: &[Act]) -> bool
+    ensures { result ≡ pointwise (are_alike problem.now) acts.now others.now }
 {
     match (acts, others) {
         ([], []) => true,
-        ([act, acts @ ..], [other, others @ ..]) => are_alike(act, other)
-            && are_all_alike(acts, others),
+        ([act, acts @ ..], [other, others @ ..]) => {
+            are_alike(problem, act, other) && are_all_alike(problem, acts, others)
+        }
         _ => false,
     }
 }
 
-// Whether two turns have the same side and the same letter.
-fn are_alike(act: &Act, other: &Act) -> bool
-    ensures { result ≡ are_alike act.now other.now }
+// Whether two turns have the same name.
+fn are_alike(problem: &Problem, act: &Act, other: &Act) -> bool
+    ensures { result ≡ are_alike problem.now act.now other.now }
 {
-    act.side == other.side && act.what.letter().index() == other.what.letter().index()
+    let hold = problem.hold();
+    turn_name(&hold, act).as_slice() == turn_name(&hold, other).as_slice()
 }

@@ -42,7 +42,8 @@ pub(crate) fn with_turns(names: &Text, hold: &[Card], acts: &[Act]) -> Text
     }
 }
 
-fn turn_name(hold: &[Card], act: &Act) -> Text
+// Returns the name of a turn.
+pub(crate) fn turn_name(hold: &[Card], act: &Act) -> Text
     ensures name { result.items ≡ spec.turn_name hold.now act.now.side act.now.what }
     ensures short { length result.items ≤ 7 }
 {

@@ -86,7 +86,7 @@ fn add_lines<A: Allocator>(
         let names = with_turns(names, &problem.hold(), first);
         return add_row(lines, problem, games, level, &names);
     }
-    if all_go_on_alike(games, turn) {
+    if all_go_on_alike(problem, games, turn) {
         return add_next(lines, problem, games, turn, level, names);
     }
     if are_one_row_whatever(problem, games, turn) {
@@ -112,11 +112,11 @@ fn add_runs<A: Allocator>(
     requires { (turn < 32) × (level ≤ turn + 1) }
     ensures { IfOk result (λ _. lines.new.items ≡ lines.old.items
         ++ flat_map (λ run. next_lines (lines_from (31 - turn) problem.now (turn + 1) level) problem.now level [] run
-        (first_turn turn run)) (runs_of turn games.now)) }
+        (first_turn turn run)) (runs_of problem.now turn games.now)) }
 {
     let mut rest = games;
     while !rest.is_empty() {
-        let (run, others) = rest.split_at(run_len(rest, turn));
+        let (run, others) = rest.split_at(run_len(problem, rest, turn));
         add_next(lines, problem, run, turn, level, &Text::new())?;
         rest = others;
     }

@@ -4,17 +4,19 @@ ghost use Rattle.crib_why_sheet.specs.Private.Runs.{run_len};
 
 use crate::groups::go_on_alike;
 use crib_game::Game;
+use crib_problem::Problem;
 
 /// Returns how many games the first run of some games has.
-pub(crate) fn run_len(games: &[Game], turn: usize) -> usize
-    ensures value { result ≡ run_len turn games.now }
+pub(crate) fn run_len(problem: &Problem, games: &[Game], turn: usize) -> usize
+    ensures value { result ≡ run_len problem.now turn games.now }
     ensures range { result ≤ length games.now }
 {
     let [first, others @ ..] = games else {
         return 0;
     };
     match others {
-        [second, ..] if go_on_alike(first, second, turn) => 1 + run_len(others, turn),
+        [second, ..] if go_on_alike(problem, first, second, turn) => 1
+            + run_len(problem, others, turn),
         _ => 1,
     }
 }

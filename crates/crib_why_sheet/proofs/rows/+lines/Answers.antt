@@ -54,7 +54,7 @@ add_lines-returns-then-is_empty g t c =
 pub add_lines-returns : goal.add_lines-returns
 add_lines-returns g t c =
     let line : List WhyLine = c.then_line.result ∷ [] in
-    let below = flat_map (lines_of_run c.args.problem.now c.args.turn (c.args.level + 1)) (runs_of c.args.turn c.args.games.now) in
+    let below = flat_map (lines_of_run c.args.problem.now c.args.turn (c.args.level + 1)) (runs_of c.args.problem.now c.args.turn c.args.games.now) in
     as_written c.add_runs-2.result c.add_runs-2.new.lines.items c.add_runs-2.ensures
     (ap (λ (lines : List WhyLine). lines ++ below) c.in_ok-push.ensures.items ∙ append_assoc c.args.lines.now.items line below
     ∙ ap (λ (lines : List WhyLine). c.args.lines.now.items ++ lines)

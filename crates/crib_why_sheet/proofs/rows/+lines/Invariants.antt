@@ -16,8 +16,8 @@ decreases-add_next g l = 3 * (32 - l.turn)
 -- the lines so far and those of the games that are left
 abbrev pub invariant-add_runs-loop-rest : goal.invariant-add_runs-loop-rest
 invariant-add_runs-loop-rest g l =
-    l.lines.items ++ flat_map (lines_of_run l.problem l.turn l.level) (runs_of l.turn l.rest)
-    ≡ l.fn.lines.items ++ flat_map (lines_of_run l.problem l.turn l.level) (runs_of l.turn l.fn.games)
+    l.lines.items ++ flat_map (lines_of_run l.problem l.turn l.level) (runs_of l.problem l.turn l.rest)
+    ≡ l.fn.lines.items ++ flat_map (lines_of_run l.problem l.turn l.level) (runs_of l.problem l.turn l.fn.games)
 
 abbrev pub decreases-add_runs-loop-rest : goal.decreases-add_runs-loop-rest
 decreases-add_runs-loop-rest g l = length l.rest

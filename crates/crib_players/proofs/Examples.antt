@@ -177,7 +177,8 @@ not_missed = (
       (game_with pairing (plays Owner 4 ∷ plays Opponent 1 ∷ plays Owner 0 ∷ [])) (setup_from _ refl tt (refl, refl) (omega arith) tt tt) is),
 )
 
--- a card that is held may be played, and none that was played, that is not held, or that doesn't fit: after TC TD 9C the two fits, and the eight doesn't
+-- a card that is held may be played, and none that was played, that is not held, or that doesn't fit: after TC TD 9C the two fits, and the eight doesn't. The
+-- last eight fits, because TC TD 9C 2H made 31 before 5C 4C
 pub cards_that_may_be_played :
     (map (may_play close_to_lost []) (0 ∷ 4 ∷ 7 ∷ 12 ∷ []) ≡ true ∷ true ∷ false ∷ false ∷ [])
     × (map (may_play close_to_lost (plays Opponent 1 ∷ plays Owner 0 ∷ [])) (0 ∷ 4 ∷ 1 ∷ []) ≡ false ∷ true ∷ false ∷ [])
@@ -186,7 +187,9 @@ pub cards_that_may_be_played :
     × (map (λ before. may_play level before 28) ((plays Owner 28 ∷ []) ∷ reverse (take 3 level_acts) ∷ reverse (take 2 level_acts) ∷ [])
     ≡ false ∷ false ∷ true ∷ [])
     × (may_play (record level { hold = 36 ∷ 38 ∷ 3 ∷ 28 ∷ [] }) (plays Owner 38 ∷ plays Opponent 37 ∷ plays Owner 36 ∷ []) 3 ≡ true)
-cards_that_may_be_played = (refl, refl, refl, refl, refl, refl)
+    × (may_play (record level { hold = 36 ∷ 32 ∷ 16 ∷ 28 ∷ [] })
+    (plays Opponent 12 ∷ plays Owner 16 ∷ plays Opponent 6 ∷ plays Owner 32 ∷ plays Opponent 37 ∷ plays Owner 36 ∷ []) 28 ≡ true)
+cards_that_may_be_played = (refl, refl, refl, refl, refl, refl, refl)
 
 -- with four holes to go the second turn counts too: each first card is there, and after the aces neither of the other twos
 abbrev four_to_go : Setup
@@ -204,6 +207,10 @@ first_turn_has_each = (
   λ each. both_ways (is_begun first_turns (plays Owner 0 ∷ plays Opponent 1 ∷ []) 5) refl
       (begun_to first_turns (plays Owner 0 ∷ plays Opponent 1 ∷ []) 5 (each 4 5 refl refl)),
 )
+
+pub some_game_plays_a_diamond : HasEachCard four_to_go first_turns (in_four 0 1 4 7) 2 →
+    IsBegun first_turns (plays Owner 5 ∷ plays Opponent 1 ∷ plays Owner 0 ∷ [])
+some_game_plays_a_diamond each = each 4 5 refl refl
 
 -- ---- after the ace of clubs was led one game refutes: no other lead need be there
 ace_led_is : longer close_to_lost (own_card 0) ≡ ace_led

@@ -1,5 +1,5 @@
 -- Worked examples of players.
-use Rattle.std.proofs.Common.{◌≡◌, refl, ap, true, false, List, [], ◌∷◌, map, length, arith, if◌then◌else◌}
+use Rattle.std.proofs.Common.{◌≡◌, refl, ap, true, false, ◌+◌, List, [], ◌∷◌, map, length, get_or, arith, if◌then◌else◌}
 use Rattle.std.specs.Prelude.{Some, None}
 use Rattle.std.proofs.lemmas.Bool.{both_ways}
 use Rattle.std.proofs.lemmas.Option.{same_Some}
@@ -63,6 +63,19 @@ pub at_a_loss :
     (Card 12 ∷ Card 4 ∷ Card 37 ∷ Card 36 ∷ []) ≡ true)
 at_a_loss = (refl, refl, refl, refl, refl, refl)
 
+-- the order of the turns counts: AC 2C TC 5C make 18 without a fifteen, and after TC TD 9C 2H the count begins anew, so that the eight fits after 5C 4C. At 30
+-- only the ace would fit, which was the first card. The last player plays the card after the second one
+pub at_a_loss_later :
+    (is_at_loss (λ acts. None) (start_of close_to_lost) (record { owner = 0 ∷ 36 ∷ 28 ∷ 29 ∷ []; opponent = 4 ∷ 16 ∷ 20 ∷ 24 ∷ [] })
+    (Card 16 ∷ Card 36 ∷ Card 4 ∷ Card 0 ∷ []) ≡ true)
+    × (map (λ stated. is_at_loss (λ acts. stated) (start_of level) (record { owner = 36 ∷ 32 ∷ 16 ∷ 28 ∷ []; opponent = 37 ∷ 6 ∷ 12 ∷ 49 ∷ [] })
+    (Card 12 ∷ Card 16 ∷ Card 6 ∷ Card 32 ∷ Card 37 ∷ Card 36 ∷ [])) (None ∷ Some 28 ∷ []) ≡ true ∷ false ∷ [])
+    × (is_at_loss (λ acts. None) (start_of level) (record { owner = 0 ∷ 36 ∷ 37 ∷ 38 ∷ []; opponent = 32 ∷ 40 ∷ 44 ∷ 45 ∷ [] })
+    (Card 32 ∷ Card 36 ∷ Card 40 ∷ Card 0 ∷ []) ≡ false)
+    × (is_at_loss (λ acts. Some (get_or (cards_of (moves_of acts)) 1 0 + 1)) (start_of level)
+    (record { owner = 4 ∷ 9 ∷ 36 ∷ 40 ∷ []; opponent = 8 ∷ 16 ∷ 20 ∷ 24 ∷ [] }) (Card 8 ∷ Card 4 ∷ []) ≡ false)
+at_a_loss_later = (refl, refl, refl, refl)
+
 -- the player who follows a plan plays the same card after any ace of the opponent. A player may also see the sides alone
 pub seen_by_players :
     (map (follower_of four_twos (Play 4 (To 1) ∷ Play 5 End ∷ [])) ([] ∷ (plays Opponent 0 ∷ plays Owner 4 ∷ []) ∷ (plays Opponent 1 ∷ plays Owner 4 ∷ []) ∷ [])
@@ -101,6 +114,16 @@ not_played_by = (
     unled : (later : List Act) → [] ≡ later ++ plays Owner 0 ∷ [] → ⊥
     unled [] e = cc
     unled (act ∷ later) e = cc
+
+-- but who led the ace in the opening may be anybody, even who never plays a card
+pub opening_of_anybody : IsPlayedBy ace_led (λ acts. None) pairing (Card 0 ∷ [])
+unfolding set_where
+opening_of_anybody = record {
+  deal = record { deal = record { held = refl; thrown = refl; distinct = refl; hidden_before = refl }; fixed = refl };
+  legal = (tt, record { not_done = refl; may_take = (refl, refl) });
+  begins = record { later = []; parts = refl };
+  by = (tt, λ late. absurd (omega (arith, late)));
+}
 
 -- ---- sure players
 pub pairing_is : IsDealOf close_to_lost pairing

@@ -1,13 +1,17 @@
 -- Worked examples of plans as trees.
-use Rattle.std.specs.Prelude.{◌≡◌, refl, [], ◌∷◌, List, map, true, false}
+use Rattle.std.specs.Prelude.{◌≡◌, refl, ℕ, [], ◌∷◌, List, map, true, false}
+use Rattle.crib_cards.specs.Cards.{rank_of}
+use Rattle.crib_cards.specs.declared.sides.Side.TheVariants.{Owner, Opponent}
 use Rattle.crib_plan.specs.declared.plan.Next.TheVariants.{End, To}
 use Rattle.crib_plan.specs.declared.plan.Node.TheVariants.{Play, See}
-use Rattle.crib_problem.specs.Setup.{Setup}
+use Rattle.crib_problem.specs.declared.problem.Version.TheVariants.{Two}
+use Rattle.crib_problem.specs.Setup.{IsSetup, Setup}
+use Rattle.crib_problem.proofs.ExampleProblems.{after_tens, level, plays}
 use Rattle.crib_plan.specs.declared.plan.Node.{Node}
 use Rattle.crib_sure.specs.Sure.{IsSure}
 use Rattle.crib_search.specs.Finder.{one_of_each_rank}
 use Rattle.crib_search.specs.Trees.{Tree, Finish, NoBranch, Plays, Sees, branches_of, is_play, joined_tree, trees_with, trees_after_walk}
-use Rattle.crib_search.specs.Winnable.{IsWinnable}
+use Rattle.crib_search.specs.Winnable.{IsWinnable, IsWinnableAfter, after_card}
 use Rattle.crib_search.specs.Trees.{is_finish, nodes_for, number_of, place_of_tree, plan_of_tree, same_tree, trees_of}
 
 -- branches that are the end, except those of the ace, the two and the go
@@ -100,3 +104,17 @@ other_trees = refl
 
 pub no_plan_to_win_with : (problem : Setup) → ((plan : List Node) → IsSure problem plan → ⊥) → IsWinnable problem → ⊥
 no_plan_to_win_with problem none is = none is.plan is.sure
+
+-- the opponent's next card is a turn of the opening, which version 2 has
+pub openings_with_a_card :
+    (after_card level 37 ≡ record level { version = Two; played = plays Opponent 37 ∷ [] })
+    × (after_card after_tens 49 ≡ record after_tens { played = plays Owner 36 ∷ plays Opponent 37 ∷ plays Opponent 49 ∷ [] })
+openings_with_a_card = (refl, refl)
+
+-- no plan is sure after JC, so none is after all jacks; but if no jack may come next, any plan is
+pub no_plan_after_a_jack : (problem : Setup) → IsSetup (after_card problem 40) → ((plan : List Node) → IsSure (after_card problem 40) plan → ⊥) →
+    IsWinnableAfter problem 11 → ⊥
+no_plan_after_a_jack problem setup none is = none is.plan (is.sure 40 refl setup)
+
+pub no_jack_comes_next : (problem : Setup) → ((card : ℕ) → rank_of card ≡ 11 → IsSetup (after_card problem card) → ⊥) → IsWinnableAfter problem 11
+no_jack_comes_next problem none = record { plan = []; sure = λ card jack setup. absurd (none card jack setup) }

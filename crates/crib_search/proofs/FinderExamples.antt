@@ -61,10 +61,11 @@ pub ranks_and_then_a_go : letters
 ranks_and_then_a_go = refl
 
 -- after his own TC, which no other rank of the hold is, he tries the other three, and so after a ten of the opponent, where each of them fits. At 29, after
--- a go, only 2C fits
+-- a go, only 2C fits. A two of the opponent makes 31, and the eight fits after 2C and a five
 pub cards_to_try : map (options level) ((Own (move.Card 36) ∷ []) ∷ (Theirs (Seen 10) ∷ Own (move.Card 36) ∷ [])
-    ∷ (Theirs Go ∷ Own (move.Card 32) ∷ Theirs (Seen 10) ∷ Own (move.Card 36) ∷ []) ∷ [])
-    ≡ (32 ∷ 4 ∷ 28 ∷ []) ∷ (32 ∷ 4 ∷ 28 ∷ []) ∷ (4 ∷ []) ∷ []
+    ∷ (Theirs Go ∷ Own (move.Card 32) ∷ Theirs (Seen 10) ∷ Own (move.Card 36) ∷ [])
+    ∷ (Theirs (Seen 5) ∷ Own (move.Card 4) ∷ Theirs (Seen 2) ∷ Own (move.Card 32) ∷ Theirs (Seen 10) ∷ Own (move.Card 36) ∷ []) ∷ [])
+    ≡ (32 ∷ 4 ∷ 28 ∷ []) ∷ (32 ∷ 4 ∷ 28 ∷ []) ∷ (4 ∷ []) ∷ (28 ∷ []) ∷ []
 cards_to_try = refl
 
 -- ---- one step, for given answers further on: none after 2C or after an ace of the opponent, 2C after a go of his, and otherwise the end
@@ -207,13 +208,14 @@ plan_of_two_cards none = (found, (ace_or_two_nodes, found, omega arith))
     found = (Some ace_or_two, tree_of_two_cards none, refl)
 
 -- without a tree there is no plan
-pub a_plan_has_a_tree : (plan : List Node) → IsFound at_29 (Some plan) → (tree : Tree) × FindsTree at_29 (Some tree) × (Some plan ≡ Some (plan_of_tree tree))
-a_plan_has_a_tree plan (None, finds, is) = cc
-a_plan_has_a_tree plan (Some tree, finds, is) = (tree, finds, is)
+pub a_plan_has_a_tree : (plan : List Node) → ((tree : Tree) → FindsTree at_29 (Some tree) → Some plan ≡ Some (plan_of_tree tree) → ⊥) →
+    IsFound at_29 (Some plan) → ⊥
+a_plan_has_a_tree plan none (None, finds, is) = cc
+a_plan_has_a_tree plan none (Some tree, finds, is) = none tree finds is
 
 -- only a plan with more nodes than a limit exceeds it
-pub more_nodes_than_the_limit : (limit : ℕ) → ExceedsLimit at_29 limit → (plan : List Node) × (limit < length plan)
-more_nodes_than_the_limit limit exceeds = (exceeds.0, exceeds.2)
+pub more_nodes_than_the_limit : (limit : ℕ) → ((plan : List Node) → IsFound at_29 (Some plan) → limit < length plan → ⊥) → ExceedsLimit at_29 limit → ⊥
+more_nodes_than_the_limit limit none exceeds = none exceeds.0 exceeds.1 exceeds.2
 
 -- ---- what a step finds is what is found after each of its turns
 pub a_go_that_is_shown : (finds : Found) (tree : Tree) → CanShow at_29 three_events Go →

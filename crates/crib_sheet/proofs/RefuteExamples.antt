@@ -52,17 +52,16 @@ texts_of_why : (problem : Setup) →
     ++ codes "Look at the suit if they show one of these next: 24\n")
 texts_of_why problem = (refl, refl, refl)
 
-module _ (texts : WhyTexts) where
-  three_answers : (problem : Setup) (reply : Reply) →
-      (IsWinnable problem → reply.output ≡ texts.sure → reply.status ≡ Yes → ⊥) →
-      ((games : List Game) → Refutes problem games → length games ≤ 24 → reply.output ≡ texts.refuted games → reply.status ≡ No → ⊥) →
-      ((ranks : List ℕ) → ¬ IsWinnable problem → SomeIsSure problem → AreBySuit problem ranks → reply.output ≡ texts.suits ranks → reply.status ≡ No → ⊥) →
-      AnswersWhy (λ problem. texts) (Ok problem) reply → ⊥
-  three_answers problem reply sure refuted suits (inl is) = sure is.0 (ap (λ (r : Reply). r.output) is.1) (ap (λ (r : Reply). r.status) is.1)
-  three_answers problem reply sure refuted suits (inr (inl is)) =
-      refuted is.0 is.1 is.2 (ap (λ (r : Reply). r.output) is.3) (ap (λ (r : Reply). r.status) is.3)
-  three_answers problem reply sure refuted suits (inr (inr is)) =
-      suits is.0 is.1 is.2 is.3 (ap (λ (r : Reply). r.output) is.4) (ap (λ (r : Reply). r.status) is.4)
+three_answers : (texts : WhyTexts) (problem : Setup) (reply : Reply) →
+    (IsWinnable problem → reply.output ≡ texts.sure → reply.status ≡ Yes → ⊥) →
+    ((games : List Game) → Refutes problem games → length games ≤ 24 → reply.output ≡ texts.refuted games → reply.status ≡ No → ⊥) →
+    ((ranks : List ℕ) → ¬ IsWinnable problem → SomeIsSure problem → AreBySuit problem ranks → reply.output ≡ texts.suits ranks → reply.status ≡ No → ⊥) →
+    AnswersWhy (λ problem. texts) (Ok problem) reply → ⊥
+three_answers texts problem reply sure refuted suits (inl is) = sure is.0 (ap (λ (r : Reply). r.output) is.1) (ap (λ (r : Reply). r.status) is.1)
+three_answers texts problem reply sure refuted suits (inr (inl is)) =
+    refuted is.0 is.1 is.2 (ap (λ (r : Reply). r.output) is.3) (ap (λ (r : Reply). r.status) is.3)
+three_answers texts problem reply sure refuted suits (inr (inr is)) =
+    suits is.0 is.1 is.2 is.3 (ap (λ (r : Reply). r.output) is.4) (ap (λ (r : Reply). r.status) is.4)
 
 refused_problem_has_no_games : (reply : Reply) → AnswersWhy why_texts (Err (record { line = 3; number = 21 })) reply →
     reply ≡ record { output = codes "refused line 3: 21\n"; status = Refused }

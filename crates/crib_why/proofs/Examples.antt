@@ -1,5 +1,7 @@
 -- Worked examples of answers that are not right, of suits that decide, and of how many games there may be.
-use Rattle.std.proofs.Common.{◌≡◌, ℕ, Bool, true, false, ◌%◌, List, [], ◌∷◌, length, refl, inl, inr, arith}
+use Rattle.std.proofs.Common.{◌≡◌, ℕ, Bool, true, false, ltb, ◌<◌, ◌%◌, List, [], ◌∷◌, length, drop, get_or, refl, ap, subst, sym, inl, inr, arith}
+use Rattle.std.proofs.lemmas.Bool.{and_parts, ltb-true}
+use Rattle.std.specs.List.{list_all}
 use Rattle.crib_cards.specs.Cards.{rank_of}
 use Rattle.crib_problem.specs.Setup.{IsSetup, Setup}
 use Rattle.crib_game.specs.declared.section.game.Game.{Game}
@@ -67,6 +69,10 @@ one_card_is_lost problem card lost by = lost (by.each card refl)
 one_plan_for_all : (problem : Setup) (rank : ℕ) → IsWinnableAfter problem rank → IsBySuit problem rank → ⊥
 one_plan_for_all problem rank winnable by = by.none winnable
 
+-- some plan is sure after each jack, but none after all of them
+jacks : (problem : Setup) → ((card : ℕ) → rank_of card ≡ 11 → IsWinnable (after_card problem card)) → (IsWinnableAfter problem 11 → ⊥) → IsBySuit problem 11
+jacks problem each none = record { each = λ card jack setup. each card jack; none = none }
+
 -- the even ones of some numbers
 abbrev IsEven : ℕ → Type 0
 IsEven number = number % 2 ≡ 0
@@ -107,6 +113,49 @@ first_left_out is number numbers it those = elim those [
 no_ace : (problem : Setup) → IsBySuit problem 1 → AreBySuit problem [] → ⊥
 no_ace problem by those =
     first_left_out (IsBySuit problem) 1 (2 ∷ 3 ∷ 4 ∷ 5 ∷ 6 ∷ 7 ∷ 8 ∷ 9 ∷ 10 ∷ 11 ∷ 12 ∷ 13 ∷ []) by those
+
+no_ace_told : (A : Type 0) (problem : Setup) → IsBySuit problem 1 → IsRightWhy {A = A} problem (why.BySuits (record { items = [] })) → ⊥
+no_ace_told A problem by right = no_ace problem by right.2
+
+-- if suits decide after an ace and a two alone, these are the ranks, and an ace isn't named twice
+abbrev ends_above : ℕ → List ℕ → Type 0
+ends_above few numbers = list_all (ltb few) numbers ≡ true
+
+none_above : (is : ℕ → Type 0) (few : ℕ) (numbers : List ℕ) → ends_above few numbers → ((number : ℕ) → few < number → is number → ⊥) → AreThose is numbers []
+unfolding AreThose
+none_above is few [] above none = refl
+none_above is few (number ∷ numbers) above none =
+    let parts = and_parts (ltb few number) (list_all (ltb few) numbers) above in
+    inr (none number (ltb-true few number parts.0), none_above is few numbers parts.1 none)
+
+ace_and_two : (problem : Setup) → IsBySuit problem 1 → IsBySuit problem 2 → ((rank : ℕ) → 2 < rank → IsBySuit problem rank → ⊥) →
+    AreBySuit problem (1 ∷ 2 ∷ [])
+unfolding AreThose
+ace_and_two problem ace two none =
+    inl (2 ∷ [], ace, inl ([], two, none_above (IsBySuit problem) 2 (3 ∷ 4 ∷ 5 ∷ 6 ∷ 7 ∷ 8 ∷ 9 ∷ 10 ∷ 11 ∷ 12 ∷ 13 ∷ []) refl none, refl), refl)
+
+lower : (is : ℕ → Type 0) (low : ℕ) (numbers found : List ℕ) → ends_above low numbers → AreThose is numbers (low ∷ found) → ⊥
+unfolding AreThose
+lower is low [] found above those = cc
+lower is low (number ∷ numbers) found above those =
+    let parts = and_parts (ltb low number) (list_all (ltb low) numbers) above in
+    let more = ltb-true low number parts.0 in
+    elim those [
+      | inl (others, here, after, e) ↦ (let same : low ≡ number = ap (λ (list : List ℕ). get_or list 0 0) e in omega (arith, more, same))
+      | inr (isnt, after) ↦ lower is low numbers found parts.1 after
+    ]
+
+lower_twice : (is : ℕ → Type 0) (low : ℕ) (numbers : List ℕ) → ends_above low numbers → AreThose is (low ∷ numbers) (low ∷ low ∷ []) → ⊥
+unfolding AreThose
+lower_twice is low numbers above those = elim those [
+  | inl (others, here, after, e) ↦
+      let same : low ∷ [] ≡ others = ap (λ (list : List ℕ). drop 1 list) e in
+      lower is low numbers [] above (subst (AreThose is numbers) (sym same) after)
+  | inr (isnt, after) ↦ lower is low numbers (low ∷ []) above after
+]
+
+ace_twice : (problem : Setup) → AreBySuit problem (1 ∷ 1 ∷ []) → ⊥
+ace_twice problem those = lower_twice (IsBySuit problem) 1 (2 ∷ 3 ∷ 4 ∷ 5 ∷ 6 ∷ 7 ∷ 8 ∷ 9 ∷ 10 ∷ 11 ∷ 12 ∷ 13 ∷ []) refl those
 
 -- ---- how many games there may be
 

@@ -4,9 +4,11 @@ use Rattle.std.specs.Prelude.{Some, None}
 use Rattle.std.proofs.lemmas.Bool.{both_ways}
 use Rattle.std.proofs.lemmas.Option.{same_Some}
 use Rattle.crib_cards.specs.Sets.{has, set_where}
+use Rattle.crib_cards.specs.declared.sides.Dealt.{Dealt}
 use Rattle.crib_cards.specs.declared.sides.Side.{Side}
 use Rattle.crib_cards.specs.declared.sides.Side.TheVariants.{Owner, Opponent}
 use Rattle.crib_cards.specs.declared.moves.Act.{Act}
+use Rattle.crib_cards.specs.declared.moves.Move.{Move}
 use Rattle.crib_cards.specs.declared.moves.Move.TheVariants.{Card, Go}
 use Rattle.crib_play.specs.Legal.{cards_of}
 use Rattle.crib_play.specs.History.{moves_of}
@@ -16,6 +18,7 @@ use Rattle.crib_show.specs.Show.{hand_points, crib_points}
 use Rattle.crib_problem.specs.declared.problem.Version.TheVariants.{Two}
 use Rattle.crib_problem.specs.Setup.{Setup, IsDealOf, start_of, hands_of}
 use Rattle.crib_problem.proofs.ExampleProblems.{plays, level, four_twos, close_to_lost, pairing}
+use Rattle.crib_game.specs.Replay.{is_done_for, full_of}
 use Rattle.crib_plan.specs.declared.plan.Next.TheVariants.{End, To}
 use Rattle.crib_plan.specs.declared.plan.Node.TheVariants.{Play, See}
 use Rattle.crib_sure.specs.HistoryPlaces.{place_by}
@@ -151,3 +154,11 @@ not_sure = (
       let same : Lost ≡ Reached = sure.reached pairing (Card 1 ∷ Card 0 ∷ []) led refl in cc
       ),
 )
+
+-- the goal is asked for only once the deal is done
+pub sure_at_the_end :
+    ((dealt : Dealt) (played : List Move) → IsPlayedBy four_twos by_suit dealt played →
+    is_at_loss by_suit (start_of four_twos) (hands_of four_twos dealt) played ≡ false) →
+    ((dealt : Dealt) (played : List Move) → IsPlayedBy four_twos by_suit dealt played → is_done_for four_twos played ≡ true →
+    outcome_of (full_of four_twos dealt played) ≡ Reached) → IsSurePlayer four_twos by_suit
+sure_at_the_end never reached = record { never_at_loss = never; reached = reached }

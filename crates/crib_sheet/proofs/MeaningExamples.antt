@@ -27,7 +27,7 @@ use Rattle.crib_beaten.specs.declared.rows.Rows.{Rows}
 use Rattle.crib_plan_sheet.specs.PlanPage.{page_text}
 use Rattle.crib_plan_sheet.specs.PlanPlay.{ReachesGoal}
 use Rattle.crib_plan_sheet.specs.PlanSheet.{Over, sheet_with}
-use Rattle.crib_sheet.specs.declared.answer.job.SheetJob.TheVariants.{Plan, Game as GameJob}
+use Rattle.crib_sheet.specs.declared.answer.job.SheetJob.TheVariants.{Plan, Game as GameJob, Refute, Why}
 use Rattle.crib_sheet.specs.Meaning.{AsksAbout, GameMeans, HasGameSheet, HasSureSheet, HasUnsurePlan, HasUnsureSheet, IsRefusedByReplay, PlanMeans, SheetMeans}
 use Rattle.crib_sheet.specs.Sheet.{AnswersPlan, AnswersWithPlan, IsSheetOf, SheetAnswers, SheetAsksForMemory, SheetMakes, game_sheet_of_input, plan_reply}
 
@@ -54,6 +54,13 @@ refused_sections :
     × SheetAnswers GameJob with_a_bad_game (refused_reply (codes "refused line 12: 41\n"))
 unfolding read_played read_question game_sheet_of_input digits
 refused_sections = (refl, refl, refl)
+
+-- `refute` and `why` read a problem alone
+refused_behind_a_problem :
+    SheetAnswers Refute with_a_bad_node (refused_reply (codes "refused line 8: 8\n"))
+    × SheetAnswers Why with_a_bad_node (refused_reply (codes "refused line 8: 8\n"))
+unfolding read_problem digits
+refused_behind_a_problem = (refl, refl)
 
 -- a problem alone is read; with a line after it that begins no plan, it is refused
 what_is_read : (problem : Setup) (plan : List Node) (refusal other : Refusal) →

@@ -4,6 +4,8 @@ use Rattle.std.specs.Fmt.{digits}
 use Rattle.crib_cards.specs.declared.moves.Move.TheVariants.{Card, Go}
 use Rattle.crib_cards.specs.declared.sides.Side.TheVariants.{Owner, Opponent}
 use Rattle.crib_problem.specs.Setup.{Setup}
+use Rattle.crib_problem.proofs.ExampleProblems.{level, level_deal}
+use Rattle.crib_game.proofs.ExampleGames.{game_with}
 use Rattle.crib_game.specs.declared.section.game.Game.{Game}
 use Rattle.crib_game.specs.Spelling.{game_lines, game_text}
 use Rattle.crib_input.specs.Spelled.{SpellsProblem}
@@ -14,8 +16,11 @@ use Rattle.crib_run.specs.declared.status.Status.TheVariants.{Yes, No, Refused, 
 use Rattle.crib_answer.specs.Meaning.{HasSomePlan}
 use Rattle.crib_search.specs.Winnable.{IsWinnable}
 use Rattle.crib_why.specs.Answer.{AreBySuit, SomeIsSure}
+use Rattle.crib_why.specs.declared.why.Why.TheVariants as why
+use Rattle.crib_why_sheet.specs.WhyPlay.{held_with}
+use Rattle.crib_why_sheet.specs.WhyRows.{lines_from}
 use Rattle.crib_sheet.specs.Meaning.{IsDecidedBySuits, IsRefutedBy, SheetMeans}
-use Rattle.crib_sheet.specs.Refute.{WhyTexts, refute_texts, refuted_text, suits_line, why_texts}
+use Rattle.crib_sheet.specs.Refute.{WhyTexts, refute_reply, refute_texts, refuted_text, rows_text, suits_line, why_texts}
 use Rattle.crib_sheet.specs.Sheet.{AnswersWhy}
 use Rattle.crib_sheet.specs.declared.answer.job.SheetJob.TheVariants.{Refute, Why}
 
@@ -51,6 +56,19 @@ texts_of_why : (problem : Setup) →
     ≡ codes "No plan is sure, since a plan sees no suits. But a player who does is sure.\n"
     ++ codes "Look at the suit if they show one of these next: 24\n")
 texts_of_why problem = (refl, refl, refl)
+
+-- a game that reads like an earlier one has no row of its own, also if another is between them
+abbrev four_aces : Game
+four_aces = game_with (record { hold = 0 ∷ 1 ∷ 2 ∷ 3 ∷ []; throw = 18 ∷ 25 ∷ [] }) []
+
+rows_once : rows_text level (game_with level_deal [] ∷ four_aces ∷ game_with level_deal [] ∷ []) ≡ rows_text level (game_with level_deal [] ∷ four_aces ∷ [])
+unfolding lines_from held_with
+rows_once = refl
+
+replies_of_refute : (A : Type 0) →
+    (refute_reply {A = A} why.Sure ≡ record { output = codes "sure\n"; status = Yes })
+    × (refute_reply {A = A} (why.BySuits (record { items = 11 ∷ [] })) ≡ record { output = codes "suits J\n"; status = No })
+replies_of_refute A = (refl, refl)
 
 three_answers : (texts : WhyTexts) (problem : Setup) (reply : Reply) →
     (IsWinnable problem → reply.output ≡ texts.sure → reply.status ≡ Yes → ⊥) →

@@ -5,7 +5,10 @@ ghost use Rattle.crib_search.specs.Finder.{ExceedsLimit, IsFound};
 ghost use Rattle.crib_search.specs.Tried.{IsNeverStuck};
 ghost use Rattle.crib_search.specs.Winnable.{IsWinnable};
 
+mod choices;
 mod greedy;
+mod rest;
+mod spot;
 mod trials;
 
 use crate::finder::{Found, SearchFault, find, plan_from};

@@ -1,129 +1,16 @@
 //! A trial: the choices of ranks that a plan in the making covers, and how many deals beat it.
 ghost use Rattle.std.specs.Prelude.{◌≡◌, ◌<◌, ◌≤◌, ◌||◌, ◌↔◌, nat_le, min, length, IfOk, IfSome, IsTrue, Ok, None};
 
+use crate::tries::choices::{
+    Choice, drop_between, fitting, left_of, show_go, show_rank, take_back,
+};
+use crate::tries::rest::Rest;
 use crib_cards::{Letter, Rank, Side};
 use crib_deals::{Deals, Table, are_in_order, ranks_at};
 use crib_know::Know;
 use crib_problem::Problem;
-use crib_show::{Demand, count_ranks};
+use crib_show::Demand;
 use std::alloc::{AllocError, Allocator};
-
-// A choice of four ranks, and what the plan in the making demands of the deals whose hold has them.
-#[derive(Clone, Copy)]
-struct Choice {
-    ranks: [Rank; 4],
-    // The index of its table.
-    table: usize,
-    // The index of the choice on the level below of which this one is a part.
-    below: usize,
-    // How many cards of each rank are left.
-    left: [u8; 13],
-    demand: Demand,
-    // How many deals miss the demand: those that beat the plan.
-    missing: u32,
-    // How many deals there are.
-    open_deals: u32,
-}
-
-impl Choice {
-    // The same choice as a part of one on the level below.
-    fn part(&self, below: usize) -> Choice {
-        Choice { below, ..*self }
-    }
-
-    // Whether a card is left that fits.
-    fn has_fitting(&self, fits: &[bool; 13]) -> bool {
-        for index in 0..13usize {
-            if self.left[index] > 0 && fits[index] {
-                return true;
-            }
-        }
-        false
-    }
-}
-
-// Which ranks fit now, the ace first.
-fn fitting(know: &Know) -> [bool; 13] {
-    let mut fits = [false; 13];
-    for number in 1..14u8 {
-        if let Some(rank) = Rank::new(number) {
-            fits[(number - 1) as usize] = know.round().fits(rank);
-        }
-    }
-    fits
-}
-
-// How many cards of each rank are left of these four.
-fn left_of(ranks: &[Rank; 4], know: &Know) -> [u8; 13] {
-    let counts = count_ranks(ranks);
-    let mut left = [0u8; 13];
-    for number in 1..14u8 {
-        if let Some(rank) = Rank::new(number) {
-            left[(number - 1) as usize] = counts
-                .of(rank)
-                .saturating_sub(know.ranks_seen().of(rank));
-        }
-    }
-    left
-}
-
-// Adds those of the choices from an index on that have a card of the rank left.
-fn show_rank<A: Allocator>(
-    choices: &mut Vec<Choice, A>,
-    first: usize,
-    rank: Rank,
-) -> Result<(), AllocError> {
-    let seen = (rank.number() - 1) as usize;
-    for index in first..choices.len() {
-        if let Some(choice) = choices.get(index) {
-            if choice.left[seen] > 0 && choice.missing < choice.open_deals {
-                let mut next = choice.part(index);
-                next.left[seen] = next.left[seen].saturating_sub(1);
-                choices.push(next)?;
-            }
-        }
-    }
-    Ok(())
-}
-
-// Adds those of the choices from an index on that have no card left that fits.
-fn show_go<A: Allocator>(
-    choices: &mut Vec<Choice, A>,
-    first: usize,
-    fits: &[bool; 13],
-) -> Result<(), AllocError> {
-    for index in first..choices.len() {
-        if let Some(choice) = choices.get(index) {
-            if choice.missing < choice.open_deals && !choice.has_fitting(fits) {
-                let part = choice.part(index);
-                choices.push(part)?;
-            }
-        }
-    }
-    Ok(())
-}
-
-// Drops the choices from an index on. Those of which they are a part take over what they demand.
-fn take_back<A: Allocator>(choices: &mut Vec<Choice, A>, first: usize) {
-    for index in first..choices.len() {
-        if let Some(choice) = choices.get(index).copied() {
-            if let Some(other) = choices.get_mut(choice.below) {
-                other.demand = choice.demand;
-                other.missing = choice.missing;
-            }
-        }
-    }
-    choices.truncate(first);
-}
-
-// Drops the choices between two indices.
-fn drop_between<A: Allocator>(choices: &mut Vec<Choice, A>, first: usize, end: usize) {
-    let len = choices.len();
-    let end = end.min(len);
-    let first = first.min(end);
-    choices.copy_within(end..len, first);
-    choices.truncate(first + (len - end));
-}
 
 /// A level of a trial: its choices, how many deals beat the plan on it, and its limit.
 #[derive(Clone, Copy)]
@@ -142,6 +29,8 @@ pub(crate) struct Trial<'a, A: Allocator> {
     deals: Deals<'a>,
     // The tables of the choices. There are none if the show of the opponent can't decide.
     tables: Vec<Table<'a>, A>,
+    // What the first plan demands.
+    rest: Rest<A>,
     // The choices of all levels, those of the highest last.
     choices: Vec<Choice, A>,
     // The highest level.
@@ -157,6 +46,7 @@ impl<'a, A: Allocator + Copy> Trial<'a, A> {
         let mut trial = Trial {
             deals: Deals::of(problem),
             tables: Vec::new(alloc),
+            rest: Rest::new(alloc),
             choices: Vec::new(alloc),
             level: Level {
                 first: 0,
@@ -194,6 +84,7 @@ impl<'a, A: Allocator + Copy> Trial<'a, A> {
         if let Some(table) = table {
             self.tables.push(table)?;
         }
+        self.rest.add()?;
         let index = self.choices.len();
         self.choices.push(Choice {
             ranks,
@@ -201,14 +92,22 @@ impl<'a, A: Allocator + Copy> Trial<'a, A> {
             below: index,
             left: left_of(&ranks, know),
             demand,
+            elsewhere: demand,
             missing: 0,
             open_deals: counted.open_deals,
         })?;
         Ok(())
     }
 
-    // How many deals of a choice miss a demand.
-    fn missing(&self, choice: &Choice, demand: Demand) -> u32 {
+    // How many deals of a choice miss what is demanded.
+    fn missing(&self, choice: &Choice) -> u32 {
+        let demand = choice.joined();
+        if demand.is_met_by_all() {
+            return 0;
+        }
+        if demand.is_impossible() {
+            return choice.open_deals;
+        }
         match self.tables.get(choice.table) {
             Some(table) => table.count(demand).missing,
             None => self.deals.count(&choice.ranks, demand).missing,
@@ -241,16 +140,104 @@ impl<'a, A: Allocator + Copy> Trial<'a, A> {
         let Some(choice) = self.choices.get(index).copied() else {
             return 0;
         };
-        let joined = choice.demand.and(demand);
-        if joined == choice.demand {
+        let demand = choice.demand.and(demand);
+        if demand == choice.demand {
             return 0;
         }
-        let missing = self.missing(&choice, joined);
-        if let Some(changed) = self.choices.get_mut(index) {
-            changed.demand = joined;
-            changed.missing = missing;
+        self.change(index, &Choice { demand, ..choice })
+            .saturating_sub(choice.missing)
+    }
+
+    // Changes what is demanded of a choice. Returns how many of its deals beat the plan then.
+    fn change(&mut self, index: usize, changed: &Choice) -> u32
+        ensures { self.new.level ≡ self.old.level }
+    {
+        let missing = self.missing(changed);
+        if let Some(choice) = self.choices.get_mut(index) {
+            *choice = Choice {
+                missing,
+                ..*changed
+            };
         }
-        missing.saturating_sub(choice.missing)
+        missing
+    }
+
+    /// Begins again with a plan that no deal beats yet.
+    pub(crate) fn restart(&mut self)
+        ensures { self.new.level ≡ record { first = 0; beaten = 0; limit = 18446744073709551615 } }
+    {
+        for index in 0..self.choices.len() {
+            if let Some(choice) = self.choices.get_mut(index) {
+                choice.demand = Demand::none();
+                choice.elsewhere = Demand::none();
+                choice.missing = 0;
+            }
+        }
+        self.level = Level {
+            first: 0,
+            beaten: 0,
+            limit: u64::MAX,
+        };
+    }
+
+    /// How many deals beat the plan.
+    pub(crate) fn beaten(&self) -> u64
+        ensures { result ≡ self.now.level.beaten }
+    {
+        self.level.beaten
+    }
+
+    /// Demands more of each deal of the level, as the first plan does at the end with this key, and notes it. It fails
+    /// if an allocation fails.
+    pub(crate) fn note(&mut self, key: u64, demand: Demand) -> Result<(), AllocError> {
+        for index in self.level.first..self.choices.len() {
+            if self.demand_more(index, demand) > 0 {
+                if let Some(choice) = self.choices.get(index) {
+                    self.rest.note(choice.table, key, choice.demand)?;
+                }
+            }
+        }
+        Ok(())
+    }
+
+    /// Lets the deals of the level beat the plan that miss what the first plan demands from a key on, if there is one.
+    pub(crate) fn look_ahead(&mut self, key: Option<u64>) {
+        let Some(key) = key else {
+            return;
+        };
+        for index in self.level.first..self.choices.len() {
+            if let Some(choice) = self.choices.get(index).copied() {
+                let elsewhere = self.rest.from(choice.table, key);
+                self.demand_elsewhere(index, elsewhere, choice.missing);
+            }
+        }
+    }
+
+    /// Takes that back: elsewhere, what is demanded on the level below is demanded.
+    pub(crate) fn look_back(&mut self, key: Option<u64>, below: &Level) {
+        if key.is_none() {
+            return;
+        }
+        self.level.beaten = below.beaten;
+        for index in self.level.first..self.choices.len() {
+            if let Some(choice) = self.choices.get(index).copied() {
+                if let Some(other) = self.choices.get(choice.below).copied() {
+                    self.demand_elsewhere(index, other.elsewhere, other.missing);
+                }
+            }
+        }
+    }
+
+    // Sets what is demanded of a choice elsewhere, of whose deals so many beat the plan before.
+    fn demand_elsewhere(&mut self, index: usize, elsewhere: Demand, before: u32) {
+        if let Some(choice) = self.choices.get(index).copied() {
+            let changed = Choice {
+                elsewhere,
+                ..choice
+            };
+            let more = self.change(index, &changed).saturating_sub(before);
+            self.level.beaten = self.level.beaten.saturating_add(u64::from(more));
+        }
     }
 
     /// Adds a level after a letter of the opponent, and returns the level below it. It has the choices that can show
@@ -318,6 +305,33 @@ impl<'a, A: Allocator + Copy> Trial<'a, A> {
             limit: below.beaten,
         };
         Ok(below)
+    }
+
+    /// Raises the limit of the level by a sixteenth.
+    pub(crate) fn widen(&mut self) {
+        let limit = self.level.limit;
+        self.level.limit = limit.saturating_add(limit / 16);
+    }
+
+    /// Lets the level, which is an attempt after `start` above `best`, begin again without a limit. It fails if an
+    /// allocation fails.
+    pub(crate) fn begin_again(&mut self, start: Level, best: Level) -> Result<(), AllocError> {
+        self.choices.truncate(self.level.first);
+        let end = best.first.min(self.choices.len());
+        self.choices.extend_from_within(start.first.min(end)..end)?;
+        self.level.beaten = start.beaten;
+        self.level.limit = u64::MAX;
+        Ok(())
+    }
+
+    /// Gives the level the limit of an attempt above `best`.
+    pub(crate) fn limit_to(&mut self, best: Level) {
+        self.level.limit = best.beaten;
+    }
+
+    /// Forgets what the first plan demands.
+    pub(crate) fn forget(&mut self) {
+        self.rest.clear();
     }
 
     /// Goes back to the level below. If fewer deals than its limit beat this level, it replaces that one. Returns

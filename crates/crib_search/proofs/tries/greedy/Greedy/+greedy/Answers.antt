@@ -6,7 +6,7 @@ use Rattle.crib_search.specs.Finder.{letters}
 use Rattle.crib_search.specs.Private.States.{StatesAfter, StatesAt}
 use Rattle.crib_search.proofs.FoundAfterTurns.{goes_on, ok_map}
 use Rattle.crib_search.proofs.FoundBySide.{take_letter}
-use Rattle.crib_search.proofs.CardsToTry.{has_at, has_first, none_fits}
+use Rattle.crib_search.proofs.CardsToTry.{has_first, none_fits}
 use Rattle.crib_search.proofs.JoinedTrees.{draft_place_earlier}
 use Rattle.crib_search.proofs.PlannedPlaces.{left_is_card, more_trans, planned_end, planned_joined, planned_map, planned_more}
 use Rattle.crib_search.proofs.PlannedPlaces.{planned_play}
@@ -78,32 +78,45 @@ pub own_place-best_place-requires : goal.own_place-best_place-requires
 own_place-best_place-requires g t c κs within =
     (omega arith, (within, (c.requires.turn, c.options-cards.ensures.playable)))
 
-pub best_place-loop-card-init : goal.best_place-loop-card-init
-best_place-loop-card-init g t c = record {
+pub best_place-loop-turn-init : goal.best_place-loop-turn-init
+best_place-loop-turn-init g t c = record {
   kept = c.lowest_first.ensures.kept;
   planned = planned_map _ _ _ (states_lowest c.args.problem.now c.args.know.now c.own_left.result c.own_left.ensures) c.in_ok-place.place
       c.in_ok-place.ensures.planned;
 }
 
-pub best_place-place_with-requires : goal.best_place-place_with-requires
-best_place-place_with-requires g t c κs within =
-    let playable = c.requires.playable c.card-item.result
-    (has_at c.args.cards.now c.loop-card.card-index c.card-item.result c.loop-card-test.true c.card-item.is) in
+pub best_place-tried_place-requires : goal.best_place-tried_place-requires
+best_place-tried_place-requires g t c κs within =
+    let playable = c.requires.playable c.card_tried-card.result c.card_tried-card.ensures in
     (omega arith, (within, (c.requires.turn, playable)))
 
 pub best_place-returns-in_err-other_place-clause-kept : goal.best_place-returns-in_err-other_place-clause-kept
 best_place-returns-in_err-other_place-clause-kept g t c =
-    more_trans c.args.self.now.nodes c.loop-card.self.nodes c.place_with.new.self.nodes c.loop-card.invariant.kept c.place_with.ensures.kept
+    more_trans c.args.self.now.nodes c.loop-turn.self.nodes c.tried_place.new.self.nodes c.loop-turn.invariant.kept c.tried_place.ensures.kept
 
-pub best_place-loop-card-preserved : goal.best_place-loop-card-preserved
-best_place-loop-card-preserved g t c = record {
-  kept = more_trans c.args.self.now.nodes c.loop-card.self.nodes c.place_with.new.self.nodes c.loop-card.invariant.kept c.place_with.ensures.kept;
+pub best_place-loop-turn-preserved : goal.best_place-loop-turn-preserved
+best_place-loop-turn-preserved g t c = record {
+  kept = more_trans c.args.self.now.nodes c.loop-turn.self.nodes c.tried_place.new.self.nodes c.loop-turn.invariant.kept c.tried_place.ensures.kept;
   planned = elim c.if-adopt.branch [
     | best_place-then-adopt w ↦ rw w.place-is c.in_ok-other_place.ensures.planned
     | best_place-else-adopt w ↦ rw w.place-is
-        (planned_more c.loop-card.self.nodes c.place_with.new.self.nodes c.place_with.ensures.kept _ c.loop-card.place c.loop-card.invariant.planned)
+        (planned_more c.loop-turn.self.nodes c.tried_place.new.self.nodes c.tried_place.ensures.kept _ c.loop-turn.place c.loop-turn.invariant.planned)
   ];
 }
+
+pub tried_place-place_with-requires : goal.tried_place-place_with-requires
+tried_place-place_with-requires g t c κs within = (omega arith, (within, (c.requires.turn, (c.requires.held, c.requires.fits))))
+
+pub tried_place-place_with-requires-2 : goal.tried_place-place_with-requires-2
+tried_place-place_with-requires-2 g t c κs within = (omega arith, (within, (c.requires.turn, (c.requires.held, c.requires.fits))))
+
+pub tried_place-place_with-requires-3 : goal.tried_place-place_with-requires-3
+tried_place-place_with-requires-3 g t c κs within = (omega arith, (within, (c.requires.turn, (c.requires.held, c.requires.fits))))
+
+pub tried_place-returns-clause-kept : goal.tried_place-returns-clause-kept
+tried_place-returns-clause-kept g t c =
+    more_trans c.args.self.now.nodes c.place_with-2.new.self.nodes c.place_with-3.new.self.nodes c.place_with-2.ensures.kept
+    (rw c.note_at.ensures.same at c.place_with-3.ensures.kept)
 
 pub place_with-place_at-requires : goal.place_with-place_at-requires
 place_with-place_at-requires g t c κs within =

@@ -4,7 +4,11 @@
 #[cfg(test)]
 mod beaten;
 #[cfg(test)]
+mod bound;
+#[cfg(test)]
 mod check;
+#[cfg(test)]
+mod leads;
 #[cfg(test)]
 mod search;
 #[cfg(test)]

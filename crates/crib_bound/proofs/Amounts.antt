@@ -1,0 +1,54 @@
+-- Sums of amounts over a list of deals, and how many deals have some.
+use Rattle.std.proofs.Common.{◌≡◌, ◌≢◌, ◌⊎◌, ℕ, zero, suc, ◌+◌, ◌*◌, ◌≤◌, List, [], ◌∷◌, length, sum_by, refl, sym, ◌∙◌, inl, inr, arith}
+use Rattle.std.specs.List.{AllByRecursion}
+use Rattle.std.proofs.lemmas.List.Sums.{sum_by-cons}
+use Rattle.crib_cards.specs.Sets.{AreDifferent}
+use Rattle.crib_cards.specs.declared.sides.Dealt.{Dealt}
+use Rattle.crib_deals.specs.Exact.{IsIn}
+
+-- some sum is of some amount
+pub sum_some : (amounts : Dealt → ℕ) (xs : List Dealt) → 1 ≤ sum_by amounts xs → (x : Dealt) × IsIn x xs × (1 ≤ amounts x)
+sum_some amounts [] some = absurd (omega (arith, some))
+sum_some amounts (x ∷ xs) some = here (λ more. sum_some amounts xs more) (amounts x) refl
+  where
+    here : (1 ≤ sum_by amounts xs → (y : Dealt) × IsIn y xs × (1 ≤ amounts y)) → (amount : ℕ) → amounts x ≡ amount →
+        (y : Dealt) × IsIn y (x ∷ xs) × (1 ≤ amounts y)
+    here rest zero none = let one = rest (omega (arith, some, sum_by-cons amounts x xs, none)) in (one.0, inr one.1, one.2)
+    here rest (suc amount) is = (x, inl refl, omega (arith, is))
+
+-- the sum of two amounts
+pub sum_both : (one other : Dealt → ℕ) (xs : List Dealt) → sum_by (λ x. one x + other x) xs ≡ sum_by one xs + sum_by other xs
+sum_both one other [] = refl
+sum_both one other (x ∷ xs) =
+    omega (arith, sum_by-cons (λ y. one y + other y) x xs, sum_by-cons one x xs, sum_by-cons other x xs, sum_both one other xs)
+
+pub sum_less : (one other : Dealt → ℕ) (xs : List Dealt) → ((x : Dealt) → IsIn x xs → one x ≤ other x) → sum_by one xs ≤ sum_by other xs
+sum_less one other [] less = omega arith
+sum_less one other (x ∷ xs) less =
+    omega (arith, sum_by-cons one x xs, sum_by-cons other x xs, less x (inl refl), sum_less one other xs (λ y h. less y (inr h)))
+
+apart_from : (x : Dealt) (xs : List Dealt) → AllByRecursion (λ other. x ≢ other) xs → (y : Dealt) → IsIn y xs → x ≡ y → ⊥
+apart_from x [] apart y h same = h
+apart_from x (z ∷ xs) apart y (inl e) same = apart.0 (same ∙ sym e)
+apart_from x (z ∷ xs) apart y (inr h) same = apart_from x xs apart.1 y h same
+
+-- a list without one of its members
+without : (x : Dealt) (xs : List Dealt) → IsIn x xs → (rest : List Dealt) × (length xs ≡ length rest + 1) × ((y : Dealt) → IsIn y xs → (x ≡ y) ⊎ IsIn y rest)
+without x [] h = absurd h
+without x (y ∷ xs) (inl e) = (xs, omega arith, λ z h. grind (arith, e, h))
+without x (y ∷ xs) (inr h) = let below = without x xs h in (y ∷ below.0, omega (arith, below.1), λ z h. grind (arith, h, below.2 z))
+
+-- amounts that are at most so much each, where each of which there is some is in another list
+pub sum_within : (most : ℕ) (amounts : Dealt → ℕ) (xs ys : List Dealt) → AreDifferent xs → ((x : Dealt) → IsIn x xs → amounts x ≤ most) →
+    ((x : Dealt) → IsIn x xs → 1 ≤ amounts x → IsIn x ys) → sum_by amounts xs ≤ most * length ys
+sum_within most amounts [] ys apart few within = omega arith
+sum_within most amounts (x ∷ xs) ys apart few within =
+    here (λ zs less. sum_within most amounts xs zs apart.1 (λ y h. few y (inr h)) less) (amounts x) refl
+  where
+    here : ((zs : List Dealt) → ((y : Dealt) → IsIn y xs → 1 ≤ amounts y → IsIn y zs) → sum_by amounts xs ≤ most * length zs) → (amount : ℕ) →
+        amounts x ≡ amount → sum_by amounts (x ∷ xs) ≤ most * length ys
+    here rest zero none = omega (arith, sum_by-cons amounts x xs, none, rest ys (λ y h. within y (inr h)))
+    here rest (suc amount) some =
+        let left = without x ys (within x (inl refl) (omega (arith, some))) in
+        let below = rest left.0 (λ y h more. grind (arith, left.2 y (within y (inr h) more), apart_from x xs apart.0 y h)) in
+        rw left.1 (omega (arith, sum_by-cons amounts x xs, few x (inl refl), below))

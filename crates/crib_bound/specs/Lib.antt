@@ -1,0 +1,4 @@
+pub mod BeatenPlayers
+pub mod Worth
+pub mod Laws
+pub mod Private

@@ -1,0 +1,3 @@
+pub mod EndedTurns
+pub mod Entries
+mod Examples

@@ -1,0 +1,12 @@
+-- What the owner knows with one turn more.
+use Rattle.std.specs.Prelude.{◌∷◌, List, Option, MatchOption}
+use Rattle.crib_play.specs.History.{Event}
+use Rattle.crib_problem.specs.Setup.{Setup}
+use Rattle.crib_know.specs.Knowledge.{Knowledge}
+use Rattle.crib_know.specs.Hidden.{IsPossible, KnowsAfter}
+
+-- the knowledge after a turn that follows on another knowledge, or none if no deal agrees with it
+abbrev pub IsNextOf : Knowledge → Event → Option Knowledge → Type 0
+IsNextOf know event next =
+    (problem : Setup) (history : List Event) → KnowsAfter know problem history →
+    MatchOption next (¬ IsPossible problem (event ∷ history)) (λ after. KnowsAfter after problem (event ∷ history))

@@ -1,0 +1,9 @@
+//! What may be played next, and after each such turn whether a plan is sure, or how many deals beat a plan.
+#![tactic(auto)]
+
+mod ended;
+mod leads;
+mod verdict;
+
+pub use leads::{Lead, Leads, leads_of};
+pub use verdict::{LeadVerdict, verdict_after};

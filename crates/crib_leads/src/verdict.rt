@@ -1,0 +1,73 @@
+//! Whether a plan is sure after a turn, or how many deals beat a plan.
+ghost use Rattle.std.specs.Prelude.{◌≡◌, IfOk, Err, IsFalse, IsTrue, MatchOption};
+ghost use Rattle.crib_search.specs.Finder.{ExceedsLimit};
+ghost use Rattle.crib_leads.specs.Leads.{IsVerdict, IsVerdictOn, IsTooLarge, may_come};
+
+use crate::ended::ended_verdict;
+use crib_beaten::tally_of;
+use crib_cards::Act;
+use crib_problem::Problem;
+use crib_search::{SearchFault, try_plan};
+use std::alloc::Allocator;
+
+/// What is after a turn.
+#[derive(Clone, Copy, Debug, PartialEq, Eq)]
+pub enum LeadVerdict {
+    /// Some plan is sure. The plan that [`find`](crib_search::find) returns has so many nodes.
+    Sure { nodes: usize },
+    /// No plan is sure. Of the open deals so many beat the plan of [`try_plan`].
+    Beaten { beaten: u32, open_deals: u32 },
+    /// The deal is done, and each deal that agrees with the turn reaches the goal.
+    Reached,
+    /// The deal is done, and some deal that agrees with the turn misses the goal.
+    Missed,
+}
+
+/// Returns what is after a turn, or `None` if it may not come next.
+///
+/// It fails with [`SearchFault::TooLarge`] if a plan is sure after the turn, and the plan of
+/// [`find`](crib_search::find) has more than 65,535 nodes. It fails with [`SearchFault::NoMemory`] if an allocation
+/// fails, except one for a table of answers: if that fails, the search is slower.
+pub fn verdict_after<A: Allocator + Copy>(
+    alloc: A,
+    problem: &Problem,
+    act: &Act,
+) -> Result<Option<LeadVerdict>, SearchFault>
+    ensures right { IfOk result (λ found. MatchOption found (IsFalse (may_come problem.now act.now))
+        (λ verdict. IsTrue (may_come problem.now act.now) × IsVerdict problem.now act.now verdict)) }
+    ensures too_large { result ≡ Err SearchFault.TooLarge → IsTooLarge problem.now act.now }
+{
+    match problem.after(*act) {
+        Ok(next) => {
+            let verdict = verdict_on(alloc, &next)?;
+            Ok(Some(verdict))
+        }
+        Err(cause) => {
+            if cause.number() == 24 {
+                Ok(Some(ended_verdict(problem, act)))
+            } else {
+                Ok(None)
+            }
+        }
+    }
+}
+
+// What is found for a problem.
+fn verdict_on<A: Allocator + Copy>(alloc: A, problem: &Problem) -> Result<LeadVerdict, SearchFault>
+    ensures right { IfOk result (IsVerdictOn problem.now) }
+    ensures too_large { result ≡ Err SearchFault.TooLarge → ExceedsLimit problem.now 65535 }
+{
+    let tried = try_plan(alloc, problem)?;
+    if tried.is_sure {
+        return Ok(LeadVerdict::Sure {
+            nodes: tried.plan.nodes().len(),
+        });
+    }
+    match tally_of(alloc, problem, &tried.plan) {
+        Ok(tally) => Ok(LeadVerdict::Beaten {
+            beaten: tally.beaten,
+            open_deals: tally.open_deals,
+        }),
+        Err(_) => Err(SearchFault::NoMemory),
+    }
+}

@@ -92,7 +92,7 @@ neither_beats : ((played : List Move) → IsPlayedBy four_twos leads_the_ace pai
     ((played : List Move) → IsPlayedBy four_twos leads_the_ace pairing played → IsMissedBy four_twos pairing played → ⊥) →
     BeatsPlayer four_twos leads_the_ace pairing → ⊥
 neither_beats never reached beats = elim beats.failure [
-  inl missed ↦ reached beats.played beats.by missed
+  | inl missed ↦ reached beats.played beats.by missed
   | inr loss ↦ both_ways _ (never beats.played beats.by) loss
 ]
 

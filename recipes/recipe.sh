@@ -1,7 +1,6 @@
 # shellcheck shell=bash disable=SC2034
-# What the recipes share: each reads this file first. It answers `--help`, finds the program, makes a folder $room
-# that is gone at the end, and asks `cribplan`. No recipe knows the game: what one prints rests on answers of
-# `cribplan`.
+# What the recipes share: each reads this file first. It answers `--help`, finds the programs, and makes a folder $room
+# that is gone at the end. No recipe knows the game: what one prints rests on answers of the programs.
 set -u
 export LC_ALL=C
 name=${0##*/}
@@ -22,13 +21,6 @@ print_usage() {
     echo "  $name --help | --version"
 }
 
-# refuse_words WORD..: the command line isn't one of those that the recipe knows. The first word is the one to be named.
-refuse_words() {
-    if [ $# -eq 0 ]; then say "a word is missing. Type one of these:"; else say "\"$1\" isn't expected here. Type one of these:"; fi
-    print_usage >&2
-    exit 2
-}
-
 # print_help: the comment at the head of the recipe, and the statuses that all of them have.
 print_help() {
     sed -n '2,/^$/s/^# \{0,1\}//p' "$0"
@@ -37,40 +29,31 @@ print_help() {
 
 # print_version: of the recipes and the manual. PROOF has it too, which says whether the programs beside it are proved.
 print_version() {
-    local place
-    for place in "$shared/VERSION" "$shared/../VERSION"; do
-        [ ! -r "$place" ] || { echo "$name $(cat "$place")" && return; }
-    done
-    return 1
+    cat "$shared/VERSION" "$shared/../VERSION" 2>/dev/null | sed "s/^/$name /; q" | grep .
 }
 
-# find_program NAME: the path of a program: beside the recipe, then one folder up, then on the path.
+# find_program NAME: the path of a program: beside the recipe, then one folder up, then on the path. In the folder of the
+# sources it is the program that the launcher runs.
 find_program() {
     local place
     for place in "$here/$1" "$here/../$1" "$(command -v "$1")"; do
-        [ ! -f "$place" ] || [ ! -x "$place" ] || { echo "$place" && return; }
+        [ -f "$place" ] && [ -x "$place" ] || continue
+        if [ "$place" -ef "$here/../$1" ]; then "$here/../tools/program" "$1" || exit 3; else echo "$place"; fi
+        return
     done
     return 1
-}
-
-# find_behind NAME: the same, but in the folder of the sources it is the program that the launcher runs.
-find_behind() {
-    local path
-    path=$(find_program "$1") || return 1
-    if [ "$path" -ef "$here/../$1" ]; then "$here/../tools/program" "$1" || exit 3; else echo "$path"; fi
 }
 
 # need_cribplan: finds cribplan, in $program.
 need_cribplan() {
-    program=$(find_behind cribplan) || {
-        [ $? -eq 3 ] || say "there is no cribplan beside it, one folder up, or on the path"
-        exit 3
-    }
+    program=$(find_program cribplan) && return
+    [ $? -eq 3 ] || say "there is no cribplan beside it, one folder up, or on the path"
+    exit 3
 }
 
-# find_sheets: finds cribsheet, in $sheets; 1 if it isn't there.
+# find_sheets: finds cribsheet, in $sheets, which is empty if it isn't there.
 find_sheets() {
-    sheets=$(find_behind cribsheet) || { [ $? -ne 3 ] || exit 3; return 1; }
+    sheets=$(find_program cribsheet) || [ $? -ne 3 ] || exit 3
 }
 
 # keep_input WORD..: for a recipe that has no words of its own. Keeps standard input in $room/input, in which a byte
@@ -80,7 +63,7 @@ keep_input() {
         say "it reads standard input; type $name < $1"
         exit 2
     fi
-    [ $# -eq 0 ] || refuse_words "$@"
+    [ $# -eq 0 ] || { say "\"$1\" isn't expected here. Type one of these:" && print_usage >&2 && exit 2; }
     head -c 8388609 >"$room/input" 2>/dev/null && return
     say "the input can't be read"
     echo "fault 9" >"$room/out"
@@ -96,40 +79,13 @@ ask() {
     case $status:${answer[0]-} in
     '0:plan 1' | 0:holds | '0:board 1' | '0:play '* | 0:reached) ;;
     1:none | '1:fails '* | 1:open | 1:stuck | 1:lost | 1:short | '2:refused line '*) ;;
-    '0:beaten 0 of '* | '1:beaten '[1-9]* | '1:You are the '*) ;;
     *)
-        [ "$1:$status:${answer[0]-}" != "try:1:plan 1" ] || return 0
         cat "$room/answer"
         cat "$room/words" >&2
         say "${program##*/} $1 ended with status $status and no answer"
         exit 3
         ;;
     esac
-}
-
-# ask_sheets COMMAND < INPUT: asks cribsheet, as ask does cribplan.
-ask_sheets() {
-    local program=$sheets
-    ask "$1"
-}
-
-# find_kept FILE COMMAND: whether cribplan-many keeps an answer to that file which isn't older; its file is in $kept.
-find_kept() {
-    local status
-    for status in 0 1 2; do
-        kept=$1.$2.$status
-        [ ! -s "$kept" ] || [ "$1" -nt "$kept" ] || return 0
-    done
-    return 1
-}
-
-# take_lanes [N]: the word behind -j, which is how many processes run at once; in $lanes.
-take_lanes() {
-    if ! [[ ${1-} =~ ^[1-9][0-9]{0,3}$ ]]; then
-        say "-j needs a number of processes, 1 to 9999${1+, and not \"$1\"}"
-        exit 2
-    fi
-    lanes=$1
 }
 
 # is_refused [NUMBER]: whether the last answer is a refusal, with that number where it is given.
@@ -157,10 +113,8 @@ finish() {
 run_python() {
     name=$name python3 -EsB "$shared/$1" "${@:2}" >"$room/out"
     status=$?
-    case $status in
-    1 | 127) exit 3 ;;
-    *) finish "$status" ;;
-    esac
+    [ "$status" -ne 1 ] && [ "$status" -ne 127 ] || exit 3
+    finish "$status"
 }
 
 # The parts of a problem that cribplan has accepted: its lines from `dealer` to `throw`, its goal, and its turns.
@@ -203,30 +157,6 @@ is_sure() {
         nodes=
     fi
     return "$status"
-}
-
-# find_beaten GOAL TURN: after is_sure has found no plan for that goal and turn, how many deals beat the plan that
-# `cribsheet try` makes after that turn, and of how many; in $beaten, as `N of M`.
-find_beaten() {
-    if [ "${answer[0]}" = none ]; then
-        write_problem "$@" >"$room/tried"
-        ask_sheets try <"$room/tried"
-        cat "$room/answer" >>"$room/tried"
-    else
-        write_last_turn "$@" >"$room/tried"
-    fi
-    ask_sheets beaten <"$room/tried"
-    beaten=${answer[0]#beaten }
-}
-
-# with_commas N: the number, with commas between its thousands.
-with_commas() {
-    local rest=$1 text=
-    while [ "${#rest}" -gt 3 ]; do
-        text=,${rest: -3}$text
-        rest=${rest%???}
-    done
-    echo "$rest$text"
 }
 
 # find_greatest [TURN]: the greatest N for which `goal holes N` is sure, after that turn where it is given; in
@@ -293,11 +223,7 @@ trap 'stop 130' INT
 trap 'stop 141' PIPE
 trap 'stop 143' TERM
 trap 'trap "" HUP INT PIPE TERM; rm -rf "$room"' EXIT
-mkdir -m 700 "$room" 2>/dev/null || {
-    trap - EXIT
-    say "there can be no folder $room"
-    exit 3
-}
+mkdir -m 700 "$room" 2>/dev/null || { trap - EXIT; say "there can be no folder $room"; exit 3; }
 case ${1-} in
 --help | -h) print_help >"$room/out" && finish 0 ;;
 --version) print_version >"$room/out" && finish 0 ;;

@@ -4,20 +4,21 @@ use Rattle.std.specs.Prelude.{IsFalse, IsTrue, map}
 use Rattle.std.proofs.lemmas.Bool.{both_ways, false_from_ne_true}
 use Rattle.crib_cards.specs.Cards.{rank_of}
 use Rattle.crib_cards.specs.Sets.{rank_counts, set_where}
+use Rattle.crib_cards.specs.declared.letters.Letter.TheVariants.{Seen, Go}
 use Rattle.crib_cards.specs.declared.sides.Dealt.{Dealt}
 use Rattle.crib_show.specs.Show.{hand_points, crib_points}
 use Rattle.crib_show.specs.declared.demands.Demand.{Demand}
 use Rattle.crib_show.proofs.DemandExamples.{of_three}
 use Rattle.crib_problem.specs.Setup.{Setup, IsDealOf}
 use Rattle.crib_plan.specs.declared.plan.Node.{Node}
-use Rattle.crib_know.specs.Knowledge.{played_events}
+use Rattle.crib_know.specs.Knowledge.{Knowledge, played_events}
 use Rattle.crib_sure.specs.Positions.{StandsAt}
 use Rattle.crib_game.specs.declared.following.ending.Ending.TheVariants as ending
 use Rattle.crib_problem.proofs.ExampleProblems.{four_twos, aces}
 use Rattle.crib_beaten.specs.declared.plays.Plays.{Plays}
 use Rattle.crib_know.specs.Hidden.{IsOpen}
 use Rattle.crib_sure.specs.Shows.{meets}
-use Rattle.crib_beaten.specs.Beaten.{ArePlays, Beats, Decides, counts_of, demand_of}
+use Rattle.crib_beaten.specs.Beaten.{ArePlays, Beats, Decides, counts_of, demand_of, may_show}
 use Rattle.crib_check.specs.Failing.{IsFailing}
 use Rattle.crib_check.proofs.Examples.{aces_are_a_deal, no_acts, stuck_at_once}
 use Rattle.crib_sure.proofs.ExampleOpening.{at_29}
@@ -35,6 +36,26 @@ clubs = record { hold = 0 ∷ 16 ∷ 32 ∷ 44 ∷ []; throw = 8 ∷ 9 ∷ [] }
 clubs_meet : map (λ (points : ℕ). meets four_twos (record { hand = points; total = 99; crib = 0 }) clubs) (10 ∷ 9 ∷ []) ≡ true ∷ false ∷ []
 unfolding hand_points crib_points
 clubs_meet = refl
+
+-- ---- letters
+-- a hold of two aces, a two and a three shows a second ace, and no third one
+a_second_ace : (before after : Knowledge) →
+    may_show (record before { ranks_seen = rank_counts (1 ∷ []) }) after (Seen 1) (rank_counts (1 ∷ 1 ∷ 2 ∷ 3 ∷ [])) ≡ true
+a_second_ace before after = refl
+
+no_third_ace : (before after : Knowledge) →
+    may_show (record before { ranks_seen = rank_counts (1 ∷ 1 ∷ []) }) after (Seen 1) (rank_counts (1 ∷ 1 ∷ 2 ∷ 3 ∷ [])) ≡ false
+no_third_ace before after = refl
+
+-- a go at 28 leaves no card below a four but those that were shown
+abbrev after_a_go : Knowledge → Knowledge
+after_a_go after = record after { least = 4; ranks_seen = rank_counts (2 ∷ []) }
+
+a_go_with_fours : (before after : Knowledge) → may_show before (after_a_go after) Go (rank_counts (2 ∷ 4 ∷ 4 ∷ 5 ∷ [])) ≡ true
+a_go_with_fours before after = refl
+
+no_go_with_a_three : (before after : Knowledge) → may_show before (after_a_go after) Go (rank_counts (2 ∷ 3 ∷ 4 ∷ 5 ∷ [])) ≡ false
+no_go_with_a_three before after = refl
 
 -- ---- open deals
 aces_are_open : IsOpen four_twos aces

@@ -34,7 +34,8 @@ use Rattle.crib_sure.specs.declared.keys.Key.{Key}
 use Rattle.crib_show.specs.Demands.{IsMetByNone, is_met}
 use Rattle.crib_sure.specs.Shows.{meets}
 use Rattle.crib_check.specs.Failing.{IsFailingEnding}
-use Rattle.crib_beaten.specs.Private.Demands.{BeatsFrom, IsAfterSome, IsDemandAfter, IsDemandAt, IsDemandFrom, may_show}
+use Rattle.crib_beaten.specs.Beaten.{may_show}
+use Rattle.crib_beaten.specs.Private.Demands.{BeatsFrom, IsAfterSome, IsDemandAfter, IsDemandAt, IsDemandFrom}
 use Rattle.crib_sure.specs.Positions.{IsStuckAt, MayTakeAt, StandsAt}
 use Rattle.crib_beaten.proofs.BeatingDeals.{beats_agrees, beats_earlier, beats_here}
 use Rattle.crib_sure.proofs.PointsOfDeals.{few_crib, few_hand}

@@ -66,7 +66,7 @@ in_order_push (first ∷ rows) row order before =
     let next = All-push (λ (later : RanksTally). ComesBefore later first) rows row order.0 (All-head (ComesBefore row) first rows before) in
     (next, in_order_push rows row order.1 (All-tail (ComesBefore row) first rows before))
 
-open_numbered : {problem : Setup} → IsSetup problem → AreNumbered (IsOpen problem) ranks_held ranks_number ranks_of_number 28561
+pub open_numbered : {problem : Setup} → IsSetup problem → AreNumbered (IsOpen problem) ranks_held ranks_number ranks_of_number 28561
 open_numbered {problem} setup = ranks_numbered (IsOpen problem) (λ dealt is. (is.0.deal.held, hold_cards problem setup dealt is.0))
 
 module _ {problem : Setup} {plan : List Node} (setup : IsSetup problem) where

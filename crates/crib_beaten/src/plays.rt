@@ -4,8 +4,8 @@ ghost use Rattle.std.specs.List.{All};
 ghost use Rattle.crib_cards.specs.Sets.{has};
 ghost use Rattle.crib_problem.specs.Setup.{Setup};
 ghost use Rattle.crib_plan.specs.declared.plan.Node.{Node};
-ghost use Rattle.crib_beaten.specs.Beaten.{ArePlays, Decides, counts_of, demand_of};
-ghost use Rattle.crib_beaten.specs.Private.Demands.{AreJoined, AreJoinedFrom, IsDemandAfter, MayWalk, may_show};
+ghost use Rattle.crib_beaten.specs.Beaten.{ArePlays, Decides, counts_of, demand_of, may_show};
+ghost use Rattle.crib_beaten.specs.Private.Demands.{AreJoined, AreJoinedFrom, IsDemandAfter, MayWalk};
 
 use crib_cards::{Letter, RankCounts};
 use crib_know::Know;
@@ -179,8 +179,10 @@ fn keep_indices(
     count
 }
 
-// Whether a hold with these ranks may show a letter: it has a card left for it, or passes the test after a go.
-fn may_show(before: &Know, after: &Know, letter: &Letter, counts: &RankCounts) -> bool
+/// Whether a hold with these counts of ranks may show a letter after what is known before it: it has a card left for a
+/// rank, or passes the test of what is known after a go.
+#[inline]
+pub fn may_show(before: &Know, after: &Know, letter: &Letter, counts: &RankCounts) -> bool
     ensures { result ≡ may_show before.now after.now letter.now counts.now }
 {
     match *letter {

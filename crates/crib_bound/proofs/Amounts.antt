@@ -1,5 +1,6 @@
 -- Sums of amounts over a list of deals, and how many deals have some.
-use Rattle.std.proofs.Common.{◌≡◌, ◌≢◌, ◌⊎◌, ℕ, zero, suc, ◌+◌, ◌*◌, ◌≤◌, List, [], ◌∷◌, length, sum_by, refl, sym, ◌∙◌, inl, inr, arith}
+use Rattle.std.proofs.Common.{◌≡◌, ◌≢◌, ◌⊎◌, ℕ, zero, suc, ◌+◌, ◌*◌, ◌≤◌, Bool, true, false, cond, List, [], ◌∷◌, length}
+use Rattle.std.proofs.Common.{count_by, sum_by, refl, sym, ap, ◌∙◌, inl, inr, arith}
 use Rattle.std.specs.List.{AllByRecursion}
 use Rattle.std.proofs.lemmas.List.Sums.{sum_by-cons}
 use Rattle.crib_cards.specs.Sets.{AreDifferent}
@@ -33,22 +34,47 @@ apart_from x (z ∷ xs) apart y (inl e) same = apart.0 (same ∙ sym e)
 apart_from x (z ∷ xs) apart y (inr h) same = apart_from x xs apart.1 y h same
 
 -- a list without one of its members
-without : (x : Dealt) (xs : List Dealt) → IsIn x xs → (rest : List Dealt) × (length xs ≡ length rest + 1) × ((y : Dealt) → IsIn y xs → (x ≡ y) ⊎ IsIn y rest)
-without x [] h = absurd h
-without x (y ∷ xs) (inl e) = (xs, omega arith, λ z h. grind (arith, e, h))
-without x (y ∷ xs) (inr h) = let below = without x xs h in (y ∷ below.0, omega (arith, below.1), λ z h. grind (arith, h, below.2 z))
+without : (most : Dealt → ℕ) (x : Dealt) (xs : List Dealt) → IsIn x xs →
+    (rest : List Dealt) × (sum_by most xs ≡ sum_by most rest + most x) × ((y : Dealt) → IsIn y xs → (x ≡ y) ⊎ IsIn y rest)
+without most x [] h = absurd h
+without most x (y ∷ xs) (inl e) = (xs, omega (arith, sum_by-cons most y xs, ap most e), λ z h. grind (arith, e, h))
+without most x (y ∷ xs) (inr h) =
+    let below = without most x xs h in
+    (y ∷ below.0, omega (arith, below.1, sum_by-cons most y xs, sum_by-cons most y below.0), λ z h. grind (arith, h, below.2 z))
 
 -- amounts that are at most so much each, where each of which there is some is in another list
-pub sum_within : (most : ℕ) (amounts : Dealt → ℕ) (xs ys : List Dealt) → AreDifferent xs → ((x : Dealt) → IsIn x xs → amounts x ≤ most) →
-    ((x : Dealt) → IsIn x xs → 1 ≤ amounts x → IsIn x ys) → sum_by amounts xs ≤ most * length ys
-sum_within most amounts [] ys apart few within = omega arith
-sum_within most amounts (x ∷ xs) ys apart few within =
-    here (λ zs less. sum_within most amounts xs zs apart.1 (λ y h. few y (inr h)) less) (amounts x) refl
+pub sum_within : (amounts most : Dealt → ℕ) (xs ys : List Dealt) → AreDifferent xs → ((x : Dealt) → IsIn x xs → amounts x ≤ most x) →
+    ((x : Dealt) → IsIn x xs → 1 ≤ amounts x → IsIn x ys) → sum_by amounts xs ≤ sum_by most ys
+sum_within amounts most [] ys apart few within = omega arith
+sum_within amounts most (x ∷ xs) ys apart few within =
+    here (λ zs less. sum_within amounts most xs zs apart.1 (λ y h. few y (inr h)) less) (amounts x) refl
   where
-    here : ((zs : List Dealt) → ((y : Dealt) → IsIn y xs → 1 ≤ amounts y → IsIn y zs) → sum_by amounts xs ≤ most * length zs) → (amount : ℕ) →
-        amounts x ≡ amount → sum_by amounts (x ∷ xs) ≤ most * length ys
+    here : ((zs : List Dealt) → ((y : Dealt) → IsIn y xs → 1 ≤ amounts y → IsIn y zs) → sum_by amounts xs ≤ sum_by most zs) → (amount : ℕ) →
+        amounts x ≡ amount → sum_by amounts (x ∷ xs) ≤ sum_by most ys
     here rest zero none = omega (arith, sum_by-cons amounts x xs, none, rest ys (λ y h. within y (inr h)))
     here rest (suc amount) some =
-        let left = without x ys (within x (inl refl) (omega (arith, some))) in
+        let left = without most x ys (within x (inl refl) (omega (arith, some))) in
         let below = rest left.0 (λ y h more. grind (arith, left.2 y (within y (inr h) more), apart_from x xs apart.0 y h)) in
-        rw left.1 (omega (arith, sum_by-cons amounts x xs, few x (inl refl), below))
+        omega (arith, left.1, sum_by-cons amounts x xs, few x (inl refl), below)
+
+-- a part of an amount, or nothing
+pub part_few : (kept : Bool) (parts : ℕ) → cond kept parts 0 ≤ parts
+part_few true parts = omega arith
+part_few false parts = omega arith
+
+-- the same of each
+pub sum_same : (amount : ℕ) (xs : List Dealt) → sum_by (λ x. amount) xs ≡ amount * length xs
+sum_same amount [] = omega arith
+sum_same amount (x ∷ xs) =
+    let more : amount * length (x ∷ xs) ≡ amount * length xs + amount = grind arith in
+    omega (arith, sum_by-cons (λ y. amount) x xs, sum_same amount xs, more)
+
+-- different deals of a list that pass a test are no more than all of it that do
+pub few_in : (test : Dealt → Bool) (xs ys : List Dealt) → AreDifferent xs → ((x : Dealt) → IsIn x xs → IsIn x ys × (test x ≡ true)) →
+    length xs ≤ count_by test ys
+few_in test xs ys apart within =
+    let most = sum_within (λ x. 1) (λ x. cond (test x) 1 0) xs ys apart (λ x h. one (test x) (within x h).1) (λ x h some. (within x h).0) in
+    omega (arith, most, sum_same 1 xs)
+  where
+    one : (passes : Bool) → passes ≡ true → 1 ≤ cond passes 1 0
+    one passes is = rw is (omega arith)

@@ -24,7 +24,7 @@ use Rattle.crib_bound.specs.BeatenPlayers.{BeatsPlayer}
 use Rattle.crib_bound.specs.Worth.{EachLeft, LooksLike, MayPlayAfter, IsWorth, IsStrategy}
 use Rattle.crib_bound.specs.Worth.IsWorth.{Nothing, Missed, Parts, Turn, Choice}
 use Rattle.crib_bound.specs.Laws.{PlayerLaw, RanksLaw, NoPlayerLaw, whole}
-use Rattle.crib_bound.proofs.Amounts.{sum_both, sum_less, sum_some, sum_within}
+use Rattle.crib_bound.proofs.Amounts.{sum_both, sum_less, sum_same, sum_some, sum_within}
 
 at_loss_if : (done who any playable : Bool) → done ≡ false → who ≡ true → any ≡ true → playable ≡ false →
     (not done && who && any && not playable) ≡ true
@@ -175,10 +175,10 @@ module _ {Seen : Type 0} (look : Act → Seen) (one_card : (card other : ℕ) �
     pub bound_by : {count : ℕ} {Has : Dealt → Type 0} → ((dealt : Dealt) → BeatsPlayer problem who dealt → Has dealt) → AreExactly Has count →
         value ≤ parts * count
     bound_by has exact =
-        let most = sum_within parts lost.share strategy.deals exact.deals strategy.different
+        let most = sum_within lost.share (λ dealt. parts) strategy.deals exact.deals strategy.different
         (λ dealt h. omega (arith, lost.within dealt h, strategy.few dealt h))
         (λ dealt h some. (exact.each dealt).1 (strategy.in_order dealt h, has dealt (lost.beats dealt h some))) in
-        rw (← exact.counted) (omega (arith, lost.enough, most))
+        rw (← exact.counted) (omega (arith, lost.enough, most, sum_same parts exact.deals))
 
 -- ---- players who see all of a turn, and those who see events
 pub whole_card : (card other : ℕ) → whole (own_card card) ≡ whole (own_card other) → card ≡ other

@@ -20,7 +20,7 @@ use Rattle.crib_know.proofs.CallLemmas.{led_of, passing_same}
 use Rattle.crib_know.proofs.ChosenRanks.{ranks_of}
 use Rattle.crib_know.proofs.Deals.{least_after_card, least_after_own}
 use Rattle.crib_know.proofs.PassingIsAgreeing.{agrees_passes, passing_agrees, theirs_letter}
-use Rattle.crib_beaten.specs.Private.Demands.{may_show}
+use Rattle.crib_beaten.specs.Beaten.{may_show}
 
 module _ {know : Knowledge} {problem : Setup} {history : List Event} (knows : KnowsAfter know problem history) (dealt : Dealt)
     (agrees : AgreesWith problem history dealt) where

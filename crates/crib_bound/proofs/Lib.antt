@@ -3,8 +3,10 @@ pub mod Bounds
 pub mod Plans
 pub mod AgreeingDeals
 pub mod Letters
+pub mod Taken
 pub mod WalkSteps
-pub mod Taking
+pub mod Worths
 pub mod OpenDeals
+mod EndExamples
 mod Examples
 mod WorthExamples

@@ -1,141 +1,221 @@
--- The open deals by the index of their ranks, from how many there are of each choice.
-use Rattle.std.proofs.Common.{◌≡◌, ◌≢◌, ℕ, zero, suc, ◌+◌, ◌<◌, ◌≤◌, Bool, true, cond, eqb, List, [], ◌∷◌, ◌++◌, length, count_by, get_or, set, replicate}
-use Rattle.std.proofs.Common.{refl, sym, ap, subst, ◌∙◌, inl, inr, arith}
-use Rattle.std.specs.List.{AllByRecursion}
-use Rattle.std.proofs.lemmas.Bool.{cases_eq, eq-eqb}
-use Rattle.std.proofs.lemmas.List.Sums.{sum_by-append, sum_by-cons}
+-- The open deals, listed by the numbers of their ranks, and those of them that miss a demand.
+use Rattle.std.proofs.Common.{◌≡◌, ℕ, zero, suc, ◌+◌, ◌*◌, ◌<◌, ◌≤◌, Bool, true, false, not, ◌&&◌, cond, eqb, List, [], ◌∷◌, ◌++◌}
+use Rattle.std.proofs.Common.{length, count_by, get_or, replicate, set, refl}
+use Rattle.std.proofs.Common.{Option, Some, None, sym, ap, subst, ◌∙◌, inl, inr, arith}
+use Rattle.std.proofs.lemmas.Bool.{and_from, both_ways, cases_eq, eq-eqb, ne_eqb}
+use Rattle.std.proofs.lemmas.Bool.Decides.{nat_tests}
 use Rattle.std.proofs.lemmas.List.{get_or-set_same, get_or-set_other}
-use Rattle.crib_cards.proofs.AllEntries.{all_both}
 use Rattle.crib_cards.specs.Deals.{is_in_pack_order}
 use Rattle.crib_cards.specs.Order.{are_rising}
 use Rattle.crib_cards.specs.Sets.{AreDifferent, rank_counts}
 use Rattle.crib_cards.specs.declared.sides.Dealt.{Dealt}
+use Rattle.crib_show.specs.Demands.{IsMetByNone}
 use Rattle.crib_show.specs.Indices.{index_among}
+use Rattle.crib_show.specs.declared.demands.Demand.{Demand}
 use Rattle.crib_problem.specs.Setup.{Setup, IsSetup}
 use Rattle.crib_know.specs.Hidden.{IsOpen}
 use Rattle.crib_know.proofs.Deals.{hold_cards}
+use Rattle.crib_sure.specs.Shows.{meets}
 use Rattle.crib_deals.specs.Choices.{are_in_order, ranks_of_number}
-use Rattle.crib_deals.specs.Deals.{IsBehind, behind_by, ranks_held}
+use Rattle.crib_deals.specs.Deals.{Behind, IsBehind, IsMissing, behind_by, ranks_held}
 use Rattle.crib_deals.specs.Exact.{IsIn, AreExactly}
-use Rattle.crib_deals.proofs.ExactCounts.{in_append}
+use Rattle.crib_deals.proofs.ExactCounts.{exactly_none, exactly_same}
+use Rattle.crib_deals.proofs.NumberedDeals.{AreNumbered, all_below, next_below, none_below}
 use Rattle.crib_beaten.specs.Beaten.{counts_of}
 use Rattle.crib_beaten.specs.Private.Rows.{AreChoices}
 use Rattle.crib_beaten.proofs.Choices.{index_at, index_small}
-use Rattle.crib_beaten.proofs.HoldNumbers.{HasNumber, numbered, ranks_back, ranks_number, rising_ranks}
-use Rattle.crib_bound.specs.Private.Walks.{AreOpenDeals, index_of}
+use Rattle.crib_beaten.proofs.HoldNumbers.{ranks_number, ranks_numbered, rising_ranks}
+use Rattle.crib_beaten.proofs.TallyRows.{open_numbered}
+use Rattle.crib_bound.specs.Private.Walks.{AreOpenDeals, AreTables, AreWeighed, IsTableAt, index_of, misses_at}
+use Rattle.crib_bound.proofs.Amounts.{few_in, part_few, sum_less, sum_same, sum_within}
 
 -- the number of the ranks of a deal
 abbrev number_of : Dealt → ℕ
 number_of dealt = ranks_number (ranks_held dealt)
 
--- how many deals of a list have an index
-abbrev count_at : ℕ → List Dealt → ℕ
-count_at index deals = count_by (λ dealt. eqb index (index_of dealt)) deals
+-- the open deals that have an index
+abbrev HasIndex : Setup → ℕ → Dealt → Type 0
+HasIndex problem index dealt = IsOpen problem dealt × (eqb index (index_of dealt) ≡ true)
 
--- ---- lists
-apart_all : (dealt : Dealt) (deals : List Dealt) → ((other : Dealt) → IsIn other deals → dealt ≢ other) → AllByRecursion (λ other. dealt ≢ other) deals
-apart_all dealt [] apart = tt
-apart_all dealt (other ∷ deals) apart = (apart other (inl refl), apart_all dealt deals (λ one h. apart one (inr h)))
+-- the open deals whose ranks have a smaller number, and weights that say how many of them have each index
+pub record AreBelow (problem : Setup) (number : ℕ) (weights : List ℕ) : Type 0 where
+  pub count : ℕ
+  pub exact : AreExactly (λ dealt. IsOpen problem dealt × (number_of dealt < number)) count
+  pub weighed : (index : ℕ) → AreExactly (λ dealt. HasIndex problem index dealt × (number_of dealt < number)) (get_or weights index 0)
+  pub few : (index : ℕ) → get_or weights index 0 ≤ 209920 * number
 
-different_append : (deals more : List Dealt) → AreDifferent deals → AreDifferent more → ((dealt : Dealt) → IsIn dealt deals → IsIn dealt more → ⊥) →
-    AreDifferent (deals ++ more)
-different_append [] more one other apart = other
-different_append (dealt ∷ deals) more one other apart = (
-  all_both (λ it. dealt ≢ it) deals more one.0 (apart_all dealt more (λ it h same. apart dealt (inl refl) (subst (λ its. IsIn its more) (sym same) h))),
-  different_append deals more one.1 other (λ it h. apart it (inr h)),
-)
+-- a further entry of a list whose entries have a property at their indices
+pub set_each : {X : Type 0} (Has : ℕ → X → Type 0) (xs : List X) (at : ℕ) (x none : X) → at < length xs → Has at x →
+    ((index : ℕ) → Has index (get_or xs index none)) → (index : ℕ) → Has index (get_or (set xs at x) index none)
+set_each Has xs at x none inside has each index = elim (cases_eq index at) [
+  | inl same ↦
+      subst (λ (one : ℕ). Has one (get_or (set xs at x) one none)) (sym same) (subst (Has at) (sym (get_or-set_same xs at x none inside)) has)
+  | inr apart ↦ subst (Has index) (sym (get_or-set_other xs at index x none apart)) (each index)
+]
 
-count_append : (test : Dealt → Bool) (deals more : List Dealt) → count_by test (deals ++ more) ≡ count_by test deals + count_by test more
-count_append test deals more = sum_by-append (λ dealt. cond (test dealt) 1 0) deals more
-
-count_all : (test : Dealt → Bool) (deals : List Dealt) → ((dealt : Dealt) → IsIn dealt deals → test dealt ≡ true) → count_by test deals ≡ length deals
-count_all test [] each = refl
-count_all test (dealt ∷ deals) each =
-    let rest = count_all test deals (λ other h. each other (inr h)) in
-    let one = ap {B = ℕ} (λ (b : Bool). cond b 1 0) (each dealt (inl refl)) in
-    let more = sum_by-cons (λ other. cond (test other) 1 0) dealt deals in
-    omega (arith, rest, one, more)
-
--- ---- the open deals whose ranks have a smaller number
-pub record AreBelow (problem : Setup) (weights : List ℕ) (number : ℕ) : Type 0 where
-  pub deals : List Dealt
-  pub different : AreDifferent deals
-  pub each : (dealt : Dealt) → IsIn dealt deals → (is_in_pack_order dealt ≡ true) × IsOpen problem dealt × (number_of dealt < number)
-  pub enough : (index : ℕ) → get_or weights index 0 ≤ count_at index deals
-
-pub none_below : (problem : Setup) (weights : List ℕ) → ((index : ℕ) → get_or weights index 0 ≡ 0) → AreBelow problem weights 0
-none_below problem weights none = record {
-  deals = [];
-  different = tt;
-  each = λ dealt h. absurd h;
-  enough = λ index. omega (arith, none index);
-}
-
--- no choice has this number
-pub skip_below : {problem : Setup} {weights : List ℕ} {number : ℕ} → AreBelow problem weights number → AreBelow problem weights (number + 1)
-skip_below below = record {
-  deals = below.deals;
-  different = below.different;
-  each = λ dealt h. let is = below.each dealt h in let less = is.2 in (is.0, is.1, omega (arith, less));
-  enough = below.enough;
-}
-
--- a choice has it
-pub next_below : {problem : Setup} {weights : List ℕ} {number count : ℕ} → number < 28561 → length weights ≡ 1820 →
-    AreExactly (IsBehind (behind_by problem (ranks_of_number number))) count → AreBelow problem weights number →
-    AreBelow problem (set weights (index_at number) count) (number + 1)
-next_below {problem} {weights} {number} {count} small long exact below = record {
-  deals = below.deals ++ exact.deals;
-  different = different_append below.deals exact.deals below.different exact.different
-      (λ dealt one other. let is = below.each dealt one in let less = is.2 in let same = here dealt other in absurd (omega (arith, less, same)));
-  each = λ dealt h. elim ((in_append dealt below.deals exact.deals).0 h) [
-    | inl one ↦ let is = below.each dealt one in let less = is.2 in (is.0, is.1, omega (arith, less))
-    | inr other ↦ let has = (exact.each dealt).0 other in let same = here dealt other in (has.0, has.1.0, omega (arith, same))
-  ];
-  enough = λ index. elim (cases_eq index (index_at number)) [
-    | inl same ↦
-        let all = count_all (λ dealt. eqb index (index_of dealt)) exact.deals
-        (λ dealt h. eq-eqb index (index_of dealt) (same ∙ sym (ap (λ ranks. index_among 4 (rank_counts ranks)) ((exact.each dealt).0 h).1.1))) in
-        let put = ap (λ n. get_or (set weights (index_at number) count) n 0) same
-        ∙ get_or-set_same weights (index_at number) count 0 (omega (arith, index_small number small, long)) in
-        omega (arith, put, all, exact.counted, count_append (λ dealt. eqb index (index_of dealt)) below.deals exact.deals)
-    | inr apart ↦
-        let kept = get_or-set_other weights (index_at number) index count 0 apart in
-        omega (arith, kept, below.enough index, count_append (λ dealt. eqb index (index_of dealt)) below.deals exact.deals)
-  ];
-}
-  where
-    here : (dealt : Dealt) → IsIn dealt exact.deals → number_of dealt ≡ number
-    here dealt other = ap ranks_number ((exact.each dealt).0 other).1.1 ∙ ranks_back number small
-
--- ---- all open deals
-pub all_below : {problem : Setup} (choices : List (List ℕ)) {weights : List ℕ} {number : ℕ} → IsSetup problem → AreChoices number choices →
-    AreBelow problem weights number → AreOpenDeals problem choices weights
-all_below {problem} choices {weights} {number} setup are all = record {
-  deals = all.deals;
-  weighed = record {
-    counts = λ dealt h.
-        let is = held dealt (all.each dealt h).1 in
-        let order = order dealt (all.each dealt h).0 (all.each dealt h).1 in
-        ap (λ ranks. counts_of choices (index_among 4 (rank_counts ranks))) is.0 ∙ are (number_of dealt) (all.each dealt h).2 order
-        ∙ ap rank_counts (sym is.0);
-    enough = all.enough;
-  };
-  different = all.different;
-  in_order = λ dealt h. (all.each dealt h).0;
-  are_open = λ dealt h. (all.each dealt h).1;
-}
-  where
-    held : (dealt : Dealt) → IsOpen problem dealt → HasNumber (ranks_held dealt)
-    held dealt is = numbered dealt.hold is.0.deal.held (hold_cards problem setup dealt is.0)
-
-    rising : (dealt : Dealt) → is_in_pack_order dealt ≡ true → are_rising dealt.hold ≡ true
-    rising dealt in_order = grind (arith, in_order)
-
-    order : (dealt : Dealt) → is_in_pack_order dealt ≡ true → IsOpen problem dealt → are_in_order (ranks_of_number (number_of dealt)) ≡ true
-    order dealt in_order is = subst (λ (ranks : List ℕ). are_in_order ranks ≡ true) (held dealt is).0 (rising_ranks dealt.hold (rising dealt in_order))
-
+-- ---- lists of nothing
 pub zeros : (many place : ℕ) → ◌≡◌ {A = ℕ} (get_or (replicate many 0) place 0) 0
 zeros zero place = refl
 zeros (suc many) zero = refl
 zeros (suc many) (suc place) = zeros many place
+
+pub one_more_none : {X : Type 0} (xs : List (Option X)) → ((index : ℕ) → get_or xs index None ≡ None) → (index : ℕ) →
+    get_or (xs ++ None ∷ []) index None ≡ None
+one_more_none [] each zero = refl
+one_more_none [] each (suc index) = refl
+one_more_none (x ∷ xs) each zero = each 0
+one_more_none (x ∷ xs) each (suc index) = one_more_none xs (λ place. each (suc place)) index
+
+-- as many deals of a list pass a test as are counted, if they are the same deals
+same_count : {Has : Dealt → Type 0} {count : ℕ} (test : Dealt → Bool) (deals : List Dealt) (exact : AreExactly Has count) → AreDifferent deals →
+    ((dealt : Dealt) → IsIn dealt deals → test dealt ≡ true → IsIn dealt exact.deals) →
+    ((dealt : Dealt) → IsIn dealt exact.deals → IsIn dealt deals × (test dealt ≡ true)) → count ≡ count_by test deals
+same_count test deals exact different to from =
+    let less = few_in test exact.deals deals exact.different from in
+    let more = sum_within (λ dealt. cond (test dealt) 1 0) (λ dealt. 1) deals exact.deals different (λ dealt h. part_few (test dealt) 1)
+    (λ dealt h some. to dealt h (passes (test dealt) some)) in
+    omega (arith, less, more, sum_same 1 exact.deals, exact.counted)
+  where
+    passes : (b : Bool) → 1 ≤ cond b 1 0 → b ≡ true
+    passes true some = refl
+    passes false some = absurd (omega (arith, some))
+
+-- ---- one number more
+module _ {problem : Setup} (setup : IsSetup problem) where
+  numbered : (index : ℕ) → AreNumbered (HasIndex problem index) ranks_held ranks_number ranks_of_number 28561
+  numbered index = ranks_numbered (HasIndex problem index) (λ dealt is. let agrees = is.0 in (agrees.0.deal.held, hold_cards problem setup dealt agrees.0))
+
+  pub none_listed : (many : ℕ) → AreBelow problem 0 (replicate many 0)
+  none_listed many = record {
+    count = 0;
+    exact = none_below (open_numbered setup);
+    weighed = λ index. rw (zeros many index) (none_below (numbered index));
+    few = λ index. omega (arith, zeros many index);
+  }
+
+  -- its ranks are not in order
+  pub skip_listed : {number : ℕ} {weights : List ℕ} → number < 28561 → are_in_order (ranks_of_number number) ≡ false → AreBelow problem number weights →
+      AreBelow problem (number + 1) weights
+  skip_listed {number} {weights} small not_so below = record {
+    count = below.count + 0;
+    exact = next_below (open_numbered setup) small below.exact (exactly_none (λ dealt order is. unordered dealt order is.1));
+    weighed = λ index.
+        let same : get_or weights index 0 + 0 ≡ get_or weights index 0 = omega arith in
+        subst (AreExactly (λ dealt. HasIndex problem index dealt × (number_of dealt < number + 1))) same
+        (next_below (numbered index) small (below.weighed index) (exactly_none (λ dealt order is. unordered dealt order is.1)));
+    few = λ index. omega (arith, below.few index);
+  }
+    where
+      unordered : (dealt : Dealt) → is_in_pack_order dealt ≡ true → ranks_held dealt ≡ ranks_of_number number → ⊥
+      unordered dealt order is = grind (arith, nat_tests, not_so, is, order, rising_ranks dealt.hold)
+
+  -- it is that of a choice
+  pub next_listed : {number more : ℕ} {weights : List ℕ} → number < 28561 → length weights ≡ 1820 →
+      AreExactly (IsBehind (behind_by problem (ranks_of_number number))) more → more ≤ 209920 → AreBelow problem number weights →
+      AreBelow problem (number + 1) (set weights (index_at number) (get_or weights (index_at number) 0 + more))
+  next_listed {number} {more} {weights} small long exact few below = record {
+    count = below.count + more;
+    exact = next_below (open_numbered setup) small below.exact exact;
+    weighed = λ index.
+        subst (AreExactly (λ dealt. HasIndex problem index dealt × (number_of dealt < number + 1))) (sym (entry index))
+        (next_below (numbered index) small (below.weighed index) (at_index index (eqb index (index_at number)) refl));
+    few = λ index. let put = entry index in let bound = below.few index in
+        let most = part_few (eqb index (index_at number)) more in
+        omega (arith, put, bound, few, most);
+  }
+    where
+      at : (index : ℕ) (dealt : Dealt) → ranks_held dealt ≡ ranks_of_number number → eqb index (index_of dealt) ≡ eqb index (index_at number)
+      at index dealt is = ap (λ (ranks : List ℕ). eqb index (index_among 4 (rank_counts ranks))) is
+
+      at_index : (index : ℕ) (passes : Bool) → eqb index (index_at number) ≡ passes →
+          AreExactly (λ dealt. HasIndex problem index dealt × (ranks_held dealt ≡ ranks_of_number number)) (cond passes more 0)
+      at_index index true e = exactly_same (λ dealt order is. ((is.0, at index dealt is.1 ∙ e), is.1)) (λ dealt order is. (is.0.0, is.1)) exact
+      at_index index false e = exactly_none (λ dealt order is. both_ways _ (at index dealt is.1 ∙ e) is.0.1)
+
+      entry : (index : ℕ) → get_or (set weights (index_at number) (get_or weights (index_at number) 0 + more)) index 0
+          ≡ get_or weights index 0 + cond (eqb index (index_at number)) more 0
+      entry index = elim (cases_eq index (index_at number)) [
+        | inl same ↦
+            let put = get_or-set_same weights (index_at number) (get_or weights (index_at number) 0 + more) 0
+            (omega (arith, index_small number small, long)) in
+            let new = ap (λ n. get_or (set weights (index_at number) (get_or weights (index_at number) 0 + more)) n 0) same in
+            let old = ap (λ n. get_or weights n 0) same in
+            let is = ap (λ (b : Bool). cond b more 0) (eq-eqb index (index_at number) same) in
+            omega (arith, put, new, old, is)
+        | inr apart ↦
+            let kept = get_or-set_other weights (index_at number) index (get_or weights (index_at number) 0 + more) 0 apart in
+            let is = ap (λ (b : Bool). cond b more 0) (ne_eqb index (index_at number) apart) in
+            omega (arith, kept, is)
+      ]
+
+  -- all numbers
+  pub all_listed : (choices : List (List ℕ)) {weights : List ℕ} {tables : List (Option Behind)} {number : ℕ} → number ≡ 28561 → AreChoices number choices →
+      AreBelow problem number weights → AreTables problem tables → AreOpenDeals problem choices weights tables
+  all_listed choices {weights} {number = number} whole are below tabled =
+      let exact = all_below (open_numbered setup) (rw whole at below.exact) in record {
+        deals = exact.deals;
+        weighed = record {
+          counts = λ dealt h.
+              let has = (exact.each dealt).0 h in
+              let is = (open_numbered setup).are dealt has.1 in
+              let few = (open_numbered setup).few dealt has.1 in
+              ap (λ (ranks : List ℕ). counts_of choices (index_among 4 (rank_counts ranks))) is
+              ∙ are (number_of dealt) (omega (arith, few, whole)) (order dealt has.0 is)
+              ∙ ap rank_counts (sym is);
+          weighed = λ index.
+              let has = all_below (numbered index) (rw whole at (below.weighed index)) in
+              same_count (λ dealt. eqb index (index_of dealt)) exact.deals has exact.different
+              (λ dealt h is. let one = (exact.each dealt).0 h in (has.each dealt).1 (one.0, (one.1, is)))
+              (λ dealt h. let one = (has.each dealt).0 h in let agrees = one.1.0 in ((exact.each dealt).1 (one.0, agrees), one.1.1));
+          tabled = tabled;
+          all = λ dealt order is. (exact.each dealt).1 (order, is);
+        };
+        different = exact.different;
+        in_order = λ dealt h. ((exact.each dealt).0 h).0;
+        are_open = λ dealt h. ((exact.each dealt).0 h).1;
+      }
+    where
+      rising : (dealt : Dealt) → is_in_pack_order dealt ≡ true → are_rising dealt.hold ≡ true
+      rising dealt in_order = grind (arith, in_order)
+
+      order : (dealt : Dealt) → is_in_pack_order dealt ≡ true → ranks_held dealt ≡ ranks_of_number (number_of dealt) →
+          are_in_order (ranks_of_number (number_of dealt)) ≡ true
+      order dealt in_order is = subst (λ (ranks : List ℕ). are_in_order ranks ≡ true) is (rising_ranks dealt.hold (rising dealt in_order))
+
+-- ---- the deals of a choice that miss a demand
+-- as many as are counted pass a test, if each of them does
+few_of : {Has : Dealt → Type 0} {count : ℕ} (test : Dealt → Bool) (deals : List Dealt) → AreExactly Has count →
+    ((dealt : Dealt) → is_in_pack_order dealt ≡ true → Has dealt → IsIn dealt deals × (test dealt ≡ true)) → count ≤ count_by test deals
+few_of test deals exact within =
+    let few = few_in test exact.deals deals exact.different (λ dealt h. let has = (exact.each dealt).0 h in within dealt has.0 has.1) in
+    omega (arith, few, exact.counted)
+
+module _ {problem : Setup} {choices : List (List ℕ)} {weights : List ℕ} {tables : List (Option Behind)} {deals : List Dealt}
+    (are : AreWeighed problem choices weights tables deals) (demand : Demand) (index : ℕ) where
+  is_here : (ranks : List ℕ) → index_among 4 (rank_counts ranks) ≡ index → (dealt : Dealt) → ranks_held dealt ≡ ranks →
+      eqb index (index_of dealt) ≡ true
+  is_here ranks at dealt is =
+      eq-eqb index (index_of dealt) (sym at ∙ sym (ap (λ (held : List ℕ). index_among 4 (rank_counts held)) is))
+
+  -- all, if none meets it
+  pub all_missing : (weight : ℕ) → get_or weights index 0 ≡ weight → IsMetByNone demand → weight ≤ count_by (misses_at problem demand index) deals
+  all_missing weight is none =
+      let less = sum_less (λ dealt. cond (eqb index (index_of dealt)) 1 0) (λ dealt. cond (misses_at problem demand index dealt) 1 0) deals
+      (λ dealt h. one_more (eqb index (index_of dealt)) (not (meets problem demand dealt)) (ap not (none _ _))) in
+      omega (arith, less, is, are.weighed index)
+    where
+      one_more : (is misses : Bool) → misses ≡ true → cond is 1 0 ≤ cond (is && misses) 1 0
+      one_more true misses e = rw e (omega arith)
+      one_more false misses e = omega arith
+
+  -- those that a table counts
+  pub table_missing : (behind : Behind) (missing : ℕ) → get_or tables index None ≡ Some behind → AreExactly (IsMissing behind demand) missing →
+      missing ≤ count_by (misses_at problem demand index) deals
+  table_missing behind missing is exact =
+      let at : IsTableAt problem index (Some behind) = subst (IsTableAt problem index) is (are.tabled index) in
+      few_of (misses_at problem demand index) deals exact (λ dealt order has.
+      let agrees : IsOpen problem dealt = subst (λ (of : Setup). IsOpen of dealt) at.0 has.0.0 in (
+        are.all dealt order agrees,
+        and_from (eqb index (index_of dealt)) (not (meets problem demand dealt)) (is_here behind.ranks at.1 dealt has.0.1)
+            (ap not (subst (λ (of : Setup). meets of demand dealt ≡ false) at.0 has.1)),
+      ))

@@ -1,53 +1,34 @@
 //! A walk that counts a bound.
-ghost use Rattle.std.specs.Prelude.{◌≡◌, ◌+◌, ◌*◌, ◌<◌, ◌≤◌, ℕ, List, length, take};
+ghost use Rattle.std.specs.Prelude.{◌≡◌, ◌+◌, ◌*◌, ◌<◌, ◌≤◌, ℕ, IfOk, IsFalse, IsTrue, List, count_by};
+ghost use Rattle.std.specs.Prelude.{get_or, length, min, take, ◌&&◌};
 ghost use Rattle.std.specs.List.{All};
+ghost use Rattle.crib_cards.specs.Sets.{has};
+ghost use Rattle.crib_cards.specs.declared.sides.Dealt.{Dealt};
 ghost use Rattle.crib_show.specs.Show.{hand_points};
-ghost use Rattle.crib_play.specs.History.{event_of};
+ghost use Rattle.crib_play.specs.History.{Theirs, event_of};
 ghost use Rattle.crib_plan.specs.declared.plan.Node.{Node};
 ghost use Rattle.crib_deals.specs.Exact.{AreExactly};
-ghost use Rattle.crib_beaten.specs.Beaten.{Beats};
-ghost use Rattle.crib_beaten.specs.Private.Demands.{may_show};
+ghost use Rattle.crib_beaten.specs.Beaten.{Beats, counts_of, may_show};
 ghost use Rattle.crib_bound.specs.Worth.{IsStrategy};
-ghost use Rattle.crib_bound.specs.Private.Walks.{AreLetters, IsBoundAt, IsPartAfter, MayTake, MayWalk};
-ghost use Rattle.crib_bound.specs.Private.Walks.{parts_at, total_of};
+ghost use Rattle.crib_bound.specs.Private.Walks.{AreDealsOf, AreGivenBack, AreLowered, IsBoundAfter, IsBoundAt};
+ghost use Rattle.crib_bound.specs.Private.Walks.{MayWalk, misses_at};
 
 use crate::weights::Choices;
+use crib_beaten::may_show;
 use crib_cards::{Letter, RankCounts};
+use crib_deals::Table;
 use crib_know::Know;
 use crib_play::Turn;
 use crib_problem::Problem;
-use crib_show::{CHOICES, hand_points};
+use crib_show::{CHOICES, Demand, hand_points};
 use crib_sure::demand_at_end;
+use std::alloc::{AllocError, Allocator};
 
 // More than the turns of a deal.
 const TURNS: usize = 27;
 
-/// Numbers that say how much the opponent takes for each turn. Any numbers will do.
-#[derive(Drop)]
-struct Tape<'a> {
-    items: &'a [u16],
-    next: usize,
-}
-
-impl Tape<'_> {
-    // Takes the next number, but no more than this. After the last number it takes nothing.
-    fn take(&mut self, most: u16) -> u16
-        ensures { result ≤ most }
-    {
-        let Some(item) = self.items.get(self.next) else {
-            return 0;
-        };
-        self.next = self.next.saturating_add(1);
-        most.min(*item)
-    }
-}
-
-/// So many parts of each open deal whose hold has the four ranks with this index.
-#[derive(Clone, Copy)]
-struct Amount {
-    index: u16,
-    parts: u16,
-}
+// So many parts are left of each open deal whose hold has the four ranks with an index.
+type Amounts = [u16; CHOICES];
 
 /// What a bound is counted from.
 #[derive(Drop)]
@@ -56,65 +37,95 @@ struct Bound<'a> {
     // How many cards of each rank the choices of four ranks have, by their indices.
     choices: &'a [RankCounts; CHOICES],
     // How many open deals have them.
-    weights: &'a [u32; CHOICES],
+    weights: &'a [u64; CHOICES],
+    // These deals by the points of the show, if the opponent's show may decide.
+    tables: &'a [Option<Table<'a>>],
     // The points of the owner's hand.
     own_hand: u8,
 }
 
 impl Bound<'_> {
-    // What the amounts that are left are worth at a position. The spare room is for the amounts after later turns.
+    // Takes what may make the owner miss the goal from a position on, of the amounts at some indices. Returns what it
+    // is worth there. The spare room is for the indices after later turns.
     #[cycle(worth)]
     fn worth_at(
         &self,
         know: &Know,
-        left: &[Amount],
-        spare: &mut [Amount],
-        tape: &mut Tape<'_>,
+        indices: &[u16],
+        spare: &mut [u16],
+        amounts: &mut Amounts,
     ) -> u64
-        requires { MayWalk self.now know.now left.now spare.old }
-        ensures worth { IsBoundAt self.now know.now left.now result }
+        requires { MayWalk self.now know.now indices.now spare.old }
+        ensures worth { IsBoundAt self.now know.now indices.now amounts.old amounts.new result }
         ensures room { length spare.new ≡ length spare.old }
     {
         match know.turn() {
-            Turn::Over => self.worth_at_end(know, left),
-            Turn::Owner => self.worth_by_own(know, left, spare, tape),
-            Turn::Opponent => self.worth_by_theirs(know, left, spare, tape),
+            Turn::Over => self.worth_at_end(know, indices, amounts),
+            Turn::Owner => self.worth_by_own(know, indices, spare, amounts),
+            Turn::Opponent => self.worth_by_theirs(know, indices, spare, amounts),
         }
     }
 
-    // At the end: all, if no deal reaches the goal.
-    fn worth_at_end(&self, know: &Know, left: &[Amount]) -> u64
+    // At the end: the parts of the deals that miss the goal. All of a choice of which some deal misses it is taken.
+    fn worth_at_end(&self, know: &Know, indices: &[u16], amounts: &mut Amounts) -> u64
         requires own { self.now.own_hand ≡ hand_points self.now.problem.now.hold self.now.problem.now.starter }
         requires over { know.now.round.asked ≡ Turn.Over }
-        requires small { All (λ amount. amount.index < 1820) left.now }
-        ensures { IsBoundAt self.now know.now left.now result }
+        requires small { All (λ index. index < 1820) indices.now }
+        ensures { IsBoundAt self.now know.now indices.now amounts.old amounts.new result }
     {
         let demand = demand_at_end(self.problem, self.own_hand, know);
-        if !demand.is_impossible() {
+        if demand.is_met_by_all() {
             return 0;
         }
-        total(self.weights, left)
+        let mut sum = 0u64;
+        for index in indices {
+            let parts = amounts[*index as usize];
+            let count = self.missing_at(*index, demand);
+            if parts == 0 || count == 0 {
+                continue;
+            }
+            sum = sum.saturating_add(count.saturating_mul(parts as u64));
+            amounts[*index as usize] = 0;
+        }
+        sum
     }
 
-    // The least after each card that the owner may play.
+    // How many deals of a choice miss a demand. Without a table it may be fewer.
+    fn missing_at(&self, index: u16, demand: Demand) -> u64
+        requires { index < 1820 }
+        ensures { (deals : List Dealt) → AreDealsOf self.now deals
+            → result ≤ count_by (misses_at self.now.problem.now demand index) deals }
+    {
+        let index = index as usize;
+        if demand.is_impossible() {
+            return self.weights[index];
+        }
+        match self.tables.get(index) {
+            Some(Some(table)) => table.count(demand).missing as u64,
+            _ => 0,
+        }
+    }
+
+    // The least after each card that the owner may play. For each card the same is taken.
     #[cycle(worth)]
     fn worth_by_own(
         &self,
         know: &Know,
-        left: &[Amount],
-        spare: &mut [Amount],
-        tape: &mut Tape<'_>,
+        indices: &[u16],
+        spare: &mut [u16],
+        amounts: &mut Amounts,
     ) -> u64
-        requires walk { MayWalk self.now know.now left.now spare.old }
+        requires walk { MayWalk self.now know.now indices.now spare.old }
         requires asked { know.now.round.asked ≡ Turn.Owner }
-        ensures worth { IsBoundAt self.now know.now left.now result }
+        ensures worth { IsBoundAt self.now know.now indices.now amounts.old amounts.new result }
         ensures room { length spare.new ≡ length spare.old }
     {
         if know.must_go() {
             let mut next = know.copy();
             next.own_go();
-            return self.worth_at(&next, left, spare, tape);
+            return self.worth_at(&next, indices, spare, amounts);
         }
+        let before = *amounts;
         let mut least = u64::MAX;
         let mut rest = know.own_left();
         while let Some(card) = rest.lowest() {
@@ -124,66 +135,101 @@ impl Bound<'_> {
             }
             let mut next = know.copy();
             next.own_play(card);
-            least = least.min(self.worth_at(&next, left, spare, tape));
+            let mut left = before;
+            let value = self.worth_at(&next, indices, spare, &mut left);
+            if value == 0 {
+                *amounts = before;
+                return 0;
+            }
+            least = self.join(indices, least, amounts, value, &mut left);
         }
         least
     }
 
-    // The sum after each letter that the opponent may show.
+    // Joins what is left after one more card to what is left after the others, so that what is taken is worth the least
+    // after each. Of what is worth more, something is given back first, of choices of which the other takes less.
+    fn join(
+        &self,
+        indices: &[u16],
+        least: u64,
+        kept: &mut Amounts,
+        value: u64,
+        left: &mut Amounts,
+    ) -> u64
+        requires small { All (λ index. index < 1820) indices.now }
+        requires same { (index : ℕ) → IsFalse (has indices.now index)
+            → get_or kept.old index 0 ≡ get_or left.old index 0 }
+        ensures least { result ≡ min least value }
+        ensures less { (index most : ℕ) → get_or kept.old index 0 ≤ most → get_or left.old index 0 ≤ most
+            → get_or kept.new index 0 ≤ most }
+        ensures elsewhere { (index : ℕ) → IsFalse (has indices.now index)
+            → get_or kept.new index 0 ≡ get_or kept.old index 0 }
+        ensures kept { AreLowered self.now kept.old kept.new least result }
+        ensures left { AreLowered self.now left.old kept.new value result }
+    {
+        if value < least {
+            self.give_back(indices, kept, left, least - value);
+            take_both(indices, kept, left);
+            return value;
+        }
+        self.give_back(indices, left, kept, value - least);
+        take_both(indices, kept, left);
+        least
+    }
+
+    // Gives back what is taken, of choices of which another takes less, so that at most so much is lost.
+    fn give_back(&self, indices: &[u16], amounts: &mut Amounts, other: &Amounts, most: u64)
+        requires { All (λ index. index < 1820) indices.now }
+        ensures { AreGivenBack self.now indices.now amounts.old amounts.new most }
+    {
+        let mut rest = most;
+        for index in indices {
+            let index = *index as usize;
+            let weight = self.weights[index];
+            if weight == 0 {
+                continue;
+            }
+            let free = other[index].saturating_sub(amounts[index]);
+            let more = (rest / weight).min(free as u64);
+            amounts[index] += more as u16;
+            rest -= more * weight;
+        }
+    }
+
+    // The sum after each letter that the opponent may show, go first and then the king.
     #[cycle(worth)]
     fn worth_by_theirs(
         &self,
         know: &Know,
-        left: &[Amount],
-        spare: &mut [Amount],
-        tape: &mut Tape<'_>,
+        indices: &[u16],
+        spare: &mut [u16],
+        amounts: &mut Amounts,
     ) -> u64
-        requires { MayWalk self.now know.now left.now spare.old }
-        ensures worth { IsBoundAt self.now know.now left.now result }
-        ensures room { length spare.new ≡ length spare.old }
-    {
-        let (rest, spare) = spare.split_at_mut(left.len());
-        rest.copy_from_slice(left);
-        self.worth_by_letters(know, rest, spare, tape)
-    }
-
-    // The same, where what is taken is taken off the amounts.
-    #[cycle(worth)]
-    fn worth_by_letters(
-        &self,
-        know: &Know,
-        rest: &mut [Amount],
-        spare: &mut [Amount],
-        tape: &mut Tape<'_>,
-    ) -> u64
-        requires { MayTake self.now know.now rest.old spare.old }
-        ensures worth { IsBoundAt self.now know.now rest.old result }
-        ensures long { length rest.new ≡ length rest.old }
+        requires { MayWalk self.now know.now indices.now spare.old }
+        ensures worth { IsBoundAt self.now know.now indices.now amounts.old amounts.new result }
         ensures room { length spare.new ≡ length spare.old }
     {
         let mut sum = 0u64;
         for place in 0..14u8 {
-            let letter = Letter::at(place);
-            let more = self.worth_after(know, &letter, rest, spare, tape);
+            let letter = Letter::at(13 - place);
+            let more = self.worth_after(know, &letter, indices, spare, amounts);
             sum = sum.saturating_add(more);
         }
         sum
     }
 
-    // What is taken for a letter is worth after it, if some deal lets the opponent show it.
+    // What is taken after a letter is worth so much after it, if some deal lets the opponent show it.
     #[cycle(worth)]
     fn worth_after(
         &self,
         know: &Know,
         letter: &Letter,
-        rest: &mut [Amount],
-        spare: &mut [Amount],
-        tape: &mut Tape<'_>,
+        indices: &[u16],
+        spare: &mut [u16],
+        amounts: &mut Amounts,
     ) -> u64
-        requires { MayTake self.now know.now rest.old spare.old }
-        ensures part { IsPartAfter self.now know.now letter.now rest.old rest.new result }
-        ensures small { All (λ amount. amount.index < 1820) rest.new }
-        ensures long { length rest.new ≡ length rest.old }
+        requires { MayWalk self.now know.now indices.now spare.old }
+        ensures worth { IsBoundAfter self.now know.now (Theirs letter.now) indices.now amounts.old amounts.new result }
         ensures room { length spare.new ≡ length spare.old }
     {
         if !know.can_show(*letter) {
@@ -191,113 +237,91 @@ impl Bound<'_> {
         }
         let mut next = know.copy();
         next.saw(letter);
-        let (taken, spare) = spare.split_at_mut(rest.len());
-        let count = take_parts(self.choices, know, &next, letter, rest, taken, tape);
+        let (left, spare) = spare.split_at_mut(indices.len());
+        let count = keep_indices(self.choices, know, &next, letter, amounts, indices, left);
         if count == 0 {
             return 0;
         }
-        self.worth_at(&next, &taken[..count], spare, tape)
+        self.worth_at(&next, &left[..count], spare, amounts)
     }
 }
 
-// The sum of the parts of all deals, or less.
-fn total(weights: &[u32; CHOICES], left: &[Amount]) -> u64
-    requires { All (λ amount. amount.index < 1820) left.now }
-    ensures { result ≤ total_of weights.now left.now }
+// Takes what one of two has taken.
+fn take_both(indices: &[u16], amounts: &mut Amounts, other: &Amounts)
+    requires { All (λ index. index < 1820) indices.now }
+    ensures both { (index : ℕ) → IsTrue (has indices.now index)
+        → get_or amounts.new index 0 ≡ min (get_or amounts.old index 0) (get_or other.now index 0) }
+    ensures elsewhere { (index : ℕ) → IsFalse (has indices.now index)
+        → get_or amounts.new index 0 ≡ get_or amounts.old index 0 }
 {
-    let mut sum = 0u64;
-    for amount in left {
-        let weight = weights[amount.index as usize];
-        sum = sum.saturating_add((weight as u64).saturating_mul(amount.parts as u64));
+    for index in indices {
+        let index = *index as usize;
+        amounts[index] = amounts[index].min(other[index]);
     }
-    sum
 }
 
-// Takes some of what is left, of the choices of which a hold may show a letter. Returns of how many choices it took
-// some.
-fn take_parts(
+// Keeps the indices of the choices of which something is left and a hold may show a letter. Returns how many they are.
+fn keep_indices(
     choices: &[RankCounts; CHOICES],
     before: &Know,
     after: &Know,
     letter: &Letter,
-    rest: &mut [Amount],
-    taken: &mut [Amount],
-    tape: &mut Tape<'_>,
+    amounts: &Amounts,
+    indices: &[u16],
+    left: &mut [u16],
 ) -> usize
-    requires small { All (λ amount. amount.index < 1820) rest.old }
-    requires room { length rest.old ≤ length taken.old }
-    ensures few { result ≤ length rest.old }
-    ensures long { length rest.new ≡ length rest.old }
-    ensures room { length taken.new ≡ length taken.old }
-    ensures small { All (λ amount. amount.index < 1820) rest.new }
-    ensures taken { AreLetters before.now after.now letter.now choices.now rest.old rest.new (take result taken.new) }
+    requires small { All (λ index. index < 1820) indices.now }
+    requires room { length indices.now ≤ length left.old }
+    ensures few { result ≤ length indices.now }
+    ensures room { length left.new ≡ length left.old }
+    ensures kept { (index : ℕ) → IsTrue (has (take result left.new) index) → IsTrue (has indices.now index
+        && may_show before.now after.now letter.now (counts_of choices.now index)) }
+    ensures small { All (λ index. index < 1820) (take result left.new) }
 {
     let mut count = 0;
-    for place in 0..rest.len() {
-        let Amount { index, parts } = rest[place];
-        if parts == 0 {
+    for index in indices {
+        let at = *index as usize;
+        if amounts[at] == 0 || !may_show(before, after, letter, &choices[at]) {
             continue;
         }
-        if !may_show(before, after, letter, &choices[index as usize]) {
-            continue;
-        }
-        let some = tape.take(parts);
-        if some == 0 {
-            continue;
-        }
-        taken[count] = Amount { index, parts: some };
+        left[count] = *index;
         count += 1;
-        rest[place] = Amount {
-            index,
-            parts: parts - some,
-        };
     }
     count
 }
 
-// Whether a hold with these ranks may show a letter: it has a card left for it, or passes the test after a go.
-fn may_show(before: &Know, after: &Know, letter: &Letter, counts: &RankCounts) -> bool
-    ensures { result ≡ may_show before.now after.now letter.now counts.now }
+// Each index, in order.
+fn each_index() -> [u16; CHOICES]
+    ensures { All (λ index. index < 1820) result }
 {
-    match *letter {
-        Letter::Seen(rank) => before.ranks_seen().of(rank) < counts.of(rank),
-        Letter::Go => after.passes(counts),
-    }
-}
-
-// So many parts of each open deal.
-fn whole_deals(parts: u16) -> [Amount; CHOICES]
-    ensures few { (index : ℕ) → parts_at result index ≤ parts }
-    ensures small { All (λ amount. amount.index < 1820) result }
-{
-    let mut left = [Amount { index: 0, parts: 0 }; CHOICES];
+    let mut indices = [0; CHOICES];
     for index in 0..1820u16 {
-        left[index as usize] = Amount { index, parts };
+        indices[index as usize] = index;
     }
-    left
+    indices
 }
 
 /// Returns a number that is at most `parts` times the deals that beat a plan, whatever the plan. It counts what a
-/// strategy of the opponent is worth that divides each open deal into so many parts.
+/// strategy of the opponent is worth that divides each open deal into so many parts. It fails if an allocation fails.
 ///
-/// The numbers of `items` say what it does. At each turn of the opponent, each choice of four ranks that may show a
-/// letter and of which some is left takes the next number of parts for the letter, or what is left if that is less.
-/// Letters are in the order of ranks, go last, and choices in the order of their indices. After the last number nothing
-/// is taken. Whatever the numbers are, the result is true, and other numbers may give a greater one.
-pub fn bound_of(problem: &Problem, parts: u16, items: &[u16]) -> u64
-    ensures strategy { IsStrategy event_of problem.now parts result }
-    ensures plans { (plan : List Node) (count : ℕ) → AreExactly (Beats problem.now plan) count
-        → result ≤ parts * count }
+/// The strategy is found in the same walk. After each letter, the king first, the opponent takes what may make the
+/// owner miss the goal from there on, and what was not taken is there for the next letter. After each card of the owner
+/// the same has to be taken: where this is worth more after one card than after another, some is given back.
+pub fn bound_of<A: Allocator>(alloc: A, problem: &Problem, parts: u16) -> Result<u64, AllocError>
+    ensures strategy { IfOk result (λ value. IsStrategy event_of problem.now parts value) }
+    ensures plans { IfOk result (λ value. (plan : List Node) (count : ℕ) → AreExactly (Beats problem.now plan) count
+        → value ≤ parts * count) }
 {
     let start = Know::start(problem);
-    let choices = Choices::of(problem);
+    let choices = Choices::of(alloc, problem)?;
     let bound = Bound {
         problem,
         choices: &choices.counts,
         weights: &choices.weights,
+        tables: choices.tables.as_slice(),
         own_hand: hand_points(&problem.hold(), problem.starter()),
     };
-    let mut spare = [Amount { index: 0, parts: 0 }; (2 * TURNS + 1) * CHOICES];
-    let mut tape = Tape { items, next: 0 };
-    bound.worth_at(&start, &whole_deals(parts), &mut spare, &mut tape)
+    let mut spare = [0; TURNS * CHOICES];
+    let mut amounts = [parts; CHOICES];
+    Ok(bound.worth_at(&start, &each_index(), &mut spare, &mut amounts))
 }

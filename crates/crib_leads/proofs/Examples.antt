@@ -1,5 +1,11 @@
 -- Worked examples of turns that may come next, and of verdicts on them. A card is a number below 52: 0 is AC, 1 is AD, 4 is 2C.
-use Rattle.std.proofs.Common.{◌≡◌, ℕ, true, false, List, [], ◌∷◌, ◌++◌, length, filter, map, take, drop, Some, None, refl, ap, subst, arith}
+use Rattle.std.proofs.Common.{◌≡◌, ℕ, true, false, List, [], ◌∷◌, ◌++◌, length, filter, map, take, drop, Some, None, refl, sym, ap, subst}
+use Rattle.std.proofs.Common.{arith, ◌∙◌, inl, inr}
+use Rattle.std.proofs.lemmas.Bool.{both_ways}
+use Rattle.std.proofs.lemmas.List.{append-nil}
+use Rattle.std.proofs.lemmas.Option.{none-some, same_Some}
+use Rattle.crib_cards.specs.Cards.{ranks}
+use Rattle.crib_search.specs.Winnable.{IsWinnableAfter}
 use Rattle.crib_cards.specs.Sets.{set_where}
 use Rattle.crib_cards.specs.declared.sides.Dealt.{Dealt}
 use Rattle.crib_cards.specs.declared.sides.Side.TheVariants.{Owner, Opponent}
@@ -28,8 +34,9 @@ use Rattle.crib_leads.specs.declared.leads.Lead.{Lead}
 use Rattle.crib_leads.specs.declared.leads.Leads.{Leads}
 use Rattle.crib_leads.specs.declared.verdict.LeadVerdict.{LeadVerdict}
 use Rattle.crib_leads.specs.declared.verdict.LeadVerdict.TheVariants.{Sure, Beaten, Reached, Missed}
-use Rattle.crib_leads.specs.Leads.{AreEntries, AreLeads, HasBeatenPlan, HasEnded, HasSurePlan, IsEntry, IsTooLarge, IsVerdict, IsVerdictBy, IsVerdictOn}
-use Rattle.crib_leads.specs.Leads.{is_next, may_come, played_by, refusal_of, turns_of}
+use Rattle.crib_leads.specs.Leads.{AreBySuit, AreEntries, AreLeads, AreOfRank, AreOfRanks, AreTheirs, HasBeatenPlan, HasEnded, HasSurePlan, IsEntry}
+use Rattle.crib_leads.specs.Leads.{IsEntryAs, IsLowest, IsTooLarge, IsVerdict, IsVerdictBy, IsVerdictOn}
+use Rattle.crib_leads.specs.Leads.{badness, cards_of, go_of, is_next, is_sure, is_worse, may_come, own_turns, placed, played_by, refusal_of, worst_first}
 
 -- ---- which turns may come next
 
@@ -41,13 +48,16 @@ by_refusal = refl
 turns_with_cards : played_by Opponent (4 ∷ 0 ∷ 4 ∷ []) ≡ plays Opponent 4 ∷ plays Opponent 0 ∷ plays Opponent 4 ∷ []
 turns_with_cards = refl
 
--- a side has 52 cards, from AC to KS, and then a go
-turns_are_53 : length (turns_of Owner) ≡ 53
+-- the owner has 52 cards, from AC to KS, and then a go
+turns_are_53 : length own_turns ≡ 53
 turns_are_53 = refl
 
-first_and_last : (take 2 (turns_of Opponent) ≡ plays Opponent 0 ∷ plays Opponent 1 ∷ [])
-    × (drop 51 (turns_of Opponent) ≡ plays Opponent 51 ∷ says_go Opponent ∷ [])
+first_and_last : (take 2 own_turns ≡ plays Owner 0 ∷ plays Owner 1 ∷ []) × (drop 51 own_turns ≡ plays Owner 51 ∷ go_of Owner ∷ [])
 first_and_last = (refl, refl)
+
+-- the aces, and the kings
+four_cards : (cards_of 1 ≡ 0 ∷ 1 ∷ 2 ∷ 3 ∷ []) × (cards_of 13 ≡ 48 ∷ 49 ∷ 50 ∷ 51 ∷ []) × (go_of Opponent ≡ says_go Opponent)
+four_cards = (refl, refl, refl)
 
 -- the owner of four twos may lead each of them, no other card and no go, and the opponent has no turn
 abbrev leads : List Act
@@ -99,8 +109,12 @@ of_the_deals : {problem : Setup} {beaten open_deals : ℕ} (is : HasBeatenPlan p
 of_the_deals is = (is.never_stuck, is.are_open, is.are_beaten)
 
 -- a sure plan, as it is found, has this verdict, with the number of its nodes
-with_a_sure_plan : (plan : List Node) → IsSure four_twos plan → IsFound four_twos (Some plan) → HasSurePlan four_twos (length plan)
-with_a_sure_plan plan sure found = record { plan = plan; sure = sure; found = found; long = refl }
+with_a_sure_plan : (plan : List Node) → IsSure four_twos plan → IsFound four_twos (Some plan) → ¬ ExceedsLimit four_twos 65535 →
+    HasSurePlan four_twos (length plan)
+with_a_sure_plan plan sure found small = record { plan = plan; sure = sure; found = found; long = refl; small = small }
+
+not_with_a_large_plan : ExceedsLimit four_twos 65535 → (nodes : ℕ) → HasSurePlan four_twos nodes → ⊥
+not_with_a_large_plan large nodes is = is.small large
 
 no_plan_is_found : ((plan : List Node) → IsFound four_twos (Some plan) → ⊥) → (nodes : ℕ) → HasSurePlan four_twos nodes → ⊥
 no_plan_is_found none nodes is = none is.plan is.found
@@ -211,33 +225,114 @@ one_too_many lead are = are
 
 -- it has its turn, and the verdict on it
 abbrev missed_lead : ℕ → Lead
-missed_lead card = record { act = plays Opponent card; verdict = Missed }
+missed_lead card = record { act = plays Opponent card; is_rank = false; verdict = Missed }
 
 an_entry : IsVerdict ace_led (plays Opponent 3) Missed → IsEntry ace_led (plays Opponent 3) (missed_lead 3)
-an_entry is = (refl, is)
+an_entry is = (refl, refl, is)
 
 not_of_another_turn : IsEntry ace_led (plays Opponent 3) (missed_lead 2) → ⊥
 not_of_another_turn is =
     let what : move.Card 2 ≡ move.Card 3 = ap (λ (act : Act). act.what) is.0 in let cards : ◌≡◌ {A = ℕ} 2 3 = cc in absurd (omega (arith, cards))
 
-not_with_another_verdict : IsEntry ace_led (plays Opponent 3) (record { act = plays Opponent 3; verdict = Sure 1 }) → ⊥
+not_with_another_verdict : IsEntry ace_led (plays Opponent 3) (record { act = plays Opponent 3; is_rank = false; verdict = Sure 1 }) → ⊥
 unfolding set_where
-not_with_another_verdict is = is.1
+not_with_another_verdict is = is.2
+
+not_of_the_rank : IsEntryAs true ace_led (plays Opponent 3) (missed_lead 3) → ⊥
+not_of_the_rank is = absurd (both_ways false refl is.1)
 
 -- the two other aces in their order, and no entry for the ace that was led
 both_aces : IsVerdict ace_led (plays Opponent 2) Missed → IsVerdict ace_led (plays Opponent 3) Missed →
     AreEntries ace_led (plays Opponent 0 ∷ plays Opponent 2 ∷ plays Opponent 3 ∷ []) (missed_lead 2 ∷ missed_lead 3 ∷ [])
 unfolding set_where
-both_aces third fourth = ((refl, third), ((refl, fourth), tt))
+both_aces third fourth = ((refl, refl, third), ((refl, refl, fourth), tt))
+
+-- ---- the entries of ranks
+other_card : move.Card 2 ≡ move.Card 3 → ⊥
+other_card e = let cards : ◌≡◌ {A = ℕ} 2 3 = cc in absurd (omega (arith, cards))
+
+same_some : {one other : Lead} → Some one ≡ Some other → one ≡ other
+same_some {one} {other} e = same_Some one other e
+
+-- of two aces that are allowed the lower one has the entry of the rank; without one there is none
+abbrev missed_rank : ℕ → Lead
+missed_rank card = record { act = plays Opponent card; is_rank = true; verdict = Missed }
+
+the_lower_ace : IsVerdict ace_led (plays Opponent 2) Missed → IsLowest ace_led (plays Opponent 2 ∷ plays Opponent 3 ∷ []) (Some (missed_rank 2))
+the_lower_ace is = (missed_rank 2, (refl, refl, is), refl)
+
+not_the_higher_ace : IsLowest ace_led (plays Opponent 2 ∷ plays Opponent 3 ∷ []) (Some (missed_rank 3)) → ⊥
+not_the_higher_ace is =
+    other_card (ap (λ (act : Act). act.what) (sym is.1.0 ∙ ap (λ (lead : Lead). lead.act) (sym (same_some is.2))))
+
+no_entry_without_a_card : (IsLowest ace_led [] None) × (IsLowest ace_led (plays Opponent 2 ∷ []) None → ⊥)
+no_entry_without_a_card = (refl, λ is. none-some is.0 is.2)
+
+-- a rank that is not allowed has no entry; one after whose lowest card no plan is sure has this one
+entries_of_a_rank : (problem : Setup) (acts : List Act) (leads : List Lead) →
+    (AreBySuit problem 1 acts None leads → leads ≡ []) × (AreBySuit problem 1 acts (Some (missed_rank 2)) leads → leads ≡ missed_rank 2 ∷ [])
+entries_of_a_rank problem acts leads = (λ are. are, missed)
+  where
+    missed : AreBySuit problem 1 acts (Some (missed_rank 2)) leads → leads ≡ missed_rank 2 ∷ []
+    missed (inl one) = one.0
+    missed (inr suits) = absurd (both_ways false refl suits.1)
+
+-- if a plan is sure after the lowest card, and one after each, there is one entry, otherwise one for each card
+abbrev sure_rank : Lead
+sure_rank = record { act = plays Opponent 2; is_rank = true; verdict = Sure 3 }
+
+sure_ranks : (problem : Setup) (acts : List Act) (leads : List Lead) →
+    (IsWinnableAfter problem 1 → AreBySuit problem 1 acts (Some sure_rank) leads → leads ≡ sure_rank ∷ [])
+    × (¬ IsWinnableAfter problem 1 → AreBySuit problem 1 acts (Some sure_rank) leads → AreEntries problem acts leads)
+sure_ranks problem acts leads = (λ winnable. one winnable, λ none. each none)
+  where
+    one : IsWinnableAfter problem 1 → AreBySuit problem 1 acts (Some sure_rank) leads → leads ≡ sure_rank ∷ []
+    one winnable (inl is) = is.0
+    one winnable (inr suits) = absurd (suits.2 winnable)
+
+    each : ¬ IsWinnableAfter problem 1 → AreBySuit problem 1 acts (Some sure_rank) leads → AreEntries problem acts leads
+    each none (inl is) = absurd (none (is.1 refl))
+    each none (inr suits) = suits.0
+
+in_the_order_of_ranks : (problem : Setup) (leads first : List Lead) → (AreOfRanks problem [] leads → leads ≡ [])
+    × (AreOfRank problem 1 first → AreOfRank problem 2 leads → AreOfRanks problem (1 ∷ 2 ∷ []) (first ++ leads))
+in_the_order_of_ranks problem leads first = (λ are. are, λ one two. (first, leads, one, (leads, [], two, refl, sym (append-nil leads)), refl))
+
+-- ---- the worst first
+abbrev beaten_by : ℕ → ℕ → Lead
+beaten_by card beaten = record { act = plays Opponent card; is_rank = true; verdict = Beaten beaten 10 }
+
+by_badness : map badness (Sure 4 ∷ Beaten 3 7 ∷ Reached ∷ Missed ∷ []) ≡ (0, 1) ∷ (3, 7) ∷ (0, 1) ∷ (1, 1) ∷ []
+by_badness = refl
+
+-- 3 of 7 is more than 4 of 10, and as many as 6 of 14
+worse_verdicts : (is_worse (Beaten 3 7) (Beaten 4 10) ≡ true) × (is_worse (Beaten 4 10) (Beaten 3 7) ≡ false) × (is_worse (Beaten 3 7) (Beaten 6 14) ≡ false)
+    × (is_worse (Beaten 1 9) (Sure 4) ≡ true) × (is_worse Missed (Beaten 6 7) ≡ true) × (is_worse Reached (Sure 1) ≡ false)
+worse_verdicts = (refl, refl, refl, refl, refl, refl)
+
+sorted : worst_first (beaten_by 1 2 ∷ sure_rank ∷ beaten_by 3 7 ∷ beaten_by 4 2 ∷ missed_rank 5 ∷ [])
+    ≡ missed_rank 5 ∷ beaten_by 3 7 ∷ beaten_by 1 2 ∷ beaten_by 4 2 ∷ sure_rank ∷ []
+sorted = refl
+
+put_in_place : placed (beaten_by 1 2) (beaten_by 3 7 ∷ beaten_by 4 2 ∷ []) ≡ beaten_by 3 7 ∷ beaten_by 1 2 ∷ beaten_by 4 2 ∷ []
+put_in_place = refl
+
+good_or_not : map is_sure (Sure 4 ∷ Beaten 0 7 ∷ Reached ∷ Missed ∷ []) ≡ true ∷ false ∷ true ∷ false ∷ []
+good_or_not = refl
 
 -- ---- the entries of all turns
--- the lead of four twos has some entry, and so has what is after the ace
-some_lead : {A : Type 0} (all : Leads A) → all.leads.items ≡ [] → (AreLeads four_twos all → ⊥) × (AreLeads ace_led all → ⊥)
+-- the lead of four twos has some entry
+some_lead : {A : Type 0} (all : Leads A) → all.own.items ≡ [] → AreLeads four_twos all → ⊥
 unfolding set_where
-some_lead all none = (
-  λ are. subst (AreEntries four_twos (turns_of Owner ++ turns_of Opponent)) none are,
-  λ are. subst (AreEntries ace_led (turns_of Owner ++ turns_of Opponent)) none are,
-)
+some_lead all none are = subst (AreEntries four_twos own_turns) none are.0
+
+-- their entries are those of the ranks and of a go, the worst first
+all_of_theirs : {A : Type 0} (problem : Setup) (all : Leads A) → AreLeads problem all → AreTheirs problem all.theirs.items
+all_of_theirs problem all are = are.1
+
+ranks_and_a_go : (problem : Setup) (all cards gos : List Lead) → AreOfRanks problem ranks cards → AreEntries problem (says_go Opponent ∷ []) gos →
+    all ≡ worst_first (cards ++ gos) → AreTheirs problem all
+ranks_and_a_go problem all cards gos are go same = (cards, gos, are, go, same)
 
 -- ---- large plans
 -- no plan is too large after a turn that ends the deal

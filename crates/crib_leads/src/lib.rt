@@ -3,6 +3,8 @@
 
 mod ended;
 mod leads;
+mod order;
+mod theirs;
 mod verdict;
 
 pub use leads::{Lead, Leads, leads_of};

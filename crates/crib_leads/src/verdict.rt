@@ -1,12 +1,12 @@
 //! Whether a plan is sure after a turn, or how many deals beat a plan.
-ghost use Rattle.std.specs.Prelude.{◌≡◌, IfOk, Err, IsFalse, IsTrue, MatchOption};
+ghost use Rattle.std.specs.Prelude.{◌≡◌, IfOk, IsErr, Err, IsFalse, IsTrue, MatchOption};
 ghost use Rattle.crib_search.specs.Finder.{ExceedsLimit};
-ghost use Rattle.crib_leads.specs.Leads.{IsVerdict, IsVerdictOn, IsTooLarge, may_come};
+ghost use Rattle.crib_leads.specs.Leads.{IsVerdict, IsVerdictOn, IsTooLarge, is_sure, may_come};
 
 use crate::ended::ended_verdict;
 use crib_beaten::tally_of;
 use crib_cards::Act;
-use crib_problem::Problem;
+use crib_problem::{Problem, ProblemCause};
 use crib_search::{SearchFault, try_plan};
 use std::alloc::Allocator;
 
@@ -23,6 +23,18 @@ pub enum LeadVerdict {
     Missed,
 }
 
+impl LeadVerdict {
+    /// Whether the goal is reached: some plan is sure, or the deal is done and each deal reaches it.
+    pub fn is_sure(&self) -> bool
+        ensures { result ≡ is_sure self.now }
+    {
+        match self {
+            LeadVerdict::Sure { .. } | LeadVerdict::Reached => true,
+            LeadVerdict::Beaten { .. } | LeadVerdict::Missed => false,
+        }
+    }
+}
+
 /// Returns what is after a turn, or `None` if it may not come next.
 ///
 /// It fails with [`SearchFault::TooLarge`] if a plan is sure after the turn, and the plan of
@@ -35,6 +47,9 @@ pub fn verdict_after<A: Allocator + Copy>(
 ) -> Result<Option<LeadVerdict>, SearchFault>
     ensures right { IfOk result (λ found. MatchOption found (IsFalse (may_come problem.now act.now))
         (λ verdict. IsTrue (may_come problem.now act.now) × IsVerdict problem.now act.now verdict)) }
+
+    // If the plan of `find` has too many nodes, the call fails. `TooLarge` is returned only then.
+    ensures large { IsTooLarge problem.now act.now → IsErr result }
     ensures too_large { result ≡ Err SearchFault.TooLarge → IsTooLarge problem.now act.now }
 {
     match problem.after(*act) {
@@ -42,19 +57,15 @@ pub fn verdict_after<A: Allocator + Copy>(
             let verdict = verdict_on(alloc, &next)?;
             Ok(Some(verdict))
         }
-        Err(cause) => {
-            if cause.number() == 24 {
-                Ok(Some(ended_verdict(problem, act)))
-            } else {
-                Ok(None)
-            }
-        }
+        Err(ProblemCause::AlreadyOver) => Ok(Some(ended_verdict(problem, act))),
+        Err(_) => Ok(None),
     }
 }
 
 // What is found for a problem.
 fn verdict_on<A: Allocator + Copy>(alloc: A, problem: &Problem) -> Result<LeadVerdict, SearchFault>
     ensures right { IfOk result (IsVerdictOn problem.now) }
+    ensures large { ExceedsLimit problem.now 65535 → IsErr result }
     ensures too_large { result ≡ Err SearchFault.TooLarge → ExceedsLimit problem.now 65535 }
 {
     let tried = try_plan(alloc, problem)?;

@@ -1,15 +1,21 @@
 mod BeatenExamples
+mod LeadsExamples
 mod MeaningExamples
+mod NextTextExamples
 mod PlanBeatenExamples
 mod PlanHeadExamples
 mod RefuteExamples
+mod ScoresExamples
 mod SheetExamples
 mod TallyExamples
 mod TryExamples
 pub mod AskedInputs
 pub mod SuitsTexts
 pub mod GameSections
+pub mod LeadsLines
+pub mod LeadsMade
 pub mod MadeSheets
 pub mod PlanBeatenLines
 pub mod RowColumns
+pub mod ScoreLines
 pub mod SheetMeanings

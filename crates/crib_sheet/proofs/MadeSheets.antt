@@ -1,8 +1,9 @@
 -- What the readers and the writers of sheets return is a right reply of the job to the input.
-use Rattle.std.proofs.Common.{◌≡◌, ◌≤◌, ◌⊎◌, inl, inr, ℕ, zero, suc, Bool, List, Ok, Err, length, refl, ap}
+use Rattle.std.proofs.Common.{◌≡◌, ◌≤◌, ◌⊎◌, inl, inr, ℕ, zero, suc, Bool, List, [], ◌∷◌, Ok, Err, length, refl, ap}
 use Rattle.std.proofs.Common.{true, false, ◌∙◌, Option, Some, None, subst, sym}
 use Rattle.std.specs.Prelude.{MatchResult, Result}
 use Rattle.crib_text.specs.Refusals.{no_memory}
+use Rattle.crib_cards.specs.declared.moves.Act.{Act}
 use Rattle.crib_problem.specs.Setup.{Setup}
 use Rattle.crib_plan.specs.declared.plan.Node.{Node}
 use Rattle.crib_game.specs.declared.fault.GameFault.{GameFault}
@@ -19,12 +20,15 @@ use Rattle.crib_input.specs.declared.reason.Reason.TheVariants as reasons
 use Rattle.crib_input.specs.Input.{played_of_input, problem_of_input, question_of_input}
 use Rattle.crib_input.specs.Refusals.{refusal_of}
 use Rattle.crib_input.proofs.Inputs.{counted}
+use Rattle.crib_next.specs.Input.{next_of_question, next_question_of_input}
+use Rattle.crib_next.specs.declared.next.NextTurn.{NextTurn}
+use Rattle.crib_next.specs.declared.next.NextTurn.TheVariants as nexts
 use Rattle.crib_sheet.specs.Asked.{asked_of_input}
 use Rattle.crib_sheet.proofs.AskedInputs.{asked_alone, asked_question}
 use Rattle.crib_run.specs.declared.status.Status.TheVariants.{Yes, No}
 use Rattle.crib_run.specs.Reply.{IsAnswer, IsOutcome, Reply, fault_reply, reason_reply, refusal_reply}
 use Rattle.crib_sheet.specs.declared.answer.job.SheetJob.TheVariants.{Plan, Game as GameJob, Beaten, Try}
-use Rattle.crib_sheet.specs.declared.answer.job.SheetJob.TheVariants.{Refute, Why as WhyJob}
+use Rattle.crib_sheet.specs.declared.answer.job.SheetJob.TheVariants.{Refute, Why as WhyJob, Leads as LeadsJob, Next, Scores}
 use Rattle.crib_game.specs.declared.replaying.report.Report.{Report}
 use Rattle.crib_game.specs.Replay.{replay_result}
 use Rattle.crib_game_sheet.specs.GamePlay.{game_reasons}
@@ -35,14 +39,23 @@ use Rattle.crib_beaten.specs.Tally.{AreFigures}
 use Rattle.crib_beaten.specs.declared.rows.Rows.{Rows}
 use Rattle.crib_beaten.specs.declared.tally.RanksTally.{RanksTally}
 use Rattle.crib_sheet.specs.Beaten.{beaten_reply, beaten_status}
-use Rattle.crib_sheet.specs.Private.Tries.{IsTried, IsUntried, tried_status}
+use Rattle.std.specs.Prelude.{if◌then◌else◌}
+use Rattle.std.specs.List.{list_all, list_any}
+use Rattle.crib_leads.specs.declared.leads.Lead.{Lead}
+use Rattle.crib_sheet.specs.Leads.{HasLeads}
+use Rattle.crib_sheet.specs.LeadsText.{has_sure, leads_status}
+use Rattle.crib_sheet.specs.Private.Tries.{IsNoLeads, IsTried, IsUntried, tried_status}
 use Rattle.crib_players.specs.Refutations.{Refutes}
 use Rattle.crib_sheet.specs.declared.refutation.InWords.{InWords}
+use Rattle.crib_sheet.specs.Next.{next_reply, next_status}
 use Rattle.crib_sheet.specs.Refute.{refute_reply, rows_text, suits_sentences, sure_sentence, words_reply}
 use Rattle.crib_why.specs.Answer.{AreBySuit, HasFewGames, IsRightWhy, SomeIsSure}
 use Rattle.crib_search.specs.Winnable.{IsWinnable}
 use Rattle.crib_why.specs.declared.why.Why.{Why}
 use Rattle.crib_why.specs.declared.why.Why.TheVariants as why
+use Rattle.crib_sheet.specs.Scores.{scores_text}
+use Rattle.crib_tables.specs.Scores.{AreScores}
+use Rattle.crib_tables.specs.declared.scores.ScoreTable.{ScoreTable}
 use Rattle.crib_sheet.specs.Sheet.{AnswersWithPlan, IsSheetOf, IsToTry, SheetMakes, game_reply, game_sheet_of_input, plan_reply, verdict_status}
 
 -- ---- a plan
@@ -192,3 +205,48 @@ pub suits_in_words : (input : List ℕ) (problem : Setup) (ranks : List ℕ) →
     → ¬ IsWinnable problem → SomeIsSure problem → AreBySuit problem ranks
     → SheetMakes WhyJob input (record { output = suits_sentences ranks; status = No })
 suits_in_words input problem ranks asked none some right = inl (rw asked (inr (inr (ranks, none, some, right, refl))))
+
+-- ---- what may be played next
+
+yes_or_no : (is_good : Bool) → IsAnswer (if is_good then Yes else No)
+yes_or_no true = inl refl
+yes_or_no false = inr refl
+
+pub leads_answers : (own theirs : List Lead) → IsAnswer (leads_status own theirs)
+leads_answers [] theirs = yes_or_no (list_all has_sure theirs)
+leads_answers (lead ∷ leads) theirs = yes_or_no (list_any has_sure (lead ∷ leads))
+
+pub leads_made : (input : List ℕ) (problem : Setup) (reply : Reply) → problem_of_input input ≡ Ok problem → HasLeads problem reply
+    → SheetMakes LeadsJob input reply
+leads_made input problem reply asked has = inl (rw asked (inl has))
+
+pub leads_unmade : (input : List ℕ) (problem : Setup) (reason : Reason) → problem_of_input input ≡ Ok problem → IsNoLeads problem reason
+    → SheetMakes LeadsJob input (reason_reply reason)
+leads_unmade input problem reason asked (inl want) = inr (rw asked refl, rw want refl)
+leads_unmade input problem reason asked (inr large) = inl (rw asked (inr (large.1, rw large.0 refl)))
+
+-- ---- what comes next
+
+pub next_answers : (next : NextTurn) → IsAnswer (next_status next)
+next_answers (nexts.Play card) = inl refl
+next_answers nexts.Stuck = inr refl
+next_answers other = inl refl
+
+module _ (input : List ℕ) (problem : Setup) (plan : List Node) (turns : List Act) (first : ℕ)
+    (asked : next_question_of_input input ≡ Ok (problem, plan, turns, first)) where
+  pub next_made : (next : NextTurn) → next_of_question (problem, plan, turns, first) ≡ Ok next → SheetMakes Next input (next_reply problem plan turns next)
+  next_made next is = inl (rw (asked, is) refl)
+
+  pub next_refused : (refusal : Refused) → next_of_question (problem, plan, turns, first) ≡ Err (refusal_of refusal) →
+      SheetMakes Next input (reason_reply (reasons.Refused refusal))
+  next_refused refusal is = inl (rw (asked, is) refl)
+
+-- ---- at which scores turns are sure
+
+pub scores_without_memory : (input : List ℕ) (problem : Setup) → problem_of_input input ≡ Ok problem
+    → SheetMakes Scores input (reason_reply (reasons.Fault NoMemory))
+scores_without_memory input problem asked = inr (rw asked refl, refl)
+
+pub scores_made : (input : List ℕ) (problem : Setup) (table : ScoreTable) → problem_of_input input ≡ Ok problem → AreScores problem table
+    → SheetMakes Scores input (record { output = scores_text problem table; status = Yes })
+scores_made input problem table asked right = inl (rw asked (table, right, refl))

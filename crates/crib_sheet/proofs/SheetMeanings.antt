@@ -1,9 +1,10 @@
 -- A reply that a job makes has the meaning that `specs/Meaning` states.
-use Rattle.std.proofs.Common.{◌≡◌, inl, inr, ℕ, zero, suc, ◌<◌, ◌≤◌, Bool, List, length, Option, Result, Ok, Err, None, Some}
+use Rattle.std.proofs.Common.{◌≡◌, inl, inr, ℕ, zero, suc, ◌+◌, ◌<◌, ◌≤◌, Bool, List, length, Option, Result, Ok, Err, None, Some}
 use Rattle.std.proofs.Common.{refl, sym, ap, ◌∙◌, subst}
 use Rattle.std.proofs.lemmas.Bool.{cases_lt}
 use Rattle.crib_text.specs.Refusals.{Refusal, no_memory, too_long}
 use Rattle.crib_text.specs.Reading.{◌>>=◌}
+use Rattle.crib_cards.specs.declared.moves.Act.{Act}
 use Rattle.crib_problem.specs.Setup.{IsSetup, Setup}
 use Rattle.crib_plan.specs.Nodes.{ArePlan, most_nodes}
 use Rattle.crib_plan.specs.Spelling.{plan_text}
@@ -24,7 +25,7 @@ use Rattle.crib_sheet.specs.Asked.{asked_of_input}
 use Rattle.crib_sheet.proofs.AskedInputs.{asked_alone, asked_not_alone, asked_nothing, asked_question}
 use Rattle.crib_input.proofs.Inputs.{problem_accepted, problem_spelled, question_accepted, question_spelled, read_of_long}
 use Rattle.crib_input.proofs.GameInputs.{played_accepted}
-use Rattle.crib_run.specs.Reply.{Reply, fault_reply, refusal_reply}
+use Rattle.crib_run.specs.Reply.{IsAnswer, Reply, fault_reply, refusal_reply}
 use Rattle.crib_run.specs.declared.status.Status.{Status}
 use Rattle.crib_run.specs.declared.status.Status.TheVariants.{No}
 use Rattle.crib_run.specs.Run.{HaveMeaning}
@@ -39,6 +40,11 @@ use Rattle.crib_answer.specs.Input.{judgement_of, report_of_input}
 use Rattle.crib_beaten.specs.Tally.{AreFigures}
 use Rattle.crib_beaten.specs.declared.tally.RanksTally.{RanksTally}
 use Rattle.crib_beaten.proofs.TallyLaws.{none_is_sure}
+use Rattle.crib_next.specs.Input.{next_of_question, next_question_at, next_question_of_input}
+use Rattle.crib_next.specs.declared.next.NextTurn.{NextTurn}
+use Rattle.crib_next.specs.declared.next.NextTurn.TheVariants as nexts
+use Rattle.crib_next.proofs.NextInputs.{question_accepted as next_accepted, question_spelled as next_spelled}
+use Rattle.crib_next.proofs.NextLaws.{next_is_after, sure_law}
 use Rattle.crib_game_sheet.specs.GameText.{game_sheet_text, sheet_for}
 use Rattle.crib_sheet.specs.PlanHead.{failing_text}
 use Rattle.crib_sheet.specs.PlanBeaten.{AreBeatingOf}
@@ -46,11 +52,15 @@ use Rattle.crib_beaten.specs.declared.rows.Rows.{Rows}
 use Rattle.crib_sheet.specs.Beaten.{beaten_reply}
 use Rattle.crib_plan_sheet.proofs.PlanPlays.{sure_is_reached}
 use Rattle.crib_sheet.specs.declared.answer.job.SheetJob.{SheetJob}
-use Rattle.crib_sheet.specs.declared.answer.job.SheetJob.TheVariants.{Plan, Game as GameJob, Beaten, Try, Refute, Why}
-use Rattle.crib_sheet.specs.Sheet.{AnswersBeaten, AnswersPlan, AnswersTry, IsSheetOf, IsToTry, SheetAnswers, SheetMakes, game_reply, game_sheet_of_input}
-use Rattle.crib_sheet.specs.Sheet.{AnswersWhy, SaysWhy, plan_reply, verdict_status}
+use Rattle.crib_sheet.specs.declared.answer.job.SheetJob.TheVariants.{Plan, Game as GameJob, Beaten, Try, Refute, Why, Leads, Next, Scores}
+use Rattle.crib_sheet.specs.Sheet.{AnswersBeaten, AnswersLeads, AnswersPlan, AnswersTry, IsSheetOf, IsToTry, SheetAnswers, SheetMakes}
+use Rattle.crib_sheet.specs.Sheet.{game_reply, game_sheet_of_input}
+use Rattle.crib_sheet.specs.Sheet.{AnswersScores, AnswersWhy, SaysWhy, next_reply_to, plan_reply, verdict_status}
+use Rattle.crib_sheet.specs.Next.{next_reply}
 use Rattle.crib_sheet.specs.Refute.{WhyTexts, refute_texts, why_texts}
-use Rattle.crib_sheet.specs.Meaning.{AsksAbout, HasUnsurePlan, SheetMeans, TryMeans, WhyMeans}
+use Rattle.crib_sheet.specs.Leads.{HasLeads}
+use Rattle.crib_sheet.proofs.MadeSheets.{leads_answers}
+use Rattle.crib_sheet.specs.Meaning.{AsksAbout, HasUnsurePlan, LeadsMeans, SaysNext, SheetMeans, TryMeans, WhyMeans}
 
 -- ---- a problem and a plan
 
@@ -241,11 +251,88 @@ module _ (job : SheetJob) (texts : Setup → WhyTexts) (input : List ℕ)
       let e : Ok problem ≡ Err refusal = sym (problem_spelled input problem spelled) ∙ asked in
       absurd cc))
 
+-- ---- what may be played next
+
+leads_has : (input : List ℕ) (problem : Setup) (reply : Reply) → SpellsProblem input problem → HasLeads problem reply → SheetMeans Leads input reply
+leads_has input problem reply spelled has =
+    subst (SheetMeans Leads input) (sym has.written) (by_status _ _ (subst (HasLeads problem) has.written has) (leads_answers has.own has.theirs))
+  where
+    by_status : (text : List ℕ) (status : Status) → HasLeads problem (record { output = text; status = status }) → IsAnswer status →
+        LeadsMeans input text status
+    by_status text status has (inl is) = rw is (problem, spelled, subst (λ (s : Status). HasLeads problem (record { output = text; status = s })) is has)
+    by_status text status has (inr is) = rw is (problem, spelled, subst (λ (s : Status). HasLeads problem (record { output = text; status = s })) is has)
+
+leads_means : (input : List ℕ) (said : Result Setup Refusal) (reply : Reply) → problem_of_input input ≡ said → AnswersLeads said reply
+    → SheetMeans Leads input reply
+leads_means input (Ok problem) reply asked (inl has) = leads_has input problem reply (problem_accepted input problem asked) has
+leads_means input (Ok problem) reply asked (inr large) = subst (SheetMeans Leads input) (sym large.1) (inr refl)
+leads_means input (Err refusal) reply asked is = subst (SheetMeans Leads input) (sym is) (λ problem spelled.
+    let e : Ok problem ≡ Err refusal = sym (problem_spelled input problem spelled) ∙ asked in
+    absurd cc)
+
+-- ---- what comes next
+
+module _ (input : List ℕ) (problem : Setup) (plan : List Node) (turns : List Act) (first : ℕ)
+    (asked : next_question_of_input input ≡ Ok (problem, plan, turns, first)) where
+  says_next : (next : NextTurn) → next_of_question (problem, plan, turns, first) ≡ Ok next → SaysNext input (next_reply problem plan turns next).output
+  says_next next is = record {
+    problem = problem;
+    plan = plan;
+    turns = turns;
+    spelled = next_accepted input (problem, plan, turns, first) asked;
+    next = next;
+    right = next_is_after problem plan (first + 1) turns next is;
+    printed = refl;
+  }
+
+  next_means : (next : NextTurn) → next_of_question (problem, plan, turns, first) ≡ Ok next → SheetMeans Next input (next_reply problem plan turns next)
+  unfolding says_next
+  next_means nexts.Stuck is = (
+    says_next nexts.Stuck is,
+    refl,
+    λ sure. (
+        let spelled = next_accepted input (problem, plan, turns, first) asked in
+        sure_law problem plan (first + 1) turns spelled.problem_is spelled.turns_are sure is
+        ),
+  )
+  next_means (nexts.Play card) is = (says_next (nexts.Play card) is, λ e. let same : ◌≡◌ {A = NextTurn} (nexts.Play card) nexts.Stuck = e in absurd cc)
+  next_means nexts.Go is = (says_next nexts.Go is, λ e. let same : ◌≡◌ {A = NextTurn} nexts.Go nexts.Stuck = e in absurd cc)
+  next_means nexts.Wait is = (says_next nexts.Wait is, λ e. let same : ◌≡◌ {A = NextTurn} nexts.Wait nexts.Stuck = e in absurd cc)
+  next_means nexts.Over is = (says_next nexts.Over is, λ e. let same : ◌≡◌ {A = NextTurn} nexts.Over nexts.Stuck = e in absurd cc)
+
+-- what was read of an input with turns, and what was not, by the refusal
+refused_turns : (input : List ℕ) (read : Result (Setup × List Node × List Act × ℕ) Refusal) (refusal : Refusal) → next_question_of_input input ≡ read
+    → (read >>= next_of_question) ≡ Err refusal → SheetMeans Next input (refusal_reply refusal)
+refused_turns input read refusal asked is = λ problem plan turns spelled.
+    let found = next_spelled input problem plan turns spelled in
+    let said : next_of_question (problem, plan, turns, found.0) ≡ Err refusal = ap (λ r. r >>= next_of_question) (sym found.1 ∙ asked) ∙ is in
+    (found.0 + 1, λ next ok. let wrong : ◌≡◌ {A = Result NextTurn Refusal} (Ok next) (Err refusal) = sym ok ∙ said in absurd cc)
+
+turns_mean : (input : List ℕ) (read : Result (Setup × List Node × List Act × ℕ) Refusal) (next : Result NextTurn Refusal) (reply : Reply)
+    → next_question_of_input input ≡ read → (read >>= next_of_question) ≡ next → reply ≡ next_reply_to read → SheetMeans Next input reply
+turns_mean input (Ok (problem, plan, turns, first)) (Ok next) reply asked is answers =
+    subst (SheetMeans Next input) (sym (answers ∙ ap (reply_by (next_reply problem plan turns)) is)) (next_means input problem plan turns first asked next is)
+turns_mean input (Ok (problem, plan, turns, first)) (Err refusal) reply asked is answers =
+    subst (SheetMeans Next input) (sym (answers ∙ ap (reply_by (next_reply problem plan turns)) is)) (refused_turns input _ refusal asked is)
+turns_mean input (Err refusal) next reply asked is answers = subst (SheetMeans Next input) (sym answers) (refused_turns input (Err refusal) refusal asked refl)
+
+-- ---- at which scores turns are sure
+
+scores_mean : (input : List ℕ) (said : Result Setup Refusal) (reply : Reply) → problem_of_input input ≡ said → AnswersScores said reply
+    → SheetMeans Scores input reply
+scores_mean input (Ok problem) reply asked (table, right, is) =
+    subst (SheetMeans Scores input) (sym is)
+    (record { problem = problem; spelled = problem_accepted input problem asked; table = table; right = right; printed = refl })
+scores_mean input (Err refusal) reply asked is = subst (SheetMeans Scores input) (sym is) (λ problem spelled.
+    let e : Ok problem ≡ Err refusal = sym (problem_spelled input problem spelled) ∙ asked in
+    absurd cc)
+
 -- ---- each job
 
 memory_means : (job : SheetJob) (input : List ℕ) → SheetMeans job input (fault_reply no_memory)
 memory_means Plan input = inl refl
 memory_means Try input = inl refl
+memory_means Leads input = inl refl
 memory_means _ input = refl
 
 makes_means : (job : SheetJob) (input : List ℕ) (reply : Reply) → SheetMakes job input reply → SheetMeans job input reply
@@ -255,17 +342,23 @@ makes_means Beaten input reply (inl answers) = beaten_means input (question_of_i
 makes_means Try input reply (inl answers) = try_means input (problem_of_input input) reply refl answers
 makes_means Refute input reply (inl answers) = why_means Refute (λ problem. refute_texts) input (λ reply is. is) (problem_of_input input) reply refl answers
 makes_means Why input reply (inl answers) = why_means Why why_texts input (λ reply is. is) (problem_of_input input) reply refl answers
+makes_means Leads input reply (inl answers) = leads_means input (problem_of_input input) reply refl answers
+makes_means Next input reply (inl is) = turns_mean input (next_question_of_input input) _ reply refl refl is
+makes_means Scores input reply (inl answers) = scores_mean input (problem_of_input input) reply refl answers
 makes_means job input reply (inr want) = subst (SheetMeans job input) (sym want.1) (memory_means job input)
 
 -- each job refuses an input that is too long
 long_answers : (job : SheetJob) (input : List ℕ) → most_bytes < length input
     → SheetAnswers job input (refusal_reply (record { line = 0; number = too_long }))
-unfolding problem_of_input question_of_input played_of_input game_sheet_of_input
+unfolding problem_of_input question_of_input played_of_input game_sheet_of_input next_question_of_input
 long_answers Plan input long = rw (read_of_long problem_alone_at input long, read_of_long question_at input long) refl
 long_answers GameJob input long = rw (read_of_long played_at input long) refl
 long_answers Try input long = rw (read_of_long problem_alone_at input long) refl
 long_answers Refute input long = rw (read_of_long problem_alone_at input long) refl
 long_answers Why input long = rw (read_of_long problem_alone_at input long) refl
+long_answers Leads input long = rw (read_of_long problem_alone_at input long) refl
+long_answers Next input long = rw (read_of_long next_question_at input long) refl
+long_answers Scores input long = rw (read_of_long problem_alone_at input long) refl
 long_answers _ input long = rw (read_of_long question_at input long) refl
 
 pub job_means : (job : SheetJob) → HaveMeaning (SheetMakes job) (SheetMeans job)

@@ -1,5 +1,5 @@
 -- Worked examples of right replies to a problem to try, and of what they guarantee.
-use Rattle.std.proofs.Common.{◌≡◌, ◌⊎◌, inl, inr, ap, ℕ, List, [], ◌∷◌, Ok, Err, Some, codes, refl}
+use Rattle.std.proofs.Common.{◌≡◌, inl, inr, ap, ℕ, List, [], ◌∷◌, Ok, Err, Some, codes, refl}
 use Rattle.std.specs.Fmt.{digits}
 use Rattle.crib_problem.specs.Setup.{Setup}
 use Rattle.crib_plan.specs.Nodes.{ArePlan, most_nodes}

@@ -5,7 +5,8 @@ use Rattle.crib_answer.specs.declared.job.UnknownJob.{UnknownJob}
 use Rattle.crib_input.specs.declared.sections.Sections.{Sections}
 use Rattle.crib_input.specs.declared.sections.Sections.TheVariants.{Problem, Question, Played}
 use Rattle.crib_sheet.specs.declared.answer.job.SheetJob.{SheetJob}
-use Rattle.crib_sheet.specs.declared.answer.job.SheetJob.TheVariants.{Plan, Game, Beaten, Try, Refute, Why}
+use Rattle.crib_sheet.specs.declared.answer.job.SheetJob.TheVariants.{Plan, Game, Beaten, Try, Refute, Why, Leads, Next}
+use Rattle.crib_sheet.specs.declared.answer.job.SheetJob.TheVariants.{Scores}
 
 -- the name of a job: the command that is typed for it
 abbrev pub name_of : SheetJob → List ℕ
@@ -15,10 +16,13 @@ name_of Beaten = codes "beaten"
 name_of Try = codes "try"
 name_of Refute = codes "refute"
 name_of Why = codes "why"
+name_of Leads = codes "leads"
+name_of Next = codes "next"
+name_of Scores = codes "scores"
 
 -- the jobs, in the order in which the help text lists them
 abbrev pub all_jobs : List SheetJob
-all_jobs = Plan ∷ Game ∷ Beaten ∷ Try ∷ Refute ∷ Why ∷ []
+all_jobs = Plan ∷ Game ∷ Beaten ∷ Try ∷ Refute ∷ Why ∷ Leads ∷ Next ∷ Scores ∷ []
 
 -- the names of the jobs, in the same order
 abbrev pub job_names : List (List ℕ)
@@ -36,3 +40,6 @@ sections_of Beaten = Question
 sections_of Try = Problem
 sections_of Refute = Problem
 sections_of Why = Problem
+sections_of Leads = Problem
+sections_of Next = Question
+sections_of Scores = Problem

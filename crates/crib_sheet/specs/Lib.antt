@@ -1,9 +1,13 @@
 pub mod Asked
 pub mod Beaten
 pub mod Job
+pub mod Leads
+pub mod LeadsText
 pub mod Meaning
+pub mod Next
 pub mod PlanHead
 pub mod PlanBeaten
 pub mod Private
 pub mod Refute
+pub mod Scores
 pub mod Sheet

@@ -1,6 +1,8 @@
 -- What the replies guarantee about the input.
-use Rattle.std.specs.Prelude.{◌≡◌, ◌≤◌, ◌⊎◌, ℕ, Bool, true, false, List, ◌++◌, length, Option, Ok, Err}
+use Rattle.std.specs.Prelude.{◌≡◌, ◌≢◌, ◌≤◌, ◌⊎◌, ℕ, Bool, true, false, List, [], ◌++◌, length, reverse, Option}
+use Rattle.std.specs.Prelude.{Ok, Err}
 use Rattle.crib_text.specs.Refusals.{Refusal, no_memory}
+use Rattle.crib_cards.specs.declared.moves.Act.{Act}
 use Rattle.crib_problem.specs.Setup.{Setup}
 use Rattle.crib_plan.specs.Nodes.{ArePlan}
 use Rattle.crib_plan.specs.Spelling.{plan_text}
@@ -22,17 +24,26 @@ use Rattle.crib_why.specs.Answer.{AreBySuit, SomeIsSure}
 use Rattle.crib_beaten.specs.Tally.{AreFigures}
 use Rattle.crib_beaten.specs.declared.rows.Rows.{Rows}
 use Rattle.crib_beaten.specs.declared.tally.RanksTally.{RanksTally}
+use Rattle.crib_next.specs.Input.{SpellsTurns}
+use Rattle.crib_next.specs.Next.{next_after, next_from}
+use Rattle.crib_next.specs.declared.next.NextTurn.{NextTurn}
+use Rattle.crib_next.specs.declared.next.NextTurn.TheVariants.{Stuck}
 use Rattle.crib_game_sheet.specs.GameText.{game_sheet_text}
 use Rattle.crib_sheet.specs.Beaten.{beaten_text}
+use Rattle.crib_sheet.specs.Leads.{HasLeads}
+use Rattle.crib_sheet.specs.Next.{next_text}
 use Rattle.crib_sheet.specs.PlanHead.{position_text, sure_text}
 use Rattle.crib_sheet.specs.PlanBeaten.{AreBeating, beating_text}
 use Rattle.crib_sheet.specs.Refute.{WhyTexts, refute_texts, why_texts}
+use Rattle.crib_sheet.specs.Scores.{scores_text}
+use Rattle.crib_tables.specs.Scores.{AreScores}
+use Rattle.crib_tables.specs.declared.scores.ScoreTable.{ScoreTable}
 use Rattle.crib_plan_sheet.specs.PlanPage.{page_text}
 use Rattle.crib_plan_sheet.specs.PlanPlay.{ReachesGoal}
 use Rattle.crib_plan_sheet.specs.PlanSheet.{sheet_with}
 use Rattle.crib_sheet.specs.declared.answer.job.SheetJob.{SheetJob}
 use Rattle.crib_sheet.specs.declared.answer.job.SheetJob.TheVariants.{Plan, Game as GameJob, Beaten, Try}
-use Rattle.crib_sheet.specs.declared.answer.job.SheetJob.TheVariants.{Refute, Why}
+use Rattle.crib_sheet.specs.declared.answer.job.SheetJob.TheVariants.{Refute, Why, Leads, Next, Scores}
 
 -- an input asks about a plan: it spells a problem and the plan, or the problem alone. Then the plan is any plan
 abbrev pub AsksAbout : List ℕ → Setup → List Node → Type 0
@@ -169,6 +180,60 @@ WhyMeans texts input text No = IsRefutedBy texts input text ⊎ IsDecidedBySuits
 WhyMeans texts input text Refused = (problem : Setup) → ¬ SpellsProblem input problem
 WhyMeans texts input text Fault = text ≡ fault_line no_memory
 
+-- an input spells a problem, and a reply has the turns that may come next
+abbrev pub SpellsLeads : List ℕ → Reply → Type 0
+SpellsLeads input reply = (problem : Setup) × SpellsProblem input problem × HasLeads problem reply
+
+-- what the reply of `leads` guarantees, by its status. Yes and no: the text has the turns that may come next, and this
+-- is their status. Refused: the input spells no problem. Fault: the text says that an allocation failed, or that a plan
+-- has too many nodes
+abbrev pub LeadsMeans : List ℕ → List ℕ → Status → Type 0
+LeadsMeans input text Yes = SpellsLeads input (record { output = text; status = Yes })
+LeadsMeans input text No = SpellsLeads input (record { output = text; status = No })
+LeadsMeans input text Refused = (problem : Setup) → ¬ SpellsProblem input problem
+LeadsMeans input text Fault = (text ≡ fault_line no_memory) ⊎ (text ≡ fault_line too_large)
+
+-- an input spells a problem, a plan and turns, and `text` says what comes next after them
+pub record SaysNext (input text : List ℕ) : Type 0 where
+  pub problem : Setup
+  pub plan : List Node
+  pub turns : List Act
+  pub spelled : SpellsTurns input problem plan turns
+  pub next : NextTurn
+  pub right : next_after problem plan (reverse turns) ≡ next
+  pub printed : text ≡ next_text problem plan turns next
+
+-- some turn is refused, if the first of the turns has this line
+abbrev pub IsSomeRefused : Setup → List Node → List Act → ℕ → Type 0
+IsSomeRefused problem plan turns line = (next : NextTurn) → next_from problem plan line [] turns ≢ Ok next
+
+-- what the reply of `next` guarantees, by its status. Yes: the text says what comes next, and the owner is not stuck.
+-- No: the owner is stuck, so the plan is not sure. Refused: the input spells no problem, plan and turns, or some turn
+-- is refused. Fault: the text says that an allocation failed
+abbrev pub NextMeans : List ℕ → List ℕ → Status → Type 0
+NextMeans input text Yes = (says : SaysNext input text) × (says.next ≢ Stuck)
+NextMeans input text No = (says : SaysNext input text) × (says.next ≡ Stuck) × (¬ IsSure says.problem says.plan)
+NextMeans input text Refused =
+    (problem : Setup) (plan : List Node) (turns : List Act) → SpellsTurns input problem plan turns →
+    (line : ℕ) × IsSomeRefused problem plan turns line
+NextMeans input text Fault = text ≡ fault_line no_memory
+
+-- an input spells a problem, and `text` is the table of what is sure at the scores around those of the problem
+pub record HasScores (input text : List ℕ) : Type 0 where
+  pub problem : Setup
+  pub spelled : SpellsProblem input problem
+  pub table : ScoreTable
+  pub right : AreScores problem table
+  pub printed : text ≡ scores_text problem table
+
+-- what the reply of `scores` guarantees, by its status. Yes: the text is a right table. It is never no. Refused: the
+-- input spells no problem. Fault: the text says that an allocation failed
+abbrev pub ScoresMean : List ℕ → List ℕ → Status → Type 0
+ScoresMean input text Yes = HasScores input text
+ScoresMean input text No = ⊥
+ScoresMean input text Refused = (problem : Setup) → ¬ SpellsProblem input problem
+ScoresMean input text Fault = text ≡ fault_line no_memory
+
 -- what the text and the status of a reply guarantee about the input
 abbrev pub SheetMeans : SheetJob → List ℕ → Reply → Type 0
 SheetMeans Plan input reply = PlanMeans input reply.output reply.status
@@ -177,3 +242,6 @@ SheetMeans Beaten input reply = BeatenMeans input reply.output reply.status
 SheetMeans Try input reply = TryMeans input reply.output reply.status
 SheetMeans Refute input reply = WhyMeans (λ problem. refute_texts) input reply.output reply.status
 SheetMeans Why input reply = WhyMeans why_texts input reply.output reply.status
+SheetMeans Leads input reply = LeadsMeans input reply.output reply.status
+SheetMeans Next input reply = NextMeans input reply.output reply.status
+SheetMeans Scores input reply = ScoresMean input reply.output reply.status

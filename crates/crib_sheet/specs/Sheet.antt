@@ -2,6 +2,7 @@
 use Rattle.std.specs.Prelude.{◌≡◌, ◌≤◌, ◌⊎◌, ℕ, Bool, List, ◌++◌, length, Option, Some, None, Result, Ok, Err, IsOk}
 use Rattle.crib_text.specs.Refusals.{Refusal, no_memory}
 use Rattle.crib_text.specs.Reading.{◌>>=◌}
+use Rattle.crib_cards.specs.declared.moves.Act.{Act}
 use Rattle.crib_problem.specs.Setup.{Setup}
 use Rattle.crib_plan.specs.Nodes.{ArePlan, most_nodes}
 use Rattle.crib_plan.specs.Spelling.{plan_text}
@@ -27,11 +28,17 @@ use Rattle.crib_players.specs.Refutations.{Refutes}
 use Rattle.crib_why.specs.Answer.{AreBySuit, SomeIsSure}
 use Rattle.crib_game_sheet.specs.GamePlay.{game_reasons}
 use Rattle.crib_game_sheet.specs.GameText.{game_sheet_text, sheet_of as sheet_text_of}
+use Rattle.crib_next.specs.Input.{next_of_question, next_question_of_input}
 use Rattle.crib_sheet.specs.Asked.{asked_of_input}
 use Rattle.crib_sheet.specs.Beaten.{beaten_reply, tally_reply}
+use Rattle.crib_sheet.specs.Leads.{HasLargePlan, HasLeads, leads_reply}
+use Rattle.crib_sheet.specs.Next.{next_parts_reply, next_reply}
 use Rattle.crib_sheet.specs.PlanHead.{head_text, is_sure}
 use Rattle.crib_sheet.specs.PlanBeaten.{AreBeatingOf}
 use Rattle.crib_sheet.specs.Refute.{WhyTexts, words_reply, refute_reply, refute_texts, why_texts}
+use Rattle.crib_sheet.specs.Scores.{scores_reply, scores_text}
+use Rattle.crib_tables.specs.Scores.{AreScores}
+use Rattle.crib_tables.specs.declared.scores.ScoreTable.{ScoreTable}
 use Rattle.crib_plan_sheet.specs.PlanPage.{page_text}
 use Rattle.crib_plan_sheet.specs.PlanSheet.{sheet_with}
 use Rattle.crib_plan_sheet.specs.PlanOutline.{apart_in}
@@ -41,7 +48,7 @@ use Rattle.crib_sheet.specs.declared.answer.plan.PlanSheet.{PlanSheet}
 use Rattle.crib_sheet.specs.declared.answer.game.GameSheet.{GameSheet}
 use Rattle.crib_sheet.specs.declared.answer.job.SheetJob.{SheetJob}
 use Rattle.crib_sheet.specs.declared.answer.job.SheetJob.TheVariants.{Plan, Game as GameJob, Beaten, Try}
-use Rattle.crib_sheet.specs.declared.answer.job.SheetJob.TheVariants.{Refute, Why}
+use Rattle.crib_sheet.specs.declared.answer.job.SheetJob.TheVariants.{Refute, Why, Leads, Next, Scores}
 
 -- ---- a game
 
@@ -148,6 +155,32 @@ abbrev pub AnswersWhy : (Setup → WhyTexts) → Result Setup Refusal → Reply 
 AnswersWhy texts (Ok problem) reply = SaysWhy (texts problem) problem reply
 AnswersWhy texts (Err refusal) reply = reply ≡ refusal_reply refusal
 
+-- ---- what may be played next
+
+-- a reply is right for `leads`, by what was read: it has the turns that may come next, or it is the fault of a plan
+-- with more nodes than a plan may have, or it is the refusal
+abbrev pub AnswersLeads : Result Setup Refusal → Reply → Type 0
+AnswersLeads (Ok problem) reply = HasLeads problem reply ⊎ (HasLargePlan problem × (reply ≡ fault_reply too_large))
+AnswersLeads (Err refusal) reply = reply ≡ refusal_reply refusal
+
+-- ---- what comes next
+
+-- the reply of `next` by what was read: what comes next after the turns, or the refusal of a turn or of the input
+abbrev pub next_reply_to : Result (Setup × List Node × List Act × ℕ) Refusal → Reply
+next_reply_to (Ok (problem, plan, turns, first)) =
+    reply_by (next_reply problem plan turns) (next_of_question (problem, plan, turns, first))
+next_reply_to (Err refusal) = refusal_reply refusal
+
+-- ---- at which scores turns are sure
+
+-- a reply is right for `scores`, by what was read: it is the table of what is sure at the scores around those of the
+-- problem, or it is that of the refusal
+abbrev pub AnswersScores : Result Setup Refusal → Reply → Type 0
+AnswersScores (Ok problem) reply =
+    (table : ScoreTable) × AreScores problem table
+    × (reply ≡ record { output = scores_text problem table; status = Yes })
+AnswersScores (Err refusal) reply = reply ≡ refusal_reply refusal
+
 -- ---- each sheet
 
 -- the reply with a sheet
@@ -158,6 +191,9 @@ sheet_reply (sheets.Beaten tally) = tally_reply tally
 sheet_reply (sheets.Try answer) = reply_of answer
 sheet_reply (sheets.Refute why) = refute_reply why
 sheet_reply (sheets.Reasons why) = words_reply why
+sheet_reply (sheets.Leads sheet) = leads_reply sheet
+sheet_reply (sheets.Next sheet) = next_parts_reply sheet
+sheet_reply (sheets.Scores sheet) = scores_reply sheet
 
 -- ---- right replies
 
@@ -169,9 +205,13 @@ SheetAnswers Beaten input reply = AnswersBeaten (question_of_input input) reply
 SheetAnswers Try input reply = AnswersTry (problem_of_input input) reply
 SheetAnswers Refute input reply = AnswersWhy (λ problem. refute_texts) (problem_of_input input) reply
 SheetAnswers Why input reply = AnswersWhy why_texts (problem_of_input input) reply
+SheetAnswers Leads input reply = AnswersLeads (problem_of_input input) reply
+SheetAnswers Next input reply = reply ≡ next_reply_to (next_question_of_input input)
+SheetAnswers Scores input reply = AnswersScores (problem_of_input input) reply
 
--- a job may allocate memory for an input: `plan` and `beaten` if the problem and the first two lines of the plan are
--- not refused, `plan`, `try`, `refute` and `why` if the input has a problem alone, and `game` never
+-- a job may allocate memory for an input: `plan`, `beaten` and `next` if the problem and the first two lines of the
+-- plan are not refused, `plan`, `try`, `refute`, `why`, `leads` and `scores` if the input has a problem alone, and
+-- `game` never
 abbrev pub SheetAsksForMemory : SheetJob → List ℕ → Type 0
 SheetAsksForMemory Plan input = IsOk (count_of_input input) ⊎ IsOk (problem_of_input input)
 SheetAsksForMemory GameJob input = ⊥
@@ -179,6 +219,9 @@ SheetAsksForMemory Beaten input = IsOk (count_of_input input)
 SheetAsksForMemory Try input = IsOk (problem_of_input input)
 SheetAsksForMemory Refute input = IsOk (problem_of_input input)
 SheetAsksForMemory Why input = IsOk (problem_of_input input)
+SheetAsksForMemory Leads input = IsOk (problem_of_input input)
+SheetAsksForMemory Next input = IsOk (count_of_input input)
+SheetAsksForMemory Scores input = IsOk (problem_of_input input)
 
 -- a reply is one that a job makes for an input in memory: it is a right one, or it is the fault of a failed allocation
 -- and the job may allocate memory

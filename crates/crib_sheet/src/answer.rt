@@ -8,11 +8,16 @@ mod asking;
 mod beaten;
 mod game;
 mod job;
+mod leads;
+mod next;
 mod plan;
 mod played;
 mod to_try;
 
+use crate::leads::{leads_status, put_leads};
+use crate::next::{next_status, put_next};
 use crate::refutation::{InWords, in_words_status, put_in_words, put_why, why_status};
+use crate::scores::{ScoreSheet, put_scores};
 use crate::tally::{beaten_status, put_tally};
 use crate::verdict::put_plan_sheet;
 use crib_beaten::Tally;
@@ -22,6 +27,8 @@ use crib_text::Sink;
 use crib_why::Why;
 pub use game::GameSheet;
 pub use job::{NAMES, SheetJob};
+pub use leads::{LeadsSheet, TriedPlan};
+pub use next::NextSheet;
 pub use plan::PlanSheet;
 use std::alloc::Allocator;
 
@@ -40,6 +47,12 @@ pub enum Sheet<A: Allocator> {
     Refute(Why<A>),
     /// The same in words.
     Reasons(InWords<A>),
+    /// What may be played next.
+    Leads(LeadsSheet<A>),
+    /// What comes next.
+    Next(NextSheet<A>),
+    /// At which scores turns are sure, or a plan is.
+    Scores(ScoreSheet),
 }
 
 impl<A: Allocator> Sendable for Sheet<A> {
@@ -73,6 +86,9 @@ fn put_sheet<A: Allocator, P: Page>(page: &mut P, sheet: &Sheet<A>)
         Sheet::Try(answer) => page.put(answer.as_slice()),
         Sheet::Refute(why) => put_why(page, why),
         Sheet::Reasons(why) => put_in_words(page, why),
+        Sheet::Leads(sheet) => put_leads(page, sheet),
+        Sheet::Next(sheet) => put_next(page, sheet),
+        Sheet::Scores(sheet) => put_scores(page, sheet),
     }
 }
 
@@ -83,10 +99,14 @@ fn status_of<A: Allocator>(sheet: &Sheet<A>) -> Status
 {
     match sheet {
         Sheet::Plan(sheet) => sheet.status,
-        Sheet::Game(_) => Status::Yes,
+        Sheet::Game(_) | Sheet::Scores(_) => Status::Yes,
         Sheet::Beaten(tally) => beaten_status(tally.beaten),
         Sheet::Try(answer) => answer.status(),
         Sheet::Refute(why) => why_status(why),
         Sheet::Reasons(why) => in_words_status(why),
+        Sheet::Leads(sheet) => {
+            leads_status(sheet.leads.own.as_slice(), sheet.leads.theirs.as_slice())
+        }
+        Sheet::Next(sheet) => next_status(sheet.next),
     }
 }

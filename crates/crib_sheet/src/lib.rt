@@ -1,11 +1,16 @@
-//! The answers of the second program: sheets of plans and of games, how many deals beat a plan, a plan to try, and
-//! games that refute every player, or the same in words.
+//! The answers of the second program: sheets of plans and of games, how many deals beat a plan, a plan to try, games
+//! that refute every player, or the same in words, what may be played next, what comes next, and at which scores turns
+//! are sure.
 #![tactic(auto)]
 
 mod answer;
+mod leads;
+mod next;
 mod refutation;
+mod scores;
 mod tally;
 mod verdict;
 
-pub use answer::{GameSheet, NAMES, PlanSheet, Sheet, SheetJob};
+pub use answer::{GameSheet, LeadsSheet, NAMES, NextSheet, PlanSheet, Sheet, SheetJob, TriedPlan};
 pub use refutation::InWords;
+pub use scores::ScoreSheet;

@@ -204,8 +204,8 @@ fn put_acts<P: Page>(page: &mut P, acts: &[Act])
     }
 }
 
-// Puts the word for a side in the line of an act, and a space.
-fn put_actor<P: Page>(page: &mut P, side: Side)
+/// Puts the word for a side in the line of an act, and a space.
+pub(crate) fn put_actor<P: Page>(page: &mut P, side: Side)
     ensures { Prints (actor_word side ++ space ∷ []) (P.stand page.old) (P.stand page.new) }
 {
     page.put(if side == Side::Owner {
@@ -215,8 +215,8 @@ fn put_actor<P: Page>(page: &mut P, side: Side)
     });
 }
 
-// Puts the decimal digits of a number.
-fn put_len<P: Page>(page: &mut P, number: usize)
+/// Puts the decimal digits of a number.
+pub(crate) fn put_len<P: Page>(page: &mut P, number: usize)
     ensures { Prints (decimal number) (P.stand page.old) (P.stand page.new) }
 {
     page.put(Buffer::new().format(number).as_bytes());

@@ -24,9 +24,13 @@ Commands:
   try     reads a problem, as cribplan solve does: a sure plan, or one that few deals beat
   refute  reads a problem, as cribplan solve does: if no plan is sure, games that show that nobody is, or suits
   why     reads a problem, as cribplan solve does: the same in words, what beats each card
+  leads   reads a problem, as cribplan solve does: which cards are sure to play now, and how near the others are
+  next    reads a problem, a plan and the turns since: what comes next
+  scores  reads a problem, as cribplan solve does: at which scores turns are sure, or a plan is
 
 Exit status:
-  0  the sheet is printed, and a plan is sure
+  0  the sheet is printed, and a plan is sure; for leads on the opponent's turn, one is after each card; for next, it
+     says what to do
   1  the sheet is printed, and the plan is not sure; for try, or if the input has no plan, no plan is
   2  the command line or the input is refused
   3  reading or writing failed, or memory ran out
@@ -36,8 +40,8 @@ An example:
 
 Manual: man cribsheet. Guide, formats and examples: share/doc/cribplan, beside the bin that has the program",
         hint: "
-The command is plan, game, beaten, try, refute or why. It is the only word, and --help the only option. The input is
-read from standard input, as in
+The command is plan, game, beaten, try, refute, why, leads, next or scores. It is the only word, and --help the only
+option. The input is read from standard input, as in
   cribsheet plan < FILE
 ",
     }

@@ -3,10 +3,13 @@ mod beaten;
 mod failures;
 mod games;
 mod growths;
+mod leads;
 mod messages;
+mod next;
 mod plans;
 mod refutations;
 mod runs;
+mod scores;
 mod tries;
 mod words;
 

@@ -3,10 +3,8 @@ use crate::same;
 use crate::sections::{plan, problem};
 use crib_beaten::tally_of;
 use crib_bound::bound_of;
+use refusing_alloc::Refusing;
 use std::process::Abort;
-
-/// More numbers than a walk of these tests takes.
-const MANY: usize = 20_000;
 
 // The four twos of a pone. The opponent has played an eight and a nine. The macro takes the scores and the turns.
 macro_rules! twos {
@@ -18,58 +16,89 @@ macro_rules! twos {
     };
 }
 
+/// Asserts that this is so many times the deals that beat each plan at least, with one part and with twelve of each.
+fn is_bound(rt: &(impl Abort + AllocGlobal), of: &str, deals: u64) {
+    let problem = problem(rt, of);
+    for parts in [1u16, 12] {
+        let bound = bound_of(rt.alloc(), &problem, parts).expect(rt, "memory");
+        same(rt, bound, deals.saturating_mul(parts as u64));
+    }
+}
+
 /// Another program that lists all deals found the number.
 #[test]
 fn all_open_deals_beat_each_plan_if_none_reaches_the_goal(rt: HostRuntime) {
-    let problem = problem(&rt, twos!("0 0", "4\nown 2C\nopp 8S\nown 2D\nopp 9S\n"));
-    same(&rt, bound_of(&problem, 1, &[1; MANY]), 740_460);
-    same(&rt, bound_of(&problem, 1, &[]), 0);
+    is_bound(
+        &rt,
+        twos!("0 0", "4\nown 2C\nopp 8S\nown 2D\nopp 9S\n"),
+        740_460,
+    );
 }
 
-/// Asserts that the bound meets the number of deals that beat the plan of the last two, and returns this number.
-fn meets(rt: &(impl Abort + AllocGlobal), of: &str) -> u32 {
+/// Asserts that the bound meets the number of deals that beat the plan of the last two, and that it is this one.
+fn meets(rt: &(impl Abort + AllocGlobal), of: &str, deals: u32) {
     let problem = problem(rt, of);
-    let tally = tally_of(
-        rt.alloc(),
-        &problem,
-        &plan(rt, "plan 1\nnodes 1\n0 play 2S end\n"),
-    )
-    .expect(rt, "memory");
-    same(rt, bound_of(&problem, 1, &[1; MANY]), tally.beaten as u64);
-    same(
-        rt,
-        bound_of(&problem, 3, &[3; MANY]),
-        3 * tally.beaten as u64,
-    );
-    tally.beaten
+    let plan = plan(rt, "plan 1\nnodes 1\n0 play 2S end\n");
+    let tally = tally_of(rt.alloc(), &problem, &plan).expect(rt, "memory");
+    same(rt, tally.beaten, deals);
+    is_bound(rt, of, deals as u64);
 }
 
 /// The pone counts twelve in the show. At 29 only an ace fits, and then they get no point for a go. At 30 they say go
 /// themselves, and get the last point only if the opponent has an ace. Each card goes with 820 throws.
 #[test]
 fn meets_the_number_of_deals_if_the_opponent_has_one_card(rt: HostRuntime) {
-    let aces = meets(
+    meets(
         &rt,
         twos!(
             "108 100",
             "6\nown 2C\nopp 8S\nown 2D\nopp 9S\nown 2H\nopp 4D\n"
         ),
+        4 * 820,
     );
-    same(&rt, aces, 4 * 820);
-    let others = meets(
+    meets(
         &rt,
         twos!(
             "108 100",
             "6\nown 2C\nopp 8S\nown 2D\nopp 9S\nown 2H\nopp 7D\n"
         ),
+        38 * 820,
     );
-    same(&rt, others, 38 * 820);
-    let all = meets(
+    meets(
         &rt,
         twos!(
             "107 100",
             "6\nown 2C\nopp 8S\nown 2D\nopp 9S\nown 2H\nopp 4D\n"
         ),
+        42 * 820,
     );
-    same(&rt, all, 42 * 820);
+}
+
+// A dealer who counts the crib, after four turns.
+const DEALER: &str =
+    "problem 2\ndealer owner\nscore 114 106\nstarter 4C\nhold 6S 7D 8C 8S\nthrow AC QS\ngoal win\n\
+    played 4\nopp 9D\nown 6S\nopp 2C\nown 7D\n";
+
+/// Another program found the least numbers of deals that beat any plan. The show decides which deals they are.
+#[test]
+fn meets_the_least_number_for_a_dealer(rt: HostRuntime) {
+    is_bound(&rt, DEALER, 7380);
+    is_bound(
+        &rt,
+        "problem 2\ndealer owner\nscore 111 102\nstarter 3H\nhold 2S 5S TH QS\nthrow 6H 6C\ngoal win\n\
+         played 4\nopp 4S\nown TH\nopp 9C\nown 2S\n",
+        2460,
+    );
+}
+
+/// It allocates for the tables alone, which a pone with this goal doesn't need.
+#[test]
+fn fails_if_an_allocation_fails(rt: HostRuntime) {
+    let pone = problem(&rt, twos!("0 0", "4\nown 2C\nopp 8S\nown 2D\nopp 9S\n"));
+    let heap = Refusing::after(rt.alloc(), 0);
+    assert!(rt; bound_of(&heap, &pone, 1).is_ok());
+    let dealer = problem(&rt, DEALER);
+    assert!(rt; bound_of(&heap, &dealer, 1).is_err());
+    let heap = Refusing::after(rt.alloc(), 3);
+    assert!(rt; bound_of(&heap, &dealer, 1).is_err());
 }

@@ -13,6 +13,8 @@ mod leads;
 mod search;
 #[cfg(test)]
 mod sections;
+#[cfg(test)]
+mod tables;
 
 #[cfg(test)]
 use std::fmt::Debug;

@@ -1,17 +1,15 @@
 -- What the opponent's hand and the crib must count so that no game from a position on fails.
-use Rattle.std.specs.Prelude.{◌≡◌, ℕ, ◌*◌, ◌<◌, ◌≤◌, nat_lt, Bool, ◌&&◌, List, ◌∷◌, length, map, ◌↔◌, IsTrue, IsFalse}
+use Rattle.std.specs.Prelude.{◌≡◌, ℕ, ◌*◌, ◌<◌, ◌≤◌, ◌&&◌, List, ◌∷◌, length, map, ◌↔◌, IsTrue, IsFalse}
 use Rattle.std.specs.List.{All}
 use Rattle.crib_cards.specs.Cards.{rank_of}
-use Rattle.crib_cards.specs.Sets.{count_at, has, rank_counts}
+use Rattle.crib_cards.specs.Sets.{has, rank_counts}
 use Rattle.crib_cards.specs.declared.letters.Letter.{Letter}
-use Rattle.crib_cards.specs.declared.letters.Letter.TheVariants.{Seen, Go}
 use Rattle.crib_cards.specs.declared.sides.Dealt.{Dealt}
 use Rattle.crib_play.specs.History.{Event, Theirs}
 use Rattle.crib_show.specs.Show.{hand_points}
 use Rattle.crib_problem.specs.Setup.{Setup}
 use Rattle.crib_plan.specs.declared.plan.Node.{Node}
-use Rattle.crib_know.specs.Knowledge.{Knowledge}
-use Rattle.crib_know.specs.Hidden.{AgreesWith, passes_counts}
+use Rattle.crib_know.specs.Hidden.{AgreesWith}
 use Rattle.crib_know.specs.Private.Ahead.{turns_ahead}
 use Rattle.crib_show.specs.declared.demands.Demand.{Demand}
 use Rattle.crib_sure.specs.declared.keys.Key.{Key}
@@ -50,11 +48,6 @@ IsDemandFrom problem plan key counts = IsDemandAt problem plan key counts (Beats
 abbrev pub IsDemandAfter : Setup → List Node → Key → List ℕ → Letter → Demand → Type 0
 IsDemandAfter problem plan key counts letter =
     IsDemandAt problem plan key counts (λ history. BeatsFrom problem plan (Theirs letter ∷ history))
-
--- whether a hold with these counts may show a letter: it has a card left for it, or passes the test after a go
-abbrev pub may_show : Knowledge → Knowledge → Letter → List ℕ → Bool
-may_show before after (Seen rank) counts = nat_lt (count_at before.ranks_seen rank) (count_at counts rank)
-may_show before after Go counts = passes_counts after.least after.ranks_seen counts
 
 -- a demand of a kind is joined to another. Hands and cribs have at most 102 points each
 pub record IsJoined (Kind : Demand → Type 0) (old new : Demand) : Type 0 where

@@ -1,5 +1,6 @@
--- What is known of a plan to try, and its status.
+-- What is known of a plan to try, and its status, and why there are no turns.
 use Rattle.std.specs.Prelude.{◌≡◌, ◌⊎◌, Bool, true, false, IsFalse, IsTrue, List, Some}
+use Rattle.crib_cards.specs.declared.moves.Act.{Act}
 use Rattle.crib_problem.specs.Setup.{Setup}
 use Rattle.crib_plan.specs.Nodes.{ArePlan, most_nodes}
 use Rattle.crib_plan.specs.declared.plan.Node.{Node}
@@ -12,6 +13,8 @@ use Rattle.crib_input.specs.declared.reason.Reason.{Reason}
 use Rattle.crib_input.specs.declared.reason.Reason.TheVariants.{Fault}
 use Rattle.crib_run.specs.declared.status.Status.{Status}
 use Rattle.crib_run.specs.declared.status.Status.TheVariants.{Yes, No}
+use Rattle.crib_leads.specs.Leads.{IsTooLarge}
+use Rattle.crib_sheet.specs.Leads.{HasLargePlan}
 
 -- yes if the plan is sure, and no otherwise
 abbrev pub tried_status : Bool → Status
@@ -32,3 +35,12 @@ pub record IsTried (problem : Setup) (plan : List Node) (sure : Bool) : Type 0 w
 abbrev pub IsUntried : Setup → Reason → Type 0
 IsUntried problem reason =
     (reason ≡ Fault NoMemory) ⊎ ((reason ≡ Fault TooLarge) × ExceedsLimit problem most_nodes)
+
+-- a reason why there are no turns: an allocation failed, or the plan after one has more nodes than a plan may have
+abbrev pub IsNoTurns : Setup → Reason → Type 0
+IsNoTurns problem reason =
+    (reason ≡ Fault NoMemory) ⊎ ((reason ≡ Fault TooLarge) × ((act : Act) × IsTooLarge problem act))
+
+-- a reason why there is no answer: the same, or it is the plan for the problem
+abbrev pub IsNoLeads : Setup → Reason → Type 0
+IsNoLeads problem reason = (reason ≡ Fault NoMemory) ⊎ ((reason ≡ Fault TooLarge) × HasLargePlan problem)

@@ -6,10 +6,13 @@ ghost use Rattle.crib_sheet.specs.Sheet.{SheetMakes};
 use crate::answer::Sheet;
 use crate::answer::beaten::beaten_tally;
 use crate::answer::job::SheetJob;
+use crate::answer::leads::leads_sheet;
+use crate::answer::next::next_sheet;
 use crate::answer::plan::plan_sheet;
 use crate::answer::played::game_sheet;
 use crate::answer::to_try::plan_to_try;
 use crate::refutation::{why_in_words, why_none};
+use crate::scores::score_sheet;
 use crib_input::{Reason, Sections};
 use crib_run::Asks;
 use std::alloc::Allocator;
@@ -25,9 +28,10 @@ impl<A: Allocator + Copy> Asks<A> for SheetJob {
 
     fn sections(self) -> Sections {
         match self {
-            SheetJob::Plan | SheetJob::Beaten => Sections::Question,
+            SheetJob::Plan | SheetJob::Beaten | SheetJob::Next => Sections::Question,
             SheetJob::Game => Sections::Played,
-            SheetJob::Try | SheetJob::Refute | SheetJob::Why => Sections::Problem,
+            SheetJob::Try | SheetJob::Refute | SheetJob::Why | SheetJob::Leads | SheetJob::Scores =>
+                Sections::Problem,
         }
     }
 
@@ -39,6 +43,9 @@ impl<A: Allocator + Copy> Asks<A> for SheetJob {
             SheetJob::Try => Ok(Sheet::Try(plan_to_try(alloc, input)?)),
             SheetJob::Refute => Ok(Sheet::Refute(why_none(alloc, input)?)),
             SheetJob::Why => Ok(Sheet::Reasons(why_in_words(alloc, input)?)),
+            SheetJob::Leads => Ok(Sheet::Leads(leads_sheet(alloc, input)?)),
+            SheetJob::Next => Ok(Sheet::Next(next_sheet(alloc, input)?)),
+            SheetJob::Scores => Ok(Sheet::Scores(score_sheet(alloc, input)?)),
         }
     }
 }

@@ -20,10 +20,18 @@ pub enum SheetJob {
     Refute,
     /// `why`: reads a problem, and prints the same in words.
     Why,
+    /// `leads`: reads a problem, and prints each turn that may come next, with what is after it.
+    Leads,
+    /// `next`: reads a problem, a plan and the turns since, and prints what comes next.
+    Next,
+    /// `scores`: reads a problem, and prints at which scores turns are sure, or a plan is.
+    Scores,
 }
 
 /// The names of the jobs, in the order in which the help text lists them.
-pub static NAMES: [&str; 6] = ["plan", "game", "beaten", "try", "refute", "why"];
+pub static NAMES: [&str; 9] = [
+    "plan", "game", "beaten", "try", "refute", "why", "leads", "next", "scores",
+];
 
 impl FromStr for SheetJob {
     type Err = UnknownJob;
@@ -38,6 +46,9 @@ impl FromStr for SheetJob {
             "try" => Ok(SheetJob::Try),
             "refute" => Ok(SheetJob::Refute),
             "why" => Ok(SheetJob::Why),
+            "leads" => Ok(SheetJob::Leads),
+            "next" => Ok(SheetJob::Next),
+            "scores" => Ok(SheetJob::Scores),
             _ => Err(UnknownJob),
         }
     }

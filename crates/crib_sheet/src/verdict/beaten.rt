@@ -2,7 +2,7 @@
 ghost use Rattle.std.specs.Prelude.{IfOk, List};
 ghost use Rattle.crib_plan.specs.declared.plan.Node.{Node};
 ghost use Rattle.crib_beaten.specs.Tally.{IsTally};
-ghost use Rattle.crib_sheet.specs.PlanBeaten.{AreBeatingOf, AreHandsOf};
+ghost use Rattle.crib_sheet.specs.PlanBeaten.{AreBeating, AreBeatingOf, AreHandsOf};
 
 use crib_beaten::{Rows, Tally, rows_of, tally_of};
 use crib_check::{NoMemory, Verdict};
@@ -30,12 +30,22 @@ pub(crate) fn beaten_by<A: Allocator, B: Allocator>(
             };
             Ok((none, None))
         }
-        Verdict::Fails(_, _) => {
-            let tally = tally_of(alloc, problem, plan)?;
-            let hands = hands_of(problem, &tally);
-            Ok((tally, hands))
-        }
+        Verdict::Fails(_, _) => figures_of(alloc, problem, plan),
     }
+}
+
+/// Counts the deals that beat a plan. It fails if an allocation fails.
+pub(crate) fn figures_of<A: Allocator, B: Allocator>(
+    alloc: A,
+    problem: &Problem,
+    plan: &Plan<B>,
+) -> Result<(Tally<A>, Option<Rows>), NoMemory>
+    ensures { IfOk result (λ beaten.
+        AreBeating problem.now plan.now beaten.0.open_deals beaten.0.beaten beaten.1) }
+{
+    let tally = tally_of(alloc, problem, plan)?;
+    let hands = hands_of(problem, &tally);
+    Ok((tally, hands))
 }
 
 // Returns rows that say which hands beat a plan, unless more than a tenth of all deals do.

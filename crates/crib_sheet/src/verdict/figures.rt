@@ -119,8 +119,8 @@ fn deals_word(deals: u32) -> &'static [u8]
     if deals == 1 { b" deal" } else { b" deals" }
 }
 
-// Puts a number with commas.
-fn put_grouped<P: Page>(page: &mut P, number: u32)
+/// Puts a number with commas.
+pub(crate) fn put_grouped<P: Page>(page: &mut P, number: u32)
     ensures { Prints (grouped number) (P.stand page.old) (P.stand page.new) }
 {
     page.put(grouped(number).as_slice());

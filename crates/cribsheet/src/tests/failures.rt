@@ -12,13 +12,15 @@ use std::io::ErrorKind;
 use std::process::Abort;
 
 // The input of a job.
-fn sections(job: SheetJob) -> [&'static str; 2] {
+fn sections(job: SheetJob) -> [&'static str; 3] {
     match job {
-        SheetJob::Plan => [TWELVE, LOOK],
-        SheetJob::Beaten => [BEGUN, REST],
-        SheetJob::Try => [TWELVE, ""],
-        SheetJob::Refute | SheetJob::Why => [BEGUN_SHORT, ""],
-        SheetJob::Game => [TENS, LAST_CARD],
+        SheetJob::Plan => [TWELVE, LOOK, ""],
+        SheetJob::Beaten => [BEGUN, REST, ""],
+        SheetJob::Try => [TWELVE, "", ""],
+        SheetJob::Refute | SheetJob::Why | SheetJob::Scores => [BEGUN_SHORT, "", ""],
+        SheetJob::Game => [TENS, LAST_CARD, ""],
+        SheetJob::Leads => [BEGUN, "", ""],
+        SheetJob::Next => [BEGUN, REST, "turns 1\nown 2D\n"],
     }
 }
 
@@ -64,6 +66,8 @@ fn a_failed_read_is_fault_9(rt: HostRuntime) {
     fails_to_read(&rt, SheetJob::Try);
     fails_to_read(&rt, SheetJob::Refute);
     fails_to_read(&rt, SheetJob::Why);
+    fails_to_read(&rt, SheetJob::Leads);
+    fails_to_read(&rt, SheetJob::Next);
 }
 
 // The writer fails or is interrupted after so many bytes of the whole text.
@@ -93,4 +97,6 @@ fn a_failed_write_leaves_a_front(rt: HostRuntime) {
     fails_to_write(&rt, SheetJob::Try);
     fails_to_write(&rt, SheetJob::Refute);
     fails_to_write(&rt, SheetJob::Why);
+    fails_to_write(&rt, SheetJob::Leads);
+    fails_to_write(&rt, SheetJob::Next);
 }

@@ -6,21 +6,21 @@ use crib_sheet::SheetJob;
 use example_texts::games::LAST_CARD;
 use example_texts::joined;
 use example_texts::plans::{NO_PLAN, TWOS};
-use example_texts::problems::{BEGUN, BEGUN_SHORT, TENS, THIRTEEN, TWELVE};
+use example_texts::problems::{BEGUN, BEGUN_SHORT, LAST_TWO_BEHIND, TENS, THIRTEEN, TWELVE};
 use refusing_alloc::Refusing;
 use std::process::Abort;
 
-// What a run does in which an allocation fails.
-enum Growth {
+/// What a run does in which an allocation fails.
+pub(crate) enum Growth {
     Reported,
     PassedOver,
     // There is no such allocation.
     NotMade,
 }
 
-// Fails the allocation after the first `served` ones of a run. Asserts that `fault 11` alone was written, or the whole
-// sheet.
-fn growth_after(
+/// Fails the allocation after the first `served` ones of a run. Asserts that `fault 11` alone was written, or the whole
+/// sheet.
+pub(crate) fn growth_after(
     rt: &(impl Abort + AllocGlobal),
     job: SheetJob,
     sections: &[&str],
@@ -106,4 +106,30 @@ fn of_a_tally(rt: HostRuntime) {
     let (reported, passed_over) = refuse_each(&rt, SheetJob::Beaten, &[BEGUN, NO_PLAN]);
     assert!(rt; reported >= 2);
     same(&rt, passed_over, 0);
+}
+
+// The input, and the entries.
+#[test]
+fn of_cards_that_are_sure(rt: HostRuntime) {
+    let (reported, passed_over) = refuse_each(&rt, SheetJob::Leads, &[BEGUN]);
+    assert!(rt; reported >= 2);
+    assert!(rt; passed_over > 0);
+}
+
+// The entries, those for the goal `stop`, and the plan to try make many allocations, so not each of them is tried.
+#[test]
+fn of_a_go_that_is_not_sure(rt: HostRuntime) {
+    let whole = written_of(&rt, SheetJob::Leads, &[LAST_TWO_BEHIND]);
+    for served in [1, 30, 300] {
+        match growth_after(&rt, SheetJob::Leads, &[LAST_TWO_BEHIND], served, &whole) {
+            Growth::Reported | Growth::PassedOver | Growth::NotMade => {}
+        }
+    }
+}
+
+// The input and the plan.
+#[test]
+fn of_what_comes_next(rt: HostRuntime) {
+    let refused = refuse_each(&rt, SheetJob::Next, &[TWELVE, TWOS, "turns 1\nown 2C\n"]);
+    same(&rt, refused, (2, 0));
 }

@@ -37,6 +37,8 @@ fn each_command_says_why(rt: HostRuntime) {
     says_why(&rt, SheetJob::Try, &[THIRTEEN]);
     says_why(&rt, SheetJob::Refute, &[THIRTEEN]);
     says_why(&rt, SheetJob::Why, &[THIRTEEN]);
+    says_why(&rt, SheetJob::Next, &[THIRTEEN, TWOS, "turns 0\n"]);
+    says_why(&rt, SheetJob::Scores, &[THIRTEEN]);
 }
 
 // A run over a game whose seventh act is refused, with the memory of `heap`.

@@ -32,6 +32,9 @@ fn reads_the_words(rt: HostRuntime) {
     reads(&rt, "cribsheet try", Ok(SheetJob::Try));
     reads(&rt, "cribsheet refute", Ok(SheetJob::Refute));
     reads(&rt, "cribsheet why", Ok(SheetJob::Why));
+    reads(&rt, "cribsheet leads", Ok(SheetJob::Leads));
+    reads(&rt, "cribsheet next", Ok(SheetJob::Next));
+    reads(&rt, "cribsheet scores", Ok(SheetJob::Scores));
     reads(&rt, "cribsheet check", Err(ErrorKind::InvalidValue));
     reads(&rt, "cribsheet --help", Err(ErrorKind::DisplayHelp));
     reads(&rt, "cribsheet --version", Err(ErrorKind::UnknownArgument));
@@ -57,6 +60,9 @@ fn tells_what_each_command_does(rt: HostRuntime) {
         "\n  try     reads a problem, ",
         "\n  refute  reads a problem, ",
         "\n  why     reads a problem, ",
+        "\n  leads   reads a problem, ",
+        "\n  next    reads a problem, a plan and ",
+        "\n  scores  reads a problem, ",
         "\nManual: man cribsheet. ",
     ];
     has_parts(&rt, help.as_str(), &parts);

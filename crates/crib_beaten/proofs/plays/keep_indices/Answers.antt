@@ -1,6 +1,6 @@
 use Rattle.std.proofs.Common.{[], get_or, rules, sym, ap, ◌∙◌, arith}
 use Rattle.std.proofs.lemmas.List.{get_or_default}
-use Rattle.crib_beaten.specs.Private.Demands.{may_show}
+use Rattle.crib_beaten.specs.Beaten.{may_show}
 use Rattle.crib_beaten.proofs.JoinedDemands.{none_kept, one_kept}
 use Rattle.crib_beaten.proofs.plays.keep_indices.Goals as goal
 

@@ -1,6 +1,5 @@
 use Rattle.std.proofs.Common.{◌≡◌, ◌≤◌, filter, length, take}
-use Rattle.crib_beaten.specs.Beaten.{counts_of}
-use Rattle.crib_beaten.specs.Private.Demands.{may_show}
+use Rattle.crib_beaten.specs.Beaten.{counts_of, may_show}
 use Rattle.crib_beaten.proofs.plays.keep_indices.Given as goal
 
 abbrev pub invariant-loop-index : goal.invariant-loop-index

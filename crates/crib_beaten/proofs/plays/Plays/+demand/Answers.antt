@@ -6,7 +6,7 @@ use Rattle.std.proofs.lemmas.List.Elements.{All-filter}
 use Rattle.crib_beaten.proofs.BeatingDeals.{beats_agrees}
 use Rattle.crib_beaten.proofs.DemandsByTurns.{all_below, goes_on, next_below, none_below, none_demand, over_demand, own_demand}
 use Rattle.crib_know.specs.Private.Ahead.{turns_ahead}
-use Rattle.crib_beaten.specs.Private.Demands.{may_show}
+use Rattle.crib_beaten.specs.Beaten.{may_show}
 use Rattle.crib_beaten.proofs.DemandsByTurns.{stuck_demand, theirs_not_shown, theirs_shown}
 use Rattle.crib_beaten.proofs.JoinedDemands.{both, joined_as, joined_both, joined_kept, joined_none, met_both}
 use Rattle.crib_beaten.proofs.JoinedDemands.{room_after}

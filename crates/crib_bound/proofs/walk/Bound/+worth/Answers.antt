@@ -1,88 +1,84 @@
-use Rattle.std.proofs.Common.{◌*◌, ◌≤◌, length, take, refl, sym, subst, arith, rules}
+use Rattle.std.proofs.Common.{◌∙◌, ◌≤◌, get_or, length, take, refl, sym, arith, rules}
 use Rattle.std.proofs.lemmas.List.{length-take}
-use Rattle.crib_know.specs.Private.Ahead.{turns_ahead}
+use Rattle.crib_cards.specs.declared.moves.Move.TheVariants as move
 use Rattle.crib_cards.proofs.Members.{has_here}
 use Rattle.crib_cards.proofs.LowestCard.{lowest_none, lowest_split, rest_smaller}
-use Rattle.crib_bound.proofs.WalkSteps.{after_turn, all_done, begun_with, cannot_play, card_bound, card_less, fall, fall_more, go_bound, loop_end, loop_next}
-use Rattle.crib_bound.proofs.WalkSteps.{loop_start, no_part, none_bound, none_walked, own_bound, room_after, room_first, room_kept, some_card}
-use Rattle.crib_bound.proofs.WalkSteps.{some_part, still_done, still_held}
+use Rattle.crib_beaten.proofs.JoinedDemands.{room_after}
+use Rattle.crib_bound.proofs.WalkSteps.{all_done, cannot_play, falls, go_bound, more_letters, no_letter, none_bound, none_walked}
+use Rattle.crib_bound.proofs.WalkSteps.{one_passed, one_walked, own_after, own_bound, some_card, some_letter, still_held, walk_after}
 use Rattle.crib_bound.proofs.walk.Bound.+worth.Goals as goal
 
 -- ---- a letter
-pub worth_after-returns-then-not-can_show-clause-part : goal.worth_after-returns-then-not-can_show-clause-part
-worth_after-returns-then-not-can_show-clause-part t c = no_part
+pub worth_after-returns-then-not-can_show-clause-worth : goal.worth_after-returns-then-not-can_show-clause-worth
+worth_after-returns-then-not-can_show-clause-worth t c = no_letter
 
-pub worth_after-returns-then-not-can_show-clause-small : goal.worth_after-returns-then-not-can_show-clause-small
-worth_after-returns-then-not-can_show-clause-small t c = c.requires.begun.small
+pub worth_after-keep_indices-count-requires-clause-small : goal.worth_after-keep_indices-count-requires-clause-small
+worth_after-keep_indices-count-requires-clause-small t c = c.requires.small
 
-pub worth_after-take_parts-count-requires-clause-small : goal.worth_after-take_parts-count-requires-clause-small
-worth_after-take_parts-count-requires-clause-small t c = c.requires.begun.small
+pub worth_after-keep_indices-count-requires-clause-room : goal.worth_after-keep_indices-count-requires-clause-room
+worth_after-keep_indices-count-requires-clause-room t c = omega (arith, c.split_at_mut-left.ensures.front_len)
 
-pub worth_after-take_parts-count-requires-clause-room : goal.worth_after-take_parts-count-requires-clause-room
-worth_after-take_parts-count-requires-clause-room t c = omega (arith, c.split_at_mut-taken.ensures.front_len)
-
-pub worth_after-split_at_mut-taken-requires : goal.worth_after-split_at_mut-taken-requires
-worth_after-split_at_mut-taken-requires t c =
-    let next = after_turn c.requires.begun (rw c.copy-next.ensures at c.saw.ensures) in
-    let room = room_after (length c.args.rest.now) 0 c.requires.room next.1 (omega arith) in omega (arith, room)
+pub worth_after-split_at_mut-left-requires : goal.worth_after-split_at_mut-left-requires
+worth_after-split_at_mut-left-requires t c =
+    let room = room_after 0 c.requires.room (falls c.requires (rw c.copy-next.ensures at c.saw.ensures)) (omega arith) in
+    omega (arith, room.0)
 
 pub worth_after-slice_bounds-worth_at-end : goal.worth_after-slice_bounds-worth_at-end
 worth_after-slice_bounds-worth_at-end t c =
-    omega (arith, c.split_at_mut-taken.ensures.front_len, c.take_parts-count.ensures.few, c.take_parts-count.ensures.room)
+    omega (arith, c.split_at_mut-left.ensures.front_len, c.keep_indices-count.ensures.few, c.keep_indices-count.ensures.room)
 
 pub worth_after-worth_at-requires : goal.worth_after-worth_at-requires
 worth_after-worth_at-requires t c =
-    let next = after_turn c.requires.begun (rw c.copy-next.ensures at c.saw.ensures) in
-    let left = take c.take_parts-count.result c.take_parts-count.new.taken in
-    let few : length left ≤ length c.args.rest.now =
-    omega (arith, length-take c.take_parts-count.result c.take_parts-count.new.taken, c.take_parts-count.ensures.few) in
-    let room = room_after (length c.args.rest.now) (length left) c.requires.room next.1 few in (
-      fall next.1 c.decreases,
-      record {
-        begun = begun_with c.take_parts-count.ensures.taken.small next.0;
-        room = omega (arith, room, c.split_at_mut-taken.ensures.back_len);
-      },
+    let goes = rw c.copy-next.ensures at c.saw.ensures in
+    let less = falls c.requires goes in
+    let left = take c.keep_indices-count.result c.keep_indices-count.new.left in
+    let few : length left ≤ length c.args.indices.now =
+    omega (arith, length-take c.keep_indices-count.result c.keep_indices-count.new.left, c.keep_indices-count.ensures.few) in
+    let room = room_after (length left) c.requires.room less few in (
+      omega (arith, less, c.decreases),
+      walk_after c.requires goes left _ c.keep_indices-count.ensures.small (omega (arith, room.0, c.split_at_mut-left.ensures.back_len)),
     )
 
-pub worth_after-returns-then-count-eq0-clause-part : goal.worth_after-returns-then-count-eq0-clause-part
-worth_after-returns-then-count-eq0-clause-part t c = some_part (rw c.copy-next.ensures at c.saw.ensures) c.take_parts-count.ensures.taken none_bound
+pub worth_after-returns-then-count-eq0-clause-worth : goal.worth_after-returns-then-count-eq0-clause-worth
+worth_after-returns-then-count-eq0-clause-worth t c = no_letter
 
-pub worth_after-returns-clause-part : goal.worth_after-returns-clause-part
-worth_after-returns-clause-part t c = some_part (rw c.copy-next.ensures at c.saw.ensures) c.take_parts-count.ensures.taken c.worth_at.ensures.worth
+pub worth_after-returns-clause-worth : goal.worth_after-returns-clause-worth
+worth_after-returns-clause-worth t c =
+    some_letter (rw c.copy-next.ensures at c.saw.ensures) c.keep_indices-count.ensures.kept c.worth_at.ensures.worth
 
 -- ---- each letter
-pub worth_by_theirs-split_at_mut-rest-requires : goal.worth_by_theirs-split_at_mut-rest-requires
-worth_by_theirs-split_at_mut-rest-requires t c = room_first (length c.args.left.now) (turns_ahead c.args.know.now) c.requires.room
+pub worth_by_theirs-loop-place-init : goal.worth_by_theirs-loop-place-init
+worth_by_theirs-loop-place-init t c = record { so_far = none_bound; room = refl }
 
-pub worth_by_letters-loop-place-init : goal.worth_by_letters-loop-place-init
-worth_by_letters-loop-place-init t c = record { so_far = loop_start; small = c.requires.begun.small; long = refl; room = refl }
+pub worth_by_theirs-worth_after-more-requires : goal.worth_by_theirs-worth_after-more-requires
+worth_by_theirs-worth_after-more-requires t c = (
+  omega (arith, c.decreases),
+  record {
+    own = c.requires.own;
+    history = c.requires.history;
+    knows = c.requires.knows;
+    small = c.requires.small;
+    room = omega (arith, c.requires.room, c.loop-place.invariant.room);
+  },
+)
 
-pub worth_by_letters-worth_after-more-requires : goal.worth_by_letters-worth_after-more-requires
-worth_by_letters-worth_after-more-requires t c =
-    let same = c.loop-place.invariant.long in
-    let room = subst (λ n. n * (2 * turns_ahead c.args.know.now) ≤ length c.loop-place.spare) (sym same)
-    (omega (arith, c.requires.room, c.loop-place.invariant.room)) in
-    (omega (arith, c.decreases), record { begun = begun_with c.loop-place.invariant.small c.requires.begun; room = room })
-
-pub worth_by_letters-loop-place-preserved : goal.worth_by_letters-loop-place-preserved
-worth_by_letters-loop-place-preserved t c = record {
-  so_far = loop_next (omega (arith, c.saturating_add-sum.ensures)) c.loop-place.invariant.so_far c.worth_after-more.ensures.part;
-  small = c.worth_after-more.ensures.small;
-  long = search rules;
+pub worth_by_theirs-loop-place-preserved : goal.worth_by_theirs-loop-place-preserved
+worth_by_theirs-loop-place-preserved t c = record {
+  so_far = more_letters (omega (arith, c.saturating_add-sum.ensures)) c.loop-place.invariant.so_far c.worth_after-more.ensures.worth;
   room = search rules;
 }
-
-pub worth_by_letters-returns-clause-worth : goal.worth_by_letters-returns-clause-worth
-worth_by_letters-returns-clause-worth t c = loop_end c.loop-place.invariant.so_far
 
 -- ---- the owner's turn
 pub worth_by_own-worth_at-requires : goal.worth_by_own-worth_at-requires
 worth_by_own-worth_at-requires t c =
-    let next = after_turn c.requires.walk.begun (rw c.copy-next.ensures at c.own_go.ensures) in
-    (fall_more next.1 c.decreases, record { begun = next.0; room = room_kept (length c.args.left.now) c.requires.walk.room next.1 })
+    let goes = rw c.copy-next.ensures at c.own_go.ensures in
+    let less = falls c.requires.walk goes in
+    let room = room_after (length c.args.indices.now) c.requires.walk.room less (omega arith) in
+    (omega (arith, less, c.decreases), walk_after c.requires.walk goes c.args.indices.now _ c.requires.walk.small room.1)
 
 pub worth_by_own-returns-then-must_go-clause-worth : goal.worth_by_own-returns-then-must_go-clause-worth
-worth_by_own-returns-then-must_go-clause-worth t c = go_bound c.requires.asked (rw c.copy-next.ensures at c.own_go.ensures) c.worth_at.ensures.worth
+worth_by_own-returns-then-must_go-clause-worth t c =
+    go_bound (own_after _ c.requires.asked (rw c.copy-next.ensures at c.own_go.ensures) c.worth_at.ensures.worth)
 
 pub worth_by_own-loop-card-init : goal.worth_by_own-loop-card-init
 worth_by_own-loop-card-init t c = record { held = λ card h. rw c.own_left-rest.ensures at h; done = rw c.own_left-rest.ensures none_walked; room = refl }
@@ -96,18 +92,10 @@ worth_by_own-loop-card-preserved-then-not-fits t c =
     let parts = lowest_split c.loop-card.rest c.without-rest.result c.in-Some.card c.in-Some.ensures.set c.in-Some.ensures.first c.without-rest.ensures in
     record {
       held = still_held c.args.know.now.own_left parts c.loop-card.invariant.held;
-      done = still_done parts (omega arith)
-          (λ may. absurd (cannot_play c.args.know.now c.in-Some.card c.fits.result (rw (c.round.ensures, c.rank.ensures.value) at c.fits.ensures)
-          c.if-not-fits.true may))
-          c.loop-card.invariant.done;
+      done = one_passed parts (cannot_play c.args.know.now c.in-Some.card c.fits.result
+          (rw (c.round.ensures, c.rank.ensures.value) at c.fits.ensures) c.if-not-fits.true) c.loop-card.invariant.done;
       room = c.loop-card.invariant.room;
     }
-
-pub worth_by_own-worth_at-requires-in-Some : goal.worth_by_own-worth_at-requires-in-Some
-worth_by_own-worth_at-requires-in-Some t c =
-    let next = after_turn c.requires.walk.begun (rw c.copy-next-in-Some.ensures at c.own_play.ensures) in
-    let room = room_kept (length c.args.left.now) c.requires.walk.room next.1 in
-    (fall_more next.1 c.decreases, record { begun = next.0; room = omega (arith, room, c.loop-card.invariant.room) })
 
 pub worth_by_own-own_play-requires-clause-held : goal.worth_by_own-own_play-requires-clause-held
 worth_by_own-own_play-requires-clause-held t c =
@@ -118,14 +106,33 @@ pub worth_by_own-loop-card-smaller : goal.worth_by_own-loop-card-smaller
 worth_by_own-loop-card-smaller t c =
     rest_smaller c.loop-card.rest c.without-rest.result c.in-Some.card c.in-Some.ensures.set c.in-Some.ensures.first c.without-rest.ensures
 
+pub worth_by_own-worth_at-value-requires : goal.worth_by_own-worth_at-value-requires
+worth_by_own-worth_at-value-requires t c =
+    let goes = rw c.copy-next-in-Some.ensures at c.own_play.ensures in
+    let less = falls c.requires.walk goes in
+    let room = room_after (length c.args.indices.now) c.requires.walk.room less (omega arith) in (
+      omega (arith, less, c.decreases),
+      walk_after c.requires.walk goes c.args.indices.now _ c.requires.walk.small (omega (arith, room.1, c.loop-card.invariant.room)),
+    )
+
+pub worth_by_own-returns-then-value-eq0-clause-worth : goal.worth_by_own-returns-then-value-eq0-clause-worth
+worth_by_own-returns-then-value-eq0-clause-worth t c = none_bound
+
+pub worth_by_own-join-least-requires-clause-same : goal.worth_by_own-join-least-requires-clause-same
+worth_by_own-join-least-requires-clause-same t c = λ index none.
+    c.loop-card.invariant.done.fewer.elsewhere index none ∙ sym (c.worth_at-value.ensures.worth.fewer.elsewhere index none)
+
 pub worth_by_own-loop-card-preserved : goal.worth_by_own-loop-card-preserved
 worth_by_own-loop-card-preserved t c =
     let parts = lowest_split c.loop-card.rest c.without-rest.result c.in-Some.card c.in-Some.ensures.set c.in-Some.ensures.first c.without-rest.ensures in
     record {
       held = still_held c.args.know.now.own_left parts c.loop-card.invariant.held;
-      done = still_done parts (omega (arith, c.min-least.ensures))
-          (λ may. card_less (omega (arith, c.min-least.ensures))
-          (card_bound c.requires.asked (rw c.copy-next-in-Some.ensures at c.own_play.ensures) c.worth_at-in-Some.ensures.worth))
+      done = one_walked parts (record {
+        less = λ index. c.join-least.ensures.less index (get_or c.args.amounts.now index 0) (c.loop-card.invariant.done.fewer.less index)
+            (c.worth_at-value.ensures.worth.fewer.less index);
+        elsewhere = λ index none. c.join-least.ensures.elsewhere index none ∙ c.loop-card.invariant.done.fewer.elsewhere index none;
+      }) c.join-least.ensures.kept c.join-least.ensures.left
+          (own_after (move.Card c.in-Some.card) c.requires.asked (rw c.copy-next-in-Some.ensures at c.own_play.ensures) c.worth_at-value.ensures.worth)
           c.loop-card.invariant.done;
       room = search rules;
     }

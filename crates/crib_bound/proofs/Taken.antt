@@ -1,0 +1,273 @@
+-- What is taken of amounts, counted and given back.
+use Rattle.std.proofs.Common.{◌≡◌, ◌⊎◌, ℕ, ◌+◌, ◌-◌, ◌*◌, ◌/◌, ◌<◌, ◌≤◌, min, Bool, true, false, not, ◌&&◌, ◌||◌, cond, eqb, List, [], ◌∷◌, ◌++◌}
+use Rattle.std.proofs.Common.{length, set, take, sum_by, count_by, get_or, refl, sym, ap, subst, ◌∙◌, inl, inr, arith}
+use Rattle.std.proofs.Math.Nat.{div-mul-le_self, min-eq_left, min-le_left, min-le_right}
+use Rattle.std.proofs.lemmas.Bool.{both_ways, cases_Bool, cases_eq, eqb-true, eq-eqb, ne_eqb, true_from_ne_false}
+use Rattle.std.proofs.lemmas.Bool.Decides.{nat_tests}
+use Rattle.std.proofs.lemmas.List.{get_or-set_same, get_or-set_other, take_more_set}
+use Rattle.std.proofs.lemmas.List.Sums.{sum_by-cons}
+use Rattle.crib_cards.specs.Sets.{has}
+use Rattle.crib_cards.specs.declared.sides.Dealt.{Dealt}
+use Rattle.crib_cards.proofs.SetLemmas.{has_push}
+use Rattle.crib_show.specs.declared.demands.Demand.{Demand}
+use Rattle.crib_sure.specs.Shows.{meets}
+use Rattle.crib_bound.specs.declared.walk.Bound.{Bound}
+use Rattle.crib_bound.specs.Private.Walks.{AreDealsOf, AreFewer, AreGivenBack, AreLowered, index_of, misses_at, taken_of}
+use Rattle.crib_bound.proofs.Amounts.{sum_both, sum_less}
+
+-- ---- sums
+sum_where : (test : Dealt → Bool) (parts : ℕ) (deals : List Dealt) → sum_by (λ dealt. cond (test dealt) parts 0) deals ≡ count_by test deals * parts
+sum_where test parts [] = omega arith
+sum_where test parts (dealt ∷ deals) = here (test dealt) refl (sum_where test parts deals)
+  where
+    two : (b : Bool) (n : ℕ) → (cond b 1 0 + n) * parts ≡ cond b parts 0 + n * parts
+    two true n = grind arith
+    two false n = grind arith
+
+    here : (b : Bool) → test dealt ≡ b → sum_by (λ other. cond (test other) parts 0) deals ≡ count_by test deals * parts →
+        sum_by (λ other. cond (test other) parts 0) (dealt ∷ deals) ≡ count_by test (dealt ∷ deals) * parts
+    here b is rest =
+        let more = sum_by-cons (λ other. cond (test other) parts 0) dealt deals in
+        let counted = ap (λ n. n * parts) (sum_by-cons (λ other. cond (test other) 1 0) dealt deals) in
+        let both = two b (count_by test deals) in
+        let one = ap (λ (it : Bool). cond it parts 0) is in
+        let also = ap (λ (it : Bool). (cond it 1 0 + count_by test deals) * parts) is in
+        omega (arith, rest, more, counted, both, one, also)
+
+times_few : {one other : ℕ} (by : ℕ) → one ≤ other → one * by ≤ other * by
+times_few by less = grind (arith, less)
+
+-- ---- amounts
+pub same_amounts : {indices amounts : List ℕ} → AreFewer indices amounts amounts
+same_amounts = record { less = λ index. omega arith; elsewhere = λ index h. refl }
+
+pub fewer_still : {indices before mid after : List ℕ} → AreFewer indices before mid → AreFewer indices mid after → AreFewer indices before after
+fewer_still one other = record {
+  less = λ index. omega (arith, one.less index, other.less index);
+  elsewhere = λ index h. other.elsewhere index h ∙ one.elsewhere index h;
+}
+
+-- an entry that is set
+pub set_entry : (amounts : List ℕ) (at amount index : ℕ) → at < length amounts →
+    get_or (set amounts at amount) index 0 ≡ cond (eqb at index) amount (get_or amounts index 0)
+set_entry amounts at amount index inside = elim (cases_eq index at) [
+  | inl same ↦
+      let put = get_or-set_same amounts at amount 0 inside in
+      let new = ap (λ n. get_or (set amounts at amount) n 0) same in
+      let is = ap (λ (b : Bool). cond b amount (get_or amounts index 0)) (eq-eqb at index (sym same)) in
+      omega (arith, put, new, is)
+  | inr apart ↦
+      let kept = get_or-set_other amounts at index amount 0 apart in
+      let is = ap (λ (b : Bool). cond b amount (get_or amounts index 0)) (ne_eqb at index (λ same. apart (sym same))) in
+      omega (arith, kept, is)
+]
+
+-- what is taken at an index that is one of some
+pub taken_here : {indices before after : List ℕ} → AreFewer indices before after → (dealt : Dealt) → 1 ≤ taken_of before after dealt →
+    has indices (index_of dealt) ≡ true
+taken_here {indices} {before} {after} fewer dealt some =
+    true_from_ne_false (has indices (index_of dealt)) (λ none. let same = fewer.elsewhere (index_of dealt) none in omega (arith, same, some))
+
+-- ---- the deals that miss a demand
+-- so much is counted of the deals that miss a demand, by what is taken so far
+pub record AreCounted (bound : Bound) (demand : Demand) (indices before after : List ℕ) (sum : ℕ) : Type 0 where
+  pub fewer : AreFewer indices before after
+  pub few : (deals : List Dealt) → AreDealsOf bound deals →
+      sum ≤ sum_by (λ dealt. cond (not (meets bound.problem.now demand dealt)) (taken_of before after dealt) 0) deals
+
+pub none_counted : {bound : Bound} {demand : Demand} {indices amounts : List ℕ} → AreCounted bound demand indices amounts amounts 0
+none_counted = record { fewer = same_amounts; few = λ deals are. omega arith }
+
+-- all of one more choice is taken
+pub more_counted : {bound : Bound} {demand : Demand} {indices before after : List ℕ} {sum more count : ℕ} (at : ℕ) → at < length after →
+    has indices at ≡ true → ((deals : List Dealt) → AreDealsOf bound deals → count ≤ count_by (misses_at bound.problem.now demand at) deals) →
+    more ≤ sum + count * get_or after at 0 → AreCounted bound demand indices before after sum → AreCounted bound demand indices before (set after at 0) more
+more_counted {bound} {demand} {indices} {before} {after} {sum} {more} {count} at inside here few enough so_far = record {
+  fewer = record {
+    less = λ index.
+        let put = set_entry after at 0 index inside in
+        let part = rest_few (eqb at index) (get_or after index 0) in
+        omega (arith, put, part, so_far.fewer.less index);
+    elsewhere = λ index none. elim (cases_eq at index) [
+      | inl same ↦ absurd (both_ways (has indices at) (subst (λ (one : ℕ). has indices one ≡ false) (sym same) none) here)
+      | inr apart ↦ get_or-set_other after at index 0 0 (λ same. apart (sym same)) ∙ so_far.fewer.elsewhere index none
+    ];
+  };
+  few = λ deals are.
+      let test = misses_at bound.problem.now demand at in
+      let old : Dealt → ℕ = λ dealt. cond (not (meets bound.problem.now demand dealt)) (taken_of before after dealt) 0 in
+      let put : Dealt → ℕ = λ dealt. cond (misses_at bound.problem.now demand at dealt) (get_or after at 0) 0 in
+      let new : Dealt → ℕ = λ dealt. cond (not (meets bound.problem.now demand dealt)) (taken_of before (set after at 0) dealt) 0 in
+      let both = sum_both old put deals in
+      let all = sum_less (λ dealt. old dealt + put dealt) new deals (λ dealt h.
+      parted (eqb at (index_of dealt)) (not (meets bound.problem.now demand dealt)) (index_of dealt) refl) in
+      let counted = sum_where test (get_or after at 0) deals in
+      let many = times_few (get_or after at 0) (few deals are) in
+      omega (arith, both, all, counted, many, enough, so_far.few deals are);
+}
+  where
+    rest_few : (is : Bool) (parts : ℕ) → cond is 0 parts ≤ parts
+    rest_few true parts = omega arith
+    rest_few false parts = omega arith
+
+    parted : (is missing : Bool) (index : ℕ) → eqb at index ≡ is →
+        cond missing (get_or before index 0 - get_or after index 0) 0 + cond (is && missing) (get_or after at 0) 0
+        ≤ cond missing (get_or before index 0 - get_or (set after at 0) index 0) 0
+    parted true true index e =
+        let put = set_entry after at 0 index inside ∙ ap (λ (b : Bool). cond b 0 (get_or after index 0)) e in
+        let same = ap (λ n. get_or after n 0) (eqb-true at index e) in
+        omega (arith, put, same, so_far.fewer.less index)
+    parted false true index e =
+        let put = set_entry after at 0 index inside ∙ ap (λ (b : Bool). cond b 0 (get_or after index 0)) e in omega (arith, put)
+    parted true false index e = omega arith
+    parted false false index e = omega arith
+
+-- ---- giving back
+none_taken : (amounts : List ℕ) (deals : List Dealt) → sum_by (taken_of amounts amounts) deals ≤ 0
+none_taken amounts [] = omega arith
+none_taken amounts (dealt ∷ deals) =
+    let rest = none_taken amounts deals in let more = sum_by-cons (taken_of amounts amounts) dealt deals in omega (arith, rest, more)
+
+pub none_back : {bound : Bound} {indices amounts : List ℕ} {most : ℕ} → AreGivenBack bound indices amounts amounts most
+none_back {amounts = amounts} = record {
+  more = λ index. omega arith;
+  elsewhere = λ index h. refl;
+  few = λ deals are. let none = none_taken amounts deals in omega (arith, none);
+}
+
+-- of what may still be lost no more is lost
+pub part_of_rest : (more rest weight free : ℕ) → more ≡ min (rest / weight) free → more * weight ≤ rest
+part_of_rest more rest weight free is =
+    let least = min-le_left (rest / weight) free in
+    let most = div-mul-le_self rest weight in
+    let few : more * weight ≤ rest / weight * weight = times_few weight (omega (arith, is, least)) in
+    omega (arith, few, most)
+
+-- some of one more choice
+pub more_back : {bound : Bound} {indices before after : List ℕ} {most : ℕ} (at more weight : ℕ) → at < length after → has indices at ≡ true →
+    get_or bound.weights.now at 0 ≡ weight → AreGivenBack bound indices before after most →
+    AreGivenBack bound indices before (set after at (get_or after at 0 + more)) (most + more * weight)
+more_back {bound} {indices} {before} {after} {most} at more weight inside here is so_far = record {
+  more = λ index. let put = entry index in omega (arith, put, so_far.more index);
+  elsewhere = λ index none. elim (cases_eq at index) [
+    | inl same ↦ absurd (both_ways (has indices at) (subst (λ (one : ℕ). has indices one ≡ false) (sym same) none) here)
+    | inr apart ↦ get_or-set_other after at index (get_or after at 0 + more) 0 (λ same. apart (sym same)) ∙ so_far.elsewhere index none
+  ];
+  few = λ deals are.
+      let old = taken_of after before in
+      let put : Dealt → ℕ = λ dealt. cond (eqb at (index_of dealt)) more 0 in
+      let both = sum_both old put deals in
+      let all = sum_less (taken_of (set after at (get_or after at 0 + more)) before) (λ dealt. old dealt + put dealt) deals
+      (λ dealt h. let entry = entry (index_of dealt) in omega (arith, entry)) in
+      let counted = sum_where (λ dealt. eqb at (index_of dealt)) more deals in
+      let many = times (are.weighed at) in
+      omega (arith, both, all, counted, many, so_far.few deals are);
+}
+  where
+    times : {count : ℕ} → get_or bound.weights.now at 0 ≡ count → count * more ≡ more * weight
+    times {count} e = let same : count ≡ weight = omega (arith, e, is) in rw same (grind arith)
+
+    entry : (index : ℕ) → get_or (set after at (get_or after at 0 + more)) index 0 ≡ get_or after index 0 + cond (eqb at index) more 0
+    entry index = elim (cases_eq at index) [
+      | inl same ↦
+          let put = set_entry after at (get_or after at 0 + more) index inside in
+          let one = ap (λ (b : Bool). cond b (get_or after at 0 + more) (get_or after index 0)) (eq-eqb at index same) in
+          let other = ap (λ (b : Bool). cond b more 0) (eq-eqb at index same) in
+          let old = ap (λ n. get_or after n 0) same in
+          omega (arith, put, one, other, old)
+      | inr apart ↦
+          let put = set_entry after at (get_or after at 0 + more) index inside in
+          let one = ap (λ (b : Bool). cond b (get_or after at 0 + more) (get_or after index 0)) (ne_eqb at index apart) in
+          let other = ap (λ (b : Bool). cond b more 0) (ne_eqb at index apart) in
+          omega (arith, put, one, other)
+    ]
+
+-- ---- joining
+-- what is joined is no more than either
+pub both_below : (indices one other new : List ℕ) →
+    ((index : ℕ) → has indices index ≡ true → get_or new index 0 ≡ min (get_or one index 0) (get_or other index 0)) →
+    ((index : ℕ) → has indices index ≡ false → get_or new index 0 ≡ get_or one index 0) →
+    ((index : ℕ) → has indices index ≡ false → get_or one index 0 ≡ get_or other index 0) → (index : ℕ) →
+    (get_or new index 0 ≤ get_or one index 0) × (get_or new index 0 ≤ get_or other index 0)
+both_below indices one other new both elsewhere same index = elim (cases_Bool (has indices index)) [
+  | inl here ↦
+      let is = both index here in
+      let left = min-le_left (get_or one index 0) (get_or other index 0) in
+      let right = min-le_right (get_or one index 0) (get_or other index 0) in
+      (omega (arith, is, left), omega (arith, is, right))
+  | inr there ↦ let is = elsewhere index there in let also = same index there in (omega (arith, is), omega (arith, is, also))
+]
+
+-- one is given back before
+pub back_lowered : {bound : Bound} {indices one back new : List ℕ} {most value least : ℕ} → AreGivenBack bound indices one back most →
+    ((index : ℕ) → get_or new index 0 ≤ get_or back index 0) → least + most ≤ value → AreLowered bound one new value least
+back_lowered {back = back} given below enough = record {
+  mid = back;
+  more = given.more;
+  less = below;
+  lost = λ deals are. omega (arith, enough, given.few deals are);
+}
+
+-- the other isn't
+pub kept_lowered : {bound : Bound} {other new : List ℕ} {least : ℕ} → ((index : ℕ) → get_or new index 0 ≤ get_or other index 0) →
+    AreLowered bound other new least least
+kept_lowered {other = other} below = record {
+  mid = other;
+  more = λ index. omega arith;
+  less = below;
+  lost = λ deals are. let none = none_taken other deals in omega (arith, none);
+}
+
+-- ---- lists of indices
+min_twice : (one other : ℕ) → min (min one other) other ≡ min one other
+min_twice one other = min-eq_left (min-le_right one other)
+
+-- one more index of which two amounts are joined
+pub record AreJoined (seen old other new : List ℕ) : Type 0 where
+  pub both : (index : ℕ) → has seen index ≡ true → get_or new index 0 ≡ min (get_or old index 0) (get_or other index 0)
+  pub elsewhere : (index : ℕ) → has seen index ≡ false → get_or new index 0 ≡ get_or old index 0
+
+pub none_joined : {old other : List ℕ} → AreJoined [] old other old
+none_joined = record { both = λ index h. absurd (both_ways false refl h); elsewhere = λ index h. refl }
+
+pub one_joined : {seen old other new : List ℕ} (at : ℕ) → at < length new → AreJoined seen old other new →
+    AreJoined (seen ++ at ∷ []) old other (set new at (min (get_or new at 0) (get_or other at 0)))
+one_joined {seen} {old} {other} {new} at inside so_far = record {
+  both = λ index h. elim (cases_eq at index) [
+    | inl same ↦
+        let put = set_entry new at (min (get_or new at 0) (get_or other at 0)) index inside in
+        let is = ap (λ (b : Bool). cond b (min (get_or new at 0) (get_or other at 0)) (get_or new index 0)) (eq-eqb at index same) in
+        put ∙ is ∙ by_here (has seen at) refl ∙ ap (λ n. min (get_or old n 0) (get_or other n 0)) same
+    | inr apart ↦
+        let left = or_left_false (has seen index) (eqb at index) (sym (has_push seen at index) ∙ h) (ne_eqb at index apart) in
+        get_or-set_other new at index _ 0 (λ same. apart (sym same)) ∙ so_far.both index left
+  ];
+  elsewhere = λ index h.
+      let parts = or_parts_false (has seen index) (eqb at index) (sym (has_push seen at index) ∙ h) in
+      get_or-set_other new at index _ 0 (λ same. both_ways (eqb at index) parts.1 (eq-eqb at index (sym same))) ∙ so_far.elsewhere index parts.0;
+}
+  where
+    or_left_false : (one other : Bool) → (one || other) ≡ true → other ≡ false → one ≡ true
+    or_left_false one other either none = grind (arith, nat_tests, either, none)
+
+    or_parts_false : (one other : Bool) → (one || other) ≡ false → (one ≡ false) × (other ≡ false)
+    or_parts_false one other neither = grind (arith, nat_tests, neither)
+
+    by_here : (b : Bool) → has seen at ≡ b → min (get_or new at 0) (get_or other at 0) ≡ min (get_or old at 0) (get_or other at 0)
+    by_here true h = ap (λ n. min n (get_or other at 0)) (so_far.both at h) ∙ min_twice (get_or old at 0) (get_or other at 0)
+    by_here false h = ap (λ n. min n (get_or other at 0)) (so_far.elsewhere at h)
+
+-- one more index that is kept
+pub one_kept : (test : ℕ → Bool) (left : List ℕ) (count at : ℕ) → count < length left → test at ≡ true →
+    ((index : ℕ) → has (take count left) index ≡ true → test index ≡ true) → (index : ℕ) → has (take (count + 1) (set left count at)) index ≡ true →
+    test index ≡ true
+one_kept test left count at room passes so_far index h =
+    elim (or_cases (has (take count left) index) (eqb at index)
+    (sym (has_push (take count left) at index) ∙ sym (ap (λ (xs : List ℕ). has xs index) (take_more_set left count at room)) ∙ h)) [
+      | inl there ↦ so_far index there
+      | inr same ↦ ap test (sym (eqb-true at index same)) ∙ passes
+    ]
+  where
+    or_cases : (one other : Bool) → (one || other) ≡ true → (one ≡ true) ⊎ (other ≡ true)
+    or_cases true other either = inl refl
+    or_cases false other either = inr either

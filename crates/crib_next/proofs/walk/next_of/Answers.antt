@@ -1,0 +1,20 @@
+use Rattle.std.proofs.Common.{[], sym, ◌∙◌}
+use Rattle.crib_sure.proofs.PlaceByHistory.{place_at_start}
+use Rattle.crib_next.proofs.WalkedTurns.{after_none}
+use Rattle.crib_next.proofs.walk.next_of.Goals as goal
+
+pub returns-in-Ok : goal.returns-in-Ok
+returns-in-Ok g c =
+    let problem = c.args.question.now.problem in
+    let plan = c.args.question.now.plan in
+    let place = c.start-place.ensures.place ∙ sym (place_at_start plan problem) in
+    rw c.as_slice.ensures.value at (c.in-Ok.ensures problem [] c.args.question.now.first (after_none problem plan _ c.target.ensures.setup place))
+
+pub returns-in-Err : goal.returns-in-Err
+returns-in-Err g c =
+    let problem = c.args.question.now.problem in
+    let plan = c.args.question.now.plan in
+    let place = c.start-place.ensures.place ∙ sym (place_at_start plan problem) in
+    let none = after_none problem plan _ c.target.ensures.setup place in
+    let refused = rw c.as_slice.ensures.value at (c.in-Err.ensures problem [] c.args.question.now.first none) in
+    rw c.from.ensures refused

@@ -1,0 +1,2 @@
+-- Definitions that only private functions cite. No public contract rests on them.
+pub mod Walking

@@ -1,0 +1,3 @@
+pub mod ScoreTables
+pub mod SureTurns
+mod TableExamples

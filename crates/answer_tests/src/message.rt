@@ -9,6 +9,7 @@ mod openings;
 mod plan_lines;
 mod plans;
 mod tables;
+mod turns;
 
 use self::messages::{are_said, is_said};
 use crib_input::{Cause, FaultCause, Reason, Refusal, Sections};

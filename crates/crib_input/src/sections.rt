@@ -11,4 +11,6 @@ pub enum Sections {
     Played,
     /// A problem, a plan and a game.
     PlayedUnder,
+    /// A problem, a plan, and the turns since.
+    Turns,
 }

@@ -12,7 +12,7 @@ use Rattle.crib_input.specs.declared.refusal.Cause.TheVariants.{Text}
 use Rattle.crib_input.specs.declared.reason.FaultCause.TheVariants.{NoMemory}
 use Rattle.crib_input.specs.declared.reason.Reason.TheVariants.{Refused, Fault}
 use Rattle.crib_message.specs.declared.scene.Spot.{Spot}
-use Rattle.crib_message.specs.declared.scene.Section.TheVariants.{Problem, Plan, Game, After}
+use Rattle.crib_message.specs.declared.scene.Section.TheVariants.{Problem, Plan, Game, Turns, After}
 use Rattle.crib_message.specs.Message.{IsExcerpt, IsFaultMessage, IsMark, IsMessage, IsRefusalMessage}
 use Rattle.crib_message.specs.Message.{blanks, carets, dots, heading, hex_digit, is_plain, mark_line, marks_below, numbered_line, spot_words}
 use Rattle.crib_message.specs.Message.{section_words, shown_byte, shown_line}
@@ -129,8 +129,8 @@ pub mark_lines : mark_line 12 (codes "0") (codes "a" ++ 9 ∷ []) (codes "bab") 
 unfolding digits
 mark_lines = refl
 
-pub words_of_spots : spot_words (in_a_game 7) ∷ map (section_words 12) (Problem ∷ Plan ∷ Game ∷ After ∷ [])
-    ≡ codes ", line 7 of the game" ∷ [] ∷ codes ", line 12 of the plan" ∷ codes ", line 12 of the game" ∷ [] ∷ []
+pub words_of_spots : spot_words (in_a_game 7) ∷ map (section_words 12) (Problem ∷ Plan ∷ Game ∷ Turns ∷ After ∷ [])
+    ≡ codes ", line 7 of the game" ∷ [] ∷ codes ", line 12 of the plan" ∷ codes ", line 12 of the game" ∷ codes ", line 12 of the turns" ∷ [] ∷ []
 unfolding digits
 words_of_spots = refl
 

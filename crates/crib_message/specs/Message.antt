@@ -10,7 +10,7 @@ use Rattle.crib_input.specs.declared.reason.Reason.TheVariants.{Refused, Fault}
 use Rattle.crib_message.specs.declared.message.Message.{Message}
 use Rattle.crib_message.specs.declared.scene.Spot.{Spot}
 use Rattle.crib_message.specs.declared.scene.Section.{Section}
-use Rattle.crib_message.specs.declared.scene.Section.TheVariants.{Problem, Plan, Game, After}
+use Rattle.crib_message.specs.declared.scene.Section.TheVariants.{Problem, Plan, Game, Turns, After}
 
 -- the bytes of a message
 unfoldable pub message_text : Message → List ℕ
@@ -87,11 +87,12 @@ pub record IsExcerpt (number : ℕ) (line excerpt : List ℕ) : Type 0 where
 
 -- ---- a message
 
--- where a line is in its section, if this is a plan or a game
+-- where a line is in its section, if this is a plan, a game or the turns since
 abbrev pub section_words : ℕ → Section → List ℕ
 section_words number Problem = []
 section_words number Plan = codes ", line " ++ (decimal number ++ codes " of the plan")
 section_words number Game = codes ", line " ++ (decimal number ++ codes " of the game")
+section_words number Turns = codes ", line " ++ (decimal number ++ codes " of the turns")
 section_words number After = []
 
 -- the words for the spot of a line

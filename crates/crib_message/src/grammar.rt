@@ -1,7 +1,7 @@
 //! The grammar as one table: the lines of each section, and the words of each line (docs/FORMATS.md, "Grammar").
 use crate::grammar::Row::{
     Act, Acts, Dealer, End, Game, Goal, Hold, Node, Nodes, Plan, Played, Problem, Score, Starter,
-    Throw,
+    Throw, Turns,
 };
 use crate::grammar::Slot::{
     Actor, Aim, Branch, Card, Count, Extra, Holes, Keyword, Kind, Many, Move, Own, Points, Side,
@@ -26,7 +26,8 @@ pub(crate) enum Row {
     Node,
     Game,
     Acts,
-    /// An act of a game, or a turn that was played already.
+    Turns,
+    /// An act of a game, or a turn of an opening or since.
     Act,
     /// No line: the sections are over.
     End,
@@ -72,8 +73,8 @@ pub(crate) enum Slot {
 }
 
 // The lines with keywords.
-const KEYWORDS: [Row; 12] = [
-    Problem, Dealer, Score, Starter, Hold, Throw, Goal, Played, Plan, Nodes, Game, Acts,
+const KEYWORDS: [Row; 13] = [
+    Problem, Dealer, Score, Starter, Hold, Throw, Goal, Played, Plan, Nodes, Game, Acts, Turns,
 ];
 
 impl Row {
@@ -85,6 +86,7 @@ impl Row {
             ],
             Section::Plan => &[Plan, Nodes, Node],
             Section::Game => &[Game, Hold, Throw, Acts, Act],
+            Section::Turns => &[Turns, Act],
             Section::After => &[End],
         };
         let index = spot.number.saturating_sub(1) as usize;
@@ -102,7 +104,7 @@ impl Row {
             Throw => &[Keyword, Card, Card],
             Goal if second == b"holes".as_slice() => &[Keyword, Aim, Holes],
             Goal => &[Keyword, Aim],
-            Played | Acts => &[Keyword, Count],
+            Played | Acts | Turns => &[Keyword, Count],
             Nodes => &[Keyword, Many],
             Node if second == b"play".as_slice() => &[Own, Kind, Stated, Target],
             Node if second == b"see".as_slice() && index > 1 => return Branch,
@@ -141,6 +143,7 @@ impl Row {
             Node => "a node, such as 0 play 2C end or 0 see A2:1",
             Game => "game 1",
             Acts => "acts and the number of acts that follow",
+            Turns => "turns and the number of turns that follow",
             Act => "own or opp, and then a card or go",
             End => "the end of the input",
         }

@@ -75,13 +75,14 @@ impl Message {
         requires { array_vec_len self.old.text ≤ 1400 }
         ensures items { self.new.text.items ≡ self.old.text.items
             ++ (codes "line " ++ (decimal line ++ (spot_words spot ++ codes ": "))) }
-        ensures len { array_vec_len self.new.text ≤ array_vec_len self.old.text + 46 }
+        ensures len { array_vec_len self.new.text ≤ array_vec_len self.old.text + 47 }
     {
         self.add(b"line ");
         self.add_number(line);
         match spot.section {
             Section::Plan => self.add_line_of(spot.number, b" of the plan"),
             Section::Game => self.add_line_of(spot.number, b" of the game"),
+            Section::Turns => self.add_line_of(spot.number, b" of the turns"),
             Section::Problem | Section::After => {}
         }
         self.add(b": ");
@@ -89,10 +90,10 @@ impl Message {
 
     fn add_line_of(&mut self, number: u32, section: &[u8])
         requires room { array_vec_len self.old.text ≤ 1450 }
-        requires short { length section.now ≤ 12 }
+        requires short { length section.now ≤ 13 }
         ensures items { self.new.text.items ≡ self.old.text.items
             ++ (codes ", line " ++ (decimal number ++ section.now)) }
-        ensures len { array_vec_len self.new.text ≤ array_vec_len self.old.text + 29 }
+        ensures len { array_vec_len self.new.text ≤ array_vec_len self.old.text + 30 }
     {
         self.add(b", line ");
         self.add_number(number);
@@ -132,7 +133,7 @@ fn refusal_message(program: &[u8], sections: Sections, input: &[u8], refusal: &R
 fn headed(program: &[u8], line: u32, spot: Spot) -> Message
     requires { length program.now ≤ 20 }
     ensures items { result.text.items ≡ heading program.now line spot }
-    ensures len { array_vec_len result.text ≤ 68 }
+    ensures len { array_vec_len result.text ≤ 69 }
 {
     let mut message = Message::of_program(program);
     if line > 0 {

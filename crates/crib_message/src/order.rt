@@ -49,7 +49,7 @@ pub(crate) fn count_hint(scene: &Scene<'_>) -> Hint {
 // Whether a line says how many lines of one kind follow.
 fn announces(line: &[u8]) -> bool {
     let row = Row::of_keyword(word_in(line, 0));
-    matches!(row, Some(Row::Played | Row::Nodes | Row::Acts))
+    matches!(row, Some(Row::Played | Row::Nodes | Row::Acts | Row::Turns))
 }
 
 // Returns how many lines that a row announces follow each other from the refused line on.
@@ -70,7 +70,7 @@ pub(crate) fn order_hint(scene: &Scene<'_>) -> Hint {
     match (scene.row, row) {
         _ if is_comment(line) => tell(COMMENT),
         (Row::Act | Row::Node, row) => row.and(count_hint(scene)),
-        (Row::Problem | Row::Plan | Row::Game | Row::End, _) => header_hint(scene, row),
+        _ if scene.spot.number == 1 => header_hint(scene, row),
         _ if scene.row == Row::Played || is_played => tell(NEEDS_PLAYED),
         _ if is_item || row.is_some() => Some(missing_or_moved(scene)),
         _ => None,
@@ -84,17 +84,21 @@ fn header_hint(scene: &Scene<'_>, row: Option<Row>) -> Hint {
     let is_none = scene.word(0) == b"none".as_slice() && scene.row != Row::End;
     let text = match (scene.row, row) {
         _ if is_none => "Where no plan is sure, solve writes none, and there is no plan to read.",
-        (Row::Problem, Some(Row::Plan | Row::Game)) => "The problem comes first.",
+        (Row::Problem, Some(Row::Plan | Row::Game | Row::Turns)) => "The problem comes first.",
         (Row::Problem, None) if is_verdict => "The problem comes first.",
         (Row::Problem, row) => return row.and(Some(section_order(Section::Problem))),
         (_, Some(Row::Problem)) => "An input has one problem.",
-        (_, Some(Row::Plan | Row::Game)) => return Some(sections_hint(scene.sections)),
+        (_, Some(Row::Plan | Row::Game | Row::Turns)) => {
+            return Some(sections_hint(scene.sections));
+        }
         (Row::Game, None) if is_verdict =>
             "Leave out this line of an answer: a game begins with game 1.",
         (Row::Plan, Some(Row::Nodes)) => return Some(section_order(Section::Plan)),
         (Row::Game, Some(Row::Hold | Row::Throw | Row::Acts)) => {
             return Some(section_order(Section::Game));
         }
+        (Row::Turns, _) if is_opening || row == Some(Row::Acts) =>
+            "Turns begin with the line turns N; without any it is turns 0.",
         _ if is_opening && !scene.is_second() =>
             "Turns that were played already need problem 2 on line 1.",
         _ => return count_hint(scene),
@@ -109,6 +113,7 @@ pub(crate) fn sections_hint(sections: Sections) -> Sentence {
         Sections::Question => "This command reads a problem and then a plan.",
         Sections::Played => "This command reads a problem and then a game.",
         Sections::PlayedUnder => "This command reads a problem, then a plan and then a game.",
+        Sections::Turns => "This command reads a problem, then a plan and then turns.",
     })
 }
 

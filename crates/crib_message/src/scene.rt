@@ -3,6 +3,7 @@ ghost use Rattle.std.specs.Prelude.{◌≡◌, ◌==◌, option_map};
 ghost use Rattle.crib_message.specs.Message.{numbered_line};
 
 use crate::grammar::{Row, Slot};
+use crate::scene::Section::{After, Game, Plan, Problem, Turns};
 use crib_input::Sections;
 use crib_text::read_number;
 
@@ -99,6 +100,8 @@ pub(crate) enum Section {
     Problem,
     Plan,
     Game,
+    /// The turns since a problem.
+    Turns,
     /// The lines after the last section.
     After,
 }
@@ -113,13 +116,14 @@ pub(crate) struct Spot {
 // Returns the spot of a line. The lines before it are valid, so their counts state how long a section is.
 fn spot_of(sections: Sections, input: &[u8], line: u32) -> Spot {
     let mut number = line;
-    for section in [Section::Problem, Section::Plan, Section::Game] {
+    for section in [Problem, Plan, Game, Turns] {
         let before = line.saturating_sub(number);
         let count = |head: u32| head.saturating_add(count_at(input, before.saturating_add(head)));
         let len = match (section, sections) {
-            (Section::Problem, _) => problem_len(input),
-            (Section::Plan, Sections::Question | Sections::PlayedUnder) => count(2),
-            (Section::Game, Sections::Played | Sections::PlayedUnder) => count(4),
+            (Problem, _) => problem_len(input),
+            (Plan, Sections::Question | Sections::PlayedUnder | Sections::Turns) => count(2),
+            (Game, Sections::Played | Sections::PlayedUnder) => count(4),
+            (Turns, Sections::Turns) => count(1),
             _ => 0,
         };
         if number <= len {
@@ -127,7 +131,7 @@ fn spot_of(sections: Sections, input: &[u8], line: u32) -> Spot {
         }
         number = number.saturating_sub(len);
     }
-    let section = Section::After;
+    let section = After;
     Spot { section, number }
 }
 

@@ -1,27 +1,27 @@
 //! The state of the play before a refused act: the turns before it are replayed.
-use crate::scene::{Scene, Section, is_line_feed};
+use crate::scene::{Scene, Section, is_line_feed, problem_len, word_in};
 use crate::sentence::Held;
 use arrayvec::ArrayVec;
-use crib_cards::{Act, CardSet, Dealt, Move, Side};
-use crib_game::{Game, read_game};
+use crib_cards::{Act, CardSet, Dealt, Move, Side, read_card};
+use crib_game::read_game;
 use crib_play::{Round, Turn};
-use crib_problem::{Problem, act_of, read_problem};
+use crib_problem::{Problem, read_problem};
 use crib_text::Lines;
 
-type Acts = ArrayVec<Act, 32>;
-
-/// The state of the play before an act of an opening or of a game.
+/// The state of the play before an act of an opening, of a game, or of the turns since.
 #[derive(Drop)]
 pub(crate) struct State {
     pub(crate) problem: Problem,
     /// The opponent's six cards. Only a game names them.
     pub(crate) dealt: Option<Dealt>,
-    /// The refused act. If another line is refused, it is the first act or a go of the owner.
+    /// The refused act. If another line is refused, it is a go of the owner.
     pub(crate) act: Act,
     pub(crate) round: Round,
     /// The acts before the refused one.
-    pub(crate) acts: Acts,
-    /// The line of the last act.
+    pub(crate) acts: ArrayVec<Act, 32>,
+    // Their lines.
+    lines: ArrayVec<u32, 32>,
+    /// The line of the last act, or the one before the first.
     pub(crate) line: u32,
     /// The line of the last act before this count began, or 0.
     pub(crate) closed: u32,
@@ -34,42 +34,45 @@ pub(crate) struct State {
 impl State {
     /// Returns the state before the refused act, or after so many further acts. Returns `None` if the lines above are
     /// refused themselves.
-    pub(crate) fn before(scene: &Scene<'_>, further: usize) -> Option<State> {
-        let (mut state, acts) = State::read(scene)?;
-        let index = scene.number.saturating_sub(state.line).saturating_sub(1) as usize;
-        state.act = acts.get(index).copied().unwrap_or_default();
-        for act in acts.iter().take(index.saturating_add(further)) {
-            state.take(act);
+    pub(crate) fn before(scene: &Scene<'_>, further: u32) -> Option<State> {
+        let (opening, first) = match scene.spot.section {
+            Section::Game => (8, scene.before().saturating_add(5)),
+            Section::Turns => (problem_len(scene.input), scene.before().saturating_add(2)),
+            _ => (8, 9),
+        };
+        let mut state = State::read(scene, first)?;
+        let lines = scene.input.split(is_line_feed).zip(1..=scene.number);
+        for (line, number) in lines.filter(|(_, n)| *n >= first || (9..=opening).contains(n)) {
+            let act = act_in(line)?;
+            if number < scene.number.saturating_add(further) {
+                state.take(&act, number);
+            }
+            state.act = act;
         }
         Some(state)
     }
 
-    // Reads the problem and the acts: those of the game, or the turns up to the refused line.
-    fn read(scene: &Scene<'_>) -> Option<(State, Acts)> {
-        let is_game = matches!(scene.spot.section, Section::Game);
-        let head = if is_game { scene.before() } else { 8 };
-        let opening = scene.number.saturating_sub(head);
-        let text = text_of(scene, head as usize);
+    // Reads the problem, and the opponent's cards if there is a game. The first act has the line `first`.
+    fn read(scene: &Scene<'_>, first: u32) -> Option<State> {
+        let text = text_of(scene);
         let mut lines = Lines::new(text.as_slice()).ok()?;
         let problem = read_problem(&mut lines).ok()?;
-        let (dealt, acts, line) = if is_game {
-            let Game { opp, acts } = read_game(&mut lines).ok()?;
-            (Some(opp), acts, head.saturating_add(4))
-        } else {
-            (None, opening_acts(&mut lines, opening)?, head)
+        let dealt = match scene.spot.section {
+            Section::Game => Some(read_game(&mut lines).ok()?.opp),
+            _ => None,
         };
-        let state = State {
+        Some(State {
             round: Round::new(problem.dealer(), problem.scores(), problem.target()),
             problem,
             dealt,
             act: Act::default(),
             acts: ArrayVec::new(),
-            line,
+            lines: ArrayVec::new(),
+            line: first.saturating_sub(1),
             closed: 0,
             reached: 0,
             told: (32, 0),
-        };
-        Some((state, acts))
+        })
     }
 
     /// Returns the cards that a side holds, if they are known.
@@ -89,16 +92,17 @@ impl State {
 
     /// Returns the line of the last act with this move.
     pub(crate) fn line_of(&self, what: &Move) -> Option<u32> {
-        let mut acts = self.acts.iter().rev().zip(0u32..);
-        let (_, later) = acts.find(|(act, _)| act.what == *what)?;
-        Some(self.line.saturating_sub(later))
+        let index = self.acts.iter().rposition(|act| act.what == *what)?;
+        self.lines.get(index).copied()
     }
 
-    // Takes the next act. One that the rules don't allow changes nothing but the list of acts.
-    fn take(&mut self, act: &Act) {
+    // Takes the next act, which is on this line. One that the rules don't allow changes nothing but the acts and their
+    // lines.
+    fn take(&mut self, act: &Act, line: u32) {
         let count = self.round.count();
         let _full = self.acts.try_push(*act);
-        self.line = self.line.saturating_add(1);
+        let _full = self.lines.try_push(line);
+        self.line = line;
         match act.what {
             _ if self.round.next() == Turn::Over => return,
             Move::Card(card) if self.round.fits(card.rank()) => {
@@ -119,23 +123,27 @@ impl State {
     }
 }
 
-// Reads so many turns of an opening.
-fn opening_acts(lines: &mut Lines<'_>, count: u32) -> Option<Acts> {
-    let mut acts = ArrayVec::new();
-    for _ in 0..count {
-        let _full = acts.try_push(act_of(&lines.next_line().ok()?).ok()?);
-    }
-    Some(acts)
+// Returns the act on a line.
+fn act_in(line: &[u8]) -> Option<Act> {
+    let side = match word_in(line, 0) {
+        b"own" => Side::Owner,
+        _ => Side::Opponent,
+    };
+    let what = match word_in(line, 1) {
+        b"go" => Move::Go,
+        card => Move::Card(read_card(card)?),
+    };
+    Some(Act { side, what })
 }
 
-// Returns the first seven lines with an empty opening, and the lines after `head`, as far as there is room.
-fn text_of(scene: &Scene<'_>, head: usize) -> ArrayVec<u8, 512> {
+// Returns the first seven lines with an empty opening, and the lines from the section on, as far as there is room.
+fn text_of(scene: &Scene<'_>) -> ArrayVec<u8, 512> {
     let mut text = ArrayVec::new();
     let lines = scene.input.split_inclusive(is_line_feed);
     for (index, line) in lines.enumerate() {
         let _full = match index {
             7 if scene.is_second() => text.try_extend_from_slice(b"played 0\n"),
-            _ if index < 7 || index >= head => text.try_extend_from_slice(line),
+            _ if index < 7 || index >= scene.before() as usize => text.try_extend_from_slice(line),
             _ => Ok(()),
         };
     }

@@ -1,4 +1,4 @@
-//! Why an act may not be the next one, in an opening or in a game.
+//! Why an act may not be the next one, in an opening, in a game, or in the turns since.
 use crate::explained::Explained;
 use crate::grammar::Row;
 use crate::scene::{Mark, Scene, text_at};
@@ -13,10 +13,10 @@ use crib_problem::ProblemCause as Rule;
 
 const ALL_TURNS: &str = "a game begins with all turns of the opening, and here ";
 
-/// Returns the explanation of a turn of an opening, or of a line of a game, that is refused for a cause.
+/// Returns the explanation of a turn, or of a line of a game, that is refused for a cause.
 pub(crate) fn explain_turn(scene: &Scene<'_>, cause: Cause) -> Option<Explained> {
     let is_over = cause == Problem(Rule::AlreadyOver);
-    let state = State::before(scene, usize::from(is_over))?;
+    let state = State::before(scene, u32::from(is_over))?;
     let (side, moved) = (the(state.act.side), moved(&state.act.what));
     let mut sentence = match cause {
         Problem(Rule::NotTurn) => Sentence::of(format_args!("{side} is {cause}: ")),

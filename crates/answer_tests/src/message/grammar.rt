@@ -20,10 +20,15 @@ const UNDER: &str =
     "problem 2\ndealer opponent\nscore 0 0\nstarter 3H\nhold TC 9C 2C 8C\nthrow 4S 6S\ngoal win\n\
     played 0\nplan 1\nnodes 1\n0 play TC end\ngame 1\nhold TD KD KH QS\nthrow 5H 7D\nacts 2\nown TC\nopp TD\n";
 
+const NEXT: &str =
+    "problem 2\ndealer opponent\nscore 0 0\nstarter 3H\nhold TC 9C 2C 8C\nthrow 4S 6S\ngoal win\n\
+    played 1\nown TC\nplan 1\nnodes 1\n0 play 9C end\nturns 2\nopp TD\nown 9C\n";
+
 // Words that are in place of each word of a line, behind it, and in place of nothing.
 const WORDS: &str =
     "problem dealer owner opponent score 0 1 2 3 4 32 33 61 62 120 121 65535 65536 01 x KD 2C 9S 10C go \
-    own opp goal win holes stop played plan nodes play see end A:1 A3:1 :1 A:0 2:3 A:4 A:end A:x A1 AA:1 5A:1 game";
+    own opp goal win holes stop played plan nodes play see end A:1 A3:1 :1 A:0 2:3 A:4 A:end A:x A1 AA:1 5A:1 \
+    game turns";
 
 // The causes of words that do not fit their lines.
 const CAUSES: [Cause; 10] = [
@@ -172,4 +177,9 @@ fn games_have_the_form_of_the_table(rt: HostRuntime) {
 #[test]
 fn games_under_plans_have_the_form_of_the_table(rt: HostRuntime) {
     agree(&rt, Sections::PlayedUnder, UNDER);
+}
+
+#[test]
+fn turns_have_the_form_of_the_table(rt: HostRuntime) {
+    agree(&rt, Sections::Turns, NEXT);
 }

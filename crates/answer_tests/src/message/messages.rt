@@ -7,6 +7,7 @@ use crib_input::{
     question_of,
 };
 use crib_message::message_of;
+use crib_next::{next_of, next_question_of};
 use crib_text::MAX_INPUT;
 use example_texts::joined;
 use std::alloc::Allocator;
@@ -35,7 +36,7 @@ fn refusal_of(reason: &Reason) -> Option<Refusal> {
     }
 }
 
-/// Returns the refusal of an input with these sections, of which the game is judged too, if it is refused.
+/// Returns the refusal of an input with these sections, if it is refused. Its game is judged too, and so are its turns.
 pub(crate) fn refusal_in(
     rt: &(impl Abort + AllocGlobal),
     sections: Sections,
@@ -55,6 +56,10 @@ pub(crate) fn refusal_in(
         },
         Sections::PlayedUnder => match played_under_of(rt.alloc(), bytes) {
             Ok(played) => followed(&played),
+            Err(reason) => refusal_of(&reason),
+        },
+        Sections::Turns => match next_question_of(rt.alloc(), bytes) {
+            Ok(question) => next_of(&question).err(),
             Err(reason) => refusal_of(&reason),
         },
     }

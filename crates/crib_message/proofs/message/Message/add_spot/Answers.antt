@@ -2,7 +2,7 @@ use Rattle.std.proofs.Common.{◌≡◌, ℕ, List, ◌++◌, codes, decimal, sy
 use Rattle.crib_message.specs.declared.message.Message.{Message}
 use Rattle.crib_message.specs.Message.{spot_words, section_words}
 use Rattle.crib_message.proofs.MessageLemmas.{four_added, nothing_added}
-use Rattle.crib_message.proofs.message.Message.add_spot.Goals.{in-Plan, in-Game, in-Problem}
+use Rattle.crib_message.proofs.message.Message.add_spot.Goals.{in-Plan, in-Game, in-Turns, in-Problem}
 use Rattle.crib_message.proofs.message.Message.add_spot.Goals as goal
 
 pub returns-clause-items : goal.returns-clause-items
@@ -16,6 +16,8 @@ returns-clause-items c =
           ap items w.self-is ∙ w.add_line_of.ensures.items ∙ ap (λ s. before ++ words s) (sym w.in-Plan.is)
       | in-Game w ↦
           ap items w.self-is ∙ w.add_line_of-in-Game.ensures.items ∙ ap (λ s. before ++ words s) (sym w.in-Game.is)
+      | in-Turns w ↦
+          ap items w.self-is ∙ w.add_line_of-in-Turns.ensures.items ∙ ap (λ s. before ++ words s) (sym w.in-Turns.is)
       | in-Problem w ↦
           ap items w.self-is ∙ nothing_added before
           ∙ elim w.in-Problem.is [

@@ -1,11 +1,11 @@
 -- Worked examples of turns that may come next, and of verdicts on them. A card is a number below 52: 0 is AC, 1 is AD, 4 is 2C.
-use Rattle.std.proofs.Common.{◌≡◌, ℕ, true, false, List, [], ◌∷◌, ◌++◌, length, filter, map, take, drop, Some, None, refl, sym, ap, subst}
+use Rattle.std.proofs.Common.{◌≡◌, ℕ, Bool, true, false, List, [], ◌∷◌, ◌++◌, length, filter, map, take, drop, Some, None, refl, sym, ap, subst}
 use Rattle.std.proofs.Common.{arith, ◌∙◌, inl, inr}
 use Rattle.std.proofs.lemmas.Bool.{both_ways}
 use Rattle.std.proofs.lemmas.List.{append-nil}
 use Rattle.std.proofs.lemmas.Option.{none-some, same_Some}
-use Rattle.crib_cards.specs.Cards.{ranks}
-use Rattle.crib_search.specs.Winnable.{IsWinnableAfter}
+use Rattle.crib_cards.specs.Cards.{rank_of, ranks}
+use Rattle.crib_search.specs.Winnable.{IsWinnableAfter, after_card}
 use Rattle.crib_cards.specs.Sets.{set_where}
 use Rattle.crib_cards.specs.declared.sides.Dealt.{Dealt}
 use Rattle.crib_cards.specs.declared.sides.Side.TheVariants.{Owner, Opponent}
@@ -17,7 +17,7 @@ use Rattle.crib_play.specs.History.{Own, Theirs, event_of}
 use Rattle.crib_problem.proofs.ExampleProblems.{after_tens, close_to_lost, four_twos, pairing, plays, says_go}
 use Rattle.crib_problem.specs.declared.problem.Version.TheVariants.{Two}
 use Rattle.crib_problem.specs.Refusals.{already_over}
-use Rattle.crib_problem.specs.Setup.{Setup, IsDealOf, start_of, hands_of}
+use Rattle.crib_problem.specs.Setup.{Setup, IsDealOf, IsSetup, start_of, hands_of}
 use Rattle.crib_plan.specs.declared.plan.Node.{Node}
 use Rattle.crib_know.specs.Hidden.{IsOpen}
 use Rattle.crib_know.specs.Knowledge.{played_events}
@@ -36,7 +36,7 @@ use Rattle.crib_leads.specs.declared.verdict.LeadVerdict.{LeadVerdict}
 use Rattle.crib_leads.specs.declared.verdict.LeadVerdict.TheVariants.{Sure, Beaten, Reached, Missed}
 use Rattle.crib_leads.specs.Leads.{AreBySuit, AreEntries, AreLeads, AreOfRank, AreOfRanks, AreTheirs, HasBeatenPlan, HasEnded, HasSurePlan, IsEntry}
 use Rattle.crib_leads.specs.Leads.{IsEntryAs, IsLowest, IsTooLarge, IsVerdict, IsVerdictBy, IsVerdictOn}
-use Rattle.crib_leads.specs.Leads.{badness, cards_of, go_of, is_next, is_sure, is_worse, may_come, own_turns, placed, played_by, refusal_of, worst_first}
+use Rattle.crib_leads.specs.Leads.{cards_of, go_of, is_next, may_come, own_turns, played_by, refusal_of, worst_first}
 
 -- ---- which turns may come next
 
@@ -294,31 +294,76 @@ sure_ranks problem acts leads = (λ winnable. one winnable, λ none. each none)
     each none (inl is) = absurd (none (is.1 refl))
     each none (inr suits) = suits.0
 
+no_lead_without_a_card : (lead : Lead) → IsLowest ace_led [] (Some lead) → ⊥
+no_lead_without_a_card lead is = none-some lead (sym is)
+
+-- one entry if no plan is sure after the lowest card
+one_entry : (problem : Setup) (acts : List Act) → AreBySuit problem 1 acts (Some (missed_rank 2)) (missed_rank 2 ∷ [])
+one_entry problem acts = inl (refl, λ sure. absurd (both_ways false refl sure))
+
+no_entry : (problem : Setup) (acts : List Act) (rank : ℕ) (lead : Lead) → (AreEntries problem acts [] → ⊥) → AreBySuit problem rank acts (Some lead) [] → ⊥
+no_entry problem acts rank lead not (inl one) = (let none : ◌≡◌ {A = ℕ} 0 1 = ap (λ (all : List Lead). length all) one.0 in absurd (omega (arith, none)))
+no_entry problem acts rank lead not (inr suits) = not suits.0
+
+neither_one_nor_each : (problem : Setup) (acts : List Act) (all : List Lead) → ¬ AreEntries problem acts all → ¬ IsWinnableAfter problem 1
+    → AreBySuit problem 1 acts (Some sure_rank) all → ⊥
+neither_one_nor_each problem acts all not none (inl is) = none (is.1 refl)
+neither_one_nor_each problem acts all not none (inr suits) = not suits.0
+
+-- if there is one entry, a plan is sure after AS as well
+after_each_ace : (problem : Setup) (acts : List Act) (all : List Lead) → ¬ AreEntries problem acts all → IsSetup (after_card problem 3)
+    → AreBySuit problem 1 acts (Some sure_rank) all → (plan : List Node) × IsSure (after_card problem 3) plan
+after_each_ace problem acts all not setup (inl is) = (let winnable = is.1 refl in (winnable.plan, winnable.sure 3 refl setup))
+after_each_ace problem acts all not setup (inr suits) = absurd (not suits.0)
+
+-- suits don't decide if one plan is sure after each ace
+one_for_all_aces : (problem : Setup) (acts : List Act) (all : List Lead) (rank : ℕ) (lead : Lead) (plan : List Node)
+    → ((card : ℕ) → rank_of card ≡ rank → IsSetup (after_card problem card) → IsSure (after_card problem card) plan)
+    → AreBySuit problem rank acts (Some lead) all → all ≡ lead ∷ []
+one_for_all_aces problem acts all rank lead plan sure (inl is) = is.0
+one_for_all_aces problem acts all rank lead plan sure (inr suits) = absurd (suits.2 (record { plan = plan; sure = λ card ace setup. sure card ace setup }))
+
+-- AC is led. AD is the lowest of the aces that are left, and the one entry, or each ace has one
+the_lowest_ace : IsVerdict ace_led (plays Opponent 1) Missed → AreOfRank ace_led 1 (missed_rank 1 ∷ [])
+unfolding set_where
+the_lowest_ace is = (Some (missed_rank 1), (missed_rank 1, (refl, refl, is), refl), inl (refl, λ sure. absurd (both_ways false refl sure)))
+
+abbrev reached_with : Bool → Lead
+reached_with rank = record { act = plays Opponent 1; is_rank = rank; verdict = Reached }
+
+each_ace : IsVerdict ace_led (plays Opponent 1) Reached → IsVerdict ace_led (plays Opponent 2) Missed → IsVerdict ace_led (plays Opponent 3) Missed
+    → ¬ IsWinnableAfter ace_led 1 → AreOfRank ace_led 1 (reached_with false ∷ missed_lead 2 ∷ missed_lead 3 ∷ [])
+unfolding set_where
+each_ace first second third none = (
+  Some (reached_with true),
+  (reached_with true, (refl, refl, first), refl),
+  inr (((refl, refl, first), ((refl, refl, second), ((refl, refl, third), tt))), refl, none),
+)
+
+some_entry_for_an_ace : AreOfRank ace_led 1 [] → ⊥
+unfolding set_where
+some_entry_for_an_ace are = no_entry ace_led (played_by Opponent (cards_of 1)) 1 are.1.0 (λ none. none) (rw are.1.2 at are.2)
+
+one_entry_for_all_aces : (leads : List Lead) (plan : List Node)
+    → ((card : ℕ) → rank_of card ≡ 1 → IsSetup (after_card ace_led card) → IsSure (after_card ace_led card) plan)
+    → AreOfRank ace_led 1 leads → length leads ≡ 1
+unfolding set_where
+one_entry_for_all_aces leads plan sure are =
+    ap (λ (all : List Lead). length all)
+    (one_for_all_aces ace_led (played_by Opponent (cards_of 1)) leads 1 are.1.0 plan sure (rw are.1.2 at are.2))
+
+-- the owner of four twos leads, so the opponent has no two to play
+no_two_of_theirs : AreOfRank four_twos 2 []
+unfolding set_where
+no_two_of_theirs = (None, refl, refl)
+
+each_rank_is_right : (problem : Setup) (all : List Lead) → ((first : List Lead) → AreOfRank problem 1 first → ⊥)
+    → AreOfRanks problem (2 ∷ 1 ∷ []) all → ⊥
+each_rank_is_right problem all none are = none are.3.0 are.3.2
+
 in_the_order_of_ranks : (problem : Setup) (leads first : List Lead) → (AreOfRanks problem [] leads → leads ≡ [])
     × (AreOfRank problem 1 first → AreOfRank problem 2 leads → AreOfRanks problem (1 ∷ 2 ∷ []) (first ++ leads))
 in_the_order_of_ranks problem leads first = (λ are. are, λ one two. (first, leads, one, (leads, [], two, refl, sym (append-nil leads)), refl))
-
--- ---- the worst first
-abbrev beaten_by : ℕ → ℕ → Lead
-beaten_by card beaten = record { act = plays Opponent card; is_rank = true; verdict = Beaten beaten 10 }
-
-by_badness : map badness (Sure 4 ∷ Beaten 3 7 ∷ Reached ∷ Missed ∷ []) ≡ (0, 1) ∷ (3, 7) ∷ (0, 1) ∷ (1, 1) ∷ []
-by_badness = refl
-
--- 3 of 7 is more than 4 of 10, and as many as 6 of 14
-worse_verdicts : (is_worse (Beaten 3 7) (Beaten 4 10) ≡ true) × (is_worse (Beaten 4 10) (Beaten 3 7) ≡ false) × (is_worse (Beaten 3 7) (Beaten 6 14) ≡ false)
-    × (is_worse (Beaten 1 9) (Sure 4) ≡ true) × (is_worse Missed (Beaten 6 7) ≡ true) × (is_worse Reached (Sure 1) ≡ false)
-worse_verdicts = (refl, refl, refl, refl, refl, refl)
-
-sorted : worst_first (beaten_by 1 2 ∷ sure_rank ∷ beaten_by 3 7 ∷ beaten_by 4 2 ∷ missed_rank 5 ∷ [])
-    ≡ missed_rank 5 ∷ beaten_by 3 7 ∷ beaten_by 1 2 ∷ beaten_by 4 2 ∷ sure_rank ∷ []
-sorted = refl
-
-put_in_place : placed (beaten_by 1 2) (beaten_by 3 7 ∷ beaten_by 4 2 ∷ []) ≡ beaten_by 3 7 ∷ beaten_by 1 2 ∷ beaten_by 4 2 ∷ []
-put_in_place = refl
-
-good_or_not : map is_sure (Sure 4 ∷ Beaten 0 7 ∷ Reached ∷ Missed ∷ []) ≡ true ∷ false ∷ true ∷ false ∷ []
-good_or_not = refl
 
 -- ---- the entries of all turns
 -- the lead of four twos has some entry

@@ -1,3 +1,4 @@
 pub mod EndedTurns
 pub mod Entries
 mod Examples
+mod OrderExamples

@@ -28,7 +28,7 @@ use std::alloc::{AllocError, Allocator};
 const TURNS: usize = 27;
 
 // So many parts are left of each open deal whose hold has the four ranks with an index.
-type Amounts = [u16; CHOICES];
+type Amounts = [u8; CHOICES];
 
 /// What a bound is counted from.
 #[derive(Drop)]
@@ -191,7 +191,7 @@ impl Bound<'_> {
             }
             let free = other[index].saturating_sub(amounts[index]);
             let more = (rest / weight).min(free as u64);
-            amounts[index] += more as u16;
+            amounts[index] += more as u8;
             rest -= more * weight;
         }
     }
@@ -307,7 +307,7 @@ fn each_index() -> [u16; CHOICES]
 /// The strategy is found in the same walk. After each letter, the king first, the opponent takes what may make the
 /// owner miss the goal from there on, and what was not taken is there for the next letter. After each card of the owner
 /// the same has to be taken: where this is worth more after one card than after another, some is given back.
-pub fn bound_of<A: Allocator>(alloc: A, problem: &Problem, parts: u16) -> Result<u64, AllocError>
+pub fn bound_of<A: Allocator>(alloc: A, problem: &Problem, parts: u8) -> Result<u64, AllocError>
     ensures strategy { IfOk result (λ value. IsStrategy event_of problem.now parts value) }
     ensures plans { IfOk result (λ value. (plan : List Node) (count : ℕ) → AreExactly (Beats problem.now plan) count
         → value ≤ parts * count) }

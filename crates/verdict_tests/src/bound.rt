@@ -19,7 +19,7 @@ macro_rules! twos {
 /// Asserts that this is so many times the deals that beat each plan at least, with one part and with twelve of each.
 fn is_bound(rt: &(impl Abort + AllocGlobal), of: &str, deals: u64) {
     let problem = problem(rt, of);
-    for parts in [1u16, 12] {
+    for parts in [1u8, 12] {
         let bound = bound_of(rt.alloc(), &problem, parts).expect(rt, "memory");
         same(rt, bound, deals.saturating_mul(parts as u64));
     }

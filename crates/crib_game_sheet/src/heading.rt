@@ -35,7 +35,7 @@ fn put_goal<P: Page>(page: &mut P, dealer: Side, goal: Goal)
 }
 
 /// Puts how many of something there are, in words: `1 hole` or `2 holes`.
-pub(crate) fn put_how_many<P: Page>(page: &mut P, number: u8, word: &[u8])
+pub fn put_how_many<P: Page>(page: &mut P, number: u8, word: &[u8])
     requires { length word.now ≤ most_bytes }
     ensures { Prints (how_many number word.now) (P.stand page.old) (P.stand page.new) }
 {

@@ -10,4 +10,4 @@ pub use game::{
     game_sheet_law, hand_combinations, points_law, put_acts_beside, put_game_sheet, put_played,
     reasons_of,
 };
-pub use heading::put_heading;
+pub use heading::{put_heading, put_how_many};

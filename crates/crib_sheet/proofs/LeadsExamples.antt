@@ -1,23 +1,34 @@
 -- Worked examples of the lines of turns that may come next, and of when they are right.
-use Rattle.std.proofs.Common.{◌≡◌, ◌⊎◌, inl, inr, ℕ, true, false, List, [], ◌∷◌, ◌++◌, None, Some, codes, refl}
+use Rattle.std.proofs.Common.{◌≡◌, ◌⊎◌, arith, inl, inr, ℕ, true, false, List, [], ◌∷◌, ◌++◌, length, Option, None, Some, codes, refl, ap}
 use Rattle.std.specs.Fmt.{digits}
 use Rattle.crib_cards.specs.declared.sides.Side.TheVariants.{Owner, Opponent}
 use Rattle.crib_cards.specs.declared.moves.Move.TheVariants as move
-use Rattle.crib_problem.proofs.ExampleProblems.{four_twos}
+use Rattle.crib_cards.specs.Sets.{set_where}
+use Rattle.crib_cards.specs.declared.moves.Act.{Act}
+use Rattle.crib_problem.proofs.ExampleProblems.{after_two, close_to_lost, four_twos, plays}
+use Rattle.crib_problem.specs.declared.problem.Version.TheVariants.{Two}
 use Rattle.crib_problem.specs.declared.problem.Goal.TheVariants.{Win, Holes, Stop}
-use Rattle.crib_problem.specs.Setup.{Setup}
-use Rattle.crib_plan.specs.declared.plan.Next.TheVariants.{End}
+use Rattle.crib_problem.specs.Setup.{IsSetup, Setup}
+use Rattle.crib_plan.specs.declared.plan.Node.{Node}
+use Rattle.crib_beaten.specs.declared.rows.Rows.{Rows}
+use Rattle.crib_leads.specs.Leads.{AreEntries, AreTheirs, IsTooLarge, own_turns as all_turns}
+use Rattle.crib_search.specs.Finder.{ExceedsLimit}
+use Rattle.crib_search.specs.Tried.{IsNeverStuck}
+use Rattle.crib_plan.specs.declared.plan.Next.TheVariants.{End, To}
 use Rattle.crib_plan.specs.declared.plan.Node.TheVariants.{Play}
 use Rattle.crib_leads.specs.declared.leads.Lead.{Lead}
+use Rattle.crib_plan_sheet.specs.PlanNow.{now_line, now_text}
+use Rattle.crib_run.specs.Pieces.{other_score}
 use Rattle.crib_leads.specs.declared.verdict.LeadVerdict.{LeadVerdict}
 use Rattle.crib_leads.specs.declared.verdict.LeadVerdict.TheVariants.{Sure, Beaten, Reached, Missed}
 use Rattle.crib_run.specs.declared.status.Status.TheVariants.{Yes, No}
 use Rattle.crib_search.specs.Winnable.{IsWinnable}
 use Rattle.crib_run.specs.Reply.{Reply}
-use Rattle.crib_sheet.specs.Leads.{AreStops, AreStopsIf, HasLeads, IsBelow, SaysTried, to_stop, wants_stops}
-use Rattle.crib_sheet.specs.LeadsText.{begins_words, is_mostly_beaten, leads_status, little_line, own_line, own_lines, own_words}
+use Rattle.crib_sheet.specs.Leads.{AreStops, AreStopsIf, HasLargePlan, HasLeads, IsBelow, SaysTried, below_text, to_stop, wants_stops}
+use Rattle.crib_sheet.specs.declared.answer.leads.TriedPlan.{TriedPlan}
+use Rattle.crib_sheet.specs.LeadsText.{begins_words, is_mostly_beaten, leads_status, leads_text, little_line, own_line, own_lines, own_words}
 use Rattle.crib_sheet.specs.LeadsText.{short_words, stop_figure, their_line, their_lines, their_name, tried_text}
-use Rattle.crib_sheet.specs.PlanBeaten.{beating_text}
+use Rattle.crib_sheet.specs.PlanBeaten.{AreBeating, beating_text}
 
 -- 8D of the owner, and 5C of the opponent, for itself and for its rank
 abbrev own_lead : LeadVerdict → Lead
@@ -79,32 +90,124 @@ mostly = (refl, refl, refl, refl)
 that_it_says_little : (little_line (own_lead (Beaten 6 10) ∷ own_lead (Beaten 9 10) ∷ [])
     ≡ codes "More than half of the deals beat each of them, so their order says little.\n")
     × (little_line (own_lead (Beaten 6 10) ∷ own_lead (Beaten 5 10) ∷ []) ≡ []) × (little_line (own_lead (Beaten 6 10) ∷ []) ≡ [])
-that_it_says_little = (refl, refl, refl)
+    × (little_line (own_lead (Beaten 5 10) ∷ own_lead (Beaten 6 10) ∷ []) ≡ [])
+that_it_says_little = (refl, refl, refl, refl)
 
 -- a card of the owner is enough, and all of the opponent's are needed
 statuses : (leads_status (own_lead (Beaten 6 10) ∷ own_lead (Sure 1) ∷ []) [] ≡ Yes) × (leads_status (own_lead (Beaten 6 10) ∷ []) [] ≡ No)
+    × (leads_status (own_lead (Sure 1) ∷ own_lead (Beaten 6 10) ∷ []) [] ≡ Yes)
+    × (leads_status [] (their_lead (Sure 1) ∷ their_lead (Beaten 6 10) ∷ []) ≡ No)
     × (leads_status [] (their_lead (Beaten 6 10) ∷ their_lead (Sure 1) ∷ []) ≡ No) × (leads_status [] (their_lead Reached ∷ their_lead (Sure 1) ∷ []) ≡ Yes)
-statuses = (refl, refl, refl, refl)
+statuses = (refl, refl, refl, refl, refl, refl)
+
+-- the lines of each side, that the figures say little, and the text below them
+abbrev own_leads : List Lead
+own_leads = own_lead (Beaten 6 10) ∷ own_lead (Beaten 9 10) ∷ []
+
+abbrev stop_leads : List Lead
+stop_leads = own_lead (Sure 1) ∷ own_lead (Beaten 2 40) ∷ []
+
+abbrev their_leads : List Lead
+their_leads = their_lead (Sure 9) ∷ their_lead Missed ∷ []
+
+abbrev lines_of_leads : List ℕ
+lines_of_leads = codes "8D: not sure; a plan fails with 6 of 10 deals; stop: sure\n8D: not sure; a plan fails with 9 of 10 deals; stop: 2\n"
+    ++ codes "More than half of the deals beat each of them, so their order says little.\n"
+    ++ codes "It is their turn. After what they may play:\n5: sure\n5: not sure; after 5C some deals miss the goal\n\nB\n"
+
+at_the_lead : leads_text four_twos own_leads stop_leads their_leads (codes "\nB\n") ≡ lines_of_leads
+unfolding leads_text own_line their_line digits
+at_the_lead = refl
+
+after_two_turns : leads_text after_two own_leads stop_leads their_leads (codes "\nB\n") ≡ now_text after_two ++ lines_of_leads
+unfolding leads_text own_line their_line now_line other_score digits
+after_two_turns = refl
 
 -- ---- the plan to try
 first_cards : (begins_words (Play 29 End ∷ []) ≡ codes " begins with 8D") × (begins_words [] ≡ [])
 first_cards = (refl, refl)
 
 below : (beaten open_deals : ℕ) →
-    tried_text (Play 29 End ∷ []) open_deals beaten None ≡ codes "\nThe plan of cribsheet try begins with 8D:\n" ++ beating_text open_deals beaten None
+    tried_text (Play 29 (To 1) ∷ Play 4 End ∷ []) open_deals beaten None
+    ≡ codes "\nThe plan of cribsheet try begins with 8D:\n" ++ beating_text open_deals beaten None
 unfolding tried_text
 below beaten open_deals = refl
 
 -- ---- what is right
 second_columns : (wants_stops Win (own_lead Missed ∷ []) ≡ true) × (wants_stops Win (own_lead Missed ∷ own_lead (Sure 1) ∷ []) ≡ false)
-    × (wants_stops Win [] ≡ false) × (wants_stops Stop (own_lead Missed ∷ []) ≡ false) × (wants_stops (Holes 3) (own_lead Missed ∷ []) ≡ false)
-second_columns = (refl, refl, refl, refl, refl)
+    × (wants_stops Win (own_lead (Sure 1) ∷ own_lead Missed ∷ []) ≡ false) × (wants_stops Win [] ≡ false)
+    × (wants_stops Stop (own_lead Missed ∷ []) ≡ false) × (wants_stops (Holes 3) (own_lead Missed ∷ []) ≡ false)
+second_columns = (refl, refl, refl, refl, refl, refl)
 
 no_second_column : (stops : List Lead) → AreStopsIf false four_twos stops → stops ≡ []
 no_second_column stops are = are
 
-to_stop_them : (to_stop four_twos).goal ≡ Stop
-to_stop_them = refl
+to_stop_them : ((to_stop four_twos).goal ≡ Stop) × ((to_stop four_twos).version ≡ Two)
+to_stop_them = (refl, refl)
+
+-- the second column has the turns of the first one, in their order
+right_second_column : (stops : List Lead) → IsSetup (to_stop four_twos) → (AreEntries (to_stop four_twos) all_turns stops → ⊥)
+    → AreStopsIf true four_twos stops → ⊥
+right_second_column stops setup none are = none (are setup)
+
+first_two_first : (one other third last : Lead) → IsSetup (to_stop four_twos) → AreStopsIf true four_twos (one ∷ other ∷ third ∷ last ∷ [])
+    → one.act ≡ plays Owner 4
+unfolding set_where
+first_two_first one other third last setup are = (are setup).0.0
+
+four_and_not_five : (one other third fourth last : Lead) → IsSetup (to_stop four_twos)
+    → AreStopsIf true four_twos (one ∷ other ∷ third ∷ fourth ∷ last ∷ []) → ⊥
+unfolding set_where
+four_and_not_five one other third fourth last setup are = (are setup).1.1.1.1
+
+-- there is no second column if some card is sure
+no_column_below_a_sure_card : AreStops close_to_lost (own_lead (Sure 1) ∷ own_lead Missed ∷ []) []
+    × AreStops close_to_lost (own_lead Missed ∷ own_lead (Sure 1) ∷ []) []
+no_column_below_a_sure_card = (refl, refl)
+
+none_below_a_sure_card : AreStops close_to_lost (own_lead (Sure 1) ∷ []) (own_lead Missed ∷ []) → ⊥
+none_below_a_sure_card are =
+    (let none : ◌≡◌ {A = ℕ} 1 0 = ap (λ (all : List Lead). length all) are in absurd (omega (arith, none)))
+
+abbrev twos_to_win : Setup
+twos_to_win = record four_twos { goal = Win }
+
+first_two_first_to_win : (one other third last : Lead) → IsSetup (to_stop twos_to_win)
+    → AreStops twos_to_win (own_lead Missed ∷ []) (one ∷ other ∷ third ∷ last ∷ []) → one.act ≡ plays Owner 4
+unfolding set_where
+first_two_first_to_win one other third last setup are = (are setup).0.0
+
+-- ---- the text of a plan to try
+says_its_figures : (plan : List Node) (open_deals beaten : ℕ) (hands : Option Rows) → IsNeverStuck four_twos plan
+    → AreBeating four_twos plan open_deals beaten hands → SaysTried four_twos (tried_text plan open_deals beaten hands)
+says_its_figures plan open_deals beaten hands stuck beating = (plan, open_deals, beaten, hands, stuck, beating, refl)
+
+not_without_a_text : SaysTried four_twos [] → ⊥
+unfolding tried_text
+not_without_a_text says = (let none : [] ≡ tried_text says.0 says.1 says.2 says.3 = says.6 in absurd cc)
+
+not_of_a_plan_that_is_stuck : (text : List ℕ) → ((plan : List Node) → IsNeverStuck four_twos plan → ⊥) → SaysTried four_twos text → ⊥
+not_of_a_plan_that_is_stuck text none says = none says.0 says.4
+
+not_with_wrong_figures : (text : List ℕ)
+    → ((plan : List Node) (open_deals beaten : ℕ) (hands : Option Rows) → AreBeating four_twos plan open_deals beaten hands → ⊥)
+    → SaysTried four_twos text → ⊥
+not_with_wrong_figures text none says = none says.0 says.1 says.2 says.3 says.5
+
+three_of_forty : {A : Type 0} (tried : TriedPlan A) → tried.plan ≡ Play 29 End ∷ [] → tried.tally.open_deals ≡ 40 → tried.tally.beaten ≡ 3
+    → tried.hands ≡ None → below_text (Some tried) ≡ tried_text (Play 29 End ∷ []) 40 3 None
+three_of_forty tried plan open_deals beaten hands = rw (plan, open_deals, beaten, hands) refl
+
+-- ---- large plans
+large_plans : (problem : Setup) (act : Act) → (IsTooLarge problem act → HasLargePlan problem) × (IsTooLarge (to_stop problem) act → HasLargePlan problem)
+    × (ExceedsLimit problem 65535 → HasLargePlan problem)
+large_plans problem act = (λ is. inl (act, is), λ is. inr (inl (act, is)), λ large. inr (inr large))
+
+no_large_plan : (problem : Setup) → ((act : Act) → IsTooLarge problem act → ⊥) → ((act : Act) → IsTooLarge (to_stop problem) act → ⊥)
+    → ¬ ExceedsLimit problem 65535 → HasLargePlan problem → ⊥
+no_large_plan problem turn stop small (inl is) = turn is.0 is.1
+no_large_plan problem turn stop small (inr (inl is)) = stop is.0 is.1
+no_large_plan problem turn stop small (inr (inr is)) = small is
 
 -- nothing is below turns of which one is sure, and there is a plan to try if none is
 below_them : (problem : Setup) (text : List ℕ) → (IsBelow problem Yes text → text ≡ [])
@@ -115,7 +218,13 @@ below_them problem text = (λ is. is, λ none. tried none)
     tried none (inl some) = absurd (none some.0)
     tried none (inr is) = is.1
 
+no_text_if_a_plan_is_sure : (problem : Setup) → IsWinnable problem → IsBelow problem No (10 ∷ []) → ⊥
+no_text_if_a_plan_is_sure problem winnable (inl some) =
+    (let none : ◌≡◌ {A = ℕ} 1 0 = ap (λ (text : List ℕ). length text) some.1 in absurd (omega (arith, none)))
+no_text_if_a_plan_is_sure problem winnable (inr says) = says.0 winnable
+
 -- a reply has each part
 what_leads_have : (problem : Setup) (reply : Reply) (has : HasLeads problem reply)
-    → ((AreStops problem has.own has.stops → ⊥) → ⊥) × ((IsBelow problem (leads_status has.own has.theirs) has.below → ⊥) → ⊥)
-what_leads_have problem reply has = (λ none. none has.stops_right, λ none. none has.below_right)
+    → ((AreEntries problem all_turns has.own → ⊥) → ⊥) × ((AreTheirs problem has.theirs → ⊥) → ⊥)
+    × ((AreStops problem has.own has.stops → ⊥) → ⊥) × ((IsBelow problem (leads_status has.own has.theirs) has.below → ⊥) → ⊥)
+what_leads_have problem reply has = (λ none. none has.own_right, λ none. none has.theirs_right, λ none. none has.stops_right, λ none. none has.below_right)

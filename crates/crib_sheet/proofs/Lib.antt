@@ -1,4 +1,5 @@
 mod BeatenExamples
+mod HolesExamples
 mod LeadsExamples
 mod MeaningExamples
 mod NextTextExamples
@@ -12,6 +13,7 @@ mod TryExamples
 pub mod AskedInputs
 pub mod SuitsTexts
 pub mod GameSections
+pub mod HolesLines
 pub mod LeadsLines
 pub mod LeadsMade
 pub mod MadeSheets

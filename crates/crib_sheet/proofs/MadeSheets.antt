@@ -28,12 +28,12 @@ use Rattle.crib_sheet.proofs.AskedInputs.{asked_alone, asked_question}
 use Rattle.crib_run.specs.declared.status.Status.TheVariants.{Yes, No}
 use Rattle.crib_run.specs.Reply.{IsAnswer, IsOutcome, Reply, fault_reply, reason_reply, refusal_reply}
 use Rattle.crib_sheet.specs.declared.answer.job.SheetJob.TheVariants.{Plan, Game as GameJob, Beaten, Try}
-use Rattle.crib_sheet.specs.declared.answer.job.SheetJob.TheVariants.{Refute, Why as WhyJob, Leads as LeadsJob, Next, Scores}
+use Rattle.crib_sheet.specs.declared.answer.job.SheetJob.TheVariants.{Refute, Why as WhyJob, Leads as LeadsJob, Next, Scores, Holes}
 use Rattle.crib_game.specs.declared.replaying.report.Report.{Report}
 use Rattle.crib_game.specs.Replay.{replay_result}
 use Rattle.crib_game_sheet.specs.GamePlay.{game_reasons}
 use Rattle.crib_game_sheet.specs.GameText.{sheet_of}
-use Rattle.crib_sheet.specs.PlanBeaten.{AreBeatingOf}
+use Rattle.crib_sheet.specs.PlanBeaten.{AreBeatingOf, IsLeast}
 use Rattle.crib_plan.specs.Spelling.{plan_text}
 use Rattle.crib_beaten.specs.Tally.{AreFigures}
 use Rattle.crib_beaten.specs.declared.rows.Rows.{Rows}
@@ -53,6 +53,7 @@ use Rattle.crib_why.specs.Answer.{AreBySuit, HasFewGames, IsRightWhy, SomeIsSure
 use Rattle.crib_search.specs.Winnable.{IsWinnable}
 use Rattle.crib_why.specs.declared.why.Why.{Why}
 use Rattle.crib_why.specs.declared.why.Why.TheVariants as why
+use Rattle.crib_sheet.specs.Holes.{HasHoles}
 use Rattle.crib_sheet.specs.Scores.{scores_text}
 use Rattle.crib_tables.specs.Scores.{AreScores}
 use Rattle.crib_tables.specs.declared.scores.ScoreTable.{ScoreTable}
@@ -64,11 +65,11 @@ pub plan_answers : (verdict : Verdict) → IsAnswer (verdict_status verdict)
 plan_answers Holds = inl refl
 plan_answers (Fails result game) = inr refl
 
-pub sheet_made : (problem : Setup) (plan : List Node) (verdict : Verdict) (open_deals beaten : ℕ) (hands : Option Rows) (apart : ℕ → Bool) (reply : Reply)
-    → IsRight problem plan verdict → AreBeatingOf problem plan verdict open_deals beaten hands
-    → reply ≡ plan_reply problem plan verdict open_deals beaten hands apart → IsSheetOf problem plan reply ⊎ (reply ≡ fault_reply no_memory)
-sheet_made problem plan verdict open_deals beaten hands apart reply right figures is =
-    inl (verdict, open_deals, beaten, hands, apart, right, figures, is)
+pub sheet_made : (problem : Setup) (plan : List Node) (verdict : Verdict) (open_deals beaten : ℕ) (hands : Option Rows) (least : ℕ) (apart : ℕ → Bool)
+    (reply : Reply) → IsRight problem plan verdict → AreBeatingOf problem plan verdict open_deals beaten hands → IsLeast problem least
+    → reply ≡ plan_reply problem plan verdict open_deals beaten hands least apart → IsSheetOf problem plan reply ⊎ (reply ≡ fault_reply no_memory)
+sheet_made problem plan verdict open_deals beaten hands least apart reply right figures bound is =
+    inl (verdict, open_deals, beaten, hands, least, apart, right, figures, bound, is)
 
 -- the sheet of a plan that is spelled
 pub typed_made : (input : List ℕ) (problem : Setup) (behind : Option (List Node)) (plan : List Node) (reply : Reply)
@@ -157,7 +158,7 @@ pub tried_sheet : (problem : Setup) (plan : List Node) (sure : Bool) (reply : Re
     → IsSheetOf problem plan reply ⊎ (reply ≡ fault_reply no_memory)
     → AnswersWithPlan problem (IsSheetOf problem) reply ⊎ (reply ≡ fault_reply no_memory)
 tried_sheet problem plan sure reply tried (inl sheet) =
-    let status = ap (λ (r : Reply). r.status) sheet.7 ∙ sheet_status problem plan sure sheet.0 tried sheet.5 in
+    let status = ap (λ (r : Reply). r.status) sheet.9 ∙ sheet_status problem plan sure sheet.0 tried sheet.6 in
     inl (inl (plan, subst (IsToTry problem plan) (sym status) (to_try problem plan sure tried), sheet))
 tried_sheet problem plan sure reply tried (inr want) = inr want
 
@@ -250,3 +251,13 @@ scores_without_memory input problem asked = inr (rw asked refl, refl)
 pub scores_made : (input : List ℕ) (problem : Setup) (table : ScoreTable) → problem_of_input input ≡ Ok problem → AreScores problem table
     → SheetMakes Scores input (record { output = scores_text problem table; status = Yes })
 scores_made input problem table asked right = inl (rw asked (table, right, refl))
+
+-- ---- how many holes are sure
+
+pub holes_without_memory : (input : List ℕ) (problem : Setup) → problem_of_input input ≡ Ok problem
+    → SheetMakes Holes input (reason_reply (reasons.Fault NoMemory))
+holes_without_memory input problem asked = inr (rw asked refl, refl)
+
+pub holes_made : (input : List ℕ) (problem : Setup) (reply : Reply) → problem_of_input input ≡ Ok problem → HasHoles problem reply
+    → SheetMakes Holes input reply
+holes_made input problem reply asked right = inl (rw asked right)

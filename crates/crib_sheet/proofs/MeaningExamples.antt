@@ -1,5 +1,5 @@
 -- Worked examples of right replies and of what they guarantee, clause by clause.
-use Rattle.std.proofs.Common.{◌≡◌, ◌⊎◌, refl, ap, inl, inr, ℕ, true, false, Bool, List, [], ◌++◌, codes, get_or, Option, Some, None, Ok, Err}
+use Rattle.std.proofs.Common.{◌≡◌, ◌⊎◌, refl, ap, arith, inl, inr, ℕ, true, false, Bool, List, [], ◌++◌, codes, get_or, Option, Some, None, Ok, Err}
 use Rattle.std.proofs.lemmas.Bool.{both_ways}
 use Rattle.std.specs.Fmt.{digits}
 use Rattle.crib_text.specs.Refusals.{Refusal}
@@ -22,7 +22,7 @@ use Rattle.crib_answer.specs.Input.{report_of_input}
 use Rattle.crib_game_sheet.specs.GameText.{game_sheet_text}
 use Rattle.crib_sheet.specs.Asked.{asked_of_input, plan_or_none}
 use Rattle.crib_sheet.specs.PlanHead.{failing_text, position_text, sure_text}
-use Rattle.crib_sheet.specs.PlanBeaten.{AreBeating, AreBeatingOf, beating_text}
+use Rattle.crib_sheet.specs.PlanBeaten.{AreBeating, AreBeatingOf, IsLeast, beating_text, least_text}
 use Rattle.crib_beaten.specs.declared.rows.Rows.{Rows}
 use Rattle.crib_plan_sheet.specs.PlanPage.{page_text}
 use Rattle.crib_plan_sheet.specs.PlanPlay.{ReachesGoal}
@@ -78,29 +78,31 @@ a_problem_alone_is_read e = absurd cc
 
 -- the verdict and the figures are right, and the reply is what is written of them
 reply_of_a_plan : (problem : Setup) (plan : List Node) (reply : Reply) →
-    ((verdict : Verdict) (open_deals beaten : ℕ) (hands : Option Rows) (apart : ℕ → Bool) → IsRight problem plan verdict →
-    AreBeatingOf problem plan verdict open_deals beaten hands → reply ≡ plan_reply problem plan verdict open_deals beaten hands apart → ⊥) →
+    ((verdict : Verdict) (open_deals beaten : ℕ) (hands : Option Rows) (least : ℕ) (apart : ℕ → Bool) → IsRight problem plan verdict →
+    AreBeatingOf problem plan verdict open_deals beaten hands → IsLeast problem least →
+    reply ≡ plan_reply problem plan verdict open_deals beaten hands least apart → ⊥) →
     AnswersPlan (Ok (problem, Some plan)) reply → ⊥
 reply_of_a_plan problem plan reply none answers =
-    none answers.0 answers.1 answers.2 answers.3 answers.4 answers.5 answers.6 answers.7
+    none answers.0 answers.1 answers.2 answers.3 answers.4 answers.5 answers.6 answers.7 answers.8 answers.9
 
 verdict_of_a_plan : (problem : Setup) (plan : List Node) (reply : Reply) (answers : AnswersPlan (Ok (problem, Some plan)) reply) →
     IsRight problem plan answers.0
-verdict_of_a_plan problem plan reply answers = answers.5
+verdict_of_a_plan problem plan reply answers = answers.6
 
 reply_of_a_problem : (problem : Setup) (reply : Reply) → AnswersPlan (Ok (problem, None)) reply ≡ AnswersWithPlan problem (IsSheetOf problem) reply
 reply_of_a_problem problem reply = refl
 
 sure_plan_is_written : (problem : Setup) (plan : List Node) (open_deals beaten : ℕ) (hands : Option Rows) (apart : ℕ → Bool) → IsSure problem plan →
-    AnswersPlan (Ok (problem, Some plan)) (plan_reply problem plan Holds open_deals beaten hands apart)
-sure_plan_is_written problem plan open_deals beaten hands apart sure = (Holds, open_deals, beaten, hands, apart, sure, tt, refl)
+    AnswersPlan (Ok (problem, Some plan)) (plan_reply problem plan Holds open_deals beaten hands 0 apart)
+sure_plan_is_written problem plan open_deals beaten hands apart sure =
+    (Holds, open_deals, beaten, hands, 0, apart, sure, tt, (λ other count exact. omega arith), refl)
 
 replies_of_verdicts : (problem : Setup) (plan : List Node) (game : Game) (open_deals beaten : ℕ) (hands : Option Rows) (apart : ℕ → Bool) →
-    (plan_reply problem [] Holds open_deals beaten hands apart
+    (plan_reply problem [] Holds open_deals beaten hands 7 apart
     ≡ record { output = sure_text problem ++ page_text true (record { first = Over; paragraphs = [] }); status = Yes })
-    × (plan_reply problem plan (Fails Short game) open_deals beaten hands apart
+    × (plan_reply problem plan (Fails Short game) open_deals beaten hands 7 apart
     ≡ record {
-      output = (position_text problem ++ beating_text open_deals beaten hands ++ failing_text problem plan Short game)
+      output = (position_text problem ++ beating_text open_deals beaten hands ++ least_text beaten 7 ++ failing_text problem plan Short game)
           ++ page_text false (sheet_with apart plan);
       status = No;
     })
@@ -157,14 +159,16 @@ unsure_plan : (input : List ℕ) → ((problem : Setup) (plan : List Node) → S
 unsure_plan input none has = none has.problem has.plan has.spelled has.unsure
 
 unsure_sheet : (input text : List ℕ) →
-    ((problem : Setup) (plan : List Node) (open_deals beaten : ℕ) (hands : Option Rows) (middle : List ℕ) (apart : ℕ → Bool) →
+    ((problem : Setup) (plan : List Node) (open_deals beaten : ℕ) (hands : Option Rows) (least : ℕ) (middle : List ℕ) (apart : ℕ → Bool) →
     AsksAbout input problem plan →
     (IsSure problem plan → ⊥) → (SpellsProblem input problem → IsWinnable problem → ⊥) → (SpellsProblem input problem → IsNeverStuck problem plan) →
-    AreBeating problem plan open_deals beaten hands →
-    text ≡ position_text problem ++ beating_text open_deals beaten hands ++ middle ++ page_text false (sheet_with apart plan) → ⊥) →
+    AreBeating problem plan open_deals beaten hands → IsLeast problem least →
+    text ≡ position_text problem ++ beating_text open_deals beaten hands ++ least_text beaten least ++ middle ++ page_text false (sheet_with apart plan)
+    → ⊥) →
     HasUnsureSheet input text → ⊥
 unsure_sheet input text none has =
-    none has.problem has.plan has.open_deals has.beaten has.hands has.middle has.apart has.asked has.unsure has.none has.stated has.figures has.printed
+    none has.problem has.plan has.open_deals has.beaten has.hands has.least has.middle has.apart has.asked has.unsure has.none has.stated has.figures
+    has.is_least has.printed
 
 sheet_of_a_game : (input text : List ℕ) →
     ((problem : Setup) (game : Game) → SpellsGame input problem game → game_sheet_text problem game ≡ Ok text → ⊥) → HasGameSheet input text → ⊥

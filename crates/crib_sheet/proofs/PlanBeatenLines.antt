@@ -1,8 +1,10 @@
 -- The lines of the deals that beat a plan, as the writers put them.
-use Rattle.std.proofs.Common.{◌≡◌, ◌≢◌, ◌≤◌, ℕ, ◌-◌, Bool, false, List, [], ◌∷◌, ◌++◌, length, get_or, take, drop, replicate, codes, count_by}
+use Rattle.std.proofs.Common.{◌≡◌, ◌≢◌, ◌≤◌, ℕ, ◌+◌, ◌-◌, ◌*◌, ◌/◌, ◌%◌, min, Bool, false, List, [], ◌∷◌, ◌++◌, length, get_or, take, drop}
+use Rattle.std.proofs.Common.{replicate, codes, count_by}
 use Rattle.std.proofs.Common.{refl, ◌∙◌, append_assoc, arith, rules}
 use Rattle.std.specs.List.{list_all}
 use Rattle.std.proofs.lemmas.Bool.{ne_eqb}
+use Rattle.std.proofs.lemmas.Grind.{div_ceil_times}
 use Rattle.std.proofs.lemmas.List.{append-nil, take-replicate, take_all}
 use Rattle.crib_beaten.specs.declared.rows.Row.{Row}
 use Rattle.crib_text.specs.Spelling.{space}
@@ -56,3 +58,7 @@ row_lines_from word front (row ∷ rows) some is =
 
 pub others_listed : (others : ℕ) → others ≢ 0 → others_line others ≡ deals_line (codes " and others") others []
 others_listed others some = rw (ne_eqb others 0 some) refl
+
+-- what a strategy is worth that divides each deal into twelve parts, in deals, and cut off at a greatest number
+pub deals_of_worth : (worth most count : ℕ) → worth ≤ 12 * count → min (worth / 12 + min 1 (worth % 12)) most ≤ count
+deals_of_worth worth most count small = let bounds = (div_ceil_times worth 12 (omega arith)).1 in omega arith

@@ -3,8 +3,9 @@ use Rattle.std.proofs.Common.{◌≡◌, true, false, [], ◌∷◌, ◌++◌, c
 use Rattle.std.specs.Fmt.{digits}
 use Rattle.crib_cards.specs.declared.sides.Side.TheVariants.{Owner, Opponent}
 use Rattle.crib_play.specs.declared.turns.Turn.TheVariants as turns
-use Rattle.crib_problem.proofs.ExampleProblems.{close_to_lost, four_twos, plays, says_go}
+use Rattle.crib_problem.proofs.ExampleProblems.{after_two, close_to_lost, four_twos, plays, says_go}
 use Rattle.crib_problem.specs.declared.problem.Goal.TheVariants.{Stop}
+use Rattle.crib_problem.specs.Setup.{Setup}
 use Rattle.crib_run.specs.declared.status.Status.TheVariants.{Yes}
 use Rattle.crib_tables.specs.declared.scores.Mark.TheVariants as mark
 use Rattle.crib_tables.specs.declared.scores.Row.{Row}
@@ -66,15 +67,36 @@ small_at_the_top : columns_text (0 ∷ 9 ∷ 10 ∷ []) ≡ codes "        1\n  
 unfolding digits columns_text
 small_at_the_top = refl
 
+the_greater_first : columns_text (10 ∷ 9 ∷ []) ≡ codes "    1  \n    0 9\n"
+unfolding digits columns_text
+the_greater_first = refl
+
+only_none : columns_text (0 ∷ []) ≡ codes "    0\n"
+unfolding digits columns_text
+only_none = refl
+
+-- as often as it is there
+the_same_twice : columns_text (110 ∷ 110 ∷ []) ≡ codes "    1 1\n    1 1\n    0 0\n"
+unfolding digits columns_text
+the_same_twice = refl
+
 small_numbers : map blanks_before (9 ∷ 10 ∷ 99 ∷ 100 ∷ []) ≡ codes "  " ∷ codes " " ∷ codes " " ∷ [] ∷ []
 small_numbers = refl
 
 -- ---- rows
-a_row : {row : Row} → row.owner ≡ 8 → row.marks.items ≡ mark.Turns 2 ∷ mark.Impossible ∷ [] →
-    (row_text row ≡ codes "  8 2\n") × (has_impossible row ≡ true)
-    × (blank_line (row ∷ []) ≡ codes "A blank is a score that the goal or the turns can't have.\n")
+a_row : {row : Row} → row.owner ≡ 8 → row.marks.items ≡ mark.Turns 2 ∷ mark.Impossible ∷ [] → row_text row ≡ codes "  8 2\n"
 unfolding digits row_text
-a_row owner marks = (rw (owner, marks) refl, rw marks refl, rw marks refl)
+a_row owner marks = rw (owner, marks) refl
+
+a_blank_in_a_row : (row : Row) → row.marks.items ≡ mark.Turns 2 ∷ mark.Impossible ∷ [] → has_impossible row ≡ true
+a_blank_in_a_row row marks = rw marks refl
+
+no_blank_in_a_row : (row : Row) → row.marks.items ≡ mark.Turns 2 ∷ [] → has_impossible row ≡ false
+no_blank_in_a_row row marks = rw marks refl
+
+what_a_blank_is : (row : Row) → row.marks.items ≡ mark.Turns 2 ∷ mark.Impossible ∷ []
+    → blank_line (row ∷ []) ≡ codes "A blank is a score that the goal or the turns can't have.\n"
+what_a_blank_is row marks = rw marks refl
 
 no_blank : blank_line [] ≡ []
 no_blank = refl
@@ -89,6 +111,16 @@ above : (table : ScoreTable) → above_text four_twos table
     ≡ count_line table.turn true ++ cards_line four_twos ++ turns_line [] ++ sides_line true ++ blank_line table.rows.items ++ codes "\n"
 unfolding above_text
 above table = refl
+
+-- after a turn the scores are still those at the first lead
+abbrev after_one : Setup
+after_one = record after_two { played = plays Owner 4 ∷ [] }
+
+above_after_a_turn : (table : ScoreTable) → table.turn ≡ turns.Opponent → table.rows.items ≡ [] → above_text after_one table
+    ≡ codes "Scores at which a plan is sure now: + is yes, and . is no.\nhold 2C 2D 2H 2S, throw 4C 6D, starter KD, dealer opponent, goal holes 13\n"
+    ++ codes "played own 2C\nThe owner's score at the first lead is at the side, the opponent's at the top.\n\n"
+unfolding above_text cards_line digits
+above_after_a_turn table turn rows = rw (turn, rows) refl
 
 reply : (sheet : ScoreSheet) → scores_reply sheet ≡ record { output = scores_text sheet.problem sheet.table; status = Yes }
 reply sheet = refl

@@ -47,15 +47,15 @@ use Rattle.crib_next.proofs.NextInputs.{question_accepted as next_accepted, ques
 use Rattle.crib_next.proofs.NextLaws.{next_is_after, sure_law}
 use Rattle.crib_game_sheet.specs.GameText.{game_sheet_text, sheet_for}
 use Rattle.crib_sheet.specs.PlanHead.{failing_text}
-use Rattle.crib_sheet.specs.PlanBeaten.{AreBeatingOf}
+use Rattle.crib_sheet.specs.PlanBeaten.{AreBeatingOf, IsLeast}
 use Rattle.crib_beaten.specs.declared.rows.Rows.{Rows}
 use Rattle.crib_sheet.specs.Beaten.{beaten_reply}
 use Rattle.crib_plan_sheet.proofs.PlanPlays.{sure_is_reached}
 use Rattle.crib_sheet.specs.declared.answer.job.SheetJob.{SheetJob}
-use Rattle.crib_sheet.specs.declared.answer.job.SheetJob.TheVariants.{Plan, Game as GameJob, Beaten, Try, Refute, Why, Leads, Next, Scores}
+use Rattle.crib_sheet.specs.declared.answer.job.SheetJob.TheVariants.{Plan, Game as GameJob, Beaten, Try, Refute, Why, Leads, Next, Scores, Holes}
 use Rattle.crib_sheet.specs.Sheet.{AnswersBeaten, AnswersLeads, AnswersPlan, AnswersTry, IsSheetOf, IsToTry, SheetAnswers, SheetMakes}
 use Rattle.crib_sheet.specs.Sheet.{game_reply, game_sheet_of_input}
-use Rattle.crib_sheet.specs.Sheet.{AnswersScores, AnswersWhy, SaysWhy, next_reply_to, plan_reply, verdict_status}
+use Rattle.crib_sheet.specs.Sheet.{AnswersHoles, AnswersScores, AnswersWhy, SaysWhy, next_reply_to, plan_reply, verdict_status}
 use Rattle.crib_sheet.specs.Next.{next_reply}
 use Rattle.crib_sheet.specs.Refute.{WhyTexts, refute_texts, why_texts}
 use Rattle.crib_sheet.specs.Leads.{HasLeads}
@@ -123,11 +123,12 @@ about_plan : (input : List ℕ) (problem : Setup) (plan : List Node) → AsksAbo
 about_plan input problem plan (inl spelled) = spelled.plan_is
 about_plan input problem plan (inr alone) = alone.1
 
-verdict_means : (input : List ℕ) (problem : Setup) (plan : List Node) (verdict : Verdict) (open_deals beaten : ℕ) (hands : Option Rows) (apart : ℕ → Bool)
-    → AsksAbout input problem plan
+verdict_means : (input : List ℕ) (problem : Setup) (plan : List Node) (verdict : Verdict) (open_deals beaten : ℕ) (hands : Option Rows) (least : ℕ)
+    (apart : ℕ → Bool) → AsksAbout input problem plan
     → (verdict_status verdict ≡ No → SpellsProblem input problem → (¬ IsWinnable problem) × IsNeverStuck problem plan) → IsRight problem plan verdict
-    → AreBeatingOf problem plan verdict open_deals beaten hands → SheetMeans Plan input (plan_reply problem plan verdict open_deals beaten hands apart)
-verdict_means input problem plan Holds open_deals beaten hands apart asked none right figures = record {
+    → AreBeatingOf problem plan verdict open_deals beaten hands → IsLeast problem least
+    → SheetMeans Plan input (plan_reply problem plan verdict open_deals beaten hands least apart)
+verdict_means input problem plan Holds open_deals beaten hands least apart asked none right figures bound = record {
   problem = problem;
   plan = plan;
   asked = asked;
@@ -138,7 +139,7 @@ verdict_means input problem plan Holds open_deals beaten hands apart asked none 
   printed = refl;
   reaches = (sure_is_reached apart problem plan (about_plan input problem plan asked)).0 right;
 }
-verdict_means input problem plan (Fails result game) open_deals beaten hands apart asked none right figures = record {
+verdict_means input problem plan (Fails result game) open_deals beaten hands least apart asked none right figures bound = record {
   problem = problem;
   plan = plan;
   asked = asked;
@@ -149,6 +150,8 @@ verdict_means input problem plan (Fails result game) open_deals beaten hands apa
   beaten = beaten;
   hands = hands;
   figures = figures;
+  least = least;
+  is_least = bound;
   middle = failing_text problem plan result game;
   apart = apart;
   printed = refl;
@@ -157,9 +160,10 @@ verdict_means input problem plan (Fails result game) open_deals beaten hands apa
 sheet_means : (input : List ℕ) (problem : Setup) (plan : List Node) (reply : Reply) → AsksAbout input problem plan
     → (reply.status ≡ No → SpellsProblem input problem → (¬ IsWinnable problem) × IsNeverStuck problem plan) → IsSheetOf problem plan reply
     → SheetMeans Plan input reply
-sheet_means input problem plan reply asked none (verdict, open_deals, beaten, hands, apart, right, figures, is) =
+sheet_means input problem plan reply asked none (verdict, open_deals, beaten, hands, least, apart, right, figures, bound, is) =
     subst (SheetMeans Plan input) (sym is)
-    (verdict_means input problem plan verdict open_deals beaten hands apart asked (λ same. none (ap (λ (r : Reply). r.status) is ∙ same)) right figures)
+    (verdict_means input problem plan verdict open_deals beaten hands least apart asked (λ same. none (ap (λ (r : Reply). r.status) is ∙ same))
+    right figures bound)
 
 plan_means : (input : List ℕ) (said : Result (Setup × Option (List Node)) Refusal) (reply : Reply) → asked_of_input input ≡ said → AnswersPlan said reply
     → SheetMeans Plan input reply
@@ -327,6 +331,16 @@ scores_mean input (Err refusal) reply asked is = subst (SheetMeans Scores input)
     let e : Ok problem ≡ Err refusal = sym (problem_spelled input problem spelled) ∙ asked in
     absurd cc)
 
+-- ---- how many holes are sure
+
+holes_mean : (input : List ℕ) (said : Result Setup Refusal) (reply : Reply) → problem_of_input input ≡ said → AnswersHoles said reply
+    → SheetMeans Holes input reply
+holes_mean input (Ok problem) reply asked (holes, others, right, there, is) =
+    subst (SheetMeans Holes input) (sym is) (problem, problem_accepted input problem asked, (holes, others, right, there, refl))
+holes_mean input (Err refusal) reply asked is = subst (SheetMeans Holes input) (sym is) (λ problem spelled.
+    let e : Ok problem ≡ Err refusal = sym (problem_spelled input problem spelled) ∙ asked in
+    absurd cc)
+
 -- ---- each job
 
 memory_means : (job : SheetJob) (input : List ℕ) → SheetMeans job input (fault_reply no_memory)
@@ -345,6 +359,7 @@ makes_means Why input reply (inl answers) = why_means Why why_texts input (λ re
 makes_means Leads input reply (inl answers) = leads_means input (problem_of_input input) reply refl answers
 makes_means Next input reply (inl is) = turns_mean input (next_question_of_input input) _ reply refl refl is
 makes_means Scores input reply (inl answers) = scores_mean input (problem_of_input input) reply refl answers
+makes_means Holes input reply (inl answers) = holes_mean input (problem_of_input input) reply refl answers
 makes_means job input reply (inr want) = subst (SheetMeans job input) (sym want.1) (memory_means job input)
 
 -- each job refuses an input that is too long
@@ -359,6 +374,7 @@ long_answers Why input long = rw (read_of_long problem_alone_at input long) refl
 long_answers Leads input long = rw (read_of_long problem_alone_at input long) refl
 long_answers Next input long = rw (read_of_long next_question_at input long) refl
 long_answers Scores input long = rw (read_of_long problem_alone_at input long) refl
+long_answers Holes input long = rw (read_of_long problem_alone_at input long) refl
 long_answers _ input long = rw (read_of_long question_at input long) refl
 
 pub job_means : (job : SheetJob) → HaveMeaning (SheetMakes job) (SheetMeans job)

@@ -3,10 +3,10 @@ use Rattle.std.specs.Prelude.{ℕ, List, [], ◌∷◌, Result, codes, find, map
 use Rattle.std.specs.Str.{bytes_eq}
 use Rattle.crib_answer.specs.declared.job.UnknownJob.{UnknownJob}
 use Rattle.crib_input.specs.declared.sections.Sections.{Sections}
-use Rattle.crib_input.specs.declared.sections.Sections.TheVariants.{Problem, Question, Played}
+use Rattle.crib_input.specs.declared.sections.Sections.TheVariants.{Problem, Question, Played, Turns}
 use Rattle.crib_sheet.specs.declared.answer.job.SheetJob.{SheetJob}
 use Rattle.crib_sheet.specs.declared.answer.job.SheetJob.TheVariants.{Plan, Game, Beaten, Try, Refute, Why, Leads, Next}
-use Rattle.crib_sheet.specs.declared.answer.job.SheetJob.TheVariants.{Scores}
+use Rattle.crib_sheet.specs.declared.answer.job.SheetJob.TheVariants.{Scores, Holes}
 
 -- the name of a job: the command that is typed for it
 abbrev pub name_of : SheetJob → List ℕ
@@ -19,10 +19,11 @@ name_of Why = codes "why"
 name_of Leads = codes "leads"
 name_of Next = codes "next"
 name_of Scores = codes "scores"
+name_of Holes = codes "holes"
 
 -- the jobs, in the order in which the help text lists them
 abbrev pub all_jobs : List SheetJob
-all_jobs = Plan ∷ Game ∷ Beaten ∷ Try ∷ Refute ∷ Why ∷ Leads ∷ Next ∷ Scores ∷ []
+all_jobs = Plan ∷ Game ∷ Beaten ∷ Try ∷ Refute ∷ Why ∷ Leads ∷ Next ∷ Scores ∷ Holes ∷ []
 
 -- the names of the jobs, in the same order
 abbrev pub job_names : List (List ℕ)
@@ -41,5 +42,6 @@ sections_of Try = Problem
 sections_of Refute = Problem
 sections_of Why = Problem
 sections_of Leads = Problem
-sections_of Next = Question
+sections_of Next = Turns
 sections_of Scores = Problem
+sections_of Holes = Problem

@@ -30,10 +30,11 @@ use Rattle.crib_next.specs.declared.next.NextTurn.{NextTurn}
 use Rattle.crib_next.specs.declared.next.NextTurn.TheVariants.{Stuck}
 use Rattle.crib_game_sheet.specs.GameText.{game_sheet_text}
 use Rattle.crib_sheet.specs.Beaten.{beaten_text}
+use Rattle.crib_sheet.specs.Holes.{HasHoles}
 use Rattle.crib_sheet.specs.Leads.{HasLeads}
 use Rattle.crib_sheet.specs.Next.{next_text}
 use Rattle.crib_sheet.specs.PlanHead.{position_text, sure_text}
-use Rattle.crib_sheet.specs.PlanBeaten.{AreBeating, beating_text}
+use Rattle.crib_sheet.specs.PlanBeaten.{AreBeating, IsLeast, beating_text, least_text}
 use Rattle.crib_sheet.specs.Refute.{WhyTexts, refute_texts, why_texts}
 use Rattle.crib_sheet.specs.Scores.{scores_text}
 use Rattle.crib_tables.specs.Scores.{AreScores}
@@ -43,7 +44,7 @@ use Rattle.crib_plan_sheet.specs.PlanPlay.{ReachesGoal}
 use Rattle.crib_plan_sheet.specs.PlanSheet.{sheet_with}
 use Rattle.crib_sheet.specs.declared.answer.job.SheetJob.{SheetJob}
 use Rattle.crib_sheet.specs.declared.answer.job.SheetJob.TheVariants.{Plan, Game as GameJob, Beaten, Try}
-use Rattle.crib_sheet.specs.declared.answer.job.SheetJob.TheVariants.{Refute, Why, Leads, Next, Scores}
+use Rattle.crib_sheet.specs.declared.answer.job.SheetJob.TheVariants.{Refute, Why, Leads, Next, Scores, Holes}
 
 -- an input asks about a plan: it spells a problem and the plan, or the problem alone. Then the plan is any plan
 abbrev pub AsksAbout : List ℕ → Setup → List Node → Type 0
@@ -70,8 +71,8 @@ pub record HasUnsurePlan (input : List ℕ) : Type 0 where
   pub unsure : ¬ IsSure problem plan
 
 -- an input asks about a plan that is not sure, and if it spells a problem alone, no plan is sure, and this one is never
--- stuck. The text has after the position how many deals beat the plan and which hands these have, and ends with the
--- sheet of the plan
+-- stuck. The text has after the position how many deals beat the plan, which hands these have, and how many beat each
+-- plan at least, and ends with the sheet of the plan
 pub record HasUnsureSheet (input text : List ℕ) : Type 0 where
   pub problem : Setup
   pub plan : List Node
@@ -83,10 +84,12 @@ pub record HasUnsureSheet (input text : List ℕ) : Type 0 where
   pub beaten : ℕ
   pub hands : Option Rows
   pub figures : AreBeating problem plan open_deals beaten hands
+  pub least : ℕ
+  pub is_least : IsLeast problem least
   pub middle : List ℕ
   pub apart : ℕ → Bool
   pub printed :
-      text ≡ position_text problem ++ beating_text open_deals beaten hands ++ middle
+      text ≡ position_text problem ++ beating_text open_deals beaten hands ++ least_text beaten least ++ middle
       ++ page_text false (sheet_with apart plan)
 
 -- an input spells a problem and a game, and `text` is the sheet of the game
@@ -234,6 +237,15 @@ ScoresMean input text No = ⊥
 ScoresMean input text Refused = (problem : Setup) → ¬ SpellsProblem input problem
 ScoresMean input text Fault = text ≡ fault_line no_memory
 
+-- what the reply of `holes` guarantees, by its status. Yes: the text has the right figures. It is never no. Refused:
+-- the input spells no problem. Fault: the text says that an allocation failed
+abbrev pub HolesMean : List ℕ → List ℕ → Status → Type 0
+HolesMean input text Yes =
+    (problem : Setup) × SpellsProblem input problem × HasHoles problem (record { output = text; status = Yes })
+HolesMean input text No = ⊥
+HolesMean input text Refused = (problem : Setup) → ¬ SpellsProblem input problem
+HolesMean input text Fault = text ≡ fault_line no_memory
+
 -- what the text and the status of a reply guarantee about the input
 abbrev pub SheetMeans : SheetJob → List ℕ → Reply → Type 0
 SheetMeans Plan input reply = PlanMeans input reply.output reply.status
@@ -245,3 +257,4 @@ SheetMeans Why input reply = WhyMeans why_texts input reply.output reply.status
 SheetMeans Leads input reply = LeadsMeans input reply.output reply.status
 SheetMeans Next input reply = NextMeans input reply.output reply.status
 SheetMeans Scores input reply = ScoresMean input reply.output reply.status
+SheetMeans Holes input reply = HolesMean input reply.output reply.status

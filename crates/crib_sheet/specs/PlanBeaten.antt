@@ -1,7 +1,7 @@
 -- The deals that beat a plan that is not sure, in words.
 use Rattle.std.specs.Prelude.{ℕ, ◌<◌, ◌≤◌, ◌-◌, ◌/◌, ◌%◌, ◌==◌, Bool, false, ◌&&◌, Option, None, Some}
 use Rattle.std.specs.Prelude.{List, [], ◌∷◌, ◌++◌, length, flat_map}
-use Rattle.std.specs.Prelude.{count_by, replicate, nat_lt, codes, decimal, if◌then◌else◌}
+use Rattle.std.specs.Prelude.{count_by, replicate, nat_le, nat_lt, codes, decimal, if◌then◌else◌}
 use Rattle.std.specs.List.{All, list_all}
 use Rattle.crib_text.specs.Spelling.{space}
 use Rattle.crib_problem.specs.Setup.{Setup}
@@ -85,7 +85,18 @@ beating_text open_deals beaten hands =
     ++ codes " deals that they may have, whatever they play. With the other\n" ++ grouped beaten
     ++ codes " they can beat it." ++ hands_text hands
 
+-- how many deals beat each plan at least, beside how many beat this one. Nothing is said if that is no deal
+unfoldable pub least_text : ℕ → ℕ → List ℕ
+least_text beaten least =
+    if least == 0 then []
+    else if nat_le beaten least then codes "No plan is beaten by fewer deals.\n"
+    else codes "Every plan is beaten by at least " ++ grouped least ++ deals_word least ++ codes ".\n"
+
 -- ---- right figures
+
+-- at least so many deals beat each plan
+abbrev pub IsLeast : Setup → ℕ → Type 0
+IsLeast problem least = (plan : List Node) (count : ℕ) → AreExactly (Beats problem plan) count → least ≤ count
 
 -- rows are right: exactly so many deals that beat the plan meet a row and none above. Each has one at least, and none
 -- below has more. Each leaves a blank before the column of these numbers

@@ -21,7 +21,7 @@ use Rattle.crib_run.specs.Pieces.{role_word}
 use Rattle.crib_game_sheet.specs.GamePlay.{game_reasons}
 use Rattle.crib_game_sheet.specs.GameText.{played_text}
 use Rattle.crib_game_sheet.specs.Heading.{heading_text}
-use Rattle.crib_sheet.specs.PlanBeaten.{beating_text}
+use Rattle.crib_sheet.specs.PlanBeaten.{beating_text, least_text}
 use Rattle.crib_plan_sheet.specs.PlanNow.{now_text}
 use Rattle.crib_plan_sheet.specs.PlanStuck.{stuck_text}
 
@@ -72,11 +72,13 @@ failing_text problem plan ending game =
     failing_line ending ++ game_lines problem game (replay_result problem game) ++ why_text problem plan ending game
     ++ codes "\nThe plan:\n\n"
 
--- the head of a plan's sheet, by the verdict on the plan: the position, and if it is not sure how many deals beat it
-abbrev pub head_text : Setup → List Node → Verdict → ℕ → ℕ → Option Rows → List ℕ
-head_text problem plan Holds open_deals beaten hands = sure_text problem
-head_text problem plan (Fails ending game) open_deals beaten hands =
-    position_text problem ++ beating_text open_deals beaten hands ++ failing_text problem plan ending game
+-- the head of a plan's sheet, by the verdict on the plan: the position, and if it is not sure how many deals beat it,
+-- and how many beat each plan at least
+abbrev pub head_text : Setup → List Node → Verdict → ℕ → ℕ → Option Rows → ℕ → List ℕ
+head_text problem plan Holds open_deals beaten hands least = sure_text problem
+head_text problem plan (Fails ending game) open_deals beaten hands least =
+    position_text problem ++ beating_text open_deals beaten hands ++ least_text beaten least
+    ++ failing_text problem plan ending game
 
 -- whether the status of a sheet says that the plan is sure
 abbrev pub is_sure : Status → Bool

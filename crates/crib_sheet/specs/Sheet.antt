@@ -31,10 +31,11 @@ use Rattle.crib_game_sheet.specs.GameText.{game_sheet_text, sheet_of as sheet_te
 use Rattle.crib_next.specs.Input.{next_of_question, next_question_of_input}
 use Rattle.crib_sheet.specs.Asked.{asked_of_input}
 use Rattle.crib_sheet.specs.Beaten.{beaten_reply, tally_reply}
+use Rattle.crib_sheet.specs.Holes.{HasHoles, holes_sheet_reply}
 use Rattle.crib_sheet.specs.Leads.{HasLargePlan, HasLeads, leads_reply}
 use Rattle.crib_sheet.specs.Next.{next_parts_reply, next_reply}
 use Rattle.crib_sheet.specs.PlanHead.{head_text, is_sure}
-use Rattle.crib_sheet.specs.PlanBeaten.{AreBeatingOf}
+use Rattle.crib_sheet.specs.PlanBeaten.{AreBeatingOf, IsLeast}
 use Rattle.crib_sheet.specs.Refute.{WhyTexts, words_reply, refute_reply, refute_texts, why_texts}
 use Rattle.crib_sheet.specs.Scores.{scores_reply, scores_text}
 use Rattle.crib_tables.specs.Scores.{AreScores}
@@ -48,7 +49,7 @@ use Rattle.crib_sheet.specs.declared.answer.plan.PlanSheet.{PlanSheet}
 use Rattle.crib_sheet.specs.declared.answer.game.GameSheet.{GameSheet}
 use Rattle.crib_sheet.specs.declared.answer.job.SheetJob.{SheetJob}
 use Rattle.crib_sheet.specs.declared.answer.job.SheetJob.TheVariants.{Plan, Game as GameJob, Beaten, Try}
-use Rattle.crib_sheet.specs.declared.answer.job.SheetJob.TheVariants.{Refute, Why, Leads, Next, Scores}
+use Rattle.crib_sheet.specs.declared.answer.job.SheetJob.TheVariants.{Refute, Why, Leads, Next, Scores, Holes}
 
 -- ---- a game
 
@@ -91,22 +92,22 @@ abbrev pub verdict_status : Verdict → Status
 verdict_status Holds = Yes
 verdict_status (Fails result game) = No
 
--- the reply with the sheet of a plan, by the verdict on it, the deals that beat it and which nodes have paragraphs of
--- their own: the position, verdict and deals in words, the sheet, and how to read it
-abbrev pub plan_reply : Setup → List Node → Verdict → ℕ → ℕ → Option Rows → (ℕ → Bool) → Reply
-plan_reply problem plan verdict open_deals beaten hands apart = record {
-  output = head_text problem plan verdict open_deals beaten hands
+-- the reply with the sheet of a plan, by the verdict on it, the deals that beat it, how many beat each plan at least,
+-- and which nodes have paragraphs of their own: the position, verdict and deals in words, the sheet, and how to read it
+abbrev pub plan_reply : Setup → List Node → Verdict → ℕ → ℕ → Option Rows → ℕ → (ℕ → Bool) → Reply
+plan_reply problem plan verdict open_deals beaten hands least apart = record {
+  output = head_text problem plan verdict open_deals beaten hands least
       ++ page_text (is_sure (verdict_status verdict)) (sheet_with apart plan);
   status = verdict_status verdict;
 }
 
 -- a reply is the sheet of a plan: it is that of a right verdict on the problem and the plan, of right figures if the
--- plan fails, and of any nodes with paragraphs of their own
+-- plan fails, of a number of deals that beat each plan at least, and of any nodes with paragraphs of their own
 abbrev pub IsSheetOf : Setup → List Node → Reply → Type 0
 IsSheetOf problem plan reply =
-    (verdict : Verdict) × (open_deals : ℕ) × (beaten : ℕ) × (hands : Option Rows) × (apart : ℕ → Bool)
-    × IsRight problem plan verdict × AreBeatingOf problem plan verdict open_deals beaten hands
-    × (reply ≡ plan_reply problem plan verdict open_deals beaten hands apart)
+    (verdict : Verdict) × (open_deals : ℕ) × (beaten : ℕ) × (hands : Option Rows) × (least : ℕ)
+    × (apart : ℕ → Bool) × IsRight problem plan verdict × AreBeatingOf problem plan verdict open_deals beaten hands
+    × IsLeast problem least × (reply ≡ plan_reply problem plan verdict open_deals beaten hands least apart)
 
 -- a reply is right for `plan`, by what was read: it is the sheet of the plan, or that of a plan to try if there is a
 -- problem alone, or it is that of the refusal
@@ -119,6 +120,7 @@ AnswersPlan (Err refusal) reply = reply ≡ refusal_reply refusal
 unfoldable pub parts_reply : {A : Type 0} → PlanSheet A → Reply
 parts_reply sheet = record {
   output = head_text sheet.problem sheet.plan sheet.verdict sheet.tally.open_deals sheet.tally.beaten sheet.hands
+      sheet.least
       ++ page_text (is_sure sheet.status) (sheet_with (apart_in sheet.outline) sheet.plan);
   status = sheet.status;
 }
@@ -181,6 +183,14 @@ AnswersScores (Ok problem) reply =
     × (reply ≡ record { output = scores_text problem table; status = Yes })
 AnswersScores (Err refusal) reply = reply ≡ refusal_reply refusal
 
+-- ---- how many holes are sure
+
+-- a reply is right for `holes`, by what was read: it has the right figures for the problem, or it is that of the
+-- refusal
+abbrev pub AnswersHoles : Result Setup Refusal → Reply → Type 0
+AnswersHoles (Ok problem) reply = HasHoles problem reply
+AnswersHoles (Err refusal) reply = reply ≡ refusal_reply refusal
+
 -- ---- each sheet
 
 -- the reply with a sheet
@@ -194,6 +204,7 @@ sheet_reply (sheets.Reasons why) = words_reply why
 sheet_reply (sheets.Leads sheet) = leads_reply sheet
 sheet_reply (sheets.Next sheet) = next_parts_reply sheet
 sheet_reply (sheets.Scores sheet) = scores_reply sheet
+sheet_reply (sheets.Holes sheet) = holes_sheet_reply sheet
 
 -- ---- right replies
 
@@ -208,10 +219,11 @@ SheetAnswers Why input reply = AnswersWhy why_texts (problem_of_input input) rep
 SheetAnswers Leads input reply = AnswersLeads (problem_of_input input) reply
 SheetAnswers Next input reply = reply ≡ next_reply_to (next_question_of_input input)
 SheetAnswers Scores input reply = AnswersScores (problem_of_input input) reply
+SheetAnswers Holes input reply = AnswersHoles (problem_of_input input) reply
 
 -- a job may allocate memory for an input: `plan`, `beaten` and `next` if the problem and the first two lines of the
--- plan are not refused, `plan`, `try`, `refute`, `why`, `leads` and `scores` if the input has a problem alone, and
--- `game` never
+-- plan are not refused, `plan`, `try`, `refute`, `why`, `leads`, `scores` and `holes` if the input has a problem
+-- alone, and `game` never
 abbrev pub SheetAsksForMemory : SheetJob → List ℕ → Type 0
 SheetAsksForMemory Plan input = IsOk (count_of_input input) ⊎ IsOk (problem_of_input input)
 SheetAsksForMemory GameJob input = ⊥
@@ -222,6 +234,7 @@ SheetAsksForMemory Why input = IsOk (problem_of_input input)
 SheetAsksForMemory Leads input = IsOk (problem_of_input input)
 SheetAsksForMemory Next input = IsOk (count_of_input input)
 SheetAsksForMemory Scores input = IsOk (problem_of_input input)
+SheetAsksForMemory Holes input = IsOk (problem_of_input input)
 
 -- a reply is one that a job makes for an input in memory: it is a right one, or it is the fault of a failed allocation
 -- and the job may allocate memory

@@ -14,6 +14,7 @@ mod plan;
 mod played;
 mod to_try;
 
+use crate::holes::{HolesSheet, put_holes};
 use crate::leads::{leads_status, put_leads};
 use crate::next::{next_status, put_next};
 use crate::refutation::{InWords, in_words_status, put_in_words, put_why, why_status};
@@ -53,6 +54,8 @@ pub enum Sheet<A: Allocator> {
     Next(NextSheet<A>),
     /// At which scores turns are sure, or a plan is.
     Scores(ScoreSheet),
+    /// How many holes are sure.
+    Holes(HolesSheet),
 }
 
 impl<A: Allocator> Sendable for Sheet<A> {
@@ -89,6 +92,7 @@ fn put_sheet<A: Allocator, P: Page>(page: &mut P, sheet: &Sheet<A>)
         Sheet::Leads(sheet) => put_leads(page, sheet),
         Sheet::Next(sheet) => put_next(page, sheet),
         Sheet::Scores(sheet) => put_scores(page, sheet),
+        Sheet::Holes(sheet) => put_holes(page, sheet),
     }
 }
 
@@ -99,7 +103,7 @@ fn status_of<A: Allocator>(sheet: &Sheet<A>) -> Status
 {
     match sheet {
         Sheet::Plan(sheet) => sheet.status,
-        Sheet::Game(_) | Sheet::Scores(_) => Status::Yes,
+        Sheet::Game(_) | Sheet::Scores(_) | Sheet::Holes(_) => Status::Yes,
         Sheet::Beaten(tally) => beaten_status(tally.beaten),
         Sheet::Try(answer) => answer.status(),
         Sheet::Refute(why) => why_status(why),

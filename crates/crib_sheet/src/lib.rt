@@ -1,9 +1,10 @@
 //! The answers of the second program: sheets of plans and of games, how many deals beat a plan, a plan to try, games
-//! that refute every player, or the same in words, what may be played next, what comes next, and at which scores turns
-//! are sure.
+//! that refute every player, or the same in words, what may be played next, what comes next, at which scores turns are
+//! sure, and how many holes are.
 #![tactic(auto)]
 
 mod answer;
+mod holes;
 mod leads;
 mod next;
 mod refutation;
@@ -12,5 +13,6 @@ mod tally;
 mod verdict;
 
 pub use answer::{GameSheet, LeadsSheet, NAMES, NextSheet, PlanSheet, Sheet, SheetJob, TriedPlan};
+pub use holes::HolesSheet;
 pub use refutation::InWords;
 pub use scores::ScoreSheet;

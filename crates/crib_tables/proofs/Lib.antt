@@ -1,3 +1,5 @@
 pub mod ScoreTables
+pub mod SureHoles
 pub mod SureTurns
+mod HolesExamples
 mod TableExamples

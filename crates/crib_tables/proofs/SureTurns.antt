@@ -1,7 +1,7 @@
 -- Turns of the owner that are sure, by their refusal, and how many of some turns are.
-use Rattle.std.proofs.Common.{◌≡◌, ◌≤◌, ◌⊎◌, inr, ℕ, ◌+◌, ◌-◌, Bool, true, false, List, [], ◌∷◌, ◌++◌, take, drop, get_or, arith, refl}
+use Rattle.std.proofs.Common.{◌≡◌, ◌≤◌, inr, ℕ, ◌-◌, Bool, true, false, List, [], ◌∷◌, ◌++◌, take, drop, get_or, arith, refl}
 use Rattle.std.proofs.Common.{Option, Some, None, sym, ap, subst, ◌∙◌}
-use Rattle.std.specs.Prelude.{◌↔◌, ◌==◌, IsTrue, length}
+use Rattle.std.specs.Prelude.{◌↔◌, IsTrue, length}
 use Rattle.std.specs.List.{AllByRecursion}
 use Rattle.std.proofs.lemmas.Bool.{false≢true}
 use Rattle.std.proofs.lemmas.List.{take_all}

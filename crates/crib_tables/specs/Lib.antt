@@ -1,2 +1,4 @@
 pub mod Turns
 pub mod Scores
+pub mod Holes
+pub mod Private

@@ -8,13 +8,13 @@ ghost use Rattle.crib_know.specs.Hidden.{CanDoAt};
 ghost use Rattle.crib_know.specs.Knowledge.{played_events};
 ghost use Rattle.crib_sure.specs.Shows.{IsReachedBehind};
 ghost use Rattle.crib_search.specs.Winnable.{IsWinnable};
-ghost use Rattle.crib_leads.specs.Leads.{refusal_of};
+ghost use Rattle.crib_leads.specs.Leads.{may_come, refusal_of};
 ghost use Rattle.crib_tables.specs.Turns.{IsSureTurn, own_turns};
 
 use crib_cards::{Act, Card, Move, Side};
 use crib_know::Know;
 use crib_play::{Turn, fits};
-use crib_problem::Problem;
+use crib_problem::{Problem, ProblemCause};
 use crib_search::{Found, SearchFault, find};
 use crib_sure::{Shows, is_reached};
 use std::alloc::{AllocError, Allocator};
@@ -62,6 +62,16 @@ fn own_card(card: Card) -> Act
     }
 }
 
+/// Returns whether a turn may come next.
+pub(crate) fn may_come(problem: &Problem, act: &Act) -> bool
+    ensures { result ≡ may_come problem.now act.now }
+{
+    match problem.after(*act) {
+        Ok(_) | Err(ProblemCause::AlreadyOver) => true,
+        Err(_) => false,
+    }
+}
+
 /// Returns whether a turn of the owner is sure: it may come next, and then a plan is sure, or the deal is done and each
 /// deal that agrees reaches the goal.
 pub(crate) fn is_sure_turn<A: Allocator + Copy>(
@@ -74,13 +84,8 @@ pub(crate) fn is_sure_turn<A: Allocator + Copy>(
 {
     match problem.after(*act) {
         Ok(next) => is_winnable(alloc, &next),
-        Err(cause) => {
-            if cause.number() == 24 {
-                Ok(reaches(problem, &act.what))
-            } else {
-                Ok(false)
-            }
-        }
+        Err(ProblemCause::AlreadyOver) => Ok(reaches(problem, &act.what)),
+        Err(_) => Ok(false),
     }
 }
 

@@ -27,6 +27,7 @@ Commands:
   leads   reads a problem, as cribplan solve does: which cards are sure to play now, and how near the others are
   next    reads a problem, a plan and the turns since: what comes next
   scores  reads a problem, as cribplan solve does: at which scores turns are sure, or a plan is
+  holes   reads a problem, as cribplan solve does: how many holes are sure, at all and with each card
 
 Exit status:
   0  the sheet is printed, and a plan is sure; for leads on the opponent's turn, one is after each card; for next, it
@@ -40,8 +41,8 @@ An example:
 
 Manual: man cribsheet. Guide, formats and examples: share/doc/cribplan, beside the bin that has the program",
         hint: "
-The command is plan, game, beaten, try, refute, why, leads, next or scores. It is the only word, and --help the only
-option. The input is read from standard input, as in
+The command is plan, game, beaten, try, refute, why, leads, next, scores or holes. It is the only word, and --help the
+only option. The input is read from standard input, as in
   cribsheet plan < FILE
 ",
     }

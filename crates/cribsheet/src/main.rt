@@ -1,5 +1,5 @@
-//! `cribsheet plan|game|beaten|try|refute|why|leads|next|scores` reads standard input to its end, and writes a sheet to
-//! standard output.
+//! `cribsheet plan|game|beaten|try|refute|why|leads|next|scores|holes` reads standard input to its end, and writes a
+//! sheet to standard output.
 #![tactic(auto)]
 
 ghost use Rattle.std.specs.Prelude.{◌≡◌, ◌⊎◌, ℕ, List, IfSome, []};
@@ -69,16 +69,16 @@ fn job_of_args(rt: &(impl Env + AllocGlobal)) -> Result<SheetJob, Error> {
 ///   `why` writes the same in words. `leads` writes what is after each turn that may come next, with the status `Yes`
 ///   if a card is sure, or on the opponent's turn if a plan is sure after each, and `No` otherwise. `next` writes what
 ///   comes next after the turns since the problem, with the status `Yes`, or with the status `No` that the owner is
-///   stuck. `scores` writes at which scores turns are sure, or a plan is, with the status `Yes`. All write the refusal
-///   of the input if it has one, or `fault 11` if an allocation failed. If a sure plan that is found has more than
-///   65,535 nodes, `try`, `plan` and `leads` write `fault 50`.
+///   stuck. `scores` writes at which scores turns are sure, or a plan is, and `holes` how many holes are sure, with the
+///   status `Yes`. All write the refusal of the input if it has one, or `fault 11` if an allocation failed. If a sure
+///   plan that is found has more than 65,535 nodes, `try`, `plan` and `leads` write `fault 50`.
 /// - `means`: what the status means for the input. If the bytes of the reader are known, these are the input. The
 ///   status `Yes` of `plan` and of `beaten` means that the plan of the input is sure, and `No` that it is not. With
 ///   both the figures are exact. The status `Yes` of `try`, and of `plan` if the input has no plan, means that the plan
 ///   that is written is sure, and `No` that no plan is. The status `Yes` of `refute` and of `why` means that some plan
 ///   is sure, and `No` that none is. With either status the figures of `leads` are exact, and so are the marks of
-///   `scores`. The status `No` of `next` means that the plan of the input is not sure. The status `Fault` means that an
-///   allocation or a device failed, or that a plan has too many nodes.
+///   `scores` and the figures of `holes`. The status `No` of `next` means that the plan of the input is not sure. The
+///   status `Fault` means that an allocation or a device failed, or that a plan has too many nodes.
 /// - `words`: a refusal or a fault has its message on the third device, whole unless that device fails. After the
 ///   refusal of an act are the acts before it, and after no other message.
 /// - `silent`: nothing is written there if the status is `Yes` or `No`.

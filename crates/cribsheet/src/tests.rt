@@ -3,6 +3,7 @@ mod beaten;
 mod failures;
 mod games;
 mod growths;
+mod holes;
 mod leads;
 mod messages;
 mod next;

@@ -11,6 +11,7 @@ use crate::answer::next::next_sheet;
 use crate::answer::plan::plan_sheet;
 use crate::answer::played::game_sheet;
 use crate::answer::to_try::plan_to_try;
+use crate::holes::holes_sheet;
 use crate::refutation::{why_in_words, why_none};
 use crate::scores::score_sheet;
 use crib_input::{Reason, Sections};
@@ -28,10 +29,15 @@ impl<A: Allocator + Copy> Asks<A> for SheetJob {
 
     fn sections(self) -> Sections {
         match self {
-            SheetJob::Plan | SheetJob::Beaten | SheetJob::Next => Sections::Question,
+            SheetJob::Plan | SheetJob::Beaten => Sections::Question,
             SheetJob::Game => Sections::Played,
-            SheetJob::Try | SheetJob::Refute | SheetJob::Why | SheetJob::Leads | SheetJob::Scores =>
-                Sections::Problem,
+            SheetJob::Next => Sections::Turns,
+            SheetJob::Try
+            | SheetJob::Refute
+            | SheetJob::Why
+            | SheetJob::Leads
+            | SheetJob::Scores
+            | SheetJob::Holes => Sections::Problem,
         }
     }
 
@@ -46,6 +52,7 @@ impl<A: Allocator + Copy> Asks<A> for SheetJob {
             SheetJob::Leads => Ok(Sheet::Leads(leads_sheet(alloc, input)?)),
             SheetJob::Next => Ok(Sheet::Next(next_sheet(alloc, input)?)),
             SheetJob::Scores => Ok(Sheet::Scores(score_sheet(alloc, input)?)),
+            SheetJob::Holes => Ok(Sheet::Holes(holes_sheet(alloc, input)?)),
         }
     }
 }

@@ -26,11 +26,13 @@ pub enum SheetJob {
     Next,
     /// `scores`: reads a problem, and prints at which scores turns are sure, or a plan is.
     Scores,
+    /// `holes`: reads a problem, and prints how many holes are sure, at all and with each turn.
+    Holes,
 }
 
 /// The names of the jobs, in the order in which the help text lists them.
-pub static NAMES: [&str; 9] = [
-    "plan", "game", "beaten", "try", "refute", "why", "leads", "next", "scores",
+pub static NAMES: [&str; 10] = [
+    "plan", "game", "beaten", "try", "refute", "why", "leads", "next", "scores", "holes",
 ];
 
 impl FromStr for SheetJob {
@@ -49,6 +51,7 @@ impl FromStr for SheetJob {
             "leads" => Ok(SheetJob::Leads),
             "next" => Ok(SheetJob::Next),
             "scores" => Ok(SheetJob::Scores),
+            "holes" => Ok(SheetJob::Holes),
             _ => Err(UnknownJob),
         }
     }

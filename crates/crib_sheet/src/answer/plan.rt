@@ -3,12 +3,13 @@ ghost use Rattle.std.specs.Prelude.{◌≡◌, ◌⊎◌, ◌≤◌, length};
 ghost use Rattle.crib_text.specs.Refusals.{no_memory};
 ghost use Rattle.crib_check.specs.Verdicts.{IsRight};
 ghost use Rattle.crib_run.specs.Reply.{IsOutcome, fault_reply};
+ghost use Rattle.crib_sheet.specs.PlanBeaten.{IsLeast};
 ghost use Rattle.crib_sheet.specs.Sheet.{AnswersWithPlan, IsSheetOf, SheetMakes, parts_reply, verdict_status};
 
 use crate::answer::asked::{Asked, asked_of};
 use crate::answer::job::SheetJob;
 use crate::answer::to_try::tried_of;
-use crate::verdict::beaten_by;
+use crate::verdict::{beaten_by, least_of};
 use crib_beaten::{Rows, Tally};
 use crib_check::{Verdict, verdict_on};
 use crib_input::{FaultCause, Reason};
@@ -29,6 +30,8 @@ pub struct PlanSheet<A: Allocator> {
     pub tally: Tally<A>,
     /// Rows that say which hands beat the plan if it is not sure, unless more than a tenth of all deals do.
     pub hands: Option<Rows>,
+    /// At least so many deals beat each plan. It is counted if no plan was typed and none is sure.
+    pub least: u32,
     /// Which nodes have paragraphs of their own.
     pub outline: Outline<A>,
     /// `Yes` if the plan is sure, and `No` if it is not.
@@ -50,7 +53,7 @@ pub(crate) fn plan_sheet<A: Allocator + Copy>(
     match plan {
         Some(plan) => {
             let verdict = verdict_on(alloc, &problem, &plan);
-            sheet_of(alloc, problem, plan, verdict)
+            sheet_of(alloc, problem, plan, verdict, 0)
         }
         None => sheet_to_try(alloc, problem),
     }
@@ -62,22 +65,27 @@ fn sheet_to_try<A: Allocator + Copy>(alloc: A, problem: Problem) -> Result<PlanS
         (λ reply. AnswersWithPlan problem (IsSheetOf problem) reply ⊎ (reply ≡ fault_reply no_memory)) result }
 {
     let tried = tried_of(alloc, &problem)?;
-    let verdict = if tried.is_sure {
-        Verdict::Holds
-    } else {
-        verdict_on(alloc, &problem, &tried.plan)
+    if tried.is_sure {
+        return sheet_of(alloc, problem, tried.plan, Verdict::Holds, 0);
+    }
+    let verdict = verdict_on(alloc, &problem, &tried.plan);
+    let Ok(least) = least_of(alloc, &problem) else {
+        return Err(Reason::Fault(FaultCause::NoMemory));
     };
-    sheet_of(alloc, problem, tried.plan, verdict)
+    sheet_of(alloc, problem, tried.plan, verdict, least)
 }
 
-// The sheet of a plan by the verdict on it, or `fault 11` if an allocation fails.
+// The sheet of a plan by the verdict on it and how many deals beat each plan at least, or `fault 11` if an allocation
+// fails.
 fn sheet_of<A: Allocator + Copy>(
     alloc: A,
     problem: Problem,
     plan: Plan<A>,
     verdict: Verdict,
+    least: u32,
 ) -> Result<PlanSheet<A>, Reason>
-    requires { IsRight problem plan verdict }
+    requires right { IsRight problem plan verdict }
+    requires least { IsLeast problem least }
     ensures { IsOutcome parts_reply
         (λ reply. IsSheetOf problem plan reply ⊎ (reply ≡ fault_reply no_memory)) result }
 {
@@ -94,6 +102,7 @@ fn sheet_of<A: Allocator + Copy>(
         verdict,
         tally,
         hands,
+        least,
         outline,
     })
 }

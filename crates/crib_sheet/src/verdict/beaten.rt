@@ -2,13 +2,17 @@
 ghost use Rattle.std.specs.Prelude.{IfOk, List};
 ghost use Rattle.crib_plan.specs.declared.plan.Node.{Node};
 ghost use Rattle.crib_beaten.specs.Tally.{IsTally};
-ghost use Rattle.crib_sheet.specs.PlanBeaten.{AreBeating, AreBeatingOf, AreHandsOf};
+ghost use Rattle.crib_sheet.specs.PlanBeaten.{AreBeating, AreBeatingOf, AreHandsOf, IsLeast};
 
 use crib_beaten::{Rows, Tally, rows_of, tally_of};
+use crib_bound::bound_of;
 use crib_check::{NoMemory, Verdict};
 use crib_plan::Plan;
 use crib_problem::Problem;
-use std::alloc::Allocator;
+use std::alloc::{AllocError, Allocator};
+
+// The parts into which each deal is divided for the least. With more of them it is hardly greater.
+const PARTS: u8 = 12;
 
 /// Counts the deals that beat a plan if the verdict on it is that it fails, and no deals of a sure plan. It fails if an
 /// allocation fails.
@@ -59,4 +63,14 @@ fn hands_of<A: Allocator>(problem: &Problem, tally: &Tally<A>) -> Option<Rows>
     } else {
         Some(rows_of(problem, tally))
     }
+}
+
+/// Returns a number of deals that is at most that of the deals that beat a plan, whatever the plan. It fails if an
+/// allocation fails.
+pub(crate) fn least_of<A: Allocator>(alloc: A, problem: &Problem) -> Result<u32, AllocError>
+    ensures { IfOk result (IsLeast problem.now) }
+{
+    let worth = bound_of(alloc, problem, PARTS)?;
+    let least = worth.div_ceil(PARTS as u64);
+    Ok(least.min(u32::MAX as u64) as u32)
 }

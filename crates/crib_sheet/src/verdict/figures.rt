@@ -4,7 +4,7 @@ ghost use Rattle.std.specs.List.{list_all};
 ghost use Rattle.arrayvec.specs.ArrayVec.{array_vec_len};
 ghost use Rattle.crib_run.specs.Prints.{Prints};
 ghost use Rattle.crib_sheet.specs.PlanBeaten.{deals_word, grouped, hands_text, deals_line};
-ghost use Rattle.crib_sheet.specs.PlanBeaten.{beating_text, others_line};
+ghost use Rattle.crib_sheet.specs.PlanBeaten.{beating_text, least_text, others_line};
 ghost use Rattle.crib_sheet.specs.PlanBeaten.{row_lines, rows_lines, slot_part, term_text, with_commas};
 
 use arrayvec::ArrayVec;
@@ -43,6 +43,23 @@ pub(crate) fn put_beating<A: Allocator, P: Page>(
     put_grouped(page, tally.beaten);
     page.put(b" they can beat it.");
     put_hands(page, hands);
+}
+
+/// Puts how many deals beat each plan at least, beside how many beat this one. It puts nothing if that is no deal.
+pub(crate) fn put_least<P: Page>(page: &mut P, beaten: u32, least: u32)
+    ensures { Prints (least_text beaten least) (P.stand page.old) (P.stand page.new) }
+{
+    if least == 0 {
+        return;
+    }
+    if beaten <= least {
+        page.put(b"No plan is beaten by fewer deals.\n");
+    } else {
+        page.put(b"Every plan is beaten by at least ");
+        put_grouped(page, least);
+        page.put(deals_word(least));
+        page.put(b".\n");
+    }
 }
 
 // Puts which hands beat the plan, if there are rows for them, or the end of the line.

@@ -17,7 +17,11 @@ fn sections(job: SheetJob) -> [&'static str; 3] {
         SheetJob::Plan => [TWELVE, LOOK, ""],
         SheetJob::Beaten => [BEGUN, REST, ""],
         SheetJob::Try => [TWELVE, "", ""],
-        SheetJob::Refute | SheetJob::Why | SheetJob::Scores => [BEGUN_SHORT, "", ""],
+        SheetJob::Refute | SheetJob::Why | SheetJob::Scores | SheetJob::Holes => [
+            BEGUN_SHORT,
+            "",
+            "",
+        ],
         SheetJob::Game => [TENS, LAST_CARD, ""],
         SheetJob::Leads => [BEGUN, "", ""],
         SheetJob::Next => [BEGUN, REST, "turns 1\nown 2D\n"],

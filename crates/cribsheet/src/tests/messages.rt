@@ -39,6 +39,18 @@ fn each_command_says_why(rt: HostRuntime) {
     says_why(&rt, SheetJob::Why, &[THIRTEEN]);
     says_why(&rt, SheetJob::Next, &[THIRTEEN, TWOS, "turns 0\n"]);
     says_why(&rt, SheetJob::Scores, &[THIRTEEN]);
+    says_why(&rt, SheetJob::Holes, &[THIRTEEN]);
+}
+
+#[test]
+fn a_refused_turn_has_its_line(rt: HostRuntime) {
+    let sections = [THIRTEEN, TWOS, "turns 1\nown 9C\n"];
+    let input = joined(rt.alloc(), &sections).expect(&rt, "memory");
+    let written = outcome_of(rt.alloc(), rt.alloc(), SheetJob::Next, input.as_bytes());
+    written.is(&rt, "refused line 15: 41\n", Status::Refused);
+    let words = written.words(&rt);
+    let names_line = words.starts_with("cribsheet: line 15, line 2 of the turns: 9C is not held: ");
+    assert!(rt; names_line, "{words}");
 }
 
 // A run over a game whose seventh act is refused, with the memory of `heap`.

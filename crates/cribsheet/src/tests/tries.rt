@@ -33,3 +33,22 @@ fn refuses_what_solve_refuses(rt: HostRuntime) {
         Status::Refused,
     );
 }
+
+// The dealer has six holes less than the pone, who has played twice.
+const HEAD: &str =
+    "problem 2\ndealer owner\nscore 101 114\nstarter 9H\nhold 6C 3D 7D JD\nthrow AS 2C\n";
+
+const TURNS: &str = "played 3\nopp 2H\nown 6C\nopp 6S\n";
+
+// The plan for a win is beaten by 451,000 deals if the goal is to stop the pone.
+#[test]
+fn each_goal_has_a_plan_of_its_own(rt: HostRuntime) {
+    let sections = [HEAD, "goal stop\n", TURNS];
+    let parts = ["With the other\n441,160 they can beat it.\nNo plan is beaten by fewer deals.\n"];
+    prints(&rt, SheetJob::Plan, &sections, &parts, Status::No);
+    let sections = [HEAD, "goal holes 8\n", TURNS];
+    let parts = [
+        "With the other\n548,524 they can beat it.\nEvery plan is beaten by at least 546,736 deals.\n",
+    ];
+    prints(&rt, SheetJob::Plan, &sections, &parts, Status::No);
+}

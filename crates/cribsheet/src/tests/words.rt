@@ -35,6 +35,7 @@ fn reads_the_words(rt: HostRuntime) {
     reads(&rt, "cribsheet leads", Ok(SheetJob::Leads));
     reads(&rt, "cribsheet next", Ok(SheetJob::Next));
     reads(&rt, "cribsheet scores", Ok(SheetJob::Scores));
+    reads(&rt, "cribsheet holes", Ok(SheetJob::Holes));
     reads(&rt, "cribsheet check", Err(ErrorKind::InvalidValue));
     reads(&rt, "cribsheet --help", Err(ErrorKind::DisplayHelp));
     reads(&rt, "cribsheet --version", Err(ErrorKind::UnknownArgument));
@@ -63,6 +64,7 @@ fn tells_what_each_command_does(rt: HostRuntime) {
         "\n  leads   reads a problem, ",
         "\n  next    reads a problem, a plan and ",
         "\n  scores  reads a problem, ",
+        "\n  holes   reads a problem, ",
         "\nManual: man cribsheet. ",
     ];
     has_parts(&rt, help.as_str(), &parts);

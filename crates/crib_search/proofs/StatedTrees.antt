@@ -31,12 +31,6 @@ module _ (problem : Setup) (know : Knowledge) where
   states_lowest cards left tree same history knows =
       Lowest history tree (same ∙ ap in_order (left ∙ ap (λ (k : Knowledge). k.own_left) knows.knowledge))
 
-  -- the same after a letter, which plays no card of the owner
-  pub lowest_after : (cards : List ℕ) → cards ≡ know.own_left → (letter : Letter) (tree : Tree) → tree ≡ in_order cards →
-      StatesAfter problem know letter tree
-  lowest_after cards left letter tree same history knows can =
-      Lowest (Theirs letter ∷ history) tree (same ∙ ap in_order (left ∙ ap (λ (k : Knowledge). k.own_left) knows.knowledge))
-
   module _ (copy next : Knowledge) (same : copy ≡ know) where
     pub states_go : ((history : List Event) → KnowsAfter copy problem history → KnowsAfter next problem (Own move.Go ∷ history)) →
         know.round.asked ≡ turns.Owner → ((history : List Event) → KnowsAfter know problem history → options problem history ≡ []) → (tree : Tree) →

@@ -2,22 +2,35 @@
 ghost use Rattle.std.specs.Prelude.{◌≡◌, ◌≢◌, IfOk, IsErr, Err, Some, IsTrue, IsFalse};
 ghost use Rattle.crib_sure.specs.Sure.{IsSure};
 ghost use Rattle.crib_search.specs.Finder.{ExceedsLimit, IsFound};
+ghost use Rattle.crib_search.specs.Private.States.{IsPlanned};
+ghost use Rattle.crib_search.specs.Trees.{plan_of_tree};
 ghost use Rattle.crib_search.specs.Tried.{IsNeverStuck};
 ghost use Rattle.crib_search.specs.Winnable.{IsWinnable};
 
 mod choices;
-mod greedy;
-mod rest;
+mod choosing;
+mod closing;
+mod ledger;
+mod matching;
+mod net;
+mod places;
+mod planner;
+mod rounds;
 mod spot;
-mod trials;
+mod survey;
 
 use crate::finder::{Found, SearchFault, find, plan_from};
-use crate::nodes::Nodes;
-use crate::tries::greedy::{lowest_first, make_plan};
+use crate::nodes::{DraftPlace, Nodes};
+use crate::tries::choices::Choices;
+use crate::tries::choosing::choose;
+use crate::tries::places::Places;
+use crate::tries::planner::{lowest_first, make_plan};
+use crate::tries::spot::Spot;
+use crate::tries::survey::survey_of;
 use crib_know::Know;
 use crib_plan::Plan;
 use crib_problem::Problem;
-use std::alloc::{Allocator, Global};
+use std::alloc::{AllocError, Allocator, Global};
 
 /// A plan to try.
 #[derive(Drop)]
@@ -66,7 +79,7 @@ fn greedy_plan<A: Allocator + Copy>(alloc: A, problem: &Problem) -> Result<Plan<
     ensures stated { IfOk result (IsNeverStuck problem.now) }
     ensures fits { result ≢ Err SearchFault.TooLarge }
 {
-    let Ok((nodes, first)) = make_plan(alloc, problem) else {
+    let Ok((nodes, first)) = advised_plan(alloc, problem) else {
         return Err(SearchFault::NoMemory);
     };
     match plan_from(alloc, &nodes, first, 65_535) {
@@ -86,4 +99,26 @@ fn lowest_plan<A: Allocator + Copy>(alloc: A, problem: &Problem) -> Result<Plan<
         return Err(SearchFault::NoMemory);
     };
     plan_from(alloc, &nodes, first, 65_535)
+}
+
+// Makes the plan that plays the chosen cards, and returns its nodes and its first place. It fails if an allocation
+// fails.
+fn advised_plan<A: Allocator + Copy>(
+    alloc: A,
+    problem: &Problem,
+) -> Result<(Nodes<A>, DraftPlace), AllocError>
+    ensures { IfOk result (λ made. IsPlanned made.0 (λ tree. IsNeverStuck problem.now (plan_of_tree tree)) made.1) }
+{
+    let places = advise(alloc, problem)?;
+    let spot = Spot::at(0, places.len());
+    make_plan(alloc, problem, &places, &spot)
+}
+
+// The places at which the owner has a choice, with the cards that are chosen there.
+fn advise<A: Allocator + Copy>(alloc: A, problem: &Problem) -> Result<Places<A>, AllocError> {
+    let know = Know::start(problem);
+    let choices = Choices::of(alloc, problem, &know)?;
+    let (mut places, forced) = survey_of(alloc, problem, &choices)?;
+    choose(alloc, &choices, &mut places, forced)?;
+    Ok(places)
 }

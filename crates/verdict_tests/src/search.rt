@@ -266,10 +266,10 @@ fn the_limit_is_seen_before_the_plan_is_made(rt: HostRuntime) {
     same(&rt, twos_without(&rt, last, 3), too_large);
 }
 
-/// For `LAST_TWO_BEHIND`. The owner answers a six or a nine with the nine, a seven or an eight with the seven alone,
-/// and any other card with the seven and then the nine.
+/// For `LAST_TWO_BEHIND`. The owner answers a six or a nine with the nine and then the seven, and any other card with
+/// the seven and then the nine.
 const FEWEST_LOST: &str =
-    "plan 1\nnodes 4\n0 see 345TJQK:2 69:3 78:1\n1 play 7S end\n2 play 7S 3\n3 play 9S end\n";
+    "plan 1\nnodes 5\n0 see 34578TJQK:3 69:1\n1 play 9S 2\n2 play 7S end\n3 play 7S 4\n4 play 9S end\n";
 
 /// Asserts that the plan that is tried has this text.
 fn tries(rt: &(impl Abort + AllocGlobal), of: &str, text: &str, is_sure: bool) {
@@ -300,14 +300,34 @@ fn trial_is_served(rt: &(impl Abort + AllocGlobal), of: &Problem, served: u64) -
     !heap.has_refused()
 }
 
-/// Fails each allocation in turn. The answer is `NoMemory`, or the plan if the allocation was one of the table.
-#[test]
-fn a_refused_growth_of_a_trial_is_told_or_passed_over(rt: HostRuntime) {
-    let problem = problem(&rt, LAST_TWO_BEHIND);
-    for served in 0..400 {
-        if trial_is_served(&rt, &problem, served) {
+/// Fails every fourth allocation in turn. The answer is `NoMemory`, or the plan if the allocation was one of the table.
+fn tries_every_fourth(rt: &(impl Abort + AllocGlobal), first: u8) {
+    let problem = problem(rt, LAST_TWO_BEHIND);
+    for round in 0..100u64 {
+        let served = 4 * round + u64::from(first);
+        if trial_is_served(rt, &problem, served) {
             return;
         }
     }
     panic!(rt; "more growths than 400")
+}
+
+#[test]
+fn a_trial_without_its_growths_1_5_9_and_so_on(rt: HostRuntime) {
+    tries_every_fourth(&rt, 0);
+}
+
+#[test]
+fn a_trial_without_its_growths_2_6_10_and_so_on(rt: HostRuntime) {
+    tries_every_fourth(&rt, 1);
+}
+
+#[test]
+fn a_trial_without_its_growths_3_7_11_and_so_on(rt: HostRuntime) {
+    tries_every_fourth(&rt, 2);
+}
+
+#[test]
+fn a_trial_without_its_growths_4_8_12_and_so_on(rt: HostRuntime) {
+    tries_every_fourth(&rt, 3);
 }

@@ -1,135 +1,379 @@
-//! The choices of ranks that a plan in the making covers.
+//! The choices of ranks that the opponent may hold, and which of their deals miss a demand.
 
-use crib_cards::Rank;
+use crib_cards::{GAME_HOLE, Rank, Side};
+use crib_deals::{Deals, Table, are_in_order, ranks_at};
 use crib_know::Know;
-use crib_show::{Demand, count_ranks};
+use crib_problem::Problem;
+use crib_show::{Demand, hand_points};
 use std::alloc::{AllocError, Allocator};
 
-/// A choice of four ranks, and what the plan in the making demands of the deals whose hold has them.
+/// The classes that deals with the same ranks fall into by their show, as bits.
+///
+/// If the owner deals, the hand has seven classes by its points, the fewest first, and for each of them the crib has
+/// nine, the most points first. If the opponent deals and is to be stopped, there are 63 by the points of both, the
+/// most first. Otherwise there is one class.
+pub(crate) type Classes = u64;
+
+/// How many cards of each rank are left: the digits in base 16, that of the ace last.
+pub(crate) type Left = u64;
+
+// One card of each rank.
+const ONES: [Left; 13] = [
+    0x1,
+    0x10,
+    0x100,
+    0x1000,
+    0x1_0000,
+    0x10_0000,
+    0x100_0000,
+    0x1000_0000,
+    0x1_0000_0000,
+    0x10_0000_0000,
+    0x100_0000_0000,
+    0x1000_0000_0000,
+    0x1_0000_0000_0000,
+];
+
+// The digits of the ranks whose cards have at most so many pips.
+const FITTING: [Left; 11] = [
+    0x0,
+    0xf,
+    0xff,
+    0xfff,
+    0xffff,
+    0xf_ffff,
+    0xff_ffff,
+    0xfff_ffff,
+    0xffff_ffff,
+    0xf_ffff_ffff,
+    0xf_ffff_ffff_ffff,
+];
+
+const CLASSES: usize = 63;
+
+const HANDS: usize = 7;
+
+const CRIBS: usize = 9;
+
+// The classes of the hands from a number on.
+const FROM_HAND: [Classes; 8] = [
+    0x7fff_ffff_ffff_ffff,
+    0x7fff_ffff_ffff_fe00,
+    0x7fff_ffff_fffc_0000,
+    0x7fff_ffff_f800_0000,
+    0x7fff_fff0_0000_0000,
+    0x7fff_e000_0000_0000,
+    0x7fc0_0000_0000_0000,
+    0,
+];
+
+// The classes of the cribs past a number, with each hand.
+const FROM_CRIB: [Classes; 10] = [
+    0x7fbf_dfef_f7fb_fdfe,
+    0x7f3f_9fcf_e7f3_f9fc,
+    0x7e3f_1f8f_c7e3_f1f8,
+    0x7c3e_1f0f_87c3_e1f0,
+    0x783c_1e0f_0783_c1e0,
+    0x7038_1c0e_0703_81c0,
+    0x6030_180c_0603_0180,
+    0x4020_1008_0402_0100,
+    0,
+    0,
+];
+
+/// What the end of a game asks of the deals.
+#[derive(Clone, Copy)]
+pub(crate) struct Asked {
+    // The most points of a hand.
+    hand: u8,
+    // The classes that miss what is asked of the crib, or of both.
+    classes: Classes,
+}
+
+impl Asked {
+    /// The classes of a choice that miss what is asked.
+    pub(crate) fn missing(&self, choice: &Choice) -> Classes {
+        let met = self
+            .hand
+            .saturating_add(1)
+            .saturating_sub(choice.hand)
+            .min(7);
+        (self.classes | FROM_HAND[met as usize]) & choice.classes
+    }
+}
+
+/// The choices of four ranks that some open deal has.
+#[derive(Drop)]
+pub(crate) struct Choices<A: Allocator> {
+    // Whether the owner deals.
+    is_dealer: bool,
+    // The most points that a crib needs, and the most that a hand and a crib may have.
+    crib: u8,
+    total: u8,
+    choices: Vec<Choice, A>,
+    // How many deals of each choice are in each class. It is empty if there is one class.
+    counts: Vec<[u32; CLASSES], A>,
+}
+
+/// A choice of four ranks.
 #[derive(Clone, Copy)]
 pub(crate) struct Choice {
-    pub(crate) ranks: [Rank; 4],
-    /// The index of its table.
-    pub(crate) table: usize,
-    /// The index of the choice on the level below of which this one is a part.
-    pub(crate) below: usize,
-    /// How many cards of each rank are left.
-    pub(crate) left: [u8; 13],
-    pub(crate) demand: Demand,
-    /// What the first plan demands where the plan in the making doesn't replace it yet.
-    pub(crate) elsewhere: Demand,
-    /// How many deals miss one of the two: those that beat the plan.
-    pub(crate) missing: u32,
-    /// How many deals there are.
-    pub(crate) open_deals: u32,
+    /// How many cards of each rank are left after the opening.
+    pub(crate) left: Left,
+    // How many open deals have its ranks.
+    open_deals: u32,
+    // The fewest points of the hand.
+    hand: u8,
+    /// The classes that have a deal.
+    pub(crate) classes: Classes,
 }
 
-impl Choice {
-    // The same choice as a part of one on the level below.
-    fn part(&self, below: usize) -> Choice {
-        Choice { below, ..*self }
-    }
-
-    /// What is demanded here and elsewhere.
-    pub(crate) fn joined(&self) -> Demand {
-        self.demand.and(self.elsewhere)
-    }
-
-    // Whether all deals beat the plan, whatever is demanded elsewhere.
-    fn is_lost(&self) -> bool {
-        self.missing >= self.open_deals && self.joined() == self.demand
-    }
-
-    // Whether a card is left that fits.
-    fn has_fitting(&self, fits: &[bool; 13]) -> bool {
-        for index in 0..13usize {
-            if self.left[index] > 0 && fits[index] {
-                return true;
+impl<A: Allocator + Copy> Choices<A> {
+    /// The choices for a problem. It fails if an allocation fails.
+    pub(crate) fn of(alloc: A, problem: &Problem, know: &Know) -> Result<Self, AllocError> {
+        let deals = Deals::of(problem);
+        let scores = know.round().scores();
+        let own_hand = hand_points(&problem.hold(), problem.starter());
+        let counted = scores.owner.saturating_add(own_hand);
+        let mut choices = Choices {
+            is_dealer: problem.dealer() == Side::Owner,
+            crib: problem.target().saturating_sub(counted),
+            total: (GAME_HOLE - 1).saturating_sub(scores.opponent),
+            choices: Vec::new(alloc),
+            counts: Vec::new(alloc),
+        };
+        let may_decide = problem.dealer() == Side::Owner || problem.is_to_stop();
+        for number in 0..28_561u16 {
+            let ranks = ranks_at(number);
+            if are_in_order(&ranks) {
+                choices.add(&deals, &ranks, left_of(&ranks, know), may_decide)?;
             }
         }
-        false
+        Ok(choices)
     }
-}
 
-/// Which ranks fit now, the ace first.
-pub(crate) fn fitting(know: &Know) -> [bool; 13] {
-    let mut fits = [false; 13];
-    for number in 1..14u8 {
-        if let Some(rank) = Rank::new(number) {
-            fits[(number - 1) as usize] = know.round().fits(rank);
+    // Adds a choice, if some open deal has its ranks.
+    fn add(
+        &mut self,
+        deals: &Deals<'_>,
+        ranks: &[Rank; 4],
+        left: Left,
+        may_decide: bool,
+    ) -> Result<(), AllocError> {
+        if may_decide {
+            return self.add_table(&deals.table(ranks), left);
+        }
+        let open_deals = deals.count(ranks, Demand::none()).open_deals;
+        if open_deals > 0 {
+            self.choices.push(Choice {
+                left,
+                open_deals,
+                hand: 0,
+                classes: 1,
+            })?;
+        }
+        Ok(())
+    }
+
+    // Adds the choice of a table, if it has some deal.
+    fn add_table(&mut self, table: &Table<'_>, left: Left) -> Result<(), AllocError> {
+        let open_deals = table.count(Demand::none()).open_deals;
+        if open_deals == 0 {
+            return Ok(());
+        }
+        let hand = if self.is_dealer { least_hand(table) } else { 0 };
+        let counts = if self.is_dealer {
+            self.by_hands(table, hand)
+        } else {
+            self.by_totals(table)
+        };
+        self.choices.push(Choice {
+            left,
+            open_deals,
+            hand,
+            classes: classes_of(&counts),
+        })?;
+        self.counts.push(counts)?;
+        Ok(())
+    }
+
+    // How many deals of a table are in each class by their hands and cribs.
+    fn by_hands(&self, table: &Table<'_>, least: u8) -> [u32; CLASSES] {
+        let mut counts = [0; CLASSES];
+        let mut before = [0u32; CRIBS];
+        let all = table.count(Demand::none()).open_deals;
+        for hand in 0..HANDS {
+            if before[CRIBS - 1] == all {
+                break;
+            }
+            let mut sum = 0u32;
+            for crib in 0..CRIBS {
+                let demand = Demand {
+                    hand: least.saturating_add(hand as u8),
+                    total: u8::MAX,
+                    crib: if crib + 1 < CRIBS {
+                        self.crib.saturating_sub(crib as u8)
+                    } else {
+                        0
+                    },
+                };
+                let counted = table.count(demand);
+                let met = counted.open_deals.saturating_sub(counted.missing);
+                let here = met.saturating_sub(before[crib]);
+                before[crib] = met;
+                counts[hand * CRIBS + crib] = here.saturating_sub(sum);
+                sum = here;
+            }
+        }
+        counts
+    }
+
+    // How many deals of a table are in each class by the points of both.
+    fn by_totals(&self, table: &Table<'_>) -> [u32; CLASSES] {
+        let mut counts = [0; CLASSES];
+        let mut sum = 0u32;
+        for less in 0..CLASSES {
+            if less > self.total as usize {
+                break;
+            }
+            let demand = Demand {
+                total: self.total.saturating_sub(less as u8),
+                ..Demand::none()
+            };
+            let missing = table.count(demand).missing;
+            counts[less] = missing.saturating_sub(sum);
+            sum = missing;
+        }
+        counts
+    }
+
+    /// How many choices there are.
+    pub(crate) fn len(&self) -> usize {
+        self.choices.len()
+    }
+
+    /// The choice at an index.
+    pub(crate) fn get(&self, index: usize) -> Option<&Choice> {
+        self.choices.get(index)
+    }
+
+    /// What a demand asks of the deals of all choices.
+    pub(crate) fn asked(&self, demand: Demand) -> Asked {
+        if demand.is_impossible() {
+            return Asked {
+                hand: u8::MAX,
+                classes: Classes::MAX,
+            };
+        }
+        if self.is_dealer {
+            Asked {
+                hand: demand.hand,
+                classes: self.by_crib(demand),
+            }
+        } else {
+            Asked {
+                hand: u8::MAX,
+                classes: self.by_total(demand),
+            }
         }
     }
-    fits
+
+    fn by_crib(&self, demand: Demand) -> Classes {
+        if demand.crib > self.crib {
+            return Classes::MAX;
+        }
+        let met = (self.crib - demand.crib).min(9);
+        FROM_CRIB[met as usize]
+    }
+
+    fn by_total(&self, demand: Demand) -> Classes {
+        let mut missing = 0;
+        let mut class = 1u64;
+        for less in 0..63u8 {
+            if self.total.saturating_sub(less) < demand.total {
+                break;
+            }
+            missing |= class;
+            class = class.saturating_mul(2);
+        }
+        missing
+    }
+
+    /// How many deals of a choice are in some classes.
+    pub(crate) fn count(&self, index: usize, classes: Classes) -> u32 {
+        let Some(choice) = self.choices.get(index) else {
+            return 0;
+        };
+        if classes == choice.classes {
+            return choice.open_deals;
+        }
+        let Some(counts) = self.counts.get(index) else {
+            return 0;
+        };
+        let mut sum = 0u32;
+        let mut left = classes;
+        for class in 0..CLASSES {
+            if left == 0 {
+                break;
+            }
+            if left % 2 == 1 {
+                sum = sum.saturating_add(counts[class]);
+            }
+            left /= 2;
+        }
+        sum
+    }
 }
 
-/// How many cards of each rank are left of these four.
-pub(crate) fn left_of(ranks: &[Rank; 4], know: &Know) -> [u8; 13] {
-    let counts = count_ranks(ranks);
-    let mut left = [0u8; 13];
+// The fewest points of a hand of a table.
+fn least_hand(table: &Table<'_>) -> u8 {
+    for hand in 0..30u8 {
+        let counted = table.count(Demand {
+            hand,
+            ..Demand::none()
+        });
+        if counted.missing < counted.open_deals {
+            return hand;
+        }
+    }
+    0
+}
+
+// The classes that have a deal.
+fn classes_of(counts: &[u32; CLASSES]) -> Classes {
+    let mut classes = 0;
+    let mut class = 1u64;
+    for count in counts {
+        if *count > 0 {
+            classes |= class;
+        }
+        class = class.saturating_mul(2);
+    }
+    classes
+}
+
+/// One card of the rank of a card.
+pub(crate) fn one_of(rank: Rank) -> Left {
+    ONES[(rank.number() - 1) as usize]
+}
+
+/// The digits of the ranks that fit now, all bits of them.
+pub(crate) fn fitting(know: &Know) -> Left {
+    let room = 31u8.saturating_sub(know.round().count()).min(10);
+    FITTING[room as usize]
+}
+
+// How many cards of each rank are left of these four.
+fn left_of(ranks: &[Rank; 4], know: &Know) -> Left {
+    let mut left: Left = 0;
+    for rank in ranks {
+        left = left.saturating_add(one_of(*rank));
+    }
     for number in 1..14u8 {
         if let Some(rank) = Rank::new(number) {
-            left[(number - 1) as usize] = counts
-                .of(rank)
-                .saturating_sub(know.ranks_seen().of(rank));
+            let seen = u64::from(know.ranks_seen().of(rank));
+            left = left.saturating_sub(seen.saturating_mul(one_of(rank)));
         }
     }
     left
-}
-
-/// Adds those of the choices from an index on that have a card of the rank left.
-pub(crate) fn show_rank<A: Allocator>(
-    choices: &mut Vec<Choice, A>,
-    first: usize,
-    rank: Rank,
-) -> Result<(), AllocError> {
-    let seen = (rank.number() - 1) as usize;
-    for index in first..choices.len() {
-        if let Some(choice) = choices.get(index) {
-            if choice.left[seen] > 0 && !choice.is_lost() {
-                let mut next = choice.part(index);
-                next.left[seen] = next.left[seen].saturating_sub(1);
-                choices.push(next)?;
-            }
-        }
-    }
-    Ok(())
-}
-
-/// Adds those of the choices from an index on that have no card left that fits.
-pub(crate) fn show_go<A: Allocator>(
-    choices: &mut Vec<Choice, A>,
-    first: usize,
-    fits: &[bool; 13],
-) -> Result<(), AllocError> {
-    for index in first..choices.len() {
-        if let Some(choice) = choices.get(index) {
-            if !choice.is_lost() && !choice.has_fitting(fits) {
-                let part = choice.part(index);
-                choices.push(part)?;
-            }
-        }
-    }
-    Ok(())
-}
-
-/// Drops the choices from an index on. Those of which they are a part take over what they demand.
-pub(crate) fn take_back<A: Allocator>(choices: &mut Vec<Choice, A>, first: usize) {
-    for index in first..choices.len() {
-        if let Some(choice) = choices.get(index).copied() {
-            if let Some(other) = choices.get_mut(choice.below) {
-                other.demand = choice.demand;
-                other.missing = choice.missing;
-            }
-        }
-    }
-    choices.truncate(first);
-}
-
-/// Drops the choices between two indices.
-pub(crate) fn drop_between<A: Allocator>(choices: &mut Vec<Choice, A>, first: usize, end: usize) {
-    let len = choices.len();
-    let end = end.min(len);
-    let first = first.min(end);
-    choices.copy_within(end..len, first);
-    choices.truncate(first + (len - end));
 }

@@ -76,10 +76,15 @@ fn of_a_plan(rt: HostRuntime) {
     assert!(rt; reported >= 3);
 }
 
+// Twelve holes are sure, and not thirteen. The opponent has one card left.
+const LAST_TWO_SHORT: &str =
+    "problem 2\ndealer opponent\nscore 0 0\nstarter KD\nhold 2C 2D 2H 2S\nthrow 4C 6D\n\
+    goal holes 13\nplayed 6\nown 2C\nopp AD\nown 2D\nopp 3C\nown 2H\nopp 5S\n";
+
 // The same of a plan that is found.
 #[test]
 fn of_a_plan_that_is_found(rt: HostRuntime) {
-    let (reported, passed_over) = refuse_each(&rt, SheetJob::Plan, &[BEGUN_SHORT]);
+    let (reported, passed_over) = refuse_each(&rt, SheetJob::Plan, &[LAST_TWO_SHORT]);
     assert!(rt; reported >= 3);
     assert!(rt; passed_over > 0);
 }

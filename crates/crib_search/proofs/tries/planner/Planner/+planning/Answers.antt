@@ -1,4 +1,4 @@
-use Rattle.std.proofs.Common.{◌≡◌, ℕ, length, take, sym, ap, ◌∙◌, get_or, arith}
+use Rattle.std.proofs.Common.{◌≡◌, ℕ, length, take, sym, ap, ◌∙◌, arith}
 use Rattle.std.proofs.lemmas.Bool.{both_ways}
 use Rattle.crib_cards.specs.declared.moves.Move.TheVariants as move
 use Rattle.crib_play.specs.History.{Own, Theirs}
@@ -6,18 +6,17 @@ use Rattle.crib_search.specs.Finder.{letters}
 use Rattle.crib_search.specs.Private.States.{StatesAfter, StatesAt}
 use Rattle.crib_search.proofs.FoundAfterTurns.{goes_on, ok_map}
 use Rattle.crib_search.proofs.FoundBySide.{take_letter}
-use Rattle.crib_search.proofs.CardsToTry.{has_first, none_fits}
+use Rattle.crib_search.proofs.CardsToTry.{none_fits}
 use Rattle.crib_search.proofs.JoinedTrees.{draft_place_earlier}
-use Rattle.crib_search.proofs.PlannedPlaces.{left_is_card, more_trans, planned_end, planned_joined, planned_map, planned_more}
+use Rattle.crib_search.proofs.PlannedPlaces.{left_is_card, more_trans, planned_end, planned_joined, planned_map}
 use Rattle.crib_search.proofs.PlannedPlaces.{planned_play}
 use Rattle.crib_search.proofs.PlannedPlaces.{planned_push, trees_planned}
-use Rattle.crib_search.proofs.StatedTrees.{lowest_after, never_shown, states_card, states_done, states_go, states_letter, states_look, states_lowest}
-use Rattle.crib_search.proofs.tries.greedy.Greedy.+greedy.Goals as goal
-use Rattle.crib_search.proofs.tries.greedy.Greedy.+greedy.Goals.{best_place-then-adopt, best_place-else-adopt}
+use Rattle.crib_search.proofs.StatedTrees.{never_shown, states_card, states_done, states_go, states_letter, states_look, states_lowest}
+use Rattle.crib_search.proofs.tries.planner.Planner.+planning.Goals as goal
 
 -- ---- the deal is done, or nothing is left to play for
-pub place_at-returns-then-is_over-clause-planned : goal.place_at-returns-then-is_over-clause-planned
-place_at-returns-then-is_over-clause-planned g t c =
+pub place_at-returns-then-not-are_ahead-clause-planned : goal.place_at-returns-then-not-are_ahead-clause-planned
+place_at-returns-then-not-are_ahead-clause-planned g t c =
     ok_map c.lowest_first.result _ _
     (planned_map _ _ _ (states_lowest c.args.problem.now c.args.know.now c.own_left.result c.own_left.ensures)) c.lowest_first.ensures.planned
 
@@ -29,17 +28,6 @@ pub place_after-returns-then-not-can_show-clause-planned : goal.place_after-retu
 place_after-returns-then-not-can_show-clause-planned g t c =
     planned_end c.args.self.now.nodes _ (never_shown c.args.problem.now c.args.know.now c.args.letter.now
     (λ history knows can. both_ways c.can_show.result c.if-not-can_show.true ((c.can_show.ensures.exact c.args.problem.now history knows).1 can)) _)
-
-pub place_after-returns-in_default-clause-planned : goal.place_after-returns-in_default-clause-planned
-place_after-returns-in_default-clause-planned g t c =
-    ok_map c.lowest_first.result _ _
-    (planned_map _ _ _ (lowest_after c.args.problem.now c.args.know.now c.own_left.result c.own_left.ensures c.args.letter.now))
-    c.lowest_first.ensures.planned
-
-pub their_place-returns-then-is_over-clause-planned : goal.their_place-returns-then-is_over-clause-planned
-their_place-returns-then-is_over-clause-planned g t c =
-    ok_map c.lowest_first.result _ _
-    (planned_map _ _ _ (states_lowest c.args.problem.now c.args.know.now c.own_left.result c.own_left.ensures)) c.lowest_first.ensures.planned
 
 -- ---- a turn of either side
 pub place_at-own_place-requires : goal.place_at-own_place-requires
@@ -70,53 +58,8 @@ own_place-returns-then-len-eq0-clause-planned g t c =
 
 pub own_place-place_with-requires : goal.own_place-place_with-requires
 own_place-place_with-requires g t c κs within =
-    let playable = c.options-cards.ensures.playable (get_or c.options-cards.result.0 0 c.index-cards-0.result)
-    (has_first _ c.options-cards.result.1 c.index-cards-0.result c.if-len-eq1.true c.options-cards.ensures.whole) in
+    let playable = c.options-cards.ensures.playable c.chosen-card.result.0 c.chosen-card.ensures in
     (omega arith, (within, (c.requires.turn, (playable.0, playable.1))))
-
-pub own_place-best_place-requires : goal.own_place-best_place-requires
-own_place-best_place-requires g t c κs within =
-    (omega arith, (within, (c.requires.turn, c.options-cards.ensures.playable)))
-
-pub best_place-loop-turn-init : goal.best_place-loop-turn-init
-best_place-loop-turn-init g t c = record {
-  kept = c.lowest_first.ensures.kept;
-  planned = planned_map _ _ _ (states_lowest c.args.problem.now c.args.know.now c.own_left.result c.own_left.ensures) c.in_ok-place.place
-      c.in_ok-place.ensures.planned;
-}
-
-pub best_place-tried_place-requires : goal.best_place-tried_place-requires
-best_place-tried_place-requires g t c κs within =
-    let playable = c.requires.playable c.card_tried-card.result c.card_tried-card.ensures in
-    (omega arith, (within, (c.requires.turn, playable)))
-
-pub best_place-returns-in_err-other_place-clause-kept : goal.best_place-returns-in_err-other_place-clause-kept
-best_place-returns-in_err-other_place-clause-kept g t c =
-    more_trans c.args.self.now.nodes c.loop-turn.self.nodes c.tried_place.new.self.nodes c.loop-turn.invariant.kept c.tried_place.ensures.kept
-
-pub best_place-loop-turn-preserved : goal.best_place-loop-turn-preserved
-best_place-loop-turn-preserved g t c = record {
-  kept = more_trans c.args.self.now.nodes c.loop-turn.self.nodes c.tried_place.new.self.nodes c.loop-turn.invariant.kept c.tried_place.ensures.kept;
-  planned = elim c.if-adopt.branch [
-    | best_place-then-adopt w ↦ rw w.place-is c.in_ok-other_place.ensures.planned
-    | best_place-else-adopt w ↦ rw w.place-is
-        (planned_more c.loop-turn.self.nodes c.tried_place.new.self.nodes c.tried_place.ensures.kept _ c.loop-turn.place c.loop-turn.invariant.planned)
-  ];
-}
-
-pub tried_place-place_with-requires : goal.tried_place-place_with-requires
-tried_place-place_with-requires g t c κs within = (omega arith, (within, (c.requires.turn, (c.requires.held, c.requires.fits))))
-
-pub tried_place-place_with-requires-2 : goal.tried_place-place_with-requires-2
-tried_place-place_with-requires-2 g t c κs within = (omega arith, (within, (c.requires.turn, (c.requires.held, c.requires.fits))))
-
-pub tried_place-place_with-requires-3 : goal.tried_place-place_with-requires-3
-tried_place-place_with-requires-3 g t c κs within = (omega arith, (within, (c.requires.turn, (c.requires.held, c.requires.fits))))
-
-pub tried_place-returns-clause-kept : goal.tried_place-returns-clause-kept
-tried_place-returns-clause-kept g t c =
-    more_trans c.args.self.now.nodes c.place_with-2.new.self.nodes c.place_with-3.new.self.nodes c.place_with-2.ensures.kept
-    (rw c.note_at.ensures.same at c.place_with-3.ensures.kept)
 
 pub place_with-place_at-requires : goal.place_with-place_at-requires
 place_with-place_at-requires g t c κs within =
@@ -147,12 +90,6 @@ their_place-place_after-requires g t c κs within = (omega arith, (within, c.req
 pub their_place-returns-in_err-next-clause-kept : goal.their_place-returns-in_err-next-clause-kept
 their_place-returns-in_err-next-clause-kept g t c =
     more_trans c.args.self.now.nodes c.loop-index.self.nodes c.place_after.new.self.nodes c.loop-index.invariant.kept c.place_after.ensures.kept
-
-pub their_place-returns-then-is_over-clause-kept : goal.their_place-returns-then-is_over-clause-kept
-their_place-returns-then-is_over-clause-kept g t c =
-    more_trans c.args.self.now.nodes c.place_after.new.self.nodes c.lowest_first.new.nodes
-    (more_trans c.args.self.now.nodes c.loop-index.self.nodes c.place_after.new.self.nodes c.loop-index.invariant.kept c.place_after.ensures.kept)
-    c.lowest_first.ensures.kept
 
 pub their_place-loop-index-init : goal.their_place-loop-index-init
 their_place-loop-index-init g t c = record {
@@ -192,8 +129,9 @@ their_place-returns-clause-planned g t c =
 
 pub place_after-returns-clause-planned : goal.place_after-returns-clause-planned
 place_after-returns-clause-planned g t c =
-    planned_map _ _ _ (states_letter c.args.problem.now c.args.know.now c.copy-next.result c.saw.new.self c.copy-next.ensures c.args.letter.now
-    (c.saw.ensures c.args.problem.now)) c.in_ok-place.place c.in_ok-place.ensures.planned
+    ok_map c.place_at.result _ _
+    (planned_map _ _ _ (states_letter c.args.problem.now c.args.know.now c.copy-next.result c.saw.new.self c.copy-next.ensures c.args.letter.now
+    (c.saw.ensures c.args.problem.now))) c.place_at.ensures.planned
 
 pub place_after-saw-requires : goal.place_after-saw-requires
 place_after-saw-requires g t c = rw c.copy-next.ensures (c.can_show.ensures.shown c.if-not-can_show.false)

@@ -8,7 +8,7 @@ use Rattle.crib_search.specs.Trees.{Plays}
 use Rattle.crib_search.proofs.FoundAfterTurns.{ok_map}
 use Rattle.crib_search.proofs.JoinedTrees.{draft_place_earlier}
 use Rattle.crib_search.proofs.PlannedPlaces.{planned_end, planned_play}
-use Rattle.crib_search.proofs.tries.greedy.+lowest_first.Goals as goal
+use Rattle.crib_search.proofs.tries.planner.+lowest_first.Goals as goal
 
 pub returns-in_default-clause-planned : goal.returns-in_default-clause-planned
 returns-in_default-clause-planned g t c =

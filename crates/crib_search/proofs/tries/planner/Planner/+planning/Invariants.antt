@@ -2,27 +2,15 @@ use Rattle.std.proofs.Common.{◌≡◌, ◌+◌, ◌*◌, length, take}
 use Rattle.crib_know.specs.Private.Ahead.{turns_ahead}
 use Rattle.crib_search.specs.Finder.{letters}
 use Rattle.crib_search.specs.Private.Nodes.{IsMore}
-use Rattle.crib_search.specs.Private.States.{IsPlanned, StatesAfter, StatesAt}
+use Rattle.crib_search.specs.Private.States.{StatesAfter}
 use Rattle.crib_search.proofs.PlannedPlaces.{ArePlanned}
-use Rattle.crib_search.proofs.tries.greedy.Greedy.+greedy.Given as goal
+use Rattle.crib_search.proofs.tries.planner.Planner.+planning.Given as goal
 
 abbrev pub decreases-place_at : goal.decreases-place_at
 decreases-place_at g l = 40 * turns_ahead l.know.now + 39
 
 abbrev pub decreases-own_place : goal.decreases-own_place
 decreases-own_place g l = 40 * turns_ahead l.know.now + 38
-
-abbrev pub invariant-best_place-loop-turn : goal.invariant-best_place-loop-turn
-invariant-best_place-loop-turn g l = record {
-  kept : IsMore l.fn.self.nodes l.self.nodes;
-  planned : IsPlanned l.self.nodes (StatesAt l.problem l.know) l.place;
-}
-
-abbrev pub decreases-best_place : goal.decreases-best_place
-decreases-best_place g l = 40 * turns_ahead l.know.now + 2
-
-abbrev pub decreases-tried_place : goal.decreases-tried_place
-decreases-tried_place g l = 40 * turns_ahead l.know.now + 1
 
 abbrev pub decreases-place_with : goal.decreases-place_with
 decreases-place_with g l = 40 * turns_ahead l.know.now

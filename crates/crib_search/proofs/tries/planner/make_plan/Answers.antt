@@ -1,6 +1,6 @@
 use Rattle.crib_search.proofs.PlannedPlaces.{planned_map}
 use Rattle.crib_search.proofs.StatedCards.{stated_plan}
-use Rattle.crib_search.proofs.tries.greedy.make_plan.Goals as goal
+use Rattle.crib_search.proofs.tries.planner.make_plan.Goals as goal
 
 pub returns : goal.returns
 returns g c =

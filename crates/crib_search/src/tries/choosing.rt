@@ -1,0 +1,214 @@
+//! Which card is chosen at each place, so that few deals beat the plan.
+
+use crate::tries::choices::{Choices, Classes};
+use crate::tries::ledger::Ledger;
+use crate::tries::matching::Matching;
+use crate::tries::net::{DEPTH, Edge, Net};
+use crate::tries::places::Places;
+use std::alloc::{AllocError, Allocator};
+
+// How often each place is chosen anew at most.
+const TIMES: u8 = 4;
+
+// The rounds after which what was learned is tried.
+const ROUNDS: [u32; 3] = [16, 64, 256];
+
+// The guests that are heard in all rounds.
+const PATIENCE: usize = 150_000;
+
+/// The choices in the making.
+#[derive(Drop)]
+struct Choosing<'a, A: Allocator> {
+    choices: &'a Choices<A>,
+    net: Net<A>,
+    ledger: Ledger<A>,
+    // The best chosen edges so far, and how many deals beat them.
+    kept: Vec<usize, A>,
+    least: u64,
+}
+
+/// Chooses a card at each place. The classes of each choice of ranks that beat the owner in any case are given. It
+/// fails if an allocation fails.
+pub(crate) fn choose<A: Allocator + Copy>(
+    alloc: A,
+    choices: &Choices<A>,
+    places: &mut Places<A>,
+    forced: Vec<Classes, A>,
+) -> Result<(), AllocError> {
+    let mut ledger = Ledger::new(alloc, choices.len())?;
+    let net = Net::knit(alloc, places, &mut ledger, forced)?;
+    ledger.divide(choices)?;
+    let mut choosing = Choosing {
+        choices,
+        net,
+        ledger,
+        kept: Vec::new(alloc),
+        least: u64::MAX,
+    };
+    let end = choosing.net.nodes.len();
+    choosing.choose_all((0, end), false, DEPTH);
+    choosing.improve()?;
+    choosing.learn(alloc)?;
+    choosing.restore();
+    choosing.net.choose_at(places);
+    Ok(())
+}
+
+impl<A: Allocator + Copy> Choosing<'_, A> {
+    // Lets both sides learn, and tries what was learned.
+    fn learn(&mut self, alloc: A) -> Result<(), AllocError> {
+        let mut matching = Matching::new(alloc, &self.net, &self.ledger)?;
+        let mut patience = PATIENCE;
+        for round in 0..256u32 {
+            matching.play(&self.net);
+            patience = patience.saturating_sub(matching.len());
+            if ROUNDS.contains(&(round + 1)) || patience == 0 {
+                self.follow(&matching);
+                self.improve()?;
+            }
+            if patience == 0 {
+                break;
+            }
+        }
+        Ok(())
+    }
+
+    // Chooses anew until nothing is gained, and keeps the choices if they are the best so far.
+    fn improve(&mut self) -> Result<(), AllocError> {
+        for _ in 0..TIMES {
+            let beaten = self.ledger.beaten;
+            let end = self.net.nodes.len();
+            self.choose_all((0, end), true, DEPTH);
+            if self.ledger.beaten >= beaten {
+                break;
+            }
+        }
+        if self.ledger.beaten < self.least {
+            self.least = self.ledger.beaten;
+            self.kept.truncate(0);
+            for index in 0..self.net.nodes.len() {
+                if let Some(node) = self.net.node(index) {
+                    self.kept.push(node.choice)?;
+                }
+            }
+        }
+        Ok(())
+    }
+
+    // Takes the best choices.
+    fn restore(&mut self) {
+        for index in 0..self.net.nodes.len() {
+            if let Some(node) = self.net.nodes.get_mut(index) {
+                if let Some(choice) = self.kept.get(index) {
+                    node.choice = *choice;
+                }
+            }
+        }
+    }
+
+    // Takes the choices that were learned.
+    fn follow(&mut self, matching: &Matching<A>) {
+        let all = (0, self.net.nodes.len());
+        self.pass_all(all, true, DEPTH);
+        for index in 0..self.net.nodes.len() {
+            if let Some(node) = self.net.nodes.get_mut(index) {
+                node.choice = matching.favourite(node);
+            }
+        }
+        self.pass_all(all, false, DEPTH);
+    }
+
+    // Lets through what an edge lets through, or takes it back.
+    fn pass(&mut self, edge: &Edge, is_back: bool) {
+        for index in edge.hit..edge.hit_end {
+            if let Some(item) = self.net.hits.get(index).copied() {
+                if is_back {
+                    self.ledger.take_back(self.choices, item);
+                } else {
+                    self.ledger.let_through(self.choices, item);
+                }
+            }
+        }
+    }
+
+    // The same for the chosen edges of the nodes between two indices, side by side, and of those behind them.
+    #[cycle(passing)]
+    fn pass_all(&mut self, range: (usize, usize), is_back: bool, depth: u8) {
+        let (first, end) = range;
+        let mut index = first;
+        for _ in first..end {
+            if index >= end {
+                break;
+            }
+            self.pass_node(index, is_back, depth);
+            index = self.net.past(index);
+        }
+    }
+
+    // The same for a node.
+    #[cycle(passing)]
+    fn pass_node(&mut self, index: usize, is_back: bool, depth: u8) {
+        if depth == 0 {
+            return;
+        }
+        if let Some(node) = self.net.node(index) {
+            if let Some(edge) = self.net.edge(node.choice) {
+                self.pass(&edge, is_back);
+                self.pass_all((edge.next, edge.end), is_back, depth - 1);
+            }
+        }
+    }
+
+    // Chooses at each of the nodes between two indices, side by side. If they have been chosen before, what they let
+    // through passes already.
+    #[cycle(choosing)]
+    fn choose_all(&mut self, range: (usize, usize), is_again: bool, depth: u8) {
+        let (first, end) = range;
+        let mut index = first;
+        for _ in first..end {
+            if index >= end {
+                break;
+            }
+            if is_again {
+                self.pass_node(index, true, depth);
+            }
+            self.choose_at(index, is_again, depth);
+            self.pass_node(index, false, depth);
+            index = self.net.past(index);
+        }
+    }
+
+    // Chooses at a node, of which nothing passes yet.
+    #[cycle(choosing)]
+    fn choose_at(&mut self, index: usize, is_again: bool, depth: u8) {
+        let Some(node) = self.net.node(index) else {
+            return;
+        };
+        if depth == 0 {
+            return;
+        }
+        let mut best = node.choice;
+        let mut least = u64::MAX;
+        for at in node.edge..node.edge_end {
+            if let Some(edge) = self.net.edge(at) {
+                let range = (edge.next, edge.end);
+                self.pass(&edge, false);
+                if self.ledger.beaten < least {
+                    if is_again {
+                        self.pass_all(range, false, depth - 1);
+                    }
+                    self.choose_all(range, is_again, depth - 1);
+                    if self.ledger.beaten < least {
+                        best = at;
+                        least = self.ledger.beaten;
+                    }
+                    self.pass_all(range, true, depth - 1);
+                }
+                self.pass(&edge, true);
+            }
+        }
+        if let Some(node) = self.net.nodes.get_mut(index) {
+            node.choice = best;
+        }
+    }
+}

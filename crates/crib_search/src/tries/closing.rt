@@ -1,0 +1,140 @@
+//! What a survey notes of a place.
+
+use crate::tries::choices::Classes;
+use crate::tries::places::{Branch, Hit, Place};
+use crate::tries::survey::Survey;
+use std::alloc::{AllocError, Allocator};
+
+impl<A: Allocator + Copy> Survey<'_, A> {
+    /// Closes a place above a level between two indices. The levels after each of its cards are above that, and have
+    /// its entries in the same order. It fails if an allocation fails.
+    pub(crate) fn close(
+        &mut self,
+        index: usize,
+        base: usize,
+        end: usize,
+    ) -> Result<(), AllocError> {
+        let Some(place) = self.places.place(index) else {
+            return Ok(());
+        };
+        let size = end.saturating_sub(base);
+        let mut open = [false; 4];
+        for one in 0..place.count.min(4) {
+            open[one] = !self.is_dropped(one, &open, place.count, (end, size));
+        }
+        for at in 0..size {
+            self.join(base.saturating_add(at), at, &open, (end, size));
+        }
+        for one in 0..4usize {
+            if open[one] {
+                self.add_hits(&place, one, base, (end, size))?;
+            }
+        }
+        let last = self.places.len();
+        if let Some(place) = self.places.places.get_mut(index) {
+            place.end = last;
+        }
+        Ok(())
+    }
+
+    // Whether another card is as good for each deal: one of those before it that are open, or one after it that is
+    // better.
+    fn is_dropped(
+        &self,
+        one: usize,
+        open: &[bool; 4],
+        count: usize,
+        levels: (usize, usize),
+    ) -> bool {
+        for other in 0..4usize {
+            if open[other] && self.is_within(other, one, levels) {
+                return true;
+            }
+        }
+        for other in one.saturating_add(1)..count {
+            if self.is_within(other, one, levels) && !self.is_within(one, other, levels) {
+                return true;
+            }
+        }
+        false
+    }
+
+    // Whether each class that beats the owner at the worst after one card does in any case after another.
+    fn is_within(&self, one: usize, other: usize, levels: (usize, usize)) -> bool {
+        let (one, other) = (level(levels, one), level(levels, other));
+        for at in 0..levels.1 {
+            if let Some(entry) = self.entries.get(one.saturating_add(at)) {
+                if let Some(forced) = self.entries.get(other.saturating_add(at)) {
+                    if entry.worst & !forced.forced != 0 {
+                        return false;
+                    }
+                }
+            }
+        }
+        true
+    }
+
+    // Joins what passes the open branches of an entry.
+    fn join(&mut self, index: usize, at: usize, open: &[bool; 4], levels: (usize, usize)) {
+        let mut forced = Classes::MAX;
+        let mut worst = 0;
+        for one in 0..4usize {
+            if !open[one] {
+                continue;
+            }
+            if let Some(entry) = self.entries.get(level(levels, one).saturating_add(at)) {
+                forced &= entry.forced;
+                worst |= entry.worst;
+            }
+        }
+        if let Some(entry) = self.entries.get_mut(index) {
+            entry.forced = forced;
+            entry.worst = worst;
+        }
+    }
+
+    // Opens a branch, and adds what passes it, but not each other one.
+    fn add_hits(
+        &mut self,
+        place: &Place,
+        one: usize,
+        base: usize,
+        levels: (usize, usize),
+    ) -> Result<(), AllocError> {
+        let hit = self.places.hits.len();
+        let first = level(levels, one);
+        for at in 0..levels.1 {
+            if let Some(entry) = self.entries.get(first.saturating_add(at)) {
+                if let Some(joined) = self.entries.get(base.saturating_add(at)) {
+                    let more = entry.forced & !joined.forced;
+                    if more != 0 {
+                        self.places.hits.push(Hit {
+                            choice: entry.choice,
+                            classes: more,
+                        })?;
+                    }
+                }
+            }
+        }
+        if let Some(branch) = self.places.branch(place, one) {
+            let hit_end = self.places.hits.len();
+            self.places.put(
+                place,
+                one,
+                Branch {
+                    hit,
+                    hit_end,
+                    is_open: true,
+                    ..branch
+                },
+            );
+        }
+        Ok(())
+    }
+}
+
+// The index of the first entry of the level after a card, where the levels begin at an index and have a size.
+fn level(levels: (usize, usize), number: usize) -> usize {
+    let (first, size) = levels;
+    first.saturating_add(size.saturating_mul(number))
+}

@@ -8,7 +8,7 @@ use crate::theirs::their_leads;
 use crate::verdict::{LeadVerdict, verdict_after};
 use crib_cards::{Act, CardSet, Move, Side};
 use crib_problem::Problem;
-use crib_search::SearchFault;
+use crib_search::{Advice, SearchFault};
 use std::alloc::{Allocator, Global};
 
 /// A turn that may come next, and what is after it.
@@ -41,18 +41,28 @@ pub struct Leads<A: Allocator = Global> {
 /// It fails with [`SearchFault::TooLarge`] if a plan is sure after some turn, and the plan of
 /// [`find`](crib_search::find) has more than 65,535 nodes. It fails with [`SearchFault::NoMemory`] if an allocation
 /// fails, except one for a table of answers: if that fails, the search is slower.
-pub fn leads_of<A: Allocator + Copy>(alloc: A, problem: &Problem) -> Result<Leads<A>, SearchFault>
+///
+/// The advice is for the problem. What a search finds is kept there for a later search.
+pub fn leads_of<A: Allocator + Copy>(
+    alloc: A,
+    problem: &Problem,
+    advice: &mut Option<Advice<A>>,
+) -> Result<Leads<A>, SearchFault>
     // No verdict is that a plan is sure if the plan of `find` has too many nodes. `TooLarge` is returned only then.
     ensures right { IfOk result (AreLeads problem.now) }
     ensures too_large { result ≡ Err SearchFault.TooLarge → (act : Act) × IsTooLarge problem.now act }
 {
-    let own = own_leads(alloc, problem)?;
+    let own = own_leads(alloc, problem, advice)?;
     let theirs = their_leads(alloc, problem)?;
     Ok(Leads { own, theirs })
 }
 
 // Returns an entry for each turn of the owner that may come next.
-fn own_leads<A: Allocator + Copy>(alloc: A, problem: &Problem) -> Result<Vec<Lead, A>, SearchFault>
+fn own_leads<A: Allocator + Copy>(
+    alloc: A,
+    problem: &Problem,
+    advice: &mut Option<Advice<A>>,
+) -> Result<Vec<Lead, A>, SearchFault>
     ensures right { IfOk result (λ leads. AreEntries problem.now own_turns leads.items) }
     ensures too_large { result ≡ Err SearchFault.TooLarge → (act : Act) × IsTooLarge problem.now act }
 {
@@ -60,9 +70,15 @@ fn own_leads<A: Allocator + Copy>(alloc: A, problem: &Problem) -> Result<Vec<Lea
     let mut rest = CardSet::full();
     while let Some(card) = rest.lowest() {
         rest = rest.without(card);
-        add_turn(alloc, problem, &own_act(Move::Card(card)), &mut leads)?;
+        add_turn(
+            alloc,
+            problem,
+            &own_act(Move::Card(card)),
+            advice,
+            &mut leads,
+        )?;
     }
-    add_turn(alloc, problem, &own_act(Move::Go), &mut leads)?;
+    add_turn(alloc, problem, &own_act(Move::Go), advice, &mut leads)?;
     Ok(leads)
 }
 
@@ -80,12 +96,13 @@ pub(crate) fn add_turn<A: Allocator + Copy>(
     alloc: A,
     problem: &Problem,
     act: &Act,
+    advice: &mut Option<Advice<A>>,
     leads: &mut Vec<Lead, A>,
 ) -> Result<(), SearchFault>
     ensures added { IfOk result (λ _. Adds problem.now (act.now ∷ []) leads.old.items leads.new.items) }
     ensures too_large { result ≡ Err SearchFault.TooLarge → IsTooLarge problem.now act.now }
 {
-    let Some(verdict) = verdict_after(alloc, problem, act)? else {
+    let Some(verdict) = verdict_after(alloc, problem, act, advice)? else {
         return Ok(());
     };
     add_lead(leads, lead_of(act, false, verdict))

@@ -30,7 +30,7 @@ pub(crate) fn their_leads<A: Allocator + Copy>(
 {
     let mut leads = Vec::new(alloc);
     add_ranks(alloc, problem, &RANKS, &mut leads)?;
-    add_turn(alloc, problem, &their_act(Move::Go), &mut leads)?;
+    add_turn(alloc, problem, &their_act(Move::Go), &mut None, &mut leads)?;
     worst_first(alloc, leads.as_slice())
 }
 
@@ -109,7 +109,7 @@ fn lowest_lead<A: Allocator + Copy>(
         [] => Ok(None),
         [card, others @ ..] => {
             let act = their_act(Move::Card(*card));
-            match verdict_after(alloc, problem, &act)? {
+            match verdict_after(alloc, problem, &act, &mut None)? {
                 Some(verdict) => Ok(Some(lead_of(&act, true, verdict))),
                 None => lowest_lead(alloc, problem, others),
             }
@@ -131,7 +131,13 @@ fn add_cards<A: Allocator + Copy>(
     match cards {
         [] => Ok(()),
         [card, others @ ..] => {
-            add_turn(alloc, problem, &their_act(Move::Card(*card)), leads)?;
+            add_turn(
+                alloc,
+                problem,
+                &their_act(Move::Card(*card)),
+                &mut None,
+                leads,
+            )?;
             add_cards(alloc, problem, others, leads)
         }
     }

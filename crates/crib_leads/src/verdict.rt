@@ -5,9 +5,9 @@ ghost use Rattle.crib_leads.specs.Leads.{IsVerdict, IsVerdictOn, IsTooLarge, is_
 
 use crate::ended::ended_verdict;
 use crib_beaten::tally_of;
-use crib_cards::Act;
+use crib_cards::{Act, Card, Move, Side};
 use crib_problem::{Problem, ProblemCause};
-use crib_search::{SearchFault, try_plan};
+use crib_search::{Advice, SearchFault, try_plan};
 use std::alloc::Allocator;
 
 /// What is after a turn.
@@ -40,10 +40,13 @@ impl LeadVerdict {
 /// It fails with [`SearchFault::TooLarge`] if a plan is sure after the turn, and the plan of
 /// [`find`](crib_search::find) has more than 65,535 nodes. It fails with [`SearchFault::NoMemory`] if an allocation
 /// fails, except one for a table of answers: if that fails, the search is slower.
+///
+/// The advice is for the problem: what a search finds behind a card of the owner is kept there, and looked up.
 pub fn verdict_after<A: Allocator + Copy>(
     alloc: A,
     problem: &Problem,
     act: &Act,
+    advice: &mut Option<Advice<A>>,
 ) -> Result<Option<LeadVerdict>, SearchFault>
     ensures right { IfOk result (λ found. MatchOption found (IsFalse (may_come problem.now act.now))
         (λ verdict. IsTrue (may_come problem.now act.now) × IsVerdict problem.now act.now verdict)) }
@@ -54,7 +57,7 @@ pub fn verdict_after<A: Allocator + Copy>(
 {
     match problem.after(*act) {
         Ok(next) => {
-            let verdict = verdict_on(alloc, &next)?;
+            let verdict = verdict_on(alloc, &next, problem, own_card(act), advice)?;
             Ok(Some(verdict))
         }
         Err(ProblemCause::AlreadyOver) => Ok(Some(ended_verdict(problem, act))),
@@ -62,13 +65,30 @@ pub fn verdict_after<A: Allocator + Copy>(
     }
 }
 
-// What is found for a problem.
-fn verdict_on<A: Allocator + Copy>(alloc: A, problem: &Problem) -> Result<LeadVerdict, SearchFault>
+// The card of a turn of the owner.
+fn own_card(act: &Act) -> Option<Card> {
+    match *act {
+        Act {
+            side: Side::Owner,
+            what: Move::Card(card),
+        } => Some(card),
+        _ => None,
+    }
+}
+
+// What is found for a problem. If the last turn of its opening is a card of the owner, the problem before it is given.
+fn verdict_on<A: Allocator + Copy>(
+    alloc: A,
+    problem: &Problem,
+    before: &Problem,
+    last: Option<Card>,
+    advice: &mut Option<Advice<A>>,
+) -> Result<LeadVerdict, SearchFault>
     ensures right { IfOk result (IsVerdictOn problem.now) }
     ensures large { ExceedsLimit problem.now 65535 → IsErr result }
     ensures too_large { result ≡ Err SearchFault.TooLarge → ExceedsLimit problem.now 65535 }
 {
-    let tried = try_plan(alloc, problem)?;
+    let tried = try_plan(alloc, problem, before, last, advice)?;
     if tried.is_sure {
         return Ok(LeadVerdict::Sure {
             nodes: tried.plan.nodes().len(),

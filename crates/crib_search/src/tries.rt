@@ -7,6 +7,7 @@ ghost use Rattle.crib_search.specs.Trees.{plan_of_tree};
 ghost use Rattle.crib_search.specs.Tried.{IsNeverStuck};
 ghost use Rattle.crib_search.specs.Winnable.{IsWinnable};
 
+mod advice;
 mod choices;
 mod choosing;
 mod closing;
@@ -21,12 +22,9 @@ mod survey;
 
 use crate::finder::{Found, SearchFault, find, plan_from};
 use crate::nodes::{DraftPlace, Nodes};
-use crate::tries::choices::Choices;
-use crate::tries::choosing::choose;
-use crate::tries::places::Places;
 use crate::tries::planner::{lowest_first, make_plan};
-use crate::tries::spot::Spot;
-use crate::tries::survey::survey_of;
+pub use advice::Advice;
+use crib_cards::Card;
 use crib_know::Know;
 use crib_plan::Plan;
 use crib_problem::Problem;
@@ -47,7 +45,16 @@ pub struct Tried<A: Allocator = Global> {
 /// states one that they hold and that fits. It fails with [`SearchFault::TooLarge`] if the plan of [`find`] has more
 /// than 65,535 nodes. It fails with [`SearchFault::NoMemory`] if an allocation fails, except one for the table of
 /// answers: if that fails, the search is slower.
-pub fn try_plan<A: Allocator + Copy>(alloc: A, problem: &Problem) -> Result<Tried<A>, SearchFault>
+///
+/// The problem is searched. Or, if its opening ends with a card of the owner, this last card may be given, and the
+/// problem before it, which is searched then. What is advised for that problem is kept for later calls.
+pub fn try_plan<A: Allocator + Copy>(
+    alloc: A,
+    problem: &Problem,
+    before: &Problem,
+    last: Option<Card>,
+    advice: &mut Option<Advice<A>>,
+) -> Result<Tried<A>, SearchFault>
     // A plan that is said to be sure is sure, and it is the plan of `find`.
     ensures sure { IfOk result (λ tried. IsTrue tried.is_sure → IsSure problem.now tried.plan) }
     ensures found { IfOk result (λ tried. IsTrue tried.is_sure → IsFound problem.now (Some tried.plan)) }
@@ -68,18 +75,24 @@ pub fn try_plan<A: Allocator + Copy>(alloc: A, problem: &Problem) -> Result<Trie
             is_sure: true,
         }),
         Found::None => Ok(Tried {
-            plan: greedy_plan(alloc, problem)?,
+            plan: advised_plan(alloc, problem, before, last, advice)?,
             is_sure: false,
         }),
     }
 }
 
 // A plan that few deals beat. If it has too many nodes, it is the one that plays the lowest card first.
-fn greedy_plan<A: Allocator + Copy>(alloc: A, problem: &Problem) -> Result<Plan<A>, SearchFault>
+fn advised_plan<A: Allocator + Copy>(
+    alloc: A,
+    problem: &Problem,
+    before: &Problem,
+    last: Option<Card>,
+    advice: &mut Option<Advice<A>>,
+) -> Result<Plan<A>, SearchFault>
     ensures stated { IfOk result (IsNeverStuck problem.now) }
     ensures fits { result ≢ Err SearchFault.TooLarge }
 {
-    let Ok((nodes, first)) = advised_plan(alloc, problem) else {
+    let Ok((nodes, first)) = draft_plan(alloc, problem, before, last, advice) else {
         return Err(SearchFault::NoMemory);
     };
     match plan_from(alloc, &nodes, first, 65_535) {
@@ -87,6 +100,27 @@ fn greedy_plan<A: Allocator + Copy>(alloc: A, problem: &Problem) -> Result<Plan<
         Err(SearchFault::TooLarge) => lowest_plan(alloc, problem),
         Err(SearchFault::NoMemory) => Err(SearchFault::NoMemory),
     }
+}
+
+// The nodes of a plan that few deals beat, and its first place. It fails if an allocation fails.
+fn draft_plan<A: Allocator + Copy>(
+    alloc: A,
+    problem: &Problem,
+    before: &Problem,
+    last: Option<Card>,
+    advice: &mut Option<Advice<A>>,
+) -> Result<(Nodes<A>, DraftPlace), AllocError>
+    ensures { IfOk result (λ made. IsPlanned made.0 (λ tree. IsNeverStuck problem.now (plan_of_tree tree)) made.1) }
+{
+    let mut known = match advice.take() {
+        Some(known) => known,
+        None if last.is_some() => Advice::of(alloc, before)?,
+        None => Advice::of(alloc, problem)?,
+    };
+    let spot = known.spot(alloc, problem, last)?;
+    let made = make_plan(alloc, problem, known.places(), &spot)?;
+    *advice = Some(known);
+    Ok(made)
 }
 
 // The plan that plays the lowest card first.
@@ -99,26 +133,4 @@ fn lowest_plan<A: Allocator + Copy>(alloc: A, problem: &Problem) -> Result<Plan<
         return Err(SearchFault::NoMemory);
     };
     plan_from(alloc, &nodes, first, 65_535)
-}
-
-// Makes the plan that plays the chosen cards, and returns its nodes and its first place. It fails if an allocation
-// fails.
-fn advised_plan<A: Allocator + Copy>(
-    alloc: A,
-    problem: &Problem,
-) -> Result<(Nodes<A>, DraftPlace), AllocError>
-    ensures { IfOk result (λ made. IsPlanned made.0 (λ tree. IsNeverStuck problem.now (plan_of_tree tree)) made.1) }
-{
-    let places = advise(alloc, problem)?;
-    let spot = Spot::at(0, places.len());
-    make_plan(alloc, problem, &places, &spot)
-}
-
-// The places at which the owner has a choice, with the cards that are chosen there.
-fn advise<A: Allocator + Copy>(alloc: A, problem: &Problem) -> Result<Places<A>, AllocError> {
-    let know = Know::start(problem);
-    let choices = Choices::of(alloc, problem, &know)?;
-    let (mut places, forced) = survey_of(alloc, problem, &choices)?;
-    choose(alloc, &choices, &mut places, forced)?;
-    Ok(places)
 }

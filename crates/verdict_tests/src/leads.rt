@@ -28,7 +28,7 @@ fn number_of(act: &Act) -> u8 {
 
 /// Asserts which turns of a side may come next, with what is after each.
 fn leads(rt: &(impl Abort + AllocGlobal), of: &str, side: Side, wanted: &[(u8, LeadVerdict)]) {
-    let Ok(found) = leads_of(rt.alloc(), &problem(rt, of)) else {
+    let Ok(found) = leads_of(rt.alloc(), &problem(rt, of), &mut None) else {
         panic!(rt; "memory");
     };
     let (some, none) = match side {

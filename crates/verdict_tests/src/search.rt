@@ -273,7 +273,14 @@ const FEWEST_LOST: &str =
 
 /// Asserts that the plan that is tried has this text.
 fn tries(rt: &(impl Abort + AllocGlobal), of: &str, text: &str, is_sure: bool) {
-    let tried = try_plan(rt.alloc(), &problem(rt, of)).expect(rt, "a plan");
+    let tried = try_plan(
+        rt.alloc(),
+        &problem(rt, of),
+        &problem(rt, of),
+        None,
+        &mut None,
+    )
+    .expect(rt, "a plan");
     same(rt, tried.is_sure, is_sure);
     has_text(rt, &tried.plan, text);
 }
@@ -293,7 +300,7 @@ fn a_plan_that_is_not_sure_is_tried(rt: HostRuntime) {
 /// was none to fail.
 fn trial_is_served(rt: &(impl Abort + AllocGlobal), of: &Problem, served: u64) -> bool {
     let heap = Refusing::after(rt.alloc(), served);
-    match &try_plan(&heap, of) {
+    match &try_plan(&heap, of, of, None, &mut None) {
         Ok(tried) => has_text(rt, &tried.plan, FEWEST_LOST),
         Err(fault) => same(rt, (fault.number(), heap.has_refused()), (11, true)),
     }

@@ -4,7 +4,7 @@ use crate::tries::choices::{Choices, Classes};
 use crate::tries::ledger::Ledger;
 use crate::tries::matching::Matching;
 use crate::tries::net::{DEPTH, Edge, Net};
-use crate::tries::places::Places;
+use crate::tries::survey::Survey;
 use std::alloc::{AllocError, Allocator};
 
 // How often each place is chosen anew at most.
@@ -27,16 +27,27 @@ struct Choosing<'a, A: Allocator> {
     least: u64,
 }
 
-/// Chooses a card at each place. The classes of each choice of ranks that beat the owner in any case are given. It
-/// fails if an allocation fails.
+/// Chooses a card at each place from an index on. The classes of each choice of ranks that beat the owner in any case
+/// are given. Returns how many deals beat the cards that are chosen. It fails if an allocation fails.
 pub(crate) fn choose<A: Allocator + Copy>(
     alloc: A,
-    choices: &Choices<A>,
-    places: &mut Places<A>,
+    survey: &mut Survey<A>,
+    first: usize,
     forced: Vec<Classes, A>,
-) -> Result<(), AllocError> {
+) -> Result<u64, AllocError> {
+    let Survey {
+        choices,
+        places,
+        ..
+    } = survey;
+    let mut beaten = 0u64;
+    for index in 0..forced.len() {
+        if let Some(classes) = forced.get(index) {
+            beaten = beaten.saturating_add(u64::from(choices.count(index, *classes)));
+        }
+    }
     let mut ledger = Ledger::new(alloc, choices.len())?;
-    let net = Net::knit(alloc, places, &mut ledger, forced)?;
+    let net = Net::knit(alloc, places, first, &mut ledger, forced)?;
     ledger.divide(choices)?;
     let mut choosing = Choosing {
         choices,
@@ -51,7 +62,7 @@ pub(crate) fn choose<A: Allocator + Copy>(
     choosing.learn(alloc)?;
     choosing.restore();
     choosing.net.choose_at(places);
-    Ok(())
+    Ok(beaten.saturating_add(choosing.least))
 }
 
 impl<A: Allocator + Copy> Choosing<'_, A> {

@@ -1,11 +1,11 @@
 //! What a survey notes of a place.
 
 use crate::tries::choices::Classes;
-use crate::tries::places::{Branch, Hit, Place};
+use crate::tries::places::{Branch, Hit};
 use crate::tries::survey::Survey;
 use std::alloc::{AllocError, Allocator};
 
-impl<A: Allocator + Copy> Survey<'_, A> {
+impl<A: Allocator + Copy> Survey<A> {
     /// Closes a place above a level between two indices. The levels after each of its cards are above that, and have
     /// its entries in the same order. It fails if an allocation fails.
     pub(crate) fn close(
@@ -27,7 +27,7 @@ impl<A: Allocator + Copy> Survey<'_, A> {
         }
         for one in 0..4usize {
             if open[one] {
-                self.add_hits(&place, one, base, (end, size))?;
+                self.add_hits(index, one, base, (end, size))?;
             }
         }
         let last = self.places.len();
@@ -96,7 +96,7 @@ impl<A: Allocator + Copy> Survey<'_, A> {
     // Opens a branch, and adds what passes it, but not each other one.
     fn add_hits(
         &mut self,
-        place: &Place,
+        index: usize,
         one: usize,
         base: usize,
         levels: (usize, usize),
@@ -116,18 +116,17 @@ impl<A: Allocator + Copy> Survey<'_, A> {
                 }
             }
         }
-        if let Some(branch) = self.places.branch(place, one) {
-            let hit_end = self.places.hits.len();
-            self.places.put(
-                place,
-                one,
-                Branch {
-                    hit,
-                    hit_end,
-                    is_open: true,
-                    ..branch
-                },
-            );
+        let Some(place) = self.places.place(index) else {
+            return Ok(());
+        };
+        if let Some(branch) = self.places.branch(&place, one) {
+            let open = Branch {
+                hit,
+                hit_end: self.places.hits.len(),
+                is_open: true,
+                ..branch
+            };
+            self.places.put_branch(index, one, open);
         }
         Ok(())
     }

@@ -51,11 +51,12 @@ pub(crate) struct Net<A: Allocator> {
 }
 
 impl<A: Allocator + Copy> Net<A> {
-    /// Knits the net of some places, and enters what its edges let through. The classes of each choice that pass in any
-    /// case are given. It fails if an allocation fails.
+    /// Knits the net of the places from an index on, and enters what its edges let through. The classes of each choice
+    /// that pass in any case are given. It fails if an allocation fails.
     pub(crate) fn knit(
         alloc: A,
         places: &mut Places<A>,
+        first: usize,
         ledger: &mut Ledger<A>,
         forced: Vec<Classes, A>,
     ) -> Result<Self, AllocError> {
@@ -67,7 +68,7 @@ impl<A: Allocator + Copy> Net<A> {
             before: Vec::new(alloc),
         };
         let end = places.len();
-        net.knit_all(places, ledger, (0, end), DEPTH)?;
+        net.knit_all(places, ledger, (first, end), DEPTH)?;
         Ok(net)
     }
 

@@ -36,6 +36,20 @@ pub(crate) struct Branch {
     pub(crate) is_open: bool,
 }
 
+impl Branch {
+    /// A branch after a card of a rank. The places after it are between two indices.
+    pub(crate) fn after(rank: Rank, next: usize, end: usize) -> Branch {
+        Branch {
+            rank,
+            next,
+            end,
+            hit: 0,
+            hit_end: 0,
+            is_open: false,
+        }
+    }
+}
+
 /// Which deals of a choice of ranks beat the owner after a card.
 #[derive(Clone, Copy)]
 pub(crate) struct Hit {
@@ -72,14 +86,7 @@ impl<A: Allocator + Copy> Places<A> {
             choice: 0,
         })?;
         for _ in 0..count {
-            self.branches.push(Branch {
-                rank: Rank::default(),
-                next: 0,
-                end: 0,
-                hit: 0,
-                hit_end: 0,
-                is_open: false,
-            })?;
+            self.branches.push(Branch::after(Rank::default(), 0, 0))?;
         }
         Ok(index)
     }
@@ -150,10 +157,12 @@ impl<A: Allocator + Copy> Places<A> {
         }
     }
 
-    /// Changes a branch of a place.
-    pub(crate) fn put(&mut self, place: &Place, index: usize, branch: Branch) {
-        if let Some(other) = self.branches.get_mut(place.branch.saturating_add(index)) {
-            *other = branch;
+    /// Changes a branch of the place with an index.
+    pub(crate) fn put_branch(&mut self, index: usize, at: usize, branch: Branch) {
+        if let Some(place) = self.place(index) {
+            if let Some(other) = self.branches.get_mut(place.branch.saturating_add(at)) {
+                *other = branch;
+            }
         }
     }
 

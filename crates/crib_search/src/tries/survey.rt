@@ -43,61 +43,64 @@ impl Entry {
 
 /// A survey in the making.
 #[derive(Drop)]
-pub(crate) struct Survey<'a, A: Allocator> {
-    pub(crate) own_hand: u8,
-    pub(crate) choices: &'a Choices<A>,
+pub(crate) struct Survey<A: Allocator> {
+    own_hand: u8,
+    /// The choices that agree with the opening.
+    pub(crate) choices: Choices<A>,
     // The entries of all levels, those of the highest last.
     pub(crate) entries: Vec<Entry, A>,
     // The index of the first entry of the highest level.
-    pub(crate) first: usize,
+    first: usize,
+    /// The places that were surveyed.
     pub(crate) places: Places<A>,
 }
 
-/// Surveys a problem. Returns the places, and the classes of each choice that beat the owner whatever they play. It
-/// fails if an allocation fails.
-pub(crate) fn survey_of<A: Allocator + Copy>(
-    alloc: A,
-    problem: &Problem,
-    choices: &Choices<A>,
-) -> Result<(Places<A>, Vec<Classes, A>), AllocError> {
-    let know = Know::start(problem);
-    let mut survey = Survey {
-        own_hand: hand_points(&problem.hold(), problem.starter()),
-        choices,
-        entries: Vec::new(alloc),
-        first: 0,
-        places: Places::new(alloc),
-    };
-    for index in 0..choices.len() {
-        if let Some(choice) = choices.get(index) {
-            survey.entries.push(Entry {
-                choice: index,
-                below: index,
-                left: choice.left,
-                classes: choice.classes,
-                forced: 0,
-                worst: 0,
-            })?;
-        }
+impl<A: Allocator + Copy> Survey<A> {
+    /// Begins a survey of a problem. It fails if an allocation fails.
+    pub(crate) fn of(alloc: A, problem: &Problem) -> Result<Self, AllocError> {
+        Ok(Survey {
+            own_hand: hand_points(&problem.hold(), problem.starter()),
+            choices: Choices::of(alloc, problem, &Know::start(problem))?,
+            entries: Vec::new(alloc),
+            first: 0,
+            places: Places::new(alloc),
+        })
     }
-    survey.look_at(problem, &know, &Spot::at(0, 0))?;
-    let mut forced = Vec::new(alloc);
-    for index in 0..survey.entries.len() {
-        if let Some(entry) = survey.entries.get(index) {
-            forced.push(entry.forced)?;
-        }
-    }
-    let Survey {
-        own_hand: _,
-        choices: _,
-        entries: _,
-        first: _,
-        places,
-    } = survey;
-    Ok((places, forced))
-}
 
-impl<A: Allocator + Copy> Survey<'_, A> {
+    /// Adds the places from a position on at which the opponent has shown nothing since the opening. Returns the
+    /// classes of each choice that beat the owner whatever they play. It fails if an allocation fails.
+    pub(crate) fn look(
+        &mut self,
+        alloc: A,
+        problem: &Problem,
+        know: &Know,
+    ) -> Result<Vec<Classes, A>, AllocError>
+        requires here { IsHere problem.now know.now }
+    {
+        self.entries.truncate(0);
+        self.first = 0;
+        for index in 0..self.choices.len() {
+            if let Some(choice) = self.choices.get(index) {
+                self.entries.push(Entry {
+                    choice: index,
+                    below: index,
+                    left: choice.left,
+                    classes: choice.classes,
+                    forced: 0,
+                    worst: 0,
+                })?;
+            }
+        }
+        self.look_at(problem, know, &Spot::at(0, 0))?;
+        let mut forced = Vec::new(alloc);
+        for index in 0..self.entries.len() {
+            if let Some(entry) = self.entries.get(index) {
+                forced.push(entry.forced)?;
+            }
+        }
+        Ok(forced)
+    }
+
     // Surveys what comes from a position on.
     #[cycle(looking)]
     fn look_at(&mut self, problem: &Problem, know: &Know, spot: &Spot) -> Result<(), AllocError>
@@ -293,27 +296,14 @@ impl<A: Allocator + Copy> Survey<'_, A> {
 
     // Closes a branch of a place. The places after it begin at `next`.
     fn close_branch(&mut self, index: usize, at: usize, rank: Rank, next: usize) {
-        let Some(place) = self.places.place(index) else {
-            return;
-        };
         let end = self.places.len();
-        self.places.put(
-            &place,
-            at,
-            Branch {
-                rank,
-                next,
-                end,
-                hit: 0,
-                hit_end: 0,
-                is_open: false,
-            },
-        );
+        self.places
+            .put_branch(index, at, Branch::after(rank, next, end));
     }
 }
 
-// The card at an index.
-fn card_at(cards: &[Card], index: usize) -> Card
+/// The card at an index.
+pub(crate) fn card_at(cards: &[Card], index: usize) -> Card
     requires { index < length cards.now }
     ensures { IsTrue (has cards.now result) }
 {

@@ -16,7 +16,7 @@ use crib_leads::{Lead, Leads, leads_of};
 use crib_plan::Plan;
 use crib_problem::{Goal, Problem};
 use crib_run::Status;
-use crib_search::SearchFault;
+use crib_search::{Advice, SearchFault};
 use crib_text::MAX_INPUT;
 use std::alloc::Allocator;
 
@@ -50,10 +50,11 @@ pub(crate) fn leads_sheet<A: Allocator + Copy>(
     ensures { IsOutcome leads_reply (SheetMakes SheetJob.Leads input.now) result }
 {
     let problem = problem_of(input)?;
-    let leads = all_leads(alloc, &problem)?;
+    let mut advice = None;
+    let leads = all_leads(alloc, &problem, &mut advice)?;
     let stops = stops_of(alloc, &problem, leads.own.as_slice())?;
     let status = leads_status(leads.own.as_slice(), leads.theirs.as_slice());
-    let below = tried_below(alloc, &problem, status)?;
+    let below = tried_below(alloc, &problem, status, &mut advice)?;
     Ok(LeadsSheet {
         problem,
         leads,
@@ -63,10 +64,14 @@ pub(crate) fn leads_sheet<A: Allocator + Copy>(
 }
 
 // Returns the turns that may come next.
-fn all_leads<A: Allocator + Copy>(alloc: A, problem: &Problem) -> Result<Leads<A>, Reason>
+fn all_leads<A: Allocator + Copy>(
+    alloc: A,
+    problem: &Problem,
+    advice: &mut Option<Advice<A>>,
+) -> Result<Leads<A>, Reason>
     ensures { MatchResult result (AreLeads problem.now) (IsNoTurns problem.now) }
 {
-    match leads_of(alloc, problem) {
+    match leads_of(alloc, problem, advice) {
         Ok(leads) => Ok(leads),
         Err(SearchFault::TooLarge) => Err(Reason::Fault(FaultCause::TooLarge)),
         Err(SearchFault::NoMemory) => Err(Reason::Fault(FaultCause::NoMemory)),
@@ -87,7 +92,7 @@ fn stops_of<A: Allocator + Copy>(
     let Some(other) = problem.with_goal(Goal::Stop) else {
         return Ok(Vec::new(alloc));
     };
-    let leads = all_leads(alloc, &other)?;
+    let leads = all_leads(alloc, &other, &mut None)?;
     Ok(leads.own)
 }
 
@@ -106,13 +111,14 @@ fn tried_below<A: Allocator + Copy>(
     alloc: A,
     problem: &Problem,
     status: Status,
+    advice: &mut Option<Advice<A>>,
 ) -> Result<Option<TriedPlan<A>>, Reason>
     ensures { MatchResult result (λ below. IsBelow problem.now status (below_text below)) (IsNoLeads problem.now) }
 {
     if let Status::Yes = status {
         return Ok(None);
     }
-    let tried = tried_of(alloc, problem)?;
+    let tried = tried_of(alloc, problem, advice)?;
     if tried.is_sure {
         return Ok(None);
     }

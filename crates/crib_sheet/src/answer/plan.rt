@@ -64,7 +64,7 @@ fn sheet_to_try<A: Allocator + Copy>(alloc: A, problem: Problem) -> Result<PlanS
     ensures { IsOutcome parts_reply
         (λ reply. AnswersWithPlan problem (IsSheetOf problem) reply ⊎ (reply ≡ fault_reply no_memory)) result }
 {
-    let tried = tried_of(alloc, &problem)?;
+    let tried = tried_of(alloc, &problem, &mut None)?;
     if tried.is_sure {
         return sheet_of(alloc, problem, tried.plan, Verdict::Holds, 0);
     }

@@ -11,7 +11,7 @@ use crib_input::{FaultCause, Reason, problem_of};
 use crib_plan::write_plan;
 use crib_problem::Problem;
 use crib_run::{Answer, Status, section_answer};
-use crib_search::{SearchFault, Tried, try_plan};
+use crib_search::{Advice, SearchFault, Tried, try_plan};
 use crib_text::MAX_INPUT;
 use std::alloc::Allocator;
 
@@ -23,16 +23,20 @@ pub(crate) fn plan_to_try<A: Allocator + Copy>(alloc: A, input: &[u8]) -> Result
     ensures { IsOutcome reply_of (SheetMakes SheetJob.Try input.now) result }
 {
     let problem = problem_of(input)?;
-    let tried = tried_of(alloc, &problem)?;
+    let tried = tried_of(alloc, &problem, &mut None)?;
     plan_answer(alloc, &tried)
 }
 
 /// Returns a plan to try for a problem, or the reason why there is none: a plan with more than 65,535 nodes, or an
-/// allocation that failed.
-pub(crate) fn tried_of<A: Allocator + Copy>(alloc: A, problem: &Problem) -> Result<Tried<A>, Reason>
+/// allocation that failed. What has been advised for the problem before is looked up.
+pub(crate) fn tried_of<A: Allocator + Copy>(
+    alloc: A,
+    problem: &Problem,
+    advice: &mut Option<Advice<A>>,
+) -> Result<Tried<A>, Reason>
     ensures { MatchResult result (λ tried. IsTried problem.now tried.plan tried.is_sure) (IsUntried problem.now) }
 {
-    match try_plan(alloc, problem) {
+    match try_plan(alloc, problem, problem, None, advice) {
         Ok(tried) => Ok(tried),
         Err(SearchFault::TooLarge) => Err(Reason::Fault(FaultCause::TooLarge)),
         Err(SearchFault::NoMemory) => Err(Reason::Fault(FaultCause::NoMemory)),

@@ -16,12 +16,12 @@ returns-in-Plan g c = record {
   too_large = λ e. not_fault e;
 }
 
-pub returns-in_ok-greedy_plan-in-None : goal.returns-in_ok-greedy_plan-in-None
-returns-in_ok-greedy_plan-in-None g c = record {
+pub returns-in_ok-advised_plan-in-None : goal.returns-in_ok-advised_plan-in-None
+returns-in_ok-advised_plan-in-None g c = record {
   sure = λ e. not_both (sym e);
   found = λ e. not_both (sym e);
   unsure = λ e. c.in_ok-plan.ensures.none (ap plan_found c.in-None.is);
-  stated = c.in_ok-greedy_plan-in-None.ensures.stated;
+  stated = c.in_ok-advised_plan-in-None.ensures.stated;
   large = c.in_ok-plan.ensures.large;
   too_large = λ e. not_fault e;
 }

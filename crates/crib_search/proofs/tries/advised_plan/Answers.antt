@@ -1,5 +1,5 @@
 use Rattle.crib_search.proofs.FoundIsPlan.{tree_plan}
-use Rattle.crib_search.proofs.tries.greedy_plan.Goals as goal
+use Rattle.crib_search.proofs.tries.advised_plan.Goals as goal
 
 pub plan_from-requires-clause-named : goal.plan_from-requires-clause-named
 plan_from-requires-clause-named g c = (c.in-Ok.ensures.tree, c.in-Ok.ensures.names, tree_plan c.in-Ok.ensures.tree c.in-Ok.ensures.whole)

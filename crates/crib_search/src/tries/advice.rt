@@ -1,0 +1,159 @@
+//! What a search advises the owner to play.
+ghost use Rattle.std.specs.Prelude.{◌+◌, ◌≤◌, ◌<◌, ℕ, length, IsTrue};
+ghost use Rattle.crib_cards.specs.Cards.{card_value};
+ghost use Rattle.crib_cards.specs.Sets.{has};
+ghost use Rattle.crib_play.specs.Record.{count_of};
+ghost use Rattle.crib_search.specs.Private.Search.{IsHere, IsTurnOf};
+
+use crate::own_options::options;
+use crate::tries::choosing::choose;
+use crate::tries::places::{Branch, Places};
+use crate::tries::spot::Spot;
+use crate::tries::survey::{Survey, card_at};
+use crib_cards::{Card, Rank};
+use crib_know::Know;
+use crib_play::Turn;
+use crib_problem::Problem;
+use std::alloc::{AllocError, Allocator, Global};
+
+/// What a search advises the owner of a problem to play.
+#[derive(Drop)]
+pub struct Advice<A: Allocator = Global> {
+    survey: Survey<A>,
+    // The starts that have been searched.
+    starts: Vec<Start, A>,
+}
+
+/// The places behind the first card of the owner, or behind the opening.
+#[derive(Clone, Copy)]
+struct Start {
+    // The rank of the card.
+    rank: Option<Rank>,
+    // The index of the first place.
+    next: usize,
+    // The index past the last one.
+    end: usize,
+    // How many deals beat the cards that are chosen there.
+    beaten: u64,
+}
+
+impl<A: Allocator + Copy> Advice<A> {
+    /// Begins to search a problem. It fails if an allocation fails.
+    pub(crate) fn of(alloc: A, problem: &Problem) -> Result<Self, AllocError> {
+        Ok(Advice {
+            survey: Survey::of(alloc, problem)?,
+            starts: Vec::new(alloc),
+        })
+    }
+
+    /// The places at which the owner has a choice.
+    pub(crate) fn places(&self) -> &Places<A> {
+        &self.survey.places
+    }
+
+    /// The spot after the opening of a problem. If a last card is given, the problem is the one that is searched with
+    /// one turn more, in which the owner plays it. It fails if an allocation fails.
+    pub(crate) fn spot(
+        &mut self,
+        alloc: A,
+        problem: &Problem,
+        last: Option<Card>,
+    ) -> Result<Spot, AllocError> {
+        let know = Know::start(problem);
+        let Some(card) = last else {
+            return self.first_spot(alloc, problem, &know);
+        };
+        let start = self.start_at(alloc, problem, &know, Some(card.rank()))?;
+        Ok(Spot::at(start.next, start.end))
+    }
+
+    // The spot after the opening. If the owner leads, it is that of a place of its own.
+    fn first_spot(&mut self, alloc: A, problem: &Problem, know: &Know) -> Result<Spot, AllocError>
+        requires here { IsHere problem.now know.now }
+    {
+        if let Turn::Owner = know.turn() {
+            let (cards, len) = options(problem, know);
+            if len > 1 {
+                return self.first_place(alloc, problem, know, &cards[..len]);
+            }
+        }
+        let start = self.start_at(alloc, problem, know, None)?;
+        Ok(Spot::at(start.next, start.end))
+    }
+
+    // Adds a place for these cards, which are looked at one by one.
+    fn first_place(
+        &mut self,
+        alloc: A,
+        problem: &Problem,
+        know: &Know,
+        cards: &[Card],
+    ) -> Result<Spot, AllocError>
+        requires turn { IsTurnOf problem.now know.now Turn.Owner }
+        requires playable { (card : ℕ) → IsTrue (has cards.now card)
+            → IsTrue (has know.now.own_left card) × (count_of know.now.round.pile + card_value card ≤ 31) }
+    {
+        let index = self.survey.places.open(0, cards.len())?;
+        let mut least = u64::MAX;
+        for at in 0..cards.len() {
+            let card = card_at(cards, at);
+            let start = self.start_after(alloc, problem, know, card)?;
+            self.survey.places.put_branch(
+                index,
+                at,
+                Branch::after(card.rank(), start.next, start.end),
+            );
+            if start.beaten < least {
+                least = start.beaten;
+                self.survey.places.choose(index, at);
+            }
+        }
+        Ok(Spot::at(index, index.saturating_add(1)))
+    }
+
+    // What is behind a card of the owner.
+    fn start_after(
+        &mut self,
+        alloc: A,
+        problem: &Problem,
+        know: &Know,
+        card: Card,
+    ) -> Result<Start, AllocError>
+        requires turn { IsTurnOf problem.now know.now Turn.Owner }
+        requires held { IsTrue (has know.now.own_left card) }
+        requires fits { count_of know.now.round.pile + card_value card ≤ 31 }
+    {
+        let mut after = know.copy();
+        after.own_play(card);
+        self.start_at(alloc, problem, &after, Some(card.rank()))
+    }
+
+    // What is behind a card of a rank that has been played, or behind the opening.
+    fn start_at(
+        &mut self,
+        alloc: A,
+        problem: &Problem,
+        know: &Know,
+        rank: Option<Rank>,
+    ) -> Result<Start, AllocError>
+        requires here { IsHere problem.now know.now }
+    {
+        for index in 0..self.starts.len() {
+            if let Some(start) = self.starts.get(index) {
+                if start.rank == rank {
+                    return Ok(*start);
+                }
+            }
+        }
+        let next = self.survey.places.len();
+        let forced = self.survey.look(alloc, problem, know)?;
+        let start = Start {
+            rank,
+            next,
+            end: self.survey.places.len(),
+            beaten: choose(alloc, &mut self.survey, next, forced)?,
+        };
+        self.starts.push(start)?;
+        Ok(start)
+    }
+}

@@ -1,5 +1,5 @@
 -- The open deals: those whose hold the opponent may have, with a throw of two of the cards that it leaves.
-use Rattle.std.proofs.Common.{◌≡◌, ◌↔◌, ℕ, true, false, not, ◌&&◌, List, [], ◌∷◌, length, refl, sym, ap, ◌∙◌, arith}
+use Rattle.std.proofs.Common.{◌≡◌, ◌↔◌, ℕ, Bool, true, false, not, ◌&&◌, List, [], ◌∷◌, length, refl, sym, ap, ◌∙◌, arith}
 use Rattle.std.specs.List.{list_all}
 use Rattle.std.proofs.lemmas.Bool.{and_from, or_right}
 use Rattle.std.proofs.lemmas.Bool.Decides.{nat_tests}
@@ -24,9 +24,15 @@ use Rattle.crib_know.proofs.FixedCards.{fixed_are_cards}
 use Rattle.crib_know.proofs.PassingIsAgreeing.{passing_agrees}
 use Rattle.crib_know.proofs.RecordTurns.{possible_led}
 use Rattle.crib_sure.proofs.PointsOfDeals.{hidden}
-use Rattle.crib_deals.specs.Private.Holds.{is_empty, may_hold}
+use Rattle.crib_deals.specs.Private.Holds.{is_empty}
 use Rattle.crib_deals.specs.Private.Sums.{IsHeld}
 use Rattle.crib_deals.proofs.ThrowLists.{IsThrowOf}
+
+-- whether the opponent may hold these cards, as far as cards are known: they are unseen, in pack order, and no fixed
+-- card is left without them
+abbrev pub may_hold : List ℕ → List ℕ → List ℕ → Bool
+may_hold unseen fixed hold =
+    (are_rising hold && list_all (has unseen) hold) && is_empty (set_without_all fixed hold)
 
 rising_distinct : (cards : List ℕ) → are_rising cards ≡ true → AreCards cards → are_distinct cards ≡ true
 rising_distinct cards rising are = rw (set_of-rising cards rising (all_cards cards are)) at (are_distinct-set_where (has cards))

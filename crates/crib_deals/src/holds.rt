@@ -1,12 +1,11 @@
 //! The holds that the opponent may have.
-ghost use Rattle.std.specs.Prelude.{◌≡◌, ◌≤◌, length, IsTrue};
-ghost use Rattle.std.specs.List.{AllByRecursion, list_all};
+ghost use Rattle.std.specs.Prelude.{◌≡◌, ◌<◌, ◌≤◌, ℕ, None, get_or, length, IsTrue};
+ghost use Rattle.std.specs.List.{AllByRecursion};
 ghost use Rattle.crib_cards.specs.Cards.{IsRank};
-ghost use Rattle.crib_cards.specs.Order.{are_rising};
-ghost use Rattle.crib_cards.specs.Sets.{has, rank_counts};
+ghost use Rattle.crib_cards.specs.Sets.{rank_counts, set_without_all};
 ghost use Rattle.crib_problem.specs.Setup.{Setup};
 ghost use Rattle.crib_know.specs.Hidden.{passes_counts};
-ghost use Rattle.crib_deals.specs.Private.Holds.{AreListed, hold_at, is_empty, may_hold};
+ghost use Rattle.crib_deals.specs.Private.Holds.{AreListed, is_empty, join, pair_at, pair_of};
 ghost use Rattle.crib_deals.specs.Deals.{behind_by};
 ghost use Rattle.crib_deals.specs.Throws.{AreOfProblem};
 
@@ -26,55 +25,75 @@ pub(crate) fn list_holds(cribs: &Cribs, know: &Know, ranks: &[Rank; 4]) -> Holds
         → AreListed (behind_by problem ranks.now) result.items }
     ensures few { length result.items ≤ 256 }
 {
+    let fronts = pairs_at(cribs.unseen, ranks, 0);
+    let backs = pairs_at(cribs.unseen, ranks, 2);
     let fixed = know.fixed();
     let mut holds = Holds::new();
-    for suits in 0..256usize {
-        let hold = hold_at(ranks, suits);
-        if may_hold(cribs.unseen, fixed, &hold) {
-            holds.push(hold);
+    for front in &fronts {
+        let Some(front) = *front else {
+            continue;
+        };
+        for back in &backs {
+            if let Some(hold) = join(front, *back) {
+                if has_all(&hold, fixed) {
+                    holds.push(hold);
+                }
+            }
         }
     }
     holds
 }
 
-// The four cards with these ranks whose suits have a number.
-#[inline(always)]
-fn hold_at(ranks: &[Rank; 4], suits: usize) -> [Card; 4]
-    ensures { result ≡ hold_at ranks.now suits }
+// The pairs of cards at an index of a hold and the next, by the number of their suits.
+fn pairs_at(unseen: CardSet, ranks: &[Rank; 4], at: usize) -> [Option<[Card; 2]>; 16]
+    requires { at < 3 }
+    ensures { (suits : ℕ) → suits < 16 → get_or result suits None ≡ pair_at unseen ranks.now at suits }
 {
-    let [first, second, third, fourth] = *ranks;
-    [
-        Card::of(first, suit_at(suits / 64)),
-        Card::of(second, suit_at(suits / 16)),
-        Card::of(third, suit_at(suits / 4)),
-        Card::of(fourth, suit_at(suits)),
-    ]
+    let (first, second) = (ranks[at], ranks[at + 1]);
+    let mut pairs = [None; 16];
+    for suits in 0..16usize {
+        let one = Card::of(first, suit_at(suits / 4));
+        let other = Card::of(second, suit_at(suits));
+        pairs[suits] = pair_of(unseen, one, other);
+    }
+    pairs
 }
 
-// Whether the opponent may hold these cards, as far as cards are known.
+// Two cards, if they are unseen and in pack order.
 #[inline(always)]
-fn may_hold(unseen: CardSet, fixed: CardSet, hold: &[Card; 4]) -> bool
-    ensures { result ≡ may_hold unseen fixed hold.now }
+fn pair_of(unseen: CardSet, first: Card, second: Card) -> Option<[Card; 2]>
+    ensures { result ≡ pair_of unseen first second }
 {
-    are_rising(hold) && are_unseen(unseen, hold) && is_empty(fixed.without_all(hold))
+    if first.number() < second.number() && unseen.has(first) && unseen.has(second) {
+        Some([first, second])
+    } else {
+        None
+    }
 }
 
+// The hold of two pairs, if there are both, in pack order.
 #[inline(always)]
-fn are_rising(hold: &[Card; 4]) -> bool
-    ensures { result ≡ are_rising hold.now }
+fn join(front: [Card; 2], back: Option<[Card; 2]>) -> Option<[Card; 4]>
+    ensures { result ≡ join (Some front) back }
 {
-    let [first, second, third, fourth] = *hold;
-    first.number() < second.number()
-        && second.number() < third.number()
-        && third.number() < fourth.number()
+    let Some(back) = back else {
+        return None;
+    };
+    let [first, second] = front;
+    let [third, fourth] = back;
+    if second.number() < third.number() {
+        Some([first, second, third, fourth])
+    } else {
+        None
+    }
 }
 
+// Whether a hold has all of these cards.
 #[inline(always)]
-fn are_unseen(unseen: CardSet, hold: &[Card; 4]) -> bool
-    ensures { result ≡ list_all (has unseen) hold.now }
+fn has_all(hold: &[Card; 4], cards: CardSet) -> bool
+    ensures { result ≡ is_empty (set_without_all cards hold.now) }
 {
-    let [first, second, third, fourth] = *hold;
-    unseen.has(first) && unseen.has(second) && unseen.has(third) && unseen.has(fourth)
+    is_empty(cards) || is_empty(cards.without_all(hold))
 }
 
 #[tactic(auto, unfolding(crate::specs::Private::Holds::is_empty))]

@@ -1,10 +1,9 @@
 -- The holds that the opponent may have.
-use Rattle.std.specs.Prelude.{ℕ, ◌/◌, ◌%◌, Bool, ◌&&◌, not, List, [], ◌∷◌, slice_index, sum_by, IsTrue}
-use Rattle.std.specs.List.{list_all}
+use Rattle.std.specs.Prelude.{ℕ, ◌+◌, ◌/◌, ◌%◌, nat_lt, Bool, ◌&&◌, not, cond, Option, Some, None, IsTrue}
+use Rattle.std.specs.Prelude.{List, [], ◌∷◌, ◌++◌, slice_index, sum_by}
 use Rattle.std.specs.Option.{is_some}
 use Rattle.crib_cards.specs.Cards.{card_of}
 use Rattle.crib_cards.specs.Sets.{has, first_of_list, set_without_all}
-use Rattle.crib_cards.specs.Order.{are_rising}
 use Rattle.crib_problem.specs.Setup.{unseen_of}
 use Rattle.crib_deals.specs.Deals.{Behind, IsBehind}
 use Rattle.crib_deals.specs.Exact.{AreExactly}
@@ -15,17 +14,21 @@ use Rattle.crib_deals.specs.Private.Sums.{AreHeld}
 unfoldable pub is_empty : List ℕ → Bool
 is_empty cards = not (is_some (first_of_list cards))
 
--- whether the opponent may hold these cards, as far as cards are known: they are unseen, in pack order, and no fixed
--- card is left without them
-abbrev pub may_hold : List ℕ → List ℕ → List ℕ → Bool
-may_hold unseen fixed hold =
-    (are_rising hold && list_all (has unseen) hold) && is_empty (set_without_all fixed hold)
+-- two cards, if they are unseen and in pack order
+abbrev pub pair_of : List ℕ → ℕ → ℕ → Option (List ℕ)
+pair_of unseen first second =
+    cond (nat_lt first second && (has unseen first && has unseen second)) (Some (first ∷ second ∷ [])) None
 
--- the four cards with these ranks whose suits have a number: its digits in base 4
-abbrev pub hold_at : List ℕ → ℕ → List ℕ
-hold_at ranks number =
-    card_of (slice_index ranks 0) (number / 64 % 4) ∷ card_of (slice_index ranks 1) (number / 16 % 4)
-    ∷ card_of (slice_index ranks 2) (number / 4 % 4) ∷ card_of (slice_index ranks 3) (number % 4) ∷ []
+-- the two cards at an index of a hold and the next whose suits have a number, if they are unseen and in pack order
+abbrev pub pair_at : List ℕ → List ℕ → ℕ → ℕ → Option (List ℕ)
+pair_at unseen ranks at number =
+    pair_of unseen (card_of (slice_index ranks at) (number / 4 % 4)) (card_of (slice_index ranks (at + 1)) (number % 4))
+
+-- the hold of two pairs, if there are both, in pack order
+abbrev pub join : Option (List ℕ) → Option (List ℕ) → Option (List ℕ)
+join (Some front) (Some back) =
+    cond (nat_lt (slice_index front 1) (slice_index back 0)) (Some (front ++ back)) None
+join front back = None
 
 -- how many throws that some holds leave pass a test, beside their hold
 abbrev pub left_by : List ℕ → (List ℕ → List ℕ → Bool) → List (List ℕ) → ℕ

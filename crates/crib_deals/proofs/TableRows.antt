@@ -14,11 +14,11 @@ use Rattle.crib_problem.proofs.StartLemmas.{each_has}
 use Rattle.crib_know.proofs.CardLists.{count_none_of}
 use Rattle.crib_know.specs.Hidden.{IsOpen}
 use Rattle.crib_know.specs.Knowledge.{Knowledge}
-use Rattle.crib_show.specs.Demands.{is_met}
+use Rattle.crib_show.specs.Demands.{IsMetByAll, is_met}
 use Rattle.crib_show.specs.Show.{crib_points, hand_points, plain_of_ranks}
 use Rattle.crib_show.specs.declared.demands.Demand.{Demand}
 use Rattle.crib_show.proofs.PossibleHands.{possible_crib_law}
-use Rattle.crib_sure.proofs.PointsOfDeals.{hidden}
+use Rattle.crib_sure.proofs.PointsOfDeals.{few_crib, few_hand, hidden}
 use Rattle.crib_sure.specs.Shows.{meets}
 use Rattle.crib_deals.specs.declared.throws.Cribs.{Cribs}
 use Rattle.crib_deals.specs.Deals.{Behind, IsBehind, IsMissing}
@@ -137,6 +137,9 @@ module _ {behind : Behind} (setup : IsSetup behind.problem) where
   pub all_missing : (demand : Demand) {count : ℕ} → ((hand crib : ℕ) → is_met demand hand crib ≡ false) → AreExactly (IsBehind behind) count →
       AreExactly (IsMissing behind demand) count
   all_missing demand none = exactly_same (λ dealt order has. (has, none _ _)) (λ dealt order has. has.0)
+
+  pub none_missing_of_all : (demand : Demand) → IsMetByAll demand → (dealt : Dealt) → IsMissing behind demand dealt → ⊥
+  none_missing_of_all demand all dealt has = both_ways _ has.1 (all _ _ (few_hand setup has.0.0.0) (few_crib setup has.0.0.0))
 
   pub none_missing : (demand : Demand) (hand : ℕ) → plain_of_ranks (rank_of behind.problem.starter ∷ behind.ranks) + 6 ≡ hand →
       ((points crib : ℕ) → points ≤ hand → crib ≤ 29 → is_met demand points crib ≡ true) → (dealt : Dealt) → IsMissing behind demand dealt → ⊥

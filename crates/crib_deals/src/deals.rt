@@ -1,5 +1,6 @@
 //! The open deals of a problem.
 ghost use Rattle.std.specs.Prelude.{◌≡◌, ◌≤◌, ℕ, length, IsTrue};
+ghost use Rattle.crib_cards.specs.declared.sides.Dealt.{Dealt};
 ghost use Rattle.crib_show.specs.Demands.{is_met};
 ghost use Rattle.crib_deals.specs.Exact.{AreExactly};
 ghost use Rattle.crib_deals.specs.Deals.{IsBehind, IsMissing, behind_by};
@@ -61,16 +62,15 @@ impl<'a> Deals<'a> {
     {
         let holds = self.holds(ranks);
         let open_deals = THROWS * holds.len() as u32;
-        let most = plain_points(ranks, self.problem.starter()) + MOST_SUITS;
-        if is_met_below(demand, most) {
-            Counted {
-                open_deals,
-                missing: 0,
-            }
-        } else if demand.is_impossible() {
+        if demand.is_impossible() {
             Counted {
                 open_deals,
                 missing: open_deals,
+            }
+        } else if self.all_meet(ranks, demand) {
+            Counted {
+                open_deals,
+                missing: 0,
             }
         } else {
             Table::of(self.problem, &self.cribs, ranks, holds.as_slice()).count(demand)
@@ -87,6 +87,18 @@ impl<'a> Deals<'a> {
             ranks,
             self.holds(ranks).as_slice(),
         )
+    }
+
+    // Whether even the most points that a hand with these ranks may have let each open deal meet a demand.
+    fn all_meet(&self, ranks: &[Rank; 4], demand: Demand) -> bool
+        ensures { IsTrue result → (dealt : Dealt) → IsMissing (behind_by self.now ranks.now) demand dealt → ⊥ }
+    {
+        demand.is_met_by_all()
+            || is_met_below(demand, MOST_SUITS)
+                && is_met_below(
+                    demand,
+                    plain_points(ranks, self.problem.starter()) + MOST_SUITS,
+                )
     }
 
     // The holds with these ranks that some open deal has.

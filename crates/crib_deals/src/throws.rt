@@ -1,5 +1,6 @@
 //! The throws that the opponent may have made, and the points of the crib with each.
-ghost use Rattle.std.specs.Prelude.{◌≡◌, ℕ, ◌<◌, ◌+◌, ◌%◌, ◌*◌, ◌≤◌, ◌∷◌, [], cond, length, get_or, slice_index};
+ghost use Rattle.std.specs.Prelude.{◌≡◌, ℕ, ◌+◌, ◌*◌, ◌%◌, ◌<◌, ◌≤◌, nat_lt, cond};
+ghost use Rattle.std.specs.Prelude.{◌∷◌, [], length, get_or, slice_index};
 ghost use Rattle.crib_cards.specs.Cards.{IsCard, suit_number};
 ghost use Rattle.crib_deals.specs.Throws.{AreCribs, AreFew, AreThrowsCounted, is_below, partners, passing_throws};
 
@@ -59,67 +60,80 @@ impl Cribs {
 
 // For each limit, how many throws of two of these cards make a crib with fewer points.
 fn throws_below(points: &[u8; 2704], cards: &[Card]) -> [u16; LIMITS]
-    requires { length cards.now ≤ 52 }
-    ensures { (limit : ℕ) → limit ≤ 30
-        → get_or result limit 0 ≡ passing_throws (is_below points.now limit) cards.now }
-{
-    let mut counts = [0; LIMITS];
-    for limit in 0..LIMITS {
-        counts[limit] = count_throws(points, cards, limit as u8) as u16;
-    }
-    counts
-}
-
-// For each card and each limit, with how many of these cards it makes a crib with fewer points.
-fn partners_below(points: &[u8; 2704], cards: &[Card]) -> [u8; 52 * LIMITS]
-    requires { length cards.now ≤ 52 }
-    ensures { (card limit : ℕ) → IsCard card → limit ≤ 30
-        → get_or result (31 * card + limit) 0 ≡ partners (is_below points.now limit) card cards.now }
-{
-    let mut counts = [0; 52 * LIMITS];
-    for index in 0..52 * LIMITS {
-        let limit = (index % LIMITS) as u8;
-        counts[index] = count_partners(points, card_at(index / LIMITS), cards, limit) as u8;
-    }
-    counts
-}
-
-// How many throws of two of these cards make a crib below a limit.
-fn count_throws(points: &[u8; 2704], cards: &[Card], limit: u8) -> u32
-    requires { length cards.now ≤ 52 }
-    ensures value { result ≡ passing_throws (is_below points.now limit) cards.now }
-    ensures few { result ≤ 52 * length cards.now }
+    requires points { AreFew points.now }
+    requires cards { length cards.now ≤ 52 }
+    ensures value { (limit : ℕ) → limit ≤ 30
+        → slice_index result limit ≡ passing_throws (is_below points.now limit) cards.now }
+    ensures few { (limit : ℕ) → limit ≤ 30 → slice_index result limit ≤ 52 * length cards.now }
 {
     match cards {
-        [] => 0,
+        [] => [0; LIMITS],
         [first, others @ ..] => {
-            count_partners(points, *first, others, limit) + count_throws(points, others, limit)
+            let mut below = throws_below(points, others);
+            add_partners(&mut below, points, *first, others);
+            below
         }
     }
 }
 
-// With how many of these cards a card makes a crib below a limit.
-fn count_partners(points: &[u8; 2704], card: Card, cards: &[Card], limit: u8) -> u32
-    requires { length cards.now ≤ 52 }
-    ensures value { result ≡ partners (is_below points.now limit) card cards.now }
-    ensures few { result ≤ length cards.now }
+// For each card and each limit, with how many of these cards it makes a crib with fewer points.
+fn partners_below(points: &[u8; 2704], cards: &[Card]) -> [u8; 52 * LIMITS]
+    requires points { AreFew points.now }
+    requires cards { length cards.now ≤ 52 }
+    ensures { (card limit : ℕ) → IsCard card → limit ≤ 30
+        → get_or result (31 * card + limit) 0 ≡ partners (is_below points.now limit) card cards.now }
 {
-    let mut count = 0;
-    for other in cards {
-        count += count_pair(points, card, *other, limit);
+    let mut counts = [0; 52 * LIMITS];
+    for card in 0..52usize {
+        let mut below = [0; LIMITS];
+        add_partners(&mut below, points, card_at(card), cards);
+        for limit in 0..LIMITS {
+            counts[LIMITS * card + limit] = below[limit] as u8;
+        }
     }
-    count
+    counts
 }
 
-// One if two cards are different and make a crib below a limit, otherwise none.
-#[inline(always)]
-fn count_pair(points: &[u8; 2704], first: Card, second: Card, limit: u8) -> u32
-    ensures value { result ≡ cond (is_below points.now limit (first ∷ second ∷ [])) 1 0 }
-    ensures few { result ≤ 1 }
+// Adds for each limit with how many of these cards a card makes a crib with fewer points.
+fn add_partners(below: &mut [u16; LIMITS], points: &[u8; 2704], card: Card, cards: &[Card])
+    requires points { AreFew points.now }
+    requires cards { length cards.now ≤ 52 }
+    requires few { (limit : ℕ) → limit ≤ 30 → slice_index below.old limit ≤ 60000 }
+    ensures value { (limit : ℕ) → limit ≤ 30 → slice_index below.new limit
+        ≡ slice_index below.old limit + partners (is_below points.now limit) card cards.now }
+    ensures few { (limit : ℕ) → limit ≤ 30
+        → slice_index below.new limit ≤ slice_index below.old limit + length cards.now }
+{
+    for other in cards {
+        add_pair(below, points, card, *other);
+    }
+}
+
+// Adds one at each limit below which the crib with two cards is, if they are different.
+fn add_pair(below: &mut [u16; LIMITS], points: &[u8; 2704], first: Card, second: Card)
+    requires points { AreFew points.now }
+    requires few { (limit : ℕ) → limit ≤ 30 → slice_index below.old limit ≤ 61000 }
+    ensures value { (limit : ℕ) → limit ≤ 30 → slice_index below.new limit
+        ≡ slice_index below.old limit + cond (is_below points.now limit (first ∷ second ∷ [])) 1 0 }
+    ensures few { (limit : ℕ) → limit ≤ 30 → slice_index below.new limit ≤ slice_index below.old limit + 1 }
 {
     let (first, second) = (first.number(), second.number());
-    let index = 52 * first.min(second) as usize + first.max(second) as usize;
-    (first != second && points[index] < limit) as u32
+    if first != second {
+        let index = 52 * first.min(second) as usize + first.max(second) as usize;
+        add_above(below, points[index]);
+    }
+}
+
+// Adds one at each limit above a number of points.
+fn add_above(below: &mut [u16; LIMITS], points: u8)
+    requires points { points ≤ 29 }
+    requires few { (limit : ℕ) → limit ≤ 30 → slice_index below.old limit ≤ 61000 }
+    ensures { (limit : ℕ) → limit ≤ 30
+        → slice_index below.new limit ≡ slice_index below.old limit + cond (nat_lt points limit) 1 0 }
+{
+    for limit in points as usize + 1..LIMITS {
+        below[limit] += 1;
+    }
 }
 
 // The points of the crib for each two cards that the opponent may have thrown.

@@ -5,4 +5,4 @@ use Rattle.crib_deals.proofs.throws.Cribs.new.Goals as goal
 pub returns-clause-counted : goal.returns-clause-counted
 returns-clause-counted c =
     let all = c.lowest_of-cards.ensures ∙ take_all 45 c.args.unseen (omega (arith, c.requires)) in
-    record { few = c.cribs_of-points.ensures.few; below = rw all at c.throws_below.ensures; partners = rw all at c.partners_below.ensures }
+    record { few = c.cribs_of-points.ensures.few; below = rw all at c.throws_below.ensures.value; partners = rw all at c.partners_below.ensures }

@@ -1,10 +1,11 @@
 -- The deals with a hold and a throw of two of some cards: how many of them pass a test.
 use Rattle.std.proofs.Common.{◌≡◌, ◌⊎◌, ℕ, ◌+◌, ◌-◌, ◌*◌, ◌<◌, ◌≤◌, Bool, true, false, cond, count_by, List, [], ◌∷◌, length, get_or, take, drop}
-use Rattle.std.proofs.Common.{slice_index, refl, sym, ap, ◌∙◌, inl, inr, arith}
+use Rattle.std.proofs.Common.{◌++◌, map, slice_index, refl, sym, ap, ◌∙◌, inl, inr, arith}
 use Rattle.std.proofs.lemmas.List.{take_all}
 use Rattle.std.proofs.lemmas.List.Sums.{sum_by-cons}
 use Rattle.std.proofs.lemmas.Bool.Decides.{nat_tests}
 use Rattle.std.proofs.lemmas.Bool.{and_from, both_ways, lt-ltb}
+use Rattle.crib_cards.specs.Cards.{rank_of}
 use Rattle.crib_cards.specs.Sets.{has}
 use Rattle.crib_cards.specs.Order.{are_rising}
 use Rattle.crib_cards.specs.declared.sides.Dealt.{Dealt}
@@ -82,3 +83,9 @@ every_throw cards long = let count : 2 * passing_throws (λ throw. true) cards +
 pub first_and_rest : (cards : List ℕ) (first : ℕ) → 1 ≤ length cards → first ≡ get_or cards 0 first → cards ≡ first ∷ take (length cards - 1) (drop 1 cards)
 first_and_rest [] first some at = absurd (omega (arith, some))
 first_and_rest (card ∷ cards) first some at = λ i. sym at i ∷ sym (take_all (length (card ∷ cards) - 1) cards (omega arith)) i
+
+-- the ranks of two cards before some others
+pub ranks_of_two : (cards : List ℕ) → length cards ≡ 2 → (first second : ℕ) (more : List ℕ) →
+    rank_of (get_or cards 0 first) ∷ rank_of (get_or cards 1 second) ∷ more ≡ map rank_of cards ++ more
+ranks_of_two (a ∷ b ∷ []) two first second more = refl
+ranks_of_two cards two first second more = absurd (omega (arith, two))

@@ -17,7 +17,7 @@ pub fn ranks_at(number: u16) -> [Rank; 4]
     ]
 }
 
-fn rank_of(digit: u16) -> Rank
+pub(crate) fn rank_of(digit: u16) -> Rank
     requires { digit < 13 }
     ensures { result ≡ digit + 1 }
 {

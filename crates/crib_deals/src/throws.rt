@@ -1,12 +1,15 @@
 //! The throws that the opponent may have made, and the points of the crib with each.
-ghost use Rattle.std.specs.Prelude.{◌≡◌, ℕ, ◌+◌, ◌*◌, ◌%◌, ◌<◌, ◌≤◌, nat_lt, cond};
-ghost use Rattle.std.specs.Prelude.{◌∷◌, [], length, get_or, slice_index};
-ghost use Rattle.crib_cards.specs.Cards.{IsCard, suit_number};
+ghost use Rattle.std.specs.Prelude.{◌≡◌, ℕ, ◌+◌, ◌*◌, ◌/◌, ◌%◌, ◌<◌, ◌≤◌, min, nat_lt, cond};
+ghost use Rattle.std.specs.Prelude.{◌∷◌, [], ◌++◌, length, map, get_or, slice_index};
+ghost use Rattle.crib_cards.specs.Cards.{IsCard, rank_of, suit_number};
+ghost use Rattle.crib_show.specs.Show.{crib_flush, crib_points, plain_of_ranks, plain_points};
 ghost use Rattle.crib_deals.specs.Throws.{AreCribs, AreFew, AreThrowsCounted, is_below, partners, passing_throws};
 
+use crate::choices::rank_of;
+use crate::points::plain_points;
 use crib_cards::{Card, CardSet, Rank, Suit};
 use crib_know::lowest_of;
-use crib_show::crib_points;
+use crib_show::{hand_flush, jack_points};
 
 /// How many throws each hold leaves: two of the 41 cards that are neither known nor held.
 pub(crate) const THROWS: u32 = 820;
@@ -142,12 +145,56 @@ fn cribs_of(thrown: &[Card; 2], starter: Card) -> [u8; 2704]
     ensures few { AreFew result }
 {
     let [one, other] = *thrown;
+    let plain = plain_of_cribs(thrown, starter);
     let mut points = [0; 2704];
     for index in 0..2704usize {
-        let throw = [one, other, card_at(index / 52), card_at(index % 52)];
-        points[index] = crib_points(&throw, starter).min(MOST_POINTS);
+        let crib = [one, other, card_at(index / 52), card_at(index % 52)];
+        points[index] = crib_of(plain[13 * (index / 208) + index % 52 / 4], &crib, starter);
     }
     points
+}
+
+// The points of the ranks of a crib, for each two ranks that the opponent may have thrown.
+fn plain_of_cribs(thrown: &[Card; 2], starter: Card) -> [u8; 169]
+    ensures value { (index : ℕ) → index < 169 → slice_index result index
+        ≡ plain_of_ranks (rank_of starter ∷ map rank_of thrown.now ++ (index / 13 + 1) ∷ (index % 13 + 1) ∷ []) }
+    ensures few { (index : ℕ) → index < 169 → slice_index result index ≤ 96 }
+{
+    let [one, other] = *thrown;
+    let mut plain = [0; 169];
+    for index in 0..169u16 {
+        let ranks = [
+            one.rank(),
+            other.rank(),
+            rank_of(index / 13),
+            rank_of(index % 13),
+        ];
+        plain[index as usize] = plain_points(&ranks, starter);
+    }
+    plain
+}
+
+// The points of a crib, by those of its ranks.
+#[tactic(auto, unfolding(crib_show::specs::Show::crib_points))]
+fn crib_of(plain: u8, cards: &[Card; 4], starter: Card) -> u8
+    requires plain { plain ≡ plain_points (starter ∷ cards.now) }
+    requires few { plain ≤ 96 }
+    ensures value { result ≡ min (crib_points cards.now starter) 29 }
+    ensures few { result ≤ 29 }
+{
+    (plain + crib_flush(cards, starter) + jack_points(cards, starter)).min(MOST_POINTS)
+}
+
+// The points of the flush of a crib: of all five cards.
+fn crib_flush(cards: &[Card; 4], starter: Card) -> u8
+    ensures value { result ≡ crib_flush cards.now starter }
+    ensures few { result ≤ 5 }
+{
+    if hand_flush(cards, starter) == 5 {
+        5
+    } else {
+        0
+    }
 }
 
 /// The card with a number.

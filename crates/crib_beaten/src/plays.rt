@@ -1,13 +1,14 @@
 //! What the plays that follow a plan demand of a deal.
-ghost use Rattle.std.specs.Prelude.{◌≡◌, ◌≤◌, ◌<◌, ℕ, List, filter, length, take, IsTrue};
+ghost use Rattle.std.specs.Prelude.{◌≡◌, ◌≤◌, ◌<◌, ℕ, List, filter, length, nat_lt, take, IsTrue};
 ghost use Rattle.std.specs.List.{All};
-ghost use Rattle.crib_cards.specs.Sets.{has};
+ghost use Rattle.crib_cards.specs.Sets.{count_at, has};
 ghost use Rattle.crib_problem.specs.Setup.{Setup};
 ghost use Rattle.crib_plan.specs.declared.plan.Node.{Node};
+ghost use Rattle.crib_know.specs.Hidden.{passes_counts};
 ghost use Rattle.crib_beaten.specs.Beaten.{ArePlays, Decides, counts_of, demand_of, may_show};
 ghost use Rattle.crib_beaten.specs.Private.Demands.{AreJoined, AreJoinedFrom, IsDemandAfter, MayWalk};
 
-use crib_cards::{Letter, RankCounts};
+use crib_cards::{Letter, Rank, RankCounts};
 use crib_know::Know;
 use crib_plan::Plan;
 use crib_play::Turn;
@@ -168,9 +169,58 @@ fn keep_indices(
     ensures kept { take result left.new
         ≡ filter (λ index. may_show before.now after.now letter.now (counts_of choices.now index)) indices.now }
 {
+    match *letter {
+        Letter::Seen(rank) => {
+            let seen = before.ranks_seen().of(rank);
+            keep_above(choices, rank, seen, indices, left)
+        }
+        Letter::Go => keep_passing(choices, after, indices, left),
+    }
+}
+
+// Keeps the indices of the choices that have more than so many cards of a rank. Returns how many they are.
+fn keep_above(
+    choices: &[RankCounts; CHOICES],
+    rank: Rank,
+    seen: u8,
+    indices: &[u16],
+    left: &mut [u16],
+) -> usize
+    requires indices { All (λ index. index < 1820) indices.now }
+    requires room { length indices.now ≤ length left.old }
+    ensures few { result ≤ length indices.now }
+    ensures room { length left.new ≡ length left.old }
+    ensures kept { take result left.new
+        ≡ filter (λ index. nat_lt seen (count_at (counts_of choices.now index) rank)) indices.now }
+{
     let mut count = 0;
     for index in indices {
-        if !may_show(before, after, letter, &choices[*index as usize]) {
+        if seen < choices[*index as usize].of(rank) {
+            left[count] = *index;
+            count += 1;
+        }
+    }
+    count
+}
+
+// Keeps the indices of the choices that pass the test of what is known after a go. Returns how many they are.
+fn keep_passing(
+    choices: &[RankCounts; CHOICES],
+    after: &Know,
+    indices: &[u16],
+    left: &mut [u16],
+) -> usize
+    requires indices { All (λ index. index < 1820) indices.now }
+    requires room { length indices.now ≤ length left.old }
+    ensures few { result ≤ length indices.now }
+    ensures room { length left.new ≡ length left.old }
+    ensures kept { take result left.new
+        ≡ filter (λ index. passes_counts after.now.least after.now.ranks_seen (counts_of choices.now index))
+        indices.now }
+{
+    let mut count = 0;
+    for index in indices {
+        if !after.passes(&choices[*index as usize]) {
             continue;
         }
         left[count] = *index;

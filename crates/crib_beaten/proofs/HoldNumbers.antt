@@ -1,5 +1,5 @@
 -- Four ranks as a number.
-use Rattle.std.proofs.Common.{◌≡◌, ℕ, zero, suc, ◌+◌, ◌-◌, ◌*◌, ◌/◌, ◌<◌, ◌≤◌, true, cond, List, [], ◌∷◌, length, map, add-one}
+use Rattle.std.proofs.Common.{◌≡◌, ℕ, zero, suc, ◌+◌, ◌-◌, ◌*◌, ◌/◌, ◌<◌, ◌≤◌, true, false, cond, List, [], ◌∷◌, length, map, add-one}
 use Rattle.std.proofs.Common.{refl, ap, subst, ◌∙◌, arith}
 use Rattle.std.proofs.lemmas.Bool.Decides.{nat_tests}
 use Rattle.std.specs.List.{AllByRecursion}
@@ -12,6 +12,7 @@ use Rattle.crib_deals.specs.Deals.{ranks_held}
 use Rattle.crib_deals.proofs.NumberedDeals.{AreNumbered}
 use Rattle.crib_deals.specs.Choices.{ranks_of_number, are_in_order}
 use Rattle.crib_show.specs.Indices.{AreFour}
+use Rattle.crib_beaten.specs.Private.Rows.{place}
 use Rattle.crib_show.proofs.IndexLemmas.{four_counted}
 
 abbrev number_from : ℕ → List ℕ → ℕ
@@ -67,28 +68,35 @@ four_numbered number less =
     ((omega arith, omega (arith, less)), ((omega arith, omega arith), ((omega arith, omega arith), ((omega arith, omega arith), tt)))) in
     four_counted (ranks_of_number number) all refl
 
--- ---- how many deals there are at most
--- with the ranks that have a number, and with those that have a smaller one
-abbrev pub most_at : ℕ → ℕ
-most_at number = cond (are_in_order (ranks_of_number number)) 209920 0
+-- ---- the places of choices
+place_next : (number : ℕ) → place (number + 1) ≡ cond (are_in_order (ranks_of_number number)) 1 0 + place number
+unfolding place
+place_next number = ap place (add-one number)
 
-unfoldable pub most_below : ℕ → ℕ
-most_below zero = 0
-most_below (suc number) = most_at number + most_below number
+pub place_after : (number : ℕ) → are_in_order (ranks_of_number number) ≡ true → place (number + 1) ≡ place number + 1
+place_after number order = omega (arith, place_next number, ap {B = ℕ} (λ b. cond b 1 0) order)
 
-pub most_more : (number : ℕ) → most_below (number + 1) ≡ most_at number + most_below number
-unfolding most_below
-most_more number = ap most_below (add-one number)
+pub place_same : (number : ℕ) → are_in_order (ranks_of_number number) ≡ false → place (number + 1) ≡ place number
+place_same number order = omega (arith, place_next number, ap {B = ℕ} (λ b. cond b 1 0) order)
 
-most_up : (number more : ℕ) → most_below number ≤ most_below (more + number)
-most_up number zero = grind arith
-most_up number (suc more) = grind (arith, most_up number more, most_more (more + number))
+place_up : (number more : ℕ) → place number ≤ place (more + number)
+place_up number zero = grind arith
+place_up number (suc more) = grind (arith, place_up number more, place_next (more + number))
 
-most_of_all : most_below 28561 ≡ 382054400
-unfolding most_below
-most_of_all = refl
+place_of_all : place 28561 ≡ 1820
+unfolding place
+place_of_all = refl
 
-pub most_few : (number : ℕ) → number ≤ 28561 → most_below number ≤ 382054400
-most_few number few =
+pub place_few : (number : ℕ) → number ≤ 28561 → place number ≤ 1820
+place_few number few =
     let whole : 28561 - number + number ≡ 28561 = omega (arith, few) in
-    subst (λ (n : ℕ). most_below number ≤ n) (ap most_below whole ∙ most_of_all) (most_up number (28561 - number))
+    subst (λ (n : ℕ). place number ≤ n) (ap place whole ∙ place_of_all) (place_up number (28561 - number))
+
+-- a choice in order comes before those of larger numbers
+pub place_before : (number later : ℕ) → number < later → are_in_order (ranks_of_number number) ≡ true → place number < place later
+place_before number later less order =
+    let whole : later - (number + 1) + (number + 1) ≡ later = omega (arith, less) in
+    subst (λ (n : ℕ). place number < place n) whole (omega (arith, place_after number order, place_up (number + 1) (later - (number + 1))))
+
+pub place_here : {number index : ℕ} → index ≡ place number → number < 28561 → are_in_order (ranks_of_number number) ≡ true → index < 1820
+place_here {number} is small order = omega (arith, is, place_before number 28561 small order, place_few 28561 (omega arith))

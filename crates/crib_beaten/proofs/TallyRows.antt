@@ -1,5 +1,5 @@
 -- The tally of the deals whose ranks have a number below another.
-use Rattle.std.proofs.Common.{◌≡◌, ◌⊎◌, ◌≤◌, ◌<◌, ℕ, ◌+◌, ◌^◌, Bool, true, false, cond, ltb, List, [], ◌∷◌, ◌++◌, refl, ap}
+use Rattle.std.proofs.Common.{◌≡◌, ◌⊎◌, ◌≤◌, ◌<◌, ℕ, ◌+◌, ◌*◌, ◌^◌, Bool, true, false, cond, ltb, List, [], ◌∷◌, ◌++◌, refl, ap}
 use Rattle.std.proofs.Common.{inl, inr, arith}
 use Rattle.std.specs.List.{All}
 use Rattle.std.proofs.lemmas.Bool.{cases_lt, ltb-true}
@@ -23,9 +23,9 @@ use Rattle.crib_beaten.specs.Tally.{AreInOrder, HasRow, IsRow, IsTally}
 use Rattle.crib_deals.specs.Deals.{ranks_held}
 use Rattle.crib_deals.specs.Deals.{IsBehind, IsMissing, behind_by}
 use Rattle.crib_deals.specs.Choices.{are_in_order, ranks_of_number}
-use Rattle.crib_beaten.specs.Private.Rows.{AreCounted, with_figures}
+use Rattle.crib_beaten.specs.Private.Rows.{AreCounted, place, with_figures}
 use Rattle.crib_deals.proofs.ExactCounts.{exactly_none, exactly_same, exactly_zero, in_append}
-use Rattle.crib_beaten.proofs.HoldNumbers.{most_at, most_below, most_few, most_more, number_before, ranks_number, rising_ranks}
+use Rattle.crib_beaten.proofs.HoldNumbers.{number_before, place_after, place_few, place_same, ranks_number, rising_ranks}
 use Rattle.crib_deals.proofs.NumberedDeals.{AreNumbered, none_below, next_below, all_below}
 use Rattle.crib_beaten.proofs.HoldNumbers.{ranks_numbered}
 
@@ -47,15 +47,14 @@ pub record AreRowsBelow (problem : Setup) (plan : List Node) (number : ℕ) (row
 pub record IsBelow (problem : Setup) (plan : List Node) (number open_deals beaten : ℕ) (rows : List RanksTally) : Type 0 where
   pub open_deals_are : AreExactly (λ dealt. IsOpen problem dealt × (held_number dealt < number)) open_deals
   pub beaten_are : AreExactly (λ dealt. Beats problem plan dealt × (held_number dealt < number)) beaten
-  pub few : (open_deals ≤ most_below number) × (beaten ≤ most_below number)
+  pub few : (open_deals ≤ 209920 * place number) × (beaten ≤ 209920 * place number)
   pub rows_are : AreRowsBelow problem plan number rows
 
 -- a sum with one more row, which fits
-pub sum_fits : {number sum more : ℕ} → number < 28561 → sum ≤ most_below number → more ≤ most_at number →
-    (sum + more ≤ most_below (number + 1)) × (sum + more < 2 ^ 32)
-sum_fits {number} small one other =
-    let few = most_few (number + 1) (omega (arith, small)) in
-    (omega (arith, most_more number, one, other), omega (arith, most_more number, one, other, few))
+pub sum_fits : {number sum more : ℕ} → number < 28561 → are_in_order (ranks_of_number number) ≡ true → sum ≤ 209920 * place number → more ≤ 209920 →
+    (sum + more ≤ 209920 * place (number + 1)) × (sum + more < 2 ^ 32)
+sum_fits {number} small order one other =
+    let next = place_after number order in (omega (arith, next, one, other), omega (arith, next, one, other, place_few (number + 1) (omega (arith, small))))
 
 abbrev ComesBefore : RanksTally → RanksTally → Type 0
 ComesBefore later row = is_before row.ranks later.ranks ≡ true
@@ -114,12 +113,12 @@ module _ {problem : Setup} {plan : List Node} (setup : IsSetup problem) where
       ];
     }
 
-    pub next_tally : (row.open_deals ≤ most_at number) × (row.beaten ≤ most_at number) →
+    pub next_tally : (sum + row.open_deals ≤ 209920 * place (number + 1)) × (beaten + row.beaten ≤ 209920 * place (number + 1)) →
         IsBelow problem plan (number + 1) (sum + row.open_deals) (beaten + row.beaten) (with_figures rows row)
     next_tally few = record {
       open_deals_are = next_below (open_numbered setup) small below.open_deals_are (rw ranks at counted.are_open);
       beaten_are = next_below beats_numbered small below.beaten_are (rw ranks at counted.are_beaten);
-      few = ((sum_fits small below.few.0 few.0).0, (sum_fits small below.few.1 few.1).0);
+      few = few;
       rows_are = next_rows (ltb 0 row.beaten) refl;
     }
 
@@ -157,3 +156,15 @@ module _ {problem : Setup} {plan : List Node} (setup : IsSetup problem) where
       are_beaten = exactly_same (λ dealt order is. (decides.missed dealt is.0.0 (ap rank_counts is.0.1) is.1, is.0.1))
           (λ dealt order is. grind (arith, nat_tests, is, opened dealt is.0, decides.met dealt (opened dealt is.0) (ap rank_counts is.1))) are_missing;
     }
+
+  -- ---- ranks that are not in order: no deal has them
+  pub skip_tally : {number sum beaten : ℕ} {rows : List RanksTally} → number < 28561 → are_in_order (ranks_of_number number) ≡ false →
+      IsBelow problem plan number sum beaten rows → IsBelow problem plan (number + 1) sum beaten rows
+  skip_tally {number} {sum} {beaten} small no_order below =
+      let same = place_same number no_order in
+      let few = below.few in
+      let sums : sum + 0 ≡ sum = omega arith in
+      let all : beaten + 0 ≡ beaten = omega arith in
+      rw (sums, all) at
+      (next_tally (record { ranks = ranks_of_number number; open_deals = 0; beaten = 0 }) small below refl (none_ordered no_order)
+      (omega (arith, few, same), omega (arith, few, same)))

@@ -1,10 +1,11 @@
 //! Which deals beat a plan, counted.
-ghost use Rattle.std.specs.Prelude.{◌≡◌, ◌≤◌, ◌<◌, ◌+◌, ◌^◌, List, IfOk, cond};
-ghost use Rattle.crib_problem.specs.Setup.{Setup};
+ghost use Rattle.std.specs.Prelude.{◌≡◌, ◌≤◌, ◌<◌, ◌+◌, ◌^◌, List, IfOk};
+ghost use Rattle.crib_cards.specs.Sets.{rank_counts};
+ghost use Rattle.crib_problem.specs.Setup.{Setup, IsSetup};
 ghost use Rattle.crib_plan.specs.declared.plan.Node.{Node};
+ghost use Rattle.crib_beaten.specs.Beaten.{Decides, demand_of};
 ghost use Rattle.crib_beaten.specs.Tally.{IsTally};
-ghost use Rattle.crib_deals.specs.Choices.{are_in_order, ranks_of_number};
-ghost use Rattle.crib_beaten.specs.Private.Rows.{AreChoices, AreCounted, IsFor, with_figures};
+ghost use Rattle.crib_beaten.specs.Private.Rows.{AreCounted, AreListed, IsFor, with_figures};
 
 use crate::plays::Plays;
 use crib_cards::{Rank, RankCounts};
@@ -12,7 +13,7 @@ use crib_check::NoMemory;
 use crib_deals::{Deals, are_in_order, ranks_at};
 use crib_plan::Plan;
 use crib_problem::Problem;
-use crib_show::{CHOICES, Demand, choice_index, count_ranks};
+use crib_show::{CHOICES, Demand, count_ranks};
 use std::alloc::{Allocator, Global};
 
 /// The open deals whose hold has four ranks, and how many of them beat a plan.
@@ -52,8 +53,14 @@ pub fn tally_of<A: Allocator, B: Allocator>(
         beaten: 0,
         rows: Vec::new(alloc),
     };
+    let mut index = 0;
     for number in 0..28_561u16 {
-        tally.add(deals.figures_at(number))?;
+        let ranks = ranks_at(number);
+        if !are_in_order(&ranks) {
+            continue;
+        }
+        tally.add(deals.figures_at(index, &ranks))?;
+        index += 1;
     }
     Ok(tally)
 }
@@ -82,7 +89,7 @@ impl<A: Allocator> Tally<A> {
 #[derive(Drop)]
 struct OpenDeals<'a> {
     deals: Deals<'a>,
-    // What decides the deals with four ranks, by the index of these ranks.
+    // What decides the deals with four ranks, by the place of these ranks among all choices.
     demands: [Demand; CHOICES],
 }
 
@@ -92,7 +99,7 @@ impl<'a> OpenDeals<'a> {
         plan: &Plan<B>,
         choices: &[RankCounts; CHOICES],
     ) -> Self
-        requires { AreChoices 28561 choices.now }
+        requires { AreListed 28561 choices.now }
         ensures { IsFor problem.now plan.now result }
     {
         OpenDeals {
@@ -101,45 +108,37 @@ impl<'a> OpenDeals<'a> {
         }
     }
 
-    // The figures of the four ranks with a number. They count no deals if the ranks are not in order.
-    fn figures_at(&self, number: u16) -> RanksTally
-        requires number { number < 28561 }
-        requires here { (problem : Setup) × (plan : List Node) × IsFor problem plan self.now }
-        ensures ranks { result.ranks ≡ ranks_of_number number }
-        ensures exact { (problem : Setup) (plan : List Node) → IsFor problem plan self.now
-            → AreCounted problem plan result.ranks result.open_deals result.beaten }
-        ensures few { (result.open_deals ≤ cond (are_in_order (ranks_of_number number)) 209920 0)
-            × (result.beaten ≤ result.open_deals) }
+    // The figures of the four ranks at a place among all choices.
+    fn figures_at(&self, index: usize, ranks: &[Rank; 4]) -> RanksTally
+        requires { index < 1820 }
+        ensures ranks { result.ranks ≡ ranks.now }
+        ensures exact { (problem : Setup) (plan : List Node) → IsSetup problem → self.now.deals ≡ problem
+            → Decides problem plan (rank_counts ranks.now) (demand_of self.now.demands index)
+            → AreCounted problem plan ranks.now result.open_deals result.beaten }
+        ensures few { (result.open_deals ≤ 209920) × (result.beaten ≤ result.open_deals) }
     {
-        let ranks = ranks_at(number);
-        let mut figures = RanksTally {
-            ranks,
-            open_deals: 0,
-            beaten: 0,
-        };
-        if are_in_order(&ranks) {
-            let index = choice_index(&count_ranks(&ranks));
-            let counted = self.deals.count(&ranks, self.demands[index]);
-            figures.open_deals = counted.open_deals;
-            figures.beaten = counted.missing;
+        let counted = self.deals.count(ranks, self.demands[index]);
+        RanksTally {
+            ranks: *ranks,
+            open_deals: counted.open_deals,
+            beaten: counted.missing,
         }
-        figures
     }
 }
 
-// How many cards of each rank the choices of four ranks have, by their indices.
+// How many cards of each rank the choices of four ranks have, in the order of ranks, the ace first.
 fn choices() -> [RankCounts; CHOICES]
-    ensures { AreChoices 28561 result }
+    ensures { AreListed 28561 result }
 {
     let mut choices = [RankCounts::new(); CHOICES];
+    let mut index = 0;
     for number in 0..28_561 {
         let ranks = ranks_at(number);
         if !are_in_order(&ranks) {
             continue;
         }
-        let counts = count_ranks(&ranks);
-        let index = choice_index(&counts);
-        choices[index] = counts;
+        choices[index] = count_ranks(&ranks);
+        index += 1;
     }
     choices
 }

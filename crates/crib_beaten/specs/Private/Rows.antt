@@ -1,5 +1,5 @@
 -- The rows of a tally, and what they are counted from.
-use Rattle.std.specs.Prelude.{◌≡◌, ℕ, ◌<◌, nat_lt, cond, List, [], ◌∷◌, ◌++◌, IsTrue}
+use Rattle.std.specs.Prelude.{◌≡◌, ℕ, zero, suc, ◌+◌, ◌<◌, nat_lt, cond, List, [], ◌∷◌, ◌++◌, IsTrue}
 use Rattle.crib_cards.specs.Sets.{rank_counts}
 use Rattle.crib_show.specs.Indices.{index_among}
 use Rattle.crib_problem.specs.Setup.{Setup, IsSetup}
@@ -31,9 +31,19 @@ AreChoices number choices =
     (n : ℕ) → n < number → IsTrue (are_in_order (ranks_of_number n))
     → counts_of choices (index_among 4 (counts_of_number n)) ≡ counts_of_number n
 
+-- how many choices in order have a smaller number than these ranks: their place among all choices
+unfoldable pub place : ℕ → ℕ
+place zero = 0
+place (suc number) = cond (are_in_order (ranks_of_number number)) 1 0 + place number
+
+-- the counts of ranks are those of the choices in order with a smaller number, each at its place
+abbrev pub AreListed : ℕ → List (List ℕ) → Type 0
+AreListed number choices =
+    (n : ℕ) → n < number → IsTrue (are_in_order (ranks_of_number n)) → counts_of choices (place n) ≡ counts_of_number n
+
 -- these are the open deals of a problem, and the demands decide which of them beat a plan, for each choice of ranks
 pub record IsFor (problem : Setup) (plan : List Node) (deals : OpenDeals) : Type 0 where
   pub setup : IsSetup problem
   pub same_problem : deals.deals ≡ problem
   pub decided : (n : ℕ) → n < 28561 → IsTrue (are_in_order (ranks_of_number n)) →
-      Decides problem plan (counts_of_number n) (demand_of deals.demands (index_among 4 (counts_of_number n)))
+      Decides problem plan (counts_of_number n) (demand_of deals.demands (place n))

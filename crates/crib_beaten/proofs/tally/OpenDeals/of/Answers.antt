@@ -1,13 +1,14 @@
-use Rattle.std.proofs.Common.{ℕ, List, ap, subst, ◌∙◌}
+use Rattle.std.proofs.Common.{ℕ, List, refl, ap, subst, ◌∙◌}
 use Rattle.crib_beaten.specs.Beaten.{Decides, counts_of, demand_of}
-use Rattle.crib_beaten.proofs.Choices.{index_at, index_small}
+use Rattle.crib_beaten.specs.Private.Rows.{place}
+use Rattle.crib_beaten.proofs.HoldNumbers.{place_here}
 use Rattle.crib_beaten.proofs.tally.OpenDeals.of.Goals as goal
 
 pub returns : goal.returns
 returns g c = record {
   setup = c.new.ensures.plays.start.knows.setup;
   same_problem = c.of.ensures;
-  decided = λ n small is. subst (λ counts. Decides c.args.problem.now c.args.plan.now counts (demand_of c.demands.result (index_at n)))
-      (ap (λ (cs : List (List ℕ)). counts_of cs (index_at n)) c.new.ensures.choices ∙ c.requires n small is)
-      (c.demands.ensures _ _ c.new.ensures.plays (index_at n) (index_small n small));
+  decided = λ n small is. subst (λ counts. Decides c.args.problem.now c.args.plan.now counts (demand_of c.demands.result (place n)))
+      (ap (λ (cs : List (List ℕ)). counts_of cs (place n)) c.new.ensures.choices ∙ c.requires n small is)
+      (c.demands.ensures _ _ c.new.ensures.plays (place n) (place_here refl small is));
 }

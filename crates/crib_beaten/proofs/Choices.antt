@@ -1,13 +1,14 @@
 -- The choices of four ranks in order, each at its index.
-use Rattle.std.proofs.Common.{◌≡◌, ℕ, ◌+◌, ◌<◌, true, false, List, length, set, refl, sym, ap, ◌∙◌, inl, inr, arith}
+use Rattle.std.proofs.Common.{◌≡◌, ℕ, ◌+◌, ◌<◌, false, List, length, set, sym, ap, ◌∙◌, inl, inr, arith}
 use Rattle.std.proofs.lemmas.Bool.{both_ways, cases_eq, cases_lt}
 use Rattle.std.proofs.lemmas.List.{get_or-set_same, get_or-set_other}
+use Rattle.crib_cards.specs.Sets.{rank_counts}
 use Rattle.crib_show.specs.Indices.{index_among}
 use Rattle.crib_show.proofs.IndexLemmas.{choice_of_index, index_few}
 use Rattle.crib_beaten.specs.Beaten.{counts_of}
 use Rattle.crib_deals.specs.Choices.{are_in_order, ranks_of_number}
-use Rattle.crib_beaten.specs.Private.Rows.{AreChoices, AreListed, counts_of_number, place}
-use Rattle.crib_beaten.proofs.HoldNumbers.{four_numbered, place_before, place_here}
+use Rattle.crib_beaten.specs.Private.Rows.{AreChoices, AreListed, IsChoice, counts_of_number, place}
+use Rattle.crib_beaten.proofs.HoldNumbers.{four_numbered, place_before}
 
 -- the index of the ranks with a number
 abbrev pub index_at : ℕ → ℕ
@@ -38,19 +39,12 @@ module _ (number : ℕ) (choices : List (List ℕ)) (so_far : AreChoices number 
 
 -- ---- the same by their places
 module _ (number : ℕ) (choices : List (List ℕ)) (so_far : AreListed number choices) where
-  pub none_listed : are_in_order (ranks_of_number number) ≡ false → AreListed (number + 1) choices
-  none_listed no_order n less is = elim (cases_lt n number) [
-    | inl before ↦ so_far n before is
-    | inr least ↦ let same : n ≡ number = omega (arith, less, least) in absurd (both_ways _ no_order (rw same at is))
-  ]
-
-  pub one_listed : number < 28561 → are_in_order (ranks_of_number number) ≡ true → length choices ≡ 1820 →
-      AreListed (number + 1) (set choices (place number) (counts_of_number number))
-  one_listed small order long n less is = elim (cases_lt n number) [
+  pub one_listed : {ranks : List ℕ} → IsChoice number ranks → length choices ≡ 1820 → AreListed (number + 1) (set choices (place number) (rank_counts ranks))
+  one_listed choice long n less is = elim (cases_lt n number) [
     | inl before ↦
         let apart = place_before n number before is in
         get_or-set_other choices (place number) (place n) _ _ (λ same. absurd (omega (arith, apart, same))) ∙ so_far n before is
     | inr least ↦
         let same : n ≡ number = omega (arith, less, least) in
-        rw same (get_or-set_same choices (place number) _ _ (omega (arith, place_here {number = number} refl small order, long)))
+        rw (same, choice.numbered) (get_or-set_same choices (place number) _ _ (omega (arith, choice.small, long)))
   ]

@@ -12,7 +12,7 @@ use Rattle.crib_deals.specs.Deals.{ranks_held}
 use Rattle.crib_deals.proofs.NumberedDeals.{AreNumbered}
 use Rattle.crib_deals.specs.Choices.{ranks_of_number, are_in_order}
 use Rattle.crib_show.specs.Indices.{AreFour}
-use Rattle.crib_beaten.specs.Private.Rows.{place}
+use Rattle.crib_beaten.specs.Private.Rows.{IsChoice, IsNoChoice, place}
 use Rattle.crib_show.proofs.IndexLemmas.{four_counted}
 
 abbrev number_from : ℕ → List ℕ → ℕ
@@ -73,11 +73,8 @@ place_next : (number : ℕ) → place (number + 1) ≡ cond (are_in_order (ranks
 unfolding place
 place_next number = ap place (add-one number)
 
-pub place_after : (number : ℕ) → are_in_order (ranks_of_number number) ≡ true → place (number + 1) ≡ place number + 1
+place_after : (number : ℕ) → are_in_order (ranks_of_number number) ≡ true → place (number + 1) ≡ place number + 1
 place_after number order = omega (arith, place_next number, ap {B = ℕ} (λ b. cond b 1 0) order)
-
-pub place_same : (number : ℕ) → are_in_order (ranks_of_number number) ≡ false → place (number + 1) ≡ place number
-place_same number order = omega (arith, place_next number, ap {B = ℕ} (λ b. cond b 1 0) order)
 
 place_up : (number more : ℕ) → place number ≤ place (more + number)
 place_up number zero = grind arith
@@ -98,5 +95,17 @@ place_before number later less order =
     let whole : later - (number + 1) + (number + 1) ≡ later = omega (arith, less) in
     subst (λ (n : ℕ). place number < place n) whole (omega (arith, place_after number order, place_up (number + 1) (later - (number + 1))))
 
-pub place_here : {number index : ℕ} → index ≡ place number → number < 28561 → are_in_order (ranks_of_number number) ≡ true → index < 1820
-place_here {number} is small order = omega (arith, is, place_before number 28561 small order, place_few 28561 (omega arith))
+pub is_choice : {number : ℕ} {ranks : List ℕ} → ranks ≡ ranks_of_number number → number < 28561 → are_in_order ranks ≡ true → IsChoice number ranks
+is_choice {number} is small in_order =
+    let order = rw is at in_order in record {
+      numbered = is;
+      order = order;
+      small = omega (arith, place_before number 28561 small order, place_few 28561 (omega arith));
+      next = place_after number order;
+    }
+
+pub is_no_choice : {number : ℕ} {ranks : List ℕ} → ranks ≡ ranks_of_number number → are_in_order ranks ≡ false → IsNoChoice number
+is_no_choice {number} is none = let no_order = rw is at none in record {
+  no_order = no_order;
+  next = omega (arith, place_next number, ap {B = ℕ} (λ b. cond b 1 0) no_order);
+}

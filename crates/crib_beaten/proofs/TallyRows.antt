@@ -23,9 +23,9 @@ use Rattle.crib_beaten.specs.Tally.{AreInOrder, HasRow, IsRow, IsTally}
 use Rattle.crib_deals.specs.Deals.{ranks_held}
 use Rattle.crib_deals.specs.Deals.{IsBehind, IsMissing, behind_by}
 use Rattle.crib_deals.specs.Choices.{are_in_order, ranks_of_number}
-use Rattle.crib_beaten.specs.Private.Rows.{AreCounted, place, with_figures}
+use Rattle.crib_beaten.specs.Private.Rows.{AreCounted, IsNoChoice, place, with_figures}
 use Rattle.crib_deals.proofs.ExactCounts.{exactly_none, exactly_same, exactly_zero, in_append}
-use Rattle.crib_beaten.proofs.HoldNumbers.{number_before, place_after, place_few, place_same, ranks_number, rising_ranks}
+use Rattle.crib_beaten.proofs.HoldNumbers.{number_before, place_few, ranks_number, rising_ranks}
 use Rattle.crib_deals.proofs.NumberedDeals.{AreNumbered, none_below, next_below, all_below}
 use Rattle.crib_beaten.proofs.HoldNumbers.{ranks_numbered}
 
@@ -51,10 +51,10 @@ pub record IsBelow (problem : Setup) (plan : List Node) (number open_deals beate
   pub rows_are : AreRowsBelow problem plan number rows
 
 -- a sum with one more row, which fits
-pub sum_fits : {number sum more : ℕ} → number < 28561 → are_in_order (ranks_of_number number) ≡ true → sum ≤ 209920 * place number → more ≤ 209920 →
+pub sum_fits : {number sum more : ℕ} → number < 28561 → place (number + 1) ≡ place number + 1 → sum ≤ 209920 * place number → more ≤ 209920 →
     (sum + more ≤ 209920 * place (number + 1)) × (sum + more < 2 ^ 32)
-sum_fits {number} small order one other =
-    let next = place_after number order in (omega (arith, next, one, other), omega (arith, next, one, other, place_few (number + 1) (omega (arith, small))))
+sum_fits {number} small next one other =
+    (omega (arith, next, one, other), omega (arith, next, one, other, place_few (number + 1) (omega (arith, small))))
 
 abbrev ComesBefore : RanksTally → RanksTally → Type 0
 ComesBefore later row = is_before row.ranks later.ranks ≡ true
@@ -158,13 +158,13 @@ module _ {problem : Setup} {plan : List Node} (setup : IsSetup problem) where
     }
 
   -- ---- ranks that are not in order: no deal has them
-  pub skip_tally : {number sum beaten : ℕ} {rows : List RanksTally} → number < 28561 → are_in_order (ranks_of_number number) ≡ false →
+  pub skip_tally : {number sum beaten : ℕ} {rows : List RanksTally} → number < 28561 → IsNoChoice number →
       IsBelow problem plan number sum beaten rows → IsBelow problem plan (number + 1) sum beaten rows
-  skip_tally {number} {sum} {beaten} small no_order below =
-      let same = place_same number no_order in
+  skip_tally {number} {sum} {beaten} small none below =
+      let same = none.next in
       let few = below.few in
       let sums : sum + 0 ≡ sum = omega arith in
       let all : beaten + 0 ≡ beaten = omega arith in
       rw (sums, all) at
-      (next_tally (record { ranks = ranks_of_number number; open_deals = 0; beaten = 0 }) small below refl (none_ordered no_order)
+      (next_tally (record { ranks = ranks_of_number number; open_deals = 0; beaten = 0 }) small below refl (none_ordered none.no_order)
       (omega (arith, few, same), omega (arith, few, same)))

@@ -1,11 +1,11 @@
 //! Which deals beat a plan, counted.
-ghost use Rattle.std.specs.Prelude.{◌≡◌, ◌≤◌, ◌<◌, ◌+◌, ◌^◌, List, IfOk};
+ghost use Rattle.std.specs.Prelude.{◌≡◌, ◌≤◌, ◌<◌, ◌+◌, ◌^◌, List, IfNone, IfOk, IfSome};
 ghost use Rattle.crib_cards.specs.Sets.{rank_counts};
 ghost use Rattle.crib_problem.specs.Setup.{Setup, IsSetup};
 ghost use Rattle.crib_plan.specs.declared.plan.Node.{Node};
 ghost use Rattle.crib_beaten.specs.Beaten.{Decides, demand_of};
 ghost use Rattle.crib_beaten.specs.Tally.{IsTally};
-ghost use Rattle.crib_beaten.specs.Private.Rows.{AreCounted, AreListed, IsFor, with_figures};
+ghost use Rattle.crib_beaten.specs.Private.Rows.{AreCounted, AreListed, IsChoice, IsFor, IsNoChoice, with_figures};
 
 use crate::plays::Plays;
 use crib_cards::{Rank, RankCounts};
@@ -55,10 +55,9 @@ pub fn tally_of<A: Allocator, B: Allocator>(
     };
     let mut index = 0;
     for number in 0..28_561u16 {
-        let ranks = ranks_at(number);
-        if !are_in_order(&ranks) {
+        let Some(ranks) = choice_at(number) else {
             continue;
-        }
+        };
         tally.add(deals.figures_at(index, &ranks))?;
         index += 1;
     }
@@ -133,12 +132,25 @@ fn choices() -> [RankCounts; CHOICES]
     let mut choices = [RankCounts::new(); CHOICES];
     let mut index = 0;
     for number in 0..28_561 {
-        let ranks = ranks_at(number);
-        if !are_in_order(&ranks) {
+        let Some(ranks) = choice_at(number) else {
             continue;
-        }
+        };
         choices[index] = count_ranks(&ranks);
         index += 1;
     }
     choices
+}
+
+// The four ranks with a number, if they are in order.
+fn choice_at(number: u16) -> Option<[Rank; 4]>
+    requires { number < 28561 }
+    ensures choice { IfSome result (IsChoice number) }
+    ensures none { IfNone result (IsNoChoice number) }
+{
+    let ranks = ranks_at(number);
+    if are_in_order(&ranks) {
+        Some(ranks)
+    } else {
+        None
+    }
 }

@@ -1,5 +1,5 @@
 -- The rows of a tally, and what they are counted from.
-use Rattle.std.specs.Prelude.{◌≡◌, ℕ, zero, suc, ◌+◌, ◌<◌, nat_lt, cond, List, [], ◌∷◌, ◌++◌, IsTrue}
+use Rattle.std.specs.Prelude.{◌≡◌, ℕ, zero, suc, ◌+◌, ◌<◌, nat_lt, cond, List, [], ◌∷◌, ◌++◌, IsFalse, IsTrue}
 use Rattle.crib_cards.specs.Sets.{rank_counts}
 use Rattle.crib_show.specs.Indices.{index_among}
 use Rattle.crib_problem.specs.Setup.{Setup, IsSetup}
@@ -35,6 +35,18 @@ AreChoices number choices =
 unfoldable pub place : ℕ → ℕ
 place zero = 0
 place (suc number) = cond (are_in_order (ranks_of_number number)) 1 0 + place number
+
+-- some ranks are those with a number and in order, so that their number has a place of its own
+pub record IsChoice (number : ℕ) (ranks : List ℕ) : Type 0 where
+  pub numbered : ranks ≡ ranks_of_number number
+  pub order : IsTrue (are_in_order (ranks_of_number number))
+  pub small : place number < 1820
+  pub next : place (number + 1) ≡ place number + 1
+
+-- the ranks with a number are not in order, so that it has no place of its own
+pub record IsNoChoice (number : ℕ) : Type 0 where
+  pub no_order : IsFalse (are_in_order (ranks_of_number number))
+  pub next : place (number + 1) ≡ place number
 
 -- the counts of ranks are those of the choices in order with a smaller number, each at its place
 abbrev pub AreListed : ℕ → List (List ℕ) → Type 0

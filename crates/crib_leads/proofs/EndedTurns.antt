@@ -18,7 +18,8 @@ use Rattle.crib_play.specs.History.{Own, event_of, history_letters, moves_of}
 use Rattle.crib_cards.specs.Start.{Start, pone_of}
 use Rattle.crib_problem.specs.Played.{move_refusal, turn_refusal}
 use Rattle.crib_problem.specs.Refusals.{already_over, does_not_fit, must_play, no_deal, not_held, not_turn, same_card}
-use Rattle.crib_problem.specs.Setup.{Setup, played_back, start_of}
+use Rattle.crib_problem.specs.Setup.{Setup, opening_basis_of, played_back, start_of}
+use Rattle.crib_problem.proofs.AskedHolds.{MayFollow, may_turn}
 use Rattle.crib_know.specs.Knowledge.{Knowledge, asked_now, played_events}
 use Rattle.crib_know.specs.Hidden.{CanDoAt, IsPossible, KnowsAfter}
 use Rattle.crib_know.proofs.CallLemmas.{own_may}
@@ -67,6 +68,14 @@ over_now problem act refused =
     let past : Record = filled_record start (history_letters (event_of act ∷ played_events problem)) in
     let same = ap (λ (letters : Record). is_done start (filled_record start letters)) (letters_same acts) in
     ap (λ (done : Bool). if done then turns.Over else side_asked (mover (pone_of start) past)) (same ∙ over)
+
+-- no rule of the play but the end of the deal refuses the turn
+turn_none : (turn rest : Option ℕ) → (turn ≡ Some already_over → ⊥) → option_or turn rest ≡ Some already_over → turn ≡ None
+turn_none (Some number) rest none e = absurd (none e)
+turn_none None rest none e = refl
+
+pub may_end : (problem : Setup) (act : Act) → refusal_of problem act ≡ Some already_over → MayFollow (opening_basis_of problem) (played_back problem) act
+may_end problem act refused = may_turn _ _ _ _ _ act (turn_none _ _ (no_turn _ _ _ _ _ act) refused)
 
 -- a move of the owner with which some deal agrees can be made
 pub own_can : (know : Knowledge) (problem : Setup) (history : List Event) (what : Move) → KnowsAfter know problem history →

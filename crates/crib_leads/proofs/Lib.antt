@@ -1,4 +1,7 @@
 pub mod EndedTurns
+pub mod EndingLeads
 pub mod Entries
+pub mod MovedPlans
+pub mod SureLeads
 mod Examples
 mod OrderExamples

@@ -2,10 +2,12 @@
 #![tactic(auto)]
 
 mod ended;
+mod laws;
 mod leads;
 mod order;
 mod theirs;
 mod verdict;
 
+pub use laws::lead_law;
 pub use leads::{Lead, Leads, leads_of};
 pub use verdict::{LeadVerdict, verdict_after};

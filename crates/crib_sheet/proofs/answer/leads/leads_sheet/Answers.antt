@@ -11,7 +11,9 @@ pub returns-in_err-leads : goal.returns-in_err-leads
 returns-in_err-leads g c = let none = leads_unmade _ _ _ c.in_ok-problem.ensures (no_turns _ _ c.in_err-leads.ensures) in search rules
 
 pub returns-in_err-stops : goal.returns-in_err-stops
-returns-in_err-stops g c = let none = leads_unmade _ _ _ c.in_ok-problem.ensures c.in_err-stops.ensures in search rules
+returns-in_err-stops g c =
+    let p = err_from_is_err_and c.from_residual-in_err-stops.result c.from_residual-in_err-stops.ensures.1 in
+    rw (p.1, p.2) (leads_unmade _ _ _ c.in_ok-problem.ensures c.in_err-stops.ensures)
 
 pub returns-in_err-below : goal.returns-in_err-below
 returns-in_err-below g c =

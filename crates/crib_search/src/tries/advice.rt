@@ -1,5 +1,5 @@
 //! What a search advises the owner to play.
-ghost use Rattle.std.specs.Prelude.{◌+◌, ◌≤◌, ◌<◌, ℕ, length, IsTrue};
+ghost use Rattle.std.specs.Prelude.{◌+◌, ◌≤◌, ℕ, IsTrue};
 ghost use Rattle.crib_cards.specs.Cards.{card_value};
 ghost use Rattle.crib_cards.specs.Sets.{has};
 ghost use Rattle.crib_play.specs.Record.{count_of};

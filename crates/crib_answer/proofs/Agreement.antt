@@ -1,7 +1,6 @@
 -- The answers of one job agree with those of another.
-use Rattle.std.proofs.Common.{◌≡◌, ◌⊎◌, ◌≤◌, ℕ, List, [], ◌∷◌, ◌++◌, length, codes, Option, Some, None, Result, Ok, Err, inl, inr, refl, sym, ap, ◌∙◌}
+use Rattle.std.proofs.Common.{◌≡◌, ◌⊎◌, ℕ, List, [], ◌∷◌, ◌++◌, codes, Option, Some, None, Result, Ok, Err, inl, inr, refl, sym, ap, ◌∙◌}
 use Rattle.std.specs.Prelude.{◌↔◌, Bool, true, false}
-use Rattle.std.proofs.lemmas.Bool.{cases_lt}
 use Rattle.crib_cards.specs.declared.sides.Scores.{Scores}
 use Rattle.crib_text.specs.Refusals.{Refusal}
 use Rattle.crib_text.specs.Reading.{◌>>=◌}
@@ -9,8 +8,6 @@ use Rattle.crib_show.specs.declared.show.outcomes.Outcome.{Outcome}
 use Rattle.crib_show.specs.declared.show.outcomes.Outcome.TheVariants as outcome
 use Rattle.crib_problem.specs.Setup.{Setup, hands_of, start_of}
 use Rattle.crib_problem.specs.Spelling.{problem_text}
-use Rattle.crib_plan.specs.declared.plan.Node.{Node}
-use Rattle.crib_plan.specs.Nodes.{most_nodes}
 use Rattle.crib_game.specs.declared.following.ending.Ending.{Ending}
 use Rattle.crib_game.specs.declared.following.ending.Ending.TheVariants as ending
 use Rattle.crib_game.specs.declared.fault.GameFault.{GameFault}
@@ -27,13 +24,9 @@ use Rattle.crib_game.proofs.RecordedGames.{recorded_game}
 use Rattle.crib_game.proofs.Reports.{report_ends, rows_of_game}
 use Rattle.crib_board.specs.Board.{board_for, board_of}
 use Rattle.crib_check.proofs.FailureEndings.{failing_followed, six_is}
-use Rattle.crib_search.specs.Finder.{IsFound, ExceedsLimit}
-use Rattle.crib_search.proofs.FoundIsPlan.{found_plan}
-use Rattle.crib_search.proofs.LawProofs.{sure_law}
 use Rattle.crib_run.specs.declared.status.Status.TheVariants.{Yes, Refused}
-use Rattle.crib_input.specs.Input.{played_of_input, problem_of_input}
+use Rattle.crib_input.specs.Input.{played_of_input}
 use Rattle.crib_input.specs.Spelled.{SpellsGame}
-use Rattle.crib_input.proofs.Inputs.{problem_accepted}
 use Rattle.crib_answer.specs.Input.{judgement_of, report_of_input, ending_of_input, board_of_input}
 use Rattle.crib_run.specs.Reply.{Reply}
 use Rattle.crib_run.specs.Reply.{refusal_reply}
@@ -41,28 +34,15 @@ use Rattle.crib_answer.specs.Answer.{board_reply, ending_reply, ending_status, r
 use Rattle.crib_answer.specs.Laws.{FailedGameLaw, FollowedGameLaw, FoundPlanLaw, SameRefusalLaw, SameReportLaw, outcome_with}
 use Rattle.crib_answer.specs.Reported.{IsReported, last_scores}
 use Rattle.crib_answer.proofs.JudgedInputs.{board_spelled, ending_accepted, ending_spelled, report_accepted, report_spelled}
-use Rattle.crib_answer.proofs.Replies.{fails_law, no_output, planned_by_output, same_ending, sure_owed}
+use Rattle.crib_answer.proofs.Replies.{fails_law, no_output, plan_law, same_ending, sure_owed}
 
 -- ---- a plan that is found
 
--- a plan that does not exceed the limit has not too many nodes
-few_nodes : (problem : Setup) (plan : List Node) → IsFound problem (Some plan) → ¬ ExceedsLimit problem most_nodes → length plan ≤ most_nodes
-few_nodes problem plan found small =
-    elim (cases_lt most_nodes (length plan)) [
-      | inl more ↦ absurd (small (plan, found, more))
-      | inr few ↦ few
-    ]
-
 pub found_plan_law : FoundPlanLaw
 found_plan_law input reply more answers e =
-    let planned = planned_by_output (problem_of_input input) reply more answers e in
-    let spelled = problem_accepted input planned.problem planned.asked in
-    let few = few_nodes planned.problem planned.plan planned.found planned.within in
-    sure_owed (input ++ reply.output) planned.problem planned.plan (record {
-      problem_is = spelled.problem_is;
-      plan_is = found_plan planned.problem planned.plan spelled.problem_is planned.found few;
-      text = λ i. spelled.text i ++ planned.output_is i;
-    }) (sure_law planned.problem planned.plan spelled.problem_is planned.found)
+    let is = plan_law input reply more answers e in
+    sure_owed (input ++ reply.output) is.problem is.plan
+    (record { problem_is = is.spelled.problem_is; plan_is = is.is_plan; text = λ i. is.spelled.text i ++ is.plan_is i }) is.sure
 
 -- ---- the game in which a plan fails
 

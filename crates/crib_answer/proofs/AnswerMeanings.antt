@@ -4,12 +4,14 @@ use Rattle.std.proofs.Common.{refl, sym, ◌∙◌, subst}
 use Rattle.crib_text.specs.Refusals.{Refusal, no_memory}
 use Rattle.crib_problem.specs.Setup.{Setup}
 use Rattle.crib_plan.specs.declared.plan.Node.{Node}
+use Rattle.crib_plan.specs.Nodes.{most_nodes}
 use Rattle.crib_game.specs.Spelling.{game_text}
 use Rattle.crib_check.specs.declared.verdict.Verdict.{Verdict}
 use Rattle.crib_check.specs.declared.verdict.Verdict.TheVariants.{Holds, Fails}
 use Rattle.crib_check.specs.Verdicts.{IsRight}
 use Rattle.crib_check.proofs.VerdictAtStart.{ends, sure_goes_on}
-use Rattle.crib_search.specs.Finder.{IsFound}
+use Rattle.crib_search.specs.Finder.{ExceedsLimit, IsFound}
+use Rattle.crib_search.proofs.FoundIsPlan.{plan_within}
 use Rattle.crib_search.proofs.LawProofs.{sure_law, none_law}
 use Rattle.crib_answer.specs.declared.job.Job.{Job}
 use Rattle.crib_answer.specs.declared.job.Job.TheVariants.{Replay, Follow, Check, Solve, Board}
@@ -53,15 +55,23 @@ abbrev Solves : List ℕ → Reply → Type 0
 Solves input reply = SolveMeans input reply.output reply.status
 
 pub found_means : (input : List ℕ) (problem : Setup) (found : Option (List Node)) → SpellsProblem input problem → IsFound problem found
-    → Solves input (found_reply found)
-found_means input problem (Some plan) spelled found =
+    → ¬ ExceedsLimit problem most_nodes → Solves input (found_reply found)
+found_means input problem (Some plan) spelled found small =
     let sure = sure_law problem plan spelled.problem_is found in
-    let on = sure_goes_on problem plan sure in
-    record { problem = problem; plan = plan; spelled = spelled; plan_is = refl; sure = sure; goes_on = on; ends = ends problem spelled.problem_is }
-found_means input problem None spelled found = (record { problem = problem; spelled = spelled; none = none_law problem spelled.problem_is found }, refl)
+    record {
+      problem = problem;
+      plan = plan;
+      spelled = spelled;
+      is_plan = plan_within problem plan spelled.problem_is found small;
+      plan_is = refl;
+      sure = sure;
+      goes_on = sure_goes_on problem plan sure;
+      ends = ends problem spelled.problem_is;
+    }
+found_means input problem None spelled found small = (record { problem = problem; spelled = spelled; none = none_law problem spelled.problem_is found }, refl)
 
 problem_means : (input : List ℕ) (problem : Setup) (reply : Reply) → SpellsProblem input problem → AnswersProblem problem reply → Solves input reply
-problem_means input problem reply spelled (inl answer) = subst (Solves input) (sym answer.3) (found_means input problem answer.0 spelled answer.1)
+problem_means input problem reply spelled (inl answer) = subst (Solves input) (sym answer.3) (found_means input problem answer.0 spelled answer.1 answer.2)
 problem_means input problem reply spelled (inr answer) =
     let large = answer.0 in
     subst (Solves input) (sym answer.1)

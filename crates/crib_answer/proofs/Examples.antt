@@ -136,7 +136,16 @@ want_of_memory input = (refl, inl refl)
 pub a_sure_plan_is_written : Ends at_29 → StatusMeans Solve the_problem (record { output = the_plan; status = Yes })
 unfolding plan_text plan_lines digits
 a_sure_plan_is_written ends =
-    record { problem = at_29; plan = ace_or_two; spelled = problem_alone; plan_is = refl; sure = ace_or_two_is_sure; goes_on = ace_or_two_goes_on; ends = ends }
+    record {
+      problem = at_29;
+      plan = ace_or_two;
+      spelled = problem_alone;
+      is_plan = are_a_plan;
+      plan_is = refl;
+      sure = ace_or_two_is_sure;
+      goes_on = ace_or_two_goes_on;
+      ends = ends;
+    }
 
 pub no_text_is_no_plan : (input : List ℕ) → IsSolvedBy input [] → ⊥
 unfolding plan_text plan_lines

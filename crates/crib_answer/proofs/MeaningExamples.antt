@@ -4,7 +4,7 @@ use Rattle.std.specs.Prelude.{slice_index}
 use Rattle.std.specs.Fmt.{digits}
 use Rattle.crib_problem.specs.Setup.{Setup}
 use Rattle.crib_plan.specs.declared.plan.Node.{Node}
-use Rattle.crib_plan.specs.Nodes.{most_nodes}
+use Rattle.crib_plan.specs.Nodes.{ArePlan, most_nodes}
 use Rattle.crib_plan.specs.Spelling.{plan_lines, plan_text}
 use Rattle.crib_check.specs.declared.verdict.Verdict.{Verdict}
 use Rattle.crib_check.specs.declared.verdict.Verdict.TheVariants.{Holds, Fails}
@@ -61,8 +61,8 @@ pub sure_plan : (input : List ℕ) (has : HasSurePlan input) →
 sure_plan input has = (has.spelled, has.sure, has.goes_on, has.ends)
 
 pub found_plan : (input text : List ℕ) (is : IsSolvedBy input text) →
-    SpellsProblem input is.problem × IsSure is.problem is.plan × GoesOn is.problem is.plan × Ends is.problem
-found_plan input text is = (is.spelled, is.sure, is.goes_on, is.ends)
+    SpellsProblem input is.problem × ArePlan is.plan × IsSure is.problem is.plan × GoesOn is.problem is.plan × Ends is.problem
+found_plan input text is = (is.spelled, is.is_plan, is.sure, is.goes_on, is.ends)
 
 -- ---- no plan, and some plan
 pub problem_without_a_plan : (input : List ℕ) (has : HasNoPlan input) → SpellsProblem input has.problem × (((problem : Setup) → IsWinnable problem) → ⊥)

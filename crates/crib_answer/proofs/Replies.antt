@@ -18,6 +18,7 @@ use Rattle.crib_check.specs.Failing.{IsFirstFailing}
 use Rattle.crib_check.proofs.VerdictAtStart.{ends, sure_goes_on}
 use Rattle.crib_check.proofs.OneFirstGame.{same_law}
 use Rattle.crib_search.specs.Finder.{IsFound, ExceedsLimit}
+use Rattle.crib_search.proofs.FoundIsPlan.{plan_within}
 use Rattle.crib_search.proofs.OneTree.{one_law}
 use Rattle.crib_search.proofs.LawProofs.{sure_law, none_law}
 use Rattle.crib_answer.specs.declared.job.Job.TheVariants.{Replay, Follow, Check, Solve, Board}
@@ -138,20 +139,20 @@ failing_owed input problem plan result game spelled first = rw (question_spelled
 
 -- ---- solve
 
-pub record IsPlanned (said : Result Setup Refusal) (output : List ℕ) : Type 0 where
-  pub problem : Setup
-  pub plan : List Node
-  pub asked : said ≡ Ok problem
-  pub output_is : output ≡ plan_text plan
-  pub found : IsFound problem (Some plan)
-  pub within : ¬ ExceedsLimit problem most_nodes
+record IsPlanned (said : Result Setup Refusal) (output : List ℕ) : Type 0 where
+  problem : Setup
+  plan : List Node
+  asked : said ≡ Ok problem
+  output_is : output ≡ plan_text plan
+  found : IsFound problem (Some plan)
+  within : ¬ ExceedsLimit problem most_nodes
 
 record IsUnplanned (said : Result Setup Refusal) : Type 0 where
   problem : Setup
   asked : said ≡ Ok problem
   found : IsFound problem None
 
-pub planned_by_output : (said : Result Setup Refusal) (reply : Reply) (more : List ℕ) → AnswersSolve said reply → reply.output ≡ codes "plan" ++ more
+planned_by_output : (said : Result Setup Refusal) (reply : Reply) (more : List ℕ) → AnswersSolve said reply → reply.output ≡ codes "plan" ++ more
     → IsPlanned said reply.output
 planned_by_output (Ok problem) reply more (inl (Some plan, found, small, is)) e =
     record { problem = problem; plan = plan; asked = refl; output_is = ap (λ (r : Reply). r.output) is; found = found; within = small }
@@ -175,6 +176,7 @@ plan_law input reply more answers e =
       problem = planned.problem;
       plan = planned.plan;
       spelled = spelled;
+      is_plan = plan_within planned.problem planned.plan spelled.problem_is planned.found planned.within;
       plan_is = planned.output_is;
       sure = sure;
       goes_on = sure_goes_on planned.problem planned.plan sure;

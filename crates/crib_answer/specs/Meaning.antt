@@ -4,6 +4,7 @@ use Rattle.crib_text.specs.Refusals.{no_memory}
 use Rattle.crib_text.specs.Spelling.{line_text}
 use Rattle.crib_problem.specs.Setup.{Setup}
 use Rattle.crib_plan.specs.declared.plan.Node.{Node}
+use Rattle.crib_plan.specs.Nodes.{ArePlan}
 use Rattle.crib_plan.specs.Spelling.{plan_text}
 use Rattle.crib_game.specs.declared.section.game.Game.{Game}
 use Rattle.crib_game.specs.declared.following.ending.Ending.{Ending}
@@ -39,12 +40,13 @@ pub record HasFailingPlan (input : List ℕ) (result : Ending) (text : List ℕ)
   pub game_is : text ≡ game_text game
   pub failing : IsFailing problem plan game result
 
--- an input spells a problem, and `text` is the text of a plan that is sure for this problem. The play goes on until the
--- deal is done
+-- an input spells a problem, and `text` is the text of a plan that is sure for this problem. `check` accepts the plan:
+-- it has at most 65,535 nodes, and each leads only to later nodes. The play goes on until the deal is done
 pub record IsSolvedBy (input text : List ℕ) : Type 0 where
   pub problem : Setup
   pub plan : List Node
   pub spelled : SpellsProblem input problem
+  pub is_plan : ArePlan plan
   pub plan_is : text ≡ plan_text plan
   pub sure : IsSure problem plan
   pub goes_on : GoesOn problem plan

@@ -3,7 +3,7 @@ use Rattle.std.proofs.Common.{◌≡◌, ℕ, zero, suc, ◌≤◌, not, ◌&&�
 use Rattle.std.proofs.Common.{inl, inr}
 use Rattle.std.specs.List.{AllByRecursion, AllZip, filter, list_all}
 use Rattle.std.proofs.lemmas.List.Elements.{All-filter, All-from_recursion, recursion_from_All}
-use Rattle.std.proofs.lemmas.Bool.{cond_both}
+use Rattle.std.proofs.lemmas.Bool.{cases_lt, cond_both}
 use Rattle.crib_cards.specs.Sets.{has}
 use Rattle.crib_cards.specs.declared.letters.Letter.{Letter}
 use Rattle.crib_cards.specs.declared.moves.Move.TheVariants as move
@@ -18,7 +18,7 @@ use Rattle.crib_know.specs.Knowledge.{asked_now, played_events}
 use Rattle.crib_search.specs.Trees.{Tree, Finish, Plays, Sees, Branches, NoBranch, Branch, branches_of, trees_of, same_tree, is_finish, is_play}
 use Rattle.crib_search.specs.Trees.{joined_tree_from, joined_tree, trees_with, trees_after_walk, trees_after_walks, plan_of_tree}
 use Rattle.crib_search.specs.Private.Nodes.{IsWhole, AreWhole}
-use Rattle.crib_search.specs.Finder.{BranchFinds, Finds, FindsFor, Found, IsFound, OwnerFinds, letters, options}
+use Rattle.crib_search.specs.Finder.{BranchFinds, ExceedsLimit, Finds, FindsFor, Found, IsFound, OwnerFinds, letters, options}
 use Rattle.crib_search.proofs.FoundBySide.{finds_of_tree, opponent_some, tries_some}
 use Rattle.crib_search.proofs.NumberedNodes.{AreFine, IsFine, nodes_from, plan_count}
 use Rattle.crib_search.proofs.Options.{option_is}
@@ -115,3 +115,11 @@ found_plan problem plan setup (Some tree, finds, e) few =
     let same : plan ≡ plan_of_tree tree = cc in
     let whole = found_whole problem setup 30 (played_events problem) tree (finds_of_tree problem (Some tree) finds) in
     rw same (tree_plan tree whole (rw same at few))
+
+-- the same, if no plan that is found has more nodes than a plan may have
+pub plan_within : (problem : Setup) (plan : List Node) → IsSetup problem → IsFound problem (Some plan) → ¬ ExceedsLimit problem most_nodes → ArePlan plan
+plan_within problem plan setup found small =
+    found_plan problem plan setup found (elim (cases_lt most_nodes (length plan)) [
+      | inl more ↦ absurd (small (plan, found, more))
+      | inr few ↦ few
+    ])

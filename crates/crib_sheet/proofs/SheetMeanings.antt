@@ -1,12 +1,11 @@
 -- A reply that a job makes has the meaning that `specs/Meaning` states.
-use Rattle.std.proofs.Common.{◌≡◌, inl, inr, ℕ, zero, suc, ◌+◌, ◌<◌, ◌≤◌, Bool, List, length, Option, Result, Ok, Err, None, Some}
+use Rattle.std.proofs.Common.{◌≡◌, inl, inr, ℕ, zero, suc, ◌+◌, ◌<◌, Bool, List, length, Option, Result, Ok, Err, None, Some}
 use Rattle.std.proofs.Common.{refl, sym, ap, ◌∙◌, subst}
-use Rattle.std.proofs.lemmas.Bool.{cases_lt}
 use Rattle.crib_text.specs.Refusals.{Refusal, no_memory, too_long}
 use Rattle.crib_text.specs.Reading.{◌>>=◌}
 use Rattle.crib_cards.specs.declared.moves.Act.{Act}
 use Rattle.crib_problem.specs.Setup.{IsSetup, Setup}
-use Rattle.crib_plan.specs.Nodes.{ArePlan, most_nodes}
+use Rattle.crib_plan.specs.Nodes.{ArePlan}
 use Rattle.crib_plan.specs.Spelling.{plan_text}
 use Rattle.crib_plan.specs.declared.plan.Node.{Node}
 use Rattle.crib_game.specs.declared.fault.GameFault.{GameFault}
@@ -34,7 +33,7 @@ use Rattle.crib_answer.specs.Meaning.{HasSurePlan}
 use Rattle.crib_answer.proofs.AnswerMeanings.{found_means}
 use Rattle.crib_search.specs.Tried.{IsNeverStuck}
 use Rattle.crib_search.specs.Winnable.{IsWinnable}
-use Rattle.crib_search.proofs.FoundIsPlan.{found_plan}
+use Rattle.crib_search.proofs.FoundIsPlan.{plan_within}
 use Rattle.crib_players.proofs.Refuted.{refuted}
 use Rattle.crib_answer.specs.Input.{judgement_of, report_of_input}
 use Rattle.crib_beaten.specs.Tally.{AreFigures}
@@ -82,12 +81,7 @@ no_question input refusal asked problem plan spelled =
 
 -- a plan to try is a plan
 tried_plan : (problem : Setup) (plan : List Node) (status : Status) → IsSetup problem → IsToTry problem plan status → ArePlan plan
-tried_plan problem plan status setup (inl found) =
-    let few : length plan ≤ most_nodes = elim (cases_lt most_nodes (length plan)) [
-      | inl more ↦ absurd (found.2 (plan, found.1, more))
-      | inr few ↦ few
-    ] in
-    found_plan problem plan setup found.1 few
+tried_plan problem plan status setup (inl found) = plan_within problem plan setup found.1 found.2
 tried_plan problem plan status setup (inr unsure) = unsure.2
 
 tried_stated : (problem : Setup) (plan : List Node) (status : Status) → IsToTry problem plan status → status ≡ No → IsNeverStuck problem plan
@@ -101,7 +95,7 @@ none_is_sure_if_no problem plan status (inr unsure) is = unsure.1
 
 tried_means : (input : List ℕ) (problem : Setup) (plan : List Node) (reply : Reply) → SpellsProblem input problem → IsToTry problem plan reply.status
     → reply.output ≡ plan_text plan → TryMeans input reply.output reply.status
-tried_means input problem plan reply spelled (inl found) text = rw (text, found.0) (found_means input problem (Some plan) spelled found.1)
+tried_means input problem plan reply spelled (inl found) text = rw (text, found.0) (found_means input problem (Some plan) spelled found.1 found.2)
 tried_means input problem plan reply spelled (inr unsure) text =
     rw (text, unsure.0) (record { problem = problem; spelled = spelled; none = unsure.1 }, (plan, unsure.2, unsure.3, refl))
 

@@ -14,6 +14,15 @@ use Rattle.crib_search.specs.Laws.{OneLaw}
 use Rattle.crib_search.proofs.FoundBySide.{finds_of_tree, branch_found}
 use Rattle.std.proofs.lemmas.Option.{same_Some}
 
+-- a relation with at most one item for each has at most one list for each list
+pub one_list : {X Y : Type 0} (R : X → Y → Type 0) → ((x : X) (one other : Y) → R x one → R x other → one ≡ other) → (xs : List X) (ones others : List Y) →
+    AllZip R xs ones → AllZip R xs others → ones ≡ others
+one_list R single [] [] [] a b = refl
+one_list R single [] [] (other ∷ others) a b = absurd b
+one_list R single (x ∷ xs) (one ∷ ones) [] a b = absurd b
+one_list R single (x ∷ xs) (one ∷ ones) (other ∷ others) a b = cc (single x one other a.0 b.0, one_list R single xs ones others a.1 b.1)
+one_list R single xs ones others a b = absurd a
+
 -- one answer at a history
 abbrev IsOne : Found → Type 0
 IsOne finds = (history : List Event) (one other : Option Tree) → finds history one → finds history other → one ≡ other
@@ -39,12 +48,7 @@ module _ (finds : Found) (single : IsOne finds) where
 
     branches_one : (shown : List Letter) (ones others : List Tree) → AllZip (BranchFinds finds problem history) shown ones →
         AllZip (BranchFinds finds problem history) shown others → ones ≡ others
-    branches_one [] [] [] a b = refl
-    branches_one [] [] (other ∷ others) a b = absurd b
-    branches_one (letter ∷ shown) (one ∷ ones) [] a b = absurd b
-    branches_one (letter ∷ shown) (one ∷ ones) (other ∷ others) a b =
-        cc (branch_one letter one other a.0 b.0, branches_one shown ones others a.1 b.1)
-    branches_one shown ones others a b = absurd a
+    branches_one = one_list (BranchFinds finds problem history) branch_one
 
     -- if a branch is lacking, not all are found
     not_both : LacksBranch finds problem history → (trees : List Tree) → AllZip (BranchFinds finds problem history) letters trees → ⊥

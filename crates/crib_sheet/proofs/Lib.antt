@@ -17,6 +17,7 @@ pub mod HolesLines
 pub mod LeadsLines
 pub mod LeadsMade
 pub mod MadeSheets
+pub mod OneSheet
 pub mod PlanBeatenLines
 pub mod RowColumns
 pub mod ScoreLines

@@ -2,6 +2,7 @@ pub mod Asked
 pub mod Beaten
 pub mod Job
 pub mod Holes
+pub mod Laws
 pub mod Leads
 pub mod LeadsText
 pub mod Meaning

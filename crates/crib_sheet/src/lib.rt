@@ -5,6 +5,7 @@
 
 mod answer;
 mod holes;
+mod laws;
 mod leads;
 mod next;
 mod refutation;
@@ -14,5 +15,6 @@ mod verdict;
 
 pub use answer::{GameSheet, LeadsSheet, NAMES, NextSheet, PlanSheet, Sheet, SheetJob, TriedPlan};
 pub use holes::HolesSheet;
+pub use laws::sheet_law;
 pub use refutation::InWords;
 pub use scores::ScoreSheet;

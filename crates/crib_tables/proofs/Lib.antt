@@ -1,3 +1,4 @@
+pub mod OneTable
 pub mod ScoreTables
 pub mod SureHoles
 pub mod SureTurns

@@ -16,6 +16,7 @@ mod matching;
 mod net;
 mod places;
 mod planner;
+mod register;
 mod rounds;
 mod spot;
 mod survey;

@@ -247,6 +247,17 @@ impl<A: Allocator + Copy> Choices<A> {
         counts
     }
 
+    /// How many open deals there are.
+    pub(crate) fn open_deals(&self) -> u64 {
+        let mut sum = 0u64;
+        for index in 0..self.choices.len() {
+            if let Some(choice) = self.choices.get(index) {
+                sum = sum.saturating_add(u64::from(choice.open_deals));
+            }
+        }
+        sum
+    }
+
     /// How many choices there are.
     pub(crate) fn len(&self) -> usize {
         self.choices.len()

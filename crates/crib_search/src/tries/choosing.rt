@@ -11,10 +11,16 @@ use std::alloc::{AllocError, Allocator};
 const TIMES: u8 = 4;
 
 // The rounds after which what was learned is tried.
-const ROUNDS: [u32; 3] = [16, 64, 256];
+const ROUNDS: [u32; 8] = [16, 32, 64, 128, 256, 512, 1024, 2048];
 
 // The guests that are heard in all rounds.
-const PATIENCE: usize = 150_000;
+const PATIENCE: usize = 3_000_000;
+
+// A plan is near sure if at most one of so many deals beats it. For another plan there are no rounds.
+const NEAR: u64 = 10;
+
+// Deals are counted in steps of so many as a rule: so many throws each hold leaves.
+const STEP: u64 = 820;
 
 /// The choices in the making.
 #[derive(Drop)]
@@ -59,22 +65,30 @@ pub(crate) fn choose<A: Allocator + Copy>(
     let end = choosing.net.nodes.len();
     choosing.choose_all((0, end), false, DEPTH);
     choosing.improve()?;
-    choosing.learn(alloc)?;
+    if beaten.saturating_add(choosing.least) <= choices.open_deals() / NEAR {
+        choosing.learn(alloc)?;
+    }
     choosing.restore();
     choosing.net.choose_at(places);
     Ok(beaten.saturating_add(choosing.least))
 }
 
 impl<A: Allocator + Copy> Choosing<'_, A> {
-    // Lets both sides learn, and tries what was learned.
+    // Lets both sides learn, and tries what was learned, until no plan can be better.
     fn learn(&mut self, alloc: A) -> Result<(), AllocError> {
         let mut matching = Matching::new(alloc, &self.net, &self.ledger)?;
         let mut patience = PATIENCE;
-        for round in 0..256u32 {
+        for round in 1..2049u32 {
             matching.play(&self.net);
             patience = patience.saturating_sub(matching.len());
-            if ROUNDS.contains(&(round + 1)) || patience == 0 {
-                self.follow(&matching);
+            if patience == 0 || ROUNDS.contains(&round) {
+                let least = matching.least(&self.net);
+                self.follow(&matching, false);
+                self.improve()?;
+                if least.saturating_add(STEP) > self.least {
+                    break;
+                }
+                self.follow(&matching, true);
                 self.improve()?;
             }
             if patience == 0 {
@@ -117,13 +131,17 @@ impl<A: Allocator + Copy> Choosing<'_, A> {
         }
     }
 
-    // Takes the choices that were learned.
-    fn follow(&mut self, matching: &Matching<A>) {
+    // Takes the choices that were learned: those that were played most, or the best against what was played.
+    fn follow(&mut self, matching: &Matching<A>, is_answer: bool) {
         let all = (0, self.net.nodes.len());
         self.pass_all(all, true, DEPTH);
         for index in 0..self.net.nodes.len() {
             if let Some(node) = self.net.nodes.get_mut(index) {
-                node.choice = matching.favourite(node);
+                node.choice = if is_answer {
+                    matching.lesson(index).answer
+                } else {
+                    matching.favourite(node)
+                };
             }
         }
         self.pass_all(all, false, DEPTH);

@@ -1,73 +1,94 @@
 //! Regret matching: the owner and the opponent learn from each other what to play.
 
 use crate::tries::ledger::Ledger;
-use crate::tries::net::{DEPTH, Net, Node};
+use crate::tries::net::{Net, Node};
+use crate::tries::register::Register;
 use std::alloc::{AllocError, Allocator};
 
-// Shares and values are in parts of one.
-pub(crate) const ONE: u64 = 65_536;
+/// Shares and values are in parts of one.
+pub(crate) const ONE: u64 = 1_048_576;
 
-/// A group of deals that may beat the owner from a node on.
+/// A group of deals that may beat the owner at a node or behind it.
 #[derive(Clone, Copy)]
 pub(crate) struct Guest {
-    pub(crate) group: usize,
-    // How much the opponent regrets that they did not go here more often.
+    /// The index of its way.
+    pub(crate) way: usize,
+    /// How much the opponent regrets that they did not go here more often.
     pub(crate) regret: u64,
-    // The share of them that gets here from the last choice of the owner, and from the beginning.
+    /// The share of the group that goes here, of what goes its way and of all.
     pub(crate) share: u64,
     pub(crate) flow: u64,
-    // The share of them that passes from here.
+    /// The share of what gets here that passes.
+    pub(crate) value: u64,
+    /// The flow of all rounds, later ones counted more.
+    pub(crate) total: u64,
+}
+
+/// A group of deals on its way to the nodes after an edge.
+#[derive(Clone, Copy)]
+pub(crate) struct Way {
+    /// The index of the guest that goes this way. There is none before the first node.
+    pub(crate) host: Option<usize>,
+    /// How many deals are in the group.
+    pub(crate) weight: u64,
+    /// To how many nodes it may go, and how much it regrets of all of them.
+    pub(crate) doors: u64,
+    pub(crate) regret: u64,
+    /// The share of the group that goes this way, and the share of that which passes.
+    pub(crate) flow: u64,
     pub(crate) value: u64,
 }
 
-/// What is learned of a node: the index of its first guest, and the index past the last one.
+/// A group of deals that an edge lets through.
 #[derive(Clone, Copy)]
-pub(crate) struct Lesson {
+pub(crate) struct Loss {
+    /// The index of the guest.
+    pub(crate) guest: usize,
+    /// How many deals are in the group.
+    pub(crate) weight: u64,
+}
+
+/// What is learned of an edge, or of the way to the first nodes.
+#[derive(Clone, Copy, Default)]
+pub(crate) struct Habit {
+    /// The indices of what it lets through, of the ways after it, and of the guests there: the first ones, and those
+    /// past the last ones.
+    pub(crate) loss: usize,
+    pub(crate) loss_end: usize,
+    pub(crate) way: usize,
+    pub(crate) way_end: usize,
     pub(crate) guest: usize,
     pub(crate) guest_end: usize,
-}
-
-/// What is learned of an edge.
-#[derive(Clone, Copy)]
-pub(crate) struct Habit {
-    // The index of the first group that it lets through, and the index past the last one.
-    pub(crate) hit: usize,
-    pub(crate) hit_end: usize,
-    // How much the owner regrets that it was not played more often, and how often it was, later rounds counted more.
+    /// How much the owner regrets that it was not played more often, and how often it was, later rounds counted more.
     pub(crate) regret: u64,
     pub(crate) total: u64,
-    // The share that it is played with, and how many deals pass it then.
+    /// The share that it is played with, and how many deals pass it then.
     pub(crate) share: u64,
-    pub(crate) loss: u64,
+    pub(crate) lost: u64,
 }
 
-/// What is known of a group while an edge is looked at.
+/// What is learned of a node.
 #[derive(Clone, Copy, Default)]
-pub(crate) struct Note {
-    // The node at which it was found to be a guest last, counted from 1.
-    pub(crate) seen: usize,
-    // How many deals are in it.
-    pub(crate) weight: u64,
-    // The share of it that is there, and the index of the guest.
-    pub(crate) flow: u64,
+pub(crate) struct Lesson {
+    /// The index of its first guest, and the index past the last one.
     pub(crate) guest: usize,
-    // What the guests after the edge regret, and how many there are.
-    pub(crate) regret: u64,
-    pub(crate) doors: u64,
-    // The share of it that passes.
-    pub(crate) value: u64,
-    pub(crate) is_hit: bool,
+    pub(crate) guest_end: usize,
+    /// The share with which the owner gets here.
+    pub(crate) reach: u64,
+    /// How many deals pass from here at least, if the opponent plays as in all rounds, and the best edge then.
+    pub(crate) worth: u64,
+    pub(crate) answer: usize,
 }
 
 /// The two sides, as far as they have learned.
 #[derive(Drop)]
 pub(crate) struct Matching<A: Allocator> {
     pub(crate) guests: Vec<Guest, A>,
-    pub(crate) lessons: Vec<Lesson, A>,
+    pub(crate) ways: Vec<Way, A>,
+    pub(crate) losses: Vec<Loss, A>,
+    /// What is learned of each edge. That of the way to the first nodes is the last one.
     pub(crate) habits: Vec<Habit, A>,
-    // The groups that the edges let through.
-    pub(crate) hits: Vec<usize, A>,
-    pub(crate) notes: Vec<Note, A>,
+    pub(crate) lessons: Vec<Lesson, A>,
     pub(crate) round: u64,
 }
 
@@ -76,63 +97,143 @@ impl<A: Allocator + Copy> Matching<A> {
     pub(crate) fn new(alloc: A, net: &Net<A>, ledger: &Ledger<A>) -> Result<Self, AllocError> {
         let mut matching = Matching {
             guests: Vec::new(alloc),
-            lessons: Vec::new(alloc),
+            ways: Vec::new(alloc),
+            losses: Vec::new(alloc),
             habits: Vec::new(alloc),
-            hits: Vec::new(alloc),
-            notes: Vec::new(alloc),
+            lessons: Vec::new(alloc),
             round: 0,
         };
-        for group in 0..ledger.len() {
-            matching.notes.push(Note {
-                weight: ledger.weight(group),
-                ..Note::default()
-            })?;
-        }
-        for index in 0..net.edges.len() {
-            matching.add_habit(net, ledger, index)?;
+        for _ in 0..net.edges.len() {
+            matching.habits.push(Habit::default())?;
         }
         for _ in 0..net.nodes.len() {
-            matching.lessons.push(Lesson {
-                guest: 0,
-                guest_end: 0,
-            })?;
+            matching.lessons.push(Lesson::default())?;
         }
-        for before in 0..net.nodes.len() {
-            matching.invite(net, net.nodes.len() - 1 - before)?;
-        }
-        Ok(matching)
-    }
-
-    // Lists the groups that an edge lets through.
-    fn add_habit(
-        &mut self,
-        net: &Net<A>,
-        ledger: &Ledger<A>,
-        index: usize,
-    ) -> Result<(), AllocError> {
-        let hit = self.hits.len();
-        if let Some(edge) = net.edge(index) {
-            for at in edge.hit..edge.hit_end {
-                if let Some(item) = net.hits.get(at).copied() {
-                    let mut next = ledger.first_group(item);
-                    for _ in 0..ledger.len() {
-                        let Some(group) = next else {
-                            break;
-                        };
-                        self.hits.push(group)?;
-                        next = ledger.next_group(item, group);
+        matching.habits.push(Habit::default())?;
+        let mut register = Register::new(alloc, net, ledger)?;
+        matching.welcome(
+            net,
+            ledger,
+            &mut register,
+            net.edges.len(),
+            (0, net.nodes.len()),
+        )?;
+        for index in 0..net.nodes.len() {
+            if let Some(node) = net.node(index) {
+                register.seat(index, matching.lesson(index).guest);
+                for at in node.edge..node.edge_end {
+                    if let Some(edge) = net.edge(at) {
+                        matching.welcome(net, ledger, &mut register, at, (edge.next, edge.end))?;
+                        matching.add_losses(&register, ledger, at)?;
                     }
                 }
             }
         }
-        self.habits.push(Habit {
-            hit,
-            hit_end: self.hits.len(),
-            regret: 0,
-            total: 0,
-            share: 0,
-            loss: 0,
-        })?;
+        Ok(matching)
+    }
+
+    // Adds the guests of the nodes between two indices, side by side, which are those after an edge.
+    fn welcome(
+        &mut self,
+        net: &Net<A>,
+        ledger: &Ledger<A>,
+        register: &mut Register<A>,
+        at: usize,
+        range: (usize, usize),
+    ) -> Result<(), AllocError> {
+        let (way, guest) = (self.ways.len(), self.guests.len());
+        let mut child = range.0;
+        for _ in range.0..range.1 {
+            if child >= range.1 {
+                break;
+            }
+            self.welcome_at(ledger, register, child, way)?;
+            child = net.past(child);
+        }
+        let (way_end, guest_end) = (self.ways.len(), self.guests.len());
+        if let Some(habit) = self.habits.get_mut(at) {
+            *habit = Habit {
+                way,
+                way_end,
+                guest,
+                guest_end,
+                ..*habit
+            };
+        }
+        Ok(())
+    }
+
+    // Adds the guests of a node. The ways of its edge begin at an index.
+    fn welcome_at(
+        &mut self,
+        ledger: &Ledger<A>,
+        register: &mut Register<A>,
+        index: usize,
+        first: usize,
+    ) -> Result<(), AllocError> {
+        let guest = self.guests.len();
+        let (from, to) = register.range(index);
+        for at in from..to {
+            let group = register.group(at);
+            let way = match register.way(group) {
+                Some(way) if way >= first => way,
+                _ => {
+                    let way = self.ways.len();
+                    self.ways.push(Way {
+                        host: register.host(group),
+                        weight: ledger.weight(group),
+                        doors: 0,
+                        regret: 0,
+                        flow: ONE,
+                        value: 0,
+                    })?;
+                    register.lead(group, way);
+                    way
+                }
+            };
+            if let Some(way) = self.ways.get_mut(way) {
+                way.doors = way.doors.saturating_add(1);
+            }
+            self.guests.push(Guest {
+                way,
+                regret: 0,
+                share: ONE,
+                flow: 0,
+                value: 0,
+                total: 0,
+            })?;
+        }
+        let guest_end = self.guests.len();
+        if let Some(lesson) = self.lessons.get_mut(index) {
+            lesson.guest = guest;
+            lesson.guest_end = guest_end;
+        }
+        Ok(())
+    }
+
+    // Adds what an edge lets through, if the guests of its node are seated.
+    fn add_losses(
+        &mut self,
+        register: &Register<A>,
+        ledger: &Ledger<A>,
+        at: usize,
+    ) -> Result<(), AllocError> {
+        let loss = self.losses.len();
+        let (from, to) = register.hits(at);
+        for hit in from..to {
+            let group = register.hit(hit);
+            if let Some(guest) = register.host(group) {
+                self.losses.push(Loss {
+                    guest,
+                    weight: ledger.weight(group),
+                })?;
+            }
+        }
+        let loss_end = self.losses.len();
+        if let Some(habit) = self.habits.get_mut(at) {
+            habit.loss = loss;
+            habit.loss_end = loss_end;
+        }
         Ok(())
     }
 
@@ -141,91 +242,20 @@ impl<A: Allocator + Copy> Matching<A> {
         self.guests.len()
     }
 
-    // Lists the guests of a node. Those of the nodes behind it are listed already.
-    fn invite(&mut self, net: &Net<A>, index: usize) -> Result<(), AllocError> {
-        let Some(node) = net.node(index) else {
-            return Ok(());
-        };
-        let guest = self.guests.len();
-        for at in node.edge..node.edge_end {
-            if let Some(habit) = self.habits.get(at).copied() {
-                for hit in habit.hit..habit.hit_end {
-                    if let Some(group) = self.hits.get(hit).copied() {
-                        self.invite_one(index, group)?;
-                    }
-                }
-            }
-        }
-        let mut child = index.saturating_add(1);
-        for _ in 0..net.nodes.len() {
-            if child >= node.end {
-                break;
-            }
-            if let Some(lesson) = self.lessons.get(child).copied() {
-                for at in lesson.guest..lesson.guest_end {
-                    if let Some(guest) = self.guests.get(at).copied() {
-                        self.invite_one(index, guest.group)?;
-                    }
-                }
-            }
-            child = net.past(child);
-        }
-        let guest_end = self.guests.len();
-        if let Some(lesson) = self.lessons.get_mut(index) {
-            *lesson = Lesson { guest, guest_end };
-        }
-        Ok(())
-    }
-
-    fn invite_one(&mut self, index: usize, group: usize) -> Result<(), AllocError> {
-        if let Some(note) = self.notes.get_mut(group) {
-            let seen = index.saturating_add(1);
-            if note.seen != seen {
-                note.seen = seen;
-                self.guests.push(Guest {
-                    group,
-                    regret: 0,
-                    share: 0,
-                    flow: 0,
-                    value: 0,
-                })?;
-            }
-        }
-        Ok(())
-    }
-
     /// What is learned of the node with an index.
     pub(crate) fn lesson(&self, index: usize) -> Lesson {
         match self.lessons.get(index) {
             Some(lesson) => *lesson,
-            None => Lesson {
-                guest: 0,
-                guest_end: 0,
-            },
+            None => Lesson::default(),
         }
     }
 
-    /// Plays a round.
-    pub(crate) fn play(&mut self, net: &Net<A>) {
-        self.round = self.round.saturating_add(1);
-        for index in 0..self.notes.len() {
-            if let Some(note) = self.notes.get_mut(index) {
-                note.flow = ONE;
-                note.value = 0;
-                note.is_hit = false;
-            }
+    /// What is learned of the edge with an index.
+    pub(crate) fn habit(&self, index: usize) -> Habit {
+        match self.habits.get(index) {
+            Some(habit) => *habit,
+            None => Habit::default(),
         }
-        let all = (0, net.nodes.len());
-        self.spread(net, all);
-        self.visit_all(net, all, ONE, DEPTH);
-        for index in 0..self.notes.len() {
-            if let Some(note) = self.notes.get_mut(index) {
-                note.value = 0;
-                note.is_hit = false;
-            }
-        }
-        self.collect(net, all);
-        self.regret(net, all, ONE);
     }
 
     /// The index of the edge of a node that was played most.
@@ -233,11 +263,10 @@ impl<A: Allocator + Copy> Matching<A> {
         let mut best = node.edge;
         let mut most = 0;
         for at in node.edge..node.edge_end {
-            if let Some(habit) = self.habits.get(at) {
-                if habit.total > most {
-                    best = at;
-                    most = habit.total;
-                }
+            let total = self.habit(at).total;
+            if total > most {
+                best = at;
+                most = total;
             }
         }
         best

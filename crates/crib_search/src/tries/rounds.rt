@@ -1,162 +1,157 @@
 //! The rounds of regret matching.
 
 use crate::tries::matching::{Habit, Lesson, Matching, ONE};
-use crate::tries::net::{Edge, Net, Node};
+use crate::tries::net::{Net, Node};
 use std::alloc::Allocator;
 
 impl<A: Allocator + Copy> Matching<A> {
-    /// Lets the guests of the nodes between two indices, side by side, come from where the flow of each is noted.
-    pub(crate) fn spread(&mut self, net: &Net<A>, range: (usize, usize)) {
-        let (first, end) = range;
-        let mut child = first;
-        for _ in first..end {
-            if child >= end {
-                break;
-            }
-            let lesson = self.lesson(child);
-            for at in lesson.guest..lesson.guest_end {
-                if let Some(guest) = self.guests.get(at).copied() {
-                    if let Some(note) = self.notes.get_mut(guest.group) {
-                        note.regret = note.regret.saturating_add(guest.regret);
-                        note.doors = note.doors.saturating_add(1);
+    /// Plays a round.
+    pub(crate) fn play(&mut self, net: &Net<A>) {
+        self.round = self.round.saturating_add(1);
+        let first = net.edges.len();
+        self.reach(net, (0, net.nodes.len()), ONE);
+        self.spread(first);
+        for index in 0..net.nodes.len() {
+            if let Some(node) = net.node(index) {
+                self.share_out(&node);
+                let reach = self.lesson(index).reach;
+                for at in node.edge..node.edge_end {
+                    if let Some(edge) = net.edge(at) {
+                        self.reach(
+                            net,
+                            (edge.next, edge.end),
+                            part(self.habit(at).share, reach),
+                        );
+                        self.spread(at);
                     }
                 }
             }
-            child = net.past(child);
         }
-        let mut child = first;
-        for _ in first..end {
-            if child >= end {
-                break;
+        for before in 0..net.nodes.len() {
+            let index = net.nodes.len() - 1 - before;
+            if let Some(node) = net.node(index) {
+                self.settle(index, &node);
             }
-            let lesson = self.lesson(child);
-            for at in lesson.guest..lesson.guest_end {
-                if let Some(guest) = self.guests.get_mut(at) {
-                    if let Some(note) = self.notes.get(guest.group) {
-                        guest.share = share(guest.regret, note.regret, note.doors);
-                        guest.flow = part(guest.share, note.flow);
-                    }
-                }
-            }
-            child = net.past(child);
         }
-        self.forget(net, range);
+        self.collect(&self.habit(first), ONE);
     }
 
-    // Forgets what the guests of the nodes between two indices, side by side, regret.
-    fn forget(&mut self, net: &Net<A>, range: (usize, usize)) {
-        let (first, end) = range;
-        let mut child = first;
-        for _ in first..end {
-            if child >= end {
+    // The owner gets to the nodes between two indices, side by side, with a share.
+    fn reach(&mut self, net: &Net<A>, range: (usize, usize), share: u64) {
+        let mut child = range.0;
+        for _ in range.0..range.1 {
+            if child >= range.1 {
                 break;
             }
-            let lesson = self.lesson(child);
-            for at in lesson.guest..lesson.guest_end {
-                if let Some(guest) = self.guests.get(at).copied() {
-                    if let Some(note) = self.notes.get_mut(guest.group) {
-                        note.regret = 0;
-                        note.doors = 0;
-                    }
-                }
+            if let Some(lesson) = self.lessons.get_mut(child) {
+                lesson.reach = share;
             }
             child = net.past(child);
         }
     }
 
-    /// Plays a round from the nodes between two indices on, side by side, to which the owner comes with a share.
-    #[cycle(visiting)]
-    pub(crate) fn visit_all(&mut self, net: &Net<A>, range: (usize, usize), reach: u64, depth: u8) {
-        if depth == 0 {
-            return;
-        }
-        let (first, end) = range;
-        let mut child = first;
-        for _ in first..end {
-            if child >= end {
-                break;
+    // Lets the groups go from an edge to the nodes after it.
+    fn spread(&mut self, at: usize) {
+        let habit = self.habit(at);
+        let weight = self.round.saturating_mul(self.round);
+        for index in habit.way..habit.way_end {
+            if let Some(way) = self.ways.get_mut(index) {
+                way.regret = 0;
+                if let Some(host) = way.host {
+                    if let Some(guest) = self.guests.get(host) {
+                        way.flow = guest.flow;
+                    }
+                }
             }
-            self.visit(net, child, reach, depth - 1);
-            child = net.past(child);
+        }
+        for index in habit.guest..habit.guest_end {
+            if let Some(guest) = self.guests.get(index) {
+                if let Some(way) = self.ways.get_mut(guest.way) {
+                    way.regret = way.regret.saturating_add(guest.regret);
+                }
+            }
+        }
+        for index in habit.guest..habit.guest_end {
+            if let Some(guest) = self.guests.get_mut(index) {
+                if let Some(way) = self.ways.get(guest.way) {
+                    guest.value = 0;
+                    if way.doors > 1 {
+                        guest.share = share(guest.regret, way.regret, way.doors);
+                    }
+                    guest.flow = part(guest.share, way.flow);
+                    guest.total = guest
+                        .total
+                        .saturating_add(guest.flow.saturating_mul(weight));
+                }
+            }
         }
     }
 
-    // Plays a round from a node on, to which the owner comes with a share.
-    #[cycle(visiting)]
-    fn visit(&mut self, net: &Net<A>, index: usize, reach: u64, depth: u8) {
-        let Some(node) = net.node(index) else {
-            return;
-        };
-        let lesson = self.lesson(index);
-        self.share_out(&node);
-        self.welcome(&lesson);
+    // Counts what passes from a node on. What passes from the nodes behind it has been counted.
+    fn settle(&mut self, index: usize, node: &Node) {
+        let reach = self.lesson(index).reach;
         for at in node.edge..node.edge_end {
-            if let Some(edge) = net.edge(at) {
-                if node.end > index.saturating_add(1) {
-                    self.visit_edge(net, (&lesson, &edge, at), reach, depth);
-                } else {
-                    self.visit_last(at);
+            let habit = self.habit(at);
+            self.collect(&habit, part(habit.share, reach));
+            let lost = self.lose(&habit) / ONE;
+            if let Some(habit) = self.habits.get_mut(at) {
+                habit.lost = lost;
+            }
+        }
+        self.learn(node, reach);
+    }
+
+    // Adds up what passes the nodes after an edge, to which the owner gets with a share. The guests there learn.
+    fn collect(&mut self, habit: &Habit, near: u64) {
+        for index in habit.way..habit.way_end {
+            if let Some(way) = self.ways.get_mut(index) {
+                way.value = 0;
+            }
+        }
+        for index in habit.guest..habit.guest_end {
+            if let Some(guest) = self.guests.get(index) {
+                if let Some(way) = self.ways.get_mut(guest.way) {
+                    way.value = way.value.saturating_add(part(guest.share, guest.value));
                 }
             }
         }
-        self.learn(&node, reach);
-    }
-
-    // Notes which guests of a node are there.
-    fn welcome(&mut self, lesson: &Lesson) {
-        for at in lesson.guest..lesson.guest_end {
-            if let Some(guest) = self.guests.get_mut(at) {
-                guest.value = 0;
-                if let Some(note) = self.notes.get_mut(guest.group) {
-                    note.flow = guest.flow;
-                    note.guest = at;
-                }
-            }
-        }
-    }
-
-    // Plays a round from an edge of a node behind which there is no other, whose guests are noted.
-    fn visit_last(&mut self, at: usize) {
-        let Some(habit) = self.habits.get(at).copied() else {
-            return;
-        };
-        let mut loss = 0u64;
-        for hit in habit.hit..habit.hit_end {
-            if let Some(group) = self.hits.get(hit).copied() {
-                if let Some(note) = self.notes.get(group) {
-                    loss = loss.saturating_add(note.flow.saturating_mul(note.weight));
-                    if let Some(guest) = self.guests.get_mut(note.guest) {
-                        guest.value = guest.value.saturating_add(habit.share);
+        for index in habit.guest..habit.guest_end {
+            if let Some(guest) = self.guests.get_mut(index) {
+                if let Some(way) = self.ways.get(guest.way) {
+                    if way.doors > 1 {
+                        guest.regret = guest
+                            .regret
+                            .saturating_add(part(near, guest.value))
+                            .saturating_sub(part(near, way.value));
                     }
                 }
             }
         }
-        if let Some(habit) = self.habits.get_mut(at) {
-            habit.loss = loss;
-        }
     }
 
-    // Plays a round from an edge on.
-    #[cycle(visiting)]
-    fn visit_edge(&mut self, net: &Net<A>, here: (&Lesson, &Edge, usize), reach: u64, depth: u8) {
-        let (lesson, edge, at) = here;
-        let Some(habit) = self.habits.get(at).copied() else {
-            return;
-        };
-        let near = part(habit.share, reach);
-        let range = (edge.next, edge.end);
-        if edge.next < edge.end {
-            self.note(lesson, &habit);
-            self.spread(net, range);
-            self.visit_all(net, range, near, depth);
+    // Adds to the values of the guests of a node what passes an edge. Returns how many deals do, in parts of one.
+    fn lose(&mut self, habit: &Habit) -> u64 {
+        let mut lost = 0u64;
+        for index in habit.way..habit.way_end {
+            if let Some(way) = self.ways.get(index) {
+                if let Some(host) = way.host {
+                    if let Some(guest) = self.guests.get_mut(host) {
+                        guest.value = guest.value.saturating_add(part(habit.share, way.value));
+                        let flow = part(way.flow, way.value);
+                        lost = lost.saturating_add(flow.saturating_mul(way.weight));
+                    }
+                }
+            }
         }
-        self.note(lesson, &habit);
-        self.collect(net, range);
-        self.regret(net, range, near);
-        let loss = self.lose(lesson, habit.share);
-        if let Some(habit) = self.habits.get_mut(at) {
-            habit.loss = loss;
+        for index in habit.loss..habit.loss_end {
+            if let Some(loss) = self.losses.get(index) {
+                if let Some(guest) = self.guests.get_mut(loss.guest) {
+                    guest.value = guest.value.saturating_add(habit.share);
+                    lost = lost.saturating_add(guest.flow.saturating_mul(loss.weight));
+                }
+            }
         }
+        lost
     }
 
     // Shares out the edges of a node.
@@ -164,10 +159,8 @@ impl<A: Allocator + Copy> Matching<A> {
         let mut all = 0u64;
         let mut doors = 0u64;
         for at in node.edge..node.edge_end {
-            if let Some(habit) = self.habits.get(at) {
-                all = all.saturating_add(habit.regret);
-                doors = doors.saturating_add(1);
-            }
+            all = all.saturating_add(self.habit(at).regret);
+            doors = doors.saturating_add(1);
         }
         for at in node.edge..node.edge_end {
             if let Some(habit) = self.habits.get_mut(at) {
@@ -176,101 +169,13 @@ impl<A: Allocator + Copy> Matching<A> {
         }
     }
 
-    // Notes which guests of a node are there, and which pass an edge.
-    fn note(&mut self, lesson: &Lesson, habit: &Habit) {
-        for at in lesson.guest..lesson.guest_end {
-            if let Some(guest) = self.guests.get(at).copied() {
-                if let Some(note) = self.notes.get_mut(guest.group) {
-                    note.flow = guest.flow;
-                    note.value = 0;
-                    note.is_hit = false;
-                }
-            }
-        }
-        for hit in habit.hit..habit.hit_end {
-            if let Some(group) = self.hits.get(hit).copied() {
-                if let Some(note) = self.notes.get_mut(group) {
-                    note.flow = 0;
-                    note.value = ONE;
-                    note.is_hit = true;
-                }
-            }
-        }
-    }
-
-    /// Adds up what passes the nodes between two indices, side by side.
-    pub(crate) fn collect(&mut self, net: &Net<A>, range: (usize, usize)) {
-        let (first, end) = range;
-        let mut child = first;
-        for _ in first..end {
-            if child >= end {
-                break;
-            }
-            let lesson = self.lesson(child);
-            for at in lesson.guest..lesson.guest_end {
-                if let Some(guest) = self.guests.get(at).copied() {
-                    if let Some(note) = self.notes.get_mut(guest.group) {
-                        if !note.is_hit {
-                            note.value = note.value.saturating_add(part(guest.share, guest.value));
-                        }
-                    }
-                }
-            }
-            child = net.past(child);
-        }
-    }
-
-    /// Lets the guests of the nodes between two indices, side by side, regret.
-    pub(crate) fn regret(&mut self, net: &Net<A>, range: (usize, usize), reach: u64) {
-        let (first, end) = range;
-        let mut child = first;
-        for _ in first..end {
-            if child >= end {
-                break;
-            }
-            let lesson = self.lesson(child);
-            for at in lesson.guest..lesson.guest_end {
-                if let Some(guest) = self.guests.get_mut(at) {
-                    if let Some(note) = self.notes.get(guest.group) {
-                        if !note.is_hit {
-                            guest.regret = guest
-                                .regret
-                                .saturating_add(part(reach, guest.value))
-                                .saturating_sub(part(reach, note.value));
-                        }
-                    }
-                }
-            }
-            child = net.past(child);
-        }
-    }
-
-    // Adds to the values of the guests what passes an edge with a share. Returns how many deals do.
-    fn lose(&mut self, lesson: &Lesson, share: u64) -> u64 {
-        let mut loss = 0u64;
-        for at in lesson.guest..lesson.guest_end {
-            if let Some(guest) = self.guests.get_mut(at) {
-                if let Some(note) = self.notes.get(guest.group) {
-                    if note.value > 0 {
-                        let value = note.value;
-                        guest.value = guest.value.saturating_add(part(share, value));
-                        let flow = part(guest.flow, value);
-                        loss = loss.saturating_add(flow.saturating_mul(note.weight));
-                    }
-                }
-            }
-        }
-        loss
-    }
-
-    // Lets the owner regret at a node to which they come with a share.
+    // Lets the owner learn at a node to which they get with a share.
     fn learn(&mut self, node: &Node, reach: u64) {
         let weight = self.round.saturating_mul(self.round).saturating_mul(reach);
         let mut average = 0u64;
         for at in node.edge..node.edge_end {
-            if let Some(habit) = self.habits.get(at) {
-                average = average.saturating_add(part(habit.share, habit.loss));
-            }
+            let habit = self.habit(at);
+            average = average.saturating_add(part(habit.share, habit.lost));
         }
         for at in node.edge..node.edge_end {
             if let Some(habit) = self.habits.get_mut(at) {
@@ -278,15 +183,81 @@ impl<A: Allocator + Copy> Matching<A> {
                 habit.regret = habit
                     .regret
                     .saturating_add(average)
-                    .saturating_sub(habit.loss);
+                    .saturating_sub(habit.lost);
             }
         }
+    }
+
+    /// How many deals pass at least, whatever the owner plays, if the opponent plays as in all rounds.
+    pub(crate) fn least(&mut self, net: &Net<A>) -> u64 {
+        let mut weight = 0u64;
+        for round in 0..self.round.saturating_add(1) {
+            weight = weight.saturating_add(round.saturating_mul(round));
+        }
+        for before in 0..net.nodes.len() {
+            let index = net.nodes.len() - 1 - before;
+            if let Some(node) = net.node(index) {
+                let mut best = Lesson {
+                    worth: u64::MAX,
+                    answer: node.edge,
+                    ..self.lesson(index)
+                };
+                for at in node.edge..node.edge_end {
+                    let worth = self.worth(net, at, weight);
+                    if worth < best.worth {
+                        best.worth = worth;
+                        best.answer = at;
+                    }
+                }
+                if let Some(lesson) = self.lessons.get_mut(index) {
+                    *lesson = best;
+                }
+            }
+        }
+        self.worth_of(net, (0, net.nodes.len())).div_ceil(ONE)
+    }
+
+    // How many deals pass an edge or from the nodes after it on, in parts of one, with the average flow.
+    fn worth(&self, net: &Net<A>, at: usize, weight: u64) -> u64 {
+        let habit = self.habit(at);
+        let mut worth = match net.edge(at) {
+            Some(edge) => self.worth_of(net, (edge.next, edge.end)),
+            None => 0,
+        };
+        for index in habit.loss..habit.loss_end {
+            if let Some(loss) = self.losses.get(index) {
+                if let Some(guest) = self.guests.get(loss.guest) {
+                    let flow = average(guest.total, weight);
+                    worth = worth.saturating_add(flow.saturating_mul(loss.weight));
+                }
+            }
+        }
+        worth
+    }
+
+    // How many deals pass from the nodes between two indices on, side by side.
+    fn worth_of(&self, net: &Net<A>, range: (usize, usize)) -> u64 {
+        let mut worth = 0u64;
+        let mut child = range.0;
+        for _ in range.0..range.1 {
+            if child >= range.1 {
+                break;
+            }
+            worth = worth.saturating_add(self.lesson(child).worth);
+            child = net.past(child);
+        }
+        worth
     }
 }
 
 // A share of a number.
 fn part(share: u64, of: u64) -> u64 {
     share.saturating_mul(of) / ONE
+}
+
+// The average of rounds with a weight.
+fn average(total: u64, weight: u64) -> u64 {
+    if weight > 0 { total / weight } else { 0 }
 }
 
 // The share of what is regretted. If nothing is, the doors have equal shares.

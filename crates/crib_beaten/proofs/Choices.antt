@@ -1,5 +1,6 @@
 -- The choices of four ranks in order, each at its index.
 use Rattle.std.proofs.Common.{◌≡◌, ℕ, ◌+◌, ◌<◌, false, List, length, set, sym, ap, ◌∙◌, inl, inr, arith}
+use Rattle.std.specs.Prelude.{IsTrue}
 use Rattle.std.proofs.lemmas.Bool.{both_ways, cases_eq, cases_lt}
 use Rattle.std.proofs.lemmas.List.{get_or-set_same, get_or-set_other}
 use Rattle.crib_cards.specs.Sets.{rank_counts}
@@ -7,7 +8,7 @@ use Rattle.crib_show.specs.Indices.{index_among}
 use Rattle.crib_show.proofs.IndexLemmas.{choice_of_index, index_few}
 use Rattle.crib_beaten.specs.Beaten.{counts_of}
 use Rattle.crib_deals.specs.Choices.{are_in_order, ranks_of_number}
-use Rattle.crib_beaten.specs.Private.Rows.{AreChoices, AreListed, IsChoice, counts_of_number, place}
+use Rattle.crib_beaten.specs.Private.Rows.{AreListed, IsChoice, counts_of_number, place}
 use Rattle.crib_beaten.proofs.HoldNumbers.{four_numbered, place_before}
 
 -- the index of the ranks with a number
@@ -16,6 +17,11 @@ index_at number = index_among 4 (counts_of_number number)
 
 pub index_small : (number : ℕ) → number < 28561 → index_at number < 1820
 index_small number small = index_few (counts_of_number number) (four_numbered number small)
+
+-- the counts of ranks are those of the choices in order with a smaller number, each at its index
+abbrev pub AreChoices : ℕ → List (List ℕ) → Type 0
+AreChoices number choices =
+    (n : ℕ) → n < number → IsTrue (are_in_order (ranks_of_number n)) → counts_of choices (index_at n) ≡ counts_of_number n
 
 module _ (number : ℕ) (choices : List (List ℕ)) (so_far : AreChoices number choices) where
   pub not_chosen : are_in_order (ranks_of_number number) ≡ false → AreChoices (number + 1) choices

@@ -22,8 +22,7 @@ use Rattle.crib_deals.specs.Exact.{IsIn, AreExactly}
 use Rattle.crib_deals.proofs.ExactCounts.{exactly_none, exactly_same}
 use Rattle.crib_deals.proofs.NumberedDeals.{AreNumbered, all_below, next_below, none_below}
 use Rattle.crib_beaten.specs.Beaten.{counts_of}
-use Rattle.crib_beaten.specs.Private.Rows.{AreChoices}
-use Rattle.crib_beaten.proofs.Choices.{index_at, index_small}
+use Rattle.crib_beaten.proofs.Choices.{AreChoices, index_at, index_small}
 use Rattle.crib_beaten.proofs.HoldNumbers.{ranks_number, ranks_numbered, rising_ranks}
 use Rattle.crib_beaten.proofs.TallyRows.{open_numbered}
 use Rattle.crib_bound.specs.Private.Walks.{AreOpenDeals, AreTables, AreWeighed, IsTableAt, index_of, misses_at}

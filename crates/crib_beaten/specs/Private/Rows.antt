@@ -1,7 +1,6 @@
 -- The rows of a tally, and what they are counted from.
 use Rattle.std.specs.Prelude.{◌≡◌, ℕ, zero, suc, ◌+◌, ◌<◌, nat_lt, cond, List, [], ◌∷◌, ◌++◌, IsFalse, IsTrue}
 use Rattle.crib_cards.specs.Sets.{rank_counts}
-use Rattle.crib_show.specs.Indices.{index_among}
 use Rattle.crib_problem.specs.Setup.{Setup, IsSetup}
 use Rattle.crib_know.specs.Hidden.{IsOpen}
 use Rattle.crib_plan.specs.declared.plan.Node.{Node}
@@ -24,12 +23,6 @@ pub record AreCounted (problem : Setup) (plan : List Node) (ranks : List ℕ) (o
 -- how many cards of each rank the four ranks with a number have
 abbrev pub counts_of_number : ℕ → List ℕ
 counts_of_number number = rank_counts (ranks_of_number number)
-
--- the counts of ranks are those of the choices in order with a smaller number, each at its index
-abbrev pub AreChoices : ℕ → List (List ℕ) → Type 0
-AreChoices number choices =
-    (n : ℕ) → n < number → IsTrue (are_in_order (ranks_of_number n))
-    → counts_of choices (index_among 4 (counts_of_number n)) ≡ counts_of_number n
 
 -- how many choices in order have a smaller number than these ranks: their place among all choices
 unfoldable pub place : ℕ → ℕ

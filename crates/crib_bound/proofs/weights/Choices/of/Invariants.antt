@@ -1,5 +1,5 @@
 use Rattle.std.proofs.Common.{◌≡◌, length}
-use Rattle.crib_beaten.specs.Private.Rows.{AreChoices}
+use Rattle.crib_beaten.proofs.Choices.{AreChoices}
 use Rattle.crib_bound.specs.Private.Walks.{AreTables}
 use Rattle.crib_bound.proofs.OpenDeals.{AreBelow}
 use Rattle.crib_bound.proofs.weights.Choices.of.Given as goal

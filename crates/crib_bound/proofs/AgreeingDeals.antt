@@ -27,7 +27,7 @@ use Rattle.crib_know.proofs.CardLists.{has_set_from}
 use Rattle.crib_know.proofs.CardsLeft.{left_remaining, own_played, has-filter_parts}
 use Rattle.crib_know.proofs.Deals.{dealt_is}
 use Rattle.crib_know.proofs.Events.{events, history_events, plays_of, plays_filled}
-use Rattle.crib_game.specs.Replay.{full_with}
+use Rattle.crib_game.specs.Replay.{outcome_for}
 use Rattle.crib_sure.proofs.AgreeingInSuitOrder.{filter_same}
 use Rattle.crib_sure.proofs.RecordsFromOpening.{BegunPlays, begun_plays}
 use Rattle.crib_bound.specs.Worth.{LooksLike, MissesAfter, MayPlayAfter}
@@ -117,7 +117,7 @@ module _ {know : Knowledge} {problem : Setup} {history : List Event} (knows : Kn
     looks = looks;
     missed = record {
       done = (asked_so (is_done start (letters_of played)) (mover (pone_of start) (letters_of played))).0 (sym asked_is ∙ over);
-      missed = λ reached. missed (ap (λ (letters : Record). outcome_of (full_with problem dealt (scores_after start letters))) (sym letters_are) ∙ reached);
+      missed = λ reached. missed (ap (λ (letters : Record). outcome_for problem dealt (scores_after start letters)) (sym letters_are) ∙ reached);
     };
   }
 

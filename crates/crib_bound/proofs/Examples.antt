@@ -15,18 +15,18 @@ use Rattle.crib_cards.specs.declared.sides.Side.TheVariants.{Owner, Opponent}
 use Rattle.crib_cards.specs.declared.sides.Dealt.{Dealt}
 use Rattle.crib_play.specs.Legal.{fits, IsLegal, MayCome}
 use Rattle.crib_play.specs.History.{Event, Own, Theirs, event_of, acts_of}
-use Rattle.crib_show.specs.Outcome.{outcome_of}
 use Rattle.crib_show.specs.declared.show.outcomes.Outcome.TheVariants as outcome
 use Rattle.crib_problem.specs.declared.problem.Version.TheVariants.{Two}
 use Rattle.crib_problem.specs.declared.problem.Goal.TheVariants.{Win}
 use Rattle.crib_problem.specs.Setup.{Setup, IsDealOf, start_of, hands_of}
-use Rattle.crib_game.specs.Replay.{is_done_for, full_of}
+use Rattle.crib_game.specs.Replay.{is_done_for, outcome_for, play_scores}
 use Rattle.crib_plan.specs.declared.plan.Node.{Node}
 use Rattle.crib_deals.specs.Exact.{IsIn, AreExactly}
 use Rattle.crib_beaten.specs.Beaten.{Beats}
 use Rattle.crib_bound.specs.Worth.{MissesAfter, MayPlayAfter, IsWorth, IsStrategy}
 use Rattle.crib_bound.specs.Worth.IsWorth.{Missed, Turn, Choice}
 use Rattle.crib_bound.proofs.Plans.{plan}
+use Rattle.crib_show.specs.Outcome.{outcome_from}
 
 abbrev fours : List ℕ
 fours = 12 ∷ 13 ∷ 14 ∷ 15 ∷ []
@@ -77,7 +77,8 @@ lost : (throw : List ℕ) → IsDealOf problem (with_throw throw) → (card : �
     MayCome (start_of problem) (hands_of problem (with_throw throw)) (move.Card card) king_led →
     MayCome (start_of problem) (hands_of problem (with_throw throw)) (move.Card 0) (move.Card card ∷ king_led) →
     is_done_for problem (fifteen card) ≡ true → map event_of (acts_of Opponent (fifteen card)) ≡ after_ace card →
-    outcome_of (full_of problem (with_throw throw) (fifteen card)) ≡ outcome.Lost → MissesAfter event_of problem (after_ace card) (with_throw throw)
+    outcome_for problem (with_throw throw) (play_scores problem (fifteen card)) ≡ outcome.Lost →
+    MissesAfter event_of problem (after_ace card) (with_throw throw)
 lost throw deal card four ace done seen end = record {
   played = fifteen card;
   looks = record {
@@ -91,7 +92,7 @@ lost throw deal card four ace done seen end = record {
 
 each_lost : (throw : List ℕ) → IsDealOf problem (with_throw throw) →
     AllByRecursion (λ card. MissesAfter event_of problem (after_ace card) (with_throw throw)) fours
-unfolding outcome_of
+unfolding outcome_from
 each_lost throw deal = (
   lost throw deal 12 (record { not_done = refl; may_take = (refl, refl) }) (record { not_done = refl; may_take = (refl, refl) }) refl refl refl,
   (

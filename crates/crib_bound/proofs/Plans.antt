@@ -13,12 +13,11 @@ use Rattle.crib_cards.specs.declared.moves.Act.{Act}
 use Rattle.crib_play.specs.History.{Event, event_of, event_by, acts_of}
 use Rattle.crib_show.specs.declared.show.outcomes.Outcome.{Outcome}
 use Rattle.crib_show.specs.declared.show.outcomes.Outcome.TheVariants as outcome
-use Rattle.crib_show.specs.Outcome.{outcome_of}
 use Rattle.crib_problem.specs.Setup.{Setup, start_of, hands_of}
 use Rattle.crib_plan.specs.declared.plan.Next.{Next}
 use Rattle.crib_plan.specs.declared.plan.Node.{Node}
 use Rattle.crib_plan.specs.Places.{stated_card}
-use Rattle.crib_game.specs.Replay.{is_done_for, full_of}
+use Rattle.crib_game.specs.Replay.{is_done_for, outcome_for, play_scores}
 use Rattle.crib_game.specs.Following.{is_stuck}
 use Rattle.crib_game.specs.Followed.{IsRecordUnder, ending_without, ending_of}
 use Rattle.crib_sure.specs.HistoryPlaces.{place_by, IsStatedEvent, FollowsBy}
@@ -133,7 +132,7 @@ module _ (problem : Setup) (plan : List Node) where
       };
       failure = elim (fails_how (is_done_for problem beats.failing.played)
           (is_stuck plan problem.played (start_of problem) (hands_of problem beats.game.opp) beats.failing.played)
-          (outcome_of (full_of problem beats.game.opp beats.failing.played)) (rw beats.failing.ending_is beats.failing.failure)) [
+          (outcome_for problem beats.game.opp (play_scores problem beats.failing.played)) (rw beats.failing.ending_is beats.failing.failure)) [
             | inl missed ↦ inl (record { done = missed.0; missed = missed.1 })
             | inr stuck ↦ inr (sym (same_loss beats.game.opp beats.failing.played) ∙ stuck)
           ];

@@ -22,7 +22,7 @@ use Rattle.crib_know.specs.Hidden.{KnowsAfter}
 use Rattle.crib_know.specs.Private.Ahead.{turns_ahead}
 use Rattle.crib_know.proofs.CallLemmas.{passing_same}
 use Rattle.crib_know.proofs.TurnsAhead.{know_falls}
-use Rattle.crib_game.specs.Replay.{full_with}
+use Rattle.crib_game.specs.Replay.{outcome_for}
 use Rattle.crib_sure.specs.Shows.{IsDemandAtEnd, full_behind, meets}
 use Rattle.crib_beaten.specs.Beaten.{counts_of, may_show}
 use Rattle.crib_bound.specs.Worth.{IsStrategy}
@@ -62,8 +62,8 @@ module _ {bound : Bound} {know : Knowledge} {indices : List ℕ} where
       part_some false parts some = absurd (omega (arith, some))
 
       same_full : (history : List Event) (dealt : Dealt) → KnowsAfter know bound.problem.now history →
-          outcome_of (full_with bound.problem.now dealt know.round.scores) ≡ outcome_of (full_behind bound.problem.now history dealt)
-      same_full history dealt knows = λ i. outcome_of (full_with bound.problem.now dealt ((knows.knowledge i).round.scores))
+          outcome_for bound.problem.now dealt know.round.scores ≡ outcome_of (full_behind bound.problem.now history dealt)
+      same_full history dealt knows = λ i. outcome_for bound.problem.now dealt ((knows.knowledge i).round.scores)
 
 -- ---- a move of the owner
 -- the deals at a position after it

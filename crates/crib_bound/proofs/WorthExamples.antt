@@ -17,7 +17,6 @@ use Rattle.crib_play.specs.Filled.{is_visible}
 use Rattle.crib_play.specs.Legal.{IsLegal, MayCome, cards_left, fits, letters_of}
 use Rattle.crib_play.specs.History.{Own, Theirs, event_of, act_by, acts_of}
 use Rattle.crib_show.specs.declared.show.outcomes.Outcome.TheVariants.{Reached, Lost}
-use Rattle.crib_show.specs.Outcome.{outcome_of}
 use Rattle.crib_show.specs.Show.{hand_points, crib_points}
 use Rattle.crib_problem.specs.declared.problem.Version.TheVariants.{Two}
 use Rattle.crib_problem.specs.Setup.{Setup, IsDealOf, start_of, hands_of}
@@ -29,6 +28,7 @@ use Rattle.crib_bound.specs.BeatenPlayers.{IsMissedBy, BeatsPlayer}
 use Rattle.crib_bound.specs.Laws.{whole}
 use Rattle.crib_bound.specs.Worth.{IsNoCard, LooksLike, MissesAfter, MayPlayAfter, EachLeft, IsWorth, IsStrategy}
 use Rattle.crib_bound.specs.Worth.IsWorth.{Nothing, Missed, Parts, Turn, Choice}
+use Rattle.crib_show.specs.Outcome.{outcome_from}
 
 -- ---- deals that beat a player
 pairing_is : IsDealOf close_to_lost pairing
@@ -39,7 +39,7 @@ abbrev aces : List Move
 aces = Card 1 ∷ Card 0 ∷ []
 
 missed_by_a_pair : IsMissedBy close_to_lost pairing aces
-unfolding outcome_of hand_points crib_points
+unfolding outcome_from hand_points crib_points
 missed_by_a_pair = record { done = refl; missed = λ reached. (let same : Lost ≡ Reached = reached in cc) }
 
 -- not before the deal is done, and not if the owner's third card takes them to hole 121
@@ -50,7 +50,7 @@ not_missed_yet : IsMissedBy close_to_lost pairing [] → ⊥
 not_missed_yet is = both_ways false refl is.done
 
 not_missed_at_the_end : IsMissedBy both_close pairing (Card 0 ∷ Card 1 ∷ Card 4 ∷ []) → ⊥
-unfolding outcome_of hand_points crib_points
+unfolding outcome_from hand_points crib_points
 not_missed_at_the_end is = is.missed refl
 
 -- whoever leads the ace

@@ -16,7 +16,6 @@ use Rattle.crib_play.specs.Legal.{IsDealt, letters_of, cards_of}
 use Rattle.crib_play.specs.History.{Event, event_of, history_letters, history_of, moves_of, visible_moves, AreLegal}
 use Rattle.crib_play.proofs.LegalRecords.{visible_legal}
 use Rattle.crib_show.specs.declared.show.outcomes.Outcome.{Outcome}
-use Rattle.crib_show.specs.Outcome.{outcome_of}
 use Rattle.crib_problem.specs.Setup.{Setup, IsSetup, known_cards, start_of, hands_of, IsDealOf}
 use Rattle.crib_problem.proofs.StartLemmas.{started}
 use Rattle.crib_plan.specs.declared.plan.Node.{Node}
@@ -31,7 +30,7 @@ use Rattle.crib_game.specs.declared.section.game.Game.{Game}
 use Rattle.crib_game.specs.declared.following.ending.Ending.{Ending}
 use Rattle.crib_game.specs.declared.following.ending.Ending.TheVariants as ending
 use Rattle.crib_game.specs.declared.fault.GameFault.{GameFault}
-use Rattle.crib_game.specs.Replay.{acts_back, is_done_for, full_of, record_of}
+use Rattle.crib_game.specs.Replay.{acts_back, is_done_for, record_of, outcome_for, play_scores}
 use Rattle.crib_game.specs.Following.{place_of, is_stuck}
 use Rattle.crib_game.specs.Followed.{IsRecordUnder, ending_without, ending_of, follow_result}
 use Rattle.crib_game.specs.FollowLaws.{StandsSo}
@@ -145,7 +144,7 @@ pub failing_followed : (problem : Setup) (plan : List Node) → IsSetup problem 
 failing_followed problem plan setup game result failing =
     let d = is_done_for problem failing.played in
     let s = is_stuck plan problem.played (start_of problem) (hands_of problem game.opp) failing.played in
-    ended_law problem plan game failing.played setup failing.of_game (failing_ended d s (outcome_of (full_of problem game.opp failing.played))
+    ended_law problem plan game failing.played setup failing.of_game (failing_ended d s (outcome_for problem game.opp (play_scores problem failing.played))
     (rw failing.ending_is failing.failure))
     ∙ ap Ok failing.ending_is
 

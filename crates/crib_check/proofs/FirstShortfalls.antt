@@ -6,14 +6,13 @@ use Rattle.crib_cards.specs.declared.sides.Scores.{Scores}
 use Rattle.crib_play.specs.History.{Event, history_letters}
 use Rattle.crib_play.specs.Filled.{filled_record}
 use Rattle.crib_play.specs.Score.{scores_after}
-use Rattle.crib_show.specs.Outcome.{outcome_of}
 use Rattle.crib_show.specs.Demands.{IsFirstMissingOrNone, IsMetByNone}
 use Rattle.crib_show.specs.declared.demands.Demand.{Demand}
 use Rattle.crib_show.specs.declared.deals.WorstShow.{WorstShow}
 use Rattle.crib_problem.specs.Setup.{Setup, start_of}
 use Rattle.crib_know.specs.Knowledge.{Knowledge, their_ranks}
 use Rattle.crib_know.specs.Hidden.{KnowsAfter, IsFirstDeal}
-use Rattle.crib_game.specs.Replay.{full_with}
+use Rattle.crib_game.specs.Replay.{outcome_for}
 use Rattle.crib_sure.specs.Shows.{IsDemandAtEnd, IsReachedBehind, worst_of}
 use Rattle.crib_sure.proofs.ShowsBehind.{behind_to, behind_from}
 use Rattle.crib_check.specs.Private.Positions.{AllReach, IsFirstShortfall}
@@ -26,7 +25,7 @@ module _ {problem : Setup} {know : Knowledge} {history : List Event} (knows : Kn
   scores_are = ap (λ (k : Knowledge). k.round.scores) knows.knowledge
 
   pub all_reach : IsReachedBehind problem history → AllReach problem history know.round
-  all_reach reached dealt agrees = ap (λ (s : Scores). outcome_of (full_with problem dealt s)) scores_are ∙ reached dealt agrees
+  all_reach reached dealt agrees = ap (λ (s : Scores). outcome_for problem dealt s) scores_are ∙ reached dealt agrees
 
   -- what the show demands
   module _ (demand : Demand) (shown : IsDemandAtEnd problem know demand) where

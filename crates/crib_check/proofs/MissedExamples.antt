@@ -9,7 +9,6 @@ use Rattle.crib_cards.specs.declared.moves.Move.TheVariants as move
 use Rattle.crib_cards.specs.declared.moves.Act.{Act}
 use Rattle.crib_cards.specs.declared.letters.Letter.TheVariants.{Seen}
 use Rattle.crib_play.specs.History.{Theirs, event_of}
-use Rattle.crib_show.specs.Outcome.{outcome_of}
 use Rattle.crib_show.specs.Show.{hand_points, crib_points}
 use Rattle.crib_problem.specs.Setup.{Setup}
 use Rattle.crib_problem.specs.declared.problem.Version.TheVariants.{Two}
@@ -18,6 +17,7 @@ use Rattle.crib_game.specs.declared.section.game.Game.{Game}
 use Rattle.crib_game.specs.Replay.{IsRecordOf, is_done_for}
 use Rattle.crib_game.proofs.ExampleGames.{game_with}
 use Rattle.crib_check.specs.Missed.{IsMissedWith}
+use Rattle.crib_show.specs.Outcome.{outcome_from}
 
 -- the owner has led an ace, and the opponent, at 119, has three aces
 abbrev led : Setup
@@ -28,7 +28,7 @@ paired = game_with pairing (plays Owner 0 ∷ plays Opponent 1 ∷ [])
 
 -- the ace of diamonds makes a pair, and 121. The ace of spades looks the same
 lost_by_a_pair : IsMissedWith led (plays Opponent 3) paired
-unfolding set_where outcome_of hand_points crib_points
+unfolding set_where outcome_from hand_points crib_points
 lost_by_a_pair = record {
   turn = plays Opponent 1;
   alike = refl;

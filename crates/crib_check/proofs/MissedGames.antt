@@ -12,7 +12,6 @@ use Rattle.crib_play.specs.Legal.{letters_of}
 use Rattle.crib_play.specs.Score.{asked_after, is_done, scores_after}
 use Rattle.crib_play.specs.History.{Event, event_of, history_letters, filled_moves, moves_of}
 use Rattle.crib_play.proofs.RecordsReached.{never_over}
-use Rattle.crib_show.specs.Outcome.{outcome_of}
 use Rattle.crib_problem.specs.Setup.{Setup, IsSetup, start_of, hands_of, played_back}
 use Rattle.crib_problem.proofs.StartLemmas.{started}
 use Rattle.crib_know.specs.Knowledge.{Knowledge, played_events}
@@ -20,7 +19,7 @@ use Rattle.crib_know.specs.Hidden.{AgreesWith, KnowsAfter}
 use Rattle.crib_know.proofs.Events.{Plays, plays_of, plays_filled}
 use Rattle.crib_know.proofs.Deals.{dealt_is}
 use Rattle.crib_game.specs.declared.section.game.Game.{Game}
-use Rattle.crib_game.specs.Replay.{IsRecordOf, acts_back, full_with}
+use Rattle.crib_game.specs.Replay.{IsRecordOf, acts_back, outcome_for}
 use Rattle.crib_sure.specs.Private.Suits.{act_of_event, left_after_acts, acts_in_suits}
 use Rattle.crib_sure.proofs.AgreeingInSuitOrder.{Suited}
 use Rattle.crib_sure.proofs.RecordsFromOpening.{acts_later, suited_turns, suited_legal, suited_acts}
@@ -34,7 +33,7 @@ heads event other events others same = cc
 pub all_reached : (problem : Setup) (history : List Event) {know : Knowledge} → KnowsAfter know problem history → AllReach problem history know.round →
     IsReachedBehind problem history
 all_reached problem history knows all dealt agrees =
-    sym (ap (λ (k : Knowledge). outcome_of (full_with problem dealt k.round.scores)) knows.knowledge) ∙ all dealt agrees
+    sym (ap (λ (k : Knowledge). outcome_for problem dealt k.round.scores) knows.knowledge) ∙ all dealt agrees
 
 module _ (problem : Setup) (act : Act) {know : Knowledge} (knows : KnowsAfter know problem (event_of act ∷ played_events problem))
     (over : know.round.asked ≡ turns.Over) (game : Game)
@@ -99,5 +98,5 @@ module _ (problem : Setup) (act : Act) {know : Knowledge} (knows : KnowsAfter kn
     played = played;
     of_game = of_game;
     done = ap (is_done start) letters_are ∙ is_done_then;
-    missed = λ reached. short.fails (ap (λ (s : Scores). outcome_of (full_with problem game.opp s)) scores_are ∙ reached);
+    missed = λ reached. short.fails (ap (λ (s : Scores). outcome_for problem game.opp s) scores_are ∙ reached);
   }

@@ -19,13 +19,12 @@ use Rattle.crib_play.specs.Filled.{is_visible}
 use Rattle.crib_play.specs.Record.{mover}
 use Rattle.crib_cards.specs.Letters.{letter_of}
 use Rattle.crib_cards.proofs.Members.{all_has}
-use Rattle.crib_show.specs.Outcome.{outcome_of}
 use Rattle.crib_show.specs.declared.show.outcomes.Outcome.TheVariants.{Reached}
 use Rattle.crib_problem.specs.Setup.{IsDealOf, start_of, hands_of, played_back, unseen_of}
 use Rattle.crib_plan.specs.declared.plan.Next.TheVariants.{End, To}
 use Rattle.crib_plan.specs.declared.plan.Node.{Node}
 use Rattle.crib_plan.specs.declared.plan.Node.TheVariants.{Play, See}
-use Rattle.crib_game.specs.Replay.{is_done_for, full_of}
+use Rattle.crib_game.specs.Replay.{is_done_for, outcome_for, play_scores}
 use Rattle.crib_game.specs.Following.{opening_is_over, IsAsStated, Follows, is_stuck, place_of}
 use Rattle.crib_sure.specs.Sure.{IsSure, IsFollowed, GoesOn, Ends}
 use Rattle.crib_check.specs.Verdicts.{KeepsOn}
@@ -33,6 +32,7 @@ use Rattle.crib_check.specs.declared.verdict.Verdict.TheVariants.{Fails}
 use Rattle.crib_game.specs.declared.section.game.Game.{Game}
 use Rattle.crib_game.specs.declared.following.ending.Ending.TheVariants as ending
 use Rattle.crib_sure.proofs.ExampleOpening.{at_29}
+use Rattle.crib_show.specs.Outcome.{outcome_from}
 
 -- AC after an ace, 2C after a go
 abbrev pub ace_or_two : List Node
@@ -160,8 +160,8 @@ course_of dealt played is =
 -- ---- the plan is sure
 sure_at : (dealt : Dealt) (played : List Move) → stage (acts_of Owner played) ≡ All → Course played →
     IsFalse (is_stuck ace_or_two at_29.played (start_of at_29) (hands_of at_29 dealt) played)
-    × (IsTrue (is_done_for at_29 played) → outcome_of (full_of at_29 dealt played) ≡ Reached)
-unfolding outcome_of
+    × (IsTrue (is_done_for at_29 played) → outcome_for at_29 dealt (play_scores at_29 played) ≡ Reached)
+unfolding outcome_from
 sure_at dealt played all nothing = absurd cc
 sure_at dealt played all the_ten = absurd cc
 sure_at dealt played all two_tens = absurd cc

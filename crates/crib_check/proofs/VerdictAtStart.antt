@@ -21,7 +21,6 @@ use Rattle.crib_play.proofs.Progress.{progress_law}
 use Rattle.crib_play.proofs.RecordBounds.{at_most_29}
 use Rattle.crib_show.specs.declared.show.outcomes.Outcome.{Outcome}
 use Rattle.crib_show.specs.declared.show.outcomes.Outcome.TheVariants as outcome
-use Rattle.crib_show.specs.Outcome.{outcome_of}
 use Rattle.crib_problem.specs.Setup.{Setup, IsSetup, start_of, hands_of, BeginsAsPlayed}
 use Rattle.crib_plan.specs.declared.plan.Node.{Node}
 use Rattle.crib_plan.specs.Places.{stated_card}
@@ -30,7 +29,7 @@ use Rattle.crib_know.proofs.Deals.{dealt_is}
 use Rattle.crib_game.specs.declared.section.game.Game.{Game}
 use Rattle.crib_game.specs.declared.following.ending.Ending.{Ending}
 use Rattle.crib_game.specs.declared.following.ending.Ending.TheVariants as ending
-use Rattle.crib_game.specs.Replay.{full_of, is_done_for}
+use Rattle.crib_game.specs.Replay.{is_done_for, outcome_for, play_scores}
 use Rattle.crib_game.specs.Following.{place_of, IsAsStated, is_playable, is_stuck}
 use Rattle.crib_game.specs.Followed.{IsRecordUnder, ending_of, ending_with, ending_without}
 use Rattle.crib_sure.specs.declared.keys.Key.{Key}
@@ -99,12 +98,13 @@ module _ {problem : Setup} {plan : List Node} {dealt : Dealt} {played : List Mov
 
   pub never_stuck : HoldsFrom problem plan (played_events problem) → stuck ≡ false
   never_stuck holds = false_from_ne_true stuck (λ is.
-      none_fails holds ending.Stuck (λ i. ending_without (cond (not_done done _ _ _ is i) (Some (outcome_of (full_of problem dealt played))) None) (is i))
+      none_fails holds ending.Stuck
+      (λ i. ending_without (cond (not_done done _ _ _ is i) (Some (outcome_for problem dealt (play_scores problem played))) None) (is i))
       (inl refl))
 
-  pub reached : HoldsFrom problem plan (played_events problem) → done ≡ true → outcome_of (full_of problem dealt played) ≡ outcome.Reached
-  reached holds is = not_failed _ (none_fails holds (ending_with (outcome_of (full_of problem dealt played)))
-      (λ i. ending_without (cond (is i) (Some (outcome_of (full_of problem dealt played))) None) stuck))
+  pub reached : HoldsFrom problem plan (played_events problem) → done ≡ true → outcome_for problem dealt (play_scores problem played) ≡ outcome.Reached
+  reached holds is = not_failed _ (none_fails holds (ending_with (outcome_for problem dealt (play_scores problem played)))
+      (λ i. ending_without (cond (is i) (Some (outcome_for problem dealt (play_scores problem played))) None) stuck))
 
   -- ---- the play goes on
   abbrev NextFollowed : Type 0

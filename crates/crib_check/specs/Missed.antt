@@ -4,11 +4,10 @@ use Rattle.std.specs.Prelude.{◌≡◌, ◌≢◌, List, ◌∷◌, IsTrue}
 use Rattle.crib_cards.specs.declared.moves.Act.{Act}
 use Rattle.crib_cards.specs.declared.moves.Move.{Move}
 use Rattle.crib_play.specs.History.{event_of}
-use Rattle.crib_show.specs.Outcome.{outcome_of}
 use Rattle.crib_show.specs.declared.show.outcomes.Outcome.TheVariants.{Reached}
 use Rattle.crib_problem.specs.Setup.{Setup, played_back}
 use Rattle.crib_game.specs.declared.section.game.Game.{Game}
-use Rattle.crib_game.specs.Replay.{IsRecordOf, acts_back, is_done_for, full_of}
+use Rattle.crib_game.specs.Replay.{IsRecordOf, acts_back, is_done_for, outcome_for, play_scores}
 
 -- a game has one turn after the opening, in which the owner sees the same as in an act. Its deal is done then, and the
 -- goal is missed
@@ -19,4 +18,4 @@ pub record IsMissedWith (problem : Setup) (act : Act) (game : Game) : Type 0 whe
   pub played : List Move
   pub of_game : IsRecordOf problem game played
   pub done : IsTrue (is_done_for problem played)
-  pub missed : outcome_of (full_of problem game.opp played) ≢ Reached
+  pub missed : outcome_for problem game.opp (play_scores problem played) ≢ Reached

@@ -8,7 +8,7 @@ use Rattle.std.proofs.lemmas.List.{length-append}
 use Rattle.crib_cards.specs.Letters.{letter_of}
 use Rattle.crib_cards.specs.Runs.{is_run}
 use Rattle.crib_cards.specs.Sets.{AreDifferent}
-use Rattle.crib_cards.specs.Start.{Start}
+use Rattle.crib_cards.specs.Start.{Start, hand_of}
 use Rattle.crib_cards.specs.declared.letters.Letter.{Letter}
 use Rattle.crib_cards.specs.declared.letters.Letter.TheVariants as letter
 use Rattle.crib_cards.specs.declared.moves.Act.{Act}
@@ -16,20 +16,20 @@ use Rattle.crib_cards.specs.declared.sides.Dealt.{Dealt}
 use Rattle.crib_cards.specs.declared.sides.Scores.{Scores}
 use Rattle.crib_cards.specs.declared.sides.Side.{Side}
 use Rattle.crib_cards.specs.declared.sides.Side.TheVariants.{Owner, Opponent}
-use Rattle.crib_cards.specs.Sides.{other_side}
+use Rattle.crib_cards.specs.Sides.{are_decided, other_side, scores_with}
 use Rattle.crib_play.specs.Record.{Record, cards_in, closes, count_of, pile_of}
 use Rattle.crib_play.specs.Points.{are_alike, most_last_cards}
 use Rattle.crib_play.specs.Filled.{filled_record, with_silent_gos}
 use Rattle.crib_play.specs.History.{moves_of}
 use Rattle.crib_play.specs.Legal.{letters_of}
-use Rattle.crib_show.specs.Outcome.{hand_of_side, crib_of, row_of, rows_from, show_of, show_order}
-use Rattle.crib_show.specs.declared.deals.Full.{Full}
+use Rattle.crib_show.specs.Outcome.{row_of, rows_from, show_of, show_order}
+use Rattle.crib_show.specs.Show.{crib_points, hand_points}
 use Rattle.crib_show.specs.declared.show.outcomes.ShowRow.{ShowRow}
-use Rattle.crib_problem.specs.Setup.{Setup, IsSetup, start_of}
+use Rattle.crib_problem.specs.Setup.{Setup, IsSetup, hands_of, start_of, target_of}
 use Rattle.crib_game.specs.declared.section.game.Game.{Game}
 use Rattle.crib_game.specs.declared.replaying.report.Row.{Row}
 use Rattle.crib_game.specs.declared.replaying.report.Report.{Report}
-use Rattle.crib_game.specs.Replay.{acts_back, full_of, is_done_for, record_of}
+use Rattle.crib_game.specs.Replay.{acts_back, is_done_for, record_of, full_with, play_scores}
 use Rattle.crib_game.specs.Spelling.{AreSixCards}
 use Rattle.crib_game_sheet.specs.declared.game.reason.PlayReason.{PlayReason}
 use Rattle.crib_game_sheet.specs.declared.game.reason.PlayReason.TheVariants.{Fifteen, ThirtyOne, Alike, Run, Go, LastCard}
@@ -99,40 +99,38 @@ reasons_add_up problem game report e = (
 
 -- ---- the show
 
-row_and_more : (P : ShowRow → Type 0) (decided : Bool) (row : ShowRow) (rows : List ShowRow) → P row → AllByRecursion P rows
-    → AllByRecursion P (cond decided [] (row ∷ rows))
-row_and_more P decided row rows first others = cond_both decided [] (row ∷ rows) (AllByRecursion P) (λ e. tt) (λ e. (first, others))
-
 -- what holds of the row of each hand holds of all rows that are counted
-rows_all : (P : ShowRow → Type 0) (full : Full) (scores : Scores)
-    → ((after : Scores) → P (row_of (hand_of_side full (other_side full.dealer)) after))
-    → ((after : Scores) → P (row_of (hand_of_side full full.dealer) after)) → ((after : Scores) → P (row_of (crib_of full) after))
-    → AllByRecursion P (rows_from full.target scores (show_order full))
-rows_all P full scores pone dealer crib =
-    row_and_more P _ _ _ (pone _) (row_and_more P _ _ _ (dealer _) (row_and_more P _ _ _ (crib _) tt))
+rows_all : (P : ShowRow → Type 0) (target : ℕ) (scores : Scores) (show : List (Bool × Side × ℕ))
+    → AllByRecursion (λ (counted : Bool × Side × ℕ). (after : Scores) → P (row_of counted after)) show → AllByRecursion P (rows_from target scores show)
+rows_all P target scores [] all = tt
+rows_all P target scores (counted ∷ show) all =
+    let after : Scores = scores_with scores counted.1 counted.2 in
+    cond_both (are_decided target scores) [] (row_of counted after ∷ rows_from target after show) (AllByRecursion P) (λ e. tt)
+    (λ e. (all.0 after, rows_all P target after show all.1))
 
 -- the combinations of a row add up to its points
 abbrev AddsUp : Setup → Dealt → ShowRow → Type 0
 AddsUp problem dealt row = sum_by points_of (counted_combinations problem dealt row) ≡ row.points
 
 hand_adds_up : (problem : Setup) (game : Game) → IsSetup problem → AreSixCards game.opp → (side : Side) (after : Scores)
-    → AddsUp problem game.opp (row_of (hand_of_side (full_of problem game.opp (record_of problem game)) side) after)
+    → AddsUp problem game.opp (row_of (false, side, hand_points (hand_of (hands_of problem game.opp) side) problem.starter) after)
 hand_adds_up problem game setup six Owner after = hand_sum problem.hold problem.starter setup.held
 hand_adds_up problem game setup six Opponent after = hand_sum game.opp.hold problem.starter six.held
 
 crib_adds_up : (problem : Setup) (game : Game) → IsSetup problem → AreSixCards game.opp → (after : Scores)
-    → AddsUp problem game.opp (row_of (crib_of (full_of problem game.opp (record_of problem game))) after)
+    → AddsUp problem game.opp (row_of (true, problem.dealer, crib_points (problem.thrown ++ game.opp.throw) problem.starter) after)
 crib_adds_up problem game setup six after =
     crib_sum (problem.thrown ++ game.opp.throw) problem.starter
     (omega (arith, length-append problem.thrown game.opp.throw, setup.two_thrown, six.thrown))
 
 show_adds_up : (problem : Setup) (game : Game) → IsSetup problem → AreSixCards game.opp
-    → AllByRecursion (AddsUp problem game.opp) (show_of (full_of problem game.opp (record_of problem game)))
+    → AllByRecursion (AddsUp problem game.opp) (show_of (full_with problem game.opp (play_scores problem (record_of problem game))))
 unfolding show_of
 show_adds_up problem game setup six =
-    let full = full_of problem game.opp (record_of problem game) in
-    rows_all (AddsUp problem game.opp) full full.scores (hand_adds_up problem game setup six (other_side problem.dealer))
-    (hand_adds_up problem game setup six problem.dealer) (crib_adds_up problem game setup six)
+    rows_all (AddsUp problem game.opp) (target_of problem) (play_scores problem (record_of problem game))
+    (show_order problem.dealer (hands_of problem game.opp) (problem.thrown ++ game.opp.throw) problem.starter)
+    (hand_adds_up problem game setup six (other_side problem.dealer), (hand_adds_up problem game setup six problem.dealer,
+    (crib_adds_up problem game setup six, tt)))
 
 pub hands_add_up : HandsAddUpLaw
 hands_add_up problem game report setup six e =

@@ -4,7 +4,7 @@ use Rattle.std.specs.Fmt.{digits}
 use Rattle.crib_cards.specs.declared.sides.Side.TheVariants.{Owner, Opponent}
 use Rattle.crib_show.specs.declared.show.outcomes.Outcome.TheVariants.{Reached, Lost}
 use Rattle.crib_show.specs.Show.{hand_points, crib_points}
-use Rattle.crib_show.specs.Outcome.{outcome_of, show_of}
+use Rattle.crib_show.specs.Outcome.{show_of, outcome_from}
 use Rattle.crib_problem.specs.declared.problem.Goal.TheVariants.{Win, Holes, Stop}
 use Rattle.crib_game.specs.declared.fault.GameFault.TheVariants.{NotTurn}
 use Rattle.crib_problem.proofs.ExampleProblems.{plays, level, level_deal, level_acts}
@@ -56,7 +56,7 @@ sheets_of_games :
     × (game_sheet_text level (game_with level_deal (plays Opponent 37 ∷ [])) ≡ Err (NotTurn 1))
 unfolding digits right_in heading_text scores_line other_score own_line goal_line opening_line sheet_of played_text dealt_line reason_text points_text
     score_text act_text act_line act_lines counted_text counted_name counted_points combination_line combinations_of hand_combinations
-    crib_combinations show_of outcome_of hand_points crib_points pegged_line pegged_points
+    crib_combinations show_of outcome_from hand_points crib_points pegged_line pegged_points
 sheets_of_games = (refl, refl, refl, refl, refl)
 
 -- ---- words that these sheets don't have

@@ -30,7 +30,7 @@ use Rattle.crib_know.proofs.FixedCards.{allowed_parts}
 use Rattle.crib_know.proofs.OpeningLawProofs.{letters_same}
 use Rattle.crib_game.specs.declared.section.game.Game.{Game}
 use Rattle.crib_game.specs.Following.{is_playable, is_stuck}
-use Rattle.crib_game.specs.Replay.{full_of, full_with, is_done_for}
+use Rattle.crib_game.specs.Replay.{is_done_for, outcome_for, play_scores}
 use Rattle.crib_sure.specs.HistoryPlaces.{FollowsBy, IsStatedEvent, place_by}
 use Rattle.crib_sure.specs.Shows.{IsReachedBehind, full_behind}
 use Rattle.crib_sure.specs.Sure.{IsFollowed}
@@ -84,9 +84,9 @@ module _ (problem : Setup) (setup : IsSetup problem) (card : ℕ) where
   -- the outcome of a record that is done depends on its history
   outcome_behind : (dealt : Dealt) (played : List Move) → IsDealOf problem dealt → IsLegal start (hands_of problem dealt) played →
       history_of (pone_of start) played ≡ history → is_done_for problem played ≡ true →
-      outcome_of (full_of problem dealt played) ≡ outcome_of (full_behind problem history dealt)
+      outcome_for problem dealt (play_scores problem played) ≡ outcome_of (full_behind problem history dealt)
   outcome_behind dealt played deal legal shows done =
-      ap (λ (letters : Record). outcome_of (full_with problem dealt (scores_after start letters)))
+      ap (λ (letters : Record). outcome_for problem dealt (scores_after start letters))
       (letters_whole problem setup dealt deal played legal (not_silent_done start (letters_of played) done)
       ∙ ap (λ (h : List Event). filled_record start (history_letters h)) shows)
 
@@ -114,7 +114,8 @@ module _ (problem : Setup) (setup : IsSetup problem) (card : ℕ) where
           && not (is_playable (hands_of problem dealt) played (stated_card [] place))) (place_history [] next.played (pone_of start) played)
           ∙ none_lost problem setup act over by_nothing
 
-      reached_then : IsReachedBehind problem history → is_done_for problem played ≡ true → outcome_of (full_of problem dealt played) ≡ outcome.Reached
+      reached_then : IsReachedBehind problem history → is_done_for problem played ≡ true →
+          outcome_for problem dealt (play_scores problem played) ≡ outcome.Reached
       reached_then reached done =
           let deal = (same_deal problem setup card dealt).0 is.deal in
           outcome_behind dealt played deal is.legal shows done ∙ reached dealt (deal, (played, is.legal, shows))
@@ -134,7 +135,7 @@ module _ (problem : Setup) (setup : IsSetup problem) (card : ℕ) where
         let served = sure_serves problem setup is.plan is.sure dealt history agrees (begun_before problem setup card [])
         (follows_before problem setup card is.plan is.begins) in
         let letters = plays_filled start (hands_of problem dealt) history served.plays in
-        ap (λ (past : Record). outcome_of (full_with problem dealt (scores_after start past))) (sym letters)
+        ap (λ (past : Record). outcome_for problem dealt (scores_after start past)) (sym letters)
         ∙ served.reached (ap (is_done start) letters ∙ done_then)
 
     pub sure_end : IsReachedBehind problem history ↔ IsWinnableWith problem card

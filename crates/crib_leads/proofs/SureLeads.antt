@@ -25,7 +25,6 @@ use Rattle.crib_play.specs.Legal.{MayTake, cards_left, cards_of, fits, letters_o
 use Rattle.crib_play.specs.History.{Event, Own, acts_of, event_of, filled_moves, history_of, moves_of}
 use Rattle.crib_play.proofs.FilledRecords.{filled_whole, letters_filled, not_silent_done}
 use Rattle.crib_play.proofs.RecordsReached.{asked_mover}
-use Rattle.crib_show.specs.Outcome.{outcome_of}
 use Rattle.crib_show.specs.declared.show.outcomes.Outcome.TheVariants.{Reached}
 use Rattle.crib_problem.specs.Played.{OpeningBasis, asked_by, cards_by, cards_played, count_by_acts, own_left_by}
 use Rattle.crib_problem.specs.Refusals.{does_not_fit, not_held}
@@ -40,7 +39,7 @@ use Rattle.crib_plan.specs.Places.{node_at, place_after_card, plan_start, stated
 use Rattle.crib_know.specs.Knowledge.{played_events}
 use Rattle.crib_know.specs.Hidden.{BeginsAfter}
 use Rattle.crib_game.specs.Following.{is_playable, is_stuck, place_of}
-use Rattle.crib_game.specs.Replay.{full_of, is_done_for}
+use Rattle.crib_game.specs.Replay.{is_done_for, outcome_for, play_scores}
 use Rattle.crib_sure.specs.HistoryPlaces.{FollowsBy, IsStatedEvent, place_by}
 use Rattle.crib_sure.specs.Sure.{IsFollowed, IsSure}
 use Rattle.crib_sure.proofs.PlaceByHistory.{begun_late, follows_at_start, follows_from, follows_to, place_at_start, place_history, place_later}
@@ -290,7 +289,7 @@ module _ (problem : Setup) (setup : IsSetup problem) (card : ℕ) where
             ∙ sure.never_stuck dealt played (followed_after more.act more.later more.parts)
       ]
 
-      reached : IsSure next after → is_done_for problem played ≡ true → outcome_of (full_of problem dealt played) ≡ Reached
+      reached : IsSure next after → is_done_for problem played ≡ true → outcome_for problem dealt (play_scores problem played) ≡ Reached
       reached sure done = elim cases [
         | inl shows ↦ absurd (not_yet shows done)
         | inr more ↦ sure.reached dealt played (followed_after more.act more.later more.parts) done

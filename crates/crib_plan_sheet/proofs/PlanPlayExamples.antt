@@ -14,8 +14,7 @@ use Rattle.crib_problem.proofs.ExampleProblems.{plays, level, level_deal, four_t
 use Rattle.crib_plan.specs.declared.plan.Next.TheVariants.{End, To}
 use Rattle.crib_plan.specs.declared.plan.Node.{Node}
 use Rattle.crib_plan.specs.declared.plan.Node.TheVariants.{Play, See}
-use Rattle.crib_game.specs.Replay.{full_of}
-use Rattle.crib_show.specs.Outcome.{outcome_of}
+use Rattle.crib_game.specs.Replay.{outcome_for, play_scores}
 use Rattle.crib_show.specs.declared.show.outcomes.Outcome.TheVariants as outcome
 use Rattle.crib_show.specs.Show.{crib_points, hand_points}
 use Rattle.crib_plan_sheet.specs.PlanBranches.{branch_count, node_leads}
@@ -26,6 +25,7 @@ use Rattle.crib_plan_sheet.specs.PlanSheet.{card_on, is_for, read_card, read_let
 use Rattle.crib_plan_sheet.specs.PlanSheet.{read_turn, read_turns, row_for, row_named, sheet_card}
 use Rattle.crib_plan_sheet.specs.PlanStuck.{halt_after, halt_at, halt_of, halt_with, letter_word, stated_words}
 use Rattle.crib_plan_sheet.specs.declared.stuck.Halt.TheVariants as halts
+use Rattle.crib_show.specs.Outcome.{outcome_from}
 
 -- four twos in a row
 abbrev twos : Sheet
@@ -131,10 +131,10 @@ twos_to_the_end = record {
 }
 
 twos_fall_short : ReachesGoal four_twos twos → ⊥
-unfolding outcome_of hand_points crib_points
+unfolding outcome_from hand_points crib_points
 twos_fall_short reaches = (let short = reaches.reached aces all_turns twos_to_the_end refl in cc)
 
-goal_is_reached_at_the_end : ReachesGoal four_twos twos → outcome_of (full_of four_twos aces all_turns) ≡ outcome.Reached
+goal_is_reached_at_the_end : ReachesGoal four_twos twos → outcome_for four_twos aces (play_scores four_twos all_turns) ≡ outcome.Reached
 goal_is_reached_at_the_end reaches = reaches.reached aces all_turns twos_to_the_end refl
 
 -- ---- nodes with paragraphs of their own

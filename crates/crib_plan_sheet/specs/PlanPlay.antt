@@ -15,13 +15,12 @@ use Rattle.crib_play.specs.History.{acts_of}
 use Rattle.crib_play.specs.Legal.{IsLegal, cards_left, fits, letters_of}
 use Rattle.crib_play.specs.Record.{mover}
 use Rattle.crib_problem.specs.Setup.{Setup, IsDealOf, BeginsAsPlayed, start_of, hands_of}
-use Rattle.crib_show.specs.Outcome.{outcome_of}
 use Rattle.crib_show.specs.declared.show.outcomes.Outcome.TheVariants.{Reached}
 use Rattle.crib_plan.specs.declared.plan.Node.{Node}
 use Rattle.crib_plan.specs.Nodes.{ArePlan}
 use Rattle.crib_plan.specs.Places.{stated_card}
 use Rattle.crib_game.specs.Following.{place_of, opening_is_over, is_playable, Follows}
-use Rattle.crib_game.specs.Replay.{is_done_for, full_of}
+use Rattle.crib_game.specs.Replay.{is_done_for, outcome_for, play_scores}
 use Rattle.crib_sure.specs.Sure.{IsSure}
 use Rattle.crib_plan_sheet.specs.PlanSheet.{Row, Over, Sheet, Turn, OwnCard, Shown, sheet_with, sheet_card, read_on}
 use Rattle.crib_plan_sheet.specs.PlanSheet.{read_turns}
@@ -91,7 +90,7 @@ pub record ReachesGoal (problem : Setup) (sheet : Sheet) : Type 0 where
   pub no_choice_left : (dealt : Dealt) (later past : List Move) → IsPlayedFrom problem sheet dealt (later ++ past) →
       row_after problem sheet past ≡ Over → IsFalse (has_choice problem dealt (later ++ past))
   pub reached : (dealt : Dealt) (played : List Move) → IsPlayedFrom problem sheet dealt played →
-      IsTrue (is_done_for problem played) → outcome_of (full_of problem dealt played) ≡ Reached
+      IsTrue (is_done_for problem played) → outcome_for problem dealt (play_scores problem played) ≡ Reached
 
 -- ---- the laws
 

@@ -14,13 +14,12 @@ use Rattle.crib_play.specs.Score.{is_done}
 use Rattle.crib_play.specs.Legal.{IsLegal, MayCome, MayTake, letters_of}
 use Rattle.crib_play.specs.History.{acts_of}
 use Rattle.crib_show.specs.declared.show.outcomes.Outcome.TheVariants.{Reached, Lost, Short}
-use Rattle.crib_show.specs.Outcome.{outcome_of}
 use Rattle.crib_show.specs.Show.{hand_points, crib_points}
 use Rattle.crib_problem.specs.Setup.{Setup, start_of, hands_of}
 use Rattle.crib_problem.proofs.ExampleProblems.{plays, says_go, level, level_acts, close_to_lost, pairing}
 use Rattle.crib_problem.proofs.Setups.{setup_from}
 use Rattle.crib_game.specs.declared.section.game.Game.{Game}
-use Rattle.crib_game.specs.Replay.{full_of, is_done_for}
+use Rattle.crib_game.specs.Replay.{is_done_for, outcome_for, play_scores}
 use Rattle.crib_game.proofs.ExampleGames.{game_with}
 use Rattle.crib_players.specs.Players.{own_card, IsSurePlayer}
 use Rattle.crib_players.specs.Refutations.{IsBegun, acts_before, IsMissed, HasEachCard, Refutes, may_play}
@@ -30,6 +29,7 @@ use Rattle.crib_players.proofs.Judged.{begun_to, each_from}
 use Rattle.crib_players.proofs.Missed.{missed_to}
 use Rattle.crib_players.proofs.Refuted.{refuted}
 use Rattle.crib_players.proofs.PlayerExamples.{ace_led, by_suit, pairing_is}
+use Rattle.crib_show.specs.Outcome.{outcome_from}
 
 -- ---- the opponent needs two holes, and pairs whatever the owner leads
 abbrev lost_after : ℕ → ℕ → Game
@@ -40,7 +40,8 @@ pairs = lost_after 0 1 ∷ lost_after 4 7 ∷ lost_after 5 7 ∷ lost_after 6 7 
 
 lost : (mine theirs : ℕ) → IsLegal (start_of close_to_lost) (hands_of close_to_lost pairing) (Card theirs ∷ Card mine ∷ []) →
     acts_of Owner (Card theirs ∷ Card mine ∷ []) ≡ plays Opponent theirs ∷ plays Owner mine ∷ [] →
-    is_done_for close_to_lost (Card theirs ∷ Card mine ∷ []) ≡ true → outcome_of (full_of close_to_lost pairing (Card theirs ∷ Card mine ∷ [])) ≡ Lost →
+    is_done_for close_to_lost (Card theirs ∷ Card mine ∷ []) ≡ true →
+    outcome_for close_to_lost pairing (play_scores close_to_lost (Card theirs ∷ Card mine ∷ [])) ≡ Lost →
     IsMissed close_to_lost (lost_after mine theirs)
 lost mine theirs legal acts done outcome = record {
   played = Card theirs ∷ Card mine ∷ [];
@@ -60,7 +61,7 @@ may : (turn : Move) (past : List Move) → is_done (start_of close_to_lost) (let
 may turn past going take = record { not_done = going; may_take = take }
 
 pairs_miss : (index : ℕ) (game : Game) → slice_get pairs index ≡ Some game → IsMissed close_to_lost game
-unfolding outcome_of hand_points crib_points
+unfolding outcome_from hand_points crib_points
 pairs_miss zero game among = subst (IsMissed close_to_lost) (same_Some (lost_after 0 1) game among)
     (lost 0 1 ((tt, may (Card 0) [] refl (refl, refl)), may (Card 1) (Card 0 ∷ []) refl (refl, refl)) refl refl refl)
 pairs_miss (suc zero) game among = subst (IsMissed close_to_lost) (same_Some (lost_after 4 7) game among)
@@ -170,7 +171,7 @@ each_two_is_needed is =
 pub not_missed : ¬ (IsMissed close_to_lost (game_with pairing (plays Owner 0 ∷ [])))
     × ¬ (IsMissed (record close_to_lost { scores = record { owner = 119; opponent = 119 } })
     (game_with pairing (plays Owner 4 ∷ plays Opponent 1 ∷ plays Owner 0 ∷ [])))
-unfolding outcome_of hand_points crib_points
+unfolding outcome_from hand_points crib_points
 not_missed = (
   λ is. both_ways _ refl (missed_to close_to_lost (game_with pairing (plays Owner 0 ∷ [])) (setup_from _ refl tt (refl, refl) (omega arith) tt tt) is),
   λ is. both_ways _ refl (missed_to (record close_to_lost { scores = record { owner = 119; opponent = 119 } })
@@ -217,7 +218,7 @@ ace_led_is : longer close_to_lost (own_card 0) ≡ ace_led
 ace_led_is = refl
 
 ace_lost : IsMissed ace_led (lost_after 0 1)
-unfolding set_where outcome_of hand_points crib_points
+unfolding set_where outcome_from hand_points crib_points
 ace_lost = record {
   played = Card 1 ∷ Card 0 ∷ [];
   of_game = record {

@@ -6,7 +6,6 @@ use Rattle.crib_play.specs.Legal.{letters_of}
 use Rattle.crib_play.specs.History.{filled_moves, moves_of}
 use Rattle.crib_play.proofs.FilledRecords.{filled_whole, not_silent_done}
 use Rattle.crib_play.proofs.LegalRecords.{legal_filled}
-use Rattle.crib_show.specs.Outcome.{outcome_of}
 use Rattle.crib_show.specs.declared.show.outcomes.Outcome.{Outcome}
 use Rattle.crib_show.specs.declared.show.outcomes.Outcome.TheVariants.{Reached, Lost, Short}
 use Rattle.crib_problem.specs.Setup.{Setup, IsSetup, start_of, hands_of}
@@ -14,7 +13,8 @@ use Rattle.crib_problem.proofs.StartLemmas.{started, hands_dealt}
 use Rattle.crib_game.specs.declared.section.game.Game.{Game}
 use Rattle.crib_game.specs.declared.fault.GameFault.{GameFault}
 use Rattle.crib_game.specs.declared.replaying.report.Report.{Report}
-use Rattle.crib_game.specs.Replay.{IsRecordOf, acts_back, by_rules, full_of, game_fault, is_done_for, outcome_after, outcome_if_done, record_of}
+use Rattle.crib_game.specs.Replay.{IsRecordOf, acts_back, by_rules, full_with, game_fault, is_done_for, outcome_after, outcome_for}
+use Rattle.crib_game.specs.Replay.{outcome_if_done, play_scores, record_of}
 use Rattle.crib_game.specs.Replay.{replay_result, report_of, unless_fault}
 use Rattle.crib_game.proofs.ActFaults.{acts_filled, legal_acts}
 use Rattle.crib_game.proofs.GameFaults.{clear_parts, no_fault_is}
@@ -68,11 +68,11 @@ module _ (problem : Setup) (game : Game) (setup : IsSetup problem) where
       is_miss (outcome_after problem game.opp (record_of problem game)) ≡ true → IsMissed problem game
   missed_from played of miss =
       let filled = record_of problem game in
-      let parts = miss_parts (is_done_for problem filled) (outcome_of (full_of problem game.opp filled)) miss in
+      let parts = miss_parts (is_done_for problem filled) (outcome_for problem game.opp (play_scores problem filled)) miss in
       record { played = filled; of_game = filled_record_is played of; done = parts.0; missed = parts.1 }
 
   pub missed_to : IsMissed problem game → is_miss (outcome_after problem game.opp (record_of problem game)) ≡ true
   missed_to is =
       ap (λ (played : List Move). is_miss (outcome_after problem game.opp played)) (done_filled is.played is.of_game is.done)
-      ∙ ap (λ (done : Bool). is_miss (outcome_if_done done (full_of problem game.opp is.played))) is.done
-      ∙ other_is (outcome_of (full_of problem game.opp is.played)) is.missed
+      ∙ ap (λ (done : Bool). is_miss (outcome_if_done done (full_with problem game.opp (play_scores problem is.played)))) is.done
+      ∙ other_is (outcome_for problem game.opp (play_scores problem is.played)) is.missed

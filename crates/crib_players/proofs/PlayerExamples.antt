@@ -13,12 +13,11 @@ use Rattle.crib_cards.specs.declared.moves.Move.TheVariants.{Card, Go}
 use Rattle.crib_play.specs.Legal.{cards_of}
 use Rattle.crib_play.specs.History.{moves_of}
 use Rattle.crib_show.specs.declared.show.outcomes.Outcome.TheVariants.{Reached, Lost}
-use Rattle.crib_show.specs.Outcome.{outcome_of}
 use Rattle.crib_show.specs.Show.{hand_points, crib_points}
 use Rattle.crib_problem.specs.declared.problem.Version.TheVariants.{Two}
 use Rattle.crib_problem.specs.Setup.{Setup, IsDealOf, start_of, hands_of}
 use Rattle.crib_problem.proofs.ExampleProblems.{plays, level, four_twos, close_to_lost, pairing}
-use Rattle.crib_game.specs.Replay.{is_done_for, full_of}
+use Rattle.crib_game.specs.Replay.{is_done_for, outcome_for, play_scores}
 use Rattle.crib_plan.specs.declared.plan.Next.TheVariants.{End, To}
 use Rattle.crib_plan.specs.declared.plan.Node.TheVariants.{Play, See}
 use Rattle.crib_sure.specs.HistoryPlaces.{place_by}
@@ -27,6 +26,7 @@ use Rattle.std.specs.Prelude.{replicate}
 use Rattle.crib_play.specs.History.{Own, Theirs}
 use Rattle.std.proofs.Common.{◌++◌}
 use Rattle.crib_players.specs.Players.{IsPlayedBy, Player, player_by, follower_of, AreBy, is_at_loss, IsSurePlayer}
+use Rattle.crib_show.specs.Outcome.{outcome_from}
 
 -- ---- players
 -- a player who plays the two of clubs once the ace of clubs was shown, and otherwise the two of diamonds
@@ -138,7 +138,7 @@ nothing_by player = record { deal = pairing_is; legal = tt; begins = record { la
 
 -- whoever plays no card isn't sure, and neither is who leads the ace, which the opponent pairs
 pub not_sure : ¬ (IsSurePlayer close_to_lost (λ acts. None)) × ¬ (IsSurePlayer close_to_lost (λ acts. Some 0))
-unfolding outcome_of hand_points crib_points
+unfolding outcome_from hand_points crib_points
 not_sure = (
   λ sure. both_ways _ (sure.never_at_loss pairing [] (nothing_by (λ acts. None))) refl,
   λ sure. (
@@ -160,5 +160,5 @@ pub sure_at_the_end :
     ((dealt : Dealt) (played : List Move) → IsPlayedBy four_twos by_suit dealt played →
     is_at_loss by_suit (start_of four_twos) (hands_of four_twos dealt) played ≡ false) →
     ((dealt : Dealt) (played : List Move) → IsPlayedBy four_twos by_suit dealt played → is_done_for four_twos played ≡ true →
-    outcome_of (full_of four_twos dealt played) ≡ Reached) → IsSurePlayer four_twos by_suit
+    outcome_for four_twos dealt (play_scores four_twos played) ≡ Reached) → IsSurePlayer four_twos by_suit
 sure_at_the_end never reached = record { never_at_loss = never; reached = reached }

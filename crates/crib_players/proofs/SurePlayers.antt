@@ -22,7 +22,6 @@ use Rattle.crib_play.specs.Legal.{letters_of, cards_of, cards_left, fits, IsDeal
 use Rattle.crib_play.specs.History.{acts_of, filled_moves, moves_of}
 use Rattle.crib_play.proofs.FilledRecords.{cards_filled, filled_law, filled_whole, not_silent_done}
 use Rattle.crib_play.proofs.TurnFacts.{same_is}
-use Rattle.crib_show.specs.Outcome.{outcome_of}
 use Rattle.crib_show.specs.declared.show.outcomes.Outcome.TheVariants.{Reached}
 use Rattle.crib_problem.specs.Setup.{Setup, IsSetup, start_of, hands_of, opening_basis_of, played_back, fixed_cards, IsDealOf}
 use Rattle.crib_problem.specs.Played.{act_refusal, cards_by}
@@ -31,7 +30,7 @@ use Rattle.crib_problem.proofs.Setups.{without_opening}
 use Rattle.crib_problem.proofs.OpeningLawProofs.{honest_proved}
 use Rattle.crib_know.proofs.HonestOpenings.{allowed_proved}
 use Rattle.crib_game.specs.Following.{is_playable}
-use Rattle.crib_game.specs.Replay.{is_done_for, full_of}
+use Rattle.crib_game.specs.Replay.{is_done_for, outcome_for, play_scores}
 use Rattle.crib_players.specs.Players.{Player, own_card, AreBy, IsPlayedBy, is_at_loss, IsSurePlayer}
 use Rattle.crib_players.specs.Refutations.{may_play}
 use Rattle.crib_players.specs.Laws.{longer, CanComeNext}
@@ -269,7 +268,7 @@ module _ (problem : Setup) (setup : IsSetup problem) where
               ∙ (sure more.act more.later more.parts).never_at_loss dealt played (played_after more.act more.later more.parts)
         ]
 
-        reached : is_done_for problem played ≡ true → outcome_of (full_of problem dealt played) ≡ Reached
+        reached : is_done_for problem played ≡ true → outcome_for problem dealt (play_scores problem played) ≡ Reached
         reached done = elim cases [
           | inl same ↦ absurd (not_yet dealt played is.deal is.legal same done)
           | inr more ↦ (sure more.act more.later more.parts).reached dealt played (played_after more.act more.later more.parts) done

@@ -12,13 +12,12 @@ use Rattle.crib_play.specs.Record.{mover}
 use Rattle.crib_play.specs.Score.{is_done}
 use Rattle.crib_play.specs.Legal.{letters_of, cards_left, fits, IsLegal}
 use Rattle.crib_play.specs.History.{acts_of, event_of}
-use Rattle.crib_show.specs.Outcome.{outcome_of}
 use Rattle.crib_show.specs.declared.show.outcomes.Outcome.TheVariants.{Reached}
 use Rattle.crib_problem.specs.Setup.{Setup, start_of, hands_of, IsDealOf, BeginsAsPlayed}
 use Rattle.crib_plan.specs.declared.plan.Node.{Node}
 use Rattle.crib_plan.specs.Places.{stated_card}
 use Rattle.crib_game.specs.Following.{is_playable}
-use Rattle.crib_game.specs.Replay.{is_done_for, full_of}
+use Rattle.crib_game.specs.Replay.{is_done_for, outcome_for, play_scores}
 use Rattle.crib_sure.specs.HistoryPlaces.{place_by}
 
 -- a player: the card that the owner plays after the visible turns so far, the last one first. The turns have all cards
@@ -66,4 +65,4 @@ pub record IsSurePlayer (problem : Setup) (player : Player) : Type 0 where
   pub never_at_loss : (dealt : Dealt) (played : List Move) → IsPlayedBy problem player dealt played →
       IsFalse (is_at_loss player (start_of problem) (hands_of problem dealt) played)
   pub reached : (dealt : Dealt) (played : List Move) → IsPlayedBy problem player dealt played →
-      IsTrue (is_done_for problem played) → outcome_of (full_of problem dealt played) ≡ Reached
+      IsTrue (is_done_for problem played) → outcome_for problem dealt (play_scores problem played) ≡ Reached

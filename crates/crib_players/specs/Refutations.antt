@@ -6,11 +6,10 @@ use Rattle.crib_cards.specs.declared.moves.Move.{Move}
 use Rattle.crib_cards.specs.declared.moves.Act.{Act}
 use Rattle.crib_play.specs.Legal.{cards_of, fits}
 use Rattle.crib_play.specs.History.{filled_moves, moves_of}
-use Rattle.crib_show.specs.Outcome.{outcome_of}
 use Rattle.crib_show.specs.declared.show.outcomes.Outcome.TheVariants.{Reached}
 use Rattle.crib_problem.specs.Setup.{Setup, start_of}
 use Rattle.crib_game.specs.declared.section.game.Game.{Game}
-use Rattle.crib_game.specs.Replay.{IsRecordOf, is_done_for, full_of}
+use Rattle.crib_game.specs.Replay.{IsRecordOf, is_done_for, outcome_for, play_scores}
 use Rattle.crib_players.specs.Players.{own_card}
 
 -- a game in which the goal is missed: its deal is done after its acts, and the outcome is another than Reached
@@ -18,7 +17,7 @@ pub record IsMissed (problem : Setup) (game : Game) : Type 0 where
   pub played : List Move
   pub of_game : IsRecordOf problem game played
   pub done : IsTrue (is_done_for problem played)
-  pub missed : outcome_of (full_of problem game.opp played) ≢ Reached
+  pub missed : outcome_for problem game.opp (play_scores problem played) ≢ Reached
 
 -- the first acts of a game, so many, the last one first
 abbrev pub acts_before : Game → ℕ → List Act

@@ -10,7 +10,6 @@ use Rattle.crib_cards.specs.declared.letters.Letter.TheVariants.{Seen, Go}
 use Rattle.crib_cards.specs.declared.moves.Move.TheVariants as move
 use Rattle.crib_play.specs.declared.turns.Turn.TheVariants as turns
 use Rattle.crib_play.specs.History.{Event, Own, Theirs}
-use Rattle.crib_show.specs.Outcome.{outcome_of}
 use Rattle.crib_show.specs.Show.{hand_points, crib_points}
 use Rattle.crib_plan.specs.declared.plan.Next.TheVariants.{End, To}
 use Rattle.crib_plan.specs.declared.plan.Node.{Node}
@@ -27,6 +26,7 @@ use Rattle.crib_search.specs.Finder.{ExceedsLimit, options, letters}
 use Rattle.crib_search.specs.declared.finder.Found.TheVariants as found
 use Rattle.crib_search.specs.declared.finder.SearchFault.TheVariants.{TooLarge, NoMemory}
 use Rattle.crib_search.specs.Answer.{plan_found, search_fault_number}
+use Rattle.crib_show.specs.Outcome.{outcome_from}
 
 -- ---- answers
 pub plans_that_are_found : (A : Type 0) → map (plan_found {A = A}) (found.Plan (Play 4 End ∷ []) ∷ found.None ∷ []) ≡ Some (Play 4 End ∷ []) ∷ None ∷ []
@@ -155,7 +155,7 @@ none_where_not_reached short = (inr (short, refl), λ finds. elim finds [ inl is
 -- at the first lead, some deal does not have the outcome Reached. After TC TD 9C the scores are 0 to 2. The owner's hand counts 9, so he is two holes short
 -- of eleven
 pub not_reached_yet : (IsReachedBehind level [] → ⊥) × (IsReachedBehind (record level { goal = Holes 11 }) three_events → ⊥)
-unfolding set_where outcome_of hand_points crib_points
+unfolding set_where outcome_from hand_points crib_points
 not_reached_yet = (
   λ reached. (let short = reached (record { hold = 37 ∷ 49 ∷ 50 ∷ 47 ∷ []; throw = 18 ∷ 25 ∷ [] }) (assumption, ([], tt, refl)) in cc),
   λ reached. (let short = reached level_deal (assumption, (move.Card 32 ∷ move.Card 37 ∷ move.Card 36 ∷ [], assumption, refl)) in cc),
@@ -176,7 +176,7 @@ abbrev ace_or_two : Tree
 ace_or_two = Sees (branches_of (Plays 0 Finish ∷ replicate 12 Finish ++ Plays 4 Finish ∷ []))
 
 pub tree_of_two_cards : ((rank : ℕ) → 1 < rank → ¬ CanShow at_29 three_events (Seen rank)) → FindsTree at_29 (Some ace_or_two)
-unfolding FindsTree outcome_of
+unfolding FindsTree outcome_from
 tree_of_two_cards none = inr (
   Plays 0 Finish ∷ replicate 12 Finish ++ Plays 4 Finish ∷ [],
   (

@@ -12,13 +12,12 @@ use Rattle.crib_play.specs.Score.{is_done}
 use Rattle.crib_play.specs.Legal.{letters_of}
 use Rattle.crib_play.specs.History.{Event, Own, history_of}
 use Rattle.crib_play.proofs.FilledRecords.{not_silent_done}
-use Rattle.crib_show.specs.Outcome.{outcome_of}
 use Rattle.crib_show.specs.declared.show.outcomes.Outcome.TheVariants.{Reached}
 use Rattle.crib_problem.specs.declared.problem.Version.{Version}
 use Rattle.crib_problem.specs.Setup.{Setup, IsSetup, start_of, IsDealOf}
 use Rattle.crib_plan.specs.declared.plan.Node.{Node}
 use Rattle.crib_plan.specs.Places.{plan_start}
-use Rattle.crib_game.specs.Replay.{full_of}
+use Rattle.crib_game.specs.Replay.{outcome_for, play_scores}
 use Rattle.crib_know.specs.Knowledge.{asked_now, played_events}
 use Rattle.crib_know.specs.Hidden.{CanShow}
 use Rattle.crib_know.proofs.PassingIsAgreeing.{theirs_asked}
@@ -98,7 +97,7 @@ module _ (problem : Setup) (setup : IsSetup problem) (version : Version) (acts :
       here : At later setup_later plan IsFoundAt found_on history
       here = at_record later setup_later plan IsFoundAt found_on tree found stands dealt played followed
 
-      reached : is_done start (letters_of played) ≡ true → outcome_of (full_of later dealt played) ≡ Reached
+      reached : is_done start (letters_of played) ≡ true → outcome_for later dealt (play_scores later played) ≡ Reached
       reached done =
           let whole = letters_whole later setup_later dealt followed.deal played followed.legal (not_silent_done start (letters_of played) done) in
           let over : asked_now problem history ≡ turns.Over =

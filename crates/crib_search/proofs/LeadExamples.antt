@@ -13,7 +13,6 @@ use Rattle.crib_cards.specs.declared.moves.Move.TheVariants.{Card, Go}
 use Rattle.crib_cards.specs.declared.moves.Act.{Act}
 use Rattle.crib_cards.proofs.Members.{all_has}
 use Rattle.crib_play.specs.Legal.{cards_of, cards_left, fits}
-use Rattle.crib_show.specs.Outcome.{outcome_of}
 use Rattle.crib_show.specs.Show.{hand_points}
 use Rattle.crib_show.specs.declared.show.outcomes.Outcome.{Outcome}
 use Rattle.crib_show.specs.declared.show.outcomes.Outcome.TheVariants.{Reached}
@@ -23,8 +22,9 @@ use Rattle.crib_plan.specs.declared.plan.Next.{Next}
 use Rattle.crib_plan.specs.declared.plan.Next.TheVariants.{End, To}
 use Rattle.crib_plan.specs.declared.plan.Node.{Node}
 use Rattle.crib_plan.specs.declared.plan.Node.TheVariants.{Play}
-use Rattle.crib_game.specs.Replay.{is_done_for, full_of, same_act}
+use Rattle.crib_game.specs.Replay.{is_done_for, same_act, outcome_for, play_scores}
 use Rattle.crib_game.specs.Following.{is_stuck}
+use Rattle.crib_show.specs.Outcome.{outcome_from}
 
 -- the owner deals, and wants to win; the starter is KS. Two gos end the pile of 2C 6C 4C JH, and KC and QH are left to the owner. The opponent is at 113, and
 -- wins with eight points in the play and the hand
@@ -169,6 +169,7 @@ still_left = each_lead (λ lead.
     list_all (λ card. has (4 ∷ 12 ∷ lead ∷ []) card || not (has (cards_of four_turns) card)) (unseen_of before_the_lead)) refl
 
 pub wins : (dealt : Dealt) (lead last : ℕ) → has leads lead ≡ true → has (tens lead) last ≡ true →
-    is_reached (outcome_of (full_of (after_lead lead) (with_last lead last dealt) (to_end lead last))) ≡ true
-unfolding outcome_of hand_points
-wins dealt = each_last (λ lead last. is_reached (outcome_of (full_of (after_lead lead) (with_last lead last dealt) (to_end lead last)))) refl
+    is_reached (outcome_for (after_lead lead) (with_last lead last dealt) (play_scores (after_lead lead) (to_end lead last))) ≡ true
+unfolding outcome_from hand_points
+wins dealt =
+    each_last (λ lead last. is_reached (outcome_for (after_lead lead) (with_last lead last dealt) (play_scores (after_lead lead) (to_end lead last)))) refl

@@ -18,7 +18,6 @@ use Rattle.crib_play.specs.Legal.{MayCome, IsLegal, cards_of, cards_left, fits, 
 use Rattle.crib_play.specs.History.{act_by, acts_of}
 use Rattle.crib_play.specs.Filled.{is_visible}
 use Rattle.crib_play.proofs.CardLemmas.{none_passes}
-use Rattle.crib_show.specs.Outcome.{outcome_of}
 use Rattle.crib_show.specs.declared.show.outcomes.Outcome.{Outcome}
 use Rattle.crib_show.specs.declared.show.outcomes.Outcome.TheVariants.{Reached}
 use Rattle.crib_show.proofs.Exchange.{front_of, has-reordered}
@@ -30,7 +29,7 @@ use Rattle.crib_plan.specs.declared.plan.Next.TheVariants.{End, To}
 use Rattle.crib_plan.specs.declared.plan.Node.{Node}
 use Rattle.crib_plan.proofs.LeadsTo.{or_rest}
 use Rattle.crib_know.proofs.CardsLeft.{has-filter_parts, has-filter_from}
-use Rattle.crib_game.specs.Replay.{is_done_for, full_of}
+use Rattle.crib_game.specs.Replay.{is_done_for, outcome_for, full_with, play_scores}
 use Rattle.crib_game.specs.Following.{Follows, is_stuck, opening_is_over, place_of}
 use Rattle.crib_sure.specs.Sure.{IsSure, IsFollowed}
 use Rattle.crib_search.proofs.LeadExamples.{before_the_lead, after_lead, leads, first_after, second_after, plan_after, tens}
@@ -198,7 +197,7 @@ module _ (lead : ℕ) (is : has leads lead ≡ true) (dealt : Dealt) (deal : IsD
   abbrev IsGood : List Move → Type 0
   IsGood played =
       IsFalse (is_stuck plan problem.played (start_of problem) (hands_of problem dealt) played)
-      × (IsTrue (is_done_for problem played) → outcome_of (full_of problem dealt played) ≡ Reached)
+      × (IsTrue (is_done_for problem played) → outcome_for problem dealt (play_scores problem played) ≡ Reached)
 
   goes : (played : List Move) → goes_on lead played ≡ true → IsGood played
   goes played h =
@@ -214,9 +213,9 @@ module _ (lead : ℕ) (is : has leads lead ≡ true) (dealt : Dealt) (deal : IsD
   good played over (the_close ten) = goes played (here (λ lead last. goes_on lead (to_close lead last)) refl ten)
   good played over (the_end ten) = (
     not-true (is_stuck plan problem.played (start_of problem) (hands_of problem dealt) played) (here (λ lead last. free lead (to_end lead last)) refl ten),
-    λ done. outcome_of-reordered (full_of problem dealt played) dealt (with_last lead last dealt)
+    λ done. outcome_of-reordered (full_with problem dealt (play_scores problem played)) dealt (with_last lead last dealt)
         (record { hold = hidden.order; throw = same_order dealt.throw })
-        ∙ reached_is (outcome_of (full_of problem (with_last lead last dealt) played)) (wins dealt lead last is ten),
+        ∙ reached_is (outcome_for problem (with_last lead last dealt) (play_scores problem played)) (wins dealt lead last is ten),
   )
   good played over other = absurd (both_ways false refl (ap is_over over))
 

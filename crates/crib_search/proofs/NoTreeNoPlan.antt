@@ -28,7 +28,7 @@ use Rattle.crib_problem.specs.Setup.{Setup, IsSetup, start_of, hands_of, IsDealO
 use Rattle.crib_problem.proofs.StartLemmas.{started}
 use Rattle.crib_plan.specs.declared.plan.Node.{Node}
 use Rattle.crib_plan.specs.Places.{stated_card}
-use Rattle.crib_game.specs.Replay.{is_done_for, full_with, full_of}
+use Rattle.crib_game.specs.Replay.{is_done_for, outcome_for, play_scores}
 use Rattle.crib_game.specs.Following.{place_of, is_playable, is_stuck}
 use Rattle.crib_know.specs.Knowledge.{played_events, count_after, asked_now}
 use Rattle.crib_know.proofs.LedHistories as know
@@ -71,7 +71,7 @@ pub record Serves (problem : Setup) (plan : List Node) (given : List Act) (histo
   pub plays : Plays (start_of problem) (hands_of problem dealt) history
   pub unstuck : is_stuck plan given (start_of problem) (hands_of problem dealt) (filled_moves (start_of problem) plays.seen) ≡ false
   pub reached : is_done_for problem (filled_moves (start_of problem) plays.seen) ≡ true →
-      outcome_of (full_of problem dealt (filled_moves (start_of problem) plays.seen)) ≡ Reached
+      outcome_for problem dealt (play_scores problem (filled_moves (start_of problem) plays.seen)) ≡ Reached
 
 pub sure_serves : (problem : Setup) → IsSetup problem → (plan : List Node) → IsSure problem plan → (dealt : Dealt) (history : List Event) →
     AgreesWith problem history dealt → BeginsAfter problem history → FollowsBy plan problem.played history → Serves problem plan problem.played history dealt
@@ -121,7 +121,7 @@ module _ (problem : Setup) (setup : IsSetup problem) (plan : List Node) (longer 
     reached_here over =
         let done : is_done start (letters_of past) ≡ true = ap (is_done start) letters_are
         ∙ over_done start (filled_record start (history_letters history)) over in
-        ap (λ (letters : Record). outcome_of (full_with problem dealt (scores_after start letters))) (sym letters_are)
+        ap (λ (letters : Record). outcome_for problem dealt (scores_after start letters)) (sym letters_are)
         ∙ served.reached done
 
     module _ (asked : asked_now problem history ≡ turns.Owner) (card : ℕ) (option : IsOption problem history card) where
@@ -204,7 +204,7 @@ module _ (problem : Setup) (setup : IsSetup problem) (plan : List Node) (longer 
         let passes = rw (theirs_alike one other twins.alike, least_alike problem one other twins.alike) at
         (agrees_passes problem setup dealt agrees.0 one agrees) in
         let also = passing_agrees problem setup dealt agrees.0 other twins.led_other passes in
-        ap (λ (letters : List Letter). outcome_of (full_with problem dealt (scores_after start (filled_record start letters))))
+        ap (λ (letters : List Letter). outcome_for problem dealt (scores_after start (filled_record start letters)))
         (letters_alike one other twins.alike)
         ∙ reached_here dealt agrees.0 other (serves dealt other also twins.begun_other twins.follows) (asked_other turns.Over over)
 

@@ -12,7 +12,6 @@ use Rattle.crib_cards.specs.declared.letters.Letter.TheVariants.{Seen}
 use Rattle.crib_cards.specs.declared.moves.Move.TheVariants.{Card, Go}
 use Rattle.crib_cards.proofs.Members.{all_has, has_here}
 use Rattle.crib_play.specs.History.{Event, Own, Theirs}
-use Rattle.crib_show.specs.Outcome.{outcome_of}
 use Rattle.crib_show.specs.Show.{hand_points, crib_points}
 use Rattle.crib_problem.specs.Setup.{IsSetup, IsDealOf, unseen_of}
 use Rattle.crib_problem.proofs.Setups.{setup_from}
@@ -28,6 +27,7 @@ use Rattle.crib_search.proofs.AfterRank.{no_tree_no_win}
 use Rattle.crib_search.proofs.LawProofs.{none_law}
 use Rattle.crib_search.proofs.LeadExamples.{before_the_lead, after_lead, leads, plan_after, six_turns}
 use Rattle.crib_search.proofs.LeadPlans.{plan_is_sure}
+use Rattle.crib_show.specs.Outcome.{outcome_from}
 
 -- ---- before the lead no plan is sure
 before_the_lead_is_a_setup : IsSetup before_the_lead
@@ -53,7 +53,7 @@ jack_led = Theirs (Seen 11) ∷ played_events before_the_lead
 
 -- JC QH TC: a run of three, a go, and a flush make eight
 none_after_queen : Finds 28 before_the_lead (Own (Card 46) ∷ jack_led) None
-unfolding outcome_of hand_points crib_points
+unfolding outcome_from hand_points crib_points
 none_after_queen = inl (
   (
     Seen 10,
@@ -72,7 +72,7 @@ none_after_queen = inl (
 
 -- JS KC QD: a run of three, a go, a run of three in the hand with the starter, and his nobs make eight
 none_after_king : Finds 28 before_the_lead (Own (Card 48) ∷ jack_led) None
-unfolding outcome_of hand_points crib_points
+unfolding outcome_from hand_points crib_points
 none_after_king = inl (
   (
     Seen 12,

@@ -4,11 +4,11 @@ use Rattle.std.proofs.Common.{Some, None, refl, ap, ◌∙◌, arith}
 use Rattle.std.specs.Prelude.{Option}
 use Rattle.std.proofs.lemmas.Bool.{both_ways, false_from_ne_true, le-leb, leb-false, lt-leb, or_parts}
 use Rattle.std.proofs.lemmas.Bool.Decides.{nat_tests}
-use Rattle.crib_cards.specs.Sides.{game_hole, are_decided, other_side}
+use Rattle.crib_cards.specs.Sides.{game_hole, are_decided}
 use Rattle.crib_cards.specs.declared.sides.Scores.{Scores}
 use Rattle.crib_cards.specs.declared.sides.Side.{Side}
 use Rattle.crib_cards.specs.declared.sides.Side.TheVariants.{Owner, Opponent}
-use Rattle.crib_show.specs.Outcome.{crib_of, hand_of_side, outcome_from, outcome_of}
+use Rattle.crib_show.specs.Outcome.{holds_of, outcome_from, outcome_of, show_order}
 use Rattle.crib_show.specs.Show.{hand_points, crib_points}
 use Rattle.crib_show.specs.declared.deals.Full.{Full}
 use Rattle.crib_show.specs.declared.show.outcomes.Outcome.{Outcome}
@@ -69,17 +69,17 @@ module _ (full : Full) where
 
   -- ---- the scores decide
   pub decided_reached : full.target ≤ full.scores.owner → outcome_of full ≡ Reached
-  unfolding outcome_of
+  unfolding outcome_from
   decided_reached high = rw (le-leb full.target full.scores.owner high)
 
   pub decided_lost : full.scores.owner < full.target → game_hole ≤ full.scores.opponent → outcome_of full ≡ Lost
-  unfolding outcome_of
+  unfolding outcome_from
   decided_lost low high = rw (lt-leb full.target full.scores.owner low, le-leb game_hole full.scores.opponent high)
 
   -- ---- the show
   outcome_by : Side → Outcome
-  outcome_by side = outcome_from full full.scores
-      (hand_of_side full (other_side side) ∷ hand_of_side full side ∷ crib_of (record full { dealer = side }) ∷ [])
+  outcome_by side =
+      outcome_from full.target full.stop full.scores (show_order side (holds_of full) (full.own_throw ++ full.opp.throw) full.starter)
 
   module _ (still : are_decided full.target full.scores ≡ false) where
     under : full.scores.opponent < 121
@@ -90,7 +90,7 @@ module _ (full : Full) where
     dealer_shows : full.dealer ≡ Owner →
         fails ≡ (leb (121 - full.scores.opponent) their_hand
         || (ltb (min 121 (min 121 (full.scores.owner + own) + their_crib)) full.target && not full.stop))
-    unfolding outcome_of outcome_by
+    unfolding outcome_from outcome_by
     dealer_shows is = ap (λ o. not (is_reached o)) (ap outcome_by is) ∙ dealer_misses full.stop (leb full.target full.scores.owner) _ _
         (leb 121 full.scores.opponent) _ still
         ∙ shown full.target full.scores.owner full.scores.opponent own their_hand their_crib full.stop under
@@ -104,7 +104,7 @@ module _ (full : Full) where
     pone_shows : full.dealer ≡ Opponent →
         fails ≡ (ltb (min 121 (full.scores.owner + own)) full.target
         && (leb (121 - full.scores.opponent) (their_hand + their_crib) || not full.stop))
-    unfolding outcome_of outcome_by
+    unfolding outcome_from outcome_by
     pone_shows is = ap (λ o. not (is_reached o)) (ap outcome_by is) ∙ pone_misses full.stop (leb full.target full.scores.owner) _
         (leb 121 full.scores.opponent) _ _ still
         ∙ shown full.target full.scores.owner full.scores.opponent own their_hand their_crib full.stop under

@@ -1,16 +1,17 @@
 -- Worked examples of each part of a show: choices, fifteens, pairs and runs, rows and outcomes, and what agrees with the ranks that were shown. A card of
 -- rank r is 4 * (r - 1), and 1, 2, 3 more for diamonds, hearts and spades.
 use Rattle.std.proofs.Common.{arith, ◌≡◌, ◌∙◌, refl, sym, ap, subst, true, false, [], ◌∷◌, ◌+◌, List, ℕ, codes, Some, None}
-use Rattle.std.specs.Prelude.{IfSome, length, map, replicate, slice_index_or, ◌<◌, ◌≤◌}
+use Rattle.std.specs.Prelude.{Bool, IfSome, length, map, replicate, slice_index_or, ◌<◌, ◌≤◌}
 use Rattle.std.specs.List.{range_with_len}
 use Rattle.std.proofs.lemmas.Bool.{both_ways}
 use Rattle.crib_cards.specs.Sets.{rank_counts, set_where}
 use Rattle.crib_cards.specs.declared.sides.Dealt.{Dealt}
+use Rattle.crib_cards.specs.declared.sides.Side.{Side}
 use Rattle.crib_cards.specs.declared.sides.Side.TheVariants.{Owner, Opponent}
 use Rattle.crib_show.proofs.ExampleShows.{aces_and_fives, clubs_and_kings, four_aces, twos_and_aces}
 use Rattle.crib_show.specs.Extremes.{AreExtremes, AreExtremesFor, AreKept, AreKeptIn, HasCards, IfKept}
 use Rattle.crib_show.specs.Laws.{AreSameCards, IsHand, IsSameDeal, is_possible}
-use Rattle.crib_show.specs.Outcome.{counted_scores, hold_of, no_row, outcome_from, outcome_of, row_of, rows_from, show_order}
+use Rattle.crib_show.specs.Outcome.{holds_of, no_row, order_of, outcome_from, outcome_of, row_of, rows_from}
 use Rattle.crib_show.specs.Indices.{AreFour, below, many, index_among}
 use Rattle.crib_show.specs.Show.{are_of_suit, choices, crib_flush, fifteen_points, hand_flush, is_fifteen, is_full_run, is_pair, is_prolonged}
 use Rattle.crib_show.specs.Show.{crib_points, hand_points, jack_points, pair_points, plain_of_ranks, plain_points, run_points, with_and_without}
@@ -22,7 +23,7 @@ use Rattle.crib_show.specs.declared.worst.extremes.Extremes.{Extremes}
 use Rattle.crib_show.specs.declared.worst.extremes.ExtremesByRanks.{ExtremesByRanks}
 use Rattle.crib_show.specs.declared.deals.OwnPoints.{OwnPoints}
 use Rattle.crib_show.specs.declared.deals.WorstShow.{WorstShow}
-use Rattle.crib_show.specs.declared.show.outcomes.CountedHand.{CountedHand}
+use Rattle.crib_cards.specs.Start.{hand_of}
 use Rattle.crib_show.specs.declared.show.outcomes.Outcome.TheVariants.{Reached, Lost, Short}
 
 -- ---- the ranks 7 8 9 7 6, the last of which is the starter's
@@ -75,25 +76,20 @@ pub of_spades : map (are_of_suit 7) ((3 ∷ 11 ∷ []) ∷ (2 ∷ 11 ∷ []) ∷
 of_spades = refl
 
 -- ---- the show of a deal: 9 for the pone, 2 for the dealer, 9 for the crib
-abbrev counted : List CountedHand
-counted = record { crib = false; side = Owner; points = 9 } ∷ record { crib = false; side = Opponent; points = 2 } ∷
-    record { crib = true; side = Opponent; points = 9 } ∷ []
+abbrev counted : List (Bool × Side × ℕ)
+counted = (false, Owner, 9) ∷ (false, Opponent, 2) ∷ (true, Opponent, 9) ∷ []
 
-pub holds_of_sides : map (hold_of clubs_and_kings) (Owner ∷ Opponent ∷ []) ≡ (36 ∷ 32 ∷ 4 ∷ 28 ∷ []) ∷ (37 ∷ 49 ∷ 50 ∷ 47 ∷ []) ∷ []
+pub holds_of_sides : map (hand_of (holds_of clubs_and_kings)) (Owner ∷ Opponent ∷ []) ≡ (36 ∷ 32 ∷ 4 ∷ 28 ∷ []) ∷ (37 ∷ 49 ∷ 50 ∷ 47 ∷ []) ∷ []
 holds_of_sides = refl
 
-pub pone_dealer_crib : show_order clubs_and_kings ≡ counted
+pub pone_dealer_crib : order_of clubs_and_kings ≡ counted
 unfolding hand_points crib_points
 pone_dealer_crib = refl
 
-pub pone_is_the_opponent : map (λ (hand : CountedHand). hand.side) (show_order (record clubs_and_kings { dealer = Owner })) ≡ Opponent ∷ Owner ∷ Owner ∷ []
+pub pone_is_the_opponent : map (λ (hand : Bool × Side × ℕ). hand.1) (order_of (record clubs_and_kings { dealer = Owner })) ≡ Opponent ∷ Owner ∷ Owner ∷ []
 pone_is_the_opponent = refl
 
-pub scores_with_a_hand : counted_scores (record { owner = 2; opponent = 115 }) (record { crib = false; side = Opponent; points = 9 })
-    ≡ record { owner = 2; opponent = 121 }
-scores_with_a_hand = refl
-
-pub row_of_a_crib : row_of (record { crib = true; side = Opponent; points = 9 }) (record { owner = 2; opponent = 13 })
+pub row_of_a_crib : row_of (true, Opponent, 9) (record { owner = 2; opponent = 13 })
     ≡ record { crib = true; side = Opponent; points = 9; scores = record { owner = 2; opponent = 13 } }
 row_of_a_crib = refl
 
@@ -107,13 +103,12 @@ pub no_row_after_the_end : rows_from 11 (record { owner = 11; opponent = 0 }) co
 no_row_after_the_end = refl
 
 -- the owner reaches 11 first, and 12 not at all, whatever the crib brings to the opponent at 110
-pub outcomes_by_target : map (λ target. outcome_from (record clubs_and_kings { target = target }) (record { owner = 2; opponent = 110 }) counted) (11 ∷ 12 ∷ [])
-    ≡ Reached ∷ Lost ∷ []
+pub outcomes_by_target : map (λ target. outcome_from target false (record { owner = 2; opponent = 110 }) counted) (11 ∷ 12 ∷ []) ≡ Reached ∷ Lost ∷ []
+unfolding outcome_from
 outcomes_by_target = refl
 
-pub outcome_without_hands : outcome_from clubs_and_kings (record { owner = 2; opponent = 120 }) [] ∷
-    outcome_from (record clubs_and_kings { stop = true }) (record { owner = 2; opponent = 120 }) [] ∷ []
-    ≡ Short ∷ Reached ∷ []
+pub outcome_without_hands : map (λ stop. outcome_from 121 stop (record { owner = 2; opponent = 120 }) []) (false ∷ true ∷ []) ≡ Short ∷ Reached ∷ []
+unfolding outcome_from
 outcome_without_hands = refl
 
 pub words_of_hands : map show_word (true ∷ false ∷ []) ≡ codes "crib" ∷ codes "hand" ∷ []
@@ -232,14 +227,14 @@ abbrev other_fives : Dealt
 other_fives = record { hold = 0 ∷ 1 ∷ 2 ∷ 3 ∷ []; throw = 16 ∷ 18 ∷ [] }
 
 fives_fail : IsFailure four_aces aces_and_fives
-unfolding set_where outcome_of hand_points crib_points
+unfolding set_where outcome_from hand_points crib_points
 fives_fail = record {
   agrees = record { deal = record { held = refl; thrown = refl; distinct = refl; hidden_before = refl }; ranks_held = refl; fixed_held = refl };
   fails = λ (e : Lost ≡ Reached). absurd cc;
 }
 
 pub they_lose : outcome_of (with_dealt four_aces aces_and_fives) ≡ Lost
-unfolding outcome_of hand_points crib_points
+unfolding outcome_from hand_points crib_points
 they_lose = refl
 
 pub later_fives_are_not_first : IsFirstFailure four_aces other_fives → ⊥

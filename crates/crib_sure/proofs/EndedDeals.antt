@@ -15,7 +15,7 @@ use Rattle.crib_show.specs.declared.demands.Demand.{Demand}
 use Rattle.crib_problem.specs.Setup.{Setup, start_of, target_of}
 use Rattle.crib_know.specs.Knowledge.{Knowledge, their_ranks}
 use Rattle.crib_know.specs.Hidden.{AgreesWith, KnowsAfter}
-use Rattle.crib_game.specs.Replay.{full_with}
+use Rattle.crib_game.specs.Replay.{outcome_for}
 use Rattle.crib_sure.specs.Shows.{IsDemandAtEnd, IsReachedBehind, full_behind, worst_of}
 use Rattle.crib_sure.proofs.PointsOfDeals.{few_crib, few_hand}
 use Rattle.crib_sure.proofs.ShowsBehind.{four_played, behind_to, behind_from}
@@ -24,8 +24,8 @@ module _ {know : Knowledge} {problem : Setup} {history : List Event} (knows : Kn
   scores_are : know.round.scores ≡ scores_after (start_of problem) (filled_record (start_of problem) (history_letters history))
   scores_are = ap (λ (k : Knowledge). k.round.scores) knows.knowledge
 
-  full_same : (dealt : Dealt) → outcome_of (full_with problem dealt know.round.scores) ≡ outcome_of (full_behind problem history dealt)
-  full_same dealt = ap (λ (s : Scores). outcome_of (full_with problem dealt s)) scores_are
+  full_same : (dealt : Dealt) → outcome_for problem dealt know.round.scores ≡ outcome_of (full_behind problem history dealt)
+  full_same dealt = ap (λ (s : Scores). outcome_for problem dealt s) scores_are
 
   -- the scores do not decide if not all deals meet the demand, nor none: so four ranks were shown
   pub four_shown : know.round.asked ≡ turns.Over → (demand : Demand) {all none : Bool} →

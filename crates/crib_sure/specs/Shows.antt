@@ -17,7 +17,7 @@ use Rattle.crib_show.specs.declared.show.outcomes.Outcome.TheVariants.{Reached}
 use Rattle.crib_problem.specs.Setup.{Setup, start_of, unseen_of, fixed_cards, target_of, is_stop}
 use Rattle.crib_know.specs.Knowledge.{Knowledge}
 use Rattle.crib_know.specs.Hidden.{AgreesWith, KnowsAfter}
-use Rattle.crib_game.specs.Replay.{full_with}
+use Rattle.crib_game.specs.Replay.{full_with, outcome_for}
 use Rattle.crib_sure.specs.declared.shows.Shows.{Shows}
 
 -- the hidden deals that agree with what is known, once all cards are played
@@ -63,7 +63,7 @@ abbrev pub IsDemandAtEnd : Setup → Knowledge → Demand → Type 0
 IsDemandAtEnd problem know demand =
     (history : List Event) (dealt : Dealt) → KnowsAfter know problem history → AgreesWith problem history dealt
     → IsTrue (is_met_by (worst_of problem know) demand dealt)
-    ↔ (outcome_of (full_with problem dealt know.round.scores) ≡ Reached)
+    ↔ (outcome_for problem dealt know.round.scores ≡ Reached)
 
 -- each deal that agrees with the history has the outcome Reached. It is used only for a deal that is done
 abbrev pub IsReachedBehind : Setup → List Event → Type 0

@@ -6,7 +6,6 @@ use Rattle.crib_cards.specs.declared.moves.Act.{Act}
 use Rattle.crib_cards.specs.declared.sides.Side.TheVariants.{Owner, Opponent}
 use Rattle.crib_cards.specs.declared.moves.Move.TheVariants as move
 use Rattle.crib_play.specs.Legal.{IsLegal}
-use Rattle.crib_show.specs.Outcome.{outcome_of}
 use Rattle.crib_show.specs.declared.show.outcomes.Outcome.TheVariants.{Lost, Reached}
 use Rattle.crib_play.specs.declared.turns.Turn.TheVariants as turns
 use Rattle.crib_problem.proofs.ExampleProblems.{close_to_lost, four_twos, pairing, plays, says_go}
@@ -22,6 +21,7 @@ use Rattle.crib_tables.specs.declared.scores.ScoreTable.{ScoreTable}
 use Rattle.crib_cards.specs.declared.sides.Scores.{Scores}
 use Rattle.crib_tables.specs.Scores.{AreScores, IsMark, IsMarkAt, IsRow, at_scores, numbers_from, scores_around}
 use Rattle.crib_tables.specs.Turns.{AreSure, IsSureBy, IsSureTurn, own_turns}
+use Rattle.crib_show.specs.Outcome.{outcome_from}
 
 -- ---- turns
 
@@ -48,7 +48,7 @@ abbrev ace_led : Setup
 ace_led = record close_to_lost { version = Two; played = plays Owner 0 ∷ [] }
 
 the_pair_is_not : IsSureBy (Some 24) ace_led (plays Opponent 1) → ⊥
-unfolding set_where outcome_of
+unfolding set_where outcome_from
 the_pair_is_not is = (let lost : Lost ≡ Reached = is.1 pairing (pairing_is, (move.Card 1 ∷ move.Card 0 ∷ [], pair_is_legal, refl)) in absurd cc)
   where
     pairing_is : IsDealOf ace_led pairing

@@ -19,7 +19,6 @@ use Rattle.crib_play.specs.Score.{is_done, side_asked, scores_after}
 use Rattle.crib_play.specs.Legal.{letters_of, IsDealt}
 use Rattle.crib_play.specs.History.{Event, event_of, history_letters, filled_moves, moves_of}
 use Rattle.crib_play.proofs.FilledRecords.{letters_filled, not_silent_done}
-use Rattle.crib_show.specs.Outcome.{outcome_of}
 use Rattle.crib_show.specs.declared.show.outcomes.Outcome.TheVariants.{Reached}
 use Rattle.crib_problem.specs.Played.{cards_by, act_refusal}
 use Rattle.crib_problem.specs.Setup.{Setup, IsSetup, IsMove, start_of, hands_of, played_back, opening_basis_of, IsDealOf}
@@ -32,7 +31,7 @@ use Rattle.crib_know.proofs.LedHistories.{MayCome}
 use Rattle.crib_know.proofs.OpeningLawProofs.{letters_same}
 use Rattle.crib_know.proofs.PassingIsAgreeing.{theirs_asked}
 use Rattle.crib_know.proofs.RecordTurns.{agreeing_led}
-use Rattle.crib_game.specs.Replay.{full_of, full_with, is_done_for}
+use Rattle.crib_game.specs.Replay.{is_done_for, outcome_for, play_scores}
 use Rattle.crib_search.specs.Winnable.{IsWinnable}
 use Rattle.crib_search.proofs.NoTreeNoPlan.{over_done}
 use Rattle.crib_search.proofs.RecordHistories.{letters_whole}
@@ -94,14 +93,14 @@ module _ (problem : Setup) (setup : IsSetup problem) (act : Act) where
         record { dealt = dealt; played = last.turn ∷ last.past; deal = deal; legal = last.legal; shows = last.shows }
 
     reached_in : is_over_with problem act ≡ true → IsReachedBehind problem history → is_done_for problem played ≡ true →
-        outcome_of (full_of problem dealt played) ≡ Reached
+        outcome_for problem dealt (play_scores problem played) ≡ Reached
     reached_in over reached done =
         let shown = whole problem setup act over is in
         let agrees : AgreesWith problem history dealt = (deal, (played, is.legal, ap (map event_of) shown)) in
         let same : letters_of played ≡ filled_record start (history_letters history) =
         letters_whole problem setup dealt deal played is.legal (not_silent_done start (letters_of played) done)
         ∙ ap (λ (acts : List Act). filled_record start (history_letters (map event_of acts))) shown in
-        ap (λ (letters : Record). outcome_of (full_with problem dealt (scores_after start letters))) same ∙ reached dealt agrees
+        ap (λ (letters : Record). outcome_for problem dealt (scores_after start letters)) same ∙ reached dealt agrees
 
   -- after a turn that ends the deal with the goal reached, each player is sure
   pub sure_if_reached : asked_now problem history ≡ turns.Over → IsReachedBehind problem history → SomeIsSure next

@@ -7,7 +7,7 @@ use Rattle.crib_cards.specs.declared.sides.Dealt.{Dealt}
 use Rattle.crib_cards.specs.declared.sides.Side.{Side}
 use Rattle.crib_show.specs.declared.show.outcomes.ShowRow.{ShowRow}
 use Rattle.crib_show.specs.Show.{hand_points, crib_points}
-use Rattle.crib_show.specs.Outcome.{outcome_of, show_of}
+use Rattle.crib_show.specs.Outcome.{show_of, outcome_from}
 use Rattle.crib_problem.specs.declared.problem.Goal.TheVariants.{Stop}
 use Rattle.crib_problem.specs.declared.problem.Version.TheVariants.{Two}
 use Rattle.crib_problem.specs.Setup.{Setup}
@@ -90,7 +90,7 @@ tree :
     ≡ text_with (codes "2S, they 2, 8, they 3, 8, they 8, 8, they 7              2 3 7 8    109 121\n8, they 2, then\n"
     ++ codes "    2S, they 2, 8, they 3, you go, they go, 8, they 7    2 2 3 7    111 121\n"
     ++ codes "    8, they 7, 2S, they 2, you go, they 2                2 2 2 7    109 121\n")
-unfolding digits lines_from held_with lines_text line_text columns_text spread_text show_of outcome_of hand_points crib_points
+unfolding digits lines_from held_with lines_text line_text columns_text spread_text show_of outcome_from hand_points crib_points
 tree = refl
 
 -- a row that is the same whatever the owner plays, the flush of a hand that is counted, and a crib
@@ -98,7 +98,7 @@ whatever :
     text_for eights_to_stop (stop_two_first ∷ stop_other_eights ∷ stop_two_second ∷ stop_two_last ∷ [])
     ≡ text_with (codes "2S, they A, 8, they 2, 8, they 3, you go, they 7, 8    AC 2C 3C 7C (5 5)    73 121\n"
     ++ codes "8, they A, then whatever you play, they 2 3 4          AC 2C 3C 4C (5 5)    72-73 121\n")
-unfolding digits lines_from held_with lines_text line_text columns_text spread_text show_of outcome_of hand_points crib_points
+unfolding digits lines_from held_with lines_text line_text columns_text spread_text show_of outcome_from hand_points crib_points
 whatever = refl
 
 -- ---- refused games, and no games

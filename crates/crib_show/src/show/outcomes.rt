@@ -1,8 +1,10 @@
 //! The order of the show, and the outcome of a deal.
-ghost use Rattle.std.specs.Prelude.{◌≡◌};
+ghost use Rattle.std.specs.Prelude.{◌≡◌, ◌++◌};
 ghost use Rattle.crib_cards.specs.Sides.{are_decided};
-ghost use Rattle.crib_show.specs.Outcome.{crib_of, hand_of_side, no_row, outcome_at};
-ghost use Rattle.crib_show.specs.Outcome.{outcome_of, show_of, show_order};
+ghost use Rattle.crib_cards.specs.Start.{hand_of};
+ghost use Rattle.crib_show.specs.Outcome.{holds_of, no_row, order_of, outcome_at};
+ghost use Rattle.crib_show.specs.Outcome.{outcome_of, show_of};
+ghost use Rattle.crib_show.specs.Show.{crib_points, hand_points};
 
 use crate::deals::Full;
 use crate::show::points::{crib_points, hand_points};
@@ -18,14 +20,6 @@ pub enum Outcome {
     Lost,
     /// The show is over, the owner is not at the target, the opponent is not at 121, and the goal is not `stop`.
     Short,
-}
-
-/// A hand or the crib, its side, and its points.
-#[derive(Clone, Copy)]
-struct CountedHand {
-    pub crib: bool,
-    pub side: Side,
-    pub points: u8,
 }
 
 /// A hand or crib that the show counts.
@@ -88,62 +82,57 @@ pub fn show_rows(full: &Full) -> ArrayVec<ShowRow, 3>
     let mut rows = ArrayVec::new();
     let mut scores = full.scores;
     for counted in show_order(full) {
+        let (crib, side, points) = counted;
         if scores.are_decided(full.target) {
             break;
         }
-        scores = scores.with(counted.side, counted.points);
+        scores = scores.with(side, points);
         rows.push(ShowRow {
-            crib: counted.crib,
-            side: counted.side,
-            points: counted.points,
+            crib,
+            side,
+            points,
             scores,
         });
     }
     rows
 }
 
-// The order of the show: the pone's hand, the dealer's hand, the dealer's crib.
-fn show_order(full: &Full) -> [CountedHand; 3]
-    ensures { result ≡ show_order full.now }
+// The order of the show: the pone's hand, the dealer's hand, the dealer's crib. Each has whether it is the crib, whose
+// it is, and its points.
+fn show_order(full: &Full) -> [(bool, Side, u8); 3]
+    ensures { result ≡ order_of full.now }
 {
+    let pone = full.dealer.other();
     [
-        hand_of(full, full.dealer.other()),
-        hand_of(full, full.dealer),
-        crib_of(full),
+        (false, pone, points_of_hand(full, pone)),
+        (false, full.dealer, points_of_hand(full, full.dealer)),
+        (true, full.dealer, points_of_crib(full)),
     ]
 }
 
-// The hand of a side, with its points.
-fn hand_of(full: &Full, side: Side) -> CountedHand
-    ensures { result ≡ hand_of_side full.now side }
+// The points of the hand of a side.
+fn points_of_hand(full: &Full, side: Side) -> u8
+    ensures { result ≡ hand_points (hand_of (holds_of full.now) side) full.now.starter }
 {
     let hold = match side {
         Side::Owner => &full.own_hold,
         Side::Opponent => &full.opp.hold,
     };
-    CountedHand {
-        crib: false,
-        side,
-        points: hand_points(hold, full.starter),
-    }
+    hand_points(hold, full.starter)
 }
 
-// The dealer's crib of both throws, with its points.
-fn crib_of(full: &Full) -> CountedHand
-    ensures { result ≡ crib_of full.now }
+// The points of the crib of both throws.
+fn points_of_crib(full: &Full) -> u8
+    ensures { result ≡ crib_points (full.now.own_throw ++ full.now.opp.throw) full.now.starter }
 {
     let [first, second] = full.own_throw;
     let [third, fourth] = full.opp.throw;
-    CountedHand {
-        crib: true,
-        side: full.dealer,
-        points: crib_points(&[first, second, third, fourth], full.starter),
-    }
+    crib_points(&[first, second, third, fourth], full.starter)
 }
 
 // The outcome at these scores, when nothing more is counted.
 fn outcome_at(full: &Full, scores: Scores) -> Outcome
-    ensures { result ≡ outcome_at full.now scores }
+    ensures { result ≡ outcome_at full.now.target full.now.stop scores }
 {
     if scores.owner >= full.target {
         Outcome::Reached

@@ -8,8 +8,8 @@ pub returns : goal.returns
 returns c =
     c.outcome_at.ensures
     ∙ elim c.match-last.branch [
-      | in-Some w ↦ let item = w.in-Some.ensures.item in ap (outcome_at c.args.full.now) w.scores-is
+      | in-Some w ↦ let item = w.in-Some.ensures.item in ap (outcome_at c.args.full.now.target c.args.full.now.stop) w.scores-is
           ∙ sym (outcome_of-some c.args.full.now c.args.rows.now w.in-Some.row.now c.requires item.3.0 item.1)
-      | in-None w ↦ let item = w.in-None.ensures.item in ap (outcome_at c.args.full.now) w.scores-is
+      | in-None w ↦ let item = w.in-None.ensures.item in ap (outcome_at c.args.full.now.target c.args.full.now.stop) w.scores-is
           ∙ sym (outcome_of-none c.args.full.now c.args.rows.now c.requires item.3)
     ]

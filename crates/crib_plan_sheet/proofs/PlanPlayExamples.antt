@@ -114,6 +114,21 @@ choice_where_the_row_has_ended : ReachesGoal four_twos nothing → ⊥
 unfolding row_after
 choice_where_the_row_has_ended reaches = absurd (both_ways true (reaches.no_choice_left aces [] [] (at_the_lead nothing) refl) refl)
 
+-- after 2C nothing has to be chosen on the opponent's turn, but once they have played AC
+two_and_ace : IsPlayedFrom four_twos (record { first = Plays 4 Over; paragraphs = [] }) aces (move.Card 0 ∷ move.Card 4 ∷ [])
+unfolding sheet_card
+two_and_ace = record {
+  deal = aces_are_a_deal;
+  legal = assumption;
+  begins = record { later = plays Opponent 0 ∷ plays Owner 4 ∷ []; parts = refl };
+  from_sheet = ((tt, λ over. refl), λ over. tt);
+}
+
+choice_after_the_row_has_ended : ReachesGoal four_twos (record { first = Plays 4 Over; paragraphs = [] }) → ⊥
+unfolding row_after
+choice_after_the_row_has_ended reaches =
+    absurd (both_ways true (reaches.no_choice_left aces (move.Card 0 ∷ []) (move.Card 4 ∷ []) two_and_ace refl) refl)
+
 -- four twos in a row make twelve holes of thirteen
 abbrev all_turns : List Move
 all_turns = move.Card 3 ∷ move.Card 7 ∷ move.Card 2 ∷ move.Card 6 ∷ move.Card 1 ∷ move.Card 5 ∷ move.Card 0 ∷ move.Card 4 ∷ []

@@ -99,6 +99,11 @@ pub rows_to_the_end : rows_from 121 (record { owner = 2; opponent = 119 }) count
     ∷ record { crib = false; side = Opponent; points = 2; scores = record { owner = 11; opponent = 121 } } ∷ []
 rows_to_the_end = refl
 
+-- a hand without points has a row
+pub row_without_points : rows_from 121 (record { owner = 2; opponent = 3 }) (record { crib = false; side = Opponent; points = 0 } ∷ [])
+    ≡ record { crib = false; side = Opponent; points = 0; scores = record { owner = 2; opponent = 3 } } ∷ []
+row_without_points = refl
+
 pub no_row_after_the_end : rows_from 11 (record { owner = 11; opponent = 0 }) counted ≡ []
 no_row_after_the_end = refl
 

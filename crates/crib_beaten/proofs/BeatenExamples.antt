@@ -1,5 +1,5 @@
 -- Worked examples of deals that beat a plan, and of demands that decide it.
-use Rattle.std.proofs.Common.{◌≡◌, ℕ, true, false, List, [], ◌∷◌, ◌≤◌, refl, subst}
+use Rattle.std.proofs.Common.{◌≡◌, ℕ, true, false, List, [], ◌∷◌, ◌≤◌, refl, sym, ap, ◌∙◌, subst}
 use Rattle.std.specs.Prelude.{IsFalse, IsTrue, map}
 use Rattle.std.proofs.lemmas.Bool.{both_ways, false_from_ne_true}
 use Rattle.crib_cards.specs.Cards.{rank_of}
@@ -10,16 +10,15 @@ use Rattle.crib_show.specs.Show.{hand_points, crib_points}
 use Rattle.crib_show.specs.declared.demands.Demand.{Demand}
 use Rattle.crib_show.proofs.DemandExamples.{of_three}
 use Rattle.crib_problem.specs.Setup.{Setup, IsDealOf}
+use Rattle.crib_plan.specs.declared.plan.Next.TheVariants.{End, To}
 use Rattle.crib_plan.specs.declared.plan.Node.{Node}
-use Rattle.crib_know.specs.Knowledge.{Knowledge, played_events}
-use Rattle.crib_sure.specs.Positions.{StandsAt}
+use Rattle.crib_know.specs.Knowledge.{Knowledge}
 use Rattle.crib_game.specs.declared.following.ending.Ending.TheVariants as ending
 use Rattle.crib_problem.proofs.ExampleProblems.{four_twos, aces}
 use Rattle.crib_beaten.specs.declared.plays.Plays.{Plays}
 use Rattle.crib_know.specs.Hidden.{IsOpen}
 use Rattle.crib_sure.specs.Shows.{meets}
 use Rattle.crib_beaten.specs.Beaten.{ArePlays, Beats, Decides, counts_of, demand_of, may_show}
-use Rattle.crib_check.specs.Failing.{IsFailing}
 use Rattle.crib_check.proofs.Examples.{aces_are_a_deal, no_acts, stuck_at_once}
 use Rattle.crib_sure.proofs.ExampleOpening.{at_29}
 
@@ -47,12 +46,20 @@ no_third_ace : (before after : Knowledge) →
     may_show (record before { ranks_seen = rank_counts (1 ∷ 1 ∷ []) }) after (Seen 1) (rank_counts (1 ∷ 1 ∷ 2 ∷ 3 ∷ [])) ≡ false
 no_third_ace before after = refl
 
+a_second_king : (before after : Knowledge) →
+    may_show (record before { ranks_seen = rank_counts (13 ∷ []) }) after (Seen 13) (rank_counts (1 ∷ 2 ∷ 13 ∷ 13 ∷ [])) ≡ true
+a_second_king before after = refl
+
 -- a go at 28 leaves no card below a four but those that were shown
 abbrev after_a_go : Knowledge → Knowledge
 after_a_go after = record after { least = 4; ranks_seen = rank_counts (2 ∷ []) }
 
 a_go_with_fours : (before after : Knowledge) → may_show before (after_a_go after) Go (rank_counts (2 ∷ 4 ∷ 4 ∷ 5 ∷ [])) ≡ true
 a_go_with_fours before after = refl
+
+a_go_after_a_king : (before after : Knowledge) →
+    may_show before (record after { least = 4; ranks_seen = rank_counts (13 ∷ []) }) Go (rank_counts (4 ∷ 5 ∷ 6 ∷ 13 ∷ [])) ≡ true
+a_go_after_a_king before after = refl
 
 no_go_with_a_three : (before after : Knowledge) → may_show before (after_a_go after) Go (rank_counts (2 ∷ 3 ∷ 4 ∷ 5 ∷ [])) ≡ false
 no_go_with_a_three before after = refl
@@ -73,10 +80,6 @@ the_ten_is_held is = both_ways false refl is.0.fixed
 -- ---- deals that beat a plan: without a node it is stuck at the first lead
 aces_beat_nothing : Beats four_twos [] aces
 aces_beat_nothing = record { game = no_acts; result = ending.Stuck; failing = stuck_at_once; of_deal = refl }
-
-beaten_by_a_game : {problem : Setup} {plan : List Node} {dealt : Dealt} (beats : Beats problem plan dealt) →
-    IsFailing problem plan beats.game beats.result × (beats.game.opp ≡ dealt)
-beaten_by_a_game beats = (beats.failing, beats.of_deal)
 
 -- what beats a plan is a deal of the problem
 what_beats_is_a_deal : (problem : Setup) (plan : List Node) (dealt : Dealt) → Beats problem plan dealt → IsDealOf problem dealt
@@ -116,14 +119,14 @@ of_nothing = record { hand = 0; total = 0; crib = 0 }
 index_without_a_demand : demand_of (of_three ∷ of_nothing ∷ []) 0 ∷ demand_of (of_three ∷ of_nothing ∷ []) 2 ∷ [] ≡ of_three ∷ of_nothing ∷ []
 index_without_a_demand = refl
 
--- ---- the games of a problem
-module _ {A : Type 0} {problem : Setup} {plan : List Node} {plays : Plays A} where
-  games_of_a_problem : ArePlays problem plan plays → (plays.problem.now ≡ problem) × (plays.plan.now ≡ plan)
-      × (plays.own_hand ≡ hand_points problem.hold problem.starter)
-  games_of_a_problem are = (are.same_problem, are.same_plan, are.points)
+-- ---- the games of four twos, whose hand has 12 points, without a node
+begun_at_the_end : {A : Type 0} {plays : Plays A} → plays.start.place ≡ To 0 → ArePlays four_twos [] plays → ⊥
+begun_at_the_end first are = (let same : To 0 ≡ End = sym first ∙ are.start.place in cc)
 
-  after_the_opening : ArePlays problem plan plays → StandsAt problem plan plays.start (played_events problem)
-  after_the_opening are = are.start
+module _ {A : Type 0} {plays : Plays A} where
+  games_of_four_twos : ArePlays four_twos [] plays → (plays.problem.now.hold ≡ 4 ∷ 5 ∷ 6 ∷ 7 ∷ []) × (plays.plan.now ≡ []) × (plays.own_hand ≡ 12)
+  unfolding hand_points
+  games_of_four_twos are = (ap (λ (p : Setup). p.hold) are.same_problem, are.same_plan, are.points)
 
-  owner_has_102 : ArePlays problem plan plays → plays.own_hand ≤ 102
+  owner_has_102 : {problem : Setup} {plan : List Node} → ArePlays problem plan plays → plays.own_hand ≤ 102
   owner_has_102 are = are.few

@@ -1,19 +1,25 @@
 -- Worked examples: terms, the rows of a tally, and what is said of them.
-use Rattle.std.proofs.Common.{◌≡◌, ◌↔◌, ◌<◌, ℕ, Bool, true, false, List, [], ◌∷◌, ◌++◌, length, refl}
+use Rattle.std.proofs.Common.{◌≡◌, ◌⊎◌, inl, inr, ℕ, Bool, true, false, List, [], ◌∷◌, length, refl, ◌∙◌}
 use Rattle.std.proofs.Common.{◌≤◌, arith}
 use Rattle.std.specs.Prelude.{IsTrue, map}
+use Rattle.std.proofs.lemmas.Bool.{both_ways}
 use Rattle.std.proofs.lemmas.List.Elements.{All-from_recursion, All-head, All-nil}
 use Rattle.crib_cards.specs.declared.sides.Dealt.{Dealt}
 use Rattle.crib_problem.specs.Setup.{Setup}
 use Rattle.crib_plan.specs.declared.plan.Node.{Node}
-use Rattle.crib_beaten.specs.Beaten.{Beats}
+use Rattle.crib_plan.specs.declared.plan.Next.TheVariants.{End}
+use Rattle.crib_plan.specs.declared.plan.Node.TheVariants.{Play}
+use Rattle.crib_game.specs.declared.following.ending.Ending.TheVariants as ending
+use Rattle.crib_problem.proofs.ExampleProblems.{four_twos, aces}
 use Rattle.crib_know.specs.Hidden.{IsOpen}
+use Rattle.crib_check.proofs.Examples.{aces_are_a_deal, no_acts}
+use Rattle.crib_beaten.specs.Beaten.{Beats}
+use Rattle.crib_deals.specs.Deals.{ranks_held}
 use Rattle.crib_beaten.specs.declared.rows.Row.{Row}
 use Rattle.crib_beaten.specs.declared.tally.RanksTally.{RanksTally}
 use Rattle.crib_beaten.specs.declared.tally.Tally.{Tally}
-use Rattle.crib_deals.specs.Exact.{AreExactly}
-use Rattle.crib_beaten.specs.Tally.{AreFigures, IsRow, IsTally}
-use Rattle.crib_deals.specs.Deals.{ranks_held}
+use Rattle.crib_deals.specs.Exact.{AreExactly, IsIn}
+use Rattle.crib_beaten.specs.Tally.{IsRow, IsTally}
 use Rattle.crib_beaten.specs.Terms.{AreBestFirst, AreRows, IsNarrow, columns, has_rank, is_first, meets_none, meets_term}
 use Rattle.crib_beaten.specs.Terms.{printed_ranks, slot_columns, takings}
 
@@ -61,16 +67,63 @@ first_of_terms : (map (is_first either (ace ∷ []))
 unfolding meets_term
 first_of_terms = (refl, refl, refl)
 
--- ---- rows
-without_a_row : (problem : Setup) (plan : List Node) (above : List (List (List Bool))) (others : ℕ) → AreRows problem plan above [] others
-    ≡ AreExactly (λ dealt. Beats problem plan dealt × IsTrue (meets_none above (ranks_held dealt))) others
-without_a_row problem plan above others = refl
+-- ---- rows: AC AD AH AS with 3C 3D beat a plan that states TC first, which isn't held
+abbrev pub unheld : List Node
+unheld = Play 36 End ∷ Play 37 End ∷ []
 
-with_a_row : (problem : Setup) (plan : List Node) (above : List (List (List Bool))) (row : Row) (rows : List Row) (others : ℕ) →
-    AreRows problem plan above (row ∷ rows) others
-    ≡ (AreExactly (λ dealt. Beats problem plan dealt × IsTrue (is_first above row.term (ranks_held dealt))) row.deals
-    × AreRows problem plan (above ++ row.term ∷ []) rows others)
-with_a_row problem plan above row rows others = refl
+pub aces_are_open : IsOpen four_twos aces
+aces_are_open = (aces_are_a_deal, ([], tt, refl))
+
+pub aces_beat_it : Beats four_twos unheld aces
+aces_beat_it = record {
+  game = no_acts;
+  result = ending.Stuck;
+  failing = record {
+    played = [];
+    of_game = record { of_game = record { deal = aces_are_a_deal; legal = tt; acts = refl; begins = record { later = []; parts = refl } }; follows = tt };
+    ending_is = refl;
+    failure = inl refl;
+  };
+  of_deal = refl;
+}
+
+pub in_none : (dealt : Dealt) (deals : List Dealt) → IsIn dealt deals → length deals ≡ 0 → ⊥
+in_none dealt [] is none = is
+in_none dealt (other ∷ deals) is none = absurd (omega (arith, none))
+
+abbrev of_aces : ℕ → Row
+of_aces deals = record { term = ace ∷ []; deals = deals }
+
+abbrev of_twos : Row
+of_twos = record { term = two ∷ []; deals = 9 }
+
+-- they are among the others if no row is, and in the row of an ace, the first one of two
+aces_are_among_them : (AreRows four_twos unheld [] [] 0 → ⊥) × (AreRows four_twos unheld [] (of_aces 0 ∷ []) 1 → ⊥)
+    × (AreRows four_twos unheld [] (of_twos ∷ of_aces 0 ∷ []) 1 → ⊥)
+unfolding meets_term
+aces_are_among_them = (
+  λ are. in_none aces are.deals ((are.each aces).1 (refl, (aces_beat_it, refl))) are.counted,
+  λ are. in_none aces are.0.deals ((are.0.each aces).1 (refl, (aces_beat_it, refl))) are.0.counted,
+  λ are. in_none aces are.1.0.deals ((are.1.0.each aces).1 (refl, (aces_beat_it, refl))) are.1.0.counted,
+)
+
+aces_are_in_one_row : (others : ℕ) → ((are : AreRows four_twos unheld [] (of_aces 1 ∷ []) others) → IsIn aces are.1.deals → ⊥)
+    × ((are : AreRows four_twos unheld [] (of_aces 1 ∷ of_aces 1 ∷ []) others) → IsIn aces are.1.0.deals → ⊥)
+    × ((are : AreRows four_twos unheld [] (of_twos ∷ []) others) → IsIn aces are.0.deals → ⊥)
+    × ((are : AreRows four_twos unheld [] (of_aces 1 ∷ of_twos ∷ []) others) → IsIn aces are.1.1.deals → ⊥)
+unfolding meets_term
+aces_are_in_one_row others = (
+  λ are is. both_ways false refl ((are.1.each aces).0 is).1.1,
+  λ are is. both_ways false refl ((are.1.0.each aces).0 is).1.1,
+  λ are is. both_ways false refl ((are.0.each aces).0 is).1.1,
+  λ are is. both_ways false refl ((are.1.1.each aces).0 is).1.1,
+)
+
+-- five deals have an ace, and seven beat the plan without one
+rows_of_twelve_deals : AreExactly (λ dealt. Beats four_twos unheld dealt × IsTrue (is_first [] (ace ∷ []) (ranks_held dealt))) 5 →
+    AreExactly (λ dealt. Beats four_twos unheld dealt × IsTrue (meets_none ((ace ∷ []) ∷ []) (ranks_held dealt))) 7 →
+    AreRows four_twos unheld [] (of_aces 5 ∷ []) 7
+rows_of_twelve_deals first others = (first, others)
 
 -- rows of some deals: as many as the row above, fewer, one, more, and none
 abbrev of_deals : ℕ → Row
@@ -137,14 +190,39 @@ of_two_ranks : IsNarrow ((true ∷ false ∷ []) ∷ []) → ⊥
 of_two_ranks is = absurd (omega (arith, All-head (λ (slot : List Bool). length slot ≡ 13) (true ∷ false ∷ []) [] is.slots))
 
 -- ---- what a tally says
-of_a_row : (problem : Setup) (plan : List Node) (row : RanksTally) → IsRow problem plan row
-    ↔ (AreExactly (λ dealt. IsOpen problem dealt × (ranks_held dealt ≡ row.ranks)) row.open_deals
-    × AreExactly (λ dealt. Beats problem plan dealt × (ranks_held dealt ≡ row.ranks)) row.beaten × (0 < row.beaten))
-of_a_row problem plan row = (λ is. (is.open_deals, is.beaten, is.some), λ has. record { open_deals = has.0; beaten = has.1; some = has.2 })
+abbrev with_ranks : List ℕ → ℕ → ℕ → RanksTally
+with_ranks ranks open_deals beaten = record { ranks = ranks; open_deals = open_deals; beaten = beaten }
 
-figures_of_a_tally : (problem : Setup) (plan : List Node) (tally : Tally (Unit {0})) →
-    IsTally problem plan tally ≡ AreFigures problem plan tally.open_deals tally.beaten tally.rows.items
-figures_of_a_tally problem plan tally = refl
+abbrev aces_alone : List ℕ
+aces_alone = 1 ∷ 1 ∷ 1 ∷ 1 ∷ []
 
-as_many_are_listed : (Has : Dealt → Type 0) (count : ℕ) (exactly : AreExactly Has count) → length exactly.deals ≡ count
-as_many_are_listed Has count exactly = exactly.counted
+-- four aces are open, and beat the plan, in the row of their ranks alone
+row_of_four_aces : (IsRow four_twos unheld (with_ranks aces_alone 0 1) → ⊥) × (IsRow four_twos unheld (with_ranks aces_alone 1 0) → ⊥)
+    × ((is : IsRow four_twos unheld (with_ranks aces_alone 1 1)) → IsIn aces is.beaten.deals)
+    × ((is : IsRow four_twos unheld (with_ranks (1 ∷ 1 ∷ 1 ∷ 3 ∷ []) 1 1)) → IsIn aces is.open_deals.deals ⊎ IsIn aces is.beaten.deals → ⊥)
+row_of_four_aces = (
+  λ is. in_none aces is.open_deals.deals ((is.open_deals.each aces).1 (refl, (aces_are_open, refl))) is.open_deals.counted,
+  λ is. in_none aces is.beaten.deals ((is.beaten.each aces).1 (refl, (aces_beat_it, refl))) is.beaten.counted,
+  λ is. (is.beaten.each aces).1 (refl, (aces_beat_it, refl)),
+  λ is. not_of_their_ranks is,
+)
+  where
+    other : aces_alone ≡ 1 ∷ 1 ∷ 1 ∷ 3 ∷ [] → ⊥
+    other same = absurd cc
+
+    not_of_their_ranks : (is : IsRow four_twos unheld (with_ranks (1 ∷ 1 ∷ 1 ∷ 3 ∷ []) 1 1)) → IsIn aces is.open_deals.deals ⊎ IsIn aces is.beaten.deals → ⊥
+    not_of_their_ranks is (inl its) = other ((is.open_deals.each aces).0 its).1.1
+    not_of_their_ranks is (inr its) = other ((is.beaten.each aces).0 its).1.1
+
+one_deal_is_enough : AreExactly (λ dealt. IsOpen four_twos dealt × (ranks_held dealt ≡ aces_alone)) 820 →
+    AreExactly (λ dealt. Beats four_twos unheld dealt × (ranks_held dealt ≡ aces_alone)) 1 → IsRow four_twos unheld (with_ranks aces_alone 820 1)
+one_deal_is_enough listed beaten = record { open_deals = listed; beaten = beaten; some = omega arith }
+
+no_row_without_a_deal : (problem : Setup) (plan : List Node) → IsRow problem plan (with_ranks aces_alone 820 0) → ⊥
+no_row_without_a_deal problem plan is = absurd (omega (arith, is.some))
+
+no_tally_without_aces : (tally : Tally (Unit {0})) → IsTally four_twos unheld tally → (tally.open_deals ≡ 0) ⊎ (tally.beaten ≡ 0) → ⊥
+no_tally_without_aces tally is (inl none) =
+    in_none aces is.are_open.deals ((is.are_open.each aces).1 (refl, aces_are_open)) (is.are_open.counted ∙ none)
+no_tally_without_aces tally is (inr none) =
+    in_none aces is.are_beaten.deals ((is.are_beaten.each aces).1 (refl, aces_beat_it)) (is.are_beaten.counted ∙ none)

@@ -16,19 +16,19 @@ from functools import partial
 from pathlib import Path
 from typing import NamedTuple, NoReturn
 
-from tidy import SIGNS, meant, say
+from tidy import decoded, plain, say, words_of
 
 NAME = os.environ["name"]
 CRIBPLAN, SHEETS, *WORDS = sys.argv[1:]
 MOST_BYTES = 8_388_608  # of an input
-PART = re.compile(r"\.[0-2]\.part\.\d+-\d+$")
 COLUMNS = ("dealer", "own", "opp", "starter", "hold", "throw", "goal", "played")
 MORE_COLUMNS = ("answer", "detail", "card", "beaten", "milliseconds", "words")
-COLUMN_OF_LINE = ("dealer", "dealer", "own", "starter", "hold", "throw", "goal", "played")
+COLUMN_OF_LINE = ("cells", "dealer", "dealer", "own", "starter", "hold", "throw", "goal", "played")  # of a problem
 ANSWERS = re.compile(
     r"solve (0 plan 1|1 none)|try [01] plan 1|check (0 holds|1 fails .*)|replay 0 play .*|"
     r"beaten (0 beaten 0|1 beaten \d+) of .*|follow (0 reached|1 (open|stuck|lost|short))|\w+ 2 refused line .*"
 )
+csv.field_size_limit(2**31 - 1)
 running: set[subprocess.Popen[str]] = set()
 keeping = threading.RLock()  # held while an answer is written; a second signal takes it once more
 
@@ -143,30 +143,31 @@ def decide_all(lanes: int, jobs: list[partial[list[str]]]) -> list[list[str]]:
 
 
 def table_text(file: str) -> str:
-    """The text of a table. A spreadsheet writes it in UTF-8 or UTF-16; a workbook is none."""
+    """The text of a table, which a workbook is not."""
     data = Path(file).read_bytes()
     if data[:2] == b"PK":
         refuse(f"{file} is a workbook; save it as CSV")
-    return data.decode("utf-16" if data[:2] in (b"\xff\xfe", b"\xfe\xff") else "utf-8-sig", "backslashreplace")
+    return decoded(data)
 
 
 def place(line: int) -> str:
     """What a row of a table has in a line of its problem."""
-    return f"the column {COLUMN_OF_LINE[line - 1]}" if line <= 8 else f"turn {line - 8}"
+    return f"turn {line - 8}" if line > 8 else f"the column {COLUMN_OF_LINE[line]}"
 
 
 def words_of_refusal(text: str) -> str:
-    """The column of a row that is refused, and what is wrong there. Of two scores the first is wrong if it is refused
-    beside another one.
+    """The column of a row that is refused, the turn, and what is wrong there. Of two scores the first is wrong if it is
+    refused beside another one.
     """
     _, (lines, _, words) = ask(CRIBPLAN, "solve", text)
-    line = int(lines[0].split()[2][:-1])
-    column = COLUMN_OF_LINE[min(line, 8) - 1]
+    line = int(re.findall(r"\d+", lines[0])[0])
+    column = f"played, {place(line)}" if line > 8 else COLUMN_OF_LINE[line]
     if column == "own":
         _, other = ask(CRIBPLAN, "solve", re.sub(r"(?m)^(score \S+).*", r"\1 0", text))
         column = "own" if other.lines[0].startswith("refused line 3:") else "opp"
-    said = words.splitlines()[0].split(": ", 2)[2]
-    return f"{column}: " + re.sub(r"(on |)line (\d+)", lambda at: at[1].replace("on", "in") + place(int(at[2])), said)
+    said = re.sub("on (?=(this )?line)", "in ", words.partition("\n")[0].rpartition(f"line {line}: ")[2])
+    said = re.sub("(?<=this |.the )line", "turn" if line > 8 else "cell", said)
+    return f"{column}: " + re.sub(r"line (\d+)", lambda at: place(int(at[1])), said)
 
 
 def decide_row(file: str, head: str, text: str) -> list[str]:
@@ -194,10 +195,9 @@ def mended(cell: str, column: str, row: str) -> str:
     """The words of a cell as they are meant. What has changed but blanks is reported. The word of the column may be
     typed in it, as in a problem.
     """
-    typed = " ".join(cell.replace("\u00a0", " ").split())
-    words = re.sub("[,;]", " ", typed.translate(SIGNS)).split()
-    made = " ".join(map(meant, words[words[:1] != [] and words[0].lower().rstrip(":") == column :]))
-    if made != typed:
+    words = words_of(plain(cell))
+    made = " ".join(words[len(words) > 1 and words[0].lower() == column :])
+    if made != " ".join(cell.split()):
         say(f"{row}, {column}: {made}")
     return made
 
@@ -210,7 +210,8 @@ def problem_of(cells: dict[str, str], row: str) -> str:
             return f"{column}: the cell is empty"
         if column in COLUMNS[:4] and " " in words[column]:
             return f'{column}: "{words[column]}" is more than one word'
-    turns = re.findall(r"\S+(?: \S+)?", words.get("played", ""))
+    played = re.sub(r"^(\d+|none|-)( |$)", "", words.get("played", ""))
+    turns = [*filter(None, re.split(r" (?=own\b|opp\b)", played))]
     front = "problem 2/dealer {dealer}/score {own} {opp}/starter {starter}/hold {hold}/throw {throw}/goal {goal}"
     lines = [line.format(**words) for line in front.split("/")]
     return "".join(f"{line}\n" for line in (*lines, f"played {len(turns)}", *turns))
@@ -219,7 +220,7 @@ def problem_of(cells: dict[str, str], row: str) -> str:
 def decide_table(file: str, lanes: int) -> list[str]:
     """Prints a table with the answers to its rows, and returns the column of the answers."""
     try:
-        lines = enumerate(re.split("\r\n|\r|\n", table_text(file)), 1)
+        lines = enumerate(re.split("\r?\n", table_text(file)), 1)
     except OSError as error:
         say(f"{file} can't be read: {error.strerror}")
         print("fault 9")
@@ -262,16 +263,13 @@ def refuse_table(file: str) -> None:
 
 
 def files_in(folder: str) -> list[str]:
-    """The files `*.txt` in a folder or below, but for what recipes keep. What a crash has left is removed."""
+    """The files `*.txt` in a folder or below, but for what recipes keep."""
     found, tables = [], []
     for place, folders, names in os.walk(folder):
         folders[:] = [name for name in folders if not name.endswith((".kept", ".rows"))]
         for file in (os.path.join(place, name) for name in names):
             found += [file] * file.endswith(".txt")
             tables += [file] * file.lower().endswith((".csv", ".tsv"))
-            with suppress(OSError):
-                if PART.search(file) and time.time() - os.stat(file).st_mtime > 60:
-                    os.unlink(file)
     if not found:
         table = "".join(f"; for a table of positions type {NAME} --rows {file}" for file in sorted(tables)[:1])
         say(f"there is no file *.txt in {folder}{table}")

@@ -16,17 +16,6 @@ print_usage() {
     echo "  $name --help | --version"
 }
 
-# print_help: the comment at the head of the recipe, and the statuses that all of them have.
-print_help() {
-    sed -n '2,/^$/s/^# \{0,1\}//p' "$0"
-    echo "Exit status: 2 if an input or these words are refused, 3 if something failed. Manual: man $name"
-}
-
-# print_version: of the recipes and the manual. PROOF has it too, which says whether the programs beside it are proved.
-print_version() {
-    cat "$shared/VERSION" "$shared/../VERSION" 2>/dev/null | sed "s/^/$name /; q" | grep .
-}
-
 # find_program NAME: the path of a program: beside the recipe, then one folder up, then on the path. In the folder of the
 # sources it is the program that the launcher runs.
 find_program() {
@@ -44,11 +33,6 @@ need_cribplan() {
     program=$(find_program cribplan) && return
     [ $? -eq 3 ] || say "there is no cribplan beside it, one folder up, or on the path"
     exit 3
-}
-
-# find_sheets: finds cribsheet, in $sheets, which is empty if it isn't there.
-find_sheets() {
-    sheets=$(find_program cribsheet) || [ $? -ne 3 ] || exit 3
 }
 
 # keep_input WORD..: for a recipe that has no words of its own. Keeps standard input in $room/input, in which a byte
@@ -75,10 +59,11 @@ finish() {
 # run_python FILE WORD..: runs the part of the recipe that is in Python, and ends the recipe with what it prints and its
 # status. An error that it doesn't expect, and a missing Python, are a fault.
 run_python() {
+    command -v python3 >/dev/null || { say "there is no python3 on the path" && exit 3; }
     name=$name python3 -EsB "$shared/$1" "${@:2}" >"$room/out"
     status=$?
-    [ "$status" -ne 1 ] && [ "$status" -ne 127 ] || exit 3
-    finish "$status"
+    [ "$status" -ne 1 ] && finish "$status"
+    exit 3
 }
 
 # stop STATUS: ends the recipe for a signal. A second one, as of a key pressed twice, doesn't stop the tidying up.
@@ -96,6 +81,10 @@ trap 'stop 143' TERM
 trap 'trap "" HUP INT PIPE TERM; rm -rf "$room"' EXIT
 mkdir -m 700 "$room" 2>/dev/null || { trap - EXIT; say "there can be no folder $room"; exit 3; }
 case ${1-} in
---help | -h) print_help >"$room/out" && finish 0 ;;
---version) print_version >"$room/out" && finish 0 ;;
+--help | -h) # the comment at the head of the recipe, and the statuses that all of them have
+    sed -n '2,/^$/s/^# \{0,1\}//p' "$0" >"$room/out"
+    echo "Exit status: 2 if an input or these words are refused, 3 if something failed. Manual: man $name" >>"$room/out"
+    finish 0 ;;
+--version) # of the recipes and the manual. PROOF has it too, which says whether the programs beside it are proved
+    cat "$shared/VERSION" "$shared/../VERSION" 2>/dev/null | sed "s/^/$name /; q" >"$room/out" && finish 0 ;;
 esac

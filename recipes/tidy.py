@@ -3,6 +3,7 @@
 import os
 import re
 import sys
+import unicodedata
 from collections import Counter
 from contextlib import suppress
 from graphlib import CycleError, TopologicalSorter
@@ -10,15 +11,13 @@ from graphlib import CycleError, TopologicalSorter
 RANKS = "A23456789TJQK"
 LETTERS = f"{RANKS}g"
 CARD = f"[{RANKS}][CDHS]"
+NUMBERS = dict(zip("ACE TWO THREE FOUR FIVE SIX SEVEN EIGHT NINE TEN JACK QUEEN KING".split(), RANKS))
 KEYWORDS = "problem dealer owner opponent score starter hold throw goal win holes stop played own opp go".split()
-KEYWORDS += "game acts plan nodes play see end".split()
-SIGNS = str.maketrans(  # suits, dashes and blanks; what is written for them; and what is left out
-    "♣♧♦♢♥♡♠♤\u2010\u2011\u2012\u2013\u2014\u2212\t\r\u00a0", "CCDDHHSS------   ",
-    "\"“”„‟«»‘’‚\u200b\u200c\u200d\u2060\ufe0e\ufe0f\ufeff",
-)
+KEYWORDS += "game acts plan nodes play see end turns".split()
 ARROW = r"\s*(?:[-=]>|=|[→⇒])\s*"
+NEXT = rf"(?:{ARROW}|,? (?:then|go ?to) (?=\S)|, *)"  # behind the card of a node
 BRANCH = rf"(?:(?:10|[{RANKS}])(?:-(?:10|[{RANKS}]))?|GO?)+"
-COUNTED, ACTS = ("played", "acts", "nodes"), ("own", "opp")
+COUNTED, ACT = ("played", "acts", "nodes", "turns"), rf"(?:own|opp) (?:{CARD}|go)"
 END = -1  # the place after a plan
 MARK = "\ud800"  # no text has it; it is before the place of a node without a name, and around a place in a note
 SHEET = re.compile(r"You are the (?:pone|dealer) at \d|This plan is (?:not )?sure[.:] ")
@@ -32,16 +31,56 @@ def say(text: str, head: str = os.environ.get("name", "") + ": ") -> None:
         os.write(2, f"{head}{text}\n".encode(errors="surrogateescape"))
 
 
+class Signs(dict[int, str]):
+    """What is typed for a sign: its ASCII, nothing for quotes and for what nobody sees, or the sign itself."""
+
+    def __missing__(self, code: int) -> str:
+        sign = chr(code)
+        name, kind = unicodedata.name(sign, ""), unicodedata.category(sign)
+        suit = re.search(r"(?<!\w)([CDHS])(?:LUB|IAMOND|EART|PADE)\b", name)
+        made = suit[1] if suit else f" {name[13:]} " if name.startswith("PLAYING CARD ") else sign
+        made = "-" if kind == "Pd" or sign == "−" else " " if sign.isspace() else made
+        return self.setdefault(code, "" if kind in ("Cf", "Mn", "Me", "Pi", "Pf") or sign in '"`*„‚' else made)
+
+
+SIGNS = Signs()
+
+
+def decoded(data: bytes) -> str:
+    """A text in UTF-8 or UTF-16, without the sign of its order. A line end of old Macs becomes that of Unix."""
+    is_wide = data[:2] in (b"\xff\xfe", b"\xfe\xff")
+    text = data.decode("utf-16", "backslashreplace") if is_wide else data.decode("utf-8-sig", "surrogateescape")
+    return re.sub("\r(?!\n)", "\n", text)
+
+
+def plain(text: str) -> str:
+    """A line in signs of ASCII, with `5 of spades` as a card, and without marks of mails and lists in front."""
+    typed = re.sub(r"^ *(?:(?:[>|•] ?)+|- (?=\w))", "", unicodedata.normalize("NFKC", text).translate(SIGNS))
+    named = r"(?i)\b(\w+) of ([CDHS])(?:lub|iamond|eart|pade)s?\b"
+    return re.sub(named, lambda card: NUMBERS.get(card[1].upper(), card[1]) + card[2], typed)
+
+
 def meant(word: str) -> str:
-    """A word as it is meant, after its signs are mended: a card, a keyword, or the word itself."""
-    card = re.sub("^1?0", "T", word.upper())
+    """A word as it is meant, after its signs are mended: a keyword, a card or several, or the word itself."""
     small = word.lower().rstrip(":")
-    return card if re.fullmatch(CARD, card) else small if small in KEYWORDS else word
+    cards = re.sub("1?0(?=[CDHS])", "T", re.sub("^([CDHS])(.{1,2})$", r"\2\1", word.upper()))
+    typed = " ".join(re.findall("..", cards)) if re.fullmatch(f"({CARD})+", cards) else word
+    return small if small in KEYWORDS else typed
+
+
+def words_of(text: str) -> list[str]:
+    """The words of a line that is no node's, or of a cell, each as it is meant."""
+    return " ".join(map(meant, re.sub(r"(?<=\w)-(?=\w)|[,;:=/|&+]|\band\b", " ", text).split())).split()
+
+
+def bare(name: str) -> str:
+    """A name without the signs that people put around it."""
+    return name.strip("()[]:.,")
 
 
 def letters_of(word: str, others: str = LETTERS) -> str:
     """The letters that a branch such as `A4-Kgo` lists, in order and each once; "" if it lists something else."""
-    found = {*LETTERS} - {*others} if word.lower() == "else" else set()
+    found = {*LETTERS} - {*others} if re.fullmatch("else|others?|otherwise|rest", word, re.I) else set()
     letters = re.sub("GO?", "g", word.upper().replace("10", "T")) if re.fullmatch(BRANCH, word, re.I) else ""
     for first, last in re.findall("(.)(?:-(.))?", letters):
         low, high = sorted(map(LETTERS.index, (first, last or first)))
@@ -51,7 +90,8 @@ def letters_of(word: str, others: str = LETTERS) -> str:
 
 def joined(words: str) -> list[str]:
     """The branches of a see line, each as one word."""
-    words = re.sub(" +- *|- +", "-", re.sub(" *: *", ":", re.sub("[,; ]+", " ", words)))
+    words = re.sub(" *: *", ":", re.sub("[,;/|&+ ]+", " ", words))
+    words = re.sub(r" +- *|- +|\.\.+| to ", "-", re.sub(" (?:and|or) ", " ", words))
     return re.sub(rf"(?<!\S)({BRANCH}) (?=(?:{BRANCH} ){{0,13}}{BRANCH}:)", r"\1", words, flags=re.I).split()
 
 
@@ -59,7 +99,7 @@ class Node:
     """A line of a plan: its name, what it does, and the rest, as words."""
 
     def __init__(self, words: list[str], has_name: bool = True, has_kind: bool = True) -> None:
-        self.name = re.sub("[:.)]$", "", words[0]) if has_name else ""
+        self.name = bare(words[0]) if has_name else ""
         self.kind = meant(words[has_name]) if has_kind else ""
         rest = words[has_name + has_kind :]
         self.is_see = self.kind == "see" or self.kind != "play" and ":" in "".join(rest[:1])
@@ -72,7 +112,7 @@ def node_of(line: str, in_plan: bool) -> Node | None:
     """Reads a line as that of a node. If `play` or `see` is mistyped or missing behind a name, the card or the branches
     show it.
     """
-    words = re.sub(ARROW, ":", re.sub(rf"\b({CARD}|10[CDHS]){ARROW}", r"\1 ", line, flags=re.I)).split()
+    words = re.sub(ARROW, ":", re.sub(rf"\b({CARD}|10[CDHS]){NEXT}", r"\1 ", line, flags=re.I)).split()
     first, second, third = map(meant, [*words, "", ""][:3])
     if second in ("play", "see"):
         return Node(words)
@@ -111,8 +151,7 @@ class Plan:
 
     def place_of(self, word: str) -> int | None:
         """The node that a word names, in small letters if need be, or END, or None."""
-        bare = re.sub("[:.)]$", "", word)
-        return next((self.names[name] for name in (word, bare, bare.lower()) if name in self.names), None)
+        return self.names.get(bare(word), self.names.get(bare(word).lower()))
 
     def sort(self) -> None:
         """Numbers the nodes: in the order of their lines, if each leads to later ones. Otherwise the first is the node
@@ -149,17 +188,18 @@ class Plan:
         return word if place is None else "end" if place == END else str(self.numbers[place])
 
     def branches(self, at: int) -> list[str]:
-        """The branches of a node in order, one for each node that they lead to; or as typed, if one isn't clear."""
+        """The branches of a node in order, one for each node that they lead to; or in theirs, if one isn't clear."""
         parts = [part.rpartition(":")[::2] for part in self.nodes[at].rest]
         named = "".join(letters_of(front) for front, _ in parts)
-        branches = [(letters_of(front, named), self.target(word)) for front, word in parts]
+        branches = [(letters_of(front, named), front, self.target(word) if front else word) for front, word in parts]
         targets: dict[str, str] = {}
-        twice = [letter for front, word in branches for letter in front if targets.setdefault(letter, word) != word]
-        if twice or not all(letters and word for letters, word in branches):
-            unclear = "a branch is not ranks, a colon and a node, as in A4-K:3"
-            fault = f"{twice[0]} leads to two nodes" if twice else unclear
+        twice = [letter for letters, _, to in branches for letter in letters if targets.setdefault(letter, to) != to]
+        typed = [":".join(filter(None, (letters or front, to))) for letters, front, to in branches]
+        unclear = [word for word, (letters, _, to) in zip(typed, branches) if not letters or not to]
+        if twice or unclear:
+            fault = f"{twice[0]} leads to two nodes" if twice else f'"{unclear[0]}" is not ranks, a colon and a node'
             self.notes.append(f"line {MARK}{at}{MARK}: {fault}")
-            return [f"{front}:{self.target(word)}" if front else word for front, word in parts]
+            return typed
         order = sorted(targets, key=LETTERS.index)
         words = dict.fromkeys(targets[letter] for letter in order)
         return ["".join(letter for letter in order if targets[letter] == word) + f":{word}" for word in words]
@@ -200,7 +240,8 @@ def section_lines(section: list[tuple[str, list[str] | Node]], start: int, notes
     """The lines of a section, each behind what was typed for it. What is reported of its nodes is put into notes."""
     for at in [at for at, (_, words) in enumerate(section) if not isinstance(words, Node) and words[0] in COUNTED]:
         words, below = section[at][1], [words for _, words in section[at + 1 :]]
-        if len(words) == 1 or len(words) == 2 and all(isinstance(words, Node) or words[0] in ACTS for words in below):
+        can_be_read = all(isinstance(words, Node) or re.fullmatch(ACT, " ".join(words)) for words in below)
+        if len(words) == 1 or len(words) == 2 and can_be_read:
             words[1:] = [str(len(below))]
     slots = [at for at, (_, words) in enumerate(section) if isinstance(words, Node)]
     plan = Plan([section[at][1] for at in slots])
@@ -219,20 +260,21 @@ def main() -> None:
         say("the input is longer than 8,388,608 bytes")
         print("refused line 0: 2")
         sys.exit(2)
-    *typed, last = given.decode(errors="surrogateescape").split("\n")
-    lines = [(old, re.sub("^ *(> ?)+", "", old.translate(SIGNS)).rstrip(" .")) for old in typed + [last] * bool(last)]
+    *typed, last = decoded(given).split("\n")
+    lines = [(old, plain(old).rstrip(" .!")) for old in typed + [last] * bool(last)]
     start = next((at for at, (_, line) in enumerate(lines) if SHEET.match(line)), len(lines))
-    ends = (at for at in range(start, len(lines)) if re.match("(problem|plan|game) ", lines[at][1], re.I))
+    ends = (at for at in range(start, len(lines)) if re.match("(problem|plan|game|turns) ", lines[at][1], re.I))
     end = next(ends, len(lines))
     notes = ["a printed sheet is read as its plan"] * (start < end)
     printed, blanks, in_plan, sections = [], 0, False, [[]]
     lines[start:end] = [(MARK, line) for line in read_sheet("".join(f"{line}\n" for _, line in lines[start:end]))]
     for typed_line, line in lines:
-        bare_line = re.sub("[ \t\r\u00a0\ufeff]+", " ", typed_line).strip()
+        bare_line = " ".join(typed_line.split())
         blanks += not line or bare_line != typed_line
         if line:
-            words = node_of(" ".join(line.split()), in_plan) or [*map(meant, re.findall("[^,; ]+", line))] or [line]
-            if not isinstance(words, Node) and words[0] in ("problem", "plan", "game"):
+            words = node_of(" ".join(line.split()), in_plan) or words_of(line) or [line]
+            if not isinstance(words, Node) and words[0] in ("problem", "plan", "game", "turns"):
+                words += ["1"] * (words in (["plan"], ["game"]))
                 sections.append([])
                 in_plan = words[0] == "plan"
             sections[-1].append((bare_line, words))

@@ -156,13 +156,11 @@ def place(line: int) -> str:
 
 
 def words_of_refusal(text: str) -> str:
-    """The column of a row that is refused, the turn, and what is wrong there. Of two scores the first is wrong if it is
-    refused beside another one.
-    """
+    """The column of a row that is refused, the turn, and what is wrong there."""
     _, (lines, _, words) = ask(CRIBPLAN, "solve", text)
     line = int(re.findall(r"\d+", lines[0])[0])
     column = f"played, {place(line)}" if line > 8 else COLUMN_OF_LINE[line]
-    if column == "own":
+    if column == "own":  # of two scores the first is wrong if it is refused beside another one
         _, other = ask(CRIBPLAN, "solve", re.sub(r"(?m)^(score \S+).*", r"\1 0", text))
         column = "own" if other.lines[0].startswith("refused line 3:") else "opp"
     said = re.sub("on (?=(this )?line)", "in ", words.partition("\n")[0].rpartition(f"line {line}: ")[2])
@@ -192,10 +190,8 @@ def decide_row(file: str, head: str, text: str) -> list[str]:
 
 
 def mended(cell: str, column: str, row: str) -> str:
-    """The words of a cell as they are meant. What has changed but blanks is reported. The word of the column may be
-    typed in it, as in a problem.
-    """
-    words = words_of(plain(cell))
+    """The words of a cell as they are meant. What has changed but blanks is reported."""
+    words = words_of(plain(cell))  # the word of the column may be in front, as in a problem
     made = " ".join(words[len(words) > 1 and words[0].lower() == column :])
     if made != " ".join(cell.split()):
         say(f"{row}, {column}: {made}")
@@ -225,7 +221,8 @@ def decide_table(file: str, lanes: int) -> list[str]:
         say(f"{file} can't be read: {error.strerror}")
         print("fault 9")
         sys.exit(3)
-    (_, head), *lines = [(at, line) for at, line in lines if line.strip(' ,;\t"')] or refuse(f"{file} is empty")
+    is_row = re.compile(r'(?!sep=)[ ,;\t"]*[^ ,;\t"]').match
+    (_, head), *lines = [(at, line) for at, line in lines if is_row(line)] or refuse(f"{file} is empty")
     sign = max(",;\t", key=head.count)
     names = next(csv.reader([head], delimiter=sign))
     columns = [name.strip().lower() for name in names]

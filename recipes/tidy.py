@@ -54,10 +54,10 @@ def decoded(data: bytes) -> str:
 
 
 def plain(text: str) -> str:
-    """A line in signs of ASCII, with `5 of spades` as a card, and without marks of mails and lists in front."""
-    typed = re.sub(r"^ *(?:(?:[>|•] ?)+|- (?=\w))", "", unicodedata.normalize("NFKC", text).translate(SIGNS))
-    named = r"(?i)\b(\w+) of ([CDHS])(?:lub|iamond|eart|pade)s?\b"
-    return re.sub(named, lambda card: NUMBERS.get(card[1].upper(), card[1]) + card[2], typed)
+    """A line in signs of ASCII, with `5 of spades` as a card, and without marks of mails, of lists and of its end."""
+    typed = re.sub(r"^ *(?:(?:[>|•·] ?)+|- (?=\w))", "", unicodedata.normalize("NFKC", text).translate(SIGNS))
+    named = rf"(?i)\b(10|{'|'.join([*NUMBERS, *RANKS])})(?: of)?[: ]([CDHS])(?:lub|iamond|eart|pade)s?\b"
+    return re.sub(named, lambda card: NUMBERS.get(card[1].upper(), card[1]) + card[2], typed).rstrip(" .!")
 
 
 def meant(word: str) -> str:
@@ -70,7 +70,8 @@ def meant(word: str) -> str:
 
 def words_of(text: str) -> list[str]:
     """The words of a line that is no node's, or of a cell, each as it is meant."""
-    return " ".join(map(meant, re.sub(r"(?<=\w)-(?=\w)|[,;:=/|&+]|\band\b", " ", text).split())).split()
+    between = rf"{ARROW}|(?<=\d)-(?=\d)|(?<=[CDHS])-(?=[{RANKS}1])| - |\.(?= )|[,;:/|&+]|\band\b"
+    return " ".join(map(meant, re.sub(between, " ", text, flags=re.I).split())).split()
 
 
 def bare(name: str) -> str:
@@ -261,7 +262,7 @@ def main() -> None:
         print("refused line 0: 2")
         sys.exit(2)
     *typed, last = decoded(given).split("\n")
-    lines = [(old, plain(old).rstrip(" .!")) for old in typed + [last] * bool(last)]
+    lines = [(old, plain(old)) for old in typed + [last] * bool(last)]
     start = next((at for at, (_, line) in enumerate(lines) if SHEET.match(line)), len(lines))
     ends = (at for at in range(start, len(lines)) if re.match("(problem|plan|game|turns) ", lines[at][1], re.I))
     end = next(ends, len(lines))

@@ -22,7 +22,7 @@ END = -1  # the place after a plan
 MARK = "\ud800"  # no text has it; it is before the place of a node without a name, and around a place in a note
 SHEET = re.compile(r"You are the (?:pone|dealer) at \d|This plan is (?:not )?sure[.:] ")
 ROWS = re.compile(r"^(?:This plan is sure[^\n]*|The plan:)\n(.*?)(?=^Play a row|\Z)", re.M | re.S)
-ROW = r"(?i)( *)(?:(\[\d+\]) |([^:]*?) *: )?((?:(?:10|\w)[CDHS] ?)*)(?:(?:, then )?(?:(look):|see (\[\d+\])))?"
+ROW = r"(?i)( *)(?:(\[\d+\]) |([^:]*?) *: )?((?:\b\w{2,3}\b,? ?)*)(?:(?:, then )?(?:(look):?|see (\[\d+\])|end))?"
 
 
 def say(text: str, head: str = os.environ.get("name", "") + ": ") -> None:
@@ -110,9 +110,7 @@ class Node:
 
 
 def node_of(line: str, in_plan: bool) -> Node | None:
-    """Reads a line as that of a node. If `play` or `see` is mistyped or missing behind a name, the card or the branches
-    show it.
-    """
+    """Reads a line as that of a node. If `play` or `see` is mistyped or missing, the card or the branches show it."""
     words = re.sub(ARROW, ":", re.sub(rf"\b({CARD}|10[CDHS]){NEXT}", r"\1 ", line, flags=re.I)).split()
     first, second, third = map(meant, [*words, "", ""][:3])
     if second in ("play", "see"):
@@ -155,10 +153,9 @@ class Plan:
         return self.names.get(bare(word), self.names.get(bare(word).lower()))
 
     def sort(self) -> None:
-        """Numbers the nodes: in the order of their lines, if each leads to later ones. Otherwise the first is the node
-        "0", or the first line, or the only one that no other leads to; and each other follows all that lead to it. A
-        play node without a next one leads to the line below it, if nothing else does.
-        """
+        """Numbers the nodes: in the order of lines, if each leads to later ones; or each behind all that lead to it."""
+        # A play node without a next one leads to the line below it, if nothing else does. The first is the node "0", or
+        # the first line, or the only one that no other leads to.
         led_to = {place for node in self.nodes for place in node.places.values()}
         for at, node in enumerate(self.nodes, 1):
             if not node.is_see and len(node.rest) == 1 and re.fullmatch(CARD, meant(node.rest[0])) and at not in led_to:
@@ -213,18 +210,20 @@ class Plan:
         return " ".join(word for word in (name, node.kind, *rest) if word and word[0] != MARK)
 
 
-def read_sheet(sheet: str) -> list[str]:
+def read_sheet(sheet: list[str], notes: list[str]) -> list[str]:
     """The plan of a printed sheet. Each card and each look is a node, with the name of its paragraph or two numbers."""
-    rows = ROWS.findall(sheet)
-    made = ["plan 1", "nodes"] if rows else sheet.splitlines()
+    rows = ROWS.findall("\n".join([*sheet, ""]))
+    made = ["plan 1", "nodes"] if rows else sheet
     looks: list[tuple[int, int]] = []  # the blanks before each look that is open, and the place of its line
-    for at, row in enumerate("".join(rows[-1:]).splitlines()):
+    for at, row in enumerate(filter(None, "".join(rows[-1:]).splitlines())):
         found = re.fullmatch(ROW, row)
         if not found:
-            made += [row] * (row not in ("", "No card is needed", "The plan states no card"))
+            if row not in ("No card is needed", "The plan states no card"):
+                notes.append(f'this row can\'t be read: "{row.strip()}"')
+                made.append(row)
             continue
         blanks, name, label, cards, look, target = found.groups()
-        steps = [*cards.split(), *filter(None, [look])]
+        steps = [*cards.replace(",", "").split(), *filter(None, [look])]
         names = [name or f"{at}.0", *(f"{at}.{step}" for step in range(1, len(steps)))]
         names[len(steps) :] = [target or "end"]
         while looks and looks[-1][0] >= len(blanks):
@@ -264,11 +263,11 @@ def main() -> None:
     *typed, last = decoded(given).split("\n")
     lines = [(old, plain(old)) for old in typed + [last] * bool(last)]
     start = next((at for at, (_, line) in enumerate(lines) if SHEET.match(line)), len(lines))
-    ends = (at for at in range(start, len(lines)) if re.match("(problem|plan|game|turns) ", lines[at][1], re.I))
-    end = next(ends, len(lines))
+    is_head = re.compile(r"(?:problem|plan|game|turns)\W*\d*", re.I).fullmatch
+    end = next((at for at in range(start, len(lines)) if is_head(lines[at][1])), len(lines))
     notes = ["a printed sheet is read as its plan"] * (start < end)
     printed, blanks, in_plan, sections = [], 0, False, [[]]
-    lines[start:end] = [(MARK, line) for line in read_sheet("".join(f"{line}\n" for _, line in lines[start:end]))]
+    lines[start:end] = [(MARK, line) for line in read_sheet([line for _, line in lines[start:end]], notes)]
     for typed_line, line in lines:
         bare_line = " ".join(typed_line.split())
         blanks += not line or bare_line != typed_line

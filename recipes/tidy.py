@@ -70,7 +70,7 @@ def meant(word: str) -> str:
 
 def words_of(text: str) -> list[str]:
     """The words of a line that is no node's, or of a cell, each as it is meant."""
-    between = rf"{ARROW}|(?<=\d)-(?=\d)|(?<=[CDHS])-(?=[{RANKS}1])| - |\.(?= )|[,;:/|&+]|\band\b"
+    between = rf"{ARROW}|(?<=\d)-(?=\d)|(?<=[CDHS])-(?=[{RANKS}1])| - |\.+(?= )|[,;:/|&+]|\band\b"
     return " ".join(map(meant, re.sub(between, " ", text, flags=re.I).split())).split()
 
 

@@ -42,8 +42,9 @@ labels_of_lines = (refl, refl, refl, refl, refl, refl, refl)
 plans_in_words :
     (map (no_card true) (Over ∷ Plays 4 Over ∷ Looks NoLine ∷ Named 1 ∷ []) ∷ map (no_card false) (Over ∷ Plays 4 Over ∷ []) ∷ []
     ≡ (codes "No card is needed." ∷ [] ∷ [] ∷ [] ∷ []) ∷ (codes "The plan states no card." ∷ [] ∷ []) ∷ [])
-    × (end_of_row false ≡ codes "At the end of a row, if there is no line, or if the next card doesn't fit but\nanother does, the plan states "
-    ++ codes "nothing more, nor at a \"look\" if a card of yours\nfits. Then play what you think best: you may still reach your goal.\n")
+    × (end_of_row false ≡ codes "At the end of a row, if there is no line, or if the next card isn't in your\nhand or doesn't fit while another "
+    ++ codes "does, the plan states nothing more, nor at a\n\"look\" if a card of yours fits. Then play what you think best: you may "
+    ++ codes "still\nreach your goal.\n")
     × (map before_rest (Over ∷ Plays 4 Over ∷ Looks NoLine ∷ Named 1 ∷ []) ≡ [] ∷ codes " " ∷ codes ", then " ∷ codes ", then " ∷ [])
 plans_in_words = (refl, refl, refl)
 
@@ -68,7 +69,8 @@ rows_and_their_sizes = (refl, refl, refl, refl, refl)
 abbrev how_to_read : List ℕ
 how_to_read =
     codes "\nPlay a row in order, one card at each of your turns. If none of your cards\nfits, say go and stay there. "
-    ++ codes "At \"look\", go on in the line of what they show\nnext: a rank, or a go, even after yours. At \"see [n]\", go on in paragraph [n].\n"
+    ++ codes "At \"look\", go on in the line of what they show\nnext: a rank (8-T is 8, 9 or ten), or a go, even after yours. At \"see [n]\", go\n"
+    ++ codes "on in paragraph [n].\n"
 
 unfoldable pub if_sure : List ℕ
 if_sure = codes "At the end of a row, or if there is no line, nothing is left to decide, or\nyour goal is reached: then play as you like.\n"

@@ -10,7 +10,7 @@ no_card sure (Plays card row) = []
 no_card sure (Looks lines) = []
 no_card sure (Named number) = []
 
--- what the end of a row means. Only a sure plan leaves nothing to decide there, and states no card that doesn't fit
+-- what the end of a row means. Only a sure plan leaves nothing to decide there, and states no card that can't be played
 abbrev pub end_of_row : Bool → List ℕ
 end_of_row sure =
     if sure
@@ -18,9 +18,9 @@ end_of_row sure =
     codes "At the end of a row, or if there is no line, nothing is left to decide, or\nyour goal is reached: then "
     ++ codes "play as you like.\n"
     else
-    codes "At the end of a row, if there is no line, or if the next card doesn't fit but\nanother does, the plan "
-    ++ codes "states nothing more, nor at a \"look\" if a card of yours\nfits. Then play what you think best: "
-    ++ codes "you may still reach your goal.\n"
+    codes "At the end of a row, if there is no line, or if the next card isn't in your\nhand or doesn't fit while "
+    ++ codes "another does, the plan states nothing more, nor at a\n\"look\" if a card of yours fits. Then play "
+    ++ codes "what you think best: you may still\nreach your goal.\n"
 
 -- how to read a sheet
 unfoldable pub legend_text : Bool → List ℕ
@@ -28,7 +28,8 @@ legend_text sure =
     codes "\n"
     ++ codes "Play a row in order, one card at each of your turns. If none of your cards\n"
     ++ codes "fits, say go and stay there. At \"look\", go on in the line of what they show\n"
-    ++ codes "next: a rank, or a go, even after yours. At \"see [n]\", go on in paragraph [n].\n" ++ end_of_row sure
+    ++ codes "next: a rank (8-T is 8, 9 or ten), or a go, even after yours. At \"see [n]\", go\n"
+    ++ codes "on in paragraph [n].\n" ++ end_of_row sure
 
 -- the page of a sheet
 unfoldable pub page_text : Bool → Sheet → List ℕ

@@ -15,19 +15,22 @@ use std::alloc::Allocator;
 const LEGEND: &[u8] = b"
 Play a row in order, one card at each of your turns. If none of your cards
 fits, say go and stay there. At \"look\", go on in the line of what they show
-next: a rank, or a go, even after yours. At \"see [n]\", go on in paragraph [n].
+next: a rank (8-T is 8, 9 or ten), or a go, even after yours. At \"see [n]\", go
+on in paragraph [n].
 ";
 
-// What the end of a row means, if the plan is sure, and if it is not. Only then a card may be stated that doesn't fit.
+// What the end of a row means, if the plan is sure, and if it is not. Only then a card may be stated that can't be
+// played.
 const END_IF_SURE: &[u8] =
     b"At the end of a row, or if there is no line, nothing is left to decide, or
 your goal is reached: then play as you like.
 ";
 
 const END_OTHERWISE: &[u8] =
-    b"At the end of a row, if there is no line, or if the next card doesn't fit but
-another does, the plan states nothing more, nor at a \"look\" if a card of yours
-fits. Then play what you think best: you may still reach your goal.
+    b"At the end of a row, if there is no line, or if the next card isn't in your
+hand or doesn't fit while another does, the plan states nothing more, nor at a
+\"look\" if a card of yours fits. Then play what you think best: you may still
+reach your goal.
 ";
 
 /// Puts the sheet of a plan, by the nodes that have paragraphs of their own, and how to read it. What the end of a row

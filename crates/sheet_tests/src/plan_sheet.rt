@@ -106,7 +106,8 @@ const DEEP_SHEET: &str = "look:
 const LEGEND: &str = "
 Play a row in order, one card at each of your turns. If none of your cards
 fits, say go and stay there. At \"look\", go on in the line of what they show
-next: a rank, or a go, even after yours. At \"see [n]\", go on in paragraph [n].
+next: a rank (8-T is 8, 9 or ten), or a go, even after yours. At \"see [n]\", go
+on in paragraph [n].
 ";
 
 const IF_SURE: &str = "At the end of a row, or if there is no line, nothing is left to decide, or
@@ -114,9 +115,10 @@ your goal is reached: then play as you like.
 ";
 
 const OTHERWISE: &str =
-    "At the end of a row, if there is no line, or if the next card doesn't fit but
-another does, the plan states nothing more, nor at a \"look\" if a card of yours
-fits. Then play what you think best: you may still reach your goal.
+    "At the end of a row, if there is no line, or if the next card isn't in your
+hand or doesn't fit while another does, the plan states nothing more, nor at a
+\"look\" if a card of yours fits. Then play what you think best: you may still
+reach your goal.
 ";
 
 /// The plan that this text spells.

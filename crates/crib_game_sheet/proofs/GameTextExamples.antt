@@ -34,7 +34,7 @@ abbrev rest_of_the_show : List ℕ
 rest_of_the_show =
     codes "\nThe dealer's hand: TD KD KH QS with 3H, 2 points (you 11, they 6)\n  pair 2: KD KH\n\n"
     ++ codes "The dealer's crib: 4S 6S 5H 7D with 3H, 9 points (you 11, they 15)\n  fifteen 2: 4S 6S 5H\n  fifteen 2: 5H 7D 3H\n"
-    ++ codes "  run of five 5: 4S 6S 5H 7D 3H\n\nThe deal is over: you fall short of your goal.\n"
+    ++ codes "  run of five 5: 4S 6S 5H 7D 3H\n\nThe deal is over: nobody has won yet.\n"
     ++ codes "In the play you pegged 2, they 4.\n"
 
 -- the heading of each sheet, but for the goal
@@ -70,7 +70,7 @@ words_of_games :
     × (combination_line (combination Jack (43 ∷ [])) ≡ codes "  his nobs 1: JS\n")
     × (combination_lines [] ≡ codes "  nothing counts\n")
     × (outcome_text Opponent Win (Some Lost) ≡ codes "\nThe deal is over: the dealer wins.\n")
-    × (outcome_text Owner Win (Some Reached) ≡ codes "\nThe deal is over: you win.\n")
+    × (outcome_text Owner Win (Some Reached) ≡ codes "\nThe deal is over: the dealer wins.\n")
     × (outcome_text Owner Stop (Some Reached) ≡ codes "\nThe deal is over: you keep the pone from winning.\n")
 unfolding digits reason_text combination_line
 words_of_games = (refl, refl, refl, refl, refl, refl, refl, refl, refl, refl)

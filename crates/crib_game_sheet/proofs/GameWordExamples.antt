@@ -21,7 +21,7 @@ use Rattle.crib_game_sheet.specs.GamePlay.{reason_if, reason_points, run_reasons
 use Rattle.crib_game_sheet.specs.GameShow.{combination, combinations_of, flush_in_crib, jack_among, no_combination, plain_combinations, points_of, worth}
 use Rattle.crib_game_sheet.specs.GameText.{act_lines, act_text, alike_word, counted_cards, counted_name, counted_points, dealt_line, kind_word, last_after}
 use Rattle.crib_game_sheet.specs.GameText.{next_reason, over_text, pegged_line, pegged_points, points_text, reached_line, reason_text, reason_word}
-use Rattle.crib_game_sheet.specs.GameText.{run_word, score_text, sheet_for, taker_text}
+use Rattle.crib_game_sheet.specs.GameText.{run_word, score_text, sheet_for, short_line, taker_text}
 
 -- ---- reasons
 -- of single numbers: a count, cards alike, the cards of a run, the cards before and the count. T T 5 make 25 and the opponent says go,
@@ -108,14 +108,16 @@ hands_and_deals_in_words :
     × (counted_points hand_of_opponent ∷ counted_points (record hand_of_opponent { points = 0 }) ∷ []
     ≡ codes ", 1 point (you 11, they 6)\n" ∷ codes ", 0 points (you 11, they 6)\n" ∷ [])
     × (dealt_line Owner level_deal ≡ codes "The pone holds TD KD KH QS and threw 5H 7D.\n")
-    × (map (reached_line Owner) (Win ∷ Holes 3 ∷ Stop ∷ []) ≡ codes "\nThe deal is over: you win.\n"
+    × (map (reached_line Owner) (Win ∷ Holes 3 ∷ Stop ∷ []) ≡ codes "\nThe deal is over: the dealer wins.\n"
     ∷ codes "\nYou have reached your goal; the deal isn't counted further.\n" ∷ codes "\nThe deal is over: you keep the pone from winning.\n" ∷ [])
     × (map (over_text Owner Stop) (outcome.Reached ∷ outcome.Lost ∷ outcome.Short ∷ [])
     ≡ codes "\nThe deal is over: you keep the pone from winning.\n" ∷ codes "\nThe deal is over: the pone wins.\n"
     ∷ codes "\nThe deal is over: you fall short of your goal.\n" ∷ [])
+    × (map short_line (Win ∷ Holes 3 ∷ []) ≡ codes "\nThe deal is over: nobody has won yet.\n"
+    ∷ codes "\nThe deal is over: you fall short of your goal.\n" ∷ [])
     × (sheet_for level (game_with level_deal []) (Err (NotTurn 3)) ≡ Err (NotTurn 3))
 unfolding counted_name digits counted_points dealt_line
-hands_and_deals_in_words = (refl, refl, refl, refl, refl, refl, refl)
+hands_and_deals_in_words = (refl, refl, refl, refl, refl, refl, refl, refl)
 
 -- ---- words of problems
 sides_and_cards_in_words :

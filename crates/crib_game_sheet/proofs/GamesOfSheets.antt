@@ -19,7 +19,7 @@ use Rattle.crib_play.specs.History.{moves_of}
 use Rattle.crib_play.specs.Legal.{letters_of}
 use Rattle.crib_plan.proofs.WordLemmas.{IsDigit, decimal_digits}
 use Rattle.crib_show.specs.declared.show.outcomes.Outcome.{Outcome}
-use Rattle.crib_show.specs.declared.show.outcomes.Outcome.TheVariants.{Reached}
+use Rattle.crib_show.specs.declared.show.outcomes.Outcome.TheVariants.{Reached, Short}
 use Rattle.crib_show.specs.declared.show.outcomes.ShowRow.{ShowRow}
 use Rattle.crib_problem.specs.declared.problem.Goal.{Goal}
 use Rattle.crib_problem.specs.declared.problem.Goal.TheVariants.{Win, Holes, Stop}
@@ -156,6 +156,9 @@ outcome_feeds : (dealer : Side) (goal : Goal) (over : Option Outcome) (after : L
 outcome_feeds dealer Win (Some Reached) after = (_, refl)
 outcome_feeds dealer (Holes holes) (Some Reached) after = (_, refl)
 outcome_feeds dealer Stop (Some Reached) after = (_, refl)
+outcome_feeds dealer Win (Some Short) after = (_, refl)
+outcome_feeds dealer (Holes holes) (Some Short) after = (_, refl)
+outcome_feeds dealer Stop (Some Short) after = (_, refl)
 outcome_feeds dealer goal _ after = (_, refl)
 
 show_feeds : (problem : Setup) (dealt : Dealt) (rows : List ShowRow) (over : Option Outcome) (after : List ℕ)

@@ -185,18 +185,28 @@ dealt_line dealer dealt =
     codes "The " ++ role_word dealer Opponent ++ codes " holds" ++ spaced_cards dealt.hold
     ++ codes " and threw" ++ spaced_cards dealt.throw ++ codes ".\n"
 
--- what the owner did who reached a goal, after an empty line. A goal of holes may be reached before the deal is over
+-- who wins, after an empty line
+abbrev pub wins_line : Side → Side → List ℕ
+wins_line dealer side = codes "\nThe deal is over: the " ++ role_word dealer side ++ codes " wins.\n"
+
+-- that a goal is reached, after an empty line. A goal of holes may be reached before the deal is over
 abbrev pub reached_line : Side → Goal → List ℕ
-reached_line dealer Win = codes "\nThe deal is over: you win.\n"
+reached_line dealer Win = wins_line dealer Owner
 reached_line dealer (Holes holes) = codes "\nYou have reached your goal; the deal isn't counted further.\n"
 reached_line dealer Stop =
     codes "\nThe deal is over: you keep the " ++ role_word dealer Opponent ++ codes " from winning.\n"
 
+-- that all is counted and a goal isn't reached, after an empty line. Who wants to win falls short if nobody wins
+abbrev pub short_line : Goal → List ℕ
+short_line Win = codes "\nThe deal is over: nobody has won yet.\n"
+short_line (Holes holes) = codes "\nThe deal is over: you fall short of your goal.\n"
+short_line Stop = codes "\nThe deal is over: you fall short of your goal.\n"
+
 -- how the deal ended for an owner with this goal, after an empty line
 abbrev pub over_text : Side → Goal → Outcome → List ℕ
 over_text dealer goal Reached = reached_line dealer goal
-over_text dealer goal Lost = codes "\nThe deal is over: the " ++ role_word dealer Opponent ++ codes " wins.\n"
-over_text dealer goal Short = codes "\nThe deal is over: you fall short of your goal.\n"
+over_text dealer goal Lost = wins_line dealer Opponent
+over_text dealer goal Short = short_line goal
 
 -- how the deal ended, or that it isn't over yet, after an empty line
 abbrev pub outcome_text : Side → Goal → Option Outcome → List ℕ

@@ -1,10 +1,10 @@
 //! The text of the sheet of a game.
-ghost use Rattle.std.specs.Prelude.{◌≡◌, Ok};
+ghost use Rattle.std.specs.Prelude.{◌≡◌, ◌≤◌, Ok, length};
 ghost use Rattle.crib_game.specs.Replay.{replay_result};
 ghost use Rattle.crib_run.specs.Prints.{Prints};
 ghost use Rattle.crib_game_sheet.specs.GamePlay.{game_reasons};
 ghost use Rattle.crib_game_sheet.specs.GameText.{outcome_text, over_text, played_text, reached_line};
-ghost use Rattle.crib_game_sheet.specs.GameText.{rows_text, sheet_of};
+ghost use Rattle.crib_game_sheet.specs.GameText.{rows_text, sheet_of, short_line, wins_line};
 
 use super::acts::put_acts;
 use super::counted::put_show;
@@ -71,18 +71,35 @@ fn put_over<P: Page>(page: &mut P, dealer: Side, goal: Goal, outcome: Outcome)
 {
     match outcome {
         Outcome::Reached => put_reached(page, dealer, goal),
-        Outcome::Lost =>
-            puts!(page: b"\nThe deal is over: the " put_role(dealer, Side::Opponent) b" wins.\n"),
-        Outcome::Short => page.put(b"\nThe deal is over: you fall short of your goal.\n"),
+        Outcome::Lost => put_wins(page, dealer, Side::Opponent),
+        Outcome::Short => page.put(short_words(goal)),
     }
 }
 
-// Puts what the owner did who reached a goal, after an empty line.
+// Puts who wins, after an empty line.
+fn put_wins<P: Page>(page: &mut P, dealer: Side, side: Side)
+    ensures { Prints (wins_line dealer side) (P.stand page.old) (P.stand page.new) }
+{
+    puts!(page: b"\nThe deal is over: the " put_role(dealer, side) b" wins.\n");
+}
+
+// Returns that all is counted and a goal isn't reached, after an empty line.
+fn short_words(goal: Goal) -> &'static [u8]
+    ensures value { result.now ≡ short_line goal }
+    ensures short { length result.now ≤ 48 }
+{
+    match goal {
+        Goal::Win => b"\nThe deal is over: nobody has won yet.\n",
+        Goal::Holes(_) | Goal::Stop => b"\nThe deal is over: you fall short of your goal.\n",
+    }
+}
+
+// Puts that a goal is reached, after an empty line.
 fn put_reached<P: Page>(page: &mut P, dealer: Side, goal: Goal)
     ensures { Prints (reached_line dealer goal) (P.stand page.old) (P.stand page.new) }
 {
     match goal {
-        Goal::Win => page.put(b"\nThe deal is over: you win.\n"),
+        Goal::Win => put_wins(page, dealer, Side::Owner),
         Goal::Holes(_) =>
             puts!(page: b"\nYou have reached your goal; the deal isn't counted further.\n"),
         Goal::Stop =>

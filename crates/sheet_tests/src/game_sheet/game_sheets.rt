@@ -29,7 +29,7 @@ The pone holds AC AD AH AS and threw 3C 7C.
  7 pone   AS      10 120    0
  8 dealer 2S      12 121    0  1: last card 1
 
-The deal is over: you win.
+The deal is over: the dealer wins.
 In the play you pegged 1, they 0.
 ";
 

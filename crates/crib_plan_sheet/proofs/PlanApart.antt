@@ -1,6 +1,7 @@
 -- Only nodes whose rows are too large have paragraphs of their own.
 use Rattle.std.proofs.Common.{◌≡◌, ℕ, zero, suc, ◌+◌, ◌<◌, ◌≤◌, Bool, true, false, List, [], ◌∷◌, length, map, slice_get, get_or}
-use Rattle.std.proofs.Common.{Some, unwrap_or, sym, ap, subst, ◌∙◌, arith, true≢false}
+use Rattle.std.proofs.Common.{Some, unwrap_or, inl, inr, sym, ap, subst, ◌∙◌, arith, true≢false}
+use Rattle.std.proofs.lemmas.Bool.{cases_Bool}
 use Rattle.std.proofs.lemmas.Option.{slice_get-get_or, slice_get_cases, slice_get_within}
 use Rattle.crib_cards.specs.Letters.{letter_index}
 use Rattle.crib_cards.specs.declared.letters.Letter.{Letter}
@@ -10,11 +11,12 @@ use Rattle.crib_plan.specs.declared.plan.Next.TheVariants.{End, To}
 use Rattle.crib_plan.specs.declared.plan.Node.{Node}
 use Rattle.crib_plan.specs.declared.plan.Node.TheVariants.{Play, See}
 use Rattle.crib_plan.specs.Nodes.{ArePlan, IsLater, IsNode, AreNodes}
-use Rattle.crib_plan_sheet.specs.PlanOutline.{apart_in, first_cards, OnlyLargeAreApart}
+use Rattle.crib_plan_sheet.specs.PlanOutline.{apart_in, first_cards, is_among, looks_to_name, IsTooLarge, OnlyLargeAreApart}
 use Rattle.crib_plan_sheet.specs.PlanSheet.{Row, Lines, Paragraph, NoLine, Line, row_for, row_named, row_to, lines_to, rows_from}
 use Rattle.crib_plan_sheet.specs.PlanSheetSize.{level_count, levels_below}
 use Rattle.crib_plan_sheet.specs.Private.Spots.{levels_at, cards_at, most_levels, node_levels, node_cards, is_first_apart}
 use Rattle.crib_plan_sheet.specs.Private.Spots.{AreSized}
+use Rattle.crib_plan_sheet.specs.Private.Ways.{ways_to}
 use Rattle.crib_plan_sheet.specs.declared.spots.Spot.{Spot}
 use Rattle.crib_plan_sheet.proofs.PlanFits.{apart_is, apart_same}
 use Rattle.crib_plan_sheet.proofs.PlanSheets.{behind, branch_later, later_is, line_of, node_is, row_is}
@@ -33,7 +35,7 @@ flag_within : (spots : List Spot) (node : ℕ) → apart_in (map (λ spot. spot.
 flag_within spots node apart = grind (arith, apart_is spots node, slice_get_cases spots node, apart)
 
 module _ (spots : List Spot) (plan : List Node) (long : length spots ≡ length plan) (are : AreNodes 0 (length plan) plan)
-    (sized : AreSized 1 plan spots) where
+    (sized : AreSized (looks_to_name plan) 1 plan spots) where
   abbrev apart : ℕ → Bool
   apart = apart_in (map (λ spot. spot.is_apart) spots)
 
@@ -89,10 +91,18 @@ module _ (spots : List Spot) (plan : List Node) (long : length spots ≡ length 
       let node = get_or plan (suc i) (Play 0 End) in
       let found : slice_get plan (suc i) ≡ Some node = slice_get-get_or plan (suc i) (Play 0 End) (omega (arith, within, long)) in
       let broken = sized.broken (suc i) node (omega arith) found (sym (apart_same spots (suc i) within) ∙ is) in
-      let known = known_from (length plan) 0 (omega arith) (suc i) node (omega arith) found in
-      (omega arith, grind (arith, known.cards, known.levels, broken.large))
+      let known = known_from (length plan) 0 (omega arith) (suc i) node (omega arith) found in (
+        omega arith,
+        elim (cases_Bool (is_among (looks_to_name plan) (suc i))) [
+          | inl e ↦ inr e
+          | inr e ↦
+              (let large : IsTooLarge (node_cards spots node) (node_levels spots node) (ways_to plan (suc i)) = rw e at broken.large in
+              inl (grind (arith, known.cards, known.levels, large)))
+        ],
+      )
 
 pub outline_apart : (spots : List Spot) (plan nodes : List Node) → nodes ≡ plan → length spots ≡ length nodes → ArePlan nodes →
-    AreSized 1 nodes spots → is_first_apart spots ≡ false → OnlyLargeAreApart (apart_in (map (λ spot. spot.is_apart) spots)) plan
+    AreSized (looks_to_name plan) 1 nodes spots → is_first_apart spots ≡ false → OnlyLargeAreApart (apart_in (map (λ spot. spot.is_apart) spots)) plan
 outline_apart spots plan nodes known long are sized first =
-    subst (λ p. OnlyLargeAreApart (apart_in (map (λ (s : Spot). s.is_apart) spots)) p) known (only_large spots nodes long are.1 sized first)
+    subst (λ p. OnlyLargeAreApart (apart_in (map (λ (s : Spot). s.is_apart) spots)) p) known
+    (only_large spots nodes long are.1 (subst (λ p. AreSized (looks_to_name p) 1 nodes spots) (sym known) sized) first)

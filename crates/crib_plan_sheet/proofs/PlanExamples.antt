@@ -6,7 +6,7 @@ use Rattle.crib_plan.specs.declared.plan.Next.TheVariants.{End, To}
 use Rattle.crib_plan.specs.declared.plan.Node.{Node}
 use Rattle.crib_plan.specs.declared.plan.Node.TheVariants.{Play, See}
 use Rattle.crib_plan.specs.Spelling.{letter_bytes}
-use Rattle.crib_plan_sheet.specs.PlanOutline.{apart_in}
+use Rattle.crib_plan_sheet.specs.PlanOutline.{apart_in, behind_cards, first_look, is_among, looks_to_name, second_looks}
 use Rattle.crib_plan_sheet.specs.PlanSheet.{Row, Lines, Sheet, Over, Plays, Looks, Named, NoLine, Line, OwnCard, Shown, row_for, sheet_with, sheet_card}
 
 -- a look, with the letters of each line as a plan writes them
@@ -84,3 +84,21 @@ pub nodes_apart :
     × (apart_in (false ∷ true ∷ []) 0 ≡ false)
     × (apart_in (true ∷ []) 1 ≡ false)
 nodes_apart = (refl, refl, refl, refl)
+
+-- ---- long plans
+-- a plan of five cards, and a look at an ace and a king behind them
+abbrev five_cards : List Node
+five_cards =
+    Play 4 (To 1) ∷ Play 5 (To 2) ∷ Play 6 (To 3) ∷ Play 7 (To 4) ∷ Play 8 (To 5) ∷ See (To 6 ∷ replicate 11 End ++ To 6 ∷ End ∷ []) ∷
+    Play 9 (To 7) ∷ See (replicate 14 End) ∷ []
+
+-- the look after a three is the only second look of the eights, which have two looks
+long_plans :
+    (map (behind_cards five_cards) (To 0 ∷ To 1 ∷ To 2 ∷ To 6 ∷ To 8 ∷ End ∷ []) ≡ To 4 ∷ To 5 ∷ To 5 ∷ To 7 ∷ To 8 ∷ End ∷ [])
+    × (first_look five_cards ∷ first_look three_eights ∷ first_look by_twos ∷ first_look [] ∷ [] ≡ To 5 ∷ To 1 ∷ To 0 ∷ End ∷ [])
+    × (second_looks five_cards ≡ To 7 ∷ replicate 11 End ++ To 7 ∷ End ∷ [])
+    × (map second_looks (by_twos ∷ (Play 4 End ∷ []) ∷ replicate 7 (Play 4 (To 1)) ∷ []) ≡ replicate 3 (replicate 14 End))
+    × (looks_to_name (three_eights ++ replicate 18 (See [])) ≡ replicate 14 End)
+    × (looks_to_name (three_eights ++ replicate 19 (See [])) ≡ End ∷ End ∷ To 3 ∷ replicate 11 End)
+    × (map (is_among (End ∷ To 3 ∷ To 7 ∷ [])) (0 ∷ 3 ∷ 7 ∷ []) ≡ false ∷ true ∷ true ∷ [])
+long_plans = (refl, refl, refl, refl, refl, refl, refl)

@@ -14,12 +14,12 @@ use Rattle.crib_plan_sheet.specs.PlanSheet.{sheet_with}
 use Rattle.crib_plan_sheet.specs.PlanSheetSize.{levels_below}
 use Rattle.crib_plan_sheet.specs.PlanOutline.{apart_in}
 use Rattle.crib_plan_sheet.specs.Private.Spots.{levels_at, cards_at, is_apart_at, most_levels, AreLow, IsWhole, AreSized}
-use Rattle.crib_plan_sheet.specs.Private.Ways.{ways_to}
+use Rattle.crib_plan_sheet.specs.Private.Ways.{ways_or_named, ways_to}
 use Rattle.crib_plan_sheet.specs.declared.spots.Spot.{Spot}
 use Rattle.crib_plan_sheet.proofs.SheetSizes.{IsSmall, IsSmallSheet, most_cards_below}
 
 -- the row of a node has at most so many levels, and begins with at most so many cards
-abbrev HasSize : List Spot → ℕ → ℕ → Node → Type 0
+abbrev pub HasSize : List Spot → ℕ → ℕ → Node → Type 0
 HasSize spots levels cards (Play card next) = (levels_at spots next ≤ levels) × (cards_at spots next < cards)
 HasSize spots levels cards (See branches) =
     (0 < levels) × AllByRecursion (λ next. levels_at spots next < levels) branches
@@ -61,7 +61,7 @@ module _ (apart : ℕ → Bool) (spots : List Spot) (low : AreLow spots) where
       let row = to_fits later (To number) fit in
       grind (arith, lines_fit later levels all (from + 1) branches fit some each.1, each.0, row.depth, row.width 0 (omega (arith, low.cards (To number))))
 
-  node_fits : (later : List Paragraph) (levels cards : ℕ) (node : Node) → AllByRecursion Fits later → HasSize spots levels cards node →
+  pub node_fits : (later : List Paragraph) (levels cards : ℕ) (node : Node) → AllByRecursion Fits later → HasSize spots levels cards node →
       IsSmall levels cards (row_of apart later node)
   node_fits later levels cards (Play card next) fit size =
       let row = to_fits later next fit in
@@ -97,39 +97,40 @@ apart_is spots i = ap (λ found. unwrap_or found false) (slice_get-map (λ (spot
 pub apart_same : (spots : List Spot) (i : ℕ) → i < length spots → apart_in (map (λ spot. spot.is_apart) spots) i ≡ is_apart_at spots i
 apart_same spots i within = grind (arith, apart_is spots i, slice_get_cases spots i, within)
 
-each_below : (spots : List Spot) (branches : List Next) (bound : ℕ) → most_levels spots branches < bound →
+pub each_below : (spots : List Spot) (branches : List Next) (bound : ℕ) → most_levels spots branches < bound →
     AllByRecursion (λ next. levels_at spots next < bound) branches
 each_below spots [] bound below = tt
 each_below spots (next ∷ branches) bound below = (omega (arith, below), each_below spots branches bound (omega (arith, below)))
 
 -- a node without a paragraph has the size that is known of it
-sized_apart : (spots : List Spot) (plan : List Node) → length spots ≡ length plan → AreSized 1 plan spots → (i : ℕ) (node : Node) → 1 ≤ i →
+sized_apart : (named : List Next) (spots : List Spot) (plan : List Node) → length spots ≡ length plan → AreSized named 1 plan spots → (i : ℕ) (node : Node) →
+    1 ≤ i →
     slice_get plan i ≡ Some node → apart_in (map (λ spot. spot.is_apart) spots) i ≡ false → HasSize spots (levels_at spots (To i)) (cards_at spots (To i)) node
-sized_apart spots plan long are i node above found inline =
+sized_apart named spots plan long are i node above found inline =
     size_of node (are.whole i node above found (sym (apart_same spots i (omega (arith, slice_get_within plan i node found))) ∙ inline))
   where
-    size_of : (one : Node) → IsWhole spots (levels_at spots (To i)) (cards_at spots (To i)) (ways_to plan i) one →
+    size_of : (one : Node) → IsWhole spots (levels_at spots (To i)) (cards_at spots (To i)) (ways_or_named named i (ways_to plan i)) one →
         HasSize spots (levels_at spots (To i)) (cards_at spots (To i)) one
     size_of (Play card next) whole = (omega (arith, whole.its_levels), omega (arith, whole.its_cards))
     size_of (See branches) whole = (omega (arith, whole.its_levels), each_below spots branches _ (omega (arith, whole.its_levels)))
 
 -- the rows behind node 0 fit, and so the sheet does
-pub rows_behind : (spots : List Spot) (plan : List Node) → length spots ≡ length plan → (low : AreLow spots) → AreSized 1 plan spots →
+pub rows_behind : (named : List Next) (spots : List Spot) (plan : List Node) → length spots ≡ length plan → (low : AreLow spots) → AreSized named 1 plan spots →
     AllByRecursion (Fits (apart_in (map (λ spot. spot.is_apart) spots)) spots low)
     (rows_from (apart_in (map (λ spot. spot.is_apart) spots)) 1 (drop 1 plan))
-rows_behind spots [] long low are = tt
-rows_behind spots (node ∷ nodes) long low are =
+rows_behind named spots [] long low are = tt
+rows_behind named spots (node ∷ nodes) long low are =
     let apart : ℕ → Bool = apart_in (map (λ (s : Spot). s.is_apart) spots) in
     rows_fit apart spots low 1 nodes
-    (λ i other is. let e : suc i ≡ 1 + i = omega arith in rw e at (sized_apart spots (node ∷ nodes) long are (suc i) other (omega arith) is))
+    (λ i other is. let e : suc i ≡ 1 + i = omega arith in rw e at (sized_apart named spots (node ∷ nodes) long are (suc i) other (omega arith) is))
 
-pub outline_fits : (spots : List Spot) (plan : List Node) → length spots ≡ length plan → AreLow spots → AreSized 1 plan spots →
+pub outline_fits : (named : List Next) (spots : List Spot) (plan : List Node) → length spots ≡ length plan → AreLow spots → AreSized named 1 plan spots →
     IsSmallSheet (sheet_with (apart_in (map (λ spot. spot.is_apart) spots)) plan)
 unfolding sheet_with
-outline_fits spots [] long low are = (small_over 5 5, tt)
-outline_fits spots (node ∷ nodes) long low are =
+outline_fits named spots [] long low are = (small_over 5 5, tt)
+outline_fits named spots (node ∷ nodes) long low are =
     let apart : ℕ → Bool = apart_in (map (λ (s : Spot). s.is_apart) spots) in
-    let later = rows_behind spots (node ∷ nodes) long low are in
+    let later = rows_behind named spots (node ∷ nodes) long low are in
     let first = node_fits apart spots low (rows_from apart 1 nodes) 5 5 node later (each_small apart spots low node) in
     let others = all_weaker (Fits apart spots low) (λ paragraph. IsSmall 5 5 paragraph.row) (λ paragraph fit. fit.small) (rows_from apart 1 nodes) later in (
       cond_both (apart 0) _ _ (IsSmall 5 5) (λ e. small_named 5 5 0) (λ e. first),

@@ -11,7 +11,7 @@ use Rattle.crib_plan.specs.declared.plan.Node.TheVariants.{Play, See}
 use Rattle.crib_plan.specs.Nodes.{IsLater, IsNode, AreNodes}
 use Rattle.crib_plan_sheet.specs.Private.Spots.{levels_at, cards_at, most_levels, node_levels, node_cards, is_first_apart, AreLow, AreSized}
 use Rattle.crib_plan_sheet.specs.Private.Spots.{IsWhole, IsBroken}
-use Rattle.crib_plan_sheet.specs.Private.Ways.{ways_to}
+use Rattle.crib_plan_sheet.specs.Private.Ways.{ways_or_named, ways_to}
 use Rattle.crib_plan_sheet.specs.declared.spots.Spot.{Spot}
 use Rattle.crib_plan_sheet.proofs.PlanSheets.{node_is}
 
@@ -91,17 +91,18 @@ IsKnownBy spots found ways node =
     × (apart_from found ≡ true → IsBroken spots (levels_in found) (cards_in found) ways node)
 
 -- what is known of one more node
-pub sized_set : (number : ℕ) (nodes : List Node) (spots : List Spot) (node : Node) (spot : Spot) → AreNodes 0 (length nodes) nodes →
-    number < length spots → slice_get nodes number ≡ Some node → AreSized (number + 1) nodes spots →
-    (spot.is_apart ≡ false → IsWhole spots spot.levels spot.cards (ways_to nodes number) node) →
-    (spot.is_apart ≡ true → IsBroken spots spot.levels spot.cards (ways_to nodes number) node) →
-    AreSized number nodes (set spots number spot)
-sized_set number nodes spots node spot are within is old whole broken =
+pub sized_set : (named : List Next) (number : ℕ) (nodes : List Node) (spots : List Spot) (node : Node) (spot : Spot) → AreNodes 0 (length nodes) nodes →
+    number < length spots → slice_get nodes number ≡ Some node → AreSized named (number + 1) nodes spots →
+    (spot.is_apart ≡ false → IsWhole spots spot.levels spot.cards (ways_or_named named number (ways_to nodes number)) node) →
+    (spot.is_apart ≡ true → IsBroken spots spot.levels spot.cards (ways_or_named named number (ways_to nodes number)) node) →
+    AreSized named number nodes (set spots number spot)
+sized_set named number nodes spots node spot are within is old whole broken =
+    let ways : ℕ → ℕ = λ i. ways_or_named named i (ways_to nodes i) in
     let new : List Spot = set spots number spot in
-    let known : (i : ℕ) (other : Node) → number ≤ i → slice_get nodes i ≡ Some other → IsKnownBy new (slice_get new i) (ways_to nodes i) other =
+    let known : (i : ℕ) (other : Node) → number ≤ i → slice_get nodes i ≡ Some other → IsKnownBy new (slice_get new i) (ways i) other =
     λ i other above found.
     let fits = node_is nodes i other are found in
-    let had : IsKnownBy spots (slice_get new i) (ways_to nodes i) other =
+    let had : IsKnownBy spots (slice_get new i) (ways i) other =
     elim (cases_eq number i) [
       | inl e ↦
           (let at_i : slice_get new i ≡ Some spot = ap (slice_get new) (sym e) ∙ get_set_same spots number spot within in
@@ -110,20 +111,21 @@ sized_set number nodes spots node spot are within is old whole broken =
       | inr differs ↦
           rw (get_set_other spots number i spot differs) (old.whole i other (omega (arith, above)) found, old.broken i other (omega (arith, above)) found)
     ] in (
-      λ inline. whole_same number (length nodes) i spots spot above _ _ (ways_to nodes i) other fits (had.0 inline),
-      λ apart. broken_same number (length nodes) i spots spot above _ _ (ways_to nodes i) other fits (had.1 apart),
+      λ inline. whole_same number (length nodes) i spots spot above _ _ (ways i) other fits (had.0 inline),
+      λ apart. broken_same number (length nodes) i spots spot above _ _ (ways i) other fits (had.1 apart),
     ) in
     record { whole = λ i other above found. (known i other above found).0; broken = λ i other above found. (known i other above found).1 }
 
 -- at first, nothing is known
-pub none_sized : (number : ℕ) (nodes : List Node) (spots : List Spot) → length nodes ≤ number → AreSized number nodes spots
-none_sized number nodes spots past = record {
+pub none_sized : (named : List Next) (number : ℕ) (nodes : List Node) (spots : List Spot) → length nodes ≤ number → AreSized named number nodes spots
+none_sized named number nodes spots past = record {
   whole = λ i node above found inline. absurd (grind (arith, slice_get_past nodes i, found));
   broken = λ i node above found apart. absurd (grind (arith, slice_get_past nodes i, found));
 }
 
-pub sized_later : (number other : ℕ) (nodes : List Node) (spots : List Spot) → number ≤ other → AreSized number nodes spots → AreSized other nodes spots
-sized_later number other nodes spots less are =
+pub sized_later : (named : List Next) (number other : ℕ) (nodes : List Node) (spots : List Spot) → number ≤ other → AreSized named number nodes spots →
+    AreSized named other nodes spots
+sized_later named number other nodes spots less are =
     record { whole = λ i node above. are.whole i node (omega (arith, less, above)); broken = λ i node above. are.broken i node (omega (arith, less, above)) }
 
 -- ---- the first node

@@ -1,6 +1,7 @@
 //! Sheets of plans, for a person to read: a plan in words, the position now, and why a plan is stuck.
 #![tactic(auto)]
 
+mod index;
 mod labels;
 mod laws;
 mod now;

@@ -4,9 +4,10 @@ ghost use Rattle.crib_plan.specs.Nodes.{ArePlan};
 ghost use Rattle.crib_plan_sheet.specs.Private.Spots.{AreLow, AreSized, IsBroken, IsWhole, cards_at, is_first_apart};
 ghost use Rattle.crib_plan_sheet.specs.Private.Spots.{levels_at, node_cards, node_levels};
 ghost use Rattle.crib_plan_sheet.specs.Private.Spots as spec;
+ghost use Rattle.crib_plan_sheet.specs.Private.Ways as spec_ways;
 
 use crate::ways::ways_of;
-use crib_plan::{Next, Node};
+use crib_plan::{Next, Node, new_node};
 use std::alloc::{AllocError, Allocator};
 
 // The most levels of lines, and the most cards, with which a row goes on at a node that has no paragraph.
@@ -31,15 +32,17 @@ const UNKNOWN: Spot = Spot {
     cards: 0,
 };
 
-/// Returns what is known of each node of a plan. Fails if an allocation fails.
+/// Returns what is known of each node of a plan, if the nodes at these places get paragraphs of their own. Fails if an
+/// allocation fails.
 pub(crate) fn spots_of<A: Allocator + Copy>(
     alloc: A,
     nodes: &[Node],
+    named: &[Next; 14],
 ) -> Result<Vec<Spot, A>, AllocError>
     requires { ArePlan nodes.now }
     ensures length { IfOk result (λ spots. length spots.items ≡ length nodes.now) }
     ensures low { IfOk result (λ spots. AreLow spots.items) }
-    ensures sized { IfOk result (λ spots. AreSized 1 nodes.now spots.items) }
+    ensures sized { IfOk result (λ spots. AreSized named.now 1 nodes.now spots.items) }
     ensures first { IfOk result (λ spots. is_first_apart spots.items ≡ false) }
 {
     let ways = ways_of(alloc, nodes)?;
@@ -48,10 +51,21 @@ pub(crate) fn spots_of<A: Allocator + Copy>(
     let mut number = nodes.len();
     while number > 1 {
         number -= 1;
-        let spot = spot_of(spots.as_slice(), ways[number], &nodes[number]);
+        let ways = ways_or_named(named, number as u16, ways[number]);
+        let spot = spot_of(spots.as_slice(), ways, &nodes[number]);
         spots[number] = spot;
     }
     Ok(spots)
+}
+
+// Returns the number of ways that lead to a node, but 2 for each node among these places.
+fn ways_or_named(named: &[Next; 14], node: u16, ways: u8) -> u8
+    ensures { result ≡ spec_ways.ways_or_named named.now node ways }
+{
+    match new_node(named, Next::To(node)) {
+        None => 2,
+        Some(_) => ways,
+    }
 }
 
 // What is known of a node to which so many ways lead, from the nodes after it.

@@ -6,7 +6,7 @@ use Rattle.crib_plan.specs.declared.plan.Next.TheVariants.{End, To}
 use Rattle.crib_plan.specs.declared.plan.Node.{Node}
 use Rattle.crib_plan.specs.declared.plan.Node.TheVariants.{Play, See}
 use Rattle.crib_plan_sheet.specs.PlanOutline.{IsTooLarge}
-use Rattle.crib_plan_sheet.specs.Private.Ways.{ways_to}
+use Rattle.crib_plan_sheet.specs.Private.Ways.{ways_or_named, ways_to}
 use Rattle.crib_plan_sheet.specs.declared.spots.Spot.{Spot}
 
 -- the levels of lines with which a row goes on at a place
@@ -55,14 +55,14 @@ pub record IsWhole (spots : List Spot) (levels cards ways : ℕ) (node : Node) :
   pub its_cards : cards ≡ node_cards spots node
   pub once : 1 < ways → levels ≡ 0
 
--- what is known of the nodes from a number on is right
-pub record AreSized (number : ℕ) (nodes : List Node) (spots : List Spot) : Type 0 where
+-- what is known of the nodes from a number on is right. Those among the named places have paragraphs of their own
+pub record AreSized (named : List Next) (number : ℕ) (nodes : List Node) (spots : List Spot) : Type 0 where
   pub whole :
       (i : ℕ) (node : Node) → number ≤ i → slice_get nodes i ≡ Some node → is_apart_at spots i ≡ false →
-      IsWhole spots (levels_at spots (To i)) (cards_at spots (To i)) (ways_to nodes i) node
+      IsWhole spots (levels_at spots (To i)) (cards_at spots (To i)) (ways_or_named named i (ways_to nodes i)) node
   pub broken :
       (i : ℕ) (node : Node) → number ≤ i → slice_get nodes i ≡ Some node → is_apart_at spots i ≡ true →
-      IsBroken spots (levels_at spots (To i)) (cards_at spots (To i)) (ways_to nodes i) node
+      IsBroken spots (levels_at spots (To i)) (cards_at spots (To i)) (ways_or_named named i (ways_to nodes i)) node
 
 -- the first node has no paragraph of its own
 abbrev pub is_first_apart : List Spot → Bool

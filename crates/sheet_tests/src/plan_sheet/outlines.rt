@@ -74,6 +74,36 @@ nodes 6
 5 play AS end
 ";
 
+// A plan with 21 looks. Each line of the first goes on with a second one.
+const LONG: &str = "plan 1
+nodes 25
+0 see A:1 2:2
+1 play AC 3
+2 play AD 4
+3 see A:5
+4 see 3:5 g:6
+5 play KC end
+6 play KD end
+7 see
+8 see
+9 see
+10 see
+11 see
+12 see
+13 see
+14 see
+15 see
+16 see
+17 see
+18 see
+19 see
+20 see
+21 see
+22 see
+23 see
+24 see
+";
+
 // Asserts which nodes of a plan have paragraphs, by the words at the beginnings of these.
 fn has_paragraphs(rt: &(impl Abort + AllocGlobal), plan_text: &str, words: &str) {
     let sheet = sheet_of(rt, plan_text, false);
@@ -96,6 +126,7 @@ fn shared_looks_and_what_is_cut_have_paragraphs(rt: HostRuntime) {
     has_paragraphs(&rt, DEEP, "[1]");
     has_paragraphs(&rt, TWICE, "[2][3][4]");
     has_paragraphs(&rt, ALONE, "");
+    has_paragraphs(&rt, LONG, "[3][4]");
     has_paragraphs(&rt, "plan 1\nnodes 0\n", "");
 }
 

@@ -7,7 +7,7 @@ invariant-loop-number g l =
     (l.number ≤ length l.nodes)
     × (length l.spots.items ≡ length l.nodes)
     × AreLow l.spots.items
-    × AreSized l.number l.nodes l.spots.items
+    × AreSized l.named l.number l.nodes l.spots.items
     × (is_first_apart l.spots.items ≡ false)
 
 abbrev pub decreases-loop-number : goal.decreases-loop-number

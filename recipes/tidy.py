@@ -70,7 +70,7 @@ def meant(word: str) -> str:
 
 def words_of(text: str) -> list[str]:
     """The words of a line that is no node's, or of a cell, each as it is meant."""
-    between = rf"{ARROW}|(?<=\d)-(?=\d)|(?<=[CDHS])-(?=[{RANKS}1])| - |\.+(?= )|[,;:/|&+]|\band\b"
+    between = rf"{ARROW}|(?<=\d)-(?=\d)|(?<=[CDHS])-(?=[{RANKS}1])| - |\.+(?= )|[][(),;:/|&+]|\band\b"
     return " ".join(map(meant, re.sub(between, " ", text, flags=re.I).split())).split()
 
 
@@ -187,13 +187,13 @@ class Plan:
 
     def branches(self, at: int) -> list[str]:
         """The branches of a node in order, one for each node that they lead to; or in theirs, if one isn't clear."""
-        parts = [part.rpartition(":")[::2] for part in self.nodes[at].rest]
-        named = "".join(letters_of(front) for front, _ in parts)
-        branches = [(letters_of(front, named), front, self.target(word) if front else word) for front, word in parts]
+        parts = [part.rpartition(":") for part in self.nodes[at].rest]
+        named = "".join(letters_of(front) for front, _, _ in parts)
+        branches = [(letters_of(front, named), self.target(word) if colon else word) for front, colon, word in parts]
         targets: dict[str, str] = {}
-        twice = [letter for letters, _, to in branches for letter in letters if targets.setdefault(letter, to) != to]
-        typed = [":".join(filter(None, (letters or front, to))) for letters, front, to in branches]
-        unclear = [word for word, (letters, _, to) in zip(typed, branches) if not letters or not to]
+        twice = [letter for letters, to in branches for letter in letters if targets.setdefault(letter, to) != to]
+        typed = [(letters or part[0]) + part[1] + to for part, (letters, to) in zip(parts, branches)]
+        unclear = [word for word, branch in zip(typed, branches) if not all(branch)]
         if twice or unclear:
             fault = f"{twice[0]} leads to two nodes" if twice else f'"{unclear[0]}" is not ranks, a colon and a node'
             self.notes.append(f"line {MARK}{at}{MARK}: {fault}")

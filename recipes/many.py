@@ -225,7 +225,7 @@ def decide_table(file: str, lanes: int) -> list[str]:
     (_, head), *lines = [(at, line) for at, line in lines if is_row(line)] or refuse(f"{file} is empty")
     sign = max(",;\t", key=head.count)
     names = next(csv.reader([head], delimiter=sign))
-    columns = [name.strip().lower() for name in names]
+    columns = [plain(name).strip(" :").lower() for name in names]
     for column in COLUMNS:
         if columns.count(column) > 1:
             refuse(f"{file} has two columns {column}")

@@ -102,8 +102,9 @@ pub other_trees : map (same_tree diamonds) (clubs ∷ diamonds ∷ hearts ∷ []
     ≡ (false ∷ true ∷ false ∷ []) ∷ (false ∷ true ∷ false ∷ false ∷ []) ∷ (true ∷ false ∷ false ∷ []) ∷ []
 other_trees = refl
 
-pub no_plan_to_win_with : (problem : Setup) → ((plan : List Node) → IsSure problem plan → ⊥) → IsWinnable problem → ⊥
-no_plan_to_win_with problem none is = none is.plan is.sure
+-- a plan without nodes is one to win with if it is sure, and without a sure plan there is none
+pub plans_to_win_with : (IsSure level [] → IsWinnable level) × (((plan : List Node) → IsSure level plan → ⊥) → IsWinnable level → ⊥)
+plans_to_win_with = ((λ sure. record { plan = []; sure = sure }), λ none is. none is.plan is.sure)
 
 -- the opponent's next card is a turn of the opening, which version 2 has
 pub openings_with_a_card :

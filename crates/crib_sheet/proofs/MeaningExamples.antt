@@ -1,10 +1,14 @@
 -- Worked examples of right replies and of what they guarantee, clause by clause.
-use Rattle.std.proofs.Common.{◌≡◌, ◌⊎◌, refl, ap, arith, inl, inr, ℕ, true, false, Bool, List, [], ◌++◌, codes, get_or, Option, Some, None, Ok, Err}
+use Rattle.std.proofs.Common.{◌≡◌, ◌⊎◌, refl, ap, arith, inl, inr, ℕ, true, false, Bool, List, [], ◌++◌, codes, get_or, Option, Some, None, Ok, Err, ◌∷◌}
 use Rattle.std.proofs.lemmas.Bool.{both_ways}
 use Rattle.std.specs.Fmt.{digits}
 use Rattle.crib_text.specs.Refusals.{Refusal}
 use Rattle.crib_problem.specs.Setup.{Setup}
+use Rattle.crib_problem.proofs.ExampleProblems.{four_twos}
+use Rattle.crib_plan.specs.declared.plan.Next.TheVariants.{End, To}
 use Rattle.crib_plan.specs.declared.plan.Node.{Node}
+use Rattle.crib_plan.specs.declared.plan.Node.TheVariants.{Play}
+use Rattle.crib_search.specs.Finder.{ExceedsLimit}
 use Rattle.crib_game.specs.declared.section.game.Game.{Game}
 use Rattle.crib_game.specs.declared.following.ending.Ending.TheVariants.{Short}
 use Rattle.crib_check.specs.declared.verdict.Verdict.{Verdict}
@@ -29,7 +33,7 @@ use Rattle.crib_plan_sheet.specs.PlanPlay.{ReachesGoal}
 use Rattle.crib_plan_sheet.specs.PlanSheet.{Over, sheet_with}
 use Rattle.crib_sheet.specs.declared.answer.job.SheetJob.TheVariants.{Plan, Game as GameJob, Refute, Why}
 use Rattle.crib_sheet.specs.Meaning.{AsksAbout, GameMeans, HasGameSheet, HasSureSheet, HasUnsurePlan, HasUnsureSheet, IsRefusedByReplay, PlanMeans, SheetMeans}
-use Rattle.crib_sheet.specs.Sheet.{AnswersPlan, AnswersWithPlan, IsSheetOf, SheetAnswers, SheetAsksForMemory, SheetMakes, game_sheet_of_input, plan_reply}
+use Rattle.crib_sheet.specs.Sheet.{AnswersPlan, IsSheetOf, IsToTry, SheetAnswers, SheetAsksForMemory, SheetMakes, game_sheet_of_input, plan_reply}
 
 -- ---- the sections: a problem of seven lines, the beginning of a plan, and a game with a card that isn't held
 abbrev problem_section : List ℕ
@@ -46,6 +50,9 @@ refused_reply output = record { output = output; status = Refused }
 
 abbrev fault_11 : Reply
 fault_11 = record { output = codes "fault 11\n"; status = Fault }
+
+abbrev two_twos : List Node
+two_twos = Play 4 (To 1) ∷ Play 5 End ∷ []
 
 -- ---- right replies
 refused_sections :
@@ -89,8 +96,19 @@ verdict_of_a_plan : (problem : Setup) (plan : List Node) (reply : Reply) (answer
     IsRight problem plan answers.0
 verdict_of_a_plan problem plan reply answers = answers.6
 
-reply_of_a_problem : (problem : Setup) (reply : Reply) → AnswersPlan (Ok (problem, None)) reply ≡ AnswersWithPlan problem (IsSheetOf problem) reply
-reply_of_a_problem problem reply = refl
+-- of a problem alone: a plan that is found may have too many nodes, and no sheet has the status of a fault
+large_plan_of_a_problem : ExceedsLimit four_twos 65535 → AnswersPlan (Ok (four_twos, None)) (record { output = codes "fault 50\n"; status = Fault })
+unfolding digits
+large_plan_of_a_problem large = inr (large, refl)
+
+no_sheet_is_a_fault : AnswersPlan (Ok (four_twos, None)) (record { output = []; status = Fault }) → ⊥
+unfolding digits
+no_sheet_is_a_fault (inl (plan, inl found, is)) = absurd (let e = found.0 in cc)
+no_sheet_is_a_fault (inl (plan, inr none, is)) = absurd (let e = none.0 in cc)
+no_sheet_is_a_fault (inr large) = (let text = ap (λ (reply : Reply). reply.output) large.1 in cc)
+
+sheet_of_a_problem : (reply : Reply) → IsToTry four_twos two_twos reply.status → IsSheetOf four_twos two_twos reply → AnswersPlan (Ok (four_twos, None)) reply
+sheet_of_a_problem reply tried is = inl (two_twos, tried, is)
 
 sure_plan_is_written : (problem : Setup) (plan : List Node) (open_deals beaten : ℕ) (hands : Option Rows) (apart : ℕ → Bool) → IsSure problem plan →
     AnswersPlan (Ok (problem, Some plan)) (plan_reply problem plan Holds open_deals beaten hands 0 apart)
@@ -142,9 +160,14 @@ fault_is_written (inl right) = right
 fault_is_written (inr memory) = (let text = ap (λ (reply : Reply). reply.output) memory.1 in absurd cc)
 
 -- ---- a plan is spelled behind the problem, or it is any plan of a problem alone
-asked_about : (input : List ℕ) (problem : Setup) (plan : List Node) →
-    AsksAbout input problem plan ≡ (SpellsPlan input problem plan ⊎ (SpellsProblem input problem × ArePlan plan))
-asked_about input problem plan = refl
+asked_about : (input : List ℕ) → (SpellsPlan input four_twos two_twos → AsksAbout input four_twos two_twos)
+    × (SpellsProblem input four_twos → ArePlan two_twos → AsksAbout input four_twos two_twos)
+asked_about input = (inl, λ spelled is. inr (spelled, is))
+
+-- a node that leads back is no plan
+not_about_a_way_back : (input : List ℕ) → (SpellsPlan input four_twos (Play 4 (To 0) ∷ []) → ⊥) → AsksAbout input four_twos (Play 4 (To 0) ∷ []) → ⊥
+not_about_a_way_back input never (inl spelled) = never spelled
+not_about_a_way_back input never (inr asks) = absurd (omega (arith, asks.1.1.0.1.0))
 
 -- ---- the sheet of a sure plan is printed, and reaches the goal
 sure_sheet : (input text : List ℕ) →

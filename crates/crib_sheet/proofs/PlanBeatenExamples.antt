@@ -3,19 +3,20 @@ use Rattle.std.specs.Prelude.{◌≡◌, ◌≤◌, ◌==◌, ℕ, Bool, true, f
 use Rattle.std.proofs.Common.{arith}
 use Rattle.std.specs.List.{All, list_any}
 use Rattle.std.specs.Fmt.{digits}
+use Rattle.std.proofs.lemmas.List.Elements.{All-head}
 use Rattle.crib_problem.specs.Setup.{Setup}
+use Rattle.crib_problem.proofs.ExampleProblems.{four_twos, aces}
 use Rattle.crib_plan.specs.declared.plan.Node.{Node}
 use Rattle.crib_game.specs.declared.section.game.Game.{Game}
-use Rattle.crib_game.specs.declared.following.ending.Ending.{Ending}
-use Rattle.crib_check.specs.declared.verdict.Verdict.TheVariants.{Fails}
-use Rattle.crib_beaten.specs.Beaten.{Beats}
-use Rattle.crib_know.specs.Hidden.{IsOpen}
-use Rattle.crib_deals.specs.Exact.{AreExactly}
+use Rattle.crib_game.specs.declared.following.ending.Ending.TheVariants.{Stuck}
+use Rattle.crib_check.specs.declared.verdict.Verdict.TheVariants.{Fails, Holds}
+use Rattle.crib_beaten.proofs.TermExamples.{aces_are_open, aces_beat_it, in_none, unheld}
 use Rattle.crib_beaten.specs.Terms.{AreBestFirst, AreRows}
 use Rattle.crib_beaten.specs.declared.rows.Row.{Row}
 use Rattle.crib_beaten.specs.declared.rows.Rows.{Rows}
 use Rattle.crib_plan_sheet.specs.PlanText.{label, rank_words}
-use Rattle.crib_sheet.specs.PlanBeaten.{AreHands, AreHandsOf, AreBeating, AreBeatingOf}
+use Rattle.crib_plan_sheet.specs.PlanSheetSize.{longest_line}
+use Rattle.crib_sheet.specs.PlanBeaten.{AreHands, AreHandsOf, AreBeating, AreBeatingOf, IsAligned}
 use Rattle.crib_sheet.specs.PlanBeaten.{deals_word, grouped, hands_text, deals_line, beating_text, others_line, rows_lines, slot_part, slot_text, term_text}
 
 -- ---- slots
@@ -42,6 +43,10 @@ nines = record { term = a_nine ∷ a_nine ∷ ten_to_king ∷ of_any ∷ []; dea
 
 abbrev one_deal : Row
 one_deal = record { term = of_any ∷ of_any ∷ of_any ∷ ace_three_four ∷ []; deals = 1 }
+
+-- `(A 3 4) (A 3 4) (A 3 4) K`
+abbrev with_a_king : Row
+with_a_king = record { term = ace_three_four ∷ ace_three_four ∷ ace_three_four ∷ slot_of (13 ∷ []) ∷ []; deals = 1 }
 
 figures_in_words :
     (map grouped (0 ∷ 820 ∷ 1000 ∷ 59040 ∷ 121738020 ∷ []) ≡ codes "0" ∷ codes "820" ∷ codes "1,000" ∷ codes "59,040" ∷ codes "121,738,020" ∷ [])
@@ -71,9 +76,12 @@ unfolding beating_text deals_line digits slot_text label rank_words
 paragraphs = (refl, refl, refl)
 
 -- ---- when the figures are right
-what_is_counted : (problem : Setup) (plan : List Node) (open_deals beaten : ℕ) (hands : Option Rows) → AreBeating problem plan open_deals beaten hands →
-    AreExactly (IsOpen problem) open_deals × AreExactly (Beats problem plan) beaten
-what_is_counted problem plan open_deals beaten hands are = (are.are_open, are.are_beaten)
+-- four aces are open, and beat a plan that states a card that isn't held
+aces_are_counted : (hands : Option Rows) → (AreBeating four_twos unheld 0 1 hands → ⊥) × (AreBeating four_twos unheld 1 0 hands → ⊥)
+aces_are_counted hands = (
+  λ are. in_none aces are.are_open.deals ((are.are_open.each aces).1 (refl, aces_are_open)) are.are_open.counted,
+  λ are. in_none aces are.are_beaten.deals ((are.are_beaten.each aces).1 (refl, aces_beat_it)) are.are_beaten.counted,
+)
 
 -- 820 of 8,200 deals are a tenth
 rows_of_a_tenth : (problem : Setup) (plan : List Node) (rows : Rows) → AreHandsOf problem plan 8200 820 (Some rows) →
@@ -96,6 +104,30 @@ no_deal_in_a_row problem plan are = absurd (omega (arith, are.1.best_first.0))
 a_tenth_without_rows : (problem : Setup) (plan : List Node) → AreBeating problem plan 8200 820 None → ⊥
 a_tenth_without_rows problem plan are = absurd (omega (arith, are.are_hands))
 
-figures_of_a_failing_plan : (problem : Setup) (plan : List Node) (ending : Ending) (game : Game) (open_deals beaten : ℕ) (hands : Option Rows) →
-    AreBeatingOf problem plan (Fails ending game) open_deals beaten hands ≡ AreBeating problem plan open_deals beaten hands
-figures_of_a_failing_plan problem plan ending game open_deals beaten hands = refl
+-- a plan that fails isn't beaten by no deal, and a sure plan has any figures
+figures_of_verdicts : (game : Game) → (AreBeatingOf four_twos unheld (Fails Stuck game) 1 0 None → ⊥) × AreBeatingOf four_twos unheld Holds 1 0 None
+figures_of_verdicts game = ((aces_are_counted None).1, tt)
+
+-- ---- columns: a number of up to nine digits behind up to 25 bytes ends in column 39, and no other does
+too_long : ((◌≡◌ {A = ℕ} 41 40) → ⊥) × ((◌≡◌ {A = ℕ} 42 40) → ⊥)
+too_long = ((λ same. absurd cc), (λ same. absurd cc))
+
+numbers_end_in_a_column : IsAligned (codes " and others") 5 × IsAligned (term_text nines.term) 118080 × IsAligned (replicate 25 32) 121738020
+    × (IsAligned (replicate 26 32) 5 → ⊥) × (IsAligned [] 1000000000 → ⊥)
+unfolding digits deals_line slot_text label rank_words
+numbers_end_in_a_column = (refl, refl, refl, too_long.0, too_long.1)
+
+-- a row of 26 columns, and numbers of ten digits
+rows_out_of_their_columns : (problem : Setup) (plan : List Node) (rows : Rows) → AreHands problem plan rows →
+    (rows.rows.items ≡ with_a_king ∷ [] → ⊥) × (rows.rows.items ≡ record one_deal { deals = 1000000000 } ∷ [] → ⊥) × (rows.others ≡ 1000000000 → ⊥)
+unfolding digits deals_line slot_text label rank_words
+rows_out_of_their_columns problem plan rows are = (
+  λ same. absurd (omega (arith, All-head (λ (row : Row). length (term_text row.term) ≤ 24) with_a_king [] (rw same at are.narrow))),
+  λ same. too_long.1 (All-head (λ (row : Row). IsAligned (term_text row.term) row.deals) (record one_deal { deals = 1000000000 }) [] (rw same at are.aligned)),
+  λ same. too_long.1 (rw same at are.others_aligned),
+)
+
+-- the longest line of the paragraph above is its last one
+no_wide_line : longest_line 0 (beating_text 122175900 437880 (Some (record { rows = record { items = nines ∷ [] }; others = 319800 }))) ≡ 73
+unfolding beating_text deals_line digits slot_text label rank_words
+no_wide_line = refl

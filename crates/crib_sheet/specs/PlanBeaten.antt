@@ -1,5 +1,5 @@
 -- The deals that beat a plan that is not sure, in words.
-use Rattle.std.specs.Prelude.{ℕ, ◌<◌, ◌≤◌, ◌-◌, ◌/◌, ◌%◌, ◌==◌, Bool, false, ◌&&◌, Option, None, Some}
+use Rattle.std.specs.Prelude.{◌≡◌, ℕ, ◌<◌, ◌≤◌, ◌-◌, ◌/◌, ◌%◌, ◌==◌, Bool, false, ◌&&◌, Option, None, Some}
 use Rattle.std.specs.Prelude.{List, [], ◌∷◌, ◌++◌, length, flat_map}
 use Rattle.std.specs.Prelude.{count_by, replicate, nat_le, nat_lt, codes, decimal, if◌then◌else◌}
 use Rattle.std.specs.List.{All, list_all}
@@ -14,6 +14,7 @@ use Rattle.crib_deals.specs.Exact.{AreExactly}
 use Rattle.crib_beaten.specs.Terms.{AreBestFirst, AreRows}
 use Rattle.crib_beaten.specs.declared.rows.Row.{Row}
 use Rattle.crib_beaten.specs.declared.rows.Rows.{Rows}
+use Rattle.crib_plan_sheet.specs.PlanSheetSize.{longest_line}
 use Rattle.crib_plan_sheet.specs.PlanText.{label}
 
 -- ---- numbers
@@ -49,6 +50,10 @@ unfoldable pub deals_line : List ℕ → ℕ → List ℕ → List ℕ
 deals_line front deals word =
     codes "   " ++ front ++ replicate (25 - length front) space ++ replicate (11 - length (grouped deals)) space
     ++ grouped deals ++ word ++ codes "\n"
+
+-- the number of a line ends in column 39: as far as that, and with the line feed, the line has 40 bytes
+abbrev pub IsAligned : List ℕ → ℕ → Type 0
+IsAligned front deals = length (deals_line front deals []) ≡ 40
 
 -- the word behind a number of deals
 abbrev pub deals_word : ℕ → List ℕ
@@ -99,11 +104,13 @@ abbrev pub IsLeast : Setup → ℕ → Type 0
 IsLeast problem least = (plan : List Node) (count : ℕ) → AreExactly (Beats problem plan) count → least ≤ count
 
 -- rows are right: exactly so many deals that beat the plan meet a row and none above. Each has one at least, and none
--- below has more. Each leaves a blank before the column of these numbers
+-- below has more. Each leaves a blank before the column of these numbers, and all numbers end in one column
 pub record AreHands (problem : Setup) (plan : List Node) (rows : Rows) : Type 0 where
   pub exact : AreRows problem plan [] rows.rows.items rows.others
   pub best_first : AreBestFirst rows.rows.items
   pub narrow : All (λ (row : Row). length (term_text row.term) ≤ 24) rows.rows.items
+  pub aligned : All (λ (row : Row). IsAligned (term_text row.term) row.deals) rows.rows.items
+  pub others_aligned : IsAligned (codes " and others") rows.others
 
 -- rows beside figures are right. There are none if more than a tenth of the deals beat the plan
 abbrev pub AreHandsOf : Setup → List Node → ℕ → ℕ → Option Rows → Type 0
@@ -111,12 +118,13 @@ AreHandsOf problem plan open_deals beaten None = open_deals / 10 < beaten
 AreHandsOf problem plan open_deals beaten (Some rows) = (beaten ≤ open_deals / 10) × AreHands problem plan rows
 
 -- figures are right: exactly so many deals agree with the opening, exactly so many of them beat the plan, and the rows
--- say which do
+-- say which do. No line that says so has more than 78 columns
 pub record AreBeating (problem : Setup) (plan : List Node) (open_deals beaten : ℕ) (hands : Option Rows) : Type 0
   where
     pub are_open : AreExactly (IsOpen problem) open_deals
     pub are_beaten : AreExactly (Beats problem plan) beaten
     pub are_hands : AreHandsOf problem plan open_deals beaten hands
+    pub narrow : longest_line 0 (beating_text open_deals beaten hands) ≤ 78
 
 -- figures beside a verdict are right: those of a plan that fails are
 abbrev pub AreBeatingOf : Setup → List Node → Verdict → ℕ → ℕ → Option Rows → Type 0

@@ -1,5 +1,5 @@
 //! The deals that beat a plan that is not sure.
-ghost use Rattle.std.specs.Prelude.{IfOk, List};
+ghost use Rattle.std.specs.Prelude.{IfOk, List, ◌<◌, ◌^◌};
 ghost use Rattle.crib_plan.specs.declared.plan.Node.{Node};
 ghost use Rattle.crib_beaten.specs.Tally.{IsTally};
 ghost use Rattle.crib_sheet.specs.PlanBeaten.{AreBeating, AreBeatingOf, AreHandsOf, IsLeast};
@@ -55,9 +55,12 @@ pub(crate) fn figures_of<A: Allocator, B: Allocator>(
 // Returns rows that say which hands beat a plan, unless more than a tenth of all deals do.
 fn hands_of<A: Allocator>(problem: &Problem, tally: &Tally<A>) -> Option<Rows>
     requires { (plan : List Node) × IsTally problem.now plan tally.now }
-    ensures { (plan : List Node) → IsTally problem.now plan tally.now
+    ensures right { (plan : List Node) → IsTally problem.now plan tally.now
         → AreHandsOf problem.now plan tally.now.open_deals tally.now.beaten result }
+    ensures bytes { (tally.now.open_deals < 2 ^ 32) × (tally.now.beaten < 2 ^ 32) }
 {
+    // The proof reads from this use that the number has four bytes.
+    let _beaten = tally.beaten;
     if tally.open_deals / 10 < tally.beaten {
         None
     } else {

@@ -4,6 +4,7 @@ pub mod ThrowLists
 pub mod ThrowCounts
 pub mod OpenDeals
 pub mod ListedHolds
+pub mod HoldMultiples
 pub mod WeighedSums
 pub mod TableRows
 mod Examples

@@ -10,9 +10,7 @@ use Rattle.crib_cards.specs.Order.{are_rising}
 use Rattle.crib_cards.specs.Sets.{has, rank_counts, set_of, set_where, set_without_all}
 use Rattle.crib_cards.specs.declared.sides.Dealt.{Dealt}
 use Rattle.crib_cards.proofs.AllEntries.{all_both}
-use Rattle.crib_cards.proofs.Members.{all_has}
 use Rattle.crib_cards.proofs.SetFacts.{are_rising-set_where}
-use Rattle.crib_cards.proofs.SetLemmas.{IsCardSet-set_where}
 use Rattle.crib_problem.specs.Setup.{Setup, IsSetup, unseen_of, fixed_cards}
 use Rattle.crib_know.specs.Hidden.{passes_counts}
 use Rattle.crib_know.specs.Knowledge.{Knowledge, played_events}
@@ -29,6 +27,7 @@ use Rattle.crib_deals.specs.Throws.{passing_throws}
 use Rattle.crib_deals.proofs.ExactCounts.{exactly_none, exactly_same}
 use Rattle.crib_deals.proofs.NumberedDeals.{AreNumbered, all_below, next_below, none_below}
 use Rattle.crib_deals.proofs.OpenDeals.{held, left_forty_one, may_hold, open_from, open_to}
+use Rattle.crib_deals.proofs.OpenDeals as deals
 use Rattle.crib_deals.proofs.ThrowLists.{all_throws, every_throw}
 
 -- ---- four cards by the number of their suits
@@ -155,8 +154,7 @@ module _ {problem : Setup} {know : Knowledge} {cribs : Cribs} (of : AreOfProblem
       may_here = sym here ∙ may
 
       pub is_held : IsHeld (unseen_of problem) hold
-      is_held = let is = held of.knows.setup hold may_here in
-          record { four = four; set = IsCardSet-set_where _; rising = is.0; among = λ card. all_has (has (unseen_of problem)) hold card is.1 }
+      is_held = deals.is_held of.knows.setup hold may_here four
 
       -- otherwise the throws that it leaves
       pub some_held : passes_counts know.least know.ranks_seen (rank_counts ranks) ≡ true → (test : List ℕ → List ℕ → Bool) →

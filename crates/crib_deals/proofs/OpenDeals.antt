@@ -11,7 +11,7 @@ use Rattle.crib_cards.specs.Deals.{is_in_pack_order}
 use Rattle.crib_cards.specs.declared.sides.Dealt.{Dealt}
 use Rattle.crib_cards.proofs.Members.{AreAmong, AreCards, all_cards, all_has, all_from, distinct_append, distinct_apart, has_here}
 use Rattle.crib_cards.proofs.SetFacts.{are_distinct-set_where, has-append, has-set_of, in_set_where, set_of-rising}
-use Rattle.crib_cards.proofs.SetLemmas.{has-set_where}
+use Rattle.crib_cards.proofs.SetLemmas.{IsCardSet-set_where, has-set_where}
 use Rattle.crib_problem.specs.Setup.{Setup, IsSetup, known_cards, unseen_of, fixed_cards, IsDealOf}
 use Rattle.crib_problem.proofs.KnownLemmas.{unseen_count}
 use Rattle.crib_know.specs.Knowledge.{played_events, their_ranks, least_value}
@@ -70,6 +70,10 @@ module _ {problem : Setup} (setup : IsSetup problem) where
       held_card : AreCards hold
       held_card card h = (in_set_where (λ c. not (has (known_cards problem) c)) card (all_has (has unseen) hold card held.1 h)).0
 
+      pub is_held : length hold ≡ 4 → IsHeld unseen hold
+      is_held four =
+          record { four = four; set = IsCardSet-set_where _; rising = held.0; among = λ card. all_has (has unseen) hold card held.1 }
+
     pub left_forty_one : IsHeld unseen hold → length left ≡ 41
     left_forty_one is =
         let cards = all_cards hold (λ card h. (in_set_where (λ c. not (has (known_cards problem) c)) card (is.among card h)).0) in
@@ -97,35 +101,38 @@ module _ {problem : Setup} (setup : IsSetup problem) where
     thrown_rising : are_rising dealt.throw ≡ true
     thrown_rising = grind (arith, nat_tests, order)
 
-    pub open_to : IsOpen problem dealt → IsFree dealt
-    open_to agrees = (
-      grind (arith, nat_tests, order, all_from (has unseen) dealt.hold (hold_unseen problem setup dealt agrees.0), fixed_none dealt.hold agrees.0.fixed),
-      agrees.0.deal.held,
-      throw_of (left dealt.hold) dealt.throw agrees.0.deal.thrown thrown_rising (λ card h.
+    pub free_from : IsDealOf problem dealt → IsFree dealt
+    free_from is = (
+      grind (arith, nat_tests, order, all_from (has unseen) dealt.hold (hold_unseen problem setup dealt is), fixed_none dealt.hold is.fixed),
+      is.deal.held,
+      throw_of (left dealt.hold) dealt.throw is.deal.thrown thrown_rising (λ card h.
           let there = has-append dealt.hold dealt.throw card ∙ or_right _ _ h in
-          let apart = distinct_apart dealt.hold dealt.throw card agrees.0.deal.distinct in
-          has_set_from _ card (hidden setup agrees.0 card there).0 (grind (arith, nat_tests, h, six_unseen problem setup dealt agrees.0 card there, apart))),
+          let apart = distinct_apart dealt.hold dealt.throw card is.deal.distinct in
+          has_set_from _ card (hidden setup is card there).0 (grind (arith, nat_tests, h, six_unseen problem setup dealt is card there, apart))),
     )
 
-    pub open_from : IsPossible problem (played_events problem) → passes (least_value problem (played_events problem)) (rank_counts (their_ranks
-        (played_events problem))) dealt.hold ≡ true → IsFree dealt → IsOpen problem dealt
-    open_from possible passes free =
-        passing_agrees problem setup dealt is_deal (played_events problem) (possible_led problem setup (played_events problem) possible)
-        (passes_to (least_value problem (played_events problem)) (their_ranks (played_events problem)) dealt.hold passes)
+    pub deal_from : IsFree dealt → IsDealOf problem dealt
+    deal_from free = let held = held dealt.hold free.0 in record {
+      deal = record {
+        held = free.1;
+        thrown = ap length free.2.2;
+        distinct = distinct_append dealt.hold dealt.throw (rising_distinct dealt.hold held.0 (held_card dealt.hold free.0))
+            (rising_distinct dealt.throw thrown_rising (λ card h. (thrown_left card h).0)) (λ card is. grind (arith, nat_tests, is, thrown_left card));
+        hidden_before = rw list_all-append (and_from _ _ held.1 (all_from (has unseen) dealt.throw (λ card h. (thrown_left card h).1)));
+      };
+      fixed = fixed_held dealt.hold held.2;
+    }
       where
         thrown_left : (card : ℕ) → has dealt.throw card ≡ true → IsCard card × (has unseen card ≡ true) × (has dealt.hold card ≡ false)
         thrown_left card h =
             let throw = free.2 in
             left_is dealt.hold card (all_has (has (left dealt.hold)) dealt.throw card (rw throw.2 (grind (arith, nat_tests, throw))) h)
 
-        is_deal : IsDealOf problem dealt
-        is_deal = let held = held dealt.hold free.0 in record {
-          deal = record {
-            held = free.1;
-            thrown = ap length free.2.2;
-            distinct = distinct_append dealt.hold dealt.throw (rising_distinct dealt.hold held.0 (held_card dealt.hold free.0))
-                (rising_distinct dealt.throw thrown_rising (λ card h. (thrown_left card h).0)) (λ card is. grind (arith, nat_tests, is, thrown_left card));
-            hidden_before = rw list_all-append (and_from _ _ held.1 (all_from (has unseen) dealt.throw (λ card h. (thrown_left card h).1)));
-          };
-          fixed = fixed_held dealt.hold held.2;
-        }
+    pub open_to : IsOpen problem dealt → IsFree dealt
+    open_to agrees = free_from agrees.0
+
+    pub open_from : IsPossible problem (played_events problem) → passes (least_value problem (played_events problem)) (rank_counts (their_ranks
+        (played_events problem))) dealt.hold ≡ true → IsFree dealt → IsOpen problem dealt
+    open_from possible passes free =
+        passing_agrees problem setup dealt (deal_from free) (played_events problem) (possible_led problem setup (played_events problem) possible)
+        (passes_to (least_value problem (played_events problem)) (their_ranks (played_events problem)) dealt.hold passes)

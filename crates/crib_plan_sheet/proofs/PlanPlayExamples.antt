@@ -167,7 +167,11 @@ in_a_row = Play 4 (To 1) ∷ Play 5 (To 2) ∷ Play 6 (To 3) ∷ Play 7 End ∷ 
 -- the first node never is apart, nor are two cards
 not_apart : OnlyLargeAreApart (λ node. node == 0) in_a_row ⊎ OnlyLargeAreApart (λ node. node == 2) in_a_row → ⊥
 not_apart (inl only) = (let first = (only 0 refl).0 in absurd (omega (arith, first)))
-not_apart (inr only) = (let large : IsTooLarge 2 0 1 = (only 2 refl).1 in omega (arith, large))
+not_apart (inr only) =
+    elim ((only 2 refl).1) [
+      | inl large ↦ (let small : IsTooLarge 2 0 1 = large in omega (arith, small))
+      | inr named ↦ absurd (both_ways false refl named)
+    ]
 
 nothing_is_apart : OnlyLargeAreApart (λ node. false) in_a_row
 nothing_is_apart node apart = absurd (both_ways false refl apart)

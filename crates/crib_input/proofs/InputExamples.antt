@@ -27,7 +27,7 @@ use Rattle.crib_input.specs.declared.reason.FaultCause.TheVariants as faults
 use Rattle.crib_text.specs.Reading.{all_lines}
 use Rattle.crib_input.specs.Input.{input_lines}
 use Rattle.crib_input.proofs.InputReaders.{read_count, read_lines, read_played, read_played_under, read_problem, read_question, refused}
-use Rattle.crib_input.specs.Refusals.{IsForPlan, ReadsAs, input_cause_number, refusal_of}
+use Rattle.crib_input.specs.Refusals.{IsForPlan, ReadsAs, fault_words, input_cause_number, refusal_of}
 use Rattle.crib_input.specs.Spelled.{SpellsGame, SpellsPlan, SpellsPlannedGame, SpellsProblem}
 
 -- ---- the sections: a problem of ten lines, a plan of three, and a game of five
@@ -95,6 +95,11 @@ too_long bytes e = subst (λ n. (if nat_le n 8388608 then all_lines bytes else r
 pub numbers_of_causes : map input_cause_number (causes.Text texts.BadLine ∷ causes.Problem BadGoal ∷ causes.Plan plans.BadSet ∷ causes.Game (Strays 1) ∷ [])
     ≡ 4 ∷ 22 ∷ 31 ∷ 46 ∷ []
 numbers_of_causes = refl
+
+pub words_of_faults : map fault_words (faults.ReadFailed ∷ faults.WriteFailed ∷ faults.NoMemory ∷ faults.TooLarge ∷ [])
+    ≡ codes "the input can't be read" ∷ codes "the answer can't be written" ∷ codes "out of memory"
+    ∷ codes "the plan that was found has too many nodes" ∷ []
+words_of_faults = refl
 
 pub line_before_number : refusal_of (record { line = 9; cause = causes.Plan plans.BadNext }) ≡ record { line = 9; number = 30 }
 line_before_number = refl

@@ -1,5 +1,5 @@
 -- The refusals of an input: the number of each cause, and the refusal as it is printed.
-use Rattle.std.specs.Prelude.{◌≡◌, ◌≢◌, ℕ, Result, Ok, Err}
+use Rattle.std.specs.Prelude.{◌≡◌, ◌≢◌, ℕ, List, Result, Ok, Err, codes}
 use Rattle.crib_text.specs.declared.fault.Fault.{Fault}
 use Rattle.crib_text.specs.Refusals as texts
 use Rattle.crib_text.specs.Refusals.{Refusal, no_memory, read_fault}
@@ -32,6 +32,13 @@ fault_number ReadFailed = read_fault
 fault_number WriteFailed = 10
 fault_number NoMemory = no_memory
 fault_number TooLarge = 50
+
+-- a fault in words
+abbrev pub fault_words : FaultCause → List ℕ
+fault_words ReadFailed = codes "the input can't be read"
+fault_words WriteFailed = codes "the answer can't be written"
+fault_words NoMemory = codes "out of memory"
+fault_words TooLarge = codes "the plan that was found has too many nodes"
 
 -- a result agrees with what was read: its value, seen through `view`, is the one that was read, or it has the same
 -- refusal. The only fault of reading is that an allocation failed

@@ -1,8 +1,8 @@
 //! Why there is no answer to a question.
-ghost use Rattle.std.specs.Prelude.{◌≡◌};
+ghost use Rattle.std.specs.Prelude.{◌≡◌, ◌≤◌, length};
 ghost use Rattle.crib_input.specs.declared.refusal.Cause.TheVariants as causes;
 ghost use Rattle.crib_input.specs.declared.reason.Reason.TheVariants as reasons;
-ghost use Rattle.crib_input.specs.Refusals.{IsForPlan, fault_number};
+ghost use Rattle.crib_input.specs.Refusals.{IsForPlan, fault_number, fault_words};
 
 use crate::refusal::{Cause, Refusal};
 use crib_plan::PlanFault;
@@ -36,16 +36,24 @@ impl FaultCause {
             FaultCause::TooLarge => 50,
         }
     }
-}
 
-impl Display for FaultCause {
-    fn fmt<W: Write>(&self, f: &mut Formatter<W>) -> fmt::Result {
-        f.write_str(match self {
+    /// Returns the fault in words, at most 42 bytes (docs/FORMATS.md, "Words on standard error").
+    pub fn words(self) -> &'static str
+        ensures text { result.now ≡ fault_words self }
+        ensures short { length result.now ≤ 42 }
+    {
+        match self {
             FaultCause::ReadFailed => "the input can't be read",
             FaultCause::WriteFailed => "the answer can't be written",
             FaultCause::NoMemory => "out of memory",
             FaultCause::TooLarge => "the plan that was found has too many nodes",
-        })
+        }
+    }
+}
+
+impl Display for FaultCause {
+    fn fmt<W: Write>(&self, f: &mut Formatter<W>) -> fmt::Result {
+        f.write_str(self.words())
     }
 }
 

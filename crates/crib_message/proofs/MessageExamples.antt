@@ -1,7 +1,8 @@
 -- Worked examples of messages: the line that is shown, its number and its mark, and the words before it.
 use Rattle.std.proofs.Common.{arith, ◌≡◌, ◌⊎◌, ◌∙◌, refl, sym, ap, subst, true, false, ℕ, List, [], ◌∷◌, ◌++◌, codes, length, map, min, Some, None, inl, inr}
-use Rattle.std.specs.Prelude.{replicate}
-use Rattle.std.specs.List.{All, list_all}
+use Rattle.std.specs.Prelude.{replicate, slice_index}
+use Rattle.std.specs.Char.{is_ascii_alphabetic}
+use Rattle.std.specs.List.{All, list_all, list_any}
 use Rattle.std.proofs.lemmas.List.{append-nil}
 use Rattle.std.specs.Fmt.{digits}
 use Rattle.std.proofs.lemmas.Bool.{and_parts, both_ways}
@@ -9,11 +10,11 @@ use Rattle.std.proofs.lemmas.List.Elements.{All-nil, All-cons, All-head}
 use Rattle.crib_text.specs.Words.{lines_of}
 use Rattle.crib_text.specs.declared.fault.TextCause.TheVariants.{BadCard}
 use Rattle.crib_input.specs.declared.refusal.Cause.TheVariants.{Text}
-use Rattle.crib_input.specs.declared.reason.FaultCause.TheVariants.{NoMemory}
+use Rattle.crib_input.specs.declared.reason.FaultCause.TheVariants.{NoMemory, ReadFailed}
 use Rattle.crib_input.specs.declared.reason.Reason.TheVariants.{Refused, Fault}
 use Rattle.crib_message.specs.declared.scene.Spot.{Spot}
 use Rattle.crib_message.specs.declared.scene.Section.TheVariants.{Problem, Plan, Game, Turns, After}
-use Rattle.crib_message.specs.Message.{IsExcerpt, IsFaultMessage, IsMark, IsMessage, IsRefusalMessage}
+use Rattle.crib_message.specs.Message.{IsExcerpt, IsMark, IsMessage, IsRefusalMessage}
 use Rattle.crib_message.specs.Message.{blanks, carets, dots, heading, hex_digit, is_plain, mark_line, marks_below, numbered_line, spot_words}
 use Rattle.crib_message.specs.Message.{section_words, shown_byte, shown_line}
 
@@ -97,15 +98,18 @@ a_card_with_10 = record {
   excerpt = codes "  2 | hold 10S\n    |      ^^^\n";
   is = refl;
   plain = all_plain (codes "\"10S\" is not a card.") refl;
+  worded = refl;
   shows = excerpt_of 2 (codes "hold ") (codes "10S") [] refl;
 }
 
 -- a fault shows no line
-pub no_memory : IsFaultMessage (codes "cribplan") (codes "cribplan: out of memory\n")
-no_memory = record { sentence = codes "out of memory"; is = refl; plain = all_plain (codes "out of memory") refl }
-
 pub message_of_a_fault : IsMessage (codes "cribplan") (codes "problem 1\n") (Fault NoMemory) (codes "cribplan: out of memory\n")
-message_of_a_fault = no_memory
+message_of_a_fault = refl
+
+-- each fault has words of its own
+pub message_of_another_fault : IsMessage (codes "cribplan") (codes "problem 1\n") (Fault ReadFailed) (codes "cribplan: out of memory\n") → ⊥
+message_of_another_fault is =
+    (let byte : 111 ≡ 116 = ap (λ bytes. slice_index bytes 10) is in absurd (omega (arith, byte)))
 
 -- ---- the parts of an excerpt
 pub hexadecimal_digits : map hex_digit (0 ∷ 9 ∷ 10 ∷ 15 ∷ []) ≡ codes "09af"
@@ -190,9 +194,12 @@ pub tab_in_a_sentence : (sentence : List ℕ) → All (λ byte. is_plain byte �
 tab_in_a_sentence sentence plain e =
     absurd (both_ways false refl (All-head (λ byte. is_plain byte ≡ true) 9 [] (subst (All (λ byte. is_plain byte ≡ true)) e plain)))
 
-pub tab_in_a_message : (program input text : List ℕ) (line : ℕ) → ((is : IsRefusalMessage program input line text) → is.sentence ≡ 9 ∷ [] → ⊥)
-    × ((is : IsFaultMessage program text) → is.sentence ≡ 9 ∷ [] → ⊥)
-tab_in_a_message program input text line = (λ is. tab_in_a_sentence is.sentence is.plain, λ is. tab_in_a_sentence is.sentence is.plain)
+pub tab_in_a_message : (program input text : List ℕ) (line : ℕ) (is : IsRefusalMessage program input line text) → is.sentence ≡ 9 ∷ [] → ⊥
+tab_in_a_message program input text line is = tab_in_a_sentence is.sentence is.plain
+
+-- a sentence has a word
+pub no_sentence_of_signs : (program input text : List ℕ) (line : ℕ) (is : IsRefusalMessage program input line text) → is.sentence ≡ codes "-" → ⊥
+no_sentence_of_signs program input text line is e = both_ways false refl (subst (λ sentence. list_any is_ascii_alphabetic sentence ≡ true) e is.worded)
 
 -- the input has no line 9, and its line 2 is shown
 pub excerpt_of_no_line : (program text : List ℕ) (is : IsRefusalMessage program two_lines 9 text) → is.excerpt ≡ codes "x" → ⊥

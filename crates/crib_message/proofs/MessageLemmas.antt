@@ -1,9 +1,12 @@
 -- Lemmas about the text of a message, which is appended piece by piece.
-use Rattle.std.proofs.Common.{◌≡◌, ℕ, ◌++◌, List, [], ◌∷◌}
+use Rattle.std.proofs.Common.{arith, ◌≡◌, ◌≤◌, ℕ, leb, ◌&&◌, ◌++◌, List, [], ◌∷◌, true, inl, inr}
+use Rattle.std.proofs.lemmas.Bool.{and_from, and_parts, cases_Bool, le-leb, leb-true, or_cases}
+use Rattle.std.specs.Char.{is_ascii_alphabetic}
+use Rattle.std.specs.List.{filter, list_any}
 use Rattle.std.proofs.Common.{refl, ap, ◌∙◌, append_assoc}
 use Rattle.std.specs.Prelude.{Some, None, MatchOption}
 use Rattle.crib_text.specs.Spelling.{line_feed}
-use Rattle.crib_message.specs.Message.{numbered_line, IsExcerpt}
+use Rattle.crib_message.specs.Message.{numbered_line, IsExcerpt, is_plain}
 
 -- four pieces, one after another
 pub four_added : (old first second third : List ℕ) (a b c d last : List ℕ) → first ≡ old ++ a → second ≡ first ++ b →
@@ -23,6 +26,34 @@ said old first second last sentence excerpt e f g = g ∙ rw (f, e) (simp append
 pub said_alone : (old first last sentence : List ℕ) → first ≡ old ++ sentence → last ≡ first ++ line_feed ∷ [] →
     last ≡ old ++ (sentence ++ line_feed ∷ [])
 said_alone old first last sentence e f = f ∙ rw e (append_assoc old sentence (line_feed ∷ []))
+
+-- letters are plain bytes, so a sentence keeps them
+plain_between : (least greatest byte : ℕ) → 32 ≤ least → greatest ≤ 126 → (leb least byte && leb byte greatest) ≡ true → is_plain byte ≡ true
+plain_between least greatest byte low high e =
+    let parts = and_parts (leb least byte) (leb byte greatest) e in
+    let from = leb-true least byte parts.0 in
+    let to = leb-true byte greatest parts.1 in
+    and_from (leb 32 byte) (leb byte 126) (le-leb 32 byte (omega (arith, low, from))) (le-leb byte 126 (omega (arith, high, to)))
+
+plain_letter : (byte : ℕ) → is_ascii_alphabetic byte ≡ true → is_plain byte ≡ true
+plain_letter byte letter =
+    elim (or_cases (leb 65 byte && leb byte 90) (leb 97 byte && leb byte 122) letter) [
+      | inl capital ↦ plain_between 65 90 byte (omega arith) (omega arith) capital
+      | inr small ↦ plain_between 97 122 byte (omega arith) (omega arith) small
+    ]
+
+pub still_worded : (bytes : List ℕ) → list_any is_ascii_alphabetic bytes ≡ true → list_any is_ascii_alphabetic (filter is_plain bytes) ≡ true
+still_worded [] none = none
+still_worded (byte ∷ bytes) any =
+    elim (cases_Bool (is_ascii_alphabetic byte)) [
+      | inl letter ↦ rw (plain_letter byte letter, letter) refl
+      | inr other ↦
+          let rest = still_worded bytes (rw other at any) in
+          elim (cases_Bool (is_plain byte)) [
+            | inl plain ↦ rw (plain, other) rest
+            | inr shown ↦ rw shown rest
+          ]
+    ]
 
 -- the excerpt of the line that the input has
 pub shows_line : (input line excerpt : List ℕ) (number : ℕ) → numbered_line input number ≡ Some line → IsExcerpt number line excerpt →

@@ -2,9 +2,12 @@
 use Rattle.std.specs.Prelude.{◌≡◌, ◌⊎◌, ◌-◌, ◌/◌, ◌%◌, ℕ, Bool, true, List, [], ◌∷◌, ◌++◌, codes}
 use Rattle.std.specs.Prelude.{decimal, flat_map, Option, None, MatchOption, All, nat_le, ◌&&◌, ◌==◌, if◌then◌else◌}
 use Rattle.std.specs.Prelude.{length, min, slice_get, slice_index}
+use Rattle.std.specs.Char.{is_ascii_alphabetic}
+use Rattle.std.specs.List.{list_any}
 use Rattle.crib_text.specs.Spelling.{line_feed}
 use Rattle.crib_text.specs.Words.{lines_of}
-use Rattle.crib_input.specs.Refusals.{refusal_of}
+use Rattle.crib_input.specs.Refusals.{fault_words, refusal_of}
+use Rattle.crib_input.specs.declared.reason.FaultCause.{FaultCause}
 use Rattle.crib_input.specs.declared.reason.Reason.{Reason}
 use Rattle.crib_input.specs.declared.reason.Reason.TheVariants.{Refused, Fault}
 use Rattle.crib_message.specs.declared.message.Message.{Message}
@@ -105,23 +108,23 @@ heading program line spot =
     if line == 0 then program ++ codes ": "
     else program ++ (codes ": line " ++ (decimal line ++ (spot_words spot ++ codes ": ")))
 
--- a message is a heading, a sentence of bytes 32 to 126, an LF, and the excerpt of the refused line if the input has it
+-- a message is a heading, a sentence of bytes 32 to 126 with a letter among them, an LF, and the excerpt of the refused
+-- line if the input has it
 pub record IsRefusalMessage (program input : List ℕ) (line : ℕ) (text : List ℕ) : Type 0 where
   pub spot : Spot
   pub sentence : List ℕ
   pub excerpt : List ℕ
   pub is : text ≡ heading program line spot ++ (sentence ++ line_feed ∷ excerpt)
   pub plain : All (λ byte. is_plain byte ≡ true) sentence
+  pub worded : list_any is_ascii_alphabetic sentence ≡ true
   pub shows : MatchOption (numbered_line input line) (excerpt ≡ []) (λ bytes. IsExcerpt line bytes excerpt)
 
--- the message of a fault names no line and shows none
-pub record IsFaultMessage (program text : List ℕ) : Type 0 where
-  pub sentence : List ℕ
-  pub is : text ≡ program ++ (codes ": " ++ (sentence ++ line_feed ∷ []))
-  pub plain : All (λ byte. is_plain byte ≡ true) sentence
+-- the message of a fault is its words. It names no line and shows none
+abbrev pub fault_text : List ℕ → FaultCause → List ℕ
+fault_text program cause = program ++ (codes ": " ++ (fault_words cause ++ line_feed ∷ []))
 
 -- the message of a reason why there is no answer
 abbrev pub IsMessage : List ℕ → List ℕ → Reason → List ℕ → Type 0
 IsMessage program input (Refused refusal) text =
     IsRefusalMessage program input (refusal_of refusal).line text
-IsMessage program input (Fault _) text = IsFaultMessage program text
+IsMessage program input (Fault cause) text = text ≡ fault_text program cause

@@ -1,7 +1,7 @@
 //! The branches of a see line, and what may be wrong with one.
 use crate::grammar::Slot;
 use crate::misfit::{BAD_LINE, BAD_NEXT, BAD_SET, number_cause};
-use crate::scene::{Scene, Word, is_blank, is_colon};
+use crate::scene::{Scene, Word, is_blank};
 use crate::sentence::{Hint, Sentence, tell, typed};
 use crate::spelling::is_word;
 use crib_input::Cause;
@@ -11,7 +11,7 @@ use crib_text::read_number;
 /// Returns why a branch does not fit, if it doesn't: for its letters first, then for its node.
 pub(crate) fn branch_cause(scene: &Scene<'_>, branch: &Word<'_>) -> Option<Cause> {
     match branch.target().bytes {
-        _ if branch.bytes.split(is_colon).count() != 2 => Some(BAD_LINE),
+        _ if branch.bytes.split(|byte| *byte == b':').count() != 2 => Some(BAD_LINE),
         _ if branch_fault(scene, branch).is_some() => Some(BAD_SET),
         target if target == b"end".as_slice() => Some(BAD_NEXT),
         target => number_cause(scene, Slot::Target, read_number(target)),

@@ -1,14 +1,14 @@
 //! The message of a refusal or a fault, as it is written to standard error.
-ghost use Rattle.std.specs.Prelude.{◌≡◌, ◌≤◌, ◌+◌, ◌++◌, length, codes, decimal};
-ghost use Rattle.std.specs.List.{filter};
+ghost use Rattle.std.specs.Prelude.{◌≡◌, ◌≤◌, ◌+◌, ◌++◌, length, codes, decimal, true};
+ghost use Rattle.std.specs.Char.{is_ascii_alphabetic};
+ghost use Rattle.std.specs.List.{filter, list_any};
 ghost use Rattle.arrayvec.specs.ArrayVec.{array_vec_len};
-ghost use Rattle.crib_message.specs.Message.{IsMessage, IsRefusalMessage, IsFaultMessage};
+ghost use Rattle.crib_message.specs.Message.{IsMessage, IsRefusalMessage, fault_text};
 ghost use Rattle.crib_message.specs.Message.{heading, is_plain, message_text, spot_words};
 
 use crate::excerpt::{excerpt_of, is_plain};
 use crate::explained::{Explained, explain};
 use crate::scene::{Scene, Section, Spot};
-use crate::sentence::Sentence;
 use arrayvec::ArrayVec;
 use crib_input::{FaultCause, Reason, Refusal, Sections};
 use itoa::Buffer;
@@ -121,7 +121,7 @@ fn refusal_message(program: &[u8], sections: Sections, input: &[u8], refusal: &R
     let scene = Scene::new(sections, input, refusal.line);
     let Explained { sentence, mark } = explain(&scene, refusal.cause);
     let mut message = headed(program, refusal.line, scene.spot);
-    message.add_sentence(sentence.0.as_str().as_bytes());
+    message.add_sentence(worded(sentence.0.as_str().as_bytes()));
     message.add(b"\n");
     if let Some(line) = scene.line {
         message.add(excerpt_of(refusal.line, line, mark).as_slice());
@@ -144,10 +144,18 @@ fn headed(program: &[u8], line: u32, spot: Spot) -> Message
 
 fn fault_message(program: &[u8], cause: FaultCause) -> Message
     requires { length program.now ≤ 20 }
-    ensures { IsFaultMessage program.now result.text.items }
+    ensures { result.text.items ≡ fault_text program.now cause }
 {
     let mut message = Message::of_program(program);
-    message.add_sentence(Sentence::of(cause).0.as_str().as_bytes());
+    message.add(cause.words().as_bytes());
     message.add(b"\n");
     message
+}
+
+// Returns a sentence, or another one if it has no letter.
+fn worded(sentence: &[u8]) -> &[u8]
+    ensures word { list_any is_ascii_alphabetic result.now ≡ true }
+    ensures short { length result.now ≤ length sentence.now + 20 }
+{
+    if sentence.iter().any(u8::is_ascii_alphabetic) { sentence } else { b"this line is refused" }
 }

@@ -35,7 +35,7 @@ pub(crate) fn count_hint(scene: &Scene<'_>) -> Hint {
     let (announcing, number) = lines.filter(|(line, _)| announces(line)).last()?;
     let row = Row::of_keyword(word_in(announcing, 0))?;
     let count = count_at(scene.input, number) as usize;
-    let above = scene.above().saturating_sub(number) as usize;
+    let above = scene.number.saturating_sub(number).saturating_sub(1) as usize;
     let found = above.saturating_add(items_from(scene, row));
     if count == found {
         return None;
@@ -54,7 +54,7 @@ fn announces(line: &[u8]) -> bool {
 
 // Returns how many lines that a row announces follow each other from the refused line on.
 fn items_from(scene: &Scene<'_>, row: Row) -> usize {
-    let lines = scene.input.split(is_line_feed).skip(scene.above() as usize);
+    let lines = scene.input.split(is_line_feed).skip(scene.number.saturating_sub(1) as usize);
     match row {
         Row::Nodes => lines.take_while(|line| is_node(line)).count(),
         _ => lines.take_while(|line| is_act(line)).count(),
@@ -120,7 +120,7 @@ pub(crate) fn sections_hint(sections: Sections) -> Sentence {
 // Returns that the expected line is missing, or in which order the lines of the section are if it is later.
 fn missing_or_moved(scene: &Scene<'_>) -> Sentence {
     let keyword = scene.row.keyword();
-    let lines = scene.input.split(is_line_feed).skip(scene.above() as usize);
+    let lines = scene.input.split(is_line_feed).skip(scene.number.saturating_sub(1) as usize);
     let words = lines.map(|line| word_in(line, 0));
     let mut others = words.take_while(|word| !is_either(word, b"plan", b"game"));
     match others.any(|word| word == keyword.as_bytes()) {

@@ -36,10 +36,6 @@ pub(crate) fn is_blank(byte: &u8) -> bool {
     *byte == b' '
 }
 
-pub(crate) fn is_colon(byte: &u8) -> bool {
-    *byte == b':'
-}
-
 pub(crate) fn is_line_feed(byte: &u8) -> bool
     ensures { result ≡ (byte.now == 10) }
 {
@@ -82,7 +78,7 @@ impl<'a> Word<'a> {
 
     /// Returns the part in front of the first colon.
     pub(crate) fn letters(&self) -> &'a [u8] {
-        self.bytes.split(is_colon).next().unwrap_or(b"")
+        self.bytes.split(|byte| *byte == b':').next().unwrap_or(b"")
     }
 
     /// Returns the part behind the first colon, or none.
@@ -206,11 +202,6 @@ impl<'a> Scene<'a> {
     /// Whether the input begins with a problem of version 2.
     pub(crate) fn is_second(&self) -> bool {
         problem_len(self.input) > 7
-    }
-
-    /// Returns the number of lines above.
-    pub(crate) fn above(&self) -> u32 {
-        self.number.saturating_sub(1)
     }
 
     /// Returns the number of lines before the section.

@@ -23,6 +23,7 @@ said_of_an_act shown = (
     excerpt = codes "  13 | own 2D\n";
     is = refl;
     plain = all_plain (codes "not your turn") refl;
+    worded = refl;
     shows = record { before = []; shown = codes "own 2D"; after = []; mark = []; cut = refl; wide = refl; is = refl; marks = inl refl };
   },
   shown,
@@ -30,7 +31,7 @@ said_of_an_act shown = (
 )
 
 nothing_said : (input : List ℕ) → IsSaid input (Fault NoMemory) [] → ⊥
-nothing_said input (message, acts, is, shown, same) = (let text = same ∙ ap (λ bytes. bytes ++ acts) is.is in cc)
+nothing_said input (message, acts, is, shown, same) = (let text = same ∙ ap (λ bytes. bytes ++ acts) is in cc)
 
 message_and_acts : (input text : List ℕ) (reason : Reason) →
     ((message acts : List ℕ) → IsMessage (codes "cribsheet") input reason message → AreShown input reason acts → ⊥) → IsSaid input reason text → ⊥

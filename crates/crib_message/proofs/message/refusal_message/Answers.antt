@@ -4,14 +4,14 @@ use Rattle.std.specs.List.{filter}
 use Rattle.std.proofs.lemmas.List.Elements.{filter_passes}
 use Rattle.crib_text.specs.Spelling.{line_feed}
 use Rattle.crib_message.specs.Message.{is_plain}
-use Rattle.crib_message.proofs.MessageLemmas.{said, said_alone, shows_line, shows_none}
+use Rattle.crib_message.proofs.MessageLemmas.{said, said_alone, shows_line, shows_none, still_worded}
 use Rattle.crib_message.proofs.message.refusal_message.Goals as goal
 
 pub returns-in-Some : goal.returns-in-Some
 returns-in-Some c =
     let line = c.args.refusal.now.line in
     let start = c.headed-message.result.text.items in
-    let sentence = filter is_plain c.as_bytes.result.now in
+    let sentence = filter is_plain c.worded.result.now in
     let excerpt = c.excerpt_of.result.items in
     let first = c.add_sentence.new.self.text.items in
     let second = c.add.new.self.text.items in
@@ -24,7 +24,8 @@ returns-in-Some c =
       is = said start first second c.add-in-Some.new.self.text.items sentence excerpt c.add_sentence.ensures.items
           c.add.ensures.items third
           ∙ ap (λ (xs : List ℕ). xs ++ (sentence ++ line_feed ∷ excerpt)) c.headed-message.ensures.items;
-      plain = filter_passes is_plain c.as_bytes.result.now;
+      plain = filter_passes is_plain c.worded.result.now;
+      worded = still_worded c.worded.result.now c.worded.ensures.word;
       shows = shows_line c.args.input.now c.in-Some.line.now excerpt line
           (sym c.new-scene.ensures ∙ ap (option_map (λ (b : Bor (List ℕ)). b.now)) c.in-Some.is) c.excerpt_of.ensures;
     }
@@ -32,7 +33,7 @@ returns-in-Some c =
 pub returns-in_default : goal.returns-in_default
 returns-in_default c =
     let start = c.headed-message.result.text.items in
-    let sentence = filter is_plain c.as_bytes.result.now in
+    let sentence = filter is_plain c.worded.result.now in
     let first = c.add_sentence.new.self.text.items in
     record {
       spot = c.new-scene.result.spot;
@@ -40,7 +41,8 @@ returns-in_default c =
       excerpt = [];
       is = said_alone start first c.add.new.self.text.items sentence c.add_sentence.ensures.items c.add.ensures.items
           ∙ ap (λ (xs : List ℕ). xs ++ (sentence ++ line_feed ∷ [])) c.headed-message.ensures.items;
-      plain = filter_passes is_plain c.as_bytes.result.now;
+      plain = filter_passes is_plain c.worded.result.now;
+      worded = still_worded c.worded.result.now c.worded.ensures.word;
       shows = shows_none c.args.input.now [] c.args.refusal.now.line
           (sym c.new-scene.ensures ∙ ap (option_map (λ (b : Bor (List ℕ)). b.now)) c.in_default.is) refl;
     }

@@ -23,6 +23,7 @@ use Rattle.crib_game.specs.Replay.{is_done_for, outcome_for, play_scores}
 use Rattle.crib_plan.specs.declared.plan.Node.{Node}
 use Rattle.crib_deals.specs.Exact.{IsIn, AreExactly}
 use Rattle.crib_beaten.specs.Beaten.{Beats}
+use Rattle.crib_bound.specs.Laws.{IsMultiple}
 use Rattle.crib_bound.specs.Worth.{MissesAfter, MayPlayAfter, IsWorth, IsStrategy}
 use Rattle.crib_bound.specs.Worth.IsWorth.{Missed, Turn, Choice}
 use Rattle.crib_bound.proofs.Plans.{plan}
@@ -163,3 +164,11 @@ strategy = record {
 
 pub two_at_least : (nodes : List Node) (count : ℕ) → AreExactly (Beats problem nodes) count → 2 ≤ count
 two_at_least nodes count exact = omega (arith, plan problem 1 2 count nodes strategy exact)
+
+-- ---- units
+-- with two holds go 1,640 deals, and a thousand deals go with no number of holds
+pub deals_of_two_holds : IsMultiple 1640 820
+deals_of_two_holds = (2, refl)
+
+pub a_thousand_deals : IsMultiple 1000 820 → ⊥
+a_thousand_deals many = let is = many.1 in absurd (omega (arith, is))

@@ -7,6 +7,7 @@ pub mod Taken
 pub mod WalkSteps
 pub mod Worths
 pub mod OpenDeals
+pub mod HoldUnits
 mod EndExamples
 mod Examples
 mod WorthExamples

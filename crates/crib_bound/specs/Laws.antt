@@ -1,5 +1,5 @@
 -- The laws of bounds.
-use Rattle.std.specs.Prelude.{◌↔◌, ℕ, ◌*◌, ◌≤◌, List, Option}
+use Rattle.std.specs.Prelude.{◌≡◌, ◌↔◌, ℕ, ◌*◌, ◌≤◌, List, Option}
 use Rattle.crib_cards.specs.declared.sides.Dealt.{Dealt}
 use Rattle.crib_cards.specs.declared.moves.Act.{Act}
 use Rattle.crib_play.specs.History.{Event, event_of}
@@ -53,3 +53,12 @@ abbrev pub NoPlayerLaw : Type 0
 NoPlayerLaw =
     (problem : Setup) (parts value : ℕ) (player : Player) → IsStrategy whole problem parts value → 1 ≤ value →
     ¬ IsSurePlayer problem player
+
+-- a number is so many times another
+abbrev pub IsMultiple : ℕ → ℕ → Type 0
+IsMultiple count unit = (times : ℕ) × (count ≡ times * unit)
+
+-- how many deals beat a plan is a multiple of a unit, whatever the plan
+abbrev pub IsUnit : Setup → ℕ → Type 0
+IsUnit problem unit =
+    (plan : List Node) (count : ℕ) → AreExactly (Beats problem plan) count → IsMultiple count unit

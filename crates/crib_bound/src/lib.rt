@@ -2,8 +2,10 @@
 #![tactic(auto)]
 
 mod laws;
+mod units;
 mod walk;
 mod weights;
 
 pub use laws::bound_law;
+pub use units::unit_of;
 pub use walk::bound_of;

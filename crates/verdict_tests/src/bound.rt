@@ -2,7 +2,7 @@
 use crate::same;
 use crate::sections::{plan, problem};
 use crib_beaten::tally_of;
-use crib_bound::bound_of;
+use crib_bound::{bound_of, unit_of};
 use refusing_alloc::Refusing;
 use std::process::Abort;
 
@@ -89,6 +89,35 @@ fn meets_the_least_number_for_a_dealer(rt: HostRuntime) {
          played 4\nopp 4S\nown TH\nopp 9C\nown 2S\n",
         2460,
     );
+}
+
+// Four twos, which count twelve in the show. The macro takes the dealer, the scores and the goal.
+macro_rules! for_goal {
+    ($dealer:literal, $score:literal, $goal:literal) => {
+        concat!(
+            "problem 2\ndealer ", $dealer, "\nscore ", $score, "\nstarter KD\nhold 2C 2D 2H 2S\nthrow 4C 6D\ngoal ",
+            $goal, "\nplayed 0\n"
+        )
+    };
+}
+
+/// A hold goes with 820 throws. They decide if the opponent's crib may take the opponent out, or if the owner may need
+/// the points of their own crib.
+#[test]
+fn the_unit_is_the_throws_of_a_hold_if_the_crib_does_not_decide(rt: HostRuntime) {
+    let units = [
+        (for_goal!("opponent", "0 0", "win"), 820),
+        (for_goal!("opponent", "100 100", "holes 13"), 820),
+        (for_goal!("opponent", "100 100", "stop"), 1),
+        (for_goal!("owner", "100 100", "stop"), 820),
+        (for_goal!("owner", "108 0", "win"), 1),
+        (for_goal!("owner", "109 0", "win"), 820),
+        (for_goal!("owner", "0 0", "holes 13"), 1),
+        (for_goal!("owner", "0 0", "holes 12"), 820),
+    ];
+    for (of, unit) in &units {
+        same(&rt, unit_of(&problem(&rt, of)), *unit);
+    }
 }
 
 /// It allocates for the tables alone, which a pone with this goal doesn't need.

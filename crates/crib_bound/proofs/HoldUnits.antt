@@ -1,0 +1,149 @@
+-- If the throw doesn't decide whether the goal is reached, how many deals beat a plan is a multiple of 820.
+use Rattle.std.proofs.Common.{◌≡◌, ◌↔◌, ◌⊎◌, ℕ, ◌+◌, ◌-◌, ◌<◌, ◌≤◌, min, Bool, true, false, not, ◌&&◌, ◌||◌, leb, ltb, List}
+use Rattle.std.proofs.Common.{refl, sym, ap, ◌∙◌, inl, inr, arith}
+use Rattle.std.proofs.lemmas.Bool.{cases_lt}
+use Rattle.std.proofs.lemmas.Bool.Decides.{nat_tests}
+use Rattle.crib_cards.specs.declared.sides.Dealt.{Dealt}
+use Rattle.crib_cards.specs.declared.sides.Scores.{Scores}
+use Rattle.crib_cards.specs.declared.sides.Side.TheVariants.{Owner, Opponent}
+use Rattle.crib_show.specs.Demands.{IsShowAt}
+use Rattle.crib_show.specs.Outcome.{outcome_of}
+use Rattle.crib_show.specs.Show.{hand_points}
+use Rattle.crib_show.specs.declared.show.outcomes.Outcome.TheVariants.{Reached}
+use Rattle.crib_show.proofs.ShowDemands.{dealer_met, pone_met, show_lost, show_reached}
+use Rattle.crib_problem.specs.Setup.{Setup, IsSetup, IsDealOf, is_stop, target_of}
+use Rattle.crib_plan.specs.declared.plan.Node.{Node}
+use Rattle.crib_game.specs.Replay.{full_with, play_scores}
+use Rattle.crib_sure.proofs.PointsOfDeals as points
+use Rattle.crib_deals.specs.Exact.{AreExactly}
+use Rattle.crib_deals.proofs.HoldMultiples.{dealt_by, multiple_of_820}
+use Rattle.crib_beaten.specs.Beaten.{Beats}
+use Rattle.crib_players.specs.Players.{Player, follower_of}
+use Rattle.crib_bound.specs.BeatenPlayers.{BeatsPlayer}
+use Rattle.crib_bound.specs.Laws.{IsMultiple}
+use Rattle.crib_bound.specs.Private.HoldOutcomes.{IsByHold}
+use Rattle.crib_bound.proofs.Plans.{same}
+
+-- ---- the outcome by the hold
+module _ {problem : Setup} (setup : IsSetup problem) (scores : Scores) where
+  abbrev target : ℕ
+  target = target_of problem
+
+  abbrev own : ℕ
+  own = hand_points problem.hold problem.starter
+
+  -- a test of the hold says whether a deal reaches the goal at these scores
+  abbrev IsTested : Type 0
+  IsTested = (met : List ℕ → Bool) × ((dealt : Dealt) → IsDealOf problem dealt →
+      (met dealt.hold ≡ true) ↔ (outcome_of (full_with problem dealt scores) ≡ Reached))
+
+  show : (dealt : Dealt) → IsDealOf problem dealt →
+      IsShowAt problem.dealer scores target (is_stop problem.goal) own (full_with problem dealt scores)
+  show dealt deal = record {
+    dealer_is = refl;
+    scores_are = refl;
+    target_is = refl;
+    stop_is = refl;
+    own_hand_is = refl;
+    few_hand = points.few_hand setup deal;
+    few_crib = points.few_crib setup deal;
+  }
+
+  -- the scores and the goal are such that the crib doesn't count
+  abbrev IsWithoutCrib : Type 0
+  IsWithoutCrib = ((problem.dealer ≡ Opponent) × (is_stop problem.goal ≡ false))
+      ⊎ ((problem.dealer ≡ Owner) × ((is_stop problem.goal ≡ true) ⊎ (target ≤ min 121 (scores.owner + own))))
+
+  pone_test : (goal many : Bool) (score : ℕ) → goal ≡ false → (ltb score target && (many || not goal)) ≡ not (leb target score)
+  pone_test goal many score is = grind (arith, nat_tests, is)
+
+  dealer_test : (goal few many : Bool) → (few && not goal) ≡ false → (many || (few && not goal)) ≡ not (not many)
+  dealer_test goal few many none = grind (arith, nat_tests, none)
+
+  to_stop : (goal few : Bool) → goal ≡ true → (few && not goal) ≡ false
+  to_stop goal few is = grind (arith, nat_tests, is)
+
+  past_it : (goal few : Bool) → few ≡ false → (few && not goal) ≡ false
+  past_it goal few is = grind (arith, nat_tests, is)
+
+  at_or_past : (crib : ℕ) → target ≤ min 121 (scores.owner + own) → ltb (min 121 (min 121 (scores.owner + own) + crib)) target ≡ false
+  at_or_past crib enough = grind (arith, nat_tests, enough)
+
+  undecided : scores.owner < target → scores.opponent < 121 → IsWithoutCrib → IsTested
+  undecided low few (inl pone) = (
+    λ hold. leb target (min 121 (scores.owner + own)),
+    λ dealt deal. pone_met (show dealt deal) low few pone.0 (pone_test (is_stop problem.goal) _ _ pone.1),
+  )
+  undecided low few (inr (dealer, inl stop)) = (
+    λ hold. not (leb (121 - scores.opponent) (hand_points hold problem.starter)),
+    λ dealt deal. dealer_met (show dealt deal) low few dealer (dealer_test (is_stop problem.goal) _ _ (to_stop _ _ stop)),
+  )
+  undecided low few (inr (dealer, inr enough)) = (
+    λ hold. not (leb (121 - scores.opponent) (hand_points hold problem.starter)),
+    λ dealt deal. dealer_met (show dealt deal) low few dealer (dealer_test (is_stop problem.goal) _ _ (past_it _ _ (at_or_past _ enough))),
+  )
+
+  tested : IsWithoutCrib → IsTested
+  tested without = elim (cases_lt scores.owner target) [
+    | inl low ↦ elim (cases_lt scores.opponent 121) [
+      | inl few ↦ undecided low few without
+      | inr lost ↦ (λ hold. false, λ dealt deal. show_lost (show dealt deal) low lost refl)
+    ]
+    | inr reached ↦ (λ hold. true, λ dealt deal. show_reached (show dealt deal) reached refl)
+  ]
+
+  same_outcome : IsWithoutCrib → (dealt other : Dealt) → IsDealOf problem dealt → IsDealOf problem other → dealt.hold ≡ other.hold →
+      outcome_of (full_with problem dealt scores) ≡ Reached → outcome_of (full_with problem other scores) ≡ Reached
+  same_outcome without dealt other deal also hold reached =
+      let test = tested without in (test.1 other also).0 (sym (ap test.0 hold) ∙ (test.1 dealt deal).1 reached)
+
+-- the scores after the play are no less than those before it
+still_enough : (target score points own : ℕ) → target ≤ 121 → target ≤ score + own → target ≤ min 121 (min 121 (score + points) + own)
+still_enough target score points own few enough = omega (arith, few, enough)
+
+module _ {problem : Setup} (setup : IsSetup problem) where
+  pub by_pone : problem.dealer ≡ Opponent → is_stop problem.goal ≡ false → IsByHold problem
+  by_pone pone goal = record {
+    setup = setup;
+    same = λ dealt other played. same_outcome setup (play_scores problem played) (inl (pone, goal)) dealt other;
+  }
+
+  pub by_stop : problem.dealer ≡ Owner → is_stop problem.goal ≡ true → IsByHold problem
+  by_stop dealer goal = record {
+    setup = setup;
+    same = λ dealt other played. same_outcome setup (play_scores problem played) (inr (dealer, inl goal)) dealt other;
+  }
+
+  pub by_hand : problem.dealer ≡ Owner → target_of problem ≤ 121 →
+      target_of problem ≤ problem.scores.owner + hand_points problem.hold problem.starter → IsByHold problem
+  by_hand dealer few enough = record {
+    setup = setup;
+    same = λ dealt other played. same_outcome setup (play_scores problem played) (inr (dealer, inr (still_enough _ problem.scores.owner _ _ few enough)))
+        dealt other;
+  }
+
+-- ---- the deals that beat a plan
+module _ {problem : Setup} (by : IsByHold problem) where
+  beats_other : (player : Player) (dealt : Dealt) (throw : List ℕ) → BeatsPlayer problem player dealt → IsDealOf problem (dealt_by dealt.hold throw) →
+      BeatsPlayer problem player (dealt_by dealt.hold throw)
+  beats_other player dealt throw beats deal = record {
+    played = beats.played;
+    by = record { deal = deal; legal = beats.by.legal; begins = beats.by.begins; by = beats.by.by };
+    failure = elim beats.failure [
+      | inl missed ↦ inl (record {
+        done = missed.done;
+        missed = λ reached. missed.missed (by.same (dealt_by dealt.hold throw) dealt beats.played deal beats.by.deal refl reached);
+      })
+      | inr loss ↦ inr loss
+    ];
+  }
+
+  pub of_hold : (plan : List Node) (count : ℕ) → AreExactly (Beats problem plan) count → IsMultiple count 820
+  of_hold plan count exact = multiple_of_820 by.setup (record {
+    deal = λ dealt beats. ((same problem plan dealt).0 beats).by.deal;
+    other = λ dealt throw beats deal. (same problem plan (dealt_by dealt.hold throw)).1
+        (beats_other (follower_of problem plan) dealt throw ((same problem plan dealt).0 beats) deal);
+  }) exact
+
+pub of_one : (count : ℕ) → IsMultiple count 1
+of_one count = (count, omega arith)

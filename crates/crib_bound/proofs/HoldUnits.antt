@@ -7,13 +7,12 @@ use Rattle.crib_cards.specs.declared.sides.Dealt.{Dealt}
 use Rattle.crib_cards.specs.declared.sides.Scores.{Scores}
 use Rattle.crib_cards.specs.declared.sides.Side.TheVariants.{Owner, Opponent}
 use Rattle.crib_show.specs.Demands.{IsShowAt}
-use Rattle.crib_show.specs.Outcome.{outcome_of}
 use Rattle.crib_show.specs.Show.{hand_points}
 use Rattle.crib_show.specs.declared.show.outcomes.Outcome.TheVariants.{Reached}
 use Rattle.crib_show.proofs.ShowDemands.{dealer_met, pone_met, show_lost, show_reached}
 use Rattle.crib_problem.specs.Setup.{Setup, IsSetup, IsDealOf, is_stop, target_of}
 use Rattle.crib_plan.specs.declared.plan.Node.{Node}
-use Rattle.crib_game.specs.Replay.{full_with, play_scores}
+use Rattle.crib_game.specs.Replay.{full_with, outcome_for, play_scores}
 use Rattle.crib_sure.proofs.PointsOfDeals as points
 use Rattle.crib_deals.specs.Exact.{AreExactly}
 use Rattle.crib_deals.proofs.HoldMultiples.{dealt_by, multiple_of_820}
@@ -35,7 +34,7 @@ module _ {problem : Setup} (setup : IsSetup problem) (scores : Scores) where
   -- a test of the hold says whether a deal reaches the goal at these scores
   abbrev IsTested : Type 0
   IsTested = (met : List ℕ → Bool) × ((dealt : Dealt) → IsDealOf problem dealt →
-      (met dealt.hold ≡ true) ↔ (outcome_of (full_with problem dealt scores) ≡ Reached))
+      (met dealt.hold ≡ true) ↔ (outcome_for problem dealt scores ≡ Reached))
 
   show : (dealt : Dealt) → IsDealOf problem dealt →
       IsShowAt problem.dealer scores target (is_stop problem.goal) own (full_with problem dealt scores)
@@ -93,7 +92,7 @@ module _ {problem : Setup} (setup : IsSetup problem) (scores : Scores) where
   ]
 
   same_outcome : IsWithoutCrib → (dealt other : Dealt) → IsDealOf problem dealt → IsDealOf problem other → dealt.hold ≡ other.hold →
-      outcome_of (full_with problem dealt scores) ≡ Reached → outcome_of (full_with problem other scores) ≡ Reached
+      outcome_for problem dealt scores ≡ Reached → outcome_for problem other scores ≡ Reached
   same_outcome without dealt other deal also hold reached =
       let test = tested without in (test.1 other also).0 (sym (ap test.0 hold) ∙ (test.1 dealt deal).1 reached)
 

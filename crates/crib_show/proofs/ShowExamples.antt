@@ -100,7 +100,7 @@ pub rows_to_the_end : rows_from 121 (record { owner = 2; opponent = 119 }) count
 rows_to_the_end = refl
 
 -- a hand without points has a row
-pub row_without_points : rows_from 121 (record { owner = 2; opponent = 3 }) (record { crib = false; side = Opponent; points = 0 } ∷ [])
+pub row_without_points : rows_from 121 (record { owner = 2; opponent = 3 }) ((false, Opponent, 0) ∷ [])
     ≡ record { crib = false; side = Opponent; points = 0; scores = record { owner = 2; opponent = 3 } } ∷ []
 row_without_points = refl
 

@@ -2,14 +2,13 @@
 use Rattle.std.specs.Prelude.{◌≡◌, List}
 use Rattle.crib_cards.specs.declared.sides.Dealt.{Dealt}
 use Rattle.crib_cards.specs.declared.moves.Move.{Move}
-use Rattle.crib_show.specs.Outcome.{outcome_of}
 use Rattle.crib_show.specs.declared.show.outcomes.Outcome.TheVariants.{Reached}
 use Rattle.crib_problem.specs.Setup.{Setup, IsSetup, IsDealOf}
-use Rattle.crib_game.specs.Replay.{full_of}
+use Rattle.crib_game.specs.Replay.{outcome_for, play_scores}
 
 -- if one of two deals with the same hold reaches the goal after a record, so does the other
 pub record IsByHold (problem : Setup) : Type 0 where
   pub setup : IsSetup problem
   pub same : (dealt other : Dealt) (played : List Move) → IsDealOf problem dealt → IsDealOf problem other →
-      dealt.hold ≡ other.hold → outcome_of (full_of problem dealt played) ≡ Reached →
-      outcome_of (full_of problem other played) ≡ Reached
+      dealt.hold ≡ other.hold → outcome_for problem dealt (play_scores problem played) ≡ Reached →
+      outcome_for problem other (play_scores problem played) ≡ Reached

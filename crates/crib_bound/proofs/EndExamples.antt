@@ -1,10 +1,10 @@
 -- Worked examples of deals that miss a demand at the end, and of what is taken.
-use Rattle.std.proofs.Common.{◌≡◌, ℕ, ◌+◌, true, false, [], ◌∷◌, map, refl}
+use Rattle.std.proofs.Common.{◌≡◌, ℕ, ◌+◌, true, false, List, [], ◌∷◌, map, refl}
 use Rattle.crib_cards.specs.declared.sides.Dealt.{Dealt}
 use Rattle.crib_show.specs.Show.{hand_points, crib_points}
 use Rattle.crib_show.specs.declared.demands.Demand.{Demand}
 use Rattle.crib_problem.proofs.ExampleProblems.{four_twos}
-use Rattle.crib_bound.specs.Private.Walks.{index_of, misses_at, taken_of}
+use Rattle.crib_bound.specs.Private.Walks.{entry_of, grade_of, index_of, misses_at, taken_of}
 
 -- AC 5C 9C QC count ten with the starter KD, four of them for the flush, and AD 5C 9C QC count six
 abbrev clubs : Dealt
@@ -20,16 +20,34 @@ at_most points = record { hand = points; total = 255; crib = 0 }
 one_choice : index_of clubs ≡ index_of mixed
 one_choice = refl
 
-some_deals_of_it_miss : map (λ (dealt : Dealt). misses_at four_twos (at_most 9) (index_of clubs) dealt) (clubs ∷ mixed ∷ []) ≡ true ∷ false ∷ []
+some_deals_of_it_miss : map (λ (dealt : Dealt). misses_at index_of four_twos (at_most 9) (index_of clubs) dealt) (clubs ∷ mixed ∷ []) ≡ true ∷ false ∷ []
 unfolding hand_points crib_points
 some_deals_of_it_miss = refl
 
-no_deals_of_another : misses_at four_twos (at_most 9) (index_of clubs + 1) clubs ≡ false
+no_deals_of_another : misses_at index_of four_twos (at_most 9) (index_of clubs + 1) clubs ≡ false
 no_deals_of_another = refl
 
 -- of the choice with the first index three parts of five are taken
 abbrev four_aces : Dealt
 four_aces = record { hold = 0 ∷ 1 ∷ 2 ∷ 3 ∷ []; throw = 8 ∷ 9 ∷ [] }
 
-three_of_five : taken_of (5 ∷ []) (2 ∷ []) four_aces ≡ 3
+three_of_five : taken_of index_of (5 ∷ []) (2 ∷ []) four_aces ≡ 3
 three_of_five = refl
+
+-- a ladder of hands of at most 14 points, then 13, and so on. With KD four aces count twelve, so it meets three demands
+abbrev falling : List Demand
+falling = map at_most (14 ∷ 13 ∷ 12 ∷ 11 ∷ 10 ∷ 9 ∷ 8 ∷ [])
+
+grades : map (grade_of four_twos falling) (four_aces ∷ clubs ∷ mixed ∷ []) ≡ 3 ∷ 5 ∷ 7 ∷ []
+unfolding hand_points crib_points grade_of
+grades = refl
+
+-- the second choice is that of the index 323
+entries : map (entry_of four_twos falling) (four_aces ∷ clubs ∷ mixed ∷ []) ≡ 3 ∷ 2589 ∷ 2591 ∷ []
+unfolding hand_points crib_points grade_of entry_of
+entries = refl
+
+-- a deal that misses the first demand has no grade, whatever the others
+no_grade_after_a_miss : grade_of four_twos (at_most 11 ∷ at_most 14 ∷ []) four_aces ≡ 0
+unfolding hand_points crib_points grade_of
+no_grade_after_a_miss = refl

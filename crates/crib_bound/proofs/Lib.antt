@@ -1,5 +1,6 @@
 pub mod Amounts
 pub mod Bounds
+pub mod GradeCounts
 pub mod Plans
 pub mod AgreeingDeals
 pub mod Letters

@@ -1,8 +1,8 @@
 -- The open deals, listed by the numbers of their ranks, and those of them that miss a demand.
-use Rattle.std.proofs.Common.{◌≡◌, ℕ, zero, suc, ◌+◌, ◌*◌, ◌<◌, ◌≤◌, Bool, true, false, not, ◌&&◌, cond, eqb, List, [], ◌∷◌, ◌++◌}
+use Rattle.std.proofs.Common.{◌≡◌, ℕ, zero, suc, ◌+◌, ◌*◌, ◌/◌, ◌%◌, ◌<◌, ◌≤◌, Bool, true, false, not, ◌&&◌, cond, eqb, List, [], ◌∷◌, ◌++◌}
 use Rattle.std.proofs.Common.{length, count_by, get_or, replicate, set, refl}
 use Rattle.std.proofs.Common.{Option, Some, None, sym, ap, subst, ◌∙◌, inl, inr, arith}
-use Rattle.std.proofs.lemmas.Bool.{and_from, both_ways, cases_eq, eq-eqb, ne_eqb}
+use Rattle.std.proofs.lemmas.Bool.{and_from, cases_eq, eq-eqb}
 use Rattle.std.proofs.lemmas.Bool.Decides.{nat_tests}
 use Rattle.std.proofs.lemmas.List.{get_or-set_same, get_or-set_other}
 use Rattle.crib_cards.specs.Deals.{is_in_pack_order}
@@ -17,31 +17,32 @@ use Rattle.crib_know.specs.Hidden.{IsOpen}
 use Rattle.crib_know.proofs.Deals.{hold_cards}
 use Rattle.crib_sure.specs.Shows.{meets}
 use Rattle.crib_deals.specs.Choices.{are_in_order, ranks_of_number}
-use Rattle.crib_deals.specs.Deals.{Behind, IsBehind, IsMissing, behind_by, ranks_held}
+use Rattle.crib_deals.specs.Deals.{Behind, IsMissing, behind_by, ranks_held}
 use Rattle.crib_deals.specs.Exact.{IsIn, AreExactly}
 use Rattle.crib_deals.proofs.ExactCounts.{exactly_none, exactly_same}
 use Rattle.crib_deals.proofs.NumberedDeals.{AreNumbered, all_below, next_below, none_below}
 use Rattle.crib_beaten.specs.Beaten.{counts_of}
-use Rattle.crib_beaten.proofs.Choices.{AreChoices, index_at, index_small}
+use Rattle.crib_beaten.proofs.Choices.{AreChoices}
 use Rattle.crib_beaten.proofs.HoldNumbers.{ranks_number, ranks_numbered, rising_ranks}
 use Rattle.crib_beaten.proofs.TallyRows.{open_numbered}
-use Rattle.crib_bound.specs.Private.Walks.{AreOpenDeals, AreTables, AreWeighed, IsTableAt, index_of, misses_at}
+use Rattle.crib_bound.specs.Private.Walks.{AreAdded, AreOpenDeals, AreTables, AreWeighed, IsTableAt, entry_of, grade_of, misses_at}
 use Rattle.crib_bound.proofs.Amounts.{few_in, part_few, sum_less, sum_same, sum_within}
+use Rattle.crib_bound.proofs.GradeCounts.{choice_of_entry, entry_at}
 
 -- the number of the ranks of a deal
 abbrev number_of : Dealt → ℕ
 number_of dealt = ranks_number (ranks_held dealt)
 
--- the open deals that have an index
-abbrev HasIndex : Setup → ℕ → Dealt → Type 0
-HasIndex problem index dealt = IsOpen problem dealt × (eqb index (index_of dealt) ≡ true)
+-- the open deals that have an entry
+abbrev HasEntry : Setup → List Demand → ℕ → Dealt → Type 0
+HasEntry problem ladder index dealt = IsOpen problem dealt × (eqb index (entry_of problem ladder dealt) ≡ true)
 
--- the open deals whose ranks have a smaller number, and weights that say how many of them have each index
-pub record AreBelow (problem : Setup) (number : ℕ) (weights : List ℕ) : Type 0 where
+-- the open deals whose ranks have a smaller number, and weights that say how many of them have each entry
+pub record AreBelow (problem : Setup) (ladder : List Demand) (number : ℕ) (weights : List ℕ) : Type 0 where
   pub count : ℕ
   pub exact : AreExactly (λ dealt. IsOpen problem dealt × (number_of dealt < number)) count
-  pub weighed : (index : ℕ) → AreExactly (λ dealt. HasIndex problem index dealt × (number_of dealt < number)) (get_or weights index 0)
-  pub few : (index : ℕ) → get_or weights index 0 ≤ 209920 * number
+  pub weighed : (index : ℕ) → AreExactly (λ dealt. HasEntry problem ladder index dealt × (number_of dealt < number)) (get_or weights index 0)
+  pub few : (index : ℕ) → get_or weights index 0 ≤ 8 * 209920 * number
 
 -- a further entry of a list whose entries have a property at their indices
 pub set_each : {X : Type 0} (Has : ℕ → X → Type 0) (xs : List X) (at : ℕ) (x none : X) → at < length xs → Has at x →
@@ -81,27 +82,28 @@ same_count test deals exact different to from =
 
 -- ---- one number more
 module _ {problem : Setup} (setup : IsSetup problem) where
-  numbered : (index : ℕ) → AreNumbered (HasIndex problem index) ranks_held ranks_number ranks_of_number 28561
-  numbered index = ranks_numbered (HasIndex problem index) (λ dealt is. let agrees = is.0 in (agrees.0.deal.held, hold_cards problem setup dealt agrees.0))
+  numbered : (ladder : List Demand) (index : ℕ) → AreNumbered (HasEntry problem ladder index) ranks_held ranks_number ranks_of_number 28561
+  numbered ladder index =
+      ranks_numbered (HasEntry problem ladder index) (λ dealt is. let agrees = is.0 in (agrees.0.deal.held, hold_cards problem setup dealt agrees.0))
 
-  pub none_listed : (many : ℕ) → AreBelow problem 0 (replicate many 0)
-  none_listed many = record {
+  pub none_listed : {ladder : List Demand} (many : ℕ) → AreBelow problem ladder 0 (replicate many 0)
+  none_listed {ladder} many = record {
     count = 0;
     exact = none_below (open_numbered setup);
-    weighed = λ index. rw (zeros many index) (none_below (numbered index));
+    weighed = λ index. rw (zeros many index) (none_below (numbered ladder index));
     few = λ index. omega (arith, zeros many index);
   }
 
   -- its ranks are not in order
-  pub skip_listed : {number : ℕ} {weights : List ℕ} → number < 28561 → are_in_order (ranks_of_number number) ≡ false → AreBelow problem number weights →
-      AreBelow problem (number + 1) weights
-  skip_listed {number} {weights} small not_so below = record {
+  pub skip_listed : {ladder : List Demand} {number : ℕ} {weights : List ℕ} → number < 28561 → are_in_order (ranks_of_number number) ≡ false →
+      AreBelow problem ladder number weights → AreBelow problem ladder (number + 1) weights
+  skip_listed {ladder} {number} {weights} small not_so below = record {
     count = below.count + 0;
     exact = next_below (open_numbered setup) small below.exact (exactly_none (λ dealt order is. unordered dealt order is.1));
     weighed = λ index.
         let same : get_or weights index 0 + 0 ≡ get_or weights index 0 = omega arith in
-        subst (AreExactly (λ dealt. HasIndex problem index dealt × (number_of dealt < number + 1))) same
-        (next_below (numbered index) small (below.weighed index) (exactly_none (λ dealt order is. unordered dealt order is.1)));
+        subst (AreExactly (λ dealt. HasEntry problem ladder index dealt × (number_of dealt < number + 1))) same
+        (next_below (numbered ladder index) small (below.weighed index) (exactly_none (λ dealt order is. unordered dealt order is.1)));
     few = λ index. omega (arith, below.few index);
   }
     where
@@ -109,48 +111,26 @@ module _ {problem : Setup} (setup : IsSetup problem) where
       unordered dealt order is = grind (arith, nat_tests, not_so, is, order, rising_ranks dealt.hold)
 
   -- it is that of a choice
-  pub next_listed : {number more : ℕ} {weights : List ℕ} → number < 28561 → length weights ≡ 1820 →
-      AreExactly (IsBehind (behind_by problem (ranks_of_number number))) more → more ≤ 209920 → AreBelow problem number weights →
-      AreBelow problem (number + 1) (set weights (index_at number) (get_or weights (index_at number) 0 + more))
-  next_listed {number} {more} {weights} small long exact few below = record {
-    count = below.count + more;
-    exact = next_below (open_numbered setup) small below.exact exact;
+  pub next_listed : {ladder : List Demand} {number : ℕ} {weights after : List ℕ} → number < 28561 →
+      AreAdded (behind_by problem (ranks_of_number number)) ladder weights after → AreBelow problem ladder number weights →
+      AreBelow problem ladder (number + 1) after
+  next_listed {ladder} {number} small are below = record {
+    count = below.count + are.count;
+    exact = next_below (open_numbered setup) small below.exact are.exact;
     weighed = λ index.
-        subst (AreExactly (λ dealt. HasIndex problem index dealt × (number_of dealt < number + 1))) (sym (entry index))
-        (next_below (numbered index) small (below.weighed index) (at_index index (eqb index (index_at number)) refl));
-    few = λ index. let put = entry index in let bound = below.few index in
-        let most = part_few (eqb index (index_at number)) more in
-        omega (arith, put, bound, few, most);
+        let put = are.each index in
+        subst (AreExactly (λ dealt. HasEntry problem ladder index dealt × (number_of dealt < number + 1))) (sym put.added)
+        (next_below (numbered ladder index) small (below.weighed index)
+        (exactly_same (λ dealt order is. ((is.0.0, is.1), is.0.1)) (λ dealt order is. ((is.0.0, is.1), is.0.1)) put.exact));
+    few = λ index. let put = are.each index in let bound = below.few index in omega (arith, put.added, put.few, bound);
   }
-    where
-      at : (index : ℕ) (dealt : Dealt) → ranks_held dealt ≡ ranks_of_number number → eqb index (index_of dealt) ≡ eqb index (index_at number)
-      at index dealt is = ap (λ (ranks : List ℕ). eqb index (index_among 4 (rank_counts ranks))) is
-
-      at_index : (index : ℕ) (passes : Bool) → eqb index (index_at number) ≡ passes →
-          AreExactly (λ dealt. HasIndex problem index dealt × (ranks_held dealt ≡ ranks_of_number number)) (cond passes more 0)
-      at_index index true e = exactly_same (λ dealt order is. ((is.0, at index dealt is.1 ∙ e), is.1)) (λ dealt order is. (is.0.0, is.1)) exact
-      at_index index false e = exactly_none (λ dealt order is. both_ways _ (at index dealt is.1 ∙ e) is.0.1)
-
-      entry : (index : ℕ) → get_or (set weights (index_at number) (get_or weights (index_at number) 0 + more)) index 0
-          ≡ get_or weights index 0 + cond (eqb index (index_at number)) more 0
-      entry index = elim (cases_eq index (index_at number)) [
-        | inl same ↦
-            let put = get_or-set_same weights (index_at number) (get_or weights (index_at number) 0 + more) 0
-            (omega (arith, index_small number small, long)) in
-            let new = ap (λ n. get_or (set weights (index_at number) (get_or weights (index_at number) 0 + more)) n 0) same in
-            let old = ap (λ n. get_or weights n 0) same in
-            let is = ap (λ (b : Bool). cond b more 0) (eq-eqb index (index_at number) same) in
-            omega (arith, put, new, old, is)
-        | inr apart ↦
-            let kept = get_or-set_other weights (index_at number) index (get_or weights (index_at number) 0 + more) 0 apart in
-            let is = ap (λ (b : Bool). cond b more 0) (ne_eqb index (index_at number) apart) in
-            omega (arith, kept, is)
-      ]
 
   -- all numbers
-  pub all_listed : (choices : List (List ℕ)) {weights : List ℕ} {tables : List (Option Behind)} {number : ℕ} → number ≡ 28561 → AreChoices number choices →
-      AreBelow problem number weights → AreTables problem tables → AreOpenDeals problem choices weights tables
-  all_listed choices {weights} {number = number} whole are below tabled =
+  pub all_listed : {ladder : List Demand} (choices : List (List ℕ)) {weights : List ℕ} {tables : List (Option Behind)} {number : ℕ} →
+      number ≡ 28561 → AreChoices number choices →
+      length ladder ≡ 7 → AreBelow problem ladder number weights → AreTables problem tables →
+      AreOpenDeals problem ladder choices weights tables
+  all_listed {ladder} choices {weights} {number = number} whole are seven below tabled =
       let exact = all_below (open_numbered setup) (rw whole at below.exact) in record {
         deals = exact.deals;
         weighed = record {
@@ -158,12 +138,13 @@ module _ {problem : Setup} (setup : IsSetup problem) where
               let has = (exact.each dealt).0 h in
               let is = (open_numbered setup).are dealt has.1 in
               let few = (open_numbered setup).few dealt has.1 in
-              ap (λ (ranks : List ℕ). counts_of choices (index_among 4 (rank_counts ranks))) is
+              ap (counts_of choices) (choice_of_entry problem dealt ladder seven)
+              ∙ ap (λ (ranks : List ℕ). counts_of choices (index_among 4 (rank_counts ranks))) is
               ∙ are (number_of dealt) (omega (arith, few, whole)) (order dealt has.0 is)
               ∙ ap rank_counts (sym is);
           weighed = λ index.
-              let has = all_below (numbered index) (rw whole at (below.weighed index)) in
-              same_count (λ dealt. eqb index (index_of dealt)) exact.deals has exact.different
+              let has = all_below (numbered ladder index) (rw whole at (below.weighed index)) in
+              same_count (λ dealt. eqb index (entry_of problem ladder dealt)) exact.deals has exact.different
               (λ dealt h is. let one = (exact.each dealt).0 h in (has.each dealt).1 (one.0, (one.1, is)))
               (λ dealt h. let one = (has.each dealt).0 h in let agrees = one.1.0 in ((exact.each dealt).1 (one.0, agrees), one.1.1));
           tabled = tabled;
@@ -189,32 +170,37 @@ few_of test deals exact within =
     let few = few_in test exact.deals deals exact.different (λ dealt h. let has = (exact.each dealt).0 h in within dealt has.0 has.1) in
     omega (arith, few, exact.counted)
 
-module _ {problem : Setup} {choices : List (List ℕ)} {weights : List ℕ} {tables : List (Option Behind)} {deals : List Dealt}
-    (are : AreWeighed problem choices weights tables deals) (demand : Demand) (index : ℕ) where
-  is_here : (ranks : List ℕ) → index_among 4 (rank_counts ranks) ≡ index → (dealt : Dealt) → ranks_held dealt ≡ ranks →
-      eqb index (index_of dealt) ≡ true
-  is_here ranks at dealt is =
-      eq-eqb index (index_of dealt) (sym at ∙ sym (ap (λ (held : List ℕ). index_among 4 (rank_counts held)) is))
-
+module _ {problem : Setup} {ladder : List Demand} {choices : List (List ℕ)} {weights : List ℕ} {tables : List (Option Behind)} {deals : List Dealt}
+    (are : AreWeighed problem ladder choices weights tables deals) (demand : Demand) (index : ℕ) where
   -- all, if none meets it
-  pub all_missing : (weight : ℕ) → get_or weights index 0 ≡ weight → IsMetByNone demand → weight ≤ count_by (misses_at problem demand index) deals
+  pub all_missing : (weight : ℕ) → get_or weights index 0 ≡ weight → IsMetByNone demand →
+      weight ≤ count_by (misses_at (entry_of problem ladder) problem demand index) deals
   all_missing weight is none =
-      let less = sum_less (λ dealt. cond (eqb index (index_of dealt)) 1 0) (λ dealt. cond (misses_at problem demand index dealt) 1 0) deals
-      (λ dealt h. one_more (eqb index (index_of dealt)) (not (meets problem demand dealt)) (ap not (none _ _))) in
+      let less = sum_less (λ dealt. cond (eqb index (entry_of problem ladder dealt)) 1 0)
+      (λ dealt. cond (misses_at (entry_of problem ladder) problem demand index dealt) 1 0) deals
+      (λ dealt h. one_more (eqb index (entry_of problem ladder dealt)) (not (meets problem demand dealt)) (ap not (none _ _))) in
       omega (arith, less, is, are.weighed index)
     where
       one_more : (is misses : Bool) → misses ≡ true → cond is 1 0 ≤ cond (is && misses) 1 0
       one_more true misses e = rw e (omega arith)
       one_more false misses e = omega arith
 
-  -- those that a table counts
-  pub table_missing : (behind : Behind) (missing : ℕ) → get_or tables index None ≡ Some behind → AreExactly (IsMissing behind demand) missing →
-      missing ≤ count_by (misses_at problem demand index) deals
+  -- those of its grade that a table counts
+  pub table_missing : (behind : Behind) (missing : ℕ) → get_or tables (index / 8) None ≡ Some behind →
+      AreExactly (λ dealt. IsMissing behind demand dealt × (grade_of behind.problem ladder dealt ≡ index % 8)) missing →
+      missing ≤ count_by (misses_at (entry_of problem ladder) problem demand index) deals
   table_missing behind missing is exact =
-      let at : IsTableAt problem index (Some behind) = subst (IsTableAt problem index) is (are.tabled index) in
-      few_of (misses_at problem demand index) deals exact (λ dealt order has.
-      let agrees : IsOpen problem dealt = subst (λ (of : Setup). IsOpen of dealt) at.0 has.0.0 in (
+      let at : IsTableAt problem (index / 8) (Some behind) = subst (IsTableAt problem (index / 8)) is (are.tabled (index / 8)) in
+      few_of (misses_at (entry_of problem ladder) problem demand index) deals exact (λ dealt order has.
+      let agrees : IsOpen problem dealt = subst (λ (of : Setup). IsOpen of dealt) at.0 has.0.0.0 in (
         are.all dealt order agrees,
-        and_from (eqb index (index_of dealt)) (not (meets problem demand dealt)) (is_here behind.ranks at.1 dealt has.0.1)
-            (ap not (subst (λ (of : Setup). meets of demand dealt ≡ false) at.0 has.1)),
+        and_from (eqb index (entry_of problem ladder dealt)) (not (meets problem demand dealt))
+            (is_here behind.ranks at.1 dealt has.0.0.1 (subst (λ (of : Setup). grade_of of ladder dealt ≡ index % 8) at.0 has.1))
+            (ap not (subst (λ (of : Setup). meets of demand dealt ≡ false) at.0 has.0.1)),
       ))
+    where
+      is_here : (ranks : List ℕ) → index_among 4 (rank_counts ranks) ≡ index / 8 → (dealt : Dealt) → ranks_held dealt ≡ ranks →
+          grade_of problem ladder dealt ≡ index % 8 → eqb index (entry_of problem ladder dealt) ≡ true
+      is_here ranks place dealt is grade =
+          eq-eqb index (entry_of problem ladder dealt)
+          (entry_at problem dealt ladder place (ap (λ (held : List ℕ). index_among 4 (rank_counts held)) is) grade)

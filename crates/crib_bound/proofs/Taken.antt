@@ -12,7 +12,7 @@ use Rattle.crib_cards.proofs.SetLemmas.{has_push}
 use Rattle.crib_show.specs.declared.demands.Demand.{Demand}
 use Rattle.crib_sure.specs.Shows.{meets}
 use Rattle.crib_bound.specs.declared.walk.Bound.{Bound}
-use Rattle.crib_bound.specs.Private.Walks.{AreDealsOf, AreFewer, AreGivenBack, AreLowered, index_of, misses_at, taken_of}
+use Rattle.crib_bound.specs.Private.Walks.{AreDealsOf, AreFewer, AreGivenBack, AreLowered, entry_in, misses_at, taken_of}
 use Rattle.crib_bound.proofs.Amounts.{sum_both, sum_less}
 
 -- ---- sums
@@ -62,25 +62,35 @@ set_entry amounts at amount index inside = elim (cases_eq index at) [
       omega (arith, kept, is)
 ]
 
+-- none is more than so much, where one of them is that
+pub few_set : (amounts : List ℕ) (at most : ℕ) → at < length amounts → ((index : ℕ) → get_or amounts index 0 ≤ most) → (index : ℕ) →
+    get_or (set amounts at most) index 0 ≤ most
+few_set amounts at most inside few index =
+    let put = set_entry amounts at most index inside in let rest = by (eqb at index) (get_or amounts index 0) (few index) in omega (arith, put, rest)
+  where
+    by : (is : Bool) (amount : ℕ) → amount ≤ most → cond is most amount ≤ most
+    by true amount few = omega arith
+    by false amount few = few
+
 -- what is taken at an index that is one of some
-pub taken_here : {indices before after : List ℕ} → AreFewer indices before after → (dealt : Dealt) → 1 ≤ taken_of before after dealt →
-    has indices (index_of dealt) ≡ true
-taken_here {indices} {before} {after} fewer dealt some =
-    true_from_ne_false (has indices (index_of dealt)) (λ none. let same = fewer.elsewhere (index_of dealt) none in omega (arith, same, some))
+pub taken_here : (at : Dealt → ℕ) {indices before after : List ℕ} → AreFewer indices before after → (dealt : Dealt) → 1 ≤ taken_of at before after dealt →
+    has indices (at dealt) ≡ true
+taken_here at {indices} {before} {after} fewer dealt some =
+    true_from_ne_false (has indices (at dealt)) (λ none. let same = fewer.elsewhere (at dealt) none in omega (arith, same, some))
 
 -- ---- the deals that miss a demand
 -- so much is counted of the deals that miss a demand, by what is taken so far
 pub record AreCounted (bound : Bound) (demand : Demand) (indices before after : List ℕ) (sum : ℕ) : Type 0 where
   pub fewer : AreFewer indices before after
   pub few : (deals : List Dealt) → AreDealsOf bound deals →
-      sum ≤ sum_by (λ dealt. cond (not (meets bound.problem.now demand dealt)) (taken_of before after dealt) 0) deals
+      sum ≤ sum_by (λ dealt. cond (not (meets bound.problem.now demand dealt)) (taken_of (entry_in bound) before after dealt) 0) deals
 
 pub none_counted : {bound : Bound} {demand : Demand} {indices amounts : List ℕ} → AreCounted bound demand indices amounts amounts 0
 none_counted = record { fewer = same_amounts; few = λ deals are. omega arith }
 
 -- all of one more choice is taken
 pub more_counted : {bound : Bound} {demand : Demand} {indices before after : List ℕ} {sum more count : ℕ} (at : ℕ) → at < length after →
-    has indices at ≡ true → ((deals : List Dealt) → AreDealsOf bound deals → count ≤ count_by (misses_at bound.problem.now demand at) deals) →
+    has indices at ≡ true → ((deals : List Dealt) → AreDealsOf bound deals → count ≤ count_by (misses_at (entry_in bound) bound.problem.now demand at) deals) →
     more ≤ sum + count * get_or after at 0 → AreCounted bound demand indices before after sum → AreCounted bound demand indices before (set after at 0) more
 more_counted {bound} {demand} {indices} {before} {after} {sum} {more} {count} at inside here few enough so_far = record {
   fewer = record {
@@ -94,13 +104,13 @@ more_counted {bound} {demand} {indices} {before} {after} {sum} {more} {count} at
     ];
   };
   few = λ deals are.
-      let test = misses_at bound.problem.now demand at in
-      let old : Dealt → ℕ = λ dealt. cond (not (meets bound.problem.now demand dealt)) (taken_of before after dealt) 0 in
-      let put : Dealt → ℕ = λ dealt. cond (misses_at bound.problem.now demand at dealt) (get_or after at 0) 0 in
-      let new : Dealt → ℕ = λ dealt. cond (not (meets bound.problem.now demand dealt)) (taken_of before (set after at 0) dealt) 0 in
+      let test = misses_at (entry_in bound) bound.problem.now demand at in
+      let old : Dealt → ℕ = λ dealt. cond (not (meets bound.problem.now demand dealt)) (taken_of (entry_in bound) before after dealt) 0 in
+      let put : Dealt → ℕ = λ dealt. cond (misses_at (entry_in bound) bound.problem.now demand at dealt) (get_or after at 0) 0 in
+      let new : Dealt → ℕ = λ dealt. cond (not (meets bound.problem.now demand dealt)) (taken_of (entry_in bound) before (set after at 0) dealt) 0 in
       let both = sum_both old put deals in
       let all = sum_less (λ dealt. old dealt + put dealt) new deals (λ dealt h.
-      parted (eqb at (index_of dealt)) (not (meets bound.problem.now demand dealt)) (index_of dealt) refl) in
+      parted (eqb at (entry_in bound dealt)) (not (meets bound.problem.now demand dealt)) (entry_in bound dealt) refl) in
       let counted = sum_where test (get_or after at 0) deals in
       let many = times_few (get_or after at 0) (few deals are) in
       omega (arith, both, all, counted, many, enough, so_far.few deals are);
@@ -123,16 +133,16 @@ more_counted {bound} {demand} {indices} {before} {after} {sum} {more} {count} at
     parted false false index e = omega arith
 
 -- ---- giving back
-none_taken : (amounts : List ℕ) (deals : List Dealt) → sum_by (taken_of amounts amounts) deals ≤ 0
-none_taken amounts [] = omega arith
-none_taken amounts (dealt ∷ deals) =
-    let rest = none_taken amounts deals in let more = sum_by-cons (taken_of amounts amounts) dealt deals in omega (arith, rest, more)
+none_taken : (at : Dealt → ℕ) (amounts : List ℕ) (deals : List Dealt) → sum_by (taken_of at amounts amounts) deals ≤ 0
+none_taken at amounts [] = omega arith
+none_taken at amounts (dealt ∷ deals) =
+    let rest = none_taken at amounts deals in let more = sum_by-cons (taken_of at amounts amounts) dealt deals in omega (arith, rest, more)
 
 pub none_back : {bound : Bound} {indices amounts : List ℕ} {most : ℕ} → AreGivenBack bound indices amounts amounts most
-none_back {amounts = amounts} = record {
+none_back {bound = bound} {amounts = amounts} = record {
   more = λ index. omega arith;
   elsewhere = λ index h. refl;
-  few = λ deals are. let none = none_taken amounts deals in omega (arith, none);
+  few = λ deals are. let none = none_taken (entry_in bound) amounts deals in omega (arith, none);
 }
 
 -- of what may still be lost no more is lost
@@ -154,12 +164,12 @@ more_back {bound} {indices} {before} {after} {most} at more weight inside here i
     | inr apart ↦ get_or-set_other after at index (get_or after at 0 + more) 0 (λ same. apart (sym same)) ∙ so_far.elsewhere index none
   ];
   few = λ deals are.
-      let old = taken_of after before in
-      let put : Dealt → ℕ = λ dealt. cond (eqb at (index_of dealt)) more 0 in
+      let old = taken_of (entry_in bound) after before in
+      let put : Dealt → ℕ = λ dealt. cond (eqb at (entry_in bound dealt)) more 0 in
       let both = sum_both old put deals in
-      let all = sum_less (taken_of (set after at (get_or after at 0 + more)) before) (λ dealt. old dealt + put dealt) deals
-      (λ dealt h. let entry = entry (index_of dealt) in omega (arith, entry)) in
-      let counted = sum_where (λ dealt. eqb at (index_of dealt)) more deals in
+      let all = sum_less (taken_of (entry_in bound) (set after at (get_or after at 0 + more)) before) (λ dealt. old dealt + put dealt) deals
+      (λ dealt h. let entry = entry (entry_in bound dealt) in omega (arith, entry)) in
+      let counted = sum_where (λ dealt. eqb at (entry_in bound dealt)) more deals in
       let many = times (are.weighed at) in
       omega (arith, both, all, counted, many, so_far.few deals are);
 }
@@ -211,11 +221,11 @@ back_lowered {back = back} given below enough = record {
 -- the other isn't
 pub kept_lowered : {bound : Bound} {other new : List ℕ} {least : ℕ} → ((index : ℕ) → get_or new index 0 ≤ get_or other index 0) →
     AreLowered bound other new least least
-kept_lowered {other = other} below = record {
+kept_lowered {bound = bound} {other = other} below = record {
   mid = other;
   more = λ index. omega arith;
   less = below;
-  lost = λ deals are. let none = none_taken other deals in omega (arith, none);
+  lost = λ deals are. let none = none_taken (entry_in bound) other deals in omega (arith, none);
 }
 
 -- ---- lists of indices

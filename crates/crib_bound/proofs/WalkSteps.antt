@@ -1,6 +1,6 @@
 -- What the walk may conclude at a position from what it found after it.
-use Rattle.std.proofs.Common.{◌≡◌, ◌⊎◌, ◌↔◌, ℕ, zero, suc, ◌+◌, ◌-◌, ◌*◌, ◌<◌, ◌≤◌, Bool, true, false, not, ◌&&◌, cond, List, [], ◌∷◌}
-use Rattle.std.proofs.Common.{length, get_or, replicate, refl, ◌∙◌, inl, inr, arith}
+use Rattle.std.proofs.Common.{◌≡◌, ◌⊎◌, ◌↔◌, ℕ, ◌+◌, ◌-◌, ◌*◌, ◌/◌, ◌<◌, ◌≤◌, Bool, true, false, not, ◌&&◌, cond, List, [], ◌∷◌}
+use Rattle.std.proofs.Common.{length, get_or, refl, ◌∙◌, inl, inr, arith}
 use Rattle.std.specs.List.{All, list_any}
 use Rattle.std.proofs.lemmas.Bool.{both_ways, and_parts, and_from, false_from_ne_true, leb-true, not-true, true_from_ne_false}
 use Rattle.crib_cards.specs.Cards.{card_value}
@@ -28,7 +28,7 @@ use Rattle.crib_beaten.specs.Beaten.{counts_of, may_show}
 use Rattle.crib_bound.specs.Worth.{IsStrategy}
 use Rattle.crib_bound.specs.Worth.IsWorth.{Nothing, Missed, Parts, Turn, Choice}
 use Rattle.crib_bound.specs.declared.walk.Bound.{Bound}
-use Rattle.crib_bound.specs.Private.Walks.{AreAt, AreFewer, AreLowered, AreOpenDeals, IsBoundAfter, IsBoundAt, MayWalk, index_of, taken_of}
+use Rattle.crib_bound.specs.Private.Walks.{AreAt, AreFewer, AreLowered, AreOpenDeals, IsBoundAfter, IsBoundAt, MayWalk, entry_in, taken_of}
 use Rattle.crib_bound.proofs.Amounts.{part_few, sum_less}
 use Rattle.crib_bound.proofs.AgreeingDeals.{misses, may_play, may_play_after}
 use Rattle.crib_bound.proofs.Letters.{own_agrees, theirs_agrees}
@@ -39,7 +39,7 @@ use Rattle.crib_bound.proofs.Worths.{fewer_worth, lower}
 module _ {bound : Bound} {know : Knowledge} {indices : List ℕ} where
   -- nothing is taken
   pub none_bound : {amounts : List ℕ} → IsBoundAt bound know indices amounts amounts 0
-  none_bound {amounts} = record { fewer = same_amounts; worth = λ deals weighed are history knows. Nothing history (taken_of amounts amounts) }
+  none_bound {amounts} = record { fewer = same_amounts; worth = λ deals weighed are history knows. Nothing history (taken_of (entry_in bound) amounts amounts) }
 
   -- the parts of the deals that miss the goal
   pub end_bound : {before after : List ℕ} (demand : Demand) (value : ℕ) → know.round.asked ≡ turns.Over →
@@ -47,11 +47,11 @@ module _ {bound : Bound} {know : Knowledge} {indices : List ℕ} where
   end_bound {before} {after} demand value over counted decides = record {
     fewer = counted.fewer;
     worth = λ deals weighed are history knows.
-        let missing : Dealt → ℕ = λ dealt. cond (not (meets bound.problem.now demand dealt)) (taken_of before after dealt) 0 in
-        lower (counted.few deals weighed) (λ dealt h. part_few (not (meets bound.problem.now demand dealt)) (taken_of before after dealt))
+        let missing : Dealt → ℕ = λ dealt. cond (not (meets bound.problem.now demand dealt)) (taken_of (entry_in bound) before after dealt) 0 in
+        lower (counted.few deals weighed) (λ dealt h. part_few (not (meets bound.problem.now demand dealt)) (taken_of (entry_in bound) before after dealt))
         (Missed history missing (λ dealt h some.
-        let is = part_some (not (meets bound.problem.now demand dealt)) (taken_of before after dealt) some in
-        let agrees = (passing_same know bound.problem.now history knows dealt).1 (are.passing dealt h (taken_here counted.fewer dealt is.1)) in
+        let is = part_some (not (meets bound.problem.now demand dealt)) (taken_of (entry_in bound) before after dealt) some in
+        let agrees = (passing_same know bound.problem.now history knows dealt).1 (are.passing dealt h (taken_here (entry_in bound) counted.fewer dealt is.1)) in
         misses knows agrees over (λ reached.
         both_ways (meets bound.problem.now demand dealt) (not-true (meets bound.problem.now demand dealt) is.0)
         ((decides history dealt knows agrees).1 (same_full history dealt knows ∙ reached)))));
@@ -67,9 +67,9 @@ module _ {bound : Bound} {know : Knowledge} {indices : List ℕ} where
 
 -- ---- a move of the owner
 -- the deals at a position after it
-at_after : {problem : Setup} {know next : Knowledge} {indices : List ℕ} (what : Move) {deals : List Dealt} {history : List Event} →
-    know.round.asked ≡ turns.Owner → KnowsAfter know problem history → KnowsAfter next problem (Own what ∷ history) → AreAt problem know deals indices →
-    AreAt problem next deals indices
+at_after : {at : Dealt → ℕ} {problem : Setup} {know next : Knowledge} {indices : List ℕ} (what : Move) {deals : List Dealt} {history : List Event} →
+    know.round.asked ≡ turns.Owner → KnowsAfter know problem history → KnowsAfter next problem (Own what ∷ history) → AreAt at problem know deals indices →
+    AreAt at problem next deals indices
 at_after {problem} {know} {next} what {deals} {history} asked knows after are = record {
   passing = λ dealt h here.
       (passing_same next problem (Own what ∷ history) after dealt).0 (own_agrees knows dealt
@@ -92,7 +92,7 @@ module _ {bound : Bound} {know : Knowledge} {indices before after : List ℕ} wh
   go_bound {value} there = record {
     fewer = there.fewer;
     worth = λ deals weighed are history knows.
-        Turn history (taken_of before after) value (Own move.Go) (λ card is. absurd (let go : move.Go ≡ move.Card card = cc in cc))
+        Turn history (taken_of (entry_in bound) before after) value (Own move.Go) (λ card is. absurd (let go : move.Go ≡ move.Card card = cc in cc))
         (there.worth deals weighed are history knows);
   }
 
@@ -103,9 +103,10 @@ module _ {bound : Bound} {know : Knowledge} {indices before after : List ℕ} wh
   own_bound {value} asked some can each = record {
     fewer = (each some can).fewer;
     worth = λ deals weighed are history knows.
-        Choice history (taken_of before after) value (may_play know) some can
+        Choice history (taken_of (entry_in bound) before after) value (may_play know) some can
         (λ dealt h more. may_play_after knows
-        ((passing_same know bound.problem.now history knows dealt).1 (are.passing dealt h (taken_here (each some can).fewer dealt more))) asked)
+        ((passing_same know bound.problem.now history knows dealt).1 (are.passing dealt h
+        (taken_here (entry_in bound) (each some can).fewer dealt more))) asked)
         (λ card may. (each card may).worth deals weighed are history knows);
   }
 
@@ -115,23 +116,25 @@ pub lowered : {bound : Bound} {know : Knowledge} {event : Event} {indices before
 lowered {bound} {know} {event} {indices} {before} {old} {new} {value} {least} fewer low there = record {
   fewer = fewer;
   worth = λ deals weighed are history knows.
-      let mid = taken_of before low.mid in
-      let back = sum_less (λ dealt. taken_of before old dealt - taken_of before low.mid dealt) (taken_of low.mid old) deals
-      (λ dealt h. omega (arith, low.more (index_of dealt))) in
-      let worth = fewer_worth (event ∷ history) (taken_of before old) mid value (λ dealt h. omega (arith, low.more (index_of dealt)))
+      let mid = taken_of (entry_in bound) before low.mid in
+      let back = sum_less (λ dealt. taken_of (entry_in bound) before old dealt - taken_of (entry_in bound) before low.mid dealt)
+      (taken_of (entry_in bound) low.mid old) deals
+      (λ dealt h. omega (arith, low.more (entry_in bound dealt))) in
+      let worth = fewer_worth (event ∷ history) (taken_of (entry_in bound) before old) mid value
+      (λ dealt h. omega (arith, low.more (entry_in bound dealt)))
       (there.worth deals weighed are history knows) in
-      lower (omega (arith, low.lost deals weighed, back)) (λ dealt h. omega (arith, low.less (index_of dealt))) worth;
+      lower (omega (arith, low.lost deals weighed, back)) (λ dealt h. omega (arith, low.less (entry_in bound dealt))) worth;
 }
 
 -- ---- letters
 module _ {bound : Bound} {know : Knowledge} {indices : List ℕ} where
   pub no_letter : {letter : Letter} {amounts : List ℕ} → IsBoundAfter bound know (Theirs letter) indices amounts amounts 0
   no_letter {letter} {amounts} =
-      record { fewer = same_amounts; worth = λ deals weighed are history knows. Nothing (Theirs letter ∷ history) (taken_of amounts amounts) }
+      record { fewer = same_amounts; worth = λ deals weighed are history knows. Nothing (Theirs letter ∷ history) (taken_of (entry_in bound) amounts amounts) }
 
   pub some_letter : {next : Knowledge} {letter : Letter} {left before after : List ℕ} {value : ℕ} →
       ((other : Setup) (history : List Event) → KnowsAfter know other history → KnowsAfter next other (Theirs letter ∷ history)) →
-      ((index : ℕ) → has left index ≡ true → (has indices index && may_show know next letter (counts_of bound.choices.now index)) ≡ true) →
+      ((index : ℕ) → has left index ≡ true → (has indices index && may_show know next letter (counts_of bound.choices.now (index / 8))) ≡ true) →
       IsBoundAt bound next left before after value → IsBoundAfter bound know (Theirs letter) indices before after value
   some_letter {next} {letter} {left} {before} {after} goes kept there = record {
     fewer = record {
@@ -143,7 +146,7 @@ module _ {bound : Bound} {know : Knowledge} {indices : List ℕ} where
         let then_knows = goes bound.problem.now history knows in
         there.worth deals weighed (record {
           passing = λ dealt h here.
-              let parts = and_parts (has indices (index_of dealt)) _ (kept (index_of dealt) here) in
+              let parts = and_parts (has indices (entry_in bound dealt)) _ (kept (entry_in bound dealt) here) in
               (passing_same next bound.problem.now (Theirs letter ∷ history) then_knows dealt).0
               (theirs_agrees knows dealt ((passing_same know bound.problem.now history knows dealt).1 (are.passing dealt h parts.0)) letter then_knows
               (rw (← weighed.counts dealt h) parts.1));
@@ -156,10 +159,10 @@ module _ {bound : Bound} {know : Knowledge} {indices : List ℕ} where
   more_letters {letter} {before} {mid} {after} {value} {more} {sum} enough so_far there = record {
     fewer = fewer_still so_far.fewer there.fewer;
     worth = λ deals weighed are history knows.
-        Parts history (taken_of before after) (taken_of before mid) (taken_of mid after) value more sum
-        (λ dealt h. omega (arith, so_far.fewer.less (index_of dealt), there.fewer.less (index_of dealt))) enough
+        Parts history (taken_of (entry_in bound) before after) (taken_of (entry_in bound) before mid) (taken_of (entry_in bound) mid after) value more sum
+        (λ dealt h. omega (arith, so_far.fewer.less (entry_in bound dealt), there.fewer.less (entry_in bound dealt))) enough
         (so_far.worth deals weighed are history knows)
-        (Turn history (taken_of mid after) more (Theirs letter) (λ card is. absurd cc) (there.worth deals weighed are history knows));
+        (Turn history (taken_of (entry_in bound) mid after) more (Theirs letter) (λ card is. absurd cc) (there.worth deals weighed are history knows));
   }
 
 -- ---- cards
@@ -237,7 +240,7 @@ module _ {bound : Bound} {know next : Knowledge} {indices spare : List ℕ} {eve
   falls = know_falls know next bound.problem.now event walk.history walk.knows (goes bound.problem.now walk.history walk.knows)
 
   -- with some of the indices
-  pub walk_after : (left room : List ℕ) → All (λ index. index < 1820) left → length left * turns_ahead next ≤ length room → MayWalk bound next left room
+  pub walk_after : (left room : List ℕ) → All (λ index. index < 14560) left → length left * turns_ahead next ≤ length room → MayWalk bound next left room
   walk_after left room small enough = record {
     own = walk.own;
     history = event ∷ walk.history;
@@ -247,21 +250,20 @@ module _ {bound : Bound} {know next : Knowledge} {indices spare : List ℕ} {eve
   }
 
 -- ---- the walk from the opening on
-pub start_strategy : {bound : Bound} {know : Knowledge} {indices after : List ℕ} (parts value : ℕ) →
-    KnowsAfter know bound.problem.now (played_events bound.problem.now) → IsBoundAt bound know indices (replicate 1820 parts) after value →
-    AreOpenDeals bound.problem.now bound.choices.now bound.weights.now bound.tables.now → IsStrategy event_of bound.problem.now parts value
-start_strategy {bound} {know} {indices} {after} parts value knows worth are = record {
+pub start_room : {indices ahead room : ℕ} → indices ≡ 14560 → ahead ≤ 27 → room ≡ 27 * 14560 → indices * ahead ≤ room
+start_room {indices} {ahead} {room} is few enough = let all : 14560 * ahead ≤ room = omega (arith, few, enough) in rw is all
+
+pub start_strategy : {bound : Bound} {know : Knowledge} {indices before after : List ℕ} (parts value : ℕ) →
+    KnowsAfter know bound.problem.now (played_events bound.problem.now) → ((index : ℕ) → get_or before index 0 ≤ parts) →
+    IsBoundAt bound know indices before after value →
+    AreOpenDeals bound.problem.now bound.ladder.now bound.choices.now bound.weights.now bound.tables.now → IsStrategy event_of bound.problem.now parts value
+start_strategy {bound} {know} {indices} {before} {after} parts value knows few worth are = record {
   deals = are.deals;
   different = are.different;
   in_order = are.in_order;
-  amounts = taken_of (replicate 1820 parts) after;
-  few = λ dealt h. let most = at_most 1820 (index_of dealt) in omega (arith, most);
+  amounts = taken_of (entry_in bound) before after;
+  few = λ dealt h. let most = few (entry_in bound dealt) in omega (arith, most);
   worth = worth.worth are.deals are.weighed (record {
     passing = λ dealt h some. (passing_same know bound.problem.now (played_events bound.problem.now) knows dealt).0 (are.are_open dealt h);
   }) (played_events bound.problem.now) knows;
 }
-  where
-    at_most : (many place : ℕ) → get_or (replicate many parts) place 0 ≤ parts
-    at_most zero place = omega arith
-    at_most (suc many) zero = omega arith
-    at_most (suc many) (suc place) = at_most many place

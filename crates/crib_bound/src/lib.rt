@@ -1,6 +1,7 @@
 //! How many deals beat each plan at least.
 #![tactic(auto)]
 
+mod grades;
 mod laws;
 mod units;
 mod walk;

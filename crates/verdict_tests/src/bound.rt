@@ -3,6 +3,7 @@ use crate::same;
 use crate::sections::{plan, problem};
 use crib_beaten::tally_of;
 use crib_bound::{bound_of, unit_of};
+use crib_show::Demand;
 use refusing_alloc::Refusing;
 use std::process::Abort;
 
@@ -16,11 +17,20 @@ macro_rules! twos {
     };
 }
 
+// A ladder that limits the points of the opponent's hand, first to so many.
+fn ladder(most: u8) -> [Demand; 7] {
+    let mut ladder = [Demand::none(); 7];
+    for fewer in 0..7u8 {
+        ladder[fewer as usize].hand = most.saturating_sub(fewer);
+    }
+    ladder
+}
+
 /// Asserts that this is so many times the deals that beat each plan at least, with one part and with twelve of each.
 fn is_bound(rt: &(impl Abort + AllocGlobal), of: &str, deals: u64) {
     let problem = problem(rt, of);
-    for parts in [1u8, 12] {
-        let bound = bound_of(rt.alloc(), &problem, parts).expect(rt, "memory");
+    for parts in [1u16, 12, 4_096] {
+        let bound = bound_of(rt.alloc(), &problem, parts, &ladder(14)).expect(rt, "memory");
         same(rt, bound, deals.saturating_mul(parts as u64));
     }
 }
@@ -120,14 +130,17 @@ fn the_unit_is_the_throws_of_a_hold_if_the_crib_does_not_decide(rt: HostRuntime)
     }
 }
 
-/// It allocates for the tables alone, which a pone with this goal doesn't need.
+/// It allocates the room for its lists, and before it the tables, which a pone with this goal doesn't need.
 #[test]
 fn fails_if_an_allocation_fails(rt: HostRuntime) {
     let pone = problem(&rt, twos!("0 0", "4\nown 2C\nopp 8S\nown 2D\nopp 9S\n"));
     let heap = Refusing::after(rt.alloc(), 0);
-    assert!(rt; bound_of(&heap, &pone, 1).is_ok());
+    assert!(rt; bound_of(&heap, &pone, 1, &ladder(14)).is_err());
+    let heap = Refusing::after(rt.alloc(), 1);
+    assert!(rt; bound_of(&heap, &pone, 1, &ladder(14)).is_ok());
     let dealer = problem(&rt, DEALER);
-    assert!(rt; bound_of(&heap, &dealer, 1).is_err());
-    let heap = Refusing::after(rt.alloc(), 3);
-    assert!(rt; bound_of(&heap, &dealer, 1).is_err());
+    for allocations in 0..5u64 {
+        let heap = Refusing::after(rt.alloc(), allocations);
+        assert!(rt; bound_of(&heap, &dealer, 1, &ladder(14)).is_err());
+    }
 }

@@ -1,6 +1,7 @@
 -- A walk over what the owner knows, which counts what amounts of deals are worth.
-use Rattle.std.specs.Prelude.{◌≡◌, ℕ, ◌+◌, ◌-◌, ◌*◌, ◌<◌, ◌≤◌, nat_eq, Bool, not, ◌&&◌, List, ◌∷◌, length}
-use Rattle.std.specs.Prelude.{count_by, get_or, map, sum_by, Option, None, IfSome, IsTrue, IsFalse}
+use Rattle.std.specs.Prelude.{◌≡◌, ℕ, ◌+◌, ◌-◌, ◌*◌, ◌/◌, ◌<◌, ◌≤◌, nat_eq, Bool, not, ◌&&◌, cond}
+use Rattle.std.specs.Prelude.{List, [], ◌∷◌, length, count_by, get_or, map, sum_by}
+use Rattle.std.specs.Prelude.{Option, None, IfSome, IsTrue, IsFalse}
 use Rattle.std.specs.List.{All}
 use Rattle.crib_cards.specs.Cards.{rank_of}
 use Rattle.crib_cards.specs.Deals.{is_in_pack_order}
@@ -15,8 +16,8 @@ use Rattle.crib_know.specs.Knowledge.{Knowledge}
 use Rattle.crib_know.specs.Hidden.{IsOpen, KnowsAfter, Passes}
 use Rattle.crib_know.specs.Private.Ahead.{turns_ahead}
 use Rattle.crib_sure.specs.Shows.{meets}
-use Rattle.crib_deals.specs.Deals.{Behind}
-use Rattle.crib_deals.specs.Exact.{IsIn}
+use Rattle.crib_deals.specs.Deals.{Behind, IsBehind}
+use Rattle.crib_deals.specs.Exact.{IsIn, AreExactly}
 use Rattle.crib_beaten.specs.Beaten.{counts_of}
 use Rattle.crib_bound.specs.Worth.{IsWorth}
 use Rattle.crib_bound.specs.declared.walk.Bound.{Bound}
@@ -25,17 +26,30 @@ use Rattle.crib_bound.specs.declared.walk.Bound.{Bound}
 abbrev pub index_of : Dealt → ℕ
 index_of dealt = index_among 4 (rank_counts (map rank_of dealt.hold))
 
--- how many parts of a deal some amounts have, by the indices of ranks
-abbrev pub parts_of : List ℕ → Dealt → ℕ
-parts_of amounts dealt = get_or amounts (index_of dealt) 0
+-- the grade of a deal: how many demands of a ladder it meets in a row, from the first on
+unfoldable pub grade_of : Setup → List Demand → Dealt → ℕ
+grade_of problem [] dealt = 0
+grade_of problem (demand ∷ ladder) dealt = cond (meets problem demand dealt) (1 + grade_of problem ladder dealt) 0
+
+-- the index of the entry of a deal, by the ranks that the opponent held and its grade. A choice has eight entries
+unfoldable pub entry_of : Setup → List Demand → Dealt → ℕ
+entry_of problem ladder dealt = 8 * index_of dealt + grade_of problem ladder dealt
+
+-- the same by the ladder of a bound
+abbrev pub entry_in : Bound → Dealt → ℕ
+entry_in bound = entry_of bound.problem.now bound.ladder.now
+
+-- how many parts of a deal some amounts have, if it has an index there
+abbrev pub parts_of : (Dealt → ℕ) → List ℕ → Dealt → ℕ
+parts_of at amounts dealt = get_or amounts (at dealt) 0
 
 -- how many parts of a deal are taken
-abbrev pub taken_of : List ℕ → List ℕ → Dealt → ℕ
-taken_of before after dealt = parts_of before dealt - parts_of after dealt
+abbrev pub taken_of : (Dealt → ℕ) → List ℕ → List ℕ → Dealt → ℕ
+taken_of at before after dealt = parts_of at before dealt - parts_of at after dealt
 
 -- whether a deal has an index and misses a demand
-abbrev pub misses_at : Setup → Demand → ℕ → Dealt → Bool
-misses_at problem demand index dealt = nat_eq index (index_of dealt) && not (meets problem demand dealt)
+abbrev pub misses_at : (Dealt → ℕ) → Setup → Demand → ℕ → Dealt → Bool
+misses_at at problem demand index dealt = nat_eq index (at dealt) && not (meets problem demand dealt)
 
 -- a table is none, or that of the open deals with four ranks with an index
 abbrev pub IsTableAt : Setup → ℕ → Option Behind → Type 0
@@ -46,37 +60,54 @@ IsTableAt problem index table =
 abbrev pub AreTables : Setup → List (Option Behind) → Type 0
 AreTables problem tables = (index : ℕ) → IsTableAt problem index (get_or tables index None)
 
--- some deals are all open ones in pack order. The choice at the index of each has its counts of ranks, as many as its
--- weight says have an index, and each table is at its index
-pub record AreWeighed (problem : Setup) (choices : List (List ℕ)) (weights : List ℕ) (tables : List (Option Behind))
-    (deals : List Dealt) : Type 0 where
+-- the deals with four ranks that have an entry are added to its weight
+pub record IsAddedAt (behind : Behind) (ladder : List Demand) (before after : List ℕ) (index : ℕ) : Type 0 where
+  pub more : ℕ
+  pub added : get_or after index 0 ≡ get_or before index 0 + more
+  pub few : more ≤ 8 * 209920
+  pub exact :
+      AreExactly (λ dealt. IsBehind behind dealt × IsTrue (nat_eq index (entry_of behind.problem ladder dealt))) more
+
+-- all deals with four ranks are added to the weights of their entries
+pub record AreAdded (behind : Behind) (ladder : List Demand) (before after : List ℕ) : Type 0 where
+  pub count : ℕ
+  pub exact : AreExactly (IsBehind behind) count
+  pub each : (index : ℕ) → IsAddedAt behind ladder before after index
+
+-- some deals are all open ones in pack order. The choice of the entry of each has its counts of ranks, as many as its
+-- weight says have an entry, and each table is at its index
+pub record AreWeighed (problem : Setup) (ladder : List Demand) (choices : List (List ℕ)) (weights : List ℕ)
+    (tables : List (Option Behind)) (deals : List Dealt) : Type 0 where
   pub counts : (dealt : Dealt) → IsIn dealt deals →
-      counts_of choices (index_of dealt) ≡ rank_counts (map rank_of dealt.hold)
-  pub weighed : (index : ℕ) → get_or weights index 0 ≡ count_by (λ dealt. nat_eq index (index_of dealt)) deals
+      counts_of choices (entry_of problem ladder dealt / 8) ≡ rank_counts (map rank_of dealt.hold)
+  pub weighed : (index : ℕ) →
+      get_or weights index 0 ≡ count_by (λ dealt. nat_eq index (entry_of problem ladder dealt)) deals
   pub tabled : AreTables problem tables
   pub all : (dealt : Dealt) → IsTrue (is_in_pack_order dealt) → IsOpen problem dealt → IsIn dealt deals
 
 -- such deals for the choices of a bound
 abbrev pub AreDealsOf : Bound → List Dealt → Type 0
-AreDealsOf bound deals = AreWeighed bound.problem.now bound.choices.now bound.weights.now bound.tables.now deals
+AreDealsOf bound deals =
+    AreWeighed bound.problem.now bound.ladder.now bound.choices.now bound.weights.now bound.tables.now deals
 
 -- there are such deals, each once
-pub record AreOpenDeals (problem : Setup) (choices : List (List ℕ)) (weights : List ℕ) (tables : List (Option Behind))
-    : Type 0 where
+pub record AreOpenDeals (problem : Setup) (ladder : List Demand) (choices : List (List ℕ)) (weights : List ℕ)
+    (tables : List (Option Behind)) : Type 0 where
   pub deals : List Dealt
-  pub weighed : AreWeighed problem choices weights tables deals
+  pub weighed : AreWeighed problem ladder choices weights tables deals
   pub different : AreDifferent deals
   pub in_order : (dealt : Dealt) → IsIn dealt deals → IsTrue (is_in_pack_order dealt)
   pub are_open : (dealt : Dealt) → IsIn dealt deals → IsOpen problem dealt
 
 -- those of them that have some indices pass the test of a position
-pub record AreAt (problem : Setup) (know : Knowledge) (deals : List Dealt) (indices : List ℕ) : Type 0 where
-  pub passing : (dealt : Dealt) → IsIn dealt deals → IsTrue (has indices (index_of dealt)) → Passes problem know dealt
+pub record AreAt (at : Dealt → ℕ) (problem : Setup) (know : Knowledge) (deals : List Dealt) (indices : List ℕ)
+    : Type 0 where
+  pub passing : (dealt : Dealt) → IsIn dealt deals → IsTrue (has indices (at dealt)) → Passes problem know dealt
 
 -- for such deals something holds after each history of a position
 abbrev pub HoldsAfter : Bound → Knowledge → List ℕ → (List Dealt → List Event → Type 0) → Type 0
 HoldsAfter bound know indices Holds =
-    (deals : List Dealt) → AreDealsOf bound deals → AreAt bound.problem.now know deals indices →
+    (deals : List Dealt) → AreDealsOf bound deals → AreAt (entry_in bound) bound.problem.now know deals indices →
     (history : List Event) → KnowsAfter know bound.problem.now history → Holds deals history
 
 -- some is taken off amounts at some indices, if any
@@ -88,27 +119,29 @@ pub record AreFewer (indices before after : List ℕ) : Type 0 where
 pub record IsBoundAt (bound : Bound) (know : Knowledge) (indices before after : List ℕ) (value : ℕ) : Type 0 where
   pub fewer : AreFewer indices before after
   pub worth : HoldsAfter bound know indices
-      (λ deals history. IsWorth event_of bound.problem.now deals history (taken_of before after) value)
+      (λ deals history. IsWorth event_of bound.problem.now deals history (taken_of (entry_in bound) before after) value)
 
 -- what is taken at a position is worth so much after a further event
 pub record IsBoundAfter (bound : Bound) (know : Knowledge) (event : Event) (indices before after : List ℕ) (value : ℕ)
     : Type 0 where
   pub fewer : AreFewer indices before after
   pub worth : HoldsAfter bound know indices
-      (λ deals history. IsWorth event_of bound.problem.now deals (event ∷ history) (taken_of before after) value)
+      (λ deals history.
+      IsWorth event_of bound.problem.now deals (event ∷ history) (taken_of (entry_in bound) before after) value)
 
 -- something is given back to amounts. The parts of all deals that are given back are at most so many
 pub record AreGivenBack (bound : Bound) (indices before after : List ℕ) (most : ℕ) : Type 0 where
   pub more : (index : ℕ) → get_or before index 0 ≤ get_or after index 0
   pub elsewhere : (index : ℕ) → IsFalse (has indices index) → get_or after index 0 ≡ get_or before index 0
-  pub few : (deals : List Dealt) → AreDealsOf bound deals → sum_by (taken_of after before) deals ≤ most
+  pub few : (deals : List Dealt) → AreDealsOf bound deals → sum_by (taken_of (entry_in bound) after before) deals ≤ most
 
 -- something is given back, and then some may be taken, so that a value is lowered
 pub record AreLowered (bound : Bound) (before after : List ℕ) (value least : ℕ) : Type 0 where
   pub mid : List ℕ
   pub more : (index : ℕ) → get_or before index 0 ≤ get_or mid index 0
   pub less : (index : ℕ) → get_or after index 0 ≤ get_or mid index 0
-  pub lost : (deals : List Dealt) → AreDealsOf bound deals → least + sum_by (taken_of mid before) deals ≤ value
+  pub lost : (deals : List Dealt) → AreDealsOf bound deals →
+      least + sum_by (taken_of (entry_in bound) mid before) deals ≤ value
 
 -- a walk may begin: the owner's hand is counted, the position is one after some history, and the spare room is enough
 -- for the indices that are kept after each turn ahead
@@ -116,5 +149,5 @@ pub record MayWalk (bound : Bound) (know : Knowledge) (indices spare : List ℕ)
   pub own : bound.own_hand ≡ hand_points bound.problem.now.hold bound.problem.now.starter
   pub history : List Event
   pub knows : KnowsAfter know bound.problem.now history
-  pub small : All (λ index. index < 1820) indices
+  pub small : All (λ index. index < 14560) indices
   pub room : length indices * turns_ahead know ≤ length spare

@@ -11,7 +11,7 @@ loop-number-init g c = record {
   counted = search rules;
   weighed = search rules;
   are = λ n less. absurd (omega (arith, less));
-  below = none_listed c.requires 1820;
+  below = none_listed c.requires 14560;
   tables = λ index. subst (IsTableAt c.args.problem.now index) (sym (c.in_ok-tables.ensures index)) tt;
 }
 
@@ -30,22 +30,24 @@ pub choice_index-index-requires : goal.choice_index-index-requires
 choice_index-index-requires g c =
     rw (c.count_ranks-counted.ensures.value, c.ranks_at-ranks.ensures) (four_numbered c.loop-number.number (omega arith))
 
-pub put_table-requires : goal.put_table-requires
-put_table-requires g c = rw c.count_ranks-counted.ensures.value at c.choice_index-index.ensures.index
+pub add_deals-requires-clause-index : goal.add_deals-requires-clause-index
+add_deals-requires-clause-index g c = rw c.count_ranks-counted.ensures.value at c.choice_index-index.ensures.index
+
+pub add_deals-requires-clause-few : goal.add_deals-requires-clause-few
+add_deals-requires-clause-few g c = λ entry. let few = c.loop-number.invariant.below.few entry in omega (arith, few, c.loop-number-test.true)
 
 pub loop-number-preserved : goal.loop-number-preserved
 loop-number-preserved g c = record {
   counted = length-set _ _ _ ∙ c.loop-number.invariant.counted;
-  weighed = length-set _ _ _ ∙ c.loop-number.invariant.weighed;
+  weighed = search rules;
   are = rw (c.choice_index-index.ensures.index, c.count_ranks-counted.ensures.value, c.ranks_at-ranks.ensures)
       (chosen c.loop-number.number c.loop-number.counts c.loop-number.invariant.are (omega arith) c.loop-number.invariant.counted);
-  below = rw (c.choice_index-index.ensures.index, c.count_ranks-counted.ensures.value, c.ranks_at-ranks.ensures)
-      (next_listed c.requires (omega arith) c.loop-number.invariant.weighed (rw (c.of-deals.ensures, c.ranks_at-ranks.ensures) at c.count.ensures.open)
-      (let few = c.count.ensures.few in omega (arith, few)) c.loop-number.invariant.below);
-  tables = rw c.of-deals.ensures at (c.put_table.ensures (rw c.of-deals.ensures c.loop-number.invariant.tables));
+  below = next_listed c.requires (omega arith) (rw (c.of-deals.ensures, c.ranks_at-ranks.ensures) at c.add_deals.ensures.added)
+      c.loop-number.invariant.below;
+  tables = rw c.of-deals.ensures at (c.add_deals.ensures.tables (rw c.of-deals.ensures c.loop-number.invariant.tables));
 }
 
 pub returns : goal.returns
 returns g c =
     all_listed c.requires c.loop-number.counts (omega (arith, c.loop-number.auto.number-end, c.loop-number-test.false)) c.loop-number.invariant.are
-    c.loop-number.invariant.below c.loop-number.invariant.tables
+    (search rules) c.loop-number.invariant.below c.loop-number.invariant.tables

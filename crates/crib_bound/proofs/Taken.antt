@@ -62,16 +62,6 @@ set_entry amounts at amount index inside = elim (cases_eq index at) [
       omega (arith, kept, is)
 ]
 
--- none is more than so much, where one of them is that
-pub few_set : (amounts : List ℕ) (at most : ℕ) → at < length amounts → ((index : ℕ) → get_or amounts index 0 ≤ most) → (index : ℕ) →
-    get_or (set amounts at most) index 0 ≤ most
-few_set amounts at most inside few index =
-    let put = set_entry amounts at most index inside in let rest = by (eqb at index) (get_or amounts index 0) (few index) in omega (arith, put, rest)
-  where
-    by : (is : Bool) (amount : ℕ) → amount ≤ most → cond is most amount ≤ most
-    by true amount few = omega arith
-    by false amount few = few
-
 -- what is taken at an index that is one of some
 pub taken_here : (at : Dealt → ℕ) {indices before after : List ℕ} → AreFewer indices before after → (dealt : Dealt) → 1 ≤ taken_of at before after dealt →
     has indices (at dealt) ≡ true

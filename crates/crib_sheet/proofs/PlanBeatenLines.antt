@@ -1,11 +1,12 @@
 -- The lines of the deals that beat a plan, as the writers put them.
 use Rattle.std.proofs.Common.{◌≡◌, ◌≢◌, ◌≤◌, ℕ, ◌+◌, ◌-◌, ◌*◌, ◌/◌, ◌%◌, min, Bool, false, List, [], ◌∷◌, ◌++◌, length, get_or, take, drop}
 use Rattle.std.proofs.Common.{replicate, codes, count_by}
-use Rattle.std.proofs.Common.{refl, ◌∙◌, append_assoc, arith, rules}
+use Rattle.std.proofs.Common.{refl, ◌∙◌, append_assoc, arith, rules, inl, inr}
 use Rattle.std.specs.List.{list_all}
-use Rattle.std.proofs.lemmas.Bool.{ne_eqb}
+use Rattle.std.proofs.lemmas.Bool.{cases_lt, ne_eqb}
 use Rattle.std.proofs.lemmas.Grind.{div_ceil_times}
 use Rattle.std.proofs.lemmas.List.{append-nil, take-replicate, take_all}
+use Rattle.std.proofs.lemmas.Nat.{mul-le}
 use Rattle.crib_beaten.specs.declared.rows.Row.{Row}
 use Rattle.crib_text.specs.Spelling.{space}
 use Rattle.crib_sheet.specs.PlanBeaten.{grouped, deals_line, others_line, row_lines, slot_part, slot_text, term_text}
@@ -59,6 +60,20 @@ row_lines_from word front (row ∷ rows) some is =
 pub others_listed : (others : ℕ) → others ≢ 0 → others_line others ≡ deals_line (codes " and others") others []
 others_listed others some = rw (ne_eqb others 0 some) refl
 
--- what a strategy is worth that divides each deal into twelve parts, in deals, and cut off at a greatest number
-pub deals_of_worth : (worth most count : ℕ) → worth ≤ 12 * count → min (worth / 12 + min 1 (worth % 12)) most ≤ count
-deals_of_worth worth most count small = let bounds = (div_ceil_times worth 12 (omega arith)).1 in omega arith
+-- what a strategy is worth that divides each deal into twelve parts, in deals, rounded up to a unit and cut off at two greatest numbers, where how many
+-- deals there are is a multiple of the unit
+pub deals_of_worth : (worth unit bound most count : ℕ) → 1 ≤ unit → (times : ℕ) × (count ≡ times * unit) → worth ≤ 12 * count →
+    min (min ((worth / (12 * unit) + min 1 (worth % (12 * unit))) * unit) bound) most ≤ count
+deals_of_worth worth unit bound most count some are small =
+    let times = are.0 in
+    let up = worth / (12 * unit) + min 1 (worth % (12 * unit)) in
+    let parts : times * (12 * unit) ≡ 12 * count = grind (arith, are.1) in
+    let close = (div_ceil_times worth (12 * unit) (omega (arith, some))).1 in
+    let few : up ≤ times = elim (cases_lt times up) [
+      | inl more ↦ let most = mul-le (times + 1) (12 * unit) up (12 * unit) (omega (arith, more)) (omega arith) in
+          let next : (times + 1) * (12 * unit) ≡ times * (12 * unit) + 12 * unit = grind arith in absurd (omega (arith, most, next, parts, small, close))
+      | inr few ↦ few
+    ] in
+    let less = mul-le up unit times unit few (omega arith) in
+    let is = are.1 in
+    omega (arith, less, is)

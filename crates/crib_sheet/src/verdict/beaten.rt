@@ -5,7 +5,7 @@ ghost use Rattle.crib_beaten.specs.Tally.{IsTally};
 ghost use Rattle.crib_sheet.specs.PlanBeaten.{AreBeating, AreBeatingOf, AreHandsOf, IsLeast};
 
 use crib_beaten::{Rows, Tally, rows_of, tally_of};
-use crib_bound::bound_of;
+use crib_bound::{bound_of, unit_of};
 use crib_cards::{GAME_HOLE, Side};
 use crib_check::{NoMemory, Verdict};
 use crib_know::Know;
@@ -77,8 +77,9 @@ pub(crate) fn least_of<A: Allocator + Copy>(alloc: A, problem: &Problem) -> Resu
     ensures { IfOk result (IsLeast problem.now) }
 {
     let worth = bound_of(alloc, problem, PARTS, &ladder_of(problem))?;
-    let least = worth.div_ceil(PARTS as u64);
-    Ok(least.min(u32::MAX as u64) as u32)
+    let unit = unit_of(problem) as u64;
+    let times = worth.div_ceil(PARTS as u64 * unit);
+    Ok(times.saturating_mul(unit).min(u32::MAX as u64) as u32)
 }
 
 // A ladder of demands that limit the points of the opponent's show. With the most points of the first demand the

@@ -3,4 +3,5 @@ use Rattle.crib_sheet.proofs.verdict.beaten.least_of.Goals as goal
 
 pub returns : goal.returns
 returns g c = λ plan count exact.
-    rw (c.min.ensures, c.div_ceil-least.ensures) (deals_of_worth _ 4294967295 count (c.in_ok-worth.ensures.plans plan count exact))
+    rw (c.min.ensures, c.saturating_mul.ensures, c.div_ceil-times.ensures) (deals_of_worth _ _ _ 4294967295 count c.unit_of-unit.ensures.some
+    (c.unit_of-unit.ensures.multiple plan count exact) (c.in_ok-worth.ensures.plans plan count exact))

@@ -128,9 +128,13 @@ show_adds_up : (problem : Setup) (game : Game) → IsSetup problem → AreSixCar
 unfolding show_of
 show_adds_up problem game setup six =
     rows_all (AddsUp problem game.opp) (target_of problem) (play_scores problem (record_of problem game))
-    (show_order problem.dealer (hands_of problem game.opp) (problem.thrown ++ game.opp.throw) problem.starter)
-    (hand_adds_up problem game setup six (other_side problem.dealer), (hand_adds_up problem game setup six problem.dealer,
-    (crib_adds_up problem game setup six, tt)))
+    (show_order problem.dealer (hands_of problem game.opp) (problem.thrown ++ game.opp.throw) problem.starter) (
+      hand_adds_up problem game setup six (other_side problem.dealer),
+      (
+        hand_adds_up problem game setup six problem.dealer,
+        (crib_adds_up problem game setup six, tt),
+      ),
+    )
 
 pub hands_add_up : HandsAddUpLaw
 hands_add_up problem game report setup six e =

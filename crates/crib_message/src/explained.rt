@@ -68,7 +68,7 @@ fn cut_short(scene: &Scene<'_>) -> Explained {
         _ if scene.input.is_empty() => tell("The input is empty."),
         Row::Act | Row::Node => count_hint(scene),
         Row::Played => tell(NEEDS_PLAYED),
-        Row::Plan | Row::Game | Row::Turns => Some(sections_hint(scene.sections)),
+        Row::Plan | Row::Game | Row::Turns => sections_hint(scene.sections),
         _ => None,
     };
     let pattern = scene.pattern();

@@ -157,5 +157,9 @@ fn worded(sentence: &[u8]) -> &[u8]
     ensures word { list_any is_ascii_alphabetic result.now ≡ true }
     ensures short { length result.now ≤ length sentence.now + 20 }
 {
-    if sentence.iter().any(u8::is_ascii_alphabetic) { sentence } else { b"this line is refused" }
+    if sentence.iter().any(u8::is_ascii_alphabetic) {
+        sentence
+    } else {
+        b"this line is refused"
+    }
 }

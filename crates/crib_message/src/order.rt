@@ -1,7 +1,7 @@
 //! The order of lines and sections, and how many lines are announced.
 use crate::grammar::Row;
 use crate::scene::{Scene, Section, count_at, is_line_feed, word_in};
-use crate::sentence::{Hint, Sentence, tell};
+use crate::sentence::{Hint, tell};
 use crate::spelling::{is_either, is_word};
 use crib_input::Sections;
 
@@ -35,7 +35,7 @@ pub(crate) fn count_hint(scene: &Scene<'_>) -> Hint {
     let (announcing, number) = lines.filter(|(line, _)| announces(line)).last()?;
     let row = Row::of_keyword(word_in(announcing, 0))?;
     let count = count_at(scene.input, number) as usize;
-    let above = scene.number.saturating_sub(number).saturating_sub(1) as usize;
+    let above = scene.above().saturating_sub(number) as usize;
     let found = above.saturating_add(items_from(scene, row));
     if count == found {
         return None;
@@ -54,7 +54,7 @@ fn announces(line: &[u8]) -> bool {
 
 // Returns how many lines that a row announces follow each other from the refused line on.
 fn items_from(scene: &Scene<'_>, row: Row) -> usize {
-    let lines = scene.input.split(is_line_feed).skip(scene.number.saturating_sub(1) as usize);
+    let lines = scene.input.split(is_line_feed).skip(scene.above() as usize);
     match row {
         Row::Nodes => lines.take_while(|line| is_node(line)).count(),
         _ => lines.take_while(|line| is_act(line)).count(),
@@ -72,7 +72,7 @@ pub(crate) fn order_hint(scene: &Scene<'_>) -> Hint {
         (Row::Act | Row::Node, row) => row.and(count_hint(scene)),
         _ if scene.spot.number == 1 => header_hint(scene, row),
         _ if scene.row == Row::Played || is_played => tell(NEEDS_PLAYED),
-        _ if is_item || row.is_some() => Some(missing_or_moved(scene)),
+        _ if is_item || row.is_some() => missing_or_moved(scene),
         _ => None,
     }
 }
@@ -86,17 +86,13 @@ fn header_hint(scene: &Scene<'_>, row: Option<Row>) -> Hint {
         _ if is_none => "Where no plan is sure, solve writes none, and there is no plan to read.",
         (Row::Problem, Some(Row::Plan | Row::Game | Row::Turns)) => "The problem comes first.",
         (Row::Problem, None) if is_verdict => "The problem comes first.",
-        (Row::Problem, row) => return row.and(Some(section_order(Section::Problem))),
+        (Row::Problem, row) => return row.and(order_of(Section::Problem)),
         (_, Some(Row::Problem)) => "An input has one problem.",
-        (_, Some(Row::Plan | Row::Game | Row::Turns)) => {
-            return Some(sections_hint(scene.sections));
-        }
+        (_, Some(Row::Plan | Row::Game | Row::Turns)) => return sections_hint(scene.sections),
         (Row::Game, None) if is_verdict =>
             "Leave out this line of an answer: a game begins with game 1.",
-        (Row::Plan, Some(Row::Nodes)) => return Some(section_order(Section::Plan)),
-        (Row::Game, Some(Row::Hold | Row::Throw | Row::Acts)) => {
-            return Some(section_order(Section::Game));
-        }
+        (Row::Plan, Some(Row::Nodes)) => return order_of(Section::Plan),
+        (Row::Game, Some(Row::Hold | Row::Throw | Row::Acts)) => return order_of(Section::Game),
         (Row::Turns, _) if is_opening || row == Some(Row::Acts) =>
             "Turns begin with the line turns N; without any it is turns 0.",
         _ if is_opening && !scene.is_second() =>
@@ -107,8 +103,8 @@ fn header_hint(scene: &Scene<'_>, row: Option<Row>) -> Hint {
 }
 
 /// Returns what the command reads.
-pub(crate) fn sections_hint(sections: Sections) -> Sentence {
-    Sentence::of(match sections {
+pub(crate) fn sections_hint(sections: Sections) -> Hint {
+    tell(match sections {
         Sections::Problem => "This command reads a problem and nothing else.",
         Sections::Question => "This command reads a problem and then a plan.",
         Sections::Played => "This command reads a problem and then a game.",
@@ -118,19 +114,19 @@ pub(crate) fn sections_hint(sections: Sections) -> Sentence {
 }
 
 // Returns that the expected line is missing, or in which order the lines of the section are if it is later.
-fn missing_or_moved(scene: &Scene<'_>) -> Sentence {
+fn missing_or_moved(scene: &Scene<'_>) -> Hint {
     let keyword = scene.row.keyword();
-    let lines = scene.input.split(is_line_feed).skip(scene.number.saturating_sub(1) as usize);
+    let lines = scene.input.split(is_line_feed).skip(scene.above() as usize);
     let words = lines.map(|line| word_in(line, 0));
     let mut others = words.take_while(|word| !is_either(word, b"plan", b"game"));
     match others.any(|word| word == keyword.as_bytes()) {
-        true => section_order(scene.spot.section),
-        false => Sentence::of(format_args!("The line {keyword} is missing.")),
+        true => order_of(scene.spot.section),
+        false => tell(format_args!("The line {keyword} is missing.")),
     }
 }
 
-fn section_order(section: Section) -> Sentence {
-    Sentence::of(match section {
+fn order_of(section: Section) -> Hint {
+    tell(match section {
         Section::Plan => "A plan begins with the lines plan 1 and nodes N.",
         Section::Game =>
             "A game begins with the lines game 1, hold, throw and acts, in this order.",

@@ -204,6 +204,11 @@ impl<'a> Scene<'a> {
         problem_len(self.input) > 7
     }
 
+    /// Returns the number of lines above.
+    pub(crate) fn above(&self) -> u32 {
+        self.number.saturating_sub(1)
+    }
+
     /// Returns the number of lines before the section.
     pub(crate) fn before(&self) -> u32 {
         self.number.saturating_sub(self.spot.number)

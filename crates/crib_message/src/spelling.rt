@@ -75,7 +75,8 @@ pub(crate) fn number_hint(word: &[u8]) -> Hint {
         _ if read_number(word).is_some() => return None,
         _ if are_digits(word) => "The greatest number is 4294967295.",
         _ if are_digits(bare(word)) => "Write no other sign at a number.",
-        _ if are_like_digits(word) => "Write 0 and 1 as digits, not as letters.",
+        _ if word.iter().all(|byte| b"0123456789OolIi".contains(byte)) =>
+            "Write 0 and 1 as digits, not as letters.",
         _ => "Write a number in digits alone.",
     })
 }
@@ -83,11 +84,6 @@ pub(crate) fn number_hint(word: &[u8]) -> Hint {
 /// Whether a word is some digits.
 pub(crate) fn are_digits(word: &[u8]) -> bool {
     !word.is_empty() && word.iter().all(u8::is_ascii_digit)
-}
-
-// Whether each byte is a digit, or a letter that looks like 0 or 1.
-fn are_like_digits(word: &[u8]) -> bool {
-    word.iter().all(|byte| b"0123456789OolIi".contains(byte))
 }
 
 /// Returns the hint for numbers with one sign between two in place of a blank, as `109-110`.

@@ -114,8 +114,7 @@ const IF_SURE: &str = "At the end of a row, or if there is no line, nothing is l
 your goal is reached: then play as you like.
 ";
 
-const OTHERWISE: &str =
-    "At the end of a row, if there is no line, or if the next card isn't in your
+const OTHERWISE: &str = "At the end of a row, if there is no line, or if the next card isn't in your
 hand or doesn't fit while another does, the plan states nothing more, nor at a
 \"look\" if a card of yours fits. Then play what you think best: you may still
 reach your goal.

@@ -147,7 +147,7 @@ pub nothing_is_no_message : (line input : List ℕ) → (IsMark 12 [] (codes "ow
     × (IsMessage (codes "cribplan") input (Refused (record { line = 2; cause = Text BadCard })) [] → ⊥)
     × (IsMessage (codes "cribplan") input (Fault NoMemory) [] → ⊥)
 nothing_is_no_message line input =
-    (λ is. (let mark = is.is in cc), λ is. (let excerpt = is.is in cc), λ is. (let text = is.is in cc), λ is. (let text = is.is in cc))
+    (λ is. (let mark = is.is in cc), λ is. (let excerpt = is.is in cc), λ is. (let text = is.is in cc), λ is. cc)
 
 pub mark_of_another_line : (mark : List ℕ) (is : IsMark 12 [] (codes "own") mark) → is.left ≡ codes "x" → ⊥
 mark_of_another_line mark is e =

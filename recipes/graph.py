@@ -55,8 +55,7 @@ def main() -> int:
     # The title has the answer, and the lines of the problem but its first, with the turns on the last one.
     title = re.sub(", (dealer|hold|goal) ", r"\\n\1 ", ", ".join([verdict, *problem.splitlines()[1:]]))
     title = re.sub(r", played \d+(?:$|, )", r"\\nplayed ", title).removesuffix(r"\nplayed ")
-    print("digraph plan {", f'graph [label="{title}", labelloc=t]', sep="\n    ", end="")
-    print("", *STYLES, *drawn(nodes), sep="\n    ", end="\n}\n")
+    print("digraph plan {", f'graph [label="{title}", labelloc=t]', *STYLES, *drawn(nodes), sep="\n    ", end="\n}\n")
     if len(nodes) > 40:
         say(f"this plan has {len(nodes)} nodes; what cribsheet plan prints reads better")
     return 0

@@ -20,8 +20,8 @@ BRANCH = rf"(?:(?:10|[{RANKS}])(?:-(?:10|[{RANKS}]))?|GO?)+"
 COUNTED, ACT = ("played", "acts", "nodes", "turns"), rf"(?:own|opp) (?:{CARD}|go)"
 END = -1  # the place after a plan
 MARK = "\ud800"  # no text has it; it is before the place of a node without a name, and around a place in a note
-SHEET = re.compile(r"You are the (?:pone|dealer) at \d|This plan is (?:not )?sure[.:] ")
-ROWS = re.compile(r"^(?:This plan is sure[^\n]*|The plan:)\n(.*?)(?=^Play a row|\Z)", re.M | re.S)
+SHEET = re.compile(r"You are the (?:pone|dealer) at \d|This plan is (?:(?:not )?sure|long)[.:] ")
+ROWS = re.compile(r"^(?:This plan is (?:sure|long)[^\n]*|The plan:)\n(.*?)(?=^Play a row|\Z)", re.M | re.S)
 ROW = r"(?i)( *)(?:(\[\d+\]) |([^:]*?) *: )?((?:\b\w{2,3}\b,? ?)*)(?:(?:, then )?(?:(look):?|see (\[\d+\])|end))?"
 
 
@@ -218,7 +218,7 @@ def read_sheet(sheet: list[str], notes: list[str]) -> list[str]:
     for at, row in enumerate(filter(None, "".join(rows[-1:]).splitlines())):
         found = re.fullmatch(ROW, row)
         if not found:
-            if row not in ("No card is needed", "The plan states no card"):
+            if not row.startswith(("This plan is long", "No card is needed", "The plan states no card")):
                 notes.append(f'this row can\'t be read: "{row.strip()}"')
                 made.append(row)
             continue

@@ -9,11 +9,12 @@ use Rattle.crib_plan.specs.declared.plan.Node.{Node}
 use Rattle.crib_plan.specs.declared.plan.Node.TheVariants.{Play, See}
 use Rattle.crib_problem.proofs.ExampleProblems.{plays, four_twos, after_two, close_to_lost}
 use Rattle.crib_plan_sheet.specs.PlanNow.{held_after, held_words, is_left, now_text, scores_now}
-use Rattle.crib_plan_sheet.specs.PlanPage.{end_of_row, legend_text, no_card, page_text}
-use Rattle.crib_plan_sheet.specs.PlanSheet.{Line, Looks, Named, NoLine, Over, Plays, lines_to, row_of, row_to}
+use Rattle.crib_plan_sheet.specs.PlanPage.{begins_long, end_of_row, legend_text, long_text, no_card, page_text, plan_page}
+use Rattle.crib_plan_sheet.specs.PlanSheet.{Line, Looks, Named, NoLine, Over, Plays, lines_to, row_of, row_to, sheet_with}
 use Rattle.crib_plan_sheet.specs.PlanSheetSize.{level_count, line_count}
 use Rattle.crib_plan_sheet.specs.PlanText.{before_rest, go_words, indent, label, label_column, label_width, letter_byte, range_words, rank_words, sheet_text}
 use Rattle.crib_plan_sheet.specs.PlanStuck.{stuck_text, stuck_words}
+use Rattle.crib_plan_sheet.proofs.PlanExamples.{three_eights}
 
 -- ---- words of problems
 -- the last row: own 2C, opp 2D, a pair
@@ -81,6 +82,20 @@ pages_without_a_look :
     × (page_text true (record { first = Plays 31 Over; paragraphs = [] }) ≡ codes "8S\n" ++ how_to_read ++ if_sure)
 unfolding page_text sheet_text legend_text if_sure
 pages_without_a_look = (refl, refl, refl)
+
+-- 20 looks are few. A card alone, or a first row that goes on in a paragraph, has no lines. The look may be the last node
+long_pages :
+    (map (begins_long (λ node. false)) ((three_eights ++ replicate 18 (See [])) ∷ (three_eights ++ replicate 19 (See [])) ∷
+    (Play 4 End ∷ replicate 21 (See [])) ∷ (Play 4 (To 21) ∷ replicate 21 (See [])) ∷ replicate 21 (See []) ∷ [] ∷ [])
+    ≡ false ∷ true ∷ false ∷ true ∷ true ∷ false ∷ [])
+    × (begins_long (λ node. node == 1) (three_eights ++ replicate 19 (See [])) ≡ false)
+    × (map long_text (true ∷ false ∷ [])
+    ≡ codes "This plan is long. Its sheet begins with the lines for what they show first.\n\n" ∷ [] ∷ [])
+    × (plan_page true (λ node. false) (Play 31 End ∷ replicate 21 (See [])) ≡ codes "8S\n" ++ how_to_read ++ if_sure)
+    × (plan_page false (λ node. false) (Play 31 (To 21) ∷ replicate 21 (See []))
+    ≡ long_text true ++ codes "8S, then look:\n" ++ how_to_read ++ end_of_row false)
+unfolding plan_page page_text sheet_text sheet_with legend_text if_sure
+long_pages = (refl, refl, refl, refl, refl)
 
 -- ---- why a plan is stuck
 

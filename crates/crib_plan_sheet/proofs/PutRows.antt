@@ -1,6 +1,6 @@
 -- The rows and lines of a sheet, put on a device.
 use Rattle.std.proofs.Common.{◌≡◌, ℕ, zero, suc, ◌+◌, ◌-◌, ◌*◌, ◌<◌, ◌≤◌, ◌∙◌, Bool, true, false, cond, List, [], ◌∷◌, ◌++◌, Some, None, length, map, filter}
-use Rattle.std.proofs.Common.{take, replicate, get_or, codes, decimal, refl, ap, sym, append_assoc, arith}
+use Rattle.std.proofs.Common.{nat_lt, take, replicate, get_or, codes, decimal, refl, ap, sym, append_assoc, arith}
 use Rattle.std.specs.List.{flat_map}
 use Rattle.std.proofs.lemmas.List.{drop_all}
 use Rattle.crib_cards.specs.CardText.{card_text}
@@ -10,13 +10,15 @@ use Rattle.crib_plan.specs.declared.plan.Next.TheVariants.{End, To}
 use Rattle.crib_plan.specs.declared.plan.Node.{Node}
 use Rattle.crib_plan.specs.declared.plan.Node.TheVariants.{Play, See}
 use Rattle.crib_plan.specs.Nodes.{IsLater, IsNode, ArePlan}
+use Rattle.crib_plan.specs.Places.{plan_start}
 use Rattle.crib_plan.specs.Spelling.{leads_to, new_node}
 use Rattle.crib_run.specs.Prints.{Stand, Prints}
 use Rattle.crib_run.proofs.Printing.{SoFar, more, as_text, so_far_more, so_far_skip, so_far_done}
 use Rattle.crib_plan_sheet.specs.PlanSheet.{Paragraph, Named, lines_to, row_of, rows_from, sheet_with, Over}
-use Rattle.crib_plan_sheet.specs.PlanOutline.{apart_in}
+use Rattle.crib_plan_sheet.specs.PlanOutline.{apart_in, is_long}
+use Rattle.crib_plan_sheet.specs.PlanSheetSize.{level_count}
 use Rattle.crib_plan_sheet.specs.PlanText.{row_text, lines_text, before_rest, indent, label, label_width, paragraph_text}
-use Rattle.crib_plan_sheet.specs.PlanPage.{end_of_row, legend_text, no_card, page_text}
+use Rattle.crib_plan_sheet.specs.PlanPage.{begins_long, end_of_row, legend_text, no_card, page_text}
 use Rattle.crib_plan_sheet.specs.Private.Pages.{first_text, IsDeep, place_row, node_row, lines_at, line_front, width_at}
 use Rattle.crib_plan_sheet.specs.Private.Pages.{paragraphs_text}
 use Rattle.crib_plan_sheet.proofs.LabelPieces.{column_from, line_at}
@@ -53,6 +55,10 @@ deep_later level number count (To node) deep later = let above = later.0 in (ome
 pub room_later : (number count : ℕ) (next : Next) → number < count → IsLater number count next → room count next + 1 ≤ count - number
 room_later number count End inside later = omega arith
 room_later number count (To node) inside later = let above = later.0 in let below = later.1 in omega arith
+
+pub start_deep : (plan : List Node) → IsDeep 0 (length plan) (plan_start plan)
+start_deep [] = tt
+start_deep (node ∷ plan) = (omega arith, omega arith)
 
 -- ---- lines
 
@@ -193,6 +199,12 @@ put_none_first sure known flags plan nodes same none is put =
 pub put_some_first : (sure : Bool) (flags : List Bool) (plan nodes : List Node) {s t : Stand} → nodes ≡ plan → 0 < length nodes →
     Prints (row_text 0 (place_row flags plan (To 0))) s t → Prints (first_text sure flags plan) s t
 put_some_first sure flags plan nodes same some put = as_text put (first_of_some sure flags plan (rw (← same) some))
+
+-- whether the sheet of a long plan begins with lines is whether its first row has some
+pub long_first : (flags : List Bool) (plan : List Node) (place : Next) → place ≡ plan_start plan → is_long plan ≡ true →
+    nat_lt 0 (level_count (place_row flags plan place)) ≡ begins_long (apart_in flags) plan
+unfolding place_row sheet_with
+long_first flags plan place start long = rw (start, long) refl
 
 -- ---- the pieces of a page, of a name and of the front of a line
 

@@ -1,6 +1,9 @@
 -- The page of a plan: its sheet, and how to read it.
-use Rattle.std.specs.Prelude.{ℕ, Bool, List, [], ◌++◌, codes, if◌then◌else◌}
-use Rattle.crib_plan_sheet.specs.PlanSheet.{Row, Sheet, Over, Plays, Looks, Named}
+use Rattle.std.specs.Prelude.{ℕ, Bool, List, [], ◌++◌, ◌&&◌, nat_lt, codes, if◌then◌else◌}
+use Rattle.crib_plan.specs.declared.plan.Node.{Node}
+use Rattle.crib_plan_sheet.specs.PlanOutline.{is_long}
+use Rattle.crib_plan_sheet.specs.PlanSheet.{Row, Sheet, Over, Plays, Looks, Named, sheet_with}
+use Rattle.crib_plan_sheet.specs.PlanSheetSize.{level_count}
 use Rattle.crib_plan_sheet.specs.PlanText.{sheet_text}
 
 -- what is printed for a first row without a card or a look. Only a sure plan needs no card there
@@ -34,3 +37,18 @@ legend_text sure =
 -- the page of a sheet
 unfoldable pub page_text : Bool → Sheet → List ℕ
 page_text sure sheet = no_card sure sheet.first ++ sheet_text sheet ++ legend_text sure
+
+-- whether the sheet of a long plan begins with lines: its first row has some below it
+abbrev pub begins_long : (ℕ → Bool) → List Node → Bool
+begins_long apart plan = is_long plan && nat_lt 0 (level_count (sheet_with apart plan).first)
+
+-- what is printed before such a sheet
+abbrev pub long_text : Bool → List ℕ
+long_text long =
+    if long
+    then codes "This plan is long. Its sheet begins with the lines for what they show first.\n\n"
+    else []
+
+-- the page of a plan, by the nodes that have paragraphs of their own
+unfoldable pub plan_page : Bool → (ℕ → Bool) → List Node → List ℕ
+plan_page sure apart plan = long_text (begins_long apart plan) ++ page_text sure (sheet_with apart plan)

@@ -21,8 +21,8 @@ pub(crate) fn looks_to_name<A: Allocator>(plan: &Plan<A>) -> [Next; 14]
     }
 }
 
-// Whether a plan is long: it has more than 20 looks.
-fn is_long<A: Allocator>(plan: &Plan<A>) -> bool
+/// Whether a plan is long: it has more than 20 looks.
+pub(crate) fn is_long<A: Allocator>(plan: &Plan<A>) -> bool
     ensures { result ≡ spec.is_long plan.now }
 {
     plan.nodes().iter().filter(|node| is_look(*node)).count() > FEW

@@ -1,15 +1,20 @@
 //! The page of a plan.
+ghost use Rattle.std.specs.Prelude.{◌≡◌};
 ghost use Rattle.crib_run.specs.Prints.{Prints};
 ghost use Rattle.crib_plan_sheet.specs.PlanOutline.{apart_in};
-ghost use Rattle.crib_plan_sheet.specs.PlanPage.{page_text};
-ghost use Rattle.crib_plan_sheet.specs.PlanSheet.{sheet_with};
+ghost use Rattle.crib_plan_sheet.specs.PlanPage.{begins_long, long_text, plan_page};
 ghost use Rattle.crib_plan_sheet.specs.Private.Pages.{first_text, paragraphs_text};
 
+use crate::index::is_long;
 use crate::outline::Outline;
 use crate::rows::Walk;
-use crib_plan::{Next, Plan};
+use crib_plan::{Next, Plan, start};
 use crib_run::{Page, put_number};
 use std::alloc::Allocator;
+
+// What is before the sheet of a long plan.
+const LONG: &[u8] =
+    b"This plan is long. Its sheet begins with the lines for what they show first.\n\n";
 
 // How to read a sheet, up to what the end of a row means.
 const LEGEND: &[u8] = b"
@@ -33,22 +38,38 @@ hand or doesn't fit while another does, the plan states nothing more, nor at a
 reach your goal.
 ";
 
-/// Puts the sheet of a plan, by the nodes that have paragraphs of their own, and how to read it. What the end of a row
-/// means depends on whether the plan is sure. It needs no memory.
+/// Puts the sheet of a plan, by the nodes that have paragraphs of their own, and how to read it. Before a long sheet is
+/// how it begins. What the end of a row means depends on whether the plan is sure. It needs no memory.
 pub fn put_plan<A: Allocator, B: Allocator, P: Page>(
     page: &mut P,
     plan: &Plan<A>,
     outline: &Outline<B>,
     sure: bool,
 )
-    ensures { Prints (page_text sure (sheet_with (apart_in outline.now) plan.now)) (P.stand page.old)
-        (P.stand page.new) }
+    ensures { Prints (plan_page sure (apart_in outline.now) plan.now) (P.stand page.old) (P.stand page.new) }
 {
     let walk = Walk { plan, outline };
+    put_long(page, begins_long(&walk));
     put_first(page, &walk, sure);
     put_paragraphs(page, &walk);
     page.put(LEGEND);
     page.put(if sure { END_IF_SURE } else { END_OTHERWISE });
+}
+
+// Puts how the sheet of a long plan begins.
+fn put_long<P: Page>(page: &mut P, long: bool)
+    ensures { Prints (long_text long) (P.stand page.old) (P.stand page.new) }
+{
+    if long {
+        page.put(LONG);
+    }
+}
+
+// Whether the sheet of a long plan begins with lines.
+fn begins_long<A: Allocator, B: Allocator>(walk: &Walk<'_, A, B>) -> bool
+    ensures { result ≡ begins_long (apart_in walk.now.outline.now) walk.now.plan.now }
+{
+    is_long(walk.plan) && walk.has_lines(start(walk.plan))
 }
 
 // Puts the row at which the plan starts.

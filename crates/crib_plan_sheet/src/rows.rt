@@ -1,9 +1,10 @@
 //! The rows of a plan's sheet, each written as the walk over the plan reaches it.
-ghost use Rattle.std.specs.Prelude.{◌≡◌, ◌≤◌, ◌<◌, ◌+◌, length};
+ghost use Rattle.std.specs.Prelude.{◌≡◌, ◌≤◌, ◌<◌, ◌+◌, nat_lt, length};
 ghost use Rattle.crib_plan.specs.Nodes.{IsNode};
 ghost use Rattle.crib_plan.specs.declared.plan.Next.TheVariants as nexts;
 ghost use Rattle.crib_plan.specs.declared.plan.Node.TheVariants as node_kinds;
 ghost use Rattle.crib_run.specs.Prints.{Prints};
+ghost use Rattle.crib_plan_sheet.specs.PlanSheetSize.{level_count};
 ghost use Rattle.crib_plan_sheet.specs.PlanText as spec;
 ghost use Rattle.crib_plan_sheet.specs.PlanText.{row_text, lines_text};
 ghost use Rattle.crib_plan_sheet.specs.Private.Pages.{IsDeep, line_front, lines_at, node_row, place_row, width_at};
@@ -60,6 +61,25 @@ impl<A: Allocator, B: Allocator> Walk<'_, A, B> {
             Node::See { next } => {
                 page.put(b"look:\n");
                 self.put_lines(page, level + 1, node, next);
+            }
+        }
+    }
+
+    /// Whether the row of a place has lines below it.
+    pub(crate) fn has_lines(&self, place: Next) -> bool
+        requires { IsDeep 0 (length self.now.plan.now) place }
+        ensures { result ≡ nat_lt 0 (level_count (place_row self.now.outline.now self.now.plan.now place)) }
+    {
+        match place {
+            Next::End => false,
+            Next::To(node) => {
+                if self.outline.is_apart(node) {
+                    return false;
+                }
+                match &self.plan.nodes()[node as usize] {
+                    Node::Play { card: _, next } => self.has_lines(*next),
+                    Node::See { next: _ } => true,
+                }
             }
         }
     }

@@ -28,7 +28,7 @@ use Rattle.crib_sheet.specs.Asked.{asked_of_input, plan_or_none}
 use Rattle.crib_sheet.specs.PlanHead.{failing_text, position_text, sure_text}
 use Rattle.crib_sheet.specs.PlanBeaten.{AreBeating, AreBeatingOf, IsLeast, beating_text, least_text}
 use Rattle.crib_beaten.specs.declared.rows.Rows.{Rows}
-use Rattle.crib_plan_sheet.specs.PlanPage.{page_text}
+use Rattle.crib_plan_sheet.specs.PlanPage.{page_text, plan_page}
 use Rattle.crib_plan_sheet.specs.PlanPlay.{ReachesGoal}
 use Rattle.crib_plan_sheet.specs.PlanSheet.{Over, sheet_with}
 use Rattle.crib_sheet.specs.declared.answer.job.SheetJob.TheVariants.{Plan, Game as GameJob, Refute, Why}
@@ -121,10 +121,10 @@ replies_of_verdicts : (problem : Setup) (plan : List Node) (game : Game) (open_d
     × (plan_reply problem plan (Fails Short game) open_deals beaten hands 7 apart
     ≡ record {
       output = (position_text problem ++ beating_text open_deals beaten hands ++ least_text beaten 7 ++ failing_text problem plan Short game)
-          ++ page_text false (sheet_with apart plan);
+          ++ plan_page false apart plan;
       status = No;
     })
-unfolding sheet_with
+unfolding sheet_with plan_page
 replies_of_verdicts problem plan game open_deals beaten hands apart = (refl, refl)
 
 refused_plan_is_written : (reply : Reply) → AnswersPlan (Err (record { line = 3; number = 21 })) reply → reply ≡ refused_reply (codes "refused line 3: 21\n")
@@ -172,7 +172,7 @@ not_about_a_way_back input never (inr asks) = absurd (omega (arith, asks.1.1.0.1
 -- ---- the sheet of a sure plan is printed, and reaches the goal
 sure_sheet : (input text : List ℕ) →
     ((problem : Setup) (plan : List Node) (apart : ℕ → Bool) → AsksAbout input problem plan → IsSure problem plan → GoesOn problem plan → Ends problem →
-    text ≡ sure_text problem ++ page_text true (sheet_with apart plan) → ReachesGoal problem (sheet_with apart plan) → ⊥) →
+    text ≡ sure_text problem ++ plan_page true apart plan → ReachesGoal problem (sheet_with apart plan) → ⊥) →
     HasSureSheet input text → ⊥
 sure_sheet input text none has = none has.problem has.plan has.apart has.asked has.sure has.goes_on has.ends has.printed has.reaches
 
@@ -186,7 +186,7 @@ unsure_sheet : (input text : List ℕ) →
     AsksAbout input problem plan →
     (IsSure problem plan → ⊥) → (SpellsProblem input problem → IsWinnable problem → ⊥) → (SpellsProblem input problem → IsNeverStuck problem plan) →
     AreBeating problem plan open_deals beaten hands → IsLeast problem least →
-    text ≡ position_text problem ++ beating_text open_deals beaten hands ++ least_text beaten least ++ middle ++ page_text false (sheet_with apart plan)
+    text ≡ position_text problem ++ beating_text open_deals beaten hands ++ least_text beaten least ++ middle ++ plan_page false apart plan
     → ⊥) →
     HasUnsureSheet input text → ⊥
 unsure_sheet input text none has =

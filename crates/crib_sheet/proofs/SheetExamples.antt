@@ -14,8 +14,7 @@ use Rattle.crib_input.specs.declared.sections.Sections.TheVariants.{Problem, Que
 use Rattle.crib_run.specs.declared.status.Status.TheVariants.{Yes, No, Refused, Fault}
 use Rattle.crib_input.proofs.EmptyExamples.{no_plan_in_nothing, no_problem_in_nothing}
 use Rattle.crib_sheet.specs.PlanHead.{sure_text}
-use Rattle.crib_plan_sheet.specs.PlanPage.{page_text}
-use Rattle.crib_plan_sheet.specs.PlanSheet.{sheet_with}
+use Rattle.crib_plan_sheet.specs.PlanPage.{plan_page}
 use Rattle.crib_plan_sheet.proofs.PlanPlays.{sure_is_reached}
 use Rattle.crib_sheet.specs.declared.answer.job.SheetJob.TheVariants.{Plan, Game as GameJob, Beaten, Try, Refute, Why}
 use Rattle.crib_sheet.specs.Job.{job_called, sections_of}
@@ -34,7 +33,7 @@ jobs_and_statuses game = (refl, refl, refl, refl)
 
 -- ---- what a sheet means. `Ends` is assumed here
 a_sure_plan : (input : List ℕ) → SpellsPlan input at_29 ace_or_two → Ends at_29 →
-    PlanMeans input (sure_text at_29 ++ page_text true (sheet_with (λ node. false) ace_or_two)) Yes
+    PlanMeans input (sure_text at_29 ++ plan_page true (λ node. false) ace_or_two) Yes
 a_sure_plan input spelled ends = record {
   problem = at_29;
   plan = ace_or_two;

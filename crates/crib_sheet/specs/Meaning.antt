@@ -39,7 +39,7 @@ use Rattle.crib_sheet.specs.Refute.{WhyTexts, refute_texts, why_texts}
 use Rattle.crib_sheet.specs.Scores.{scores_text}
 use Rattle.crib_tables.specs.Scores.{AreScores}
 use Rattle.crib_tables.specs.declared.scores.ScoreTable.{ScoreTable}
-use Rattle.crib_plan_sheet.specs.PlanPage.{page_text}
+use Rattle.crib_plan_sheet.specs.PlanPage.{plan_page}
 use Rattle.crib_plan_sheet.specs.PlanPlay.{ReachesGoal}
 use Rattle.crib_plan_sheet.specs.PlanSheet.{sheet_with}
 use Rattle.crib_sheet.specs.declared.answer.job.SheetJob.{SheetJob}
@@ -60,7 +60,7 @@ pub record HasSureSheet (input text : List ℕ) : Type 0 where
   pub goes_on : GoesOn problem plan
   pub ends : Ends problem
   pub apart : ℕ → Bool
-  pub printed : text ≡ sure_text problem ++ page_text true (sheet_with apart plan)
+  pub printed : text ≡ sure_text problem ++ plan_page true apart plan
   pub reaches : ReachesGoal problem (sheet_with apart plan)
 
 -- an input spells a problem and a plan that is not sure
@@ -90,7 +90,7 @@ pub record HasUnsureSheet (input text : List ℕ) : Type 0 where
   pub apart : ℕ → Bool
   pub printed :
       text ≡ position_text problem ++ beating_text open_deals beaten hands ++ least_text beaten least ++ middle
-      ++ page_text false (sheet_with apart plan)
+      ++ plan_page false apart plan
 
 -- an input spells a problem and a game, and `text` is the sheet of the game
 pub record HasGameSheet (input text : List ℕ) : Type 0 where

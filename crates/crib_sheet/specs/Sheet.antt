@@ -40,8 +40,7 @@ use Rattle.crib_sheet.specs.Refute.{WhyTexts, words_reply, refute_reply, refute_
 use Rattle.crib_sheet.specs.Scores.{scores_reply, scores_text}
 use Rattle.crib_tables.specs.Scores.{AreScores}
 use Rattle.crib_tables.specs.declared.scores.ScoreTable.{ScoreTable}
-use Rattle.crib_plan_sheet.specs.PlanPage.{page_text}
-use Rattle.crib_plan_sheet.specs.PlanSheet.{sheet_with}
+use Rattle.crib_plan_sheet.specs.PlanPage.{plan_page}
 use Rattle.crib_plan_sheet.specs.PlanOutline.{apart_in}
 use Rattle.crib_sheet.specs.declared.answer.Sheet.{Sheet}
 use Rattle.crib_sheet.specs.declared.answer.Sheet.TheVariants as sheets
@@ -97,7 +96,7 @@ verdict_status (Fails result game) = No
 abbrev pub plan_reply : Setup → List Node → Verdict → ℕ → ℕ → Option Rows → ℕ → (ℕ → Bool) → Reply
 plan_reply problem plan verdict open_deals beaten hands least apart = record {
   output = head_text problem plan verdict open_deals beaten hands least
-      ++ page_text (is_sure (verdict_status verdict)) (sheet_with apart plan);
+      ++ plan_page (is_sure (verdict_status verdict)) apart plan;
   status = verdict_status verdict;
 }
 
@@ -121,7 +120,7 @@ unfoldable pub parts_reply : {A : Type 0} → PlanSheet A → Reply
 parts_reply sheet = record {
   output = head_text sheet.problem sheet.plan sheet.verdict sheet.tally.open_deals sheet.tally.beaten sheet.hands
       sheet.least
-      ++ page_text (is_sure sheet.status) (sheet_with (apart_in sheet.outline) sheet.plan);
+      ++ plan_page (is_sure sheet.status) (apart_in sheet.outline) sheet.plan;
   status = sheet.status;
 }
 

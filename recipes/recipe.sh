@@ -16,14 +16,14 @@ print_usage() {
     echo "  $name --help | --version"
 }
 
-# find_program NAME: the path of a program: beside the recipe, then one folder up, then on the path. In the folder of the
-# sources it is the program that the launcher runs.
+# $(find_program NAME): the path of a program: beside the recipe, then one folder up, then on the path. In the folder of
+# the sources it is the program that the launcher runs. One that can't be started, as for another machine, is a fault.
 find_program() {
-    local place
     for place in "$here/$1" "$here/../$1" "$(command -v "$1")"; do
         [ -f "$place" ] && [ -x "$place" ] || continue
-        if [ "$place" -ef "$here/../$1" ]; then "$here/../tools/program" "$1" || exit 3; else echo "$place"; fi
-        return
+        [ ! "$place" -ef "$here/../$1" ] || place=$("$here/../tools/program" "$1") || exit 3
+        "$place" --help >"$room/out" 2>&1 </dev/null || [[ $? != 12[67] ]] || { say "$place can't be started"; exit 3; }
+        echo "$place" && return
     done
     return 1
 }
@@ -31,7 +31,7 @@ find_program() {
 # need_cribplan: finds cribplan, in $program.
 need_cribplan() {
     program=$(find_program cribplan) && return
-    [ $? -eq 3 ] || say "there is no cribplan beside it, one folder up, or on the path"
+    [ $? -eq 3 ] || say "there is no cribplan that can be run beside it, one folder up, or on the path"
     exit 3
 }
 

@@ -24,7 +24,7 @@ pub fn program() -> Program
         commands: NAMES.as_slice(),
         after_help: "\
 Commands:
-  check   reads a problem and a plan: is the plan sure? If not, the first game in which it fails
+  check   reads a problem and a plan: is it sure? If not, the first game in which it fails; cribsheet plan says why
   solve   reads a problem: a plan that is sure, or none
   replay  reads a problem and a game: the scores, the counted hands, and how the deal ended
   board   reads a problem and a game: every act with its points, and where the pegs are

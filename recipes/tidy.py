@@ -13,7 +13,8 @@ LETTERS = f"{RANKS}g"
 CARD = f"[{RANKS}][CDHS]"
 NUMBERS = dict(zip("ACE TWO THREE FOUR FIVE SIX SEVEN EIGHT NINE TEN JACK QUEEN KING".split(), RANKS))
 KEYWORDS = "problem dealer owner opponent score starter hold throw goal win holes stop played own opp go".split()
-KEYWORDS += "game acts plan nodes play see end turns".split()
+KEYWORDS += "game acts plan nodes turns play see end".split()
+MARKS = rf"(?i)^ *(?:(?:[>|•·] ?)+|- (?=\w)|\d+[.)] +(?=(?:{'|'.join(KEYWORDS[:-3])})\b))"  # of mails and of lists
 ARROW = r"\s*(?:[-=]>|=|[→⇒])\s*"
 NEXT = rf"(?:{ARROW}|,? (?:then|go ?to) (?=\S)|, *)"  # behind the card of a node
 BRANCH = rf"(?:(?:10|[{RANKS}])(?:-(?:10|[{RANKS}]))?|GO?)+"
@@ -55,7 +56,7 @@ def decoded(data: bytes) -> str:
 
 def plain(text: str) -> str:
     """A line in signs of ASCII, with `5 of spades` as a card, and without marks of mails, of lists and of its end."""
-    typed = re.sub(r"^ *(?:(?:[>|•·] ?)+|- (?=\w))", "", unicodedata.normalize("NFKC", text).translate(SIGNS))
+    typed = re.sub(MARKS, "", unicodedata.normalize("NFKC", text).translate(SIGNS))
     named = rf"(?i)\b(10|{'|'.join([*NUMBERS, *RANKS])})(?: of)?[: ]([CDHS])(?:lub|iamond|eart|pade)s?\b"
     return re.sub(named, lambda card: NUMBERS.get(card[1].upper(), card[1]) + card[2], typed).rstrip(" .!")
 
@@ -70,7 +71,7 @@ def meant(word: str) -> str:
 
 def words_of(text: str) -> list[str]:
     """The words of a line that is no node's, or of a cell, each as it is meant."""
-    between = rf"{ARROW}|(?<=\d)-(?=\d)|(?<=[CDHS])-(?=[{RANKS}1])| - |\.+(?= )|[][(),;:/|&+]|\band\b"
+    between = rf"{ARROW}|(?<=\d)(?:-| to )(?=\d)|(?<=[CDHS])-(?=[{RANKS}1])| - |\.+(?= )|[][(),;:/|&+]|\band\b"
     return " ".join(map(meant, re.sub(between, " ", text, flags=re.I).split())).split()
 
 

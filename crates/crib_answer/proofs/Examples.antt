@@ -17,8 +17,8 @@ use Rattle.crib_game.specs.Spelling.{game_text, game_lines}
 use Rattle.crib_text.specs.Refusals.{Refusal, no_memory}
 use Rattle.crib_check.specs.declared.verdict.Verdict.TheVariants.{Holds, Fails}
 use Rattle.crib_sure.specs.Sure.{Ends}
-use Rattle.crib_check.proofs.SureExamples.{ace_or_two, ace_or_two_is_sure, ace_or_two_goes_on}
-use Rattle.crib_sure.proofs.ExampleOpening.{at_29}
+use Rattle.crib_check.proofs.SureExamples.{ace_or_two_is_sure, ace_or_two_goes_on}
+use Rattle.crib_sure.proofs.ExampleOpening.{ace_or_two, at_29}
 use Rattle.crib_search.specs.Winnable.{IsWinnable}
 use Rattle.crib_answer.specs.declared.job.Job.TheVariants.{Replay, Check, Solve, Board, Follow}
 use Rattle.crib_answer.specs.Job.{all_jobs, job_names, job_called, sections_of}

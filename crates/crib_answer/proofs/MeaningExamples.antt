@@ -1,22 +1,26 @@
 -- Worked examples of right replies and of what they guarantee, clause by clause.
-use Rattle.std.proofs.Common.{arith, ◌≡◌, refl, ap, inl, inr, ℕ, List, [], codes, Option, Some, None, Ok}
+use Rattle.std.proofs.Common.{arith, ◌≡◌, ◌⊎◌, refl, ap, subst, inl, inr, ℕ, List, [], ◌∷◌, codes, Option, Some, None, Ok}
 use Rattle.std.specs.Prelude.{slice_index}
 use Rattle.std.specs.Fmt.{digits}
 use Rattle.crib_problem.specs.Setup.{Setup}
-use Rattle.crib_problem.proofs.ExampleProblems.{level}
+use Rattle.crib_problem.proofs.ExampleProblems.{four_twos, level}
+use Rattle.crib_plan.specs.declared.plan.Next.TheVariants.{To}
 use Rattle.crib_plan.specs.declared.plan.Node.{Node}
+use Rattle.crib_plan.specs.declared.plan.Node.TheVariants.{Play}
 use Rattle.crib_plan.specs.Nodes.{ArePlan, most_nodes}
 use Rattle.crib_plan.specs.Spelling.{plan_lines, plan_text}
 use Rattle.crib_check.specs.declared.verdict.Verdict.{Verdict}
 use Rattle.crib_check.specs.declared.verdict.Verdict.TheVariants.{Holds, Fails}
-use Rattle.crib_sure.specs.Sure.{Ends, GoesOn, IsSure}
+use Rattle.crib_sure.specs.Sure.{GoesOn, IsSure}
 use Rattle.crib_check.specs.Verdicts.{IsRight}
+use Rattle.crib_check.proofs.Examples.{AreThese, HasThirtyTurns, in_a_row, of_these, short_plan_is_not_sure, stuck_plan_cannot_go_on}
+use Rattle.crib_check.proofs.Examples.{thirty_turns_are_too_many}
 use Rattle.crib_search.specs.Finder.{ExceedsLimit, IsFound}
 use Rattle.crib_search.specs.Winnable.{IsWinnable}
-use Rattle.crib_input.specs.Spelled.{SpellsPlan, SpellsProblem}
+use Rattle.crib_input.specs.Spelled.{SpellsProblem}
 use Rattle.crib_run.specs.declared.status.Status.TheVariants.{Yes, No, Fault}
 use Rattle.crib_run.specs.Reply.{Reply}
-use Rattle.crib_answer.specs.declared.job.Job.TheVariants.{Follow, Board, Solve}
+use Rattle.crib_answer.specs.declared.job.Job.TheVariants.{Check, Follow, Board, Solve}
 use Rattle.crib_answer.specs.Answer.{AnswersCheck, AnswersProblem, AnswersSolve}
 use Rattle.crib_answer.specs.Meaning.{CheckMeans, HasNoPlan, HasSomePlan, HasSurePlan, IsSolvedBy, SolveMeans, StatusMeans}
 
@@ -57,14 +61,23 @@ pub replies_to_a_problem : (IsFound level None → (ExceedsLimit level 65535 →
     × (AnswersSolve (Ok level) (record { output = []; status = Yes }) → ⊥)
 replies_to_a_problem = ((λ found few. inl (None, found, few, refl)), nothing_is_written level)
 
--- ---- a sure plan is spelled, is sure, goes on and ends, and so is one that is found
-pub sure_plan : (input : List ℕ) (has : HasSurePlan input) →
-    SpellsPlan input has.problem has.plan × IsSure has.problem has.plan × GoesOn has.problem has.plan × Ends has.problem
-sure_plan input has = (has.spelled, has.sure, has.goes_on, has.ends)
+-- ---- a sure plan, typed or found, neither falls short nor is stuck, and no play goes on for thirty turns
+pub no_other_plan_is_sure : (input text : List ℕ) (means : StatusMeans Check input (record { output = text; status = Yes })) →
+    AreThese means.0.problem means.0.plan four_twos in_a_row ⊎ AreThese means.0.problem means.0.plan four_twos [] → ⊥
+no_other_plan_is_sure input text means (inl are) = short_plan_is_not_sure (of_these IsSure means.0.problem means.0.plan _ _ are means.0.sure)
+no_other_plan_is_sure input text means (inr are) = stuck_plan_cannot_go_on (of_these GoesOn means.0.problem means.0.plan _ _ are means.0.goes_on)
 
-pub found_plan : (input text : List ℕ) (is : IsSolvedBy input text) →
-    SpellsProblem input is.problem × ArePlan is.plan × IsSure is.problem is.plan × GoesOn is.problem is.plan × Ends is.problem
-found_plan input text is = (is.spelled, is.is_plan, is.sure, is.goes_on, is.ends)
+pub no_other_plan_is_found : (input text : List ℕ) (means : StatusMeans Solve input (record { output = text; status = Yes })) →
+    AreThese means.problem means.plan four_twos in_a_row ⊎ AreThese means.problem means.plan four_twos [] ⊎ (means.plan ≡ Play 4 (To 0) ∷ []) → ⊥
+no_other_plan_is_found input text means (inl are) = short_plan_is_not_sure (of_these IsSure means.problem means.plan _ _ are means.sure)
+no_other_plan_is_found input text means (inr (inl are)) = stuck_plan_cannot_go_on (of_these GoesOn means.problem means.plan _ _ are means.goes_on)
+no_other_plan_is_found input text means (inr (inr e)) =
+    let is : ArePlan (Play 4 (To 0) ∷ []) = subst ArePlan e means.is_plan in absurd (omega (arith, is.1.0))
+
+pub no_play_has_thirty_turns : (input text : List ℕ) → ((has : HasSurePlan input) → HasThirtyTurns has.problem → ⊥)
+    × ((is : IsSolvedBy input text) → HasThirtyTurns is.problem → ⊥)
+no_play_has_thirty_turns input text =
+    ((λ has. thirty_turns_are_too_many has.problem has.ends), (λ is. thirty_turns_are_too_many is.problem is.ends))
 
 -- ---- no plan, and some plan
 pub problem_without_a_plan : (input : List ℕ) (has : HasNoPlan input) → SpellsProblem input has.problem × (((problem : Setup) → IsWinnable problem) → ⊥)

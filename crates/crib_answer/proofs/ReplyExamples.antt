@@ -9,7 +9,7 @@ use Rattle.crib_game.specs.declared.replaying.report.Report.{Report}
 use Rattle.crib_game.specs.declared.section.game.Game.{Game}
 use Rattle.crib_game.specs.Spelling.{game_text, game_lines}
 use Rattle.crib_check.specs.declared.verdict.Verdict.TheVariants.{Holds, Fails}
-use Rattle.crib_check.proofs.SureExamples.{ace_or_two}
+use Rattle.crib_sure.proofs.ExampleOpening.{ace_or_two}
 use Rattle.crib_run.specs.declared.status.Status.TheVariants.{Yes, No, Refused}
 use Rattle.crib_run.specs.Reply.{Reply}
 use Rattle.crib_answer.specs.Answer.{AnswersCheck, AnswersSolve, board_reply, counted_line, ending_reply, ending_status, found_reply, play_line}

@@ -1,7 +1,7 @@
 -- A worked plan that is sure, with two branches. The opening is TC TD 9C, which makes 29. The owner knows all twos, so the opponent shows an ace or says go.
 -- After an ace the owner's ace makes a pair and 31. After a go his two makes 31.
 use Rattle.std.proofs.Common.{arith, ◌≡◌, ◌⊎◌, ◌<◌, refl, sym, ap, ◌∙◌, subst, inl, inr, ℕ, Bool, true, false, eqb, not, ◌||◌}
-use Rattle.std.proofs.Common.{List, [], ◌∷◌, ◌++◌, length, filter, replicate}
+use Rattle.std.proofs.Common.{List, [], ◌∷◌, ◌++◌, length, filter}
 use Rattle.std.specs.Prelude.{IsTrue, IsFalse, if◌then◌else◌}
 use Rattle.std.specs.List.{list_all, list_any}
 use Rattle.std.proofs.lemmas.Bool.{both_ways, cases_Bool, eq-eqb, or_cases, or_left, or_right}
@@ -21,9 +21,6 @@ use Rattle.crib_cards.specs.Letters.{letter_of}
 use Rattle.crib_cards.proofs.Members.{all_has}
 use Rattle.crib_show.specs.declared.show.outcomes.Outcome.TheVariants.{Reached}
 use Rattle.crib_problem.specs.Setup.{IsDealOf, start_of, hands_of, played_back, unseen_of}
-use Rattle.crib_plan.specs.declared.plan.Next.TheVariants.{End, To}
-use Rattle.crib_plan.specs.declared.plan.Node.{Node}
-use Rattle.crib_plan.specs.declared.plan.Node.TheVariants.{Play, See}
 use Rattle.crib_game.specs.Replay.{is_done_for, outcome_for, play_scores}
 use Rattle.crib_game.specs.Following.{opening_is_over, IsAsStated, Follows, is_stuck, place_of}
 use Rattle.crib_sure.specs.Sure.{IsSure, IsFollowed, GoesOn, Ends}
@@ -31,12 +28,8 @@ use Rattle.crib_check.specs.Verdicts.{KeepsOn}
 use Rattle.crib_check.specs.declared.verdict.Verdict.TheVariants.{Fails}
 use Rattle.crib_game.specs.declared.section.game.Game.{Game}
 use Rattle.crib_game.specs.declared.following.ending.Ending.TheVariants as ending
-use Rattle.crib_sure.proofs.ExampleOpening.{at_29}
+use Rattle.crib_sure.proofs.ExampleOpening.{ace_or_two, at_29}
 use Rattle.crib_show.specs.Outcome.{outcome_from}
-
--- AC after an ace, 2C after a go
-abbrev pub ace_or_two : List Node
-ace_or_two = See (To 1 ∷ replicate 12 End ++ To 2 ∷ []) ∷ Play 0 End ∷ Play 4 End ∷ []
 
 -- the opening, and then with one turn more; the last turn comes first
 abbrev three_turns : List Move
@@ -222,7 +215,3 @@ a_failing_plan_need_not_go_on game = tt
 pub fewer_than_thirty_turns :
     ((dealt : Dealt) (played : List Move) → IsDealOf at_29 dealt → IsLegal (start_of at_29) (hands_of at_29 dealt) played → length played < 30) → Ends at_29
 fewer_than_thirty_turns few dealt played deal legal = omega (arith, few dealt played deal legal)
-
-pub thirty_turns_are_too_many : Ends at_29 → (dealt : Dealt) (played : List Move) → IsDealOf at_29 dealt →
-    IsLegal (start_of at_29) (hands_of at_29 dealt) played → length played ≡ 30 → ⊥
-thirty_turns_are_too_many ends dealt played deal legal thirty = absurd (omega (arith, ends dealt played deal legal, thirty))

@@ -4,15 +4,13 @@ use Rattle.std.specs.Prelude.{get_or, slice_index}
 use Rattle.std.proofs.lemmas.Bool.{both_ways}
 use Rattle.std.proofs.lemmas.List.Elements.{All-from_recursion, All-head, All-tail}
 use Rattle.crib_cards.specs.Deals.{is_in_pack_order, unseen_from}
-use Rattle.crib_cards.specs.Sets.{AreDifferent}
+use Rattle.crib_cards.specs.Sets.{AreDifferent, set_where}
 use Rattle.crib_cards.specs.declared.sides.Dealt.{Dealt}
-use Rattle.crib_problem.specs.Setup.{IsSetup, Setup}
+use Rattle.crib_problem.specs.Setup.{IsSetup}
 use Rattle.crib_problem.proofs.ExampleProblems.{level}
 use Rattle.crib_know.specs.Hidden.{IsOpen, KnowsAfter}
 use Rattle.crib_know.specs.Knowledge.{Knowledge}
-use Rattle.crib_show.specs.Show.{crib_points}
-use Rattle.crib_show.specs.declared.demands.Demand.{Demand}
-use Rattle.crib_sure.specs.Shows.{meets}
+use Rattle.crib_show.specs.Show.{crib_points, hand_points}
 use Rattle.crib_deals.specs.Choices.{are_in_order, ranks_of_number}
 use Rattle.crib_deals.specs.Deals.{Behind, IsBehind, IsMissing, behind_by, ranks_held}
 use Rattle.crib_deals.specs.Exact.{AreExactly}
@@ -65,11 +63,6 @@ in_order = refl
 -- ---- deals with some ranks
 ranks_of_a_deal : ranks_held with_six ≡ 1 ∷ 2 ∷ 3 ∷ 4 ∷ []
 ranks_of_a_deal = refl
-
-behind_ranks : (problem : Setup) (ranks : List ℕ) (demand : Demand) →
-    (IsBehind (behind_by problem ranks) with_six ≡ (IsOpen problem with_six × (ranks_held with_six ≡ ranks)))
-    × (IsMissing (behind_by problem ranks) demand with_six ≡ (IsBehind (behind_by problem ranks) with_six × (meets problem demand with_six ≡ false)))
-behind_ranks problem ranks demand = (refl, refl)
 
 -- ---- throws
 -- of 2C 3C 4C 5C, three throws begin with 2C, two end with 4C, and six are all
@@ -140,6 +133,18 @@ with_jack = record { hold = 37 ∷ 42 ∷ 5 ∷ 47 ∷ []; throw = 18 ∷ 25 ∷
 
 abbrev behind_jack : Behind
 behind_jack = behind_by level (ranks_held with_jack)
+
+-- the hand has 10 points and the crib 9. The owner of 2C doesn't face AC 2C 3C 4C
+behind_its_ranks : IsOpen level with_jack → IsMissing behind_jack (record { hand = 9; total = 19; crib = 9 }) with_jack
+    × ¬ IsMissing behind_jack (record { hand = 10; total = 19; crib = 9 }) with_jack × ¬ IsBehind (behind_by level (10 ∷ 11 ∷ 2 ∷ 11 ∷ [])) with_jack
+    × ¬ IsMissing (behind_by level (1 ∷ 2 ∷ 3 ∷ 4 ∷ [])) (record { hand = 0; total = 0; crib = 0 }) with_six
+unfolding hand_points crib_points set_where
+behind_its_ranks open_deal = (
+  ((open_deal, refl), refl),
+  λ missing. both_ways true missing.1 refl,
+  λ behind. let queen : 12 ≡ 11 = ap (λ ranks. slice_index ranks 3) behind.1 in absurd (omega (arith, queen)),
+  λ missing. both_ways false refl missing.0.0.0.deal.hidden_before,
+)
 
 nine_in_the_crib : IsOpen level with_jack → IsBelow behind_jack 1 10 with_jack × ¬ IsBelow behind_jack 1 9 with_jack × ¬ IsBelow behind_jack 0 10 with_jack
 unfolding crib_points

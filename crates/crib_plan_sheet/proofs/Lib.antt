@@ -1,4 +1,4 @@
-mod PlanPlayExamples
+pub mod PlanPlayExamples
 pub mod PlanWordExamples
 pub mod HaltedPlays
 pub mod LabelPieces

@@ -28,7 +28,7 @@ use Rattle.crib_plan_sheet.specs.declared.stuck.Halt.TheVariants as halts
 use Rattle.crib_show.specs.Outcome.{outcome_from}
 
 -- four twos in a row
-abbrev twos : Sheet
+abbrev pub twos : Sheet
 twos = record { first = Plays 4 (Plays 5 (Plays 6 (Plays 7 Over))); paragraphs = [] }
 
 abbrev nothing : Sheet
@@ -145,7 +145,7 @@ twos_to_the_end = record {
   from_sheet = ((((((((tt, λ over. refl), λ over. tt), λ over. refl), λ over. tt), λ over. refl), λ over. tt), λ over. refl), λ over. tt);
 }
 
-twos_fall_short : ReachesGoal four_twos twos → ⊥
+pub twos_fall_short : ReachesGoal four_twos twos → ⊥
 unfolding outcome_from hand_points crib_points
 twos_fall_short reaches = (let short = reaches.reached aces all_turns twos_to_the_end refl in cc)
 

@@ -3,6 +3,7 @@ mod HolesExamples
 mod LeadsExamples
 mod MeaningExamples
 mod NextTextExamples
+mod OtherMeaningExamples
 mod PlanBeatenExamples
 mod PlanHeadExamples
 mod RefuteExamples

@@ -1,38 +1,52 @@
 -- Worked examples of right replies and of what they guarantee, clause by clause.
-use Rattle.std.proofs.Common.{◌≡◌, ◌⊎◌, refl, ap, arith, inl, inr, ℕ, true, false, Bool, List, [], ◌++◌, codes, get_or, Option, Some, None, Ok, Err, ◌∷◌}
+use Rattle.std.proofs.Common.{◌≡◌, ◌⊎◌, ◌∙◌, refl, sym, ap, subst, arith, inl, inr, ℕ}
+use Rattle.std.proofs.Common.{true, false, Bool, List, [], ◌++◌, codes, get_or, Option, Some, None}
+use Rattle.std.proofs.Common.{Ok, Err, ◌∷◌}
 use Rattle.std.proofs.lemmas.Bool.{both_ways}
 use Rattle.std.specs.Fmt.{digits}
 use Rattle.crib_text.specs.Refusals.{Refusal}
+use Rattle.crib_cards.specs.declared.sides.Side.TheVariants.{Owner}
 use Rattle.crib_problem.specs.Setup.{Setup}
-use Rattle.crib_problem.proofs.ExampleProblems.{four_twos}
+use Rattle.crib_problem.proofs.ExampleProblems.{aces, four_twos, plays}
+use Rattle.crib_sure.proofs.ExampleOpening.{ace_or_two, at_29}
+use Rattle.crib_game.proofs.ExampleGames.{game_with}
+use Rattle.crib_game.specs.declared.following.ending.Ending.TheVariants as ending
+use Rattle.crib_check.proofs.Examples.{AreThese, HasThirtyTurns, all_acts, falls_short, in_a_row, of_these, short_plan_is_not_sure, stuck_plan_cannot_go_on}
+use Rattle.crib_check.proofs.Examples.{thirty_turns_are_too_many}
+use Rattle.crib_search.proofs.TriedExamples.{stuck_at_the_lead}
+use Rattle.crib_deals.specs.Exact.{AreExactly}
+use Rattle.crib_beaten.specs.Beaten.{Beats}
+use Rattle.crib_beaten.proofs.TermExamples.{in_none}
+use Rattle.crib_game_sheet.specs.Heading.{heading_text, scores_line}
+use Rattle.crib_plan_sheet.proofs.PlanPlayExamples.{twos, twos_fall_short}
+use Rattle.crib_input.proofs.EmptyExamples.{no_game_in_nothing}
 use Rattle.crib_plan.specs.declared.plan.Next.TheVariants.{End, To}
 use Rattle.crib_plan.specs.declared.plan.Node.{Node}
 use Rattle.crib_plan.specs.declared.plan.Node.TheVariants.{Play}
 use Rattle.crib_search.specs.Finder.{ExceedsLimit}
 use Rattle.crib_game.specs.declared.section.game.Game.{Game}
 use Rattle.crib_game.specs.declared.following.ending.Ending.TheVariants.{Short}
-use Rattle.crib_check.specs.declared.verdict.Verdict.{Verdict}
 use Rattle.crib_check.specs.declared.verdict.Verdict.TheVariants.{Holds, Fails}
-use Rattle.crib_sure.specs.Sure.{Ends, GoesOn, IsSure}
+use Rattle.crib_sure.specs.Sure.{GoesOn, IsSure}
 use Rattle.crib_search.specs.Tried.{IsNeverStuck}
 use Rattle.crib_search.specs.Winnable.{IsWinnable}
 use Rattle.crib_plan.specs.Nodes.{ArePlan}
-use Rattle.crib_check.specs.Verdicts.{IsRight}
-use Rattle.crib_input.specs.Spelled.{SpellsGame, SpellsPlan, SpellsProblem}
+use Rattle.crib_input.specs.Spelled.{SpellsPlan, SpellsProblem}
 use Rattle.crib_input.proofs.InputReaders.{read_count, read_played, read_problem, read_question, refused}
+use Rattle.crib_run.specs.declared.status.Status.{Status}
 use Rattle.crib_run.specs.declared.status.Status.TheVariants.{Yes, No, Refused, Fault}
 use Rattle.crib_run.specs.Reply.{Reply}
 use Rattle.crib_answer.specs.Input.{report_of_input}
 use Rattle.crib_game_sheet.specs.GameText.{game_sheet_text}
 use Rattle.crib_sheet.specs.Asked.{asked_of_input, plan_or_none}
 use Rattle.crib_sheet.specs.PlanHead.{failing_text, position_text, sure_text}
-use Rattle.crib_sheet.specs.PlanBeaten.{AreBeating, AreBeatingOf, IsLeast, beating_text, least_text}
+use Rattle.crib_sheet.specs.PlanBeaten.{beating_text, least_text}
 use Rattle.crib_beaten.specs.declared.rows.Rows.{Rows}
 use Rattle.crib_plan_sheet.specs.PlanPage.{page_text, plan_page}
 use Rattle.crib_plan_sheet.specs.PlanPlay.{ReachesGoal}
 use Rattle.crib_plan_sheet.specs.PlanSheet.{Over, sheet_with}
-use Rattle.crib_sheet.specs.declared.answer.job.SheetJob.TheVariants.{Plan, Game as GameJob, Refute, Why}
-use Rattle.crib_sheet.specs.Meaning.{AsksAbout, GameMeans, HasGameSheet, HasSureSheet, HasUnsurePlan, HasUnsureSheet, IsRefusedByReplay, PlanMeans, SheetMeans}
+use Rattle.crib_sheet.specs.declared.answer.job.SheetJob.TheVariants.{Plan, Game as GameJob, Beaten, Refute, Why}
+use Rattle.crib_sheet.specs.Meaning.{AsksAbout, GameMeans, IsRefusedByReplay, PlanMeans, SheetMeans}
 use Rattle.crib_sheet.specs.Sheet.{AnswersPlan, IsSheetOf, IsToTry, SheetAnswers, SheetAsksForMemory, SheetMakes, game_sheet_of_input, plan_reply}
 
 -- ---- the sections: a problem of seven lines, the beginning of a plan, and a game with a card that isn't held
@@ -83,18 +97,32 @@ a_problem_alone_is_read : asked_of_input problem_section ≡ refused 8 3 → ⊥
 unfolding read_question
 a_problem_alone_is_read e = absurd cc
 
--- the verdict and the figures are right, and the reply is what is written of them
-reply_of_a_plan : (problem : Setup) (plan : List Node) (reply : Reply) →
-    ((verdict : Verdict) (open_deals beaten : ℕ) (hands : Option Rows) (least : ℕ) (apart : ℕ → Bool) → IsRight problem plan verdict →
-    AreBeatingOf problem plan verdict open_deals beaten hands → IsLeast problem least →
-    reply ≡ plan_reply problem plan verdict open_deals beaten hands least apart → ⊥) →
-    AnswersPlan (Ok (problem, Some plan)) reply → ⊥
-reply_of_a_plan problem plan reply none answers =
-    none answers.0 answers.1 answers.2 answers.3 answers.4 answers.5 answers.6 answers.7 answers.8 answers.9
+-- four twos in a row fall short with four aces: the plan isn't sure, some deals beat it, and each plan is beaten by as many at most
+aces_beat_it : Beats four_twos in_a_row aces
+aces_beat_it = record { game = all_acts; result = ending.Short; failing = falls_short; of_deal = refl }
 
-verdict_of_a_plan : (problem : Setup) (plan : List Node) (reply : Reply) (answers : AnswersPlan (Ok (problem, Some plan)) reply) →
-    IsRight problem plan answers.0
-verdict_of_a_plan problem plan reply answers = answers.6
+aces_are_counted : (beaten : ℕ) → AreExactly (Beats four_twos in_a_row) beaten → beaten ≡ 0 → ⊥
+aces_are_counted beaten exact none = in_none aces exact.deals ((exact.each aces).1 (refl, aces_beat_it)) (exact.counted ∙ none)
+
+replies_to_twos : (reply : Reply) (answers : AnswersPlan (Ok (four_twos, Some in_a_row)) reply) →
+    (reply.status ≡ Yes) ⊎ (answers.2 ≡ 0) ⊎ ((answers.2 ≡ 8) × (answers.4 ≡ 9)) → ⊥
+replies_to_twos reply (Holds, open_deals, beaten, hands, least, apart, sure, figures, is_least, same) wrong = short_plan_is_not_sure sure
+replies_to_twos reply (Fails result game, open_deals, beaten, hands, least, apart, right, figures, is_least, same) (inl sure) =
+    let status : No ≡ Yes = sym (ap (λ (r : Reply). r.status) same) ∙ sure in absurd cc
+replies_to_twos reply (Fails result game, open_deals, beaten, hands, least, apart, right, figures, is_least, same) (inr (inl none)) =
+    aces_are_counted beaten figures.are_beaten none
+replies_to_twos reply (Fails result game, open_deals, beaten, hands, least, apart, right, figures, is_least, same) (inr (inr few)) =
+    absurd (omega (arith, is_least in_a_row beaten figures.are_beaten, few.0, few.1))
+
+not_empty : (first : ℕ) (bytes : List ℕ) → [] ≡ first ∷ bytes → ⊥
+not_empty first bytes text = cc
+
+no_reply_without_a_text : (plan : List Node) (status : Status) → AnswersPlan (Ok (four_twos, Some plan)) (record { output = []; status = status }) → ⊥
+unfolding position_text heading_text scores_line
+no_reply_without_a_text plan status (Holds, open_deals, beaten, hands, least, apart, right, figures, is_least, same) =
+    not_empty _ _ (ap (λ (reply : Reply). reply.output) same)
+no_reply_without_a_text plan status (Fails result game, open_deals, beaten, hands, least, apart, right, figures, is_least, same) =
+    not_empty _ _ (ap (λ (reply : Reply). reply.output) same)
 
 -- of a problem alone: a plan that is found may have too many nodes, and no sheet has the status of a fault
 large_plan_of_a_problem : ExceedsLimit four_twos 65535 → AnswersPlan (Ok (four_twos, None)) (record { output = codes "fault 50\n"; status = Fault })
@@ -131,23 +159,25 @@ refused_plan_is_written : (reply : Reply) → AnswersPlan (Err (record { line = 
 unfolding digits
 refused_plan_is_written reply is = is
 
--- ---- memory: `plan` may ask for it once the number of nodes is read, or the problem alone, and `game` never
+-- ---- memory: `plan` may ask for it once the number of nodes is read, as `beaten` may, or the problem alone, and `game` never
 plan_asks_for_memory :
-    SheetAsksForMemory Plan with_a_bad_node
+    SheetAsksForMemory Plan with_a_bad_node × SheetAsksForMemory Beaten with_a_bad_node
     × SheetMakes Plan with_a_bad_node fault_11
     × SheetMakes Plan with_a_bad_node (refused_reply (codes "refused line 10: 4\n"))
 unfolding read_count read_question digits
-plan_asks_for_memory = (inl refl, inr (inl refl, refl), inl refl)
+plan_asks_for_memory = (inl refl, refl, inr (inl refl, refl), inl refl)
 
 problem_asks_for_memory : SheetAsksForMemory Plan problem_section
 unfolding read_problem
 problem_asks_for_memory = inr refl
 
-never_asks : (input : List ℕ) → SheetAsksForMemory Plan (problem_section ++ codes "plan 1\n") ⊎ SheetAsksForMemory GameJob input → ⊥
+never_asks : (input : List ℕ) → SheetAsksForMemory Plan (problem_section ++ codes "plan 1\n")
+    ⊎ SheetAsksForMemory Beaten (problem_section ++ codes "plan 1\n") ⊎ SheetAsksForMemory GameJob input → ⊥
 unfolding read_count
 never_asks input (inl (inl asks)) = absurd (both_ways false refl asks)
 never_asks input (inl (inr asks)) = absurd (both_ways false refl asks)
-never_asks input (inr asks) = asks
+never_asks input (inr (inl asks)) = absurd (both_ways false refl asks)
+never_asks input (inr (inr asks)) = asks
 
 game_never_runs_out_of_memory : SheetMakes GameJob with_a_bad_game fault_11 → ⊥
 unfolding read_played game_sheet_of_input digits
@@ -169,52 +199,67 @@ not_about_a_way_back : (input : List ℕ) → (SpellsPlan input four_twos (Play 
 not_about_a_way_back input never (inl spelled) = never spelled
 not_about_a_way_back input never (inr asks) = absurd (omega (arith, asks.1.1.0.1.0))
 
--- ---- the sheet of a sure plan is printed, and reaches the goal
-sure_sheet : (input text : List ℕ) →
-    ((problem : Setup) (plan : List Node) (apart : ℕ → Bool) → AsksAbout input problem plan → IsSure problem plan → GoesOn problem plan → Ends problem →
-    text ≡ sure_text problem ++ plan_page true apart plan → ReachesGoal problem (sheet_with apart plan) → ⊥) →
-    HasSureSheet input text → ⊥
-sure_sheet input text none has = none has.problem has.plan has.apart has.asked has.sure has.goes_on has.ends has.printed has.reaches
+-- ---- what `plan` says of a sure plan: none that falls short, that states no card or whose sheet falls short, and no play of thirty turns
+wrong_sure_sheets : (input text : List ℕ) (means : SheetMeans Plan input (record { output = text; status = Yes })) →
+    AreThese means.problem means.plan four_twos in_a_row ⊎ AreThese means.problem means.plan four_twos []
+    ⊎ ((means.problem ≡ four_twos) × (sheet_with means.apart means.plan ≡ twos)) → ⊥
+wrong_sure_sheets input text means (inl are) = short_plan_is_not_sure (of_these IsSure means.problem means.plan _ _ are means.sure)
+wrong_sure_sheets input text means (inr (inl are)) = stuck_plan_cannot_go_on (of_these GoesOn means.problem means.plan _ _ are means.goes_on)
+wrong_sure_sheets input text means (inr (inr are)) =
+    twos_fall_short (subst (λ sheet. ReachesGoal four_twos sheet) are.1
+    (subst (λ setup. ReachesGoal setup (sheet_with means.apart means.plan)) are.0 means.reaches))
 
--- ---- a plan that is not sure, with right figures and a sheet that are printed, and the sheet of a game
-unsure_plan : (input : List ℕ) → ((problem : Setup) (plan : List Node) → SpellsPlan input problem plan → (IsSure problem plan → ⊥) → ⊥) →
-    HasUnsurePlan input → ⊥
-unsure_plan input none has = none has.problem has.plan has.spelled has.unsure
+no_play_has_thirty_turns : (input text : List ℕ) (means : SheetMeans Plan input (record { output = text; status = Yes })) →
+    HasThirtyTurns means.problem → ⊥
+no_play_has_thirty_turns input text means = thirty_turns_are_too_many means.problem means.ends
 
-unsure_sheet : (input text : List ℕ) →
-    ((problem : Setup) (plan : List Node) (open_deals beaten : ℕ) (hands : Option Rows) (least : ℕ) (middle : List ℕ) (apart : ℕ → Bool) →
-    AsksAbout input problem plan →
-    (IsSure problem plan → ⊥) → (SpellsProblem input problem → IsWinnable problem → ⊥) → (SpellsProblem input problem → IsNeverStuck problem plan) →
-    AreBeating problem plan open_deals beaten hands → IsLeast problem least →
-    text ≡ position_text problem ++ beating_text open_deals beaten hands ++ least_text beaten least ++ middle ++ plan_page false apart plan
-    → ⊥) →
-    HasUnsureSheet input text → ⊥
-unsure_sheet input text none has =
-    none has.problem has.plan has.open_deals has.beaten has.hands has.least has.middle has.apart has.asked has.unsure has.none has.stated has.figures
-    has.is_least has.printed
+-- ---- what it says of a plan that is not sure: it isn't, and none is if a problem alone was typed; the figures are right, and the plan is not stuck
+wrong_unsure_sheets : (input text : List ℕ) (means : SheetMeans Plan input (record { output = text; status = No })) → IsSure at_29 ace_or_two →
+    AreThese means.problem means.plan at_29 ace_or_two ⊎ ((means.problem ≡ at_29) × SpellsProblem input means.problem)
+    ⊎ (AreThese means.problem means.plan four_twos [] × SpellsProblem input means.problem)
+    ⊎ (AreThese means.problem means.plan four_twos in_a_row × (means.beaten ≡ 0))
+    ⊎ ((means.beaten ≡ 8) × (means.least ≡ 9)) → ⊥
+wrong_unsure_sheets input text means sure (inl are) = of_these (λ setup plan. ¬ IsSure setup plan) means.problem means.plan _ _ are means.unsure sure
+wrong_unsure_sheets input text means sure (inr (inl (same, alone))) =
+    subst (λ setup. ¬ IsWinnable setup) same (means.none alone) (record { plan = ace_or_two; sure = sure })
+wrong_unsure_sheets input text means sure (inr (inr (inl (are, alone)))) =
+    stuck_at_the_lead (of_these IsNeverStuck means.problem means.plan _ _ are (means.stated alone))
+wrong_unsure_sheets input text means sure (inr (inr (inr (inl (are, none))))) =
+    aces_are_counted means.beaten (of_these (λ setup plan. AreExactly (Beats setup plan) means.beaten) means.problem means.plan _ _ are
+    means.figures.are_beaten) none
+wrong_unsure_sheets input text means sure (inr (inr (inr (inr few)))) =
+    absurd (omega (arith, means.is_least means.plan means.beaten means.figures.are_beaten, few.0, few.1))
 
-sheet_of_a_game : (input text : List ℕ) →
-    ((problem : Setup) (game : Game) → SpellsGame input problem game → game_sheet_text problem game ≡ Ok text → ⊥) → HasGameSheet input text → ⊥
-sheet_of_a_game input text none has = none has.problem has.game has.spelled has.sheet
+no_sheet_without_a_text : (input : List ℕ) → (SheetMeans Plan input (record { output = []; status = Yes }) → ⊥)
+    × (SheetMeans Plan input (record { output = []; status = No }) → ⊥)
+unfolding position_text heading_text scores_line
+no_sheet_without_a_text input = ((λ means. not_empty _ _ means.printed), (λ means. not_empty _ _ means.printed))
 
--- ---- a game that `replay` refuses
-replay_refuses : (input text : List ℕ) → ((refusal : Refusal) → report_of_input input ≡ Err refusal → ⊥) → IsRefusedByReplay input text → ⊥
-replay_refuses input text none is = none is.refusal is.refused
+-- ---- what `game` says: the sheet of a game that is replayed, or the line with which `replay` refuses one that plays KC of another
+wrong_game_sheets : (input text : List ℕ) → (SheetMeans GameJob [] (record { output = text; status = Yes }) → ⊥)
+    × ((means : SheetMeans GameJob input (record { output = text; status = Yes })) → means.problem ≡ four_twos →
+    means.game ≡ game_with aces (plays Owner 48 ∷ []) → ⊥)
+wrong_game_sheets input text = (
+  λ means. no_game_in_nothing means.problem means.game means.spelled,
+  λ means same e. (
+      let sheet = subst (λ game. game_sheet_text four_twos game ≡ Ok text) e (subst (λ setup. game_sheet_text setup means.game ≡ Ok text) same means.sheet)
+      in absurd cc
+      ),
+)
+
+refused_by_replay : (text : List ℕ) → SheetMeans GameJob with_a_bad_game (refused_reply (codes "refused line 12: 41\n"))
+    × (SheetMeans GameJob (problem_section ++ codes "game 1\nhold AC AD AH AS\nthrow 3C 3D\nacts 0\n") (refused_reply text) → ⊥)
+unfolding read_played report_of_input digits
+refused_by_replay text = (record { refusal = record { line = 12; number = 41 }; refused = refl; line = refl }, λ means. (let is = means.refused in absurd cc))
 
 line_of_replay : (input : List ℕ) → IsRefusedByReplay input [] → ⊥
 line_of_replay input is = (let text = is.line in cc)
 
--- ---- what each status guarantees
-what_statuses_mean : (input text : List ℕ) →
-    (PlanMeans input text Yes ≡ HasSureSheet input text)
-    × (PlanMeans input text No ≡ HasUnsureSheet input text)
-    × (PlanMeans input text Refused
-    ≡ ((problem : Setup) → (SpellsProblem input problem → ⊥) × ((plan : List Node) → SpellsPlan input problem plan → ⊥)))
-    × (GameMeans input text Yes ≡ HasGameSheet input text)
-    × (GameMeans input text Refused ≡ IsRefusedByReplay input text)
-    × (SheetMeans Plan input (record { output = text; status = Yes }) ≡ PlanMeans input text Yes)
-    × (SheetMeans GameJob input (record { output = text; status = Yes }) ≡ GameMeans input text Yes)
-what_statuses_mean input text = (refl, refl, refl, refl, refl, refl, refl)
+-- ---- what is spelled is not refused, and each fault has its line
+spelled_is_not_refused : (input text : List ℕ) → SpellsProblem input four_twos ⊎ SpellsPlan input four_twos two_twos →
+    SheetMeans Plan input (refused_reply text) → ⊥
+spelled_is_not_refused input text (inl spelled) means = (means four_twos).0 spelled
+spelled_is_not_refused input text (inr spelled) means = (means four_twos).1 two_twos spelled
 
 no_fault_without_its_line : (input : List ℕ) → PlanMeans input [] Fault ⊎ GameMeans input [] Fault → ⊥
 no_fault_without_its_line input (inl (inl text)) = cc

@@ -1,26 +1,31 @@
 -- Worked examples of games that refute every player, as text, and of what the answers guarantee.
-use Rattle.std.proofs.Common.{◌≡◌, ◌≤◌, ◌⊎◌, inl, inr, ℕ, List, [], ◌∷◌, ◌++◌, length, Ok, Err, codes, refl, ap}
+use Rattle.std.proofs.Common.{◌≡◌, ◌≤◌, ◌⊎◌, ◌∙◌, inl, inr, ℕ, List, [], ◌∷◌, ◌++◌, length, Ok, Err, codes, refl, sym, ap, subst, arith}
+use Rattle.std.specs.Prelude.{slice_index}
 use Rattle.std.specs.Fmt.{digits}
 use Rattle.crib_cards.specs.declared.moves.Move.TheVariants.{Card, Go}
 use Rattle.crib_cards.specs.declared.sides.Side.TheVariants.{Owner, Opponent}
 use Rattle.crib_problem.specs.Setup.{Setup}
-use Rattle.crib_problem.proofs.ExampleProblems.{level, level_deal}
+use Rattle.crib_problem.proofs.ExampleProblems.{close_to_lost, level, level_deal}
 use Rattle.crib_game.proofs.ExampleGames.{game_with}
 use Rattle.crib_game.specs.declared.section.game.Game.{Game}
 use Rattle.crib_game.specs.Spelling.{game_lines, game_text}
 use Rattle.crib_input.specs.Spelled.{SpellsProblem}
+use Rattle.crib_input.proofs.EmptyExamples.{no_problem_in_nothing}
+use Rattle.crib_sure.specs.Sure.{IsSure}
+use Rattle.crib_sure.proofs.ExampleOpening.{ace_or_two, at_29}
 use Rattle.crib_players.specs.Players.{IsSurePlayer, Player}
 use Rattle.crib_players.specs.Refutations.{Refutes}
 use Rattle.crib_run.specs.Reply.{Reply}
 use Rattle.crib_run.specs.declared.status.Status.TheVariants.{Yes, No, Refused, Fault}
 use Rattle.crib_answer.specs.Meaning.{HasSomePlan}
 use Rattle.crib_search.specs.Winnable.{IsWinnable}
+use Rattle.crib_why.proofs.Examples.{ace_twice}
 use Rattle.crib_why.specs.Answer.{AreBySuit, SomeIsSure}
 use Rattle.crib_why.specs.declared.why.Why.TheVariants as why
 use Rattle.crib_why_sheet.specs.WhyPlay.{held_with}
 use Rattle.crib_why_sheet.specs.WhyRows.{lines_from}
 use Rattle.crib_sheet.specs.Meaning.{IsDecidedBySuits, IsRefutedBy, SheetMeans}
-use Rattle.crib_sheet.specs.Refute.{WhyTexts, refute_reply, refute_texts, refuted_text, rows_text, suits_line, why_texts}
+use Rattle.crib_sheet.specs.Refute.{WhyTexts, refute_reply, refute_texts, refuted_text, rows_text, why_texts}
 use Rattle.crib_sheet.specs.Sheet.{AnswersWhy}
 use Rattle.crib_sheet.specs.declared.answer.job.SheetJob.TheVariants.{Refute, Why}
 
@@ -96,12 +101,41 @@ what_refute_means : (input text : List ℕ) →
 unfolding digits
 what_refute_means input text = (refl, refl, refl, refl, refl)
 
-refuted_needs : (input text : List ℕ) →
-    ((problem : Setup) (games : List Game) → SpellsProblem input problem → Refutes problem games → length games ≤ 24 →
-    ((player : Player) → IsSurePlayer problem player → ⊥) → text ≡ refuted_text games → ⊥) → IsRefutedBy (λ problem. refute_texts) input text → ⊥
-refuted_needs input text none is = none is.problem is.games is.spelled is.refutes is.few is.nobody is.printed
+-- no games, 25 of them, or another text refute nothing; nor do any where a player is sure
+wrong_games : (input text : List ℕ) (is : IsRefutedBy (λ problem. refute_texts) input text) →
+    ((is.problem ≡ close_to_lost) × (is.games ≡ [])) ⊎ (length is.games ≡ 25) ⊎ ((player : Player) × IsSurePlayer is.problem player)
+    ⊎ ((is.games ≡ no_act ∷ []) × (text ≡ codes "refuted 2\n")) → ⊥
+unfolding refuted_text digits
+wrong_games input text is (inl are) =
+    let refutes : Refutes close_to_lost [] = subst (λ games. Refutes close_to_lost games) are.1 (subst (λ setup. Refutes setup is.games) are.0 is.refutes) in
+    let first = refutes.some.1 in absurd cc
+wrong_games input text is (inr (inl many)) = absurd (omega (arith, is.few, many))
+wrong_games input text is (inr (inr (inl somebody))) = is.nobody somebody.0 somebody.1
+wrong_games input text is (inr (inr (inr (one, two)))) =
+    let digit : 50 ≡ 49 = ap (λ bytes. slice_index bytes 8) (sym two ∙ is.printed ∙ ap refuted_text one) in absurd (omega (arith, digit))
 
-suits_need : (input text : List ℕ) →
-    ((problem : Setup) (ranks : List ℕ) → SpellsProblem input problem → ¬ IsWinnable problem → SomeIsSure problem → AreBySuit problem ranks →
-    text ≡ suits_line ranks → ⊥) → IsDecidedBySuits (λ problem. refute_texts) input text → ⊥
-suits_need input text none is = none is.none.problem is.ranks is.none.spelled is.none.none is.somebody is.right is.printed
+twenty_four_games : (input : List ℕ) (games : List Game) → SpellsProblem input close_to_lost → Refutes close_to_lost games → length games ≡ 24 →
+    ((player : Player) → ¬ IsSurePlayer close_to_lost player) → SheetMeans Refute input (record { output = refuted_text games; status = No })
+twenty_four_games input games spelled refutes long nobody = inl (record {
+  problem = close_to_lost;
+  spelled = spelled;
+  games = games;
+  refutes = refutes;
+  few = omega (arith, long);
+  nobody = nobody;
+  printed = refl;
+})
+
+-- suits decide neither where a plan is sure, nor where every player is refuted, nor after aces twice; and what is said of jacks isn't said of queens
+wrong_suits : (input text : List ℕ) (is : IsDecidedBySuits (λ problem. refute_texts) input text) →
+    ((is.none.problem ≡ at_29) × IsSure at_29 ace_or_two) ⊎ ((player : Player) → ¬ IsSurePlayer is.none.problem player) ⊎ (is.ranks ≡ 1 ∷ 1 ∷ [])
+    ⊎ ((is.ranks ≡ 11 ∷ []) × (text ≡ codes "suits Q\n")) → ⊥
+wrong_suits input text is (inl (same, sure)) = subst (λ setup. ¬ IsWinnable setup) same is.none.none (record { plan = ace_or_two; sure = sure })
+wrong_suits input text is (inr (inl nobody)) = nobody is.somebody.0 is.somebody.1
+wrong_suits input text is (inr (inr (inl twice))) = ace_twice is.none.problem (subst (λ ranks. AreBySuit is.none.problem ranks) twice is.right)
+wrong_suits input text is (inr (inr (inr (jacks, queens)))) =
+    let letter : 81 ≡ 74 = ap (λ bytes. slice_index bytes 6) (sym queens ∙ is.printed ∙ ap refute_texts.suits jacks) in absurd (omega (arith, letter))
+
+nothing_is_no_problem : (text : List ℕ) → SheetMeans Refute [] (record { output = text; status = No }) → ⊥
+nothing_is_no_problem text (inl is) = no_problem_in_nothing is.problem is.spelled
+nothing_is_no_problem text (inr is) = no_problem_in_nothing is.none.problem is.none.spelled

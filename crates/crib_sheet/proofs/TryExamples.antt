@@ -2,7 +2,7 @@
 use Rattle.std.proofs.Common.{◌≡◌, ◌⊎◌, inl, inr, ap, ℕ, List, [], ◌∷◌, Ok, Err, Some, arith, codes, refl, subst, sym}
 use Rattle.std.specs.Fmt.{digits}
 use Rattle.crib_problem.specs.Setup.{Setup}
-use Rattle.crib_check.proofs.SureExamples.{ace_or_two, ace_or_two_is_sure}
+use Rattle.crib_check.proofs.SureExamples.{ace_or_two_is_sure}
 use Rattle.crib_input.proofs.EmptyExamples.{no_problem_in_nothing}
 use Rattle.crib_plan.specs.Nodes.{ArePlan, most_nodes}
 use Rattle.crib_plan.specs.Spelling.{plan_lines, plan_text}
@@ -14,7 +14,7 @@ use Rattle.crib_search.specs.Tried.{IsNeverStuck}
 use Rattle.crib_search.specs.Winnable.{IsWinnable}
 use Rattle.crib_search.proofs.TriedExamples.{stuck_at_the_lead}
 use Rattle.crib_problem.proofs.ExampleProblems.{four_twos}
-use Rattle.crib_sure.proofs.ExampleOpening.{at_29}
+use Rattle.crib_sure.proofs.ExampleOpening.{ace_or_two, at_29}
 use Rattle.crib_sure.specs.Sure.{Ends, GoesOn, IsSure}
 use Rattle.crib_answer.specs.Meaning.{HasNoPlan}
 use Rattle.crib_run.specs.declared.status.Status.TheVariants.{Yes, No, Refused, Fault}

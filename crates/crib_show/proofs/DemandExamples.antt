@@ -1,14 +1,13 @@
 -- Worked examples of what the show demands of the opponent's hand and the crib.
-use Rattle.std.proofs.Common.{◌≡◌, ℕ, Bool, true, false, [], ◌∷◌, ◌++◌, ◌≤◌, Some, None, refl, arith}
+use Rattle.std.proofs.Common.{◌≡◌, ℕ, Bool, true, false, [], ◌∷◌, ◌++◌, ◌≤◌, Option, Some, None, refl, arith}
 use Rattle.std.proofs.lemmas.Bool.{both_ways}
 use Rattle.std.proofs.lemmas.Bool.Decides.{nat_tests}
-use Rattle.std.specs.Prelude.{map, IsTrue, IsFalse}
-use Rattle.crib_cards.specs.Deals.{deal_numbers, is_in_pack_order}
-use Rattle.crib_cards.specs.Order.{is_before}
+use Rattle.std.specs.Prelude.{IsFalse, map}
+use Rattle.crib_cards.specs.Sets.{set_where}
 use Rattle.crib_cards.specs.declared.sides.Dealt.{Dealt}
 use Rattle.crib_cards.specs.declared.sides.Scores.{Scores}
 use Rattle.crib_cards.specs.declared.sides.Side.{Side}
-use Rattle.crib_show.specs.Demands.{AllMeet, IsFirstMissing, IsFirstMissingOrNone, IsMetByAll, IsMetByNone, IsShowAt, is_met, is_met_by}
+use Rattle.crib_show.specs.Demands.{IsFirstMissing, IsFirstMissingOrNone, IsMetByAll, IsMetByNone, IsShowAt, is_met, is_met_by}
 use Rattle.crib_show.specs.Worst.{AgreesInShow}
 use Rattle.crib_show.proofs.ExampleShows.{aces_and_fives, four_aces}
 use Rattle.crib_show.specs.Show.{hand_points, crib_points}
@@ -48,23 +47,29 @@ fives_meet : map (λ (demand : Demand). is_met_by four_aces demand aces_and_five
 unfolding hand_points crib_points
 fives_meet = refl
 
-all_deals_meet : (demand : Demand) → AllMeet four_aces demand → AgreesInShow four_aces aces_and_fives → IsTrue (is_met_by four_aces demand aces_and_fives)
-all_deals_meet demand all agrees = all aces_and_fives agrees
+-- ---- the first deal that misses a demand, or none. The fives meet that of 28 points in all, and miss that of 27
+abbrev IsNamed : ℕ → Option Dealt → Type 0
+IsNamed total named = IsFirstMissingOrNone four_aces (record { hand = 12; total = total; crib = 16 }) named
 
--- the first deal that misses a demand
-first_of_all : (demand : Demand) (dealt : Dealt) → IsFirstMissing four_aces demand dealt → AgreesInShow four_aces dealt
-    × IsFalse (is_met_by four_aces demand dealt) × IsTrue (is_in_pack_order dealt)
-first_of_all demand dealt first = (first.agrees, first.misses, first.in_order)
+-- the aces with the fives thrown, in pack order and not; and three aces
+fives_are_named : (IsNamed 28 (Some aces_and_fives) → ⊥) × (IsNamed 27 (Some (record aces_and_fives { hold = 1 ∷ 0 ∷ 2 ∷ 3 ∷ [] })) → ⊥)
+    × (AgreesInShow four_aces aces_and_fives → IsNamed 27 None → ⊥) × (IsNamed 27 (Some (record aces_and_fives { hold = 0 ∷ 1 ∷ 2 ∷ 8 ∷ [] })) → ⊥)
+unfolding hand_points crib_points
+fives_are_named = (
+  λ first. both_ways true first.misses refl,
+  λ first. both_ways false refl first.in_order,
+  λ agrees all. both_ways false refl (all aces_and_fives agrees),
+  λ first. let ranks = first.agrees.ranks_held in absurd cc,
+)
 
-none_comes_before : (demand : Demand) (dealt : Dealt) → IsFirstMissing four_aces demand dealt → AgreesInShow four_aces aces_and_fives →
-    IsFalse (is_met_by four_aces demand aces_and_fives) → IsFalse (is_before (deal_numbers aces_and_fives) (deal_numbers dealt))
-none_comes_before demand dealt first = first.first aces_and_fives
+-- 5D 5C come before 5C 5H, in whatever order they are written
+abbrev turned : Dealt
+turned = record aces_and_fives { throw = 17 ∷ 16 ∷ [] }
 
-first_or_none : (demand : Demand) (dealt : Dealt) → IsFirstMissingOrNone four_aces demand (Some dealt) ≡ IsFirstMissing four_aces demand dealt
-first_or_none demand dealt = refl
-
-none_misses : (demand : Demand) → IsFirstMissingOrNone four_aces demand None ≡ AllMeet four_aces demand
-none_misses demand = refl
+fives_in_order : (demand : Demand) → AgreesInShow four_aces turned → IsFalse (is_met_by four_aces demand turned) →
+    IsFirstMissing four_aces demand (record aces_and_fives { throw = 16 ∷ 18 ∷ [] }) → ⊥
+unfolding set_where
+fives_in_order demand agrees misses first = absurd (both_ways true (first.first turned agrees misses) refl)
 
 -- ---- the show
 module _ {dealer : Side} {scores : Scores} {target own_hand : ℕ} {is_to_stop : Bool} {full : Full} where

@@ -154,7 +154,7 @@ lower_twice is low numbers above those = elim those [
   | inr (isnt, after) ↦ lower is low numbers (low ∷ []) above after
 ]
 
-ace_twice : (problem : Setup) → AreBySuit problem (1 ∷ 1 ∷ []) → ⊥
+pub ace_twice : (problem : Setup) → AreBySuit problem (1 ∷ 1 ∷ []) → ⊥
 ace_twice problem those = lower_twice (IsBySuit problem) 1 (2 ∷ 3 ∷ 4 ∷ 5 ∷ 6 ∷ 7 ∷ 8 ∷ 9 ∷ 10 ∷ 11 ∷ 12 ∷ 13 ∷ []) refl those
 
 -- ---- how many games there may be

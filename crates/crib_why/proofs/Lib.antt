@@ -6,4 +6,4 @@ pub mod Turns
 pub mod Found
 pub mod OneKind
 pub mod BySuit
-mod Examples
+pub mod Examples

@@ -1,3 +1,5 @@
 mod LineLemmas
+mod PlaceLemmas
 mod MessageLemmas
 pub mod MessageExamples
+mod PlaceExamples

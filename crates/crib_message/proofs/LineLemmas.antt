@@ -6,7 +6,7 @@ use Rattle.std.specs.Cmp.Lexicographic.{pointwise}
 use Rattle.std.specs.List.{slice_split}
 use Rattle.crib_text.specs.Words.{lines_of}
 use Rattle.crib_text.proofs.WordLemmas.{is_lf, lines_of-nil, lines_of-lf, lines_of-other}
-use Rattle.crib_message.specs.Message.{numbered_line}
+use Rattle.crib_message.specs.Place.{numbered_line}
 
 -- the last byte, and the bytes before it
 abbrev last : ℕ → List ℕ → List ℕ

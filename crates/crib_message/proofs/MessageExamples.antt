@@ -7,15 +7,18 @@ use Rattle.std.proofs.lemmas.List.{append-nil}
 use Rattle.std.specs.Fmt.{digits}
 use Rattle.std.proofs.lemmas.Bool.{and_parts, both_ways}
 use Rattle.std.proofs.lemmas.List.Elements.{All-nil, All-cons, All-head}
-use Rattle.crib_text.specs.Words.{lines_of}
+use Rattle.crib_text.specs.Words.{lines_of, number_read, words_of}
 use Rattle.crib_text.specs.declared.fault.TextCause.TheVariants.{BadCard}
 use Rattle.crib_input.specs.declared.refusal.Cause.TheVariants.{Text}
 use Rattle.crib_input.specs.declared.reason.FaultCause.TheVariants.{NoMemory, ReadFailed}
 use Rattle.crib_input.specs.declared.reason.Reason.TheVariants.{Refused, Fault}
+use Rattle.crib_input.specs.declared.sections.Sections.{Sections}
+use Rattle.crib_input.specs.declared.sections.Sections.TheVariants as inputs
 use Rattle.crib_message.specs.declared.scene.Spot.{Spot}
 use Rattle.crib_message.specs.declared.scene.Section.TheVariants.{Problem, Plan, Game, Turns, After}
 use Rattle.crib_message.specs.Message.{IsExcerpt, IsMark, IsMessage, IsRefusalMessage}
-use Rattle.crib_message.specs.Message.{blanks, carets, dots, heading, hex_digit, is_plain, mark_line, marks_below, numbered_line, spot_words}
+use Rattle.crib_message.specs.Message.{blanks, carets, dots, heading, hex_digit, is_plain, mark_line, marks_below, spot_words}
+use Rattle.crib_message.specs.Place.{numbered_line, spot_behind}
 use Rattle.crib_message.specs.Message.{section_words, shown_byte, shown_line}
 
 -- ---- the lines of an input
@@ -89,11 +92,10 @@ all_plain (byte ∷ bytes) all =
     All-cons (λ byte. is_plain byte ≡ true) byte bytes parts.0 (all_plain bytes parts.1)
 
 pub a_card_with_10 :
-    IsMessage (codes "cribplan") (codes "problem 1\nhold 10S\n") (Refused (record { line = 2; cause = Text BadCard }))
+    IsMessage (codes "cribplan") inputs.Problem (codes "problem 1\nhold 10S\n") (Refused (record { line = 2; cause = Text BadCard }))
     (codes "cribplan: line 2: \"10S\" is not a card.\n  2 | hold 10S\n    |      ^^^\n")
-unfolding digits lines_of
+unfolding digits lines_of spot_behind number_read words_of
 a_card_with_10 = record {
-  spot = record { section = Problem; number = 2 };
   sentence = codes "\"10S\" is not a card.";
   excerpt = codes "  2 | hold 10S\n    |      ^^^\n";
   is = refl;
@@ -103,11 +105,11 @@ a_card_with_10 = record {
 }
 
 -- a fault shows no line
-pub message_of_a_fault : IsMessage (codes "cribplan") (codes "problem 1\n") (Fault NoMemory) (codes "cribplan: out of memory\n")
+pub message_of_a_fault : IsMessage (codes "cribplan") inputs.Problem (codes "problem 1\n") (Fault NoMemory) (codes "cribplan: out of memory\n")
 message_of_a_fault = refl
 
 -- each fault has words of its own
-pub message_of_another_fault : IsMessage (codes "cribplan") (codes "problem 1\n") (Fault ReadFailed) (codes "cribplan: out of memory\n") → ⊥
+pub message_of_another_fault : IsMessage (codes "cribplan") inputs.Problem (codes "problem 1\n") (Fault ReadFailed) (codes "cribplan: out of memory\n") → ⊥
 message_of_another_fault is =
     (let byte : 111 ≡ 116 = ap (λ bytes. slice_index bytes 10) is in absurd (omega (arith, byte)))
 
@@ -144,8 +146,8 @@ byte_of [] = 0
 byte_of (byte ∷ bytes) = byte
 
 pub nothing_is_no_message : (line input : List ℕ) → (IsMark 12 [] (codes "own") [] → ⊥) × (IsExcerpt 8 line [] → ⊥)
-    × (IsMessage (codes "cribplan") input (Refused (record { line = 2; cause = Text BadCard })) [] → ⊥)
-    × (IsMessage (codes "cribplan") input (Fault NoMemory) [] → ⊥)
+    × (IsMessage (codes "cribplan") inputs.Problem input (Refused (record { line = 2; cause = Text BadCard })) [] → ⊥)
+    × (IsMessage (codes "cribplan") inputs.Problem input (Fault NoMemory) [] → ⊥)
 nothing_is_no_message line input =
     (λ is. (let mark = is.is in cc), λ is. (let excerpt = is.is in cc), λ is. (let text = is.is in cc), λ is. cc)
 
@@ -194,18 +196,20 @@ pub tab_in_a_sentence : (sentence : List ℕ) → All (λ byte. is_plain byte �
 tab_in_a_sentence sentence plain e =
     absurd (both_ways false refl (All-head (λ byte. is_plain byte ≡ true) 9 [] (subst (All (λ byte. is_plain byte ≡ true)) e plain)))
 
-pub tab_in_a_message : (program input text : List ℕ) (line : ℕ) (is : IsRefusalMessage program input line text) → is.sentence ≡ 9 ∷ [] → ⊥
-tab_in_a_message program input text line is = tab_in_a_sentence is.sentence is.plain
+pub tab_in_a_message : (program input text : List ℕ) (sections : Sections) (line : ℕ)
+    (is : IsRefusalMessage program sections input line text) → is.sentence ≡ 9 ∷ [] → ⊥
+tab_in_a_message program input text sections line is = tab_in_a_sentence is.sentence is.plain
 
 -- a sentence has a word
-pub no_sentence_of_signs : (program input text : List ℕ) (line : ℕ) (is : IsRefusalMessage program input line text) → is.sentence ≡ codes "-" → ⊥
-no_sentence_of_signs program input text line is e = both_ways false refl (subst (λ sentence. list_any is_ascii_alphabetic sentence ≡ true) e is.worded)
+pub no_sentence_of_signs : (program input text : List ℕ) (sections : Sections) (line : ℕ)
+    (is : IsRefusalMessage program sections input line text) → is.sentence ≡ codes "-" → ⊥
+no_sentence_of_signs program input text sections line is e = both_ways false refl (subst (λ sentence. list_any is_ascii_alphabetic sentence ≡ true) e is.worded)
 
 -- the input has no line 9, and its line 2 is shown
-pub excerpt_of_no_line : (program text : List ℕ) (is : IsRefusalMessage program two_lines 9 text) → is.excerpt ≡ codes "x" → ⊥
+pub excerpt_of_no_line : (program text : List ℕ) (sections : Sections) (is : IsRefusalMessage program sections two_lines 9 text) → is.excerpt ≡ codes "x" → ⊥
 unfolding lines_of
-excerpt_of_no_line program text is e = (let none : codes "x" ≡ [] = sym e ∙ is.shows in cc)
+excerpt_of_no_line program text sections is e = (let none : codes "x" ≡ [] = sym e ∙ is.shows in cc)
 
-pub line_without_an_excerpt : (program text : List ℕ) (is : IsRefusalMessage program two_lines 2 text) → is.excerpt ≡ [] → ⊥
+pub line_without_an_excerpt : (program text : List ℕ) (sections : Sections) (is : IsRefusalMessage program sections two_lines 2 text) → is.excerpt ≡ [] → ⊥
 unfolding lines_of
-line_without_an_excerpt program text is e = (let excerpt = sym e ∙ is.shows.is in cc)
+line_without_an_excerpt program text sections is e = (let excerpt = sym e ∙ is.shows.is in cc)

@@ -6,7 +6,8 @@ use Rattle.std.specs.List.{filter, list_any}
 use Rattle.std.proofs.Common.{refl, ap, ◌∙◌, append_assoc}
 use Rattle.std.specs.Prelude.{Some, None, MatchOption}
 use Rattle.crib_text.specs.Spelling.{line_feed}
-use Rattle.crib_message.specs.Message.{numbered_line, IsExcerpt, is_plain}
+use Rattle.crib_message.specs.Message.{IsExcerpt, is_plain}
+use Rattle.crib_message.specs.Place.{numbered_line}
 
 -- four pieces, one after another
 pub four_added : (old first second third : List ℕ) (a b c d last : List ℕ) → first ≡ old ++ a → second ≡ first ++ b →

@@ -1,27 +1,24 @@
 -- The message of a refusal or a fault.
-use Rattle.std.specs.Prelude.{◌≡◌, ◌⊎◌, ◌-◌, ◌/◌, ◌%◌, ℕ, Bool, true, List, [], ◌∷◌, ◌++◌, codes}
-use Rattle.std.specs.Prelude.{decimal, flat_map, Option, None, MatchOption, All, nat_le, ◌&&◌, ◌==◌, if◌then◌else◌}
-use Rattle.std.specs.Prelude.{length, min, slice_get, slice_index}
+use Rattle.std.specs.Prelude.{◌≡◌, ◌⊎◌, ◌/◌, ◌%◌, ℕ, Bool, true, List, [], ◌∷◌, ◌++◌, codes}
+use Rattle.std.specs.Prelude.{decimal, flat_map, MatchOption, All, nat_le, ◌&&◌, ◌==◌, if◌then◌else◌}
+use Rattle.std.specs.Prelude.{length, min, slice_index}
 use Rattle.std.specs.Char.{is_ascii_alphabetic}
 use Rattle.std.specs.List.{list_any}
 use Rattle.crib_text.specs.Spelling.{line_feed}
-use Rattle.crib_text.specs.Words.{lines_of}
 use Rattle.crib_input.specs.Refusals.{fault_words, refusal_of}
 use Rattle.crib_input.specs.declared.reason.FaultCause.{FaultCause}
 use Rattle.crib_input.specs.declared.reason.Reason.{Reason}
 use Rattle.crib_input.specs.declared.reason.Reason.TheVariants.{Refused, Fault}
+use Rattle.crib_input.specs.declared.sections.Sections.{Sections}
 use Rattle.crib_message.specs.declared.message.Message.{Message}
 use Rattle.crib_message.specs.declared.scene.Spot.{Spot}
 use Rattle.crib_message.specs.declared.scene.Section.{Section}
 use Rattle.crib_message.specs.declared.scene.Section.TheVariants.{Problem, Plan, Game, Turns, After}
+use Rattle.crib_message.specs.Place.{numbered_line, spot_in}
 
 -- the bytes of a message
 unfoldable pub message_text : Message → List ℕ
 message_text message = message.text.items
-
--- the line of an input with this number, from 1, without its LF, if there is one
-abbrev pub numbered_line : List ℕ → ℕ → Option (List ℕ)
-numbered_line input number = if number == 0 then None else slice_get (lines_of input) (number - 1)
 
 -- ---- an excerpt
 
@@ -110,11 +107,11 @@ heading program line spot =
 
 -- a message is a heading, a sentence of bytes 32 to 126 with a letter among them, an LF, and the excerpt of the refused
 -- line if the input has it
-pub record IsRefusalMessage (program input : List ℕ) (line : ℕ) (text : List ℕ) : Type 0 where
-  pub spot : Spot
+pub record IsRefusalMessage (program : List ℕ) (sections : Sections) (input : List ℕ) (line : ℕ) (text : List ℕ) :
+    Type 0 where
   pub sentence : List ℕ
   pub excerpt : List ℕ
-  pub is : text ≡ heading program line spot ++ (sentence ++ line_feed ∷ excerpt)
+  pub is : text ≡ heading program line (spot_in sections input line) ++ (sentence ++ line_feed ∷ excerpt)
   pub plain : All (λ byte. is_plain byte ≡ true) sentence
   pub worded : list_any is_ascii_alphabetic sentence ≡ true
   pub shows : MatchOption (numbered_line input line) (excerpt ≡ []) (λ bytes. IsExcerpt line bytes excerpt)
@@ -124,7 +121,7 @@ abbrev pub fault_text : List ℕ → FaultCause → List ℕ
 fault_text program cause = program ++ (codes ": " ++ (fault_words cause ++ line_feed ∷ []))
 
 -- the message of a reason why there is no answer
-abbrev pub IsMessage : List ℕ → List ℕ → Reason → List ℕ → Type 0
-IsMessage program input (Refused refusal) text =
-    IsRefusalMessage program input (refusal_of refusal).line text
-IsMessage program input (Fault cause) text = text ≡ fault_text program cause
+abbrev pub IsMessage : List ℕ → Sections → List ℕ → Reason → List ℕ → Type 0
+IsMessage program sections input (Refused refusal) text =
+    IsRefusalMessage program sections input (refusal_of refusal).line text
+IsMessage program sections input (Fault cause) text = text ≡ fault_text program cause

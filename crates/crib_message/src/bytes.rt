@@ -11,8 +11,14 @@ pub(crate) fn bad_byte(scene: &Scene<'_>) -> Option<Explained> {
     let line = scene.text();
     let from = line.iter().position(|byte| !is_plain(*byte))?;
     let rest = line.get(from..).unwrap_or(b"");
-    let len = character_len(rest);
-    let bytes = rest.get(..len).or(rest.get(..1)).unwrap_or(rest);
+    // A sign in UTF-8 has up to four bytes.
+    let len = match rest {
+        [0xC2..=0xDF, 0x80..=0xBF, ..] => 2,
+        [0xE0..=0xEF, 0x80..=0xBF, 0x80..=0xBF, ..] => 3,
+        [0xF0..=0xF4, 0x80..=0xBF, 0x80..=0xBF, 0x80..=0xBF, ..] => 4,
+        _ => 1,
+    };
+    let bytes = rest.get(..len).unwrap_or(rest);
     let file = file_hint(scene);
     let found = match (file, rest) {
         (None, [b'\r']) => Sentence::of("a Windows line end (CR)"),
@@ -24,19 +30,6 @@ pub(crate) fn bad_byte(scene: &Scene<'_>) -> Option<Explained> {
     let hint = tell(file.unwrap_or(byte_hint(rest)));
     let text = format_args!("{found} is {}", TextCause::BadByte);
     Some(said(text, mark, hint))
-}
-
-// Returns the number of bytes of the first character: one byte, or a sign in UTF-8.
-fn character_len(rest: &[u8]) -> usize {
-    let len = match rest {
-        [0xC2..=0xDF, ..] => 2,
-        [0xE0..=0xEF, ..] => 3,
-        [0xF0..=0xF4, ..] => 4,
-        _ => 1,
-    };
-    let mut others = rest.iter().take(len).skip(1);
-    let are_later = others.all(|byte| (0x80..=0xBF).contains(byte));
-    if are_later { len } else { 1 }
 }
 
 // Returns the hint for a file that is no plain text: the marks with which it may begin, or three bytes that no text

@@ -82,10 +82,8 @@ pub(crate) fn is_like_card(word: &[u8]) -> bool {
 
 /// Returns the hint for a rank that is written as a number, with no suit.
 pub(crate) fn suitless(word: &[u8]) -> Hint {
-    match read_number(word)? {
-        0 => None,
-        _ => meant(NO_SUIT, rank_meant(word)?.1, b'S'),
-    }
+    read_number(word).filter(|number| *number > 0)?;
+    meant(NO_SUIT, rank_meant(word)?.1, b'S')
 }
 
 // Two cards or more, with no blank or one other sign between two.

@@ -171,12 +171,8 @@ fn add_below(excerpt: &mut Excerpt, mark: u8, bytes: &[u8])
 fn escape_of(byte: u8) -> [u8; 4]
     ensures { result ≡ codes "\\x" ++ hex_digit (byte / 16) ∷ hex_digit (byte % 16) ∷ [] }
 {
-    [b'\\', b'x', digit_of(byte / 16), digit_of(byte % 16)]
-}
-
-fn digit_of(digit: u8) -> u8
-    requires { digit < 16 }
-    ensures { result ≡ hex_digit digit }
-{
-    b"0123456789abcdef"[usize::from(digit)]
+    let digits = b"0123456789abcdef";
+    let first = digits[usize::from(byte / 16)];
+    let last = digits[usize::from(byte % 16)];
+    [b'\\', b'x', first, last]
 }

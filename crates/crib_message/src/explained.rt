@@ -27,7 +27,11 @@ pub(crate) struct Explained {
 
 /// Returns the explanation of a refusal for a cause.
 pub(crate) fn explain(scene: &Scene<'_>, cause: Cause) -> Explained {
-    let cause = plain(cause);
+    let cause = match cause {
+        Cause::Problem(ProblemCause::Text(cause)) => Cause::Text(cause),
+        Cause::Plan(PlanCause::Text(cause)) => Cause::Text(cause),
+        other => other,
+    };
     let explained = match (cause, scene.row) {
         _ if scene.number == 0 => Some(said(format_args!("the input is {cause}"), None, None)),
         (Cause::Text(TextCause::BadByte), _) => bad_byte(scene),
@@ -36,15 +40,6 @@ pub(crate) fn explain(scene: &Scene<'_>, cause: Cause) -> Explained {
         _ => bad_line(scene, cause),
     };
     explained.unwrap_or(said(format_args!("this line is {cause}"), None, None))
-}
-
-// Returns a cause that any section can have as one of the text.
-fn plain(cause: Cause) -> Cause {
-    match cause {
-        Cause::Problem(ProblemCause::Text(cause)) => Cause::Text(cause),
-        Cause::Plan(PlanCause::Text(cause)) => Cause::Text(cause),
-        other => other,
-    }
 }
 
 /// Returns what is wrong, and a hint.

@@ -38,11 +38,19 @@ pub(crate) fn hint_of(scene: &Scene<'_>, misfit: &Misfit<'_>, cause: Cause) -> H
         Slot::Kind => word_hint(word, &["play", "see"]),
         Slot::Actor => actor_hint(scene, word),
         Slot::Card if cause != BAD_LINE => card_hint(word),
-        Slot::Card => card_slot_hint(scene, word),
+        Slot::Card => match bare(word) {
+            [] => None,
+            [_] if scene.word_count() > 2 => tell(ONE_CARD),
+            _ => card_hint(word).or(tell(TWO_LETTERS)),
+        },
         Slot::Move | Slot::Stated => move_hint(scene, misfit),
         Slot::Own if cause == BAD_LINE => own_hint(scene, word),
         Slot::Branch => branch_hint(scene, &misfit.word, cause),
-        Slot::Target => target_hint(word),
+        Slot::Target => word_hint(word, &["end"]).or(match bare(word) {
+            [] => None,
+            name if is_name(name) => tell("Write end, or the number of a node."),
+            _ => number_hint(word),
+        }),
         slot => figure_hint(scene, slot, word, cause == BAD_LINE),
     }
 }
@@ -133,15 +141,6 @@ fn actor_hint(scene: &Scene<'_>, word: &[u8]) -> Hint {
     })
 }
 
-// A card of starter, hold or throw, in a line with too few or too many words, which may have other signs than letters.
-fn card_slot_hint(scene: &Scene<'_>, word: &[u8]) -> Hint {
-    match bare(word) {
-        [] => None,
-        [_] if scene.word_count() > 2 => tell(ONE_CARD),
-        _ => card_hint(word).or(tell(TWO_LETTERS)),
-    }
-}
-
 // The card of an act or of a play node. The node to go on at may be in its place.
 fn move_hint(scene: &Scene<'_>, misfit: &Misfit<'_>) -> Hint {
     let Word { bytes, index, .. } = misfit.word;
@@ -190,14 +189,4 @@ fn branch_hint(scene: &Scene<'_>, branch: &Word<'_>, cause: Cause) -> Hint {
 // Whether a word is a name: letters alone, and not only one, which may be a mistyped digit.
 fn is_name(word: &[u8]) -> bool {
     word.len() > 1 && word.iter().all(u8::is_ascii_alphabetic)
-}
-
-// The node behind the card of a play node.
-fn target_hint(word: &[u8]) -> Hint {
-    let hint = match bare(word) {
-        [] => None,
-        name if is_name(name) => tell("Write end, or the number of a node."),
-        _ => number_hint(word),
-    };
-    word_hint(word, &["end"]).or(hint)
 }

@@ -106,7 +106,7 @@ impl Message {
 #[tactic(auto, unfolding(crate::specs::Message::message_text))]
 pub fn message_of(program: &[u8], sections: Sections, input: &[u8], reason: &Reason) -> Message
     requires { length program.now ≤ 20 }
-    ensures { IsMessage program.now input.now reason.now (message_text result) }
+    ensures { IsMessage program.now sections input.now reason.now (message_text result) }
 {
     match reason {
         Reason::Refused(refusal) => refusal_message(program, sections, input, refusal),
@@ -116,7 +116,7 @@ pub fn message_of(program: &[u8], sections: Sections, input: &[u8], reason: &Rea
 
 fn refusal_message(program: &[u8], sections: Sections, input: &[u8], refusal: &Refusal) -> Message
     requires { length program.now ≤ 20 }
-    ensures { IsRefusalMessage program.now input.now refusal.now.line result.text.items }
+    ensures { IsRefusalMessage program.now sections input.now refusal.now.line result.text.items }
 {
     let scene = Scene::new(sections, input, refusal.line);
     let Explained { sentence, mark } = explain(&scene, refusal.cause);

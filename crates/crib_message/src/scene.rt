@@ -1,6 +1,7 @@
 //! A refused line: its section, its number there, and its words.
-ghost use Rattle.std.specs.Prelude.{◌≡◌, ◌==◌, option_map};
-ghost use Rattle.crib_message.specs.Message.{numbered_line};
+ghost use Rattle.std.specs.Prelude.{◌≡◌, ◌≤◌, ◌==◌, [], option_map, slice_get, unwrap_or};
+ghost use Rattle.crib_text.specs.Words.{words_of};
+ghost use Rattle.crib_message.specs.Place.{announced, first_lines, numbered_line, spot_behind, spot_in, text_at};
 
 use crate::grammar::{Row, Slot};
 use crate::scene::Section::{After, Game, Plan, Problem, Turns};
@@ -23,16 +24,22 @@ fn line_at(input: &[u8], number: u32) -> Option<&[u8]>
 }
 
 /// Returns the bytes of the line with this number, from 1, or none.
-pub(crate) fn text_at(input: &[u8], number: u32) -> &[u8] {
+pub(crate) fn text_at(input: &[u8], number: u32) -> &[u8]
+    ensures { result.now ≡ text_at input.now number }
+{
     line_at(input, number).unwrap_or(b"")
 }
 
 /// Returns the bytes of the word with this index, from 0, or none. Words are separated by single spaces.
-pub(crate) fn word_in(line: &[u8], index: usize) -> &[u8] {
+pub(crate) fn word_in(line: &[u8], index: usize) -> &[u8]
+    ensures { result.now ≡ unwrap_or (slice_get (words_of line.now) index) [] }
+{
     line.split(is_blank).nth(index).unwrap_or(b"")
 }
 
-pub(crate) fn is_blank(byte: &u8) -> bool {
+pub(crate) fn is_blank(byte: &u8) -> bool
+    ensures { result ≡ (byte.now == 32) }
+{
     *byte == b' '
 }
 
@@ -110,36 +117,66 @@ pub(crate) struct Spot {
 }
 
 // Returns the spot of a line. The lines before it are valid, so their counts state how long a section is.
-fn spot_of(sections: Sections, input: &[u8], line: u32) -> Spot {
-    let mut number = line;
-    for section in [Problem, Plan, Game, Turns] {
-        let before = line.saturating_sub(number);
-        let count = |head: u32| head.saturating_add(count_at(input, before.saturating_add(head)));
-        let len = match (section, sections) {
-            (Problem, _) => problem_len(input),
-            (Plan, Sections::Question | Sections::PlayedUnder | Sections::Turns) => count(2),
-            (Game, Sections::Played | Sections::PlayedUnder) => count(4),
-            (Turns, Sections::Turns) => count(1),
-            _ => 0,
-        };
-        if number <= len {
-            return Spot { section, number };
-        }
-        number = number.saturating_sub(len);
+fn spot_of(sections: Sections, input: &[u8], line: u32) -> Spot
+    ensures { result ≡ spot_in sections input.now line }
+{
+    let sections: &[Section] = match sections {
+        Sections::Problem => &[Problem],
+        Sections::Question => &[Problem, Plan],
+        Sections::Played => &[Problem, Game],
+        Sections::PlayedUnder => &[Problem, Plan, Game],
+        Sections::Turns => &[Problem, Plan, Turns],
+    };
+    spot_behind(input, line, 0, sections)
+}
+
+// Returns the spot of a line, if these sections are behind so many lines.
+#[tactic(auto, unfolding(crate::specs::Place::spot_behind))]
+fn spot_behind(input: &[u8], line: u32, before: u32, sections: &[Section]) -> Spot
+    requires { before ≤ line }
+    ensures { result ≡ spot_behind input.now line before sections.now }
+{
+    let number = line - before;
+    let [section, others @ ..] = sections else {
+        let section = After;
+        return Spot { section, number };
+    };
+    let first = section.first_lines(input);
+    if number > first && number - first > count_at(input, before + first) {
+        let before = before + first + count_at(input, before + first);
+        return spot_behind(input, line, before, others);
     }
-    let section = After;
+    let section = *section;
     Spot { section, number }
+}
+
+impl Section {
+    // Returns how many lines the section begins with. The last of them announces how many follow.
+    fn first_lines(self, input: &[u8]) -> u32
+        ensures lines { result ≡ first_lines input.now self }
+        ensures few { result ≤ 8 }
+    {
+        match self {
+            Problem if text_at(input, 1) == b"problem 2".as_slice() => 8,
+            Problem => 7,
+            Plan => 2,
+            Game => 4,
+            Turns => 1,
+            After => 0,
+        }
+    }
 }
 
 /// Returns the number of lines of the problem.
 pub(crate) fn problem_len(input: &[u8]) -> u32 {
-    let counted = count_at(input, 8).saturating_add(8);
-    let is_second = input.starts_with(b"problem 2\n");
-    if is_second { counted } else { 7 }
+    let first = Problem.first_lines(input);
+    first.saturating_add(count_at(input, first))
 }
 
 /// Returns the number that is the second word of a line, or 0 if there is none.
-pub(crate) fn count_at(input: &[u8], line: u32) -> u32 {
+pub(crate) fn count_at(input: &[u8], line: u32) -> u32
+    ensures { result ≡ announced input.now line }
+{
     read_number(word_in(text_at(input, line), 1)).unwrap_or(0)
 }
 
@@ -161,7 +198,8 @@ pub(crate) struct Scene<'a> {
 impl<'a> Scene<'a> {
     /// Returns the scene of a line, from 1, that is not later than the first refusal.
     pub(crate) fn new(sections: Sections, input: &'a [u8], number: u32) -> Scene<'a>
-        ensures { option_map (λ line. line.now) result.line ≡ numbered_line input.now number }
+        ensures line { option_map (λ line. line.now) result.line ≡ numbered_line input.now number }
+        ensures spot { result.spot ≡ spot_in sections input.now number }
     {
         let spot = spot_of(sections, input, number);
         Scene {
@@ -201,7 +239,7 @@ impl<'a> Scene<'a> {
 
     /// Whether the input begins with a problem of version 2.
     pub(crate) fn is_second(&self) -> bool {
-        problem_len(self.input) > 7
+        Problem.first_lines(self.input) > 7
     }
 
     /// Returns the number of lines above.

@@ -97,24 +97,21 @@ pub(crate) struct Held {
     pub(crate) cards: Sentence,
     /// The cards, and those of them that fit.
     pub(crate) text: Sentence,
-    pub(crate) has_fitting: bool,
+    /// Whether one of them fits.
+    pub(crate) fits: bool,
 }
 
 impl Held {
     /// Returns the cards of a set, of which some fit at a count.
     pub(crate) fn of(set: CardSet, count: u8) -> Held {
         let (cards, fitting) = (cards_of(set, 0), cards_of(set, count));
-        let has_fitting = fitting.0.as_str() != "no card";
+        let fits = fitting.0.as_str() != "no card";
         let s = if fitting.0.len() == 2 { "s" } else { "" };
         let text = match fitting.0 == cards.0 {
             true => Sentence::of(format_args!("{cards}, which fit{s}")),
             false => Sentence::of(format_args!("{cards}, of which {fitting} fit{s}")),
         };
-        Held {
-            cards,
-            text,
-            has_fitting,
-        }
+        Held { cards, text, fits }
     }
 }
 

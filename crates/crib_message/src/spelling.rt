@@ -48,22 +48,17 @@ pub(crate) fn bare(word: &[u8]) -> &[u8] {
 
 // Whether one letter is missing, wrong or too many, or two neighbours are in the wrong order.
 fn is_near(word: &[u8], wanted: &[u8]) -> bool {
-    let letters = word.iter().zip(wanted);
-    let same = letters.take_while(|(a, b)| a == b).count();
+    let same = word.iter().zip(wanted).take_while(|(a, b)| a == b).count();
     let (rest, others) = (behind(word, same), behind(wanted, same));
     let (tail, other_tail) = (behind(rest, 1), behind(others, 1));
     let is_near = tail == other_tail || tail == others || rest == other_tail;
-    (is_near || are_swapped(rest, others)) && wanted.len() > 2 && word.len() > 1
+    let swapped = matches!(rest, [a, b, end @ ..] if others.strip_prefix(&[*b, *a]) == Some(end));
+    (is_near || swapped) && wanted.len() > 2 && word.len() > 1
 }
 
 // Returns what is behind so many bytes.
 fn behind(word: &[u8], len: usize) -> &[u8] {
     word.get(len..).unwrap_or(b"")
-}
-
-// Whether two words differ in the order of their first two letters, and in nothing else.
-fn are_swapped(word: &[u8], wanted: &[u8]) -> bool {
-    matches!(word, [first, second, rest @ ..] if wanted.strip_prefix(&[*second, *first]) == Some(rest))
 }
 
 /// Returns the hint for a word that should be a number.

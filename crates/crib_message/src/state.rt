@@ -139,8 +139,7 @@ fn act_in(line: &[u8]) -> Option<Act> {
 // Returns the first seven lines with an empty opening, and the lines from the section on, as far as there is room.
 fn text_of(scene: &Scene<'_>) -> ArrayVec<u8, 512> {
     let mut text = ArrayVec::new();
-    let lines = scene.input.split_inclusive(is_line_feed);
-    for (index, line) in lines.enumerate() {
+    for (index, line) in scene.input.split_inclusive(is_line_feed).enumerate() {
         let _full = match index {
             7 if scene.is_second() => text.try_extend_from_slice(b"played 0\n"),
             _ if index < 7 || index >= scene.before() as usize => text.try_extend_from_slice(line),

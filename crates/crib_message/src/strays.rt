@@ -30,15 +30,12 @@ fn node_after(input: &[u8], first: u32, acts: &[Act]) -> Option<u32> {
         let is_play = word_in(line, 1) == b"play".as_slice();
         match (act.side, act.what) {
             (Side::Owner, Move::Card(_)) if is_play => node = read_number(word_in(line, 3))?,
-            (Side::Opponent, what) if !is_play => node = node_behind(line, &what)?,
+            (Side::Opponent, what) if !is_play => {
+                let letter = *LETTERS.get(usize::from(what.letter().index()))?;
+                node = read_number(branch_with(line, usize::MAX, letter)?.target().bytes)?;
+            }
             _ => {}
         }
     }
     Some(node)
-}
-
-// Returns the node behind the branch of a see line that has a move.
-fn node_behind(line: &[u8], what: &Move) -> Option<u32> {
-    let letter = *LETTERS.get(usize::from(what.letter().index()))?;
-    read_number(branch_with(line, usize::MAX, letter)?.target().bytes)
 }

@@ -25,21 +25,16 @@ pub(crate) fn explain_turn(scene: &Scene<'_>, cause: Cause) -> Option<Explained>
         _ => Sentence::of(format_args!("{moved} is {cause}: ")),
     };
     add_reason(&mut sentence, &state, scene, cause)?;
-    let mark = mark_of(scene.row, cause);
-    Some(Explained { sentence, mark })
-}
-
-// Returns the bytes of the line that are meant.
-fn mark_of(row: Row, cause: Cause) -> Option<Mark> {
-    match cause {
+    let mark = match cause {
         Game(Fault::AfterEnd(_)) => None,
-        Game(Fault::NotAsPlayed(_)) if row == Row::Acts => None,
+        Game(Fault::NotAsPlayed(_)) if scene.row == Row::Acts => None,
         Game(Fault::NotAsPlayed(_)) => Some(Mark::of(0, 6)),
         Game(Fault::NotUnseen(number @ 5..)) => Some(Mark::of(3 * usize::from(number) - 9, 2)),
         Game(Fault::NotUnseen(number)) => Some(Mark::of(3 * usize::from(number) + 2, 2)),
         Game(Fault::NotTurn(_)) | Problem(Rule::NotTurn) => Some(Mark::of(0, 3)),
         _ => Some(Mark::of(4, 2)),
-    }
+    };
+    Some(Explained { sentence, mark })
 }
 
 // Appends why an act may not be the next one.
@@ -106,7 +101,7 @@ fn add_not_turn(to: &mut Sentence, state: &State) {
     match state.held(other) {
         _ if is_idle || is_said => to.add("; leave this line out"),
         _ if state.acts.is_empty() => to.add("; the pone leads, and line 2 says who deals"),
-        Some(held) if held.has_fitting => to.add(format_args!("; {mover} holds {}", held.text)),
+        Some(held) if held.fits => to.add(format_args!("; {mover} holds {}", held.text)),
         Some(Held { cards, .. }) => to.add(format_args!(
             "; none of {mover}'s cards fits ({cards}), so {go} is missing before this line"
         )),
@@ -154,7 +149,7 @@ fn add_too_high(to: &mut Sentence, state: &State, card: Card) {
     let side = the(state.act.side);
     let go = go_of(state.act.side);
     match state.held(state.act.side) {
-        Some(held) if held.has_fitting => to.add(format_args!("{side} holds {}", held.text)),
+        Some(held) if held.fits => to.add(format_args!("{side} holds {}", held.text)),
         Some(_) => to.add(format_args!(
             "{side} holds no card that fits, so {go} is missing before this line"
         )),

@@ -41,14 +41,14 @@ pub trait Asks<A: Allocator>: Copy {
 
 /// What explains why there is no answer.
 pub trait Explain {
-    // The texts that explain a reason, beside the reply to an input.
-    ghost says: { List ℕ → Reason → List ℕ → Type 0 };
+    // The texts that explain a reason, beside the reply to an input with these sections.
+    ghost says: { Sections → List ℕ → Reason → List ℕ → Type 0 };
 
     /// Writes a text that explains a reason. The input is empty if it was not read. If the device fails, a proper
     /// beginning of the text is written.
     fn explain<E: Sink>(sections: Sections, input: &[u8], reason: &Reason, words: &mut E)
         requires { length input.now ≤ MAX_INPUT }
-        ensures { Writes (says input.now reason.now) (E.contents words.old) (E.contents words.new)
+        ensures { Writes (says sections input.now reason.now) (E.contents words.old) (E.contents words.new)
             (HasFailed (E.faults words.old) (E.faults words.new)) };
 }
 
@@ -78,8 +78,8 @@ pub fn run_with_words<A: Allocator + Copy, J: Asks<A>, X: Explain, S: Source, W:
     ensures words { (run : Delivers (J.makes job) (S.remaining source.old)
         (HasFailed (S.faults source.old) (S.faults source.new)) (W.contents sink.old) (W.contents sink.new)
         (HasFailed (W.faults sink.old) (W.faults sink.new)) result)
-        × Explains (X.says (input_of run.read)) run.reply result (E.contents words.old) (E.contents words.new)
-        (HasFailed (E.faults words.old) (E.faults words.new)) }
+        × Explains (X.says (J.reads job) (input_of run.read)) run.reply result (E.contents words.old)
+        (E.contents words.new) (HasFailed (E.faults words.old) (E.faults words.new)) }
     ensures silent { (result ≡ Status.Yes) ⊎ (result ≡ Status.No)
         → Appends (E.contents words.old) (E.contents words.new) [] }
 {
@@ -104,7 +104,7 @@ fn answer<A: Allocator + Copy, J: Asks<A>, X: Explain, W: Sink, E: Sink>(
     ensures { (reply : Reply) × J.makes job input.now reply
         × Sends reply (W.contents sink.old) (W.contents sink.new)
         (HasFailed (W.faults sink.old) (W.faults sink.new)) result
-        × Explains (X.says input.now) reply result (E.contents words.old) (E.contents words.new)
+        × Explains (X.says (J.reads job) input.now) reply result (E.contents words.old) (E.contents words.new)
         (HasFailed (E.faults words.old) (E.faults words.new)) }
 {
     match job.answer(alloc, input) {
@@ -147,7 +147,7 @@ pub fn deliver_reason<X: Explain, W: Sink, E: Sink>(
     requires { length input.now ≤ MAX_INPUT }
     ensures sent { Sends (reason_reply reason) (W.contents sink.old) (W.contents sink.new)
         (HasFailed (W.faults sink.old) (W.faults sink.new)) result }
-    ensures words { Explains (X.says input.now) (reason_reply reason) result (E.contents words.old)
+    ensures words { Explains (X.says sections input.now) (reason_reply reason) result (E.contents words.old)
         (E.contents words.new) (HasFailed (E.faults words.old) (E.faults words.new)) }
 {
     let line = reason_answer::<Global>(reason);

@@ -2,6 +2,7 @@
 use Rattle.std.proofs.Common.{◌≡◌, ◌∙◌, ℕ, List, ◌++◌, Bool, Option, codes, false, refl, subst, sym}
 use Rattle.crib_text.specs.Device.{HasFailed}
 use Rattle.crib_input.specs.declared.reason.Reason.{Reason}
+use Rattle.crib_input.specs.declared.sections.Sections.{Sections}
 use Rattle.crib_message.specs.Message.{IsMessage}
 use Rattle.crib_run.specs.Beside.{Writes}
 use Rattle.crib_run.specs.Prints.{Prints, Stand}
@@ -10,11 +11,12 @@ use Rattle.crib_game_sheet.specs.ActsBefore.{AreShown}
 use Rattle.cribsheet.specs.Beside.{IsSaid}
 
 -- the message and the acts beside it are what is said, on the device that the page was put on
-pub said : {W : Type 0} (contents : W → Option (List ℕ)) (faults : W → ℕ) (left : W) {now : W} (input : List ℕ) (reason : Reason) (message : List ℕ)
-    {s t : Stand} {name : ℕ} {is_cut : Bool} → IsMessage (codes "cribsheet") input reason message → Prints message s t
+pub said : {W : Type 0} (contents : W → Option (List ℕ)) (faults : W → ℕ) (left : W) {now : W} (sections : Sections)
+    (input : List ℕ) (reason : Reason) (message : List ℕ)
+    {s t : Stand} {name : ℕ} {is_cut : Bool} → IsMessage (codes "cribsheet") sections input reason message → Prints message s t
     → (acts : List ℕ) × AreShown input reason acts
     × Prints acts t (record { name = name; contents = contents left; faults = faults left; is_cut = is_cut })
-    → s.is_cut ≡ false → (name ≡ s.name → now ≡ left) → Writes (IsSaid input reason) s.contents (contents now) (HasFailed s.faults (faults now))
-said {W} contents faults left input reason message {s} is puts (acts, shown, prints) whole behind =
-    subst (λ (w : W). Writes (IsSaid input reason) s.contents (contents w) (HasFailed s.faults (faults w))) (sym (behind (prints.same ∙ puts.same)))
+    → s.is_cut ≡ false → (name ≡ s.name → now ≡ left) → Writes (IsSaid sections input reason) s.contents (contents now) (HasFailed s.faults (faults now))
+said {W} contents faults left sections input reason message {s} is puts (acts, shown, prints) whole behind =
+    subst (λ (w : W). Writes (IsSaid sections input reason) s.contents (contents w) (HasFailed s.faults (faults w))) (sym (behind (prints.same ∙ puts.same)))
     (message ++ acts, (message, acts, is, shown, refl), written (more puts prints) whole)

@@ -1,11 +1,12 @@
 -- The words beside a sheet: the message of a refusal, and the acts before a refused one.
 use Rattle.std.specs.Prelude.{◌≡◌, ℕ, List, ◌++◌, codes}
 use Rattle.crib_input.specs.declared.reason.Reason.{Reason}
+use Rattle.crib_input.specs.declared.sections.Sections.{Sections}
 use Rattle.crib_message.specs.Message.{IsMessage}
 use Rattle.crib_game_sheet.specs.ActsBefore.{AreShown}
 
 -- what is written beside a reply with a reason: its message, and the acts before a refused one
-abbrev pub IsSaid : List ℕ → Reason → List ℕ → Type 0
-IsSaid input reason text =
-    (message : List ℕ) × (acts : List ℕ) × IsMessage (codes "cribsheet") input reason message
+abbrev pub IsSaid : Sections → List ℕ → Reason → List ℕ → Type 0
+IsSaid sections input reason text =
+    (message : List ℕ) × (acts : List ℕ) × IsMessage (codes "cribsheet") sections input reason message
     × AreShown input reason acts × (text ≡ message ++ acts)

@@ -7,6 +7,7 @@ ghost use Rattle.std.specs.Io.KnownBytes.{Appends};
 ghost use Rattle.crib_text.specs.Device.{HasFailed};
 ghost use Rattle.crib_run.specs.Beside.{Explains, input_of};
 ghost use Rattle.crib_run.specs.Run.{Delivers, RunMeans};
+ghost use Rattle.crib_sheet.specs.Job.{sections_of};
 ghost use Rattle.crib_sheet.specs.Meaning.{SheetMeans};
 ghost use Rattle.crib_sheet.specs.Sheet.{SheetMakes};
 ghost use Rattle.cribsheet.specs.Beside.{IsSaid};
@@ -99,8 +100,8 @@ pub fn run_with_words<A: Allocator + Copy, S: Source, W: Sink, E: Sink>(
     ensures words { (run : Delivers (SheetMakes job) (S.remaining source.old)
         (HasFailed (S.faults source.old) (S.faults source.new)) (W.contents sink.old) (W.contents sink.new)
         (HasFailed (W.faults sink.old) (W.faults sink.new)) result)
-        × Explains (IsSaid (input_of run.read)) run.reply result (E.contents words.old) (E.contents words.new)
-        (HasFailed (E.faults words.old) (E.faults words.new)) }
+        × Explains (IsSaid (sections_of job) (input_of run.read)) run.reply result (E.contents words.old)
+        (E.contents words.new) (HasFailed (E.faults words.old) (E.faults words.new)) }
     ensures silent { (result ≡ Status.Yes) ⊎ (result ≡ Status.No)
         → Appends (E.contents words.old) (E.contents words.new) [] }
 {

@@ -30,7 +30,7 @@ returns-in-Err g c =
       answers = c.unread_reason-reason.ensures;
       sent = c.deliver_reason.ensures.sent;
     } in
-    let words = c.deliver_reason.ensures.words in
+    let words = rw c.sections.ensures at c.deliver_reason.ensures.words in
     record {
       answers = run;
       means = run_means _ _ c.requires _ _ _ _ _ _ run;

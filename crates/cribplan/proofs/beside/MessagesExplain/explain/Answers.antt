@@ -7,7 +7,7 @@ pub returns : goal.returns
 returns g c =
     let text = c.as_slice.result.now in
     let sent = c.put-sent.ensures in
-    let M : List ℕ → Type 0 = λ bytes. IsMessage (codes "cribplan") c.args.input.now c.args.reason.now bytes in (
+    let M : List ℕ → Type 0 = λ bytes. IsMessage (codes "cribplan") c.args.sections c.args.input.now c.args.reason.now bytes in (
       text,
       subst M (sym c.as_slice.ensures.text) c.message_of-message.ensures,
       sent_part (λ stopped. stopped.sent) c.put-sent.result _ _ text _ sent.all sent.part sent.cut sent.failed,

@@ -3,7 +3,7 @@ use Rattle.std.proofs.Common.{◌≡◌, ◌⊎◌, ◌↔◌, ℕ, zero, suc, �
 use Rattle.std.proofs.Common.{List, [], ◌∷◌, length, get_or, set, refl, sym, ap, ◌∙◌, inl, inr, arith}
 use Rattle.std.proofs.lemmas.Bool.{both_ways, cases_eq, cases_lt, eq-eqb, le-leb, leb-true, ne_eqb}
 use Rattle.std.proofs.lemmas.Bool.Decides.{nat_tests}
-use Rattle.std.proofs.lemmas.List.{get_or-set_same, get_or-set_other}
+use Rattle.std.proofs.lemmas.List.{length-take, get_or-set_same, get_or-set_other}
 use Rattle.crib_cards.specs.Sets.{rank_counts}
 use Rattle.crib_cards.specs.declared.sides.Dealt.{Dealt}
 use Rattle.crib_show.specs.Demands.{IsMetByNone, is_met}
@@ -15,7 +15,8 @@ use Rattle.crib_deals.specs.Deals.{Behind, IsBehind, IsMissing, ranks_held}
 use Rattle.crib_deals.specs.Exact.{AreExactly}
 use Rattle.crib_deals.proofs.ExactCounts.{exactly_either, exactly_none, exactly_rest, exactly_same}
 use Rattle.crib_bound.proofs.Amounts.{part_few}
-use Rattle.crib_bound.specs.Private.Walks.{AreAdded, entry_of, grade_of, index_of}
+use Rattle.crib_search.specs.declared.tries.grades.Ladder.{Ladder}
+use Rattle.crib_bound.specs.Private.Walks.{AreAdded, entry_by, entry_of, grade_of, index_of, ladder_at, rungs_at}
 
 -- ---- grades
 module _ (problem : Setup) (dealt : Dealt) where
@@ -61,14 +62,20 @@ module _ (problem : Setup) (dealt : Dealt) where
   no_grade [] none less first = refl
   no_grade (demand ∷ ladder) none less first = ap (λ (b : Bool). cond b (1 + grade_of problem ladder dealt) 0) (first _ _)
 
-  pub choice_of_entry : (ladder : List Demand) → length ladder ≡ 7 → entry_of problem ladder dealt / 8 ≡ index_of dealt
-  unfolding entry_of
-  choice_of_entry ladder seven = let few = grade_few ladder in omega (arith, few, seven)
+  pub choice_of_entry : (ladders : List Ladder) → entry_of problem ladders dealt / 8 ≡ index_of dealt
+  unfolding entry_of entry_by
+  choice_of_entry ladders =
+      let few = grade_few (ladder_at ladders (index_of dealt)) in
+      let seven = length-take 7 (rungs_at ladders (index_of dealt)) in
+      omega (arith, few, seven)
 
-  pub entry_at : (ladder : List Demand) {choice index : ℕ} → choice ≡ index / 8 → index_of dealt ≡ choice →
-      grade_of problem ladder dealt ≡ index % 8 → index ≡ entry_of problem ladder dealt
-  unfolding entry_of
-  entry_at ladder place is grade = omega (arith, place, is, grade)
+  pub entry_at : (ladders : List Ladder) {choice index : ℕ} → choice ≡ index / 8 → index_of dealt ≡ choice →
+      grade_of problem (ladder_at ladders (index / 8)) dealt ≡ index % 8 → index ≡ entry_of problem ladders dealt
+  unfolding entry_of entry_by
+  entry_at ladders {choice} {index} place is grade =
+      let same : grade_of problem (ladder_at ladders (index_of dealt)) dealt ≡ grade_of problem (ladder_at ladders (index / 8)) dealt =
+      ap (λ n. grade_of problem (ladder_at ladders n) dealt) (is ∙ place) in
+      omega (arith, place, is, grade, same)
 
 -- ---- counts
 -- one of two tests
@@ -130,13 +137,13 @@ pub record AreAddedBelow (behind : Behind) (ladder : List Demand) (grade : ℕ) 
   pub few : (index : ℕ) → more index ≤ grade * 209920
   pub added : (index : ℕ) → get_or after index 0 ≡ get_or before index 0 + more index
   pub each : (index : ℕ) →
-      AreExactly (λ dealt. (IsBehind behind dealt × (eqb index (entry_of behind.problem ladder dealt) ≡ true))
+      AreExactly (λ dealt. (IsBehind behind dealt × (eqb index (entry_by behind.problem ladder dealt) ≡ true))
       × (grade_of behind.problem ladder dealt < grade)) (more index)
 
 -- the entry of a deal with some ranks
 here : (behind : Behind) (ladder : List Demand) (dealt : Dealt) → ranks_held dealt ≡ behind.ranks →
-    entry_of behind.problem ladder dealt ≡ 8 * index_among 4 (rank_counts behind.ranks) + grade_of behind.problem ladder dealt
-unfolding entry_of
+    entry_by behind.problem ladder dealt ≡ 8 * index_among 4 (rank_counts behind.ranks) + grade_of behind.problem ladder dealt
+unfolding entry_by
 here behind ladder dealt is = ap (λ (ranks : List ℕ). 8 * index_among 4 (rank_counts ranks) + grade_of behind.problem ladder dealt) is
 
 -- what is set at an entry
@@ -197,7 +204,7 @@ module _ {behind : Behind} {ladder : List Demand} {before : List ℕ} where
   }
     where
       at_entry : (index : ℕ) (dealt : Dealt) → ranks_held dealt ≡ behind.ranks → grade_of behind.problem ladder dealt ≡ grade →
-          eqb index (entry_of behind.problem ladder dealt) ≡ eqb index at
+          eqb index (entry_by behind.problem ladder dealt) ≡ eqb index at
       at_entry index dealt is same = ap (λ n. eqb index n) (let put = here behind ladder dealt is in omega (arith, put, same, place))
 
       if_there : (there : Bool) →
@@ -235,13 +242,13 @@ module _ {behind : Behind} {ladder : List Demand} {before : List ℕ} where
     };
   }
     where
-      at_entry : (index : ℕ) (dealt : Dealt) → ranks_held dealt ≡ behind.ranks → eqb index (entry_of behind.problem ladder dealt) ≡ eqb index at
+      at_entry : (index : ℕ) (dealt : Dealt) → ranks_held dealt ≡ behind.ranks → eqb index (entry_by behind.problem ladder dealt) ≡ eqb index at
       at_entry index dealt is =
           let put = here behind ladder dealt is in
           let zero = no_grade behind.problem dealt ladder none (omega (arith, seven)) first in
           ap (λ n. eqb index n) (omega (arith, put, zero, place))
 
       if_there : (index : ℕ) (there : Bool) → eqb index at ≡ there →
-          AreExactly (λ dealt. IsBehind behind dealt × (eqb index (entry_of behind.problem ladder dealt) ≡ true)) (cond there count 0)
+          AreExactly (λ dealt. IsBehind behind dealt × (eqb index (entry_by behind.problem ladder dealt) ≡ true)) (cond there count 0)
       if_there index true e = exactly_same (λ dealt order has. (has, at_entry index dealt has.1 ∙ e)) (λ dealt order has. has.0) exact
       if_there index false e = exactly_none (λ dealt order has. both_ways _ (at_entry index dealt has.0.1 ∙ e) has.1)

@@ -1,5 +1,5 @@
 -- What is taken of amounts, counted and given back.
-use Rattle.std.proofs.Common.{◌≡◌, ◌⊎◌, ℕ, ◌+◌, ◌-◌, ◌*◌, ◌/◌, ◌<◌, ◌≤◌, min, Bool, true, false, not, ◌&&◌, ◌||◌, cond, eqb, List, [], ◌∷◌, ◌++◌}
+use Rattle.std.proofs.Common.{◌≡◌, ◌⊎◌, ℕ, zero, suc, ◌+◌, ◌-◌, ◌*◌, ◌/◌, ◌<◌, ◌≤◌, min, Bool, true, false, not, ◌&&◌, ◌||◌, cond, eqb, List, [], ◌∷◌, ◌++◌}
 use Rattle.std.proofs.Common.{length, set, take, sum_by, count_by, get_or, refl, sym, ap, subst, ◌∙◌, inl, inr, arith}
 use Rattle.std.proofs.Math.Nat.{div-mul-le_self, min-eq_left, min-le_left, min-le_right}
 use Rattle.std.proofs.lemmas.Bool.{both_ways, cases_Bool, cases_eq, eqb-true, eq-eqb, ne_eqb, true_from_ne_false}
@@ -12,7 +12,7 @@ use Rattle.crib_cards.proofs.SetLemmas.{has_push}
 use Rattle.crib_show.specs.declared.demands.Demand.{Demand}
 use Rattle.crib_sure.specs.Shows.{meets}
 use Rattle.crib_bound.specs.declared.walk.Bound.{Bound}
-use Rattle.crib_bound.specs.Private.Walks.{AreDealsOf, AreFewer, AreGivenBack, AreLowered, entry_in, misses_at, taken_of}
+use Rattle.crib_bound.specs.Private.Walks.{AreDealsOf, AreFewer, AreGivenBack, AreLowered, entry_in, held_of, misses_at, taken_of}
 use Rattle.crib_bound.proofs.Amounts.{sum_both, sum_less}
 
 -- ---- sums
@@ -182,6 +182,38 @@ more_back {bound} {indices} {before} {after} {most} at more weight inside here i
           omega (arith, put, one, other)
     ]
 
+-- no more is lost than is given back
+pub given_lowered : {bound : Bound} {indices one back new : List ℕ} {lost value least : ℕ} → AreGivenBack bound indices one back lost → lost ≤ value →
+    AreLowered bound back new (value - lost) least → AreLowered bound one new value least
+given_lowered {bound} {one = one} {back = back} given few low = record {
+  mid = low.mid;
+  more = λ index. let less = given.more index in let more = low.more index in omega (arith, less, more);
+  less = low.less;
+  lost = λ deals are.
+      let two = sum_both (taken_of (entry_in bound) low.mid back) (taken_of (entry_in bound) back one) deals in
+      let all = sum_less (taken_of (entry_in bound) low.mid one)
+      (λ dealt. taken_of (entry_in bound) low.mid back dealt + taken_of (entry_in bound) back one dealt) deals (λ dealt h. omega arith) in
+      omega (arith, two, all, few, given.few deals are, low.lost deals are);
+}
+
+-- what is given back of one more choice is at most what the other has
+pub still_most : (old other new : List ℕ) (at more : ℕ) → at < length new → more ≤ get_or other at 0 - get_or new at 0 →
+    ((index most : ℕ) → get_or old index 0 ≤ most → get_or other index 0 ≤ most → get_or new index 0 ≤ most) → (index most : ℕ) →
+    get_or old index 0 ≤ most → get_or other index 0 ≤ most → get_or (set new at (get_or new at 0 + more)) index 0 ≤ most
+still_most old other new at more inside few so_far index most low also = elim (cases_eq at index) [
+  | inl same ↦
+      let put = get_or-set_same new at (get_or new at 0 + more) 0 inside in
+      let here = so_far index most low also in
+      let is = ap (λ n. get_or (set new at (get_or new at 0 + more)) n 0) same in
+      let old_is = ap (λ n. get_or new n 0) same in
+      let other_is = ap (λ n. get_or other n 0) same in
+      omega (arith, put, is, old_is, other_is, here, few, also)
+  | inr apart ↦
+      let kept = get_or-set_other new at index (get_or new at 0 + more) 0 (λ same. apart (sym same)) in
+      let here = so_far index most low also in
+      omega (arith, kept, here)
+]
+
 -- ---- joining
 -- what is joined is no more than either
 pub both_below : (indices one other new : List ℕ) →
@@ -217,6 +249,53 @@ kept_lowered {bound = bound} {other = other} below = record {
   less = below;
   lost = λ deals are. let none = none_taken (entry_in bound) other deals in omega (arith, none);
 }
+
+-- ---- holding back
+-- what was held back at the places before
+held_before : (indices held : List ℕ) (place amount places index : ℕ) → places ≤ place →
+    held_of indices (set held place amount) places index ≡ held_of indices held places index
+held_before indices held place amount zero index less = refl
+held_before indices held place amount (suc places) index less =
+    let rest = held_before indices held place amount places index (omega (arith, less)) in
+    let kept = get_or-set_other held place places amount 0 (λ same. absurd (omega (arith, same, less))) in
+    let here = ap (λ n. cond (eqb (get_or indices places 0) index) n 0) kept in
+    omega (arith, rest, here)
+
+-- what is held back at one more place
+pub one_held : (indices held amounts : List ℕ) (old : ℕ → ℕ) (place allowed : ℕ) → place < length held → get_or indices place 0 < length amounts →
+    allowed ≤ get_or amounts (get_or indices place 0) 0 → ((index : ℕ) → get_or amounts index 0 + held_of indices held place index ≤ old index) →
+    (index : ℕ) → get_or (set amounts (get_or indices place 0) allowed) index 0
+    + held_of indices (set held place (get_or amounts (get_or indices place 0) 0 - allowed)) (place + 1) index ≤ old index
+one_held indices held amounts old place allowed room inside few so_far index =
+    let at = get_or indices place 0 in
+    let amount = get_or amounts at 0 in
+    let put = set_entry amounts at allowed index inside in
+    let kept = held_before indices held place (amount - allowed) place index (omega arith) in
+    let new = get_or-set_same held place (amount - allowed) 0 room in
+    here (eqb at index) refl put kept (ap (λ n. cond (eqb at index) n 0) new)
+  where
+    now : List ℕ
+    now = set held place (get_or amounts (get_or indices place 0) 0 - allowed)
+
+    more : (n : ℕ) → held_of indices now (n + 1) index ≡ held_of indices now n index + cond (eqb (get_or indices n 0) index) (get_or now n 0) 0
+    more n = ap (λ k. held_of indices now k index) (let next : n + 1 ≡ suc n = omega arith in next)
+
+    here : (is : Bool) → eqb (get_or indices place 0) index ≡ is →
+        get_or (set amounts (get_or indices place 0) allowed) index 0 ≡ cond (eqb (get_or indices place 0) index) allowed (get_or amounts index 0) →
+        held_of indices (set held place (get_or amounts (get_or indices place 0) 0 - allowed)) place index ≡ held_of indices held place index →
+        cond (eqb (get_or indices place 0) index) (get_or (set held place (get_or amounts (get_or indices place 0) 0 - allowed)) place 0) 0
+        ≡ cond (eqb (get_or indices place 0) index) (get_or amounts (get_or indices place 0) 0 - allowed) 0 →
+        get_or (set amounts (get_or indices place 0) allowed) index 0
+        + held_of indices (set held place (get_or amounts (get_or indices place 0) 0 - allowed)) (place + 1) index ≤ old index
+    here true is put kept new =
+        let one = put ∙ ap (λ (b : Bool). cond b allowed (get_or amounts index 0)) is in
+        let other = new ∙ ap (λ (b : Bool). cond b (get_or amounts (get_or indices place 0) 0 - allowed) 0) is in
+        let same = ap (λ n. get_or amounts n 0) (eqb-true (get_or indices place 0) index is) in
+        omega (arith, one, other, same, kept, few, so_far index, more place)
+    here false is put kept new =
+        let one = put ∙ ap (λ (b : Bool). cond b allowed (get_or amounts index 0)) is in
+        let other = new ∙ ap (λ (b : Bool). cond b (get_or amounts (get_or indices place 0) 0 - allowed) 0) is in
+        omega (arith, one, other, kept, so_far index, more place)
 
 -- ---- lists of indices
 min_twice : (one other : ℕ) → min (min one other) other ≡ min one other

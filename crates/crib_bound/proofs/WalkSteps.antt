@@ -165,6 +165,23 @@ module _ {bound : Bound} {know : Knowledge} {indices : List ℕ} where
         (Turn history (taken_of (entry_in bound) mid after) more (Theirs letter) (λ card is. absurd cc) (there.worth deals weighed are history knows));
   }
 
+-- what is held back while a turn is walked, and then put back, changes nothing
+pub held_bound : {bound : Bound} {know : Knowledge} {indices before rest left after : List ℕ} {value : ℕ} (held : ℕ → ℕ) →
+    ((index : ℕ) → get_or rest index 0 + held index ≤ get_or before index 0) →
+    ((index : ℕ) → has indices index ≡ false → get_or rest index 0 ≡ get_or before index 0) →
+    ((index : ℕ) → get_or after index 0 ≤ get_or left index 0 + held index) →
+    ((index : ℕ) → has indices index ≡ false → get_or after index 0 ≡ get_or left index 0) → IsBoundAt bound know indices rest left value →
+    IsBoundAt bound know indices before after value
+held_bound {bound} {before = before} {rest = rest} {left = left} {after = after} held less same most also there = record {
+  fewer = record {
+    less = λ index. omega (arith, less index, most index, there.fewer.less index);
+    elsewhere = λ index none. also index none ∙ there.fewer.elsewhere index none ∙ same index none;
+  };
+  worth = λ deals weighed are history knows.
+      lower (omega arith) (λ dealt h. omega (arith, less (entry_in bound dealt), most (entry_in bound dealt)))
+      (there.worth deals weighed are history knows);
+}
+
 -- ---- cards
 -- a card that may be played, where the owner need not say go
 pub some_card : (know : Knowledge) (go : Bool) →
@@ -240,7 +257,7 @@ module _ {bound : Bound} {know next : Knowledge} {indices spare : List ℕ} {eve
   falls = know_falls know next bound.problem.now event walk.history walk.knows (goes bound.problem.now walk.history walk.knows)
 
   -- with some of the indices
-  pub walk_after : (left room : List ℕ) → All (λ index. index < 14560) left → length left * turns_ahead next ≤ length room → MayWalk bound next left room
+  pub walk_after : (left room : List ℕ) → All (λ index. index < 14560) left → length left * (2 * turns_ahead next) ≤ length room → MayWalk bound next left room
   walk_after left room small enough = record {
     own = walk.own;
     history = event ∷ walk.history;
@@ -249,14 +266,22 @@ module _ {bound : Bound} {know next : Knowledge} {indices spare : List ℕ} {eve
     room = enough;
   }
 
+-- the spare room is enough for two lists of indices, and for those of the turns after it
+pub room_twice : {many before after room : ℕ} (few : ℕ) → many * (2 * before) ≤ room → after < before → few ≤ many →
+    (few * (2 * after) + few + many ≤ room) × (few * (2 * after) ≤ room)
+room_twice {many} {before} {after} {room} few enough falls fewer =
+    let less : many * (2 * after + 2) ≤ room = grind (arith, enough, falls) in
+    let part : few * (2 * after) ≤ many * (2 * after) = grind (arith, fewer) in
+    (grind (arith, less, part, fewer), grind (arith, less, part, fewer))
+
 -- ---- the walk from the opening on
-pub start_room : {indices ahead room : ℕ} → indices ≡ 14560 → ahead ≤ 27 → room ≡ 27 * 14560 → indices * ahead ≤ room
-start_room {indices} {ahead} {room} is few enough = let all : 14560 * ahead ≤ room = omega (arith, few, enough) in rw is all
+pub start_room : {indices ahead room : ℕ} → indices ≡ 14560 → ahead ≤ 27 → room ≡ 54 * 14560 → indices * (2 * ahead) ≤ room
+start_room {indices} {ahead} {room} is few enough = let all : 14560 * (2 * ahead) ≤ room = omega (arith, few, enough) in rw is all
 
 pub start_strategy : {bound : Bound} {know : Knowledge} {indices before after : List ℕ} (parts value : ℕ) →
     KnowsAfter know bound.problem.now (played_events bound.problem.now) → ((index : ℕ) → get_or before index 0 ≤ parts) →
     IsBoundAt bound know indices before after value →
-    AreOpenDeals bound.problem.now bound.ladder.now bound.choices.now bound.weights.now bound.tables.now → IsStrategy event_of bound.problem.now parts value
+    AreOpenDeals bound.problem.now bound.ladders.now bound.choices.now bound.weights.now bound.tables.now → IsStrategy event_of bound.problem.now parts value
 start_strategy {bound} {know} {indices} {before} {after} parts value knows few worth are = record {
   deals = are.deals;
   different = are.different;

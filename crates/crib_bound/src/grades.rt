@@ -1,5 +1,5 @@
 //! The grades of deals: how many demands of a ladder they meet in a row, from the first on.
-ghost use Rattle.std.specs.Prelude.{◌≡◌, ◌≤◌, ◌<◌, nat_le};
+ghost use Rattle.std.specs.Prelude.{◌≡◌, ◌≤◌, ◌<◌, length, nat_le};
 ghost use Rattle.crib_cards.specs.declared.sides.Dealt.{Dealt};
 ghost use Rattle.crib_problem.specs.Setup.{Setup};
 ghost use Rattle.crib_sure.specs.Shows.{meets};
@@ -15,6 +15,7 @@ pub(crate) fn missing_with(table: &Table, ladder: &[Demand; 7], demand: Demand, 
     requires { grade < 8 }
     ensures exact { AreExactly (λ dealt. IsMissing table.now demand dealt
         × (grade_of table.now.problem ladder.now dealt ≡ grade)) result }
+    ensures long { length ladder.now ≡ 7 }
     ensures few { result ≤ 209920 }
 {
     missing_from(table, ladder, demand, grade) - missing_from(table, ladder, demand, grade + 1)

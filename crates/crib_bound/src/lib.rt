@@ -1,7 +1,9 @@
 //! How many deals beat each plan at least.
 #![tactic(auto)]
 
+mod entries;
 mod grades;
+mod joins;
 mod laws;
 mod units;
 mod walk;

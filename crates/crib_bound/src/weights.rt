@@ -1,5 +1,5 @@
 //! The choices of four ranks, and how many open deals the entries have.
-ghost use Rattle.std.specs.Prelude.{◌≡◌, ◌<◌, ◌≤◌, None, get_or, IfOk, ℕ};
+ghost use Rattle.std.specs.Prelude.{◌≡◌, ◌<◌, ◌≤◌, None, get_or, length, IfOk, ℕ};
 ghost use Rattle.crib_cards.specs.Sets.{rank_counts};
 ghost use Rattle.crib_problem.specs.Setup.{IsSetup};
 ghost use Rattle.crib_show.specs.Indices.{index_among};
@@ -10,6 +10,7 @@ use crate::grades::missing_with;
 use crib_cards::{Rank, RankCounts, Side};
 use crib_deals::{Deals, Table, are_in_order, ranks_at};
 use crib_problem::Problem;
+use crib_search::Ladder;
 use crib_show::{CHOICES, Demand, choice_index, count_ranks};
 use std::alloc::{AllocError, Allocator};
 
@@ -21,8 +22,8 @@ pub(crate) const ENTRIES: usize = 14_560;
 pub(crate) struct Choices<'a, A: Allocator> {
     /// How many cards of each rank they have.
     pub(crate) counts: [RankCounts; CHOICES],
-    /// The demands that give the open deals their grades.
-    pub(crate) ladder: [Demand; 7],
+    /// The demands that give the open deals of each choice their grades.
+    pub(crate) ladders: [Ladder; CHOICES],
     /// How many open deals the entries have. The index of an entry is 8 times that of its choice, and its grade.
     pub(crate) weights: [u64; ENTRIES],
     /// The deals of each choice by the points of the show. The list is empty if the opponent's show can't decide.
@@ -35,15 +36,15 @@ impl<'a, A: Allocator> Choices<'a, A> {
     pub(crate) fn of(
         alloc: A,
         problem: &'a Problem,
-        wanted: &[Demand; 7],
+        wanted: &[Ladder; CHOICES],
     ) -> Result<Self, AllocError>
         requires { IsSetup problem.now }
-        ensures { IfOk result (λ choices. AreOpenDeals problem.now choices.ladder choices.counts choices.weights
+        ensures { IfOk result (λ choices. AreOpenDeals problem.now choices.ladders choices.counts choices.weights
             choices.tables.items) }
     {
         let deals = Deals::of(problem);
         let may_decide = problem.dealer() == Side::Owner || problem.is_to_stop();
-        let ladder = ladder_if(may_decide, wanted);
+        let ladders = ladders_if(may_decide, wanted);
         let mut counts = [RankCounts::new(); CHOICES];
         let mut weights = [0; ENTRIES];
         let mut tables = no_tables(alloc, may_decide)?;
@@ -55,23 +56,32 @@ impl<'a, A: Allocator> Choices<'a, A> {
             let counted = count_ranks(&ranks);
             let index = choice_index(&counted);
             counts[index] = counted;
-            add_deals(&mut weights, &mut tables, &deals, &ladder, &ranks, index);
+            add_deals(
+                &mut weights,
+                &mut tables,
+                &deals,
+                &ladders[index].rungs,
+                &ranks,
+                index,
+            );
         }
         Ok(Choices {
             counts,
-            ladder,
+            ladders,
             weights,
             tables,
         })
     }
 }
 
-// The ladder if the opponent's show may decide. Otherwise one whose demands no deal meets.
-fn ladder_if(may_decide: bool, ladder: &[Demand; 7]) -> [Demand; 7] {
+// The ladders if the opponent's show may decide. Otherwise ladders whose demands no deal meets.
+fn ladders_if(may_decide: bool, ladders: &[Ladder; CHOICES]) -> [Ladder; CHOICES] {
     if may_decide {
-        return *ladder;
+        return *ladders;
     }
-    [Demand::impossible(); 7]
+    [Ladder {
+        rungs: [Demand::impossible(); 7],
+    }; CHOICES]
 }
 
 // Room for the tables, if they are needed.
@@ -105,6 +115,7 @@ fn add_deals<'a, A: Allocator>(
     requires few { (entry : ℕ) → get_or weights.old entry 0 ≤ 50000000000 }
     ensures tables { AreTables deals.now tables.old.items → AreTables deals.now tables.new.items }
     ensures added { AreAdded (behind_by deals.now ranks.now) ladder.now weights.old weights.new }
+    ensures long { length ladder.now ≡ 7 }
 {
     if tables.is_empty() && ladder[0].is_impossible() {
         weights[8 * index] += deals.count(ranks, Demand::none()).open_deals as u64;

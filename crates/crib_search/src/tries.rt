@@ -11,6 +11,8 @@ mod advice;
 mod choices;
 mod choosing;
 mod closing;
+mod grades;
+mod guide;
 mod ledger;
 mod matching;
 mod net;
@@ -20,6 +22,7 @@ mod register;
 mod rounds;
 mod spot;
 mod survey;
+mod tape;
 
 use crate::finder::{Found, SearchFault, find, plan_from};
 use crate::nodes::{DraftPlace, Nodes};
@@ -29,6 +32,9 @@ use crib_cards::Card;
 use crib_know::Know;
 use crib_plan::Plan;
 use crib_problem::Problem;
+pub use grades::Ladder;
+pub use guide::Guide;
+pub use spot::Spot;
 use std::alloc::{AllocError, Allocator, Global};
 
 /// A plan to try.

@@ -47,8 +47,8 @@ a_sure_plan : (input : List ℕ) → SpellsPlan input at_29 ace_or_two → IsSur
           ++ legend_text true;
       status = Yes;
     })
-unfolding digits heading_text scores_line other_score own_line goal_line opening_line position_text turn_line now_line beating_text least_text plan_page page_text
-    sheet_text sheet_with paragraph_text rank_words label
+unfolding digits heading_text scores_line other_score own_line goal_line opening_line position_text turn_line now_line beating_text least_text plan_page
+    page_text sheet_text sheet_with paragraph_text rank_words label
 a_sure_plan input spelled sure goes_on ends reaches = record {
   problem = at_29;
   plan = ace_or_two;
@@ -70,8 +70,8 @@ a_stuck_plan : (input : List ℕ) → SpellsPlan input four_twos [] → ¬ Spell
           ++ legend_text false;
       status = No;
     })
-unfolding digits heading_text scores_line other_score own_line goal_line opening_line position_text turn_line now_line beating_text least_text plan_page page_text
-    sheet_text sheet_with paragraph_text rank_words label
+unfolding digits heading_text scores_line other_score own_line goal_line opening_line position_text turn_line now_line beating_text least_text plan_page
+    page_text sheet_text sheet_with paragraph_text rank_words label
 a_stuck_plan input spelled typed unsure figures is_least = record {
   problem = four_twos;
   plan = [];

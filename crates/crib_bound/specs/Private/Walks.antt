@@ -1,6 +1,6 @@
 -- A walk over what the owner knows, which counts what amounts of deals are worth.
-use Rattle.std.specs.Prelude.{◌≡◌, ℕ, ◌+◌, ◌-◌, ◌*◌, ◌/◌, ◌<◌, ◌≤◌, nat_eq, Bool, not, ◌&&◌, cond}
-use Rattle.std.specs.Prelude.{List, [], ◌∷◌, length, count_by, get_or, map, sum_by}
+use Rattle.std.specs.Prelude.{◌≡◌, ℕ, zero, suc, ◌+◌, ◌-◌, ◌*◌, ◌/◌, ◌<◌, ◌≤◌, nat_eq, Bool, not, ◌&&◌, cond}
+use Rattle.std.specs.Prelude.{List, [], ◌∷◌, length, count_by, get_or, map, sum_by, take}
 use Rattle.std.specs.Prelude.{Option, None, IfSome, IsTrue, IsFalse}
 use Rattle.std.specs.List.{All}
 use Rattle.crib_cards.specs.Cards.{rank_of}
@@ -19,6 +19,7 @@ use Rattle.crib_sure.specs.Shows.{meets}
 use Rattle.crib_deals.specs.Deals.{Behind, IsBehind}
 use Rattle.crib_deals.specs.Exact.{IsIn, AreExactly}
 use Rattle.crib_beaten.specs.Beaten.{counts_of}
+use Rattle.crib_search.specs.declared.tries.grades.Ladder.{Ladder}
 use Rattle.crib_bound.specs.Worth.{IsWorth}
 use Rattle.crib_bound.specs.declared.walk.Bound.{Bound}
 
@@ -31,13 +32,25 @@ unfoldable pub grade_of : Setup → List Demand → Dealt → ℕ
 grade_of problem [] dealt = 0
 grade_of problem (demand ∷ ladder) dealt = cond (meets problem demand dealt) (1 + grade_of problem ladder dealt) 0
 
--- the index of the entry of a deal, by the ranks that the opponent held and its grade. A choice has eight entries
-unfoldable pub entry_of : Setup → List Demand → Dealt → ℕ
-entry_of problem ladder dealt = 8 * index_of dealt + grade_of problem ladder dealt
+-- the demands of the ladder at an index
+abbrev pub rungs_at : List Ladder → ℕ → List Demand
+rungs_at ladders index = (get_or ladders index (record { rungs = [] })).rungs
 
--- the same by the ladder of a bound
+-- seven of them: a ladder has no more
+abbrev pub ladder_at : List Ladder → ℕ → List Demand
+ladder_at ladders index = take 7 (rungs_at ladders index)
+
+-- the index of the entry of a deal, by the ranks that the opponent held and its grade. A choice has eight entries
+unfoldable pub entry_by : Setup → List Demand → Dealt → ℕ
+entry_by problem ladder dealt = 8 * index_of dealt + grade_of problem ladder dealt
+
+-- the same by the ladder of its choice
+unfoldable pub entry_of : Setup → List Ladder → Dealt → ℕ
+entry_of problem ladders dealt = entry_by problem (ladder_at ladders (index_of dealt)) dealt
+
+-- the same by the ladders of a bound
 abbrev pub entry_in : Bound → Dealt → ℕ
-entry_in bound = entry_of bound.problem.now bound.ladder.now
+entry_in bound = entry_of bound.problem.now bound.ladders.now
 
 -- how many parts of a deal some amounts have, if it has an index there
 abbrev pub parts_of : (Dealt → ℕ) → List ℕ → Dealt → ℕ
@@ -66,7 +79,7 @@ pub record IsAddedAt (behind : Behind) (ladder : List Demand) (before after : Li
   pub added : get_or after index 0 ≡ get_or before index 0 + more
   pub few : more ≤ 8 * 209920
   pub exact :
-      AreExactly (λ dealt. IsBehind behind dealt × IsTrue (nat_eq index (entry_of behind.problem ladder dealt))) more
+      AreExactly (λ dealt. IsBehind behind dealt × IsTrue (nat_eq index (entry_by behind.problem ladder dealt))) more
 
 -- all deals with four ranks are added to the weights of their entries
 pub record AreAdded (behind : Behind) (ladder : List Demand) (before after : List ℕ) : Type 0 where
@@ -76,25 +89,25 @@ pub record AreAdded (behind : Behind) (ladder : List Demand) (before after : Lis
 
 -- some deals are all open ones in pack order. The choice of the entry of each has its counts of ranks, as many as its
 -- weight says have an entry, and each table is at its index
-pub record AreWeighed (problem : Setup) (ladder : List Demand) (choices : List (List ℕ)) (weights : List ℕ)
+pub record AreWeighed (problem : Setup) (ladders : List Ladder) (choices : List (List ℕ)) (weights : List ℕ)
     (tables : List (Option Behind)) (deals : List Dealt) : Type 0 where
   pub counts : (dealt : Dealt) → IsIn dealt deals →
-      counts_of choices (entry_of problem ladder dealt / 8) ≡ rank_counts (map rank_of dealt.hold)
+      counts_of choices (entry_of problem ladders dealt / 8) ≡ rank_counts (map rank_of dealt.hold)
   pub weighed : (index : ℕ) →
-      get_or weights index 0 ≡ count_by (λ dealt. nat_eq index (entry_of problem ladder dealt)) deals
+      get_or weights index 0 ≡ count_by (λ dealt. nat_eq index (entry_of problem ladders dealt)) deals
   pub tabled : AreTables problem tables
   pub all : (dealt : Dealt) → IsTrue (is_in_pack_order dealt) → IsOpen problem dealt → IsIn dealt deals
 
 -- such deals for the choices of a bound
 abbrev pub AreDealsOf : Bound → List Dealt → Type 0
 AreDealsOf bound deals =
-    AreWeighed bound.problem.now bound.ladder.now bound.choices.now bound.weights.now bound.tables.now deals
+    AreWeighed bound.problem.now bound.ladders.now bound.choices.now bound.weights.now bound.tables.now deals
 
 -- there are such deals, each once
-pub record AreOpenDeals (problem : Setup) (ladder : List Demand) (choices : List (List ℕ)) (weights : List ℕ)
+pub record AreOpenDeals (problem : Setup) (ladders : List Ladder) (choices : List (List ℕ)) (weights : List ℕ)
     (tables : List (Option Behind)) : Type 0 where
   pub deals : List Dealt
-  pub weighed : AreWeighed problem ladder choices weights tables deals
+  pub weighed : AreWeighed problem ladders choices weights tables deals
   pub different : AreDifferent deals
   pub in_order : (dealt : Dealt) → IsIn dealt deals → IsTrue (is_in_pack_order dealt)
   pub are_open : (dealt : Dealt) → IsIn dealt deals → IsOpen problem dealt
@@ -114,6 +127,12 @@ HoldsAfter bound know indices Holds =
 pub record AreFewer (indices before after : List ℕ) : Type 0 where
   pub less : (index : ℕ) → get_or after index 0 ≤ get_or before index 0
   pub elsewhere : (index : ℕ) → IsFalse (has indices index) → get_or after index 0 ≡ get_or before index 0
+
+-- how much of an index is held back at the first places of a list of indices
+abbrev pub held_of : List ℕ → List ℕ → ℕ → ℕ → ℕ
+held_of indices held zero index = 0
+held_of indices held (suc places) index =
+    held_of indices held places index + cond (nat_eq (get_or indices places 0) index) (get_or held places 0) 0
 
 -- what is taken at a position is worth so much there
 pub record IsBoundAt (bound : Bound) (know : Knowledge) (indices before after : List ℕ) (value : ℕ) : Type 0 where
@@ -150,4 +169,4 @@ pub record MayWalk (bound : Bound) (know : Knowledge) (indices spare : List ℕ)
   pub history : List Event
   pub knows : KnowsAfter know bound.problem.now history
   pub small : All (λ index. index < 14560) indices
-  pub room : length indices * turns_ahead know ≤ length spare
+  pub room : length indices * (2 * turns_ahead know) ≤ length spare

@@ -7,6 +7,7 @@ ghost use Rattle.crib_search.specs.Private.Search.{IsHere, IsTurnOf};
 
 use crate::own_options::options;
 use crate::tries::choosing::choose;
+use crate::tries::guide::Guide;
 use crate::tries::places::{Branch, Places};
 use crate::tries::spot::Spot;
 use crate::tries::survey::{Survey, card_at};
@@ -22,6 +23,8 @@ pub struct Advice<A: Allocator = Global> {
     survey: Survey<A>,
     // The starts that have been searched.
     starts: Vec<Start, A>,
+    // Where the play of the problem begins.
+    spot: Spot,
 }
 
 /// The places behind the first card of the owner, or behind the opening.
@@ -43,7 +46,13 @@ impl<A: Allocator + Copy> Advice<A> {
         Ok(Advice {
             survey: Survey::of(alloc, problem)?,
             starts: Vec::new(alloc),
+            spot: Spot::at(0, 0),
         })
+    }
+
+    /// A guide for the opponent, as the search found it. It fails if an allocation fails.
+    pub fn guide(&self, alloc: A) -> Result<Guide<'_, A>, AllocError> {
+        Guide::of(alloc, &self.survey, self.spot)
     }
 
     /// The places at which the owner has a choice.
@@ -61,7 +70,8 @@ impl<A: Allocator + Copy> Advice<A> {
     ) -> Result<Spot, AllocError> {
         let know = Know::start(problem);
         let Some(card) = last else {
-            return self.first_spot(alloc, problem, &know);
+            self.spot = self.first_spot(alloc, problem, &know)?;
+            return Ok(self.spot);
         };
         let start = self.start_at(alloc, problem, &know, Some(card.rank()))?;
         Ok(Spot::at(start.next, start.end))

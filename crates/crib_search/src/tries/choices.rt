@@ -1,5 +1,6 @@
 //! The choices of ranks that the opponent may hold, and which of their deals miss a demand.
 
+use crate::tries::grades::index_of;
 use crib_cards::{GAME_HOLE, Rank, Side};
 use crib_deals::{Deals, Table, are_in_order, ranks_at};
 use crib_know::Know;
@@ -56,7 +57,7 @@ const HANDS: usize = 7;
 const CRIBS: usize = 9;
 
 // The classes of the hands from a number on.
-const FROM_HAND: [Classes; 8] = [
+pub(crate) const FROM_HAND: [Classes; 8] = [
     0x7fff_ffff_ffff_ffff,
     0x7fff_ffff_ffff_fe00,
     0x7fff_ffff_fffc_0000,
@@ -68,7 +69,7 @@ const FROM_HAND: [Classes; 8] = [
 ];
 
 // The classes of the cribs past a number, with each hand.
-const FROM_CRIB: [Classes; 10] = [
+pub(crate) const FROM_CRIB: [Classes; 10] = [
     0x7fbf_dfef_f7fb_fdfe,
     0x7f3f_9fcf_e7f3_f9fc,
     0x7e3f_1f8f_c7e3_f1f8,
@@ -105,11 +106,11 @@ impl Asked {
 /// The choices of four ranks that some open deal has.
 #[derive(Drop)]
 pub(crate) struct Choices<A: Allocator> {
-    // Whether the owner deals.
-    is_dealer: bool,
-    // The most points that a crib needs, and the most that a hand and a crib may have.
-    crib: u8,
-    total: u8,
+    /// Whether the owner deals.
+    pub(crate) is_dealer: bool,
+    /// The most points that a crib needs, and the most that a hand and a crib may have.
+    pub(crate) crib: u8,
+    pub(crate) total: u8,
     choices: Vec<Choice, A>,
     // How many deals of each choice are in each class. It is empty if there is one class.
     counts: Vec<[u32; CLASSES], A>,
@@ -118,12 +119,14 @@ pub(crate) struct Choices<A: Allocator> {
 /// A choice of four ranks.
 #[derive(Clone, Copy)]
 pub(crate) struct Choice {
+    /// The index among all choices of four ranks.
+    pub(crate) index: usize,
     /// How many cards of each rank are left after the opening.
     pub(crate) left: Left,
     // How many open deals have its ranks.
     open_deals: u32,
-    // The fewest points of the hand.
-    hand: u8,
+    /// The fewest points of the hand.
+    pub(crate) hand: u8,
     /// The classes that have a deal.
     pub(crate) classes: Classes,
 }
@@ -161,11 +164,12 @@ impl<A: Allocator + Copy> Choices<A> {
         may_decide: bool,
     ) -> Result<(), AllocError> {
         if may_decide {
-            return self.add_table(&deals.table(ranks), left);
+            return self.add_table(&deals.table(ranks), index_of(ranks), left);
         }
         let open_deals = deals.count(ranks, Demand::none()).open_deals;
         if open_deals > 0 {
             self.choices.push(Choice {
+                index: index_of(ranks),
                 left,
                 open_deals,
                 hand: 0,
@@ -176,7 +180,7 @@ impl<A: Allocator + Copy> Choices<A> {
     }
 
     // Adds the choice of a table, if it has some deal.
-    fn add_table(&mut self, table: &Table<'_>, left: Left) -> Result<(), AllocError> {
+    fn add_table(&mut self, table: &Table<'_>, index: usize, left: Left) -> Result<(), AllocError> {
         let open_deals = table.count(Demand::none()).open_deals;
         if open_deals == 0 {
             return Ok(());
@@ -188,6 +192,7 @@ impl<A: Allocator + Copy> Choices<A> {
             self.by_totals(table)
         };
         self.choices.push(Choice {
+            index,
             left,
             open_deals,
             hand,
@@ -315,6 +320,7 @@ impl<A: Allocator + Copy> Choices<A> {
         let Some(choice) = self.choices.get(index) else {
             return 0;
         };
+        let classes = classes & choice.classes;
         if classes == choice.classes {
             return choice.open_deals;
         }

@@ -4,7 +4,10 @@ use crate::tries::choices::{Choices, Classes};
 use crate::tries::ledger::Ledger;
 use crate::tries::matching::Matching;
 use crate::tries::net::{DEPTH, Edge, Net};
+use crate::tries::places::Places;
+use crate::tries::rounds::average;
 use crate::tries::survey::Survey;
+use crate::tries::tape::{Stop, Tape, Visit};
 use std::alloc::{AllocError, Allocator};
 
 // How often each place is chosen anew at most.
@@ -18,9 +21,6 @@ const PATIENCE: usize = 3_000_000;
 
 // A plan is near sure if at most one of so many deals beats it. For another plan there are no rounds.
 const NEAR: u64 = 10;
-
-// Deals are counted in steps of so many as a rule: so many throws each hold leaves.
-const STEP: u64 = 820;
 
 /// The choices in the making.
 #[derive(Drop)]
@@ -44,6 +44,7 @@ pub(crate) fn choose<A: Allocator + Copy>(
     let Survey {
         choices,
         places,
+        tape,
         ..
     } = survey;
     let mut beaten = 0u64;
@@ -66,7 +67,9 @@ pub(crate) fn choose<A: Allocator + Copy>(
     choosing.choose_all((0, end), false, DEPTH);
     choosing.improve()?;
     if beaten.saturating_add(choosing.least) <= choices.open_deals() / NEAR {
-        choosing.learn(alloc)?;
+        let matching = choosing.learn(alloc)?;
+        tape.learned.push((first, places.len()))?;
+        choosing.keep_on(tape, places, &matching)?;
     }
     choosing.restore();
     choosing.net.choose_at(places);
@@ -75,7 +78,7 @@ pub(crate) fn choose<A: Allocator + Copy>(
 
 impl<A: Allocator + Copy> Choosing<'_, A> {
     // Lets both sides learn, and tries what was learned, until no plan can be better.
-    fn learn(&mut self, alloc: A) -> Result<(), AllocError> {
+    fn learn(&mut self, alloc: A) -> Result<Matching<A>, AllocError> {
         let mut matching = Matching::new(alloc, &self.net, &self.ledger)?;
         let mut patience = PATIENCE;
         for round in 1..2049u32 {
@@ -85,7 +88,7 @@ impl<A: Allocator + Copy> Choosing<'_, A> {
                 let least = matching.least(&self.net);
                 self.follow(&matching, false);
                 self.improve()?;
-                if least.saturating_add(STEP) > self.least {
+                if least.saturating_add(self.ledger.step()) > self.least {
                     break;
                 }
                 self.follow(&matching, true);
@@ -93,6 +96,56 @@ impl<A: Allocator + Copy> Choosing<'_, A> {
             }
             if patience == 0 {
                 break;
+            }
+        }
+        Ok(matching)
+    }
+
+    // Keeps on a tape what was learned.
+    fn keep_on(
+        &self,
+        tape: &mut Tape<A>,
+        places: &Places<A>,
+        matching: &Matching<A>,
+    ) -> Result<(), AllocError> {
+        let base = tape.stops.len();
+        let weight = matching.weight();
+        for index in 0..self.net.nodes.len() {
+            if let Some(node) = self.net.node(index) {
+                let visit = tape.visits.len();
+                let lesson = matching.lesson(index);
+                for at in lesson.guest..lesson.guest_end {
+                    self.keep_visit(tape, matching, at, weight)?;
+                }
+                if let Some(place) = places.place(node.place) {
+                    tape.stops.push(Stop {
+                        place: node.place,
+                        key: place.key,
+                        end: base.saturating_add(self.net.past(index)),
+                        visit,
+                        visit_end: tape.visits.len(),
+                    })?;
+                }
+            }
+        }
+        Ok(())
+    }
+
+    // Keeps how much of the group of a guest went to its node in all rounds, which weigh so much.
+    fn keep_visit(
+        &self,
+        tape: &mut Tape<A>,
+        matching: &Matching<A>,
+        guest: usize,
+        weight: u64,
+    ) -> Result<(), AllocError> {
+        if let Some(guest) = matching.guests.get(guest) {
+            if let Some(group) = self.ledger.group(guest.group) {
+                tape.visits.push(Visit {
+                    choice: group.choice,
+                    classes: group.classes,
+                    share: average(guest.total, weight),
+                })?;
             }
         }
         Ok(())

@@ -15,8 +15,10 @@ struct Item {
 
 /// Classes of a choice of ranks that each item lets through or none of which it lets through.
 #[derive(Clone, Copy)]
-struct Group {
-    classes: Classes,
+pub(crate) struct Group {
+    /// The number of the choice.
+    pub(crate) choice: usize,
+    pub(crate) classes: Classes,
     // How many deals are in them.
     weight: u64,
     // The index of the next group of the same choice.
@@ -165,11 +167,21 @@ impl<A: Allocator + Copy> Ledger<A> {
         next: Option<usize>,
     ) -> Result<(), AllocError> {
         self.groups.push(Group {
+            choice,
             classes,
             weight: u64::from(choices.count(choice, classes)),
             next,
         })?;
         Ok(())
+    }
+
+    /// A number of deals that divides those of each group.
+    pub(crate) fn step(&self) -> u64 {
+        let mut step = 0;
+        for index in 0..self.groups.len() {
+            step = divisor(step, self.weight(index));
+        }
+        step
     }
 
     /// How many groups there are.
@@ -183,6 +195,11 @@ impl<A: Allocator + Copy> Ledger<A> {
             Some(group) => group.weight,
             None => 0,
         }
+    }
+
+    /// The group at an index.
+    pub(crate) fn group(&self, index: usize) -> Option<Group> {
+        self.groups.get(index).copied()
     }
 
     /// The index of the first group that an item lets through.
@@ -265,4 +282,16 @@ impl<A: Allocator + Copy> Ledger<A> {
         }
         classes
     }
+}
+
+// The greatest common divisor of two numbers.
+fn divisor(one: u64, other: u64) -> u64 {
+    let (mut high, mut low) = (one, other);
+    for _ in 0..100u8 {
+        if low == 0 {
+            break;
+        }
+        (high, low) = (low, high % low);
+    }
+    high
 }

@@ -11,6 +11,8 @@ pub(crate) const ONE: u64 = 1_048_576;
 /// A group of deals that may beat the owner at a node or behind it.
 #[derive(Clone, Copy)]
 pub(crate) struct Guest {
+    /// The index of the group.
+    pub(crate) group: usize,
     /// The index of its way.
     pub(crate) way: usize,
     /// How much the opponent regrets that they did not go here more often.
@@ -195,6 +197,7 @@ impl<A: Allocator + Copy> Matching<A> {
                 way.doors = way.doors.saturating_add(1);
             }
             self.guests.push(Guest {
+                group,
                 way,
                 regret: 0,
                 share: ONE,

@@ -11,8 +11,8 @@ pub(crate) const DEPTH: u8 = 4;
 /// A place at which a choice matters.
 #[derive(Clone, Copy)]
 pub(crate) struct Node {
-    // The index of the place.
-    place: usize,
+    /// The index of the place.
+    pub(crate) place: usize,
     /// The index past the last node that lies behind it.
     pub(crate) end: usize,
     /// The index of its first edge. The others follow.

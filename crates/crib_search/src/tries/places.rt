@@ -175,6 +175,46 @@ impl<A: Allocator + Copy> Places<A> {
         self.branch(&place, place.choice)
     }
 
+    /// The index of the place at a spot, if there is a choice.
+    pub(crate) fn index_at(&self, spot: &Spot) -> Option<usize> {
+        let mut index = spot.next;
+        for _ in spot.next..spot.end {
+            if index >= spot.end {
+                break;
+            }
+            let place = self.place(index)?;
+            if place.key >= spot.key {
+                return if place.key == spot.key {
+                    Some(index)
+                } else {
+                    None
+                };
+            }
+            index = self.past(index);
+        }
+        None
+    }
+
+    /// The place at a spot, if there is a choice.
+    fn place_at(&self, spot: &Spot) -> Option<Place> {
+        self.place(self.index_at(spot)?)
+    }
+
+    /// The spot after a card of a rank is played at another, where there is a choice.
+    pub(crate) fn after_card(&self, spot: &Spot, rank: Rank) -> Spot {
+        let Some(place) = self.place_at(spot) else {
+            return *spot;
+        };
+        for index in 0..place.count {
+            if let Some(branch) = self.branch(&place, index) {
+                if branch.rank == rank {
+                    return spot.after_card(branch.next, branch.end);
+                }
+            }
+        }
+        *spot
+    }
+
     /// Whether a choice lies ahead of a spot.
     pub(crate) fn are_ahead(&self, spot: &Spot) -> bool {
         self.ahead(spot).is_some()

@@ -188,12 +188,18 @@ impl<A: Allocator + Copy> Matching<A> {
         }
     }
 
-    /// How many deals pass at least, whatever the owner plays, if the opponent plays as in all rounds.
-    pub(crate) fn least(&mut self, net: &Net<A>) -> u64 {
+    /// What all rounds weigh.
+    pub(crate) fn weight(&self) -> u64 {
         let mut weight = 0u64;
         for round in 0..self.round.saturating_add(1) {
             weight = weight.saturating_add(round.saturating_mul(round));
         }
+        weight
+    }
+
+    /// How many deals pass at least, whatever the owner plays, if the opponent plays as in all rounds.
+    pub(crate) fn least(&mut self, net: &Net<A>) -> u64 {
+        let weight = self.weight();
         for before in 0..net.nodes.len() {
             let index = net.nodes.len() - 1 - before;
             if let Some(node) = net.node(index) {
@@ -255,8 +261,8 @@ fn part(share: u64, of: u64) -> u64 {
     share.saturating_mul(of) / ONE
 }
 
-// The average of rounds with a weight.
-fn average(total: u64, weight: u64) -> u64 {
+/// The average of rounds with a weight.
+pub(crate) fn average(total: u64, weight: u64) -> u64 {
     if weight > 0 { total / weight } else { 0 }
 }
 

@@ -2,7 +2,7 @@
 
 /// Where a walk is after the last card that the owner chose: the letters since the beginning are the digits of its key.
 #[derive(Clone, Copy)]
-pub(crate) struct Spot {
+pub struct Spot {
     /// The least key of a place from here on.
     pub(crate) key: u64,
     // How many keys there are from here on.
@@ -26,7 +26,7 @@ impl Spot {
     }
 
     /// The spot after the letter with an index.
-    pub(crate) fn after_letter(&self, index: u8) -> Spot {
+    pub fn after_letter(&self, index: u8) -> Spot {
         let span = self.span / 14;
         let key = self
             .key

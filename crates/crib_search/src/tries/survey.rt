@@ -9,6 +9,7 @@ use crate::own_options::options;
 use crate::tries::choices::{Choices, Classes, Left, fitting, one_of};
 use crate::tries::places::{Branch, Places};
 use crate::tries::spot::Spot;
+use crate::tries::tape::Tape;
 use crib_cards::{Card, Letter, Rank};
 use crib_know::Know;
 use crib_play::Turn;
@@ -53,6 +54,8 @@ pub(crate) struct Survey<A: Allocator> {
     first: usize,
     /// The places that were surveyed.
     pub(crate) places: Places<A>,
+    /// What was learned of them.
+    pub(crate) tape: Tape<A>,
 }
 
 impl<A: Allocator + Copy> Survey<A> {
@@ -64,6 +67,7 @@ impl<A: Allocator + Copy> Survey<A> {
             entries: Vec::new(alloc),
             first: 0,
             places: Places::new(alloc),
+            tape: Tape::new(alloc),
         })
     }
 

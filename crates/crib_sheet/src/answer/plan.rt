@@ -64,12 +64,13 @@ fn sheet_to_try<A: Allocator + Copy>(alloc: A, problem: Problem) -> Result<PlanS
     ensures { IsOutcome parts_reply
         (λ reply. AnswersWithPlan problem (IsSheetOf problem) reply ⊎ (reply ≡ fault_reply no_memory)) result }
 {
-    let tried = tried_of(alloc, &problem, &mut None)?;
+    let mut advice = None;
+    let tried = tried_of(alloc, &problem, &mut advice)?;
     if tried.is_sure {
         return sheet_of(alloc, problem, tried.plan, Verdict::Holds, 0);
     }
     let verdict = verdict_on(alloc, &problem, &tried.plan);
-    let Ok(least) = least_of(alloc, &problem) else {
+    let Ok(least) = least_of(alloc, &problem, advice) else {
         return Err(Reason::Fault(FaultCause::NoMemory));
     };
     sheet_of(alloc, problem, tried.plan, verdict, least)

@@ -6,16 +6,14 @@ ghost use Rattle.crib_sheet.specs.PlanBeaten.{AreBeating, AreBeatingOf, AreHands
 
 use crib_beaten::{Rows, Tally, rows_of, tally_of};
 use crib_bound::{bound_of, unit_of};
-use crib_cards::{GAME_HOLE, Side};
 use crib_check::{NoMemory, Verdict};
-use crib_know::Know;
 use crib_plan::Plan;
 use crib_problem::Problem;
-use crib_show::Demand;
+use crib_search::Advice;
 use std::alloc::{AllocError, Allocator};
 
 // The parts into which each deal is divided for the least. With more of them it is hardly greater.
-const PARTS: u16 = 4_096;
+const PARTS: u16 = 60_000;
 
 /// Counts the deals that beat a plan if the verdict on it is that it fails, and no deals of a sure plan. It fails if an
 /// allocation fails.
@@ -73,32 +71,18 @@ fn hands_of<A: Allocator>(problem: &Problem, tally: &Tally<A>) -> Option<Rows>
 
 /// Returns a number of deals that is at most that of the deals that beat a plan, whatever the plan. It fails if an
 /// allocation fails.
-pub(crate) fn least_of<A: Allocator + Copy>(alloc: A, problem: &Problem) -> Result<u32, AllocError>
+pub(crate) fn least_of<A: Allocator + Copy>(
+    alloc: A,
+    problem: &Problem,
+    advice: Option<Advice<A>>,
+) -> Result<u32, AllocError>
     ensures { IfOk result (IsLeast problem.now) }
 {
-    let worth = bound_of(alloc, problem, PARTS, &ladder_of(problem))?;
+    let Some(advice) = advice else {
+        return Ok(0);
+    };
+    let worth = bound_of(alloc, problem, PARTS, &mut advice.guide(alloc)?)?;
     let unit = unit_of(problem) as u64;
     let times = worth.div_ceil(PARTS as u64 * unit);
     Ok(times.saturating_mul(unit).min(u32::MAX as u64) as u32)
-}
-
-// A ladder of demands that limit the points of the opponent's show. With the most points of the first demand the
-// opponent, at their score now, just misses the game hole.
-fn ladder_of(problem: &Problem) -> [Demand; 7] {
-    let most = (GAME_HOLE - 1).saturating_sub(Know::start(problem).round().scores().opponent);
-    let mut ladder = [Demand::none(); 7];
-    for fewer in 0..7u8 {
-        let most = most.saturating_sub(fewer);
-        ladder[fewer as usize] = match problem.dealer() {
-            Side::Owner => Demand {
-                hand: most,
-                ..Demand::none()
-            },
-            Side::Opponent => Demand {
-                total: most,
-                ..Demand::none()
-            },
-        };
-    }
-    ladder
 }

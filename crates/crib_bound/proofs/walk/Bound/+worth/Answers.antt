@@ -1,94 +1,113 @@
-use Rattle.std.proofs.Common.{◌∙◌, ◌≤◌, get_or, length, take, refl, sym, arith, rules}
+use Rattle.std.proofs.Common.{◌≡◌, ◌∙◌, get_or, length, take, refl, sym, arith, rules}
 use Rattle.std.proofs.lemmas.List.{length-take}
 use Rattle.crib_cards.specs.declared.moves.Move.TheVariants as move
 use Rattle.crib_cards.proofs.Members.{has_here}
 use Rattle.crib_cards.proofs.LowestCard.{lowest_none, lowest_split, rest_smaller}
-use Rattle.crib_beaten.proofs.JoinedDemands.{room_after}
-use Rattle.crib_bound.proofs.WalkSteps.{all_done, cannot_play, falls, go_bound, more_letters, no_letter, none_bound, none_walked}
-use Rattle.crib_bound.proofs.WalkSteps.{one_passed, one_walked, own_after, own_bound, some_card, some_letter, still_held, walk_after}
+use Rattle.crib_bound.proofs.WalkSteps.{all_done, cannot_play, falls, go_bound, held_bound, more_letters, no_letter, none_bound, none_walked}
+use Rattle.crib_bound.proofs.WalkSteps.{one_passed, one_walked, own_after, own_bound, room_twice, some_card, some_letter, still_held, walk_after}
 use Rattle.crib_bound.proofs.walk.Bound.+worth.Goals as goal
 
 -- ---- a letter
 pub worth_after-returns-then-not-can_show-clause-worth : goal.worth_after-returns-then-not-can_show-clause-worth
-worth_after-returns-then-not-can_show-clause-worth t c = no_letter
+worth_after-returns-then-not-can_show-clause-worth g t c = no_letter
 
 pub worth_after-keep_indices-count-requires-clause-small : goal.worth_after-keep_indices-count-requires-clause-small
-worth_after-keep_indices-count-requires-clause-small t c = c.requires.small
+worth_after-keep_indices-count-requires-clause-small g t c = c.requires.small
 
 pub worth_after-keep_indices-count-requires-clause-room : goal.worth_after-keep_indices-count-requires-clause-room
-worth_after-keep_indices-count-requires-clause-room t c = omega (arith, c.split_at_mut-left.ensures.front_len)
+worth_after-keep_indices-count-requires-clause-room g t c = omega (arith, c.split_at_mut-left.ensures.front_len)
 
 pub worth_after-split_at_mut-left-requires : goal.worth_after-split_at_mut-left-requires
-worth_after-split_at_mut-left-requires t c =
-    let room = room_after 0 c.requires.room (falls c.requires (rw c.copy-next.ensures at c.saw.ensures)) (omega arith) in
+worth_after-split_at_mut-left-requires g t c =
+    let room = room_twice 0 c.requires.room (falls c.requires (rw c.copy-next.ensures at c.saw.ensures)) (omega arith) in
     omega (arith, room.0)
 
-pub worth_after-slice_bounds-worth_at-end : goal.worth_after-slice_bounds-worth_at-end
-worth_after-slice_bounds-worth_at-end t c =
+pub worth_after-split_at_mut-held-requires : goal.worth_after-split_at_mut-held-requires
+worth_after-split_at_mut-held-requires g t c =
+    let room = room_twice c.keep_indices-count.result c.requires.room (falls c.requires (rw c.copy-next.ensures at c.saw.ensures))
+    c.keep_indices-count.ensures.few in
+    omega (arith, room.0, c.split_at_mut-left.ensures.back_len)
+
+pub worth_after-slice_bounds-hold_back-end : goal.worth_after-slice_bounds-hold_back-end
+worth_after-slice_bounds-hold_back-end g t c =
     omega (arith, c.split_at_mut-left.ensures.front_len, c.keep_indices-count.ensures.few, c.keep_indices-count.ensures.room)
 
-pub worth_after-worth_at-requires : goal.worth_after-worth_at-requires
-worth_after-worth_at-requires t c =
+pub worth_after-worth_at-value-requires : goal.worth_after-worth_at-value-requires
+worth_after-worth_at-value-requires g t c κs within =
     let goes = rw c.copy-next.ensures at c.saw.ensures in
     let less = falls c.requires goes in
     let left = take c.keep_indices-count.result c.keep_indices-count.new.left in
-    let few : length left ≤ length c.args.indices.now =
-    omega (arith, length-take c.keep_indices-count.result c.keep_indices-count.new.left, c.keep_indices-count.ensures.few) in
-    let room = room_after (length left) c.requires.room less few in (
+    let long : length left ≡ c.keep_indices-count.result =
+    omega (
+      arith,
+      length-take c.keep_indices-count.result c.keep_indices-count.new.left,
+      c.keep_indices-count.ensures.few,
+      c.keep_indices-count.ensures.room,
+      c.split_at_mut-left.ensures.front_len,
+    ) in
+    let room = room_twice c.keep_indices-count.result c.requires.room less c.keep_indices-count.ensures.few in (
       omega (arith, less, c.decreases),
-      walk_after c.requires goes left _ c.keep_indices-count.ensures.small (omega (arith, room.0, c.split_at_mut-left.ensures.back_len)),
+      (
+        within,
+        walk_after c.requires goes left _ c.keep_indices-count.ensures.small
+            (rw long (omega (arith, room.0, c.split_at_mut-left.ensures.back_len, c.split_at_mut-held.ensures.back_len))),
+      ),
     )
 
 pub worth_after-returns-then-count-eq0-clause-worth : goal.worth_after-returns-then-count-eq0-clause-worth
-worth_after-returns-then-count-eq0-clause-worth t c = no_letter
+worth_after-returns-then-count-eq0-clause-worth g t c = no_letter
 
 pub worth_after-returns-clause-worth : goal.worth_after-returns-clause-worth
-worth_after-returns-clause-worth t c =
-    some_letter (rw c.copy-next.ensures at c.saw.ensures) c.keep_indices-count.ensures.kept c.worth_at.ensures.worth
+worth_after-returns-clause-worth g t c =
+    some_letter (rw c.copy-next.ensures at c.saw.ensures) c.keep_indices-count.ensures.kept
+    (held_bound _ c.hold_back.ensures.held c.hold_back.ensures.elsewhere c.put_back.ensures.most c.put_back.ensures.elsewhere c.worth_at-value.ensures.worth)
 
 -- ---- each letter
 pub worth_by_theirs-loop-place-init : goal.worth_by_theirs-loop-place-init
-worth_by_theirs-loop-place-init t c = record { so_far = none_bound; room = refl }
+worth_by_theirs-loop-place-init g t c = record { so_far = none_bound; room = refl }
 
 pub worth_by_theirs-worth_after-more-requires : goal.worth_by_theirs-worth_after-more-requires
-worth_by_theirs-worth_after-more-requires t c = (
+worth_by_theirs-worth_after-more-requires g t c κs within = (
   omega (arith, c.decreases),
-  record {
-    own = c.requires.own;
-    history = c.requires.history;
-    knows = c.requires.knows;
-    small = c.requires.small;
-    room = omega (arith, c.requires.room, c.loop-place.invariant.room);
-  },
+  (
+    within,
+    record {
+      own = c.requires.own;
+      history = c.requires.history;
+      knows = c.requires.knows;
+      small = c.requires.small;
+      room = omega (arith, c.requires.room, c.loop-place.invariant.room);
+    },
+  ),
 )
 
 pub worth_by_theirs-loop-place-preserved : goal.worth_by_theirs-loop-place-preserved
-worth_by_theirs-loop-place-preserved t c = record {
+worth_by_theirs-loop-place-preserved g t c = record {
   so_far = more_letters (omega (arith, c.saturating_add-sum.ensures)) c.loop-place.invariant.so_far c.worth_after-more.ensures.worth;
   room = search rules;
 }
 
 -- ---- the owner's turn
 pub worth_by_own-worth_at-requires : goal.worth_by_own-worth_at-requires
-worth_by_own-worth_at-requires t c =
+worth_by_own-worth_at-requires g t c κs within =
     let goes = rw c.copy-next.ensures at c.own_go.ensures in
     let less = falls c.requires.walk goes in
-    let room = room_after (length c.args.indices.now) c.requires.walk.room less (omega arith) in
-    (omega (arith, less, c.decreases), walk_after c.requires.walk goes c.args.indices.now _ c.requires.walk.small room.1)
+    let room = room_twice (length c.args.indices.now) c.requires.walk.room less (omega arith) in
+    (omega (arith, less, c.decreases), (within, walk_after c.requires.walk goes c.args.indices.now _ c.requires.walk.small room.1))
 
 pub worth_by_own-returns-then-must_go-clause-worth : goal.worth_by_own-returns-then-must_go-clause-worth
-worth_by_own-returns-then-must_go-clause-worth t c =
+worth_by_own-returns-then-must_go-clause-worth g t c =
     go_bound (own_after _ c.requires.asked (rw c.copy-next.ensures at c.own_go.ensures) c.worth_at.ensures.worth)
 
 pub worth_by_own-loop-card-init : goal.worth_by_own-loop-card-init
-worth_by_own-loop-card-init t c = record { held = λ card h. rw c.own_left-rest.ensures at h; done = rw c.own_left-rest.ensures none_walked; room = refl }
+worth_by_own-loop-card-init g t c = record { held = λ card h. rw c.own_left-rest.ensures at h; done = rw c.own_left-rest.ensures none_walked; room = refl }
 
 pub worth_by_own-loop-card-smaller-then-not-fits : goal.worth_by_own-loop-card-smaller-then-not-fits
-worth_by_own-loop-card-smaller-then-not-fits t c =
+worth_by_own-loop-card-smaller-then-not-fits g t c =
     rest_smaller c.loop-card.rest c.without-rest.result c.in-Some.card c.in-Some.ensures.set c.in-Some.ensures.first c.without-rest.ensures
 
 pub worth_by_own-loop-card-preserved-then-not-fits : goal.worth_by_own-loop-card-preserved-then-not-fits
-worth_by_own-loop-card-preserved-then-not-fits t c =
+worth_by_own-loop-card-preserved-then-not-fits g t c =
     let parts = lowest_split c.loop-card.rest c.without-rest.result c.in-Some.card c.in-Some.ensures.set c.in-Some.ensures.first c.without-rest.ensures in
     record {
       held = still_held c.args.know.now.own_left parts c.loop-card.invariant.held;
@@ -98,46 +117,46 @@ worth_by_own-loop-card-preserved-then-not-fits t c =
     }
 
 pub worth_by_own-own_play-requires-clause-held : goal.worth_by_own-own_play-requires-clause-held
-worth_by_own-own_play-requires-clause-held t c =
+worth_by_own-own_play-requires-clause-held g t c =
     let parts = lowest_split c.loop-card.rest c.without-rest.result c.in-Some.card c.in-Some.ensures.set c.in-Some.ensures.first c.without-rest.ensures in
     rw c.copy-next-in-Some.ensures (c.loop-card.invariant.held c.in-Some.card (rw parts (has_here c.in-Some.card c.without-rest.result)))
 
 pub worth_by_own-loop-card-smaller : goal.worth_by_own-loop-card-smaller
-worth_by_own-loop-card-smaller t c =
+worth_by_own-loop-card-smaller g t c =
     rest_smaller c.loop-card.rest c.without-rest.result c.in-Some.card c.in-Some.ensures.set c.in-Some.ensures.first c.without-rest.ensures
 
 pub worth_by_own-worth_at-value-requires : goal.worth_by_own-worth_at-value-requires
-worth_by_own-worth_at-value-requires t c =
+worth_by_own-worth_at-value-requires g t c κs within =
     let goes = rw c.copy-next-in-Some.ensures at c.own_play.ensures in
     let less = falls c.requires.walk goes in
-    let room = room_after (length c.args.indices.now) c.requires.walk.room less (omega arith) in (
+    let room = room_twice (length c.args.indices.now) c.requires.walk.room less (omega arith) in (
       omega (arith, less, c.decreases),
-      walk_after c.requires.walk goes c.args.indices.now _ c.requires.walk.small (omega (arith, room.1, c.loop-card.invariant.room)),
+      (within, walk_after c.requires.walk goes c.args.indices.now _ c.requires.walk.small (omega (arith, room.1, c.loop-card.invariant.room))),
     )
 
-pub worth_by_own-returns-then-value-eq0-clause-worth : goal.worth_by_own-returns-then-value-eq0-clause-worth
-worth_by_own-returns-then-value-eq0-clause-worth t c = none_bound
+pub worth_by_own-returns-then-least-eq0-clause-worth : goal.worth_by_own-returns-then-least-eq0-clause-worth
+worth_by_own-returns-then-least-eq0-clause-worth g t c = none_bound
 
-pub worth_by_own-join-least-requires-clause-same : goal.worth_by_own-join-least-requires-clause-same
-worth_by_own-join-least-requires-clause-same t c = λ index none.
+pub worth_by_own-settle-least-requires-clause-same : goal.worth_by_own-settle-least-requires-clause-same
+worth_by_own-settle-least-requires-clause-same g t c = λ index none.
     c.loop-card.invariant.done.fewer.elsewhere index none ∙ sym (c.worth_at-value.ensures.worth.fewer.elsewhere index none)
 
 pub worth_by_own-loop-card-preserved : goal.worth_by_own-loop-card-preserved
-worth_by_own-loop-card-preserved t c =
+worth_by_own-loop-card-preserved g t c =
     let parts = lowest_split c.loop-card.rest c.without-rest.result c.in-Some.card c.in-Some.ensures.set c.in-Some.ensures.first c.without-rest.ensures in
     record {
       held = still_held c.args.know.now.own_left parts c.loop-card.invariant.held;
       done = one_walked parts (record {
-        less = λ index. c.join-least.ensures.less index (get_or c.args.amounts.now index 0) (c.loop-card.invariant.done.fewer.less index)
+        less = λ index. c.settle-least.ensures.less index (get_or c.args.amounts.now index 0) (c.loop-card.invariant.done.fewer.less index)
             (c.worth_at-value.ensures.worth.fewer.less index);
-        elsewhere = λ index none. c.join-least.ensures.elsewhere index none ∙ c.loop-card.invariant.done.fewer.elsewhere index none;
-      }) c.join-least.ensures.kept c.join-least.ensures.left
+        elsewhere = λ index none. c.settle-least.ensures.elsewhere index none ∙ c.loop-card.invariant.done.fewer.elsewhere index none;
+      }) c.settle-least.ensures.kept c.settle-least.ensures.left
           (own_after (move.Card c.in-Some.card) c.requires.asked (rw c.copy-next-in-Some.ensures at c.own_play.ensures) c.worth_at-value.ensures.worth)
           c.loop-card.invariant.done;
       room = search rules;
     }
 
 pub worth_by_own-returns-clause-worth : goal.worth_by_own-returns-clause-worth
-worth_by_own-returns-clause-worth t c =
+worth_by_own-returns-clause-worth g t c =
     let some = some_card c.args.know.now c.must_go.result c.must_go.ensures.exact c.requires.asked c.if-must_go.false in
     own_bound c.requires.asked some.0 some.1 (all_done (lowest_none c.loop-card.rest c.in_default.ensures.first) c.loop-card.invariant.done)

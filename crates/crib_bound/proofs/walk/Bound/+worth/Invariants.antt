@@ -6,29 +6,29 @@ use Rattle.crib_bound.proofs.WalkSteps.{AreWalked}
 use Rattle.crib_bound.proofs.walk.Bound.+worth.Given as goal
 
 abbrev pub decreases-worth_at : goal.decreases-worth_at
-decreases-worth_at l = 3 * turns_ahead l.know.now + 2
+decreases-worth_at g l = 3 * turns_ahead l.know.now + 2
 
 abbrev pub decreases-worth_by_own : goal.decreases-worth_by_own
-decreases-worth_by_own l = 3 * turns_ahead l.know.now + 1
+decreases-worth_by_own g l = 3 * turns_ahead l.know.now + 1
 
 abbrev pub decreases-worth_by_theirs : goal.decreases-worth_by_theirs
-decreases-worth_by_theirs l = 3 * turns_ahead l.know.now + 1
+decreases-worth_by_theirs g l = 3 * turns_ahead l.know.now + 1
 
 abbrev pub decreases-worth_after : goal.decreases-worth_after
-decreases-worth_after l = 3 * turns_ahead l.know.now
+decreases-worth_after g l = 3 * turns_ahead l.know.now
 
 abbrev pub invariant-worth_by_own-loop-card : goal.invariant-worth_by_own-loop-card
-invariant-worth_by_own-loop-card l = record {
+invariant-worth_by_own-loop-card g l = record {
   held : (card : ℕ) → has l.rest card ≡ true → has l.know.own_left card ≡ true;
   done : AreWalked l.self l.know l.indices l.fn.amounts l.amounts l.rest l.least;
   room : length l.spare ≡ length l.fn.spare;
 }
 
 abbrev pub decreases-worth_by_own-loop-card : goal.decreases-worth_by_own-loop-card
-decreases-worth_by_own-loop-card l = length l.rest
+decreases-worth_by_own-loop-card g l = length l.rest
 
 abbrev pub invariant-worth_by_theirs-loop-place : goal.invariant-worth_by_theirs-loop-place
-invariant-worth_by_theirs-loop-place l = record {
+invariant-worth_by_theirs-loop-place g l = record {
   so_far : IsBoundAt l.self l.know l.indices l.fn.amounts l.amounts l.sum;
   room : length l.spare ≡ length l.fn.spare;
 }

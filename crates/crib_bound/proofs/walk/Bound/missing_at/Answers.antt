@@ -7,4 +7,5 @@ returns-then-is_impossible c = λ deals are. all_missing are c.args.demand c.arg
 
 pub returns-in-Some-Some : goal.returns-in-Some-Some
 returns-in-Some-Some c = λ deals are.
-    table_missing are c.args.demand c.args.index c.in-Some-Some.table c.missing_with.result (search rules) c.missing_with.ensures.exact
+    table_missing are c.args.demand c.args.index c.in-Some-Some.table c.missing_with.result (search rules) c.missing_with.ensures.long
+    c.missing_with.ensures.exact

@@ -1,9 +1,12 @@
-use Rattle.std.proofs.Common.{rules, subst, sym, ◌∙◌, arith}
+use Rattle.std.proofs.Common.{ℕ, List, rules, subst, sym, ◌∙◌, arith}
 use Rattle.std.proofs.Math.ListN.{length-set}
 use Rattle.crib_beaten.proofs.Choices.{chosen, not_chosen}
 use Rattle.crib_beaten.proofs.HoldNumbers.{four_numbered}
-use Rattle.crib_bound.specs.Private.Walks.{IsTableAt}
-use Rattle.crib_bound.proofs.OpenDeals.{all_listed, next_listed, none_listed, skip_listed}
+use Rattle.crib_bound.specs.Private.Walks.{AreAdded, IsTableAt, ladder_at}
+use Rattle.crib_deals.specs.Choices.{ranks_of_number}
+use Rattle.crib_deals.specs.Deals.{behind_by}
+use Rattle.crib_show.specs.declared.demands.Demand.{Demand}
+use Rattle.crib_bound.proofs.OpenDeals.{all_listed, next_listed, none_listed, seven_rungs, skip_listed}
 use Rattle.crib_bound.proofs.weights.Choices.of.Goals as goal
 
 pub loop-number-init : goal.loop-number-init
@@ -42,7 +45,14 @@ loop-number-preserved g c = record {
   weighed = search rules;
   are = rw (c.choice_index-index.ensures.index, c.count_ranks-counted.ensures.value, c.ranks_at-ranks.ensures)
       (chosen c.loop-number.number c.loop-number.counts c.loop-number.invariant.are (omega arith) c.loop-number.invariant.counted);
-  below = next_listed c.requires (omega arith) (rw (c.of-deals.ensures, c.ranks_at-ranks.ensures) at c.add_deals.ensures.added)
+  below =
+      let place = rw (c.count_ranks-counted.ensures.value, c.ranks_at-ranks.ensures) at c.choice_index-index.ensures.index in
+      let added = rw (c.of-deals.ensures, c.ranks_at-ranks.ensures) at c.add_deals.ensures.added in
+      next_listed c.requires (omega arith)
+      (subst (λ (n : ℕ). AreAdded (behind_by c.args.problem.now (ranks_of_number c.loop-number.number)) (ladder_at c.ladders_if-ladders.result n)
+      c.loop-number.weights c.add_deals.new.weights) place
+      (subst (λ (ladder : List Demand). AreAdded (behind_by c.args.problem.now (ranks_of_number c.loop-number.number)) ladder c.loop-number.weights
+      c.add_deals.new.weights) (seven_rungs c.ladders_if-ladders.result c.choice_index-index.result c.add_deals.ensures.long) added))
       c.loop-number.invariant.below;
   tables = rw c.of-deals.ensures at (c.add_deals.ensures.tables (rw c.of-deals.ensures c.loop-number.invariant.tables));
 }
@@ -50,4 +60,4 @@ loop-number-preserved g c = record {
 pub returns : goal.returns
 returns g c =
     all_listed c.requires c.loop-number.counts (omega (arith, c.loop-number.auto.number-end, c.loop-number-test.false)) c.loop-number.invariant.are
-    (search rules) c.loop-number.invariant.below c.loop-number.invariant.tables
+    c.loop-number.invariant.below c.loop-number.invariant.tables

@@ -9,6 +9,6 @@ invariant-loop-number g l = record {
   counted : length l.counts ≡ 1820;
   weighed : length l.weights ≡ 14560;
   are : AreChoices l.number l.counts;
-  below : AreBelow l.problem l.ladder l.number l.weights;
+  below : AreBelow l.problem l.ladders l.number l.weights;
   tables : AreTables l.problem l.tables.items;
 }

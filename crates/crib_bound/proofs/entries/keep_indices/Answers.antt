@@ -6,7 +6,7 @@ use Rattle.std.proofs.lemmas.List.Folds.{list_any_at}
 use Rattle.crib_cards.specs.Sets.{has}
 use Rattle.crib_beaten.specs.Beaten.{counts_of, may_show}
 use Rattle.crib_bound.proofs.Taken.{one_kept}
-use Rattle.crib_bound.proofs.walk.keep_indices.Goals as goal
+use Rattle.crib_bound.proofs.entries.keep_indices.Goals as goal
 
 pub loop-index-init : goal.loop-index-init
 loop-index-init c = record { few = omega arith; long = refl; kept = λ index h. absurd (both_ways false refl h); small = All-nil _ }

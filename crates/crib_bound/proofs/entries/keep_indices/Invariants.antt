@@ -2,7 +2,7 @@ use Rattle.std.proofs.Common.{◌≡◌, ◌≤◌, ◌<◌, ◌&&◌, ◌/◌, 
 use Rattle.std.specs.List.{All}
 use Rattle.crib_cards.specs.Sets.{has}
 use Rattle.crib_beaten.specs.Beaten.{counts_of, may_show}
-use Rattle.crib_bound.proofs.walk.keep_indices.Given as goal
+use Rattle.crib_bound.proofs.entries.keep_indices.Given as goal
 
 abbrev pub invariant-loop-index : goal.invariant-loop-index
 invariant-loop-index l = record {

@@ -1,6 +1,6 @@
 use Rattle.std.proofs.Common.{arith}
 use Rattle.crib_bound.proofs.OpenDeals.{zeros}
-use Rattle.crib_bound.proofs.walk.parts_of_all.Goals as goal
+use Rattle.crib_bound.proofs.entries.parts_of_all.Goals as goal
 
 pub loop-index-init : goal.loop-index-init
 loop-index-init c = λ index. let none = zeros 14560 index in omega (arith, none)

@@ -1,7 +1,7 @@
 use Rattle.std.proofs.Common.{◌<◌, get_or, length, arith, rules}
 use Rattle.std.proofs.lemmas.List.{take_more}
 use Rattle.crib_bound.proofs.Taken.{none_joined, one_joined}
-use Rattle.crib_bound.proofs.walk.take_both.Goals as goal
+use Rattle.crib_bound.proofs.entries.take_both.Goals as goal
 
 pub loop-index-init : goal.loop-index-init
 loop-index-init c = none_joined

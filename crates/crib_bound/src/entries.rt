@@ -1,0 +1,127 @@
+//! The amounts of the entries.
+ghost use Rattle.std.specs.Prelude.{◌≡◌, ◌+◌, ◌/◌, ◌<◌, ◌≤◌, ℕ, IsFalse, IsTrue, get_or, length, min, take, ◌&&◌};
+ghost use Rattle.std.specs.List.{All};
+ghost use Rattle.crib_cards.specs.Sets.{has};
+ghost use Rattle.crib_beaten.specs.Beaten.{counts_of, may_show};
+ghost use Rattle.crib_bound.specs.Private.Walks.{held_of};
+
+use crate::weights::ENTRIES;
+use crib_beaten::may_show;
+use crib_cards::{Letter, RankCounts};
+use crib_know::Know;
+use crib_search::Guide;
+use crib_show::CHOICES;
+use std::alloc::Allocator;
+
+/// So many parts are left of each open deal of the entry with an index.
+pub(crate) type Amounts = [u16; ENTRIES];
+
+/// Holds back what the notes of a guide don't allow.
+pub(crate) fn hold_back<A: Allocator + Copy>(
+    guide: &Guide<'_, A>,
+    parts: u16,
+    indices: &[u16],
+    held: &mut [u16],
+    amounts: &mut Amounts,
+)
+    requires small { All (λ index. index < 14560) indices.now }
+    requires room { length held.old ≡ length indices.now }
+    ensures held { (index : ℕ) → get_or amounts.new index 0
+        + held_of indices.now held.new (length indices.now) index ≤ get_or amounts.old index 0 }
+    ensures elsewhere { (index : ℕ) → IsFalse (has indices.now index)
+        → get_or amounts.new index 0 ≡ get_or amounts.old index 0 }
+    ensures room { length held.new ≡ length held.old }
+{
+    for at in 0..indices.len() {
+        let index = indices[at] as usize;
+        let amount = amounts[index];
+        let allowed = guide.allowed(index, parts).min(amount);
+        held[at] = amount - allowed;
+        amounts[index] = allowed;
+    }
+}
+
+/// Puts back what was held.
+pub(crate) fn put_back(indices: &[u16], held: &[u16], amounts: &mut Amounts)
+    requires small { All (λ index. index < 14560) indices.now }
+    requires room { length held.now ≡ length indices.now }
+    ensures most { (index : ℕ) → get_or amounts.new index 0
+        ≤ get_or amounts.old index 0 + held_of indices.now held.now (length indices.now) index }
+    ensures elsewhere { (index : ℕ) → IsFalse (has indices.now index)
+        → get_or amounts.new index 0 ≡ get_or amounts.old index 0 }
+{
+    for at in 0..indices.len() {
+        let index = indices[at] as usize;
+        amounts[index] = amounts[index].saturating_add(held[at]);
+    }
+}
+
+/// Takes what one of two has taken.
+pub(crate) fn take_both(indices: &[u16], amounts: &mut Amounts, other: &Amounts)
+    requires { All (λ index. index < 14560) indices.now }
+    ensures both { (index : ℕ) → IsTrue (has indices.now index)
+        → get_or amounts.new index 0 ≡ min (get_or amounts.old index 0) (get_or other.now index 0) }
+    ensures elsewhere { (index : ℕ) → IsFalse (has indices.now index)
+        → get_or amounts.new index 0 ≡ get_or amounts.old index 0 }
+{
+    for index in indices {
+        let index = *index as usize;
+        amounts[index] = amounts[index].min(other[index]);
+    }
+}
+
+/// Keeps the indices of the entries of which something is left and a hold may show a letter. Returns how many they are.
+pub(crate) fn keep_indices(
+    choices: &[RankCounts; CHOICES],
+    before: &Know,
+    after: &Know,
+    letter: &Letter,
+    amounts: &Amounts,
+    indices: &[u16],
+    left: &mut [u16],
+) -> usize
+    requires small { All (λ index. index < 14560) indices.now }
+    requires room { length indices.now ≤ length left.old }
+    ensures few { result ≤ length indices.now }
+    ensures room { length left.new ≡ length left.old }
+    ensures kept { (index : ℕ) → IsTrue (has (take result left.new) index) → IsTrue (has indices.now index
+        && may_show before.now after.now letter.now (counts_of choices.now (index / 8))) }
+    ensures small { All (λ index. index < 14560) (take result left.new) }
+{
+    let mut count = 0;
+    for index in indices {
+        let at = *index as usize;
+        let choice = at / 8;
+        if amounts[at] == 0 || !may_show(before, after, letter, &choices[choice]) {
+            continue;
+        }
+        left[count] = *index;
+        count += 1;
+    }
+    count
+}
+
+/// Each index, in order.
+pub(crate) fn each_index() -> [u16; ENTRIES]
+    ensures small { All (λ index. index < 14560) result }
+    ensures long { length result ≡ 14560 }
+{
+    let mut indices = [0; ENTRIES];
+    for index in 0..14_560u16 {
+        indices[index as usize] = index;
+    }
+    indices
+}
+
+/// So many parts at the entries that have deals.
+pub(crate) fn parts_of_all(weights: &[u64; ENTRIES], parts: u16) -> Amounts
+    ensures { (index : ℕ) → get_or result index 0 ≤ parts }
+{
+    let mut amounts = [0; ENTRIES];
+    for index in 0..14_560usize {
+        if weights[index] > 0 {
+            amounts[index] = parts;
+        }
+    }
+    amounts
+}

@@ -21,7 +21,7 @@ Commands:
           does: the plan in words, and whether it is sure
   game    reads a problem and a game, as cribplan replay does: the game with a reason for each point
   beaten  reads a problem and a plan, as cribplan check does: how many deals beat the plan
-  try     reads a problem, as cribplan solve does: a sure plan, or one that few deals beat
+  try     reads a problem, as cribplan solve does: a sure plan, or one that few deals should beat
   refute  reads a problem, as cribplan solve does: if no plan is sure, games that show that nobody is, or suits
   why     reads a problem, as cribplan solve does: the same in words, what beats each card
   leads   reads a problem, as cribplan solve does: which cards are sure to play now, and how near the others are

@@ -1,10 +1,10 @@
 -- Worked examples of deals that miss a demand at the end, and of what is taken.
-use Rattle.std.proofs.Common.{◌≡◌, ℕ, ◌+◌, true, false, List, [], ◌∷◌, map, refl}
+use Rattle.std.proofs.Common.{◌≡◌, ℕ, ◌+◌, true, false, List, [], ◌∷◌, length, map, refl}
 use Rattle.crib_cards.specs.declared.sides.Dealt.{Dealt}
 use Rattle.crib_show.specs.Show.{hand_points, crib_points}
 use Rattle.crib_show.specs.declared.demands.Demand.{Demand}
 use Rattle.crib_problem.proofs.ExampleProblems.{four_twos}
-use Rattle.crib_bound.specs.Private.Walks.{entry_of, grade_of, index_of, misses_at, taken_of}
+use Rattle.crib_bound.specs.Private.Walks.{entry_by, entry_of, grade_of, held_of, index_of, ladder_at, misses_at, taken_of}
 
 -- AC 5C 9C QC count ten with the starter KD, four of them for the flush, and AD 5C 9C QC count six
 abbrev clubs : Dealt
@@ -43,9 +43,22 @@ unfolding hand_points crib_points grade_of
 grades = refl
 
 -- the second choice is that of the index 323
-entries : map (entry_of four_twos falling) (four_aces ∷ clubs ∷ mixed ∷ []) ≡ 3 ∷ 2589 ∷ 2591 ∷ []
-unfolding hand_points crib_points grade_of entry_of
+entries : map (entry_by four_twos falling) (four_aces ∷ clubs ∷ mixed ∷ []) ≡ 3 ∷ 2589 ∷ 2591 ∷ []
+unfolding hand_points crib_points grade_of entry_by
 entries = refl
+
+-- it has no ladder here, and so no grades
+entries_by_ladders : map (entry_of four_twos (record { rungs = falling } ∷ [])) (four_aces ∷ clubs ∷ mixed ∷ []) ≡ 3 ∷ 2584 ∷ 2584 ∷ []
+unfolding hand_points crib_points grade_of entry_by entry_of
+entries_by_ladders = refl
+
+-- a ladder of eight demands has seven
+eighth_rung : length (ladder_at (record { rungs = at_most 15 ∷ falling } ∷ []) 0) ≡ 7
+eighth_rung = refl
+
+-- of an index that stands twice in a list, two parts and then four are held back
+held_twice : (held_of (5 ∷ 7 ∷ 5 ∷ []) (2 ∷ 3 ∷ 4 ∷ []) 2 5 ≡ 2) × (held_of (5 ∷ 7 ∷ 5 ∷ []) (2 ∷ 3 ∷ 4 ∷ []) 3 5 ≡ 6)
+held_twice = (refl, refl)
 
 -- a deal that misses the first demand has no grade, whatever the others
 no_grade_after_a_miss : grade_of four_twos (at_most 11 ∷ at_most 14 ∷ []) four_aces ≡ 0

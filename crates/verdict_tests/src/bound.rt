@@ -3,8 +3,10 @@ use crate::same;
 use crate::sections::{plan, problem};
 use crib_beaten::tally_of;
 use crib_bound::{bound_of, unit_of};
-use crib_show::Demand;
+use crib_problem::Problem;
+use crib_search::{Advice, try_plan};
 use refusing_alloc::Refusing;
+use std::alloc::Allocator;
 use std::process::Abort;
 
 // The four twos of a pone. The opponent has played an eight and a nine. The macro takes the scores and the turns.
@@ -17,20 +19,20 @@ macro_rules! twos {
     };
 }
 
-// A ladder that limits the points of the opponent's hand, first to so many.
-fn ladder(most: u8) -> [Demand; 7] {
-    let mut ladder = [Demand::none(); 7];
-    for fewer in 0..7u8 {
-        ladder[fewer as usize].hand = most.saturating_sub(fewer);
-    }
-    ladder
+/// What the search advises for a problem for which no plan is sure.
+fn advice<A: Allocator + Copy>(rt: &impl Abort, alloc: A, problem: &Problem) -> Advice<A> {
+    let mut advice = None;
+    assert!(rt; try_plan(alloc, problem, problem, None, &mut advice).is_ok());
+    advice.expect(rt, "no plan is sure")
 }
 
 /// Asserts that this is so many times the deals that beat each plan at least, with one part and with twelve of each.
 fn is_bound(rt: &(impl Abort + AllocGlobal), of: &str, deals: u64) {
     let problem = problem(rt, of);
+    let advice = advice(rt, rt.alloc(), &problem);
+    let mut guide = advice.guide(rt.alloc()).expect(rt, "memory");
     for parts in [1u16, 12, 4_096] {
-        let bound = bound_of(rt.alloc(), &problem, parts, &ladder(14)).expect(rt, "memory");
+        let bound = bound_of(rt.alloc(), &problem, parts, &mut guide).expect(rt, "memory");
         same(rt, bound, deals.saturating_mul(parts as u64));
     }
 }
@@ -130,17 +132,34 @@ fn the_unit_is_the_throws_of_a_hold_if_the_crib_does_not_decide(rt: HostRuntime)
     }
 }
 
+/// Whether the bound of a problem is counted if the allocations after the first `served` ones fail.
+fn is_served(rt: &(impl Abort + AllocGlobal), of: &str, served: u64) -> bool {
+    let problem = problem(rt, of);
+    let plenty = Refusing::after(rt.alloc(), u64::MAX);
+    let heap = Refusing::after(rt.alloc(), served);
+    let advice = advice(rt, &plenty, &problem);
+    let mut guide = advice.guide(&plenty).expect(rt, "memory");
+    bound_of(&heap, &problem, 1, &mut guide).is_ok()
+}
+
 /// It allocates the room for its lists, and before it the tables, which a pone with this goal doesn't need.
 #[test]
 fn fails_if_an_allocation_fails(rt: HostRuntime) {
-    let pone = problem(&rt, twos!("0 0", "4\nown 2C\nopp 8S\nown 2D\nopp 9S\n"));
-    let heap = Refusing::after(rt.alloc(), 0);
-    assert!(rt; bound_of(&heap, &pone, 1, &ladder(14)).is_err());
-    let heap = Refusing::after(rt.alloc(), 1);
-    assert!(rt; bound_of(&heap, &pone, 1, &ladder(14)).is_ok());
-    let dealer = problem(&rt, DEALER);
-    for allocations in 0..5u64 {
-        let heap = Refusing::after(rt.alloc(), allocations);
-        assert!(rt; bound_of(&heap, &dealer, 1, &ladder(14)).is_err());
+    let pone = twos!("0 0", "4\nown 2C\nopp 8S\nown 2D\nopp 9S\n");
+    assert!(rt; !is_served(&rt, pone, 0));
+    assert!(rt; is_served(&rt, pone, 1));
+    for served in 0..5u64 {
+        assert!(rt; !is_served(&rt, DEALER, served));
     }
+}
+
+/// A guide asks for room for its notes.
+#[test]
+fn a_guide_fails_if_an_allocation_fails(rt: HostRuntime) {
+    let problem = problem(&rt, DEALER);
+    let plenty = Refusing::after(rt.alloc(), u64::MAX);
+    let heap = Refusing::after(rt.alloc(), 0);
+    let advice = advice(&rt, &plenty, &problem);
+    assert!(rt; advice.guide(&heap).is_err());
+    assert!(rt; advice.guide(&plenty).is_ok());
 }

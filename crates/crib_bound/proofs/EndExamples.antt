@@ -56,7 +56,7 @@ entries_by_ladders = refl
 eighth_rung : length (ladder_at (record { rungs = at_most 15 ∷ falling } ∷ []) 0) ≡ 7
 eighth_rung = refl
 
--- of an index that stands twice in a list, two parts and then four are held back
+-- a list has an index two times: two parts of it are held back, and then four more
 held_twice : (held_of (5 ∷ 7 ∷ 5 ∷ []) (2 ∷ 3 ∷ 4 ∷ []) 2 5 ≡ 2) × (held_of (5 ∷ 7 ∷ 5 ∷ []) (2 ∷ 3 ∷ 4 ∷ []) 3 5 ≡ 6)
 held_twice = (refl, refl)
 

@@ -217,8 +217,7 @@ def read_sheet(sheet: list[str], notes: list[str]) -> list[str]:
     made = ["plan 1", "nodes"] if rows else sheet
     looks: list[tuple[int, int]] = []  # the blanks before each look that is open, and the place of its line
     for at, row in enumerate(filter(None, "".join(rows[-1:]).splitlines())):
-        found = re.fullmatch(ROW, row)
-        if not found:
+        if not (found := re.fullmatch(ROW, row)):
             if not row.startswith(("This plan is long", "No card is needed", "The plan states no card")):
                 notes.append(f'this row can\'t be read: "{row.strip()}"')
                 made.append(row)

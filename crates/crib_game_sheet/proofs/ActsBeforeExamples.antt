@@ -1,8 +1,7 @@
 -- Worked examples of the acts before a refused one, and of when they are shown.
-use Rattle.std.proofs.Common.{◌≡◌, ◌⊎◌, refl, inl, inr, ℕ, List, [], ◌∷◌, ◌++◌, Some, None, Ok, Err, codes, map}
+use Rattle.std.proofs.Common.{◌≡◌, refl, ℕ, List, [], ◌∷◌, ◌++◌, Ok, Err, codes, map}
 use Rattle.std.specs.Fmt.{digits}
 use Rattle.crib_cards.specs.declared.sides.Side.TheVariants.{Owner, Opponent}
-use Rattle.crib_text.specs.declared.fault.TextCause.TheVariants.{BadCard}
 use Rattle.crib_problem.specs.declared.problem.Version.TheVariants.{Two}
 use Rattle.crib_problem.proofs.ExampleProblems.{plays, says_go, level, level_deal}
 use Rattle.crib_game.specs.declared.fault.GameFault.TheVariants.{NotUnseen, NotHeld, DoesNotFit, MustPlay, NotTurn, AfterEnd, Strays, NotAsPlayed}
@@ -11,9 +10,11 @@ use Rattle.crib_input.specs.declared.reason.FaultCause.TheVariants.{NoMemory}
 use Rattle.crib_input.specs.declared.reason.Reason.{Reason}
 use Rattle.crib_input.specs.declared.reason.Reason.TheVariants.{Refused, Fault}
 use Rattle.crib_input.specs.declared.refusal.Cause.TheVariants as causes
+use Rattle.crib_input.specs.declared.sections.Sections.{Sections}
+use Rattle.crib_input.specs.declared.sections.Sections.TheVariants.{Question, Played, PlayedUnder}
 use Rattle.crib_input.proofs.InputReaders.{read_played}
 use Rattle.crib_board.specs.Board.{right_in}
-use Rattle.crib_game_sheet.specs.ActsBefore.{AreShown, ShownIn, acts_before, game_fault_in, text_before}
+use Rattle.crib_game_sheet.specs.ActsBefore.{acts_before, acts_beside, text_before, text_if_read, text_if_refused}
 use Rattle.crib_game_sheet.specs.GameText.{act_line, act_lines, act_text, points_text, reason_text, score_text}
 
 -- the second king is out of turn, so the lines are those of the two acts before it, and the first act has none before it. Of a game with
@@ -45,25 +46,13 @@ acts_before_each_fault = refl
 
 -- ---- which acts are shown
 
-which_acts_are_shown :
-    (game_fault_in (Refused (record { line = 12; cause = causes.Game (NotTurn 1) })) ≡ Some (NotTurn 1))
-    × (game_fault_in (Refused (record { line = 5; cause = causes.Text BadCard })) ≡ None)
-which_acts_are_shown = (refl, refl)
-
--- beside another message no acts are shown, and beside the refusal of an act the acts before it and no others
-acts_beside_messages : (input acts : List ℕ) →
-    (AreShown input (Fault NoMemory) acts ≡ (acts ≡ []))
-    × (AreShown input (Refused (record { line = 5; cause = causes.Text BadCard })) acts ≡ (acts ≡ []))
-    × (ShownIn (Ok (level, game_with level_deal (plays Opponent 37 ∷ []), 8)) (NotTurn 1) acts ≡ (acts ≡ []))
-    × (ShownIn (Err (record { line = 1; number = 3 })) (NotTurn 1) acts ≡ (acts ≡ []))
-unfolding act_lines
-acts_beside_messages input acts = (refl, refl, refl, refl)
-
--- one byte is too much where no act is shown
-one_byte_beside_no_act : (input : List ℕ) →
-    ShownIn (Err (record { line = 1; number = 3 })) (NotTurn 1) (codes "a") ⊎ AreShown input (Fault NoMemory) (codes "a") → ⊥
-one_byte_beside_no_act input (inl shown) = (let none = shown in cc)
-one_byte_beside_no_act input (inr shown) = (let none = shown in cc)
+-- a game without a refused act has none to show, and one that isn't read
+acts_of_results :
+    (text_if_refused level (game_with level_deal (plays Owner 36 ∷ [])) (Err (NotTurn 2)) ≡ codes " 1 pone   TC      10   0    0\n")
+    × (text_if_read (Ok (level, game_with level_deal (plays Owner 36 ∷ []), 8)) ≡ [])
+    × (text_if_read (Err (record { line = 1; number = 3 })) ≡ [])
+unfolding digits right_in reason_text points_text score_text act_text act_line act_lines
+acts_of_results = (refl, refl, refl)
 
 -- own 2C, and own 2D out of turn
 abbrev pub out_of_turn : List ℕ
@@ -74,6 +63,10 @@ out_of_turn =
 abbrev pub line_13 : Reason
 line_13 = Refused (record { line = 13; cause = causes.Game (NotTurn 2) })
 
-acts_before_the_second : AreShown out_of_turn line_13 (codes " 1 pone   2C       2   0    0\n")
+-- they are shown for a problem and a game that is refused, and not after a fault, nor where another section is due
+acts_before_the_second :
+    map (λ (asked : Sections × Reason). acts_beside asked.0 out_of_turn asked.1)
+    ((Played, line_13) ∷ (Played, Fault NoMemory) ∷ (Question, line_13) ∷ (PlayedUnder, line_13) ∷ [])
+    ≡ codes " 1 pone   2C       2   0    0\n" ∷ [] ∷ [] ∷ [] ∷ []
 unfolding digits right_in read_played reason_text points_text score_text act_text act_line act_lines
 acts_before_the_second = refl

@@ -1,5 +1,5 @@
 -- The acts of a game before a refused one.
-use Rattle.std.specs.Prelude.{◌≡◌, ◌-◌, ℕ, List, [], Option, Some, None, MatchOption, Result, Ok, Err, take}
+use Rattle.std.specs.Prelude.{◌-◌, ℕ, List, [], Result, Ok, Err, take}
 use Rattle.crib_text.specs.Refusals.{Refusal}
 use Rattle.crib_problem.specs.Setup.{Setup, at_lead}
 use Rattle.crib_game.specs.declared.fault.GameFault.{GameFault}
@@ -10,8 +10,8 @@ use Rattle.crib_game.specs.declared.replaying.report.Report.{Report}
 use Rattle.crib_game.specs.Replay.{replay_result}
 use Rattle.crib_input.specs.declared.reason.Reason.{Reason}
 use Rattle.crib_input.specs.declared.reason.Reason.TheVariants as reasons
-use Rattle.crib_input.specs.declared.refusal.Cause.{Cause}
-use Rattle.crib_input.specs.declared.refusal.Cause.TheVariants as causes
+use Rattle.crib_input.specs.declared.sections.Sections.{Sections}
+use Rattle.crib_input.specs.declared.sections.Sections.TheVariants.{Played}
 use Rattle.crib_input.specs.Input.{played_of_input}
 use Rattle.crib_game_sheet.specs.GamePlay.{game_reasons}
 use Rattle.crib_game_sheet.specs.GameText.{rows_text}
@@ -44,22 +44,18 @@ text_before problem game fault =
 
 -- ---- beside a message
 
--- the refusal of a game, if this is the cause of a refusal
-abbrev pub game_fault_of : Cause → Option GameFault
-game_fault_of (causes.Game fault) = Some fault
-game_fault_of cause = None
+-- the lines of the acts before the refused one, and nothing if no act is refused
+abbrev pub text_if_refused : Setup → Game → Result Report GameFault → List ℕ
+text_if_refused problem game (Ok report) = []
+text_if_refused problem game (Err fault) = text_before problem game fault
 
--- the refusal of a game, if this is the reason
-abbrev pub game_fault_in : Reason → Option GameFault
-game_fault_in (reasons.Refused refusal) = game_fault_of refusal.cause
-game_fault_in (reasons.Fault cause) = None
+-- the lines of the acts before the refused one, if an input has a game
+abbrev pub text_if_read : Result (Setup × Game × ℕ) Refusal → List ℕ
+text_if_read (Ok (problem, game, first)) = text_if_refused problem game (replay_result problem game)
+text_if_read (Err refusal) = []
 
--- the acts before the one that a fault refuses, if an input has a game
-abbrev pub ShownIn : Result (Setup × Game × ℕ) Refusal → GameFault → List ℕ → Type 0
-ShownIn (Ok (problem, game, first)) fault acts = acts ≡ text_before problem game fault
-ShownIn (Err refusal) fault acts = acts ≡ []
-
--- the acts that are shown after a message: those before the refused act of a game, and none after every other message
-abbrev pub AreShown : List ℕ → Reason → List ℕ → Type 0
-AreShown input reason acts =
-    MatchOption (game_fault_in reason) (acts ≡ []) (λ fault. ShownIn (played_of_input input) fault acts)
+-- the acts that are shown after a message: those before the refused act if the input is to be a problem and a game and
+-- is refused, and none after every other message
+abbrev pub acts_beside : Sections → List ℕ → Reason → List ℕ
+acts_beside Played input (reasons.Refused refusal) = text_if_read (played_of_input input)
+acts_beside sections input reason = []

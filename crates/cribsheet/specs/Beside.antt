@@ -3,10 +3,10 @@ use Rattle.std.specs.Prelude.{◌≡◌, ℕ, List, ◌++◌, codes}
 use Rattle.crib_input.specs.declared.reason.Reason.{Reason}
 use Rattle.crib_input.specs.declared.sections.Sections.{Sections}
 use Rattle.crib_message.specs.Message.{IsMessage}
-use Rattle.crib_game_sheet.specs.ActsBefore.{AreShown}
+use Rattle.crib_game_sheet.specs.ActsBefore.{acts_beside}
 
 -- what is written beside a reply with a reason: its message, and the acts before a refused one
 abbrev pub IsSaid : Sections → List ℕ → Reason → List ℕ → Type 0
 IsSaid sections input reason text =
-    (message : List ℕ) × (acts : List ℕ) × IsMessage (codes "cribsheet") sections input reason message
-    × AreShown input reason acts × (text ≡ message ++ acts)
+    (message : List ℕ) × IsMessage (codes "cribsheet") sections input reason message
+    × (text ≡ message ++ acts_beside sections input reason)

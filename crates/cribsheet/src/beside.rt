@@ -20,7 +20,7 @@ impl Explain for Messages {
             is_cut: false,
         };
         page.put(message.as_slice());
-        put_acts_beside(&mut page, input, reason);
+        put_acts_beside(&mut page, sections, input, reason);
         let Printer { sink, is_cut: _ } = page;
         // The proof reads what the device holds from this use of it.
         let _ = &*sink;

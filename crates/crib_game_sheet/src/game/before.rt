@@ -1,25 +1,25 @@
 //! The acts of a game before the refused one.
-ghost use Rattle.std.specs.Prelude.{◌≡◌, ◌≤◌, ℕ, List, length};
+ghost use Rattle.std.specs.Prelude.{◌≡◌, ◌≤◌, length};
 ghost use Rattle.crib_run.specs.Prints.{Prints};
-ghost use Rattle.crib_game_sheet.specs.ActsBefore.{AreShown, acts_before, beginning, text_before};
+ghost use Rattle.crib_game_sheet.specs.ActsBefore.{acts_before, acts_beside, beginning, text_before};
 
 use super::text::put_rows;
 use arrayvec::ArrayVec;
 use crib_game::{Game, GameFault, replay};
-use crib_input::{Cause, Reason, played_of};
+use crib_input::{Reason, Sections, played_of};
 use crib_problem::Problem;
 use crib_run::Page;
 use crib_text::MAX_INPUT;
 
-/// Puts the acts of an input's game before the refused one, if the reason is the refusal of an act. It needs no memory.
-pub fn put_acts_beside<P: Page>(page: &mut P, input: &[u8], reason: &Reason)
+/// Puts the acts of an input's game before the refused one, if the input is refused and is to be a problem and a game.
+/// If they aren't read, or no act is refused, it puts nothing. It needs no memory.
+pub fn put_acts_beside<P: Page>(page: &mut P, sections: Sections, input: &[u8], reason: &Reason)
     requires { length input.now ≤ MAX_INPUT }
-    ensures { (acts : List ℕ) × AreShown input.now reason.now acts
-        × Prints acts (P.stand page.old) (P.stand page.new) }
+    ensures { Prints (acts_beside sections input.now reason.now) (P.stand page.old) (P.stand page.new) }
 {
-    if let Reason::Refused(refusal) = reason
-        && let Cause::Game(fault) = refusal.cause
+    if let (Sections::Played, Reason::Refused(_)) = (sections, reason)
         && let Ok(played) = played_of(input)
+        && let Err(fault) = replay(&played.problem, &played.game)
     {
         put_before(page, &played.problem, &played.game, fault);
     }

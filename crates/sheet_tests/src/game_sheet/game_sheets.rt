@@ -3,7 +3,7 @@ use crate::game_sheet::{input, played, sheet_of};
 use crate::{is_front, same};
 use crib_game::{GameFault, replay};
 use crib_game_sheet::put_acts_beside;
-use crib_input::{Reason, Refusal};
+use crib_input::{Reason, Refusal, Sections};
 use crib_run::Printer;
 use crib_text::Counted;
 use example_texts::games::*;
@@ -63,7 +63,12 @@ fn has_acts(
         is_cut: false,
     };
     assert!(rt; input.len() <= 1000);
-    put_acts_beside(&mut page, input.as_bytes(), &Reason::Refused(refusal));
+    put_acts_beside(
+        &mut page,
+        Sections::Played,
+        input.as_bytes(),
+        &Reason::Refused(refusal),
+    );
     same(
         rt,
         sink.into_inner().into_bytes().as_slice(),

@@ -1,5 +1,6 @@
 -- Worked examples of messages: the line that is shown, its number and its mark, and the words before it.
-use Rattle.std.proofs.Common.{arith, ◌≡◌, ◌⊎◌, ◌∙◌, refl, sym, ap, subst, true, false, ℕ, List, [], ◌∷◌, ◌++◌, codes, length, map, min, Some, None, inl, inr}
+use Rattle.std.proofs.Common.{arith, ◌≡◌, ◌⊎◌, ◌∙◌, refl, sym, ap, subst, true, false, ℕ, List, [], ◌∷◌, ◌++◌, codes, length, map, min, Some, None}
+use Rattle.std.proofs.Common.{◌+◌, inl, inr}
 use Rattle.std.specs.Prelude.{replicate, slice_index}
 use Rattle.std.specs.Char.{is_ascii_alphabetic}
 use Rattle.std.specs.List.{All, list_all, list_any}
@@ -17,7 +18,7 @@ use Rattle.crib_input.specs.declared.sections.Sections.TheVariants as inputs
 use Rattle.crib_message.specs.declared.scene.Spot.{Spot}
 use Rattle.crib_message.specs.declared.scene.Section.TheVariants.{Problem, Plan, Game, Turns, After}
 use Rattle.crib_message.specs.Message.{IsExcerpt, IsMark, IsMessage, IsRefusalMessage}
-use Rattle.crib_message.specs.Message.{blanks, carets, dots, heading, hex_digit, is_plain, mark_line, marks_below, spot_words}
+use Rattle.crib_message.specs.Message.{blanks, carets, dots, goes_on, heading, hex_digit, is_of_word, is_plain, mark_line, marks_below, spot_words}
 use Rattle.crib_message.specs.Place.{numbered_line, spot_behind}
 use Rattle.crib_message.specs.Message.{section_words, shown_byte, shown_line}
 
@@ -48,8 +49,9 @@ shown_lines = refl
 
 -- a whole line of at most 100 bytes, with a mark below a stretch of it
 excerpt_of : (number : ℕ) (left meant right : List ℕ) → length (left ++ (meant ++ right)) ≡ min 100 (length (left ++ (meant ++ right))) →
+    goes_on (left ++ (meant ++ right)) (length left) ≡ false → goes_on (left ++ (meant ++ right)) (length left + length meant) ≡ false →
     IsExcerpt number (left ++ (meant ++ right)) (shown_line number [] (left ++ (meant ++ right)) [] ++ mark_line number [] left meant)
-excerpt_of number left meant right wide = record {
+excerpt_of number left meant right wide begins ends = record {
   before = [];
   shown = left ++ (meant ++ right);
   after = [];
@@ -57,18 +59,18 @@ excerpt_of number left meant right wide = record {
   cut = sym (append-nil (left ++ (meant ++ right)));
   wide = wide;
   is = refl;
-  marks = inr (record { left = left; meant = meant; right = right; cut = refl; is = refl });
+  marks = inr (record { left = left; meant = meant; right = right; cut = refl; begins = begins; ends = ends; is = refl });
 }
 
 -- carets below bytes that are shown, one of them as four columns
 pub an_excerpt : IsExcerpt 8 (codes "0 see A" ++ 255 ∷ codes " 2:1") (codes "  8 | 0 see A\\xff 2:1\n    |       ^^^^^\n")
 unfolding digits
-an_excerpt = excerpt_of 8 (codes "0 see ") (codes "A" ++ 255 ∷ []) (codes " 2:1") refl
+an_excerpt = excerpt_of 8 (codes "0 see ") (codes "A" ++ 255 ∷ []) (codes " 2:1") refl refl refl
 
 -- one caret behind the end of a line
 pub behind_the_end : IsMark 12 [] (codes "own") (codes "     |    ^\n")
 unfolding digits
-behind_the_end = record { left = codes "own"; meant = []; right = []; cut = refl; is = refl }
+behind_the_end = record { left = codes "own"; meant = []; right = []; cut = refl; begins = refl; ends = refl; is = refl }
 
 -- ---- headings
 -- the spot of a line of a game
@@ -101,7 +103,7 @@ a_card_with_10 = record {
   is = refl;
   plain = all_plain (codes "\"10S\" is not a card.") refl;
   worded = refl;
-  shows = excerpt_of 2 (codes "hold ") (codes "10S") [] refl;
+  shows = excerpt_of 2 (codes "hold ") (codes "10S") [] refl refl refl;
 }
 
 -- a fault shows no line
@@ -140,6 +142,16 @@ pub words_of_spots : spot_words (in_a_game 7) ∷ map (section_words 12) (Proble
 unfolding digits
 words_of_spots = refl
 
+-- a word goes on behind its first byte. A blank, a colon and a tab are of no word, nor is what isn't there
+pub words_that_go_on :
+    map (goes_on (codes "10 A:2")) (0 ∷ 1 ∷ 2 ∷ 3 ∷ 4 ∷ 5 ∷ 6 ∷ 7 ∷ []) ≡ false ∷ true ∷ false ∷ false ∷ false ∷ false ∷ false ∷ false ∷ []
+words_that_go_on = refl
+
+pub bytes_of_words :
+    map is_of_word (Some 33 ∷ Some 126 ∷ Some 32 ∷ Some 127 ∷ Some 58 ∷ Some 57 ∷ Some 59 ∷ None ∷ [])
+    ≡ true ∷ true ∷ false ∷ false ∷ false ∷ true ∷ true ∷ false ∷ []
+bytes_of_words = refl
+
 -- ---- marks, excerpts and messages that are none
 abbrev byte_of : List ℕ → ℕ
 byte_of [] = 0
@@ -155,6 +167,15 @@ pub mark_of_another_line : (mark : List ℕ) (is : IsMark 12 [] (codes "own") ma
 mark_of_another_line mark is e =
     (let byte : 111 ≡ 120 = ap byte_of (is.cut ∙ ap (λ left. left ++ (is.meant ++ is.right)) e) in absurd (omega (arith, byte)))
 
+-- a mark neither begins nor ends within a word
+pub mark_of_half_a_word : (mark : List ℕ) (is : IsMark 12 [] (codes "own") mark) → is.left ≡ codes "o" → ⊥
+mark_of_half_a_word mark is e =
+    absurd (both_ways true (subst (λ (left : List ℕ). goes_on (codes "own") (length left) ≡ false) e is.begins) refl)
+
+pub mark_of_two_bytes_of_three : (mark : List ℕ) (is : IsMark 12 [] (codes "own") mark) → length is.left + length is.meant ≡ 2 → ⊥
+mark_of_two_bytes_of_three mark is e =
+    absurd (both_ways true (subst (λ (end : ℕ). goes_on (codes "own") end ≡ false) e is.ends) refl)
+
 -- a line of 105 bytes, of which the first two and the last three are left out
 abbrev long_line : List ℕ
 long_line = codes "ab" ++ (replicate 100 120 ++ codes "cde")
@@ -165,14 +186,14 @@ unfolding digits
 hundred_of mark marks =
     record { before = codes "ab"; shown = replicate 100 120; after = codes "cde"; mark = mark; cut = refl; wide = refl; is = refl; marks = marks }
 
--- without a mark, and with a mark below the last byte that is shown
+-- without a mark, and with a mark below all bytes that are shown
 pub a_hundred_bytes : IsExcerpt 8 long_line (codes "  8 | ..." ++ (replicate 100 120 ++ codes "...\n"))
-    × IsExcerpt 8 long_line (codes "  8 | ..." ++ (replicate 100 120 ++ codes "...\n") ++ (codes "    | " ++ (replicate 102 32 ++ codes "^\n")))
+    × IsExcerpt 8 long_line (codes "  8 | ..." ++ (replicate 100 120 ++ codes "...\n") ++ (codes "    |    " ++ (replicate 100 94 ++ codes "\n")))
 unfolding digits
 a_hundred_bytes = (
   hundred_of [] (inl refl),
-  hundred_of (codes "    | " ++ (replicate 102 32 ++ codes "^\n"))
-      (inr (record { left = replicate 99 120; meant = codes "x"; right = []; cut = refl; is = refl })),
+  hundred_of (codes "    |    " ++ (replicate 100 94 ++ codes "\n"))
+      (inr (record { left = []; meant = replicate 100 120; right = []; cut = refl; begins = refl; ends = refl; is = refl })),
 )
 
 pub excerpt_of_another_line : (excerpt : List ℕ) (is : IsExcerpt 8 (codes "own") excerpt) → is.before ≡ codes "x" → ⊥

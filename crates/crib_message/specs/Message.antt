@@ -1,7 +1,7 @@
 -- The message of a refusal or a fault.
-use Rattle.std.specs.Prelude.{◌≡◌, ◌⊎◌, ◌/◌, ◌%◌, ℕ, Bool, true, List, [], ◌∷◌, ◌++◌, codes}
-use Rattle.std.specs.Prelude.{decimal, flat_map, MatchOption, All, nat_le, ◌&&◌, ◌==◌, if◌then◌else◌}
-use Rattle.std.specs.Prelude.{length, min, slice_index}
+use Rattle.std.specs.Prelude.{◌≡◌, ◌⊎◌, ◌+◌, ◌/◌, ◌%◌, ℕ, zero, suc, Bool, true, false, List, [], ◌∷◌, ◌++◌, codes}
+use Rattle.std.specs.Prelude.{decimal, flat_map, Option, Some, None, MatchOption, All, nat_le, not, ◌&&◌, ◌==◌}
+use Rattle.std.specs.Prelude.{if◌then◌else◌, length, min, slice_get, slice_index}
 use Rattle.std.specs.Char.{is_ascii_alphabetic}
 use Rattle.std.specs.List.{list_any}
 use Rattle.crib_text.specs.Spelling.{line_feed}
@@ -66,12 +66,24 @@ mark_line number before left meant =
     codes "  " ++ (blanks (decimal number) ++ (codes " | " ++ (blanks (dots before) ++ (blanks left
     ++ (carets meant ++ line_feed ∷ [])))))
 
--- a mark: it is below a stretch of the bytes that are shown
+-- whether a word has the byte at an index: it is 33 to 126 and no colon
+abbrev pub is_of_word : Option ℕ → Bool
+is_of_word None = false
+is_of_word (Some byte) = nat_le 33 byte && nat_le byte 126 && not (byte == 58)
+
+-- whether a word goes on at an index: it has the byte there and the one before
+abbrev pub goes_on : List ℕ → ℕ → Bool
+goes_on bytes zero = false
+goes_on bytes (suc before) = is_of_word (slice_get bytes before) && is_of_word (slice_get bytes (suc before))
+
+-- a mark: it is below a stretch of the bytes that are shown, which neither begins nor ends within a word
 pub record IsMark (number : ℕ) (before shown mark : List ℕ) : Type 0 where
   pub left : List ℕ
   pub meant : List ℕ
   pub right : List ℕ
   pub cut : shown ≡ left ++ (meant ++ right)
+  pub begins : goes_on shown (length left) ≡ false
+  pub ends : goes_on shown (length left + length meant) ≡ false
   pub is : mark ≡ mark_line number before left meant
 
 -- an excerpt: a line with its number, or 100 bytes of a longer one, and then nothing or a mark

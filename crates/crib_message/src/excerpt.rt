@@ -1,9 +1,9 @@
 //! A line of the input as it is shown: its number, its bytes, and below them the mark.
-ghost use Rattle.std.specs.Prelude.{◌≡◌, ◌<◌, ◌≤◌, ◌+◌, ◌-◌, ◌*◌, ◌/◌, ◌%◌, ◌++◌, ◌∷◌, []};
-ghost use Rattle.std.specs.Prelude.{ℕ, List, codes, flat_map, length, min};
+ghost use Rattle.std.specs.Prelude.{◌≡◌, ◌<◌, ◌≤◌, ◌⊎◌, ◌+◌, ◌-◌, ◌*◌, ◌/◌, ◌%◌, ◌++◌, ◌∷◌, []};
+ghost use Rattle.std.specs.Prelude.{ℕ, List, codes, flat_map, length, min, slice_get};
 ghost use Rattle.arrayvec.specs.ArrayVec.{array_vec_len};
-ghost use Rattle.crib_message.specs.Message.{IsExcerpt, IsMark, carets, dots, hex_digit, is_plain, marks_below};
-ghost use Rattle.crib_message.specs.Message.{shown_byte, shown_line};
+ghost use Rattle.crib_message.specs.Message.{IsExcerpt, IsMark, carets, dots, goes_on, hex_digit, is_of_word, is_plain};
+ghost use Rattle.crib_message.specs.Message.{marks_below, shown_byte, shown_line};
 
 use crate::scene::Mark;
 use arrayvec::ArrayVec;
@@ -121,15 +121,20 @@ pub(crate) fn is_plain(byte: u8) -> bool
     (b' '..=b'~').contains(&byte)
 }
 
-// Appends the line below: carets below the bytes that are meant, or one caret if the mark is empty.
+// Appends the line below: carets below the bytes that are meant, or one caret if the mark is empty. A mark that begins
+// or ends within a word is left out.
 fn add_mark(excerpt: &mut Excerpt, number: u32, window: Window<'_>, mark: Mark)
     requires room { array_vec_len excerpt.old ≤ 422 }
     requires short { length window.shown.now ≤ 100 }
-    ensures { (below : List ℕ) × IsMark number window.entry.before.now window.entry.shown.now below
+    ensures { (below : List ℕ) × ((below ≡ []) ⊎ IsMark number window.entry.before.now window.entry.shown.now below)
         × (excerpt.new.items ≡ excerpt.old.items ++ below) }
 {
     let from = mark.from.saturating_sub(window.before.len());
     let stretch = cut(window.shown, from, mark.len);
+    let start = stretch.before.len();
+    if goes_on(window.shown, start) || goes_on(window.shown, start + stretch.shown.len()) {
+        return;
+    }
     add(excerpt, b"  ");
     add_below(excerpt, b' ', Buffer::new().format(number).as_bytes());
     add(excerpt, b" | ");
@@ -137,6 +142,23 @@ fn add_mark(excerpt: &mut Excerpt, number: u32, window: Window<'_>, mark: Mark)
     add_below(excerpt, b' ', stretch.before);
     add_carets(excerpt, stretch.shown);
     add(excerpt, b"\n");
+}
+
+// Whether a word goes on at an index.
+fn goes_on(bytes: &[u8], index: usize) -> bool
+    ensures { result ≡ goes_on bytes.now index }
+{
+    index > 0 && has_word_at(bytes, index - 1) && has_word_at(bytes, index)
+}
+
+// Whether a word has the byte at an index.
+fn has_word_at(bytes: &[u8], index: usize) -> bool
+    ensures { result ≡ is_of_word (slice_get bytes.now index) }
+{
+    match bytes.get(index) {
+        Some(byte) => (b'!'..=b'~').contains(byte) && *byte != b':',
+        None => false,
+    }
 }
 
 // Appends carets below bytes, or one caret if there are none.

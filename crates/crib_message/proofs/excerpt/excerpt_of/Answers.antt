@@ -1,4 +1,4 @@
-use Rattle.std.proofs.Common.{◌∙◌, ◌++◌, ℕ, List, [], refl, ap, inl, inr}
+use Rattle.std.proofs.Common.{◌∙◌, ◌++◌, ℕ, List, [], refl, ap, inl}
 use Rattle.crib_message.proofs.MessageLemmas.{nothing_added}
 use Rattle.crib_message.proofs.excerpt.excerpt_of.Goals as goal
 
@@ -14,7 +14,7 @@ returns-in-Some c =
       cut = c.window_on-window.ensures.cut;
       wide = c.window_on-window.ensures.wide;
       is = added.2 ∙ ap (λ (xs : List ℕ). xs ++ added.0) c.shown-excerpt.ensures.items;
-      marks = inr added.1;
+      marks = added.1;
     }
 
 pub returns-in_default : goal.returns-in_default

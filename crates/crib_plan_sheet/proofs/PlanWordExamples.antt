@@ -70,8 +70,8 @@ rows_and_their_sizes = (refl, refl, refl, refl, refl)
 abbrev how_to_read : List ℕ
 how_to_read =
     codes "\nPlay a row in order, one card at each of your turns. If none of your cards\nfits, say go and stay there. "
-    ++ codes "At \"look\", go on in the line of what they show\nnext: a rank (8-T is 8, 9 or ten), or a go, even after yours. At \"see [n]\", go\n"
-    ++ codes "on in paragraph [n].\n"
+    ++ codes "At \"look\", go on in the line of what they show\nnext: a rank (8-T is 8, 9 or ten), or a go, even after yours: their first in a\n"
+    ++ codes "count, with a card left. At \"see [n]\", go on in paragraph [n].\n"
 
 unfoldable pub if_sure : List ℕ
 if_sure = codes "At the end of a row, or if there is no line, nothing is left to decide, or\nyour goal is reached: then play as you like.\n"

@@ -212,7 +212,8 @@ long_first flags plan place start long = rw (start, long) refl
 abbrev pub legend : List ℕ
 legend =
     codes "\nPlay a row in order, one card at each of your turns. If none of your cards\nfits, say go and stay there. At \"look\", go on in the line of "
-    ++ codes "what they show\nnext: a rank (8-T is 8, 9 or ten), or a go, even after yours. At \"see [n]\", go\non in paragraph [n].\n"
+    ++ codes "what they show\nnext: a rank (8-T is 8, 9 or ten), or a go, even after yours: their first in a\n"
+    ++ codes "count, with a card left. At \"see [n]\", go on in paragraph [n].\n"
 
 page_from : (sure : Bool) (flags : List Bool) (plan : List Node) (end : List ℕ) → end ≡ end_of_row sure →
     ((first_text sure flags plan ++ paragraphs_text flags plan 0) ++ legend) ++ end ≡ page_text sure (sheet_with (apart_in flags) plan)

@@ -31,8 +31,8 @@ legend_text sure =
     codes "\n"
     ++ codes "Play a row in order, one card at each of your turns. If none of your cards\n"
     ++ codes "fits, say go and stay there. At \"look\", go on in the line of what they show\n"
-    ++ codes "next: a rank (8-T is 8, 9 or ten), or a go, even after yours. At \"see [n]\", go\n"
-    ++ codes "on in paragraph [n].\n" ++ end_of_row sure
+    ++ codes "next: a rank (8-T is 8, 9 or ten), or a go, even after yours: their first in a\n"
+    ++ codes "count, with a card left. At \"see [n]\", go on in paragraph [n].\n" ++ end_of_row sure
 
 -- the page of a sheet
 unfoldable pub page_text : Bool → Sheet → List ℕ

@@ -20,8 +20,8 @@ const LONG: &[u8] =
 const LEGEND: &[u8] = b"
 Play a row in order, one card at each of your turns. If none of your cards
 fits, say go and stay there. At \"look\", go on in the line of what they show
-next: a rank (8-T is 8, 9 or ten), or a go, even after yours. At \"see [n]\", go
-on in paragraph [n].
+next: a rank (8-T is 8, 9 or ten), or a go, even after yours: their first in a
+count, with a card left. At \"see [n]\", go on in paragraph [n].
 ";
 
 // What the end of a row means, if the plan is sure, and if it is not. Only then a card may be stated that can't be

@@ -106,8 +106,8 @@ const DEEP_SHEET: &str = "look:
 const LEGEND: &str = "
 Play a row in order, one card at each of your turns. If none of your cards
 fits, say go and stay there. At \"look\", go on in the line of what they show
-next: a rank (8-T is 8, 9 or ten), or a go, even after yours. At \"see [n]\", go
-on in paragraph [n].
+next: a rank (8-T is 8, 9 or ten), or a go, even after yours: their first in a
+count, with a card left. At \"see [n]\", go on in paragraph [n].
 ";
 
 const IF_SURE: &str = "At the end of a row, or if there is no line, nothing is left to decide, or

@@ -115,12 +115,14 @@ pub failing_game_is_written : (input : List ℕ) (result : Ending) → HasFailin
 unfolding game_text game_lines
 failing_game_is_written input result has = (let text = has.game_is in cc)
 
--- a yes of `check` says that the plan of the input is sure, and a no of `solve` that the input has none
-pub yes_means_a_sure_plan : (input : List ℕ) →
-    (StatusMeans Check input (record { output = codes "holds\n"; status = Yes }) ≡ (HasSurePlan input × (codes "holds\n" ≡ codes "holds\n")))
-    × (StatusMeans Check input (record { output = codes "holds\n"; status = Yes }) ≡ CheckMeans input (codes "holds\n") Yes)
-    × (SolveMeans input (codes "none\n") No ≡ (HasNoPlan input × (codes "none\n" ≡ codes "none\n")))
-yes_means_a_sure_plan input = (refl, refl, refl)
+-- `holds` and `none` aren't said of an input without a problem
+pub nothing_spells_no_problem : (text : List ℕ) → (CheckMeans [] text Yes → ⊥) × (SolveMeans [] text No → ⊥) × (SolveMeans [] text Yes → ⊥)
+unfolding problem_text problem_lines
+nothing_spells_no_problem text = (
+  λ is. (let bytes = is.0.spelled.text in cc),
+  λ is. (let bytes = is.0.spelled.text in cc),
+  λ is. (let bytes = is.spelled.text in cc),
+)
 
 -- no failing plan without a failing game
 pub no_failing_plan_without_a_failing_game : (input text : List ℕ) →

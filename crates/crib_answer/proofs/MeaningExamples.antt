@@ -103,8 +103,8 @@ doubled_byte_of_a_fault input (inr has) = (let byte : 102 ≡ 97 = ap (λ bytes.
 pub doubled_byte_of_holds : (input : List ℕ) → CheckMeans input (codes "hholds\n") Yes → ⊥
 doubled_byte_of_holds input means = (let byte : 104 ≡ 111 = ap (λ bytes. slice_index bytes 1) means.1 in absurd (omega (arith, byte)))
 
--- what the reply of each job guarantees
-pub meaning_by_job : (input text : List ℕ) → (StatusMeans Solve input (record { output = text; status = Yes }) ≡ SolveMeans input text Yes)
-    × (SolveMeans input text Yes ≡ IsSolvedBy input text) × StatusMeans Follow [] (record { output = text; status = Yes })
+-- an empty text is neither `holds` nor `none`, and of the other jobs nothing is guaranteed
+pub meaning_by_job : (input text : List ℕ) → (StatusMeans Check input (record { output = []; status = Yes }) → ⊥)
+    × (StatusMeans Solve input (record { output = []; status = No }) → ⊥) × StatusMeans Follow [] (record { output = text; status = Yes })
     × StatusMeans Board [] (record { output = text; status = Yes })
-meaning_by_job input text = (refl, refl, tt, tt)
+meaning_by_job input text = (λ is. (let holds = is.1 in cc), λ is. (let none = is.1 in cc), tt, tt)

@@ -1,5 +1,5 @@
 -- Worked examples of the lines of turns that may come next, and of when they are right.
-use Rattle.std.proofs.Common.{◌≡◌, ◌⊎◌, arith, inl, inr, ℕ, true, false, List, [], ◌∷◌, ◌++◌, length, Option, None, Some, codes, refl, ap}
+use Rattle.std.proofs.Common.{◌≡◌, ◌⊎◌, ◌∙◌, arith, inl, inr, ℕ, true, false, List, [], ◌∷◌, ◌++◌, length, Option, None, Some, codes, refl, sym, ap, subst}
 use Rattle.std.specs.Fmt.{digits}
 use Rattle.crib_cards.specs.declared.sides.Side.TheVariants.{Owner, Opponent}
 use Rattle.crib_cards.specs.declared.moves.Move.TheVariants as move
@@ -26,13 +26,16 @@ use Rattle.crib_search.specs.Winnable.{IsWinnable}
 use Rattle.crib_run.specs.Reply.{Reply}
 use Rattle.crib_sheet.specs.Leads.{AreStops, AreStopsIf, HasLargePlan, HasLeads, IsBelow, SaysTried, below_text, to_stop, wants_stops}
 use Rattle.crib_sheet.specs.declared.answer.leads.TriedPlan.{TriedPlan}
-use Rattle.crib_sheet.specs.LeadsText.{begins_words, is_mostly_beaten, leads_status, leads_text, little_line, own_line, own_lines, own_words}
+use Rattle.crib_sheet.specs.LeadsText.{begins_words, best_line, is_mostly_beaten, leads_status, leads_text, little_lines, own_line, own_lines, own_words}
 use Rattle.crib_sheet.specs.LeadsText.{short_words, stop_figure, their_line, their_lines, their_name, tried_text}
 use Rattle.crib_sheet.specs.PlanBeaten.{AreBeating, beating_text}
 
--- 8D of the owner, and 5C of the opponent, for itself and for its rank
+-- 8D and 2C of the owner, and 5C of the opponent, for itself and for its rank
 abbrev own_lead : LeadVerdict → Lead
 own_lead verdict = record { act = record { side = Owner; what = move.Card 29 }; is_rank = false; verdict = verdict }
+
+abbrev two_lead : LeadVerdict → Lead
+two_lead verdict = record { act = record { side = Owner; what = move.Card 4 }; is_rank = false; verdict = verdict }
 
 abbrev their_lead : LeadVerdict → Lead
 their_lead verdict = record { act = record { side = Opponent; what = move.Card 16 }; is_rank = true; verdict = verdict }
@@ -87,11 +90,18 @@ mostly : (is_mostly_beaten (own_lead (Beaten 5 10)) ≡ false) × (is_mostly_bea
     × (is_mostly_beaten (own_lead (Sure 1)) ≡ false) × (is_mostly_beaten (own_lead Missed) ≡ true)
 mostly = (refl, refl, refl, refl)
 
-that_it_says_little : (little_line (own_lead (Beaten 6 10) ∷ own_lead (Beaten 9 10) ∷ [])
+that_it_says_little : (little_lines (own_lead (Beaten 6 10) ∷ own_lead (Beaten 9 10) ∷ []) []
     ≡ codes "More than half of the deals beat each of them, so their order says little.\n")
-    × (little_line (own_lead (Beaten 6 10) ∷ own_lead (Beaten 5 10) ∷ []) ≡ []) × (little_line (own_lead (Beaten 6 10) ∷ []) ≡ [])
-    × (little_line (own_lead (Beaten 5 10) ∷ own_lead (Beaten 6 10) ∷ []) ≡ [])
+    × (little_lines (own_lead (Beaten 6 10) ∷ own_lead (Beaten 5 10) ∷ []) [] ≡ []) × (little_lines (own_lead (Beaten 6 10) ∷ []) [] ≡ [])
+    × (little_lines (own_lead (Beaten 5 10) ∷ own_lead (Beaten 6 10) ∷ []) [] ≡ [])
 that_it_says_little = (refl, refl, refl, refl)
+
+-- the best card to stop them is the first of equals, and none is named if half of the deals are against it
+best_to_stop : (best_line (two_lead (Beaten 4 10) ∷ own_lead (Beaten 3 10) ∷ two_lead (Beaten 6 20) ∷ [])
+    ≡ codes "To stop them, the fewest deals beat a plan after 8D.\n")
+    × (best_line (two_lead (Sure 4) ∷ own_lead Missed ∷ own_lead Reached ∷ []) ≡ codes "To stop them, the fewest deals beat a plan after 2C.\n")
+    × (best_line (own_lead (Beaten 9 10) ∷ two_lead (Beaten 5 10) ∷ []) ≡ []) × (best_line [] ≡ [])
+best_to_stop = (refl, refl, refl, refl)
 
 -- a card of the owner is enough, and all of the opponent's are needed
 statuses : (leads_status (own_lead (Beaten 6 10) ∷ own_lead (Sure 1) ∷ []) [] ≡ Yes) × (leads_status (own_lead (Beaten 6 10) ∷ []) [] ≡ No)
@@ -113,6 +123,7 @@ their_leads = their_lead (Sure 9) ∷ their_lead Missed ∷ []
 abbrev lines_of_leads : List ℕ
 lines_of_leads = codes "8D: not sure; a plan fails with 6 of 10 deals; stop: sure\n8D: not sure; a plan fails with 9 of 10 deals; stop: 2\n"
     ++ codes "More than half of the deals beat each of them, so their order says little.\n"
+    ++ codes "To stop them, the fewest deals beat a plan after 8D.\n"
     ++ codes "It is their turn. After what they may play:\n5: sure\n5: not sure; after 5C some deals miss the goal\n\nB\n"
 
 at_the_lead : leads_text four_twos own_leads stop_leads their_leads (codes "\nB\n") ≡ lines_of_leads
@@ -223,8 +234,14 @@ no_text_if_a_plan_is_sure problem winnable (inl some) =
     (let none : ◌≡◌ {A = ℕ} 1 0 = ap (λ (text : List ℕ). length text) some.1 in absurd (omega (arith, none)))
 no_text_if_a_plan_is_sure problem winnable (inr says) = says.0 winnable
 
--- a reply has each part
-what_leads_have : (problem : Setup) (reply : Reply) (has : HasLeads problem reply)
-    → ((AreEntries problem all_turns has.own → ⊥) → ⊥) × ((AreTheirs problem has.theirs → ⊥) → ⊥)
-    × ((AreStops problem has.own has.stops → ⊥) → ⊥) × ((IsBelow problem (leads_status has.own has.theirs) has.below → ⊥) → ⊥)
-what_leads_have problem reply has = (λ none. none has.own_right, λ none. none has.theirs_right, λ none. none has.stops_right, λ none. none has.below_right)
+-- with four twos to lead and holes to get some card may be led, no second column is asked for, and nothing is below a sure card
+wrong_leads : (reply : Reply) (has : HasLeads four_twos reply) →
+    (has.own ≡ []) ⊎ (has.stops ≡ own_lead Missed ∷ []) ⊎ ((has.own ≡ own_lead (Sure 1) ∷ []) × (has.below ≡ codes "x"))
+    ⊎ ((AreTheirs four_twos (their_lead Missed ∷ []) → ⊥) × (has.theirs ≡ their_lead Missed ∷ [])) → ⊥
+unfolding set_where
+wrong_leads reply has (inl none) = subst (AreEntries four_twos all_turns) none has.own_right
+wrong_leads reply has (inr (inl column)) = (let none : own_lead Missed ∷ [] ≡ [] = sym column ∙ has.stops_right in cc)
+wrong_leads reply has (inr (inr (inl (sure, text)))) =
+    let right : IsBelow four_twos Yes has.below = subst (λ own. IsBelow four_twos (leads_status own has.theirs) has.below) sure has.below_right in
+    (let none : codes "x" ≡ [] = sym text ∙ right in cc)
+wrong_leads reply has (inr (inr (inr (none, theirs)))) = none (subst (AreTheirs four_twos) theirs has.theirs_right)

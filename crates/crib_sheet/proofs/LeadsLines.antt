@@ -1,13 +1,16 @@
 -- The lines of turns that may come next, as the writers put them.
 use Rattle.std.proofs.Common.{◌≡◌, ◌≢◌, ◌<◌, ◌≤◌, ◌-◌, ◌∙◌, ℕ, zero, suc, Bool, List, [], ◌∷◌, ◌++◌, length, get_or, take, drop, flat_map}
-use Rattle.std.proofs.Common.{None, Some, ap, arith, codes, decimal, if◌then◌else◌, refl, sym}
+use Rattle.std.proofs.Common.{None, Some, ap, arith, codes, decimal, if◌then◌else◌, refl, sym, true}
 use Rattle.std.specs.List.{list_all, list_any}
 use Rattle.std.proofs.lemmas.List.{take_all}
+use Rattle.crib_problem.specs.Spelling.{move_word}
 use Rattle.crib_plan.specs.declared.plan.Node.{Node}
 use Rattle.crib_plan.specs.declared.plan.Node.TheVariants.{Play}
+use Rattle.crib_leads.specs.Leads.{is_worse}
 use Rattle.crib_leads.specs.declared.leads.Lead.{Lead}
+use Rattle.crib_leads.specs.declared.verdict.LeadVerdict.TheVariants.{Beaten}
 use Rattle.crib_run.specs.declared.status.Status.TheVariants.{Yes, No}
-use Rattle.crib_sheet.specs.LeadsText.{begins_words, has_sure, is_mostly_beaten, leads_status, little_line, little_sentence, nodes_words}
+use Rattle.crib_sheet.specs.LeadsText.{begins_words, best_line, best_of, has_sure, is_mostly_beaten, leads_status, little_lines, little_sentence, nodes_words}
 use Rattle.crib_sheet.specs.LeadsText.{own_line, own_lines, their_line, their_lines}
 
 -- ---- the owner's turn
@@ -31,11 +34,19 @@ nodes_several zero some several = absurd (some refl)
 nodes_several (suc zero) some several = absurd (several refl)
 nodes_several (suc (suc nodes)) some several = refl
 
-pub little_if : (leads : List Lead) (each : Bool) → 2 ≤ length leads → list_all is_mostly_beaten leads ≡ each
-    → (if each then little_sentence else []) ≡ little_line leads
-little_if [] each several is = absurd (omega (arith, several))
-little_if (lead ∷ []) each several is = absurd (omega (arith, several))
-little_if (lead ∷ other ∷ leads) each several is = ap (λ (b : Bool). if b then little_sentence else []) (sym is)
+pub little_if : (leads stops : List Lead) (each : Bool) → 2 ≤ length leads → list_all is_mostly_beaten leads ≡ each
+    → (if each then little_sentence ++ best_line stops else []) ≡ little_lines leads stops
+little_if [] stops each several is = absurd (omega (arith, several))
+little_if (lead ∷ []) stops each several is = absurd (omega (arith, several))
+little_if (lead ∷ other ∷ leads) stops each several is = ap (λ (b : Bool). if b then little_sentence ++ best_line stops else []) (sym is)
+
+pub best_named : (stops : List Lead) (stop best other : Lead) → 1 ≤ length stops → stop ≡ get_or stops 0 other
+    → best ≡ best_of stop (take (length stops - 1) (drop 1 stops)) → is_worse (Beaten 1 2) best.verdict ≡ true
+    → codes "To stop them, the fewest deals beat a plan after " ++ move_word best.act.what ++ codes ".\n" ≡ best_line stops
+best_named [] stop best other some first is good = absurd (omega (arith, some))
+best_named (one ∷ stops) stop best other some first is good =
+    let same : best ≡ best_of one stops = is ∙ rw (first, take_all (length (one ∷ stops) - 1) stops (omega arith)) refl in
+    rw (rw same at good, same) refl
 
 -- ---- the opponent's turn
 

@@ -91,15 +91,22 @@ refused_problem_has_no_games : (reply : Reply) → AnswersWhy why_texts (Err (re
 unfolding digits
 refused_problem_has_no_games reply is = is
 
-what_refute_means : (input text : List ℕ) →
-    (SheetMeans Refute input (record { output = text; status = Yes }) ≡ (HasSomePlan input × (text ≡ codes "sure\n")))
-    × (SheetMeans Refute input (record { output = text; status = No })
-    ≡ (IsRefutedBy (λ problem. refute_texts) input text ⊎ IsDecidedBySuits (λ problem. refute_texts) input text))
-    × (SheetMeans Refute input (record { output = text; status = Refused }) ≡ ((problem : Setup) → SpellsProblem input problem → ⊥))
-    × (SheetMeans Why input (record { output = text; status = Fault }) ≡ (text ≡ codes "fault 11\n"))
-    × (SheetMeans Why input (record { output = text; status = No }) ≡ (IsRefutedBy why_texts input text ⊎ IsDecidedBySuits why_texts input text))
+-- the texts of a sure plan and of a fault, and no other ones. A spelled problem isn't refused
+what_refute_means : (input text : List ℕ) (problem : Setup) (some : HasSomePlan input) →
+    SheetMeans Refute input (record { output = codes "sure\n"; status = Yes })
+    × (SheetMeans Refute input (record { output = codes "sure"; status = Yes }) → ⊥)
+    × (SpellsProblem input problem → SheetMeans Refute input (record { output = text; status = Refused }) → ⊥)
+    × SheetMeans Why input (record { output = codes "fault 11\n"; status = Fault })
+    × (SheetMeans Why input (record { output = codes "fault 50\n"; status = Fault }) → ⊥)
 unfolding digits
-what_refute_means input text = (refl, refl, refl, refl, refl)
+what_refute_means input text problem some =
+    ((some, refl), λ is. (let bytes = is.1 in cc), λ spelled is. is problem spelled, refl, λ is. (let bytes = is in cc))
+
+-- neither games nor suits have an empty text
+no_text_of_games : (input : List ℕ) → SheetMeans Refute input (record { output = []; status = No }) → ⊥
+unfolding refuted_text
+no_text_of_games input (inl is) = (let bytes = is.printed in cc)
+no_text_of_games input (inr is) = (let bytes = is.printed in cc)
 
 -- no games, 25 of them, or another text refute nothing; nor do any where a player is sure
 wrong_games : (input text : List ℕ) (is : IsRefutedBy (λ problem. refute_texts) input text) →

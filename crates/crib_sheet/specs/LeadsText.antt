@@ -1,5 +1,5 @@
 -- What may be played next, and what is after it, as text.
-use Rattle.std.specs.Prelude.{ℕ, zero, suc, Bool, true, not, List, [], ◌∷◌, ◌++◌}
+use Rattle.std.specs.Prelude.{ℕ, zero, suc, Bool, true, List, [], ◌∷◌, ◌++◌}
 use Rattle.std.specs.Prelude.{flat_map, Option, None, Some, codes, decimal, if◌then◌else◌}
 use Rattle.std.specs.List.{list_all, list_any}
 use Rattle.crib_cards.specs.Cards.{rank_of}
@@ -83,11 +83,27 @@ is_mostly_beaten lead = is_worse lead.verdict (Beaten 1 2)
 abbrev pub little_sentence : List ℕ
 little_sentence = codes "More than half of the deals beat each of them, so their order says little.\n"
 
--- this sentence, if more than half of the deals beat each of several cards
-abbrev pub little_line : List Lead → List ℕ
-little_line (lead ∷ other ∷ leads) =
-    if list_all is_mostly_beaten (lead ∷ other ∷ leads) then little_sentence else []
-little_line leads = []
+-- the entry that the fewest deals are against, the first of equals
+abbrev pub best_of : Lead → List Lead → Lead
+best_of best [] = best
+best_of best (lead ∷ leads) = if is_worse best.verdict lead.verdict then best_of lead leads else best_of best leads
+
+-- a card that is best to stop them, if less than half of the deals are against it
+abbrev pub best_sentence : Lead → List ℕ
+best_sentence lead =
+    if is_worse (Beaten 1 2) lead.verdict
+    then codes "To stop them, the fewest deals beat a plan after " ++ move_word lead.act.what ++ codes ".\n" else []
+
+-- the best card of the second column
+abbrev pub best_line : List Lead → List ℕ
+best_line [] = []
+best_line (stop ∷ stops) = best_sentence (best_of stop stops)
+
+-- that the figures say little, and what is best to stop them, if more than half of the deals beat each of several cards
+abbrev pub little_lines : List Lead → List Lead → List ℕ
+little_lines (lead ∷ other ∷ leads) stops =
+    if list_all is_mostly_beaten (lead ∷ other ∷ leads) then little_sentence ++ best_line stops else []
+little_lines leads stops = []
 
 -- ---- the opponent's turn
 
@@ -126,7 +142,7 @@ tried_text plan open_deals beaten hands =
 -- the position now, the turns that may come next, and what is below them
 unfoldable pub leads_text : Setup → List Lead → List Lead → List Lead → List ℕ → List ℕ
 leads_text problem own stops theirs below =
-    now_text problem ++ own_lines own stops ++ little_line own ++ their_lines theirs ++ below
+    now_text problem ++ own_lines own stops ++ little_lines own stops ++ their_lines theirs ++ below
 
 -- whether the verdict of an entry says that the goal is reached
 abbrev pub has_sure : Lead → Bool

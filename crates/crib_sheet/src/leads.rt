@@ -3,9 +3,10 @@ ghost use Rattle.std.specs.Prelude.{◌≡◌, ◌∷◌, [], flat_map};
 ghost use Rattle.std.specs.List.{list_all, list_any};
 ghost use Rattle.crib_run.specs.Prints.{Prints};
 ghost use Rattle.crib_sheet.specs.Leads.{below_text, leads_reply};
-ghost use Rattle.crib_sheet.specs.LeadsText.{after_of, after_words, begins_words, has_sure, is_mostly_beaten};
-ghost use Rattle.crib_sheet.specs.LeadsText.{leads_status, little_line, nodes_words, own_line, own_lines, own_words};
-ghost use Rattle.crib_sheet.specs.LeadsText.{short_words, stop_figure, stop_words, their_line, their_lines, their_name};
+ghost use Rattle.crib_sheet.specs.LeadsText.{after_of, after_words, begins_words, best_line, best_of, has_sure};
+ghost use Rattle.crib_sheet.specs.LeadsText.{is_mostly_beaten, leads_status, little_lines, nodes_words, own_line};
+ghost use Rattle.crib_sheet.specs.LeadsText.{own_lines, own_words, short_words, stop_figure, stop_words, their_line};
+ghost use Rattle.crib_sheet.specs.LeadsText.{their_lines, their_name};
 
 use crate::answer::{LeadsSheet, TriedPlan};
 use crate::refutation::put_len;
@@ -17,13 +18,19 @@ use crib_plan_sheet::{put_letter, put_now};
 use crib_run::{Page, Status, put_card, put_move};
 use std::alloc::Allocator;
 
+// A verdict that half of the deals are against.
+const HALF: LeadVerdict = LeadVerdict::Beaten {
+    beaten: 1,
+    open_deals: 2,
+};
+
 /// Puts the turns that may come next, with what is after each.
 pub(crate) fn put_leads<A: Allocator, P: Page>(page: &mut P, sheet: &LeadsSheet<A>)
     ensures { Prints (leads_reply sheet.now).output (P.stand page.old) (P.stand page.new) }
 {
     put_now(page, &sheet.problem);
     put_own(page, sheet.leads.own.as_slice(), sheet.stops.as_slice());
-    put_little(page, sheet.leads.own.as_slice());
+    put_little(page, sheet.leads.own.as_slice(), sheet.stops.as_slice());
     put_all_theirs(page, sheet.leads.theirs.as_slice());
     put_below(page, &sheet.below);
 }
@@ -174,9 +181,10 @@ fn put_after<P: Page>(page: &mut P, after: &Option<Move>)
     }
 }
 
-// Puts that the figures say little, if more than half of the deals beat each of several cards.
-fn put_little<P: Page>(page: &mut P, leads: &[Lead])
-    ensures { Prints (little_line leads.now) (P.stand page.old) (P.stand page.new) }
+// Puts that the figures say little, and what is best to stop them, if more than half of the deals beat each of several
+// cards.
+fn put_little<P: Page>(page: &mut P, leads: &[Lead], stops: &[Lead])
+    ensures { Prints (little_lines leads.now stops.now) (P.stand page.old) (P.stand page.new) }
 {
     match leads {
         [] | [_] => {}
@@ -185,6 +193,37 @@ fn put_little<P: Page>(page: &mut P, leads: &[Lead])
                 page.put(
                     b"More than half of the deals beat each of them, so their order says little.\n",
                 );
+                put_best(page, stops);
+            }
+        }
+    }
+}
+
+// Puts the best card of the second column, if less than half of the deals are against it.
+fn put_best<P: Page>(page: &mut P, stops: &[Lead])
+    ensures { Prints (best_line stops.now) (P.stand page.old) (P.stand page.new) }
+{
+    if let [stop, others @ ..] = stops {
+        let best = best_of(*stop, others);
+        if HALF.is_worse(&best.verdict) {
+            page.put(b"To stop them, the fewest deals beat a plan after ");
+            put_move(page, best.act.what);
+            page.put(b".\n");
+        }
+    }
+}
+
+// Returns the entry that the fewest deals are against, the first of equals.
+fn best_of(best: Lead, leads: &[Lead]) -> Lead
+    ensures { result ≡ best_of best leads.now }
+{
+    match leads {
+        [] => best,
+        [lead, others @ ..] => {
+            if best.verdict.is_worse(&lead.verdict) {
+                best_of(*lead, others)
+            } else {
+                best_of(best, others)
             }
         }
     }
@@ -201,11 +240,7 @@ fn are_mostly_beaten(leads: &[Lead]) -> bool
 fn is_mostly_beaten(lead: &Lead) -> bool
     ensures { result ≡ is_mostly_beaten lead.now }
 {
-    let half = LeadVerdict::Beaten {
-        beaten: 1,
-        open_deals: 2,
-    };
-    lead.verdict.is_worse(&half)
+    lead.verdict.is_worse(&HALF)
 }
 
 // Puts the lines of the opponent's turns, below a heading.

@@ -2,7 +2,7 @@
 use crate::grammar::Slot;
 use crate::misfit::{BAD_LINE, BAD_NEXT, BAD_SET, number_cause};
 use crate::scene::{Scene, Word, is_blank};
-use crate::sentence::{Hint, Sentence, tell, typed};
+use crate::sentence::{Hint, tell, typed};
 use crate::spelling::is_word;
 use crib_input::Cause;
 use crib_plan::LETTERS;
@@ -61,34 +61,17 @@ pub(crate) fn branch_with(line: &[u8], words: usize, letter: u8) -> Option<Word<
 fn fault_beside(scene: &Scene<'_>, branch: &Word<'_>) -> Hint {
     let mut same = None;
     for word in scene.text().split(is_blank).take(branch.index).skip(2) {
-        let old = Word::of(word);
+        let (old, typed) = (Word::of(word), typed(word));
         if index_of(old.letters().first()) > index_of(branch.letters().first()) {
-            let old = typed(word);
             return tell(format_args!(
-                "it belongs before {old}: branches are sorted by their first letters"
+                "it belongs before {typed}: branches are sorted by their first letters"
             ));
         }
-        same = same.or(same_node(&old, branch));
-    }
-    same
-}
-
-fn same_node(old: &Word<'_>, branch: &Word<'_>) -> Hint {
-    let target = branch.target().bytes;
-    let node = read_number(target)?;
-    if old.target().bytes != target {
-        return None;
-    }
-    let mut both = Sentence::of("");
-    for letter in &LETTERS {
-        if old.letters().contains(letter) || branch.letters().contains(letter) {
-            both.add(char::from(*letter));
+        if old.target().bytes == branch.target().bytes {
+            same = tell(format_args!("{typed} leads to the same node; write both as one branch"));
         }
     }
-    let old = typed(old.bytes);
-    tell(format_args!(
-        "the branch {old} leads to the same node; write both as one branch, \"{both}:{node}\""
-    ))
+    same
 }
 
 // Returns the index of a letter in their order.
@@ -100,10 +83,10 @@ fn index_of(letter: Option<&u8>) -> Option<usize> {
 fn letter_hint(branch: &Word<'_>, letter: u8) -> &'static str {
     let letters = branch.letters();
     let target = branch.target().bytes;
-    if read_number(letters).is_some() && read_number(target).is_none() && are_letters(target) {
-        return "write the letters in front of the colon, and the node behind it";
-    }
+    let is_turned = read_number(letters).is_some() && read_number(target).is_none();
     match letter {
+        _ if is_turned && are_letters(target) =>
+            "write the letters in front of the colon, and the node behind it",
         b'G' => "a go is a small g alone",
         b'o' | b'O' if is_word(letters, b"go") => "a go is a small g alone",
         b'0' | b'1' => "a ten is T, and an ace A",

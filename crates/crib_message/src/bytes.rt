@@ -21,8 +21,7 @@ pub(crate) fn bad_byte(scene: &Scene<'_>) -> Option<Explained> {
     let bytes = rest.get(..len).unwrap_or(rest);
     let file = file_hint(scene);
     let found = match (file, rest) {
-        (None, [b'\r']) => Sentence::of("a Windows line end (CR)"),
-        (None, [b'\r', ..]) => Sentence::of("a carriage return (CR)"),
+        (None, [b'\r', ..]) => Sentence::of("a line end of Windows or old Macs (CR)"),
         (None, [b'\t', ..]) => Sentence::of("a tab"),
         _ => typed(bytes),
     };

@@ -15,9 +15,6 @@ use crib_problem::ProblemCause;
 use crib_text::{TextCause, read_number};
 use std::fmt::Display;
 
-const NO_END: &str =
-    ": a see line names no end; leave this branch out, since a letter in no branch leads to the end";
-
 /// The sentence of a refusal, and the stretch of its line that is meant.
 #[derive(Clone, Copy)]
 pub(crate) struct Explained {
@@ -61,12 +58,11 @@ fn cut_short(scene: &Scene<'_>) -> Explained {
     }
     let hint = match scene.row {
         _ if scene.input.is_empty() => tell("The input is empty."),
-        Row::Act | Row::Node => count_hint(scene),
         Row::Played => tell(NEEDS_PLAYED),
         Row::Plan | Row::Game | Row::Turns => sections_hint(scene.sections),
-        _ => None,
+        _ => count_hint(scene),
     };
-    let pattern = scene.pattern();
+    let pattern = scene.row.pattern();
     let text = format_args!("the input ends here; expected: {pattern}");
     said(text, None, hint)
 }
@@ -74,16 +70,15 @@ fn cut_short(scene: &Scene<'_>) -> Explained {
 // Explains a line behind the last section, or one with a word that does not fit or with too few words.
 fn bad_line(scene: &Scene<'_>, cause: Cause) -> Option<Explained> {
     let first = Word::of(scene.word(0));
-    let pattern = scene.pattern();
+    let pattern = scene.row.pattern();
     let is_behind = cause == Cause::Text(TextCause::Trailing);
-    if scene.text().is_empty() || (is_behind && first.bytes.is_empty()) {
-        let text = format_args!("an empty line is {cause}; expected: {pattern}");
-        return Some(said(text, None, tell("Remove the empty line.")));
-    }
-    if is_behind {
-        let typed = typed(first.bytes);
-        let text = format_args!("{typed} is {cause}; expected: {pattern}");
-        return Some(said(text, first.mark(), order_hint(scene)));
+    if scene.text().is_empty() || is_behind {
+        let (found, hint) = match first.bytes {
+            [] => (Sentence::of("an empty line"), tell("Remove it.")),
+            word => (typed(word), order_hint(scene)),
+        };
+        let text = format_args!("{found} is {cause}; expected: {pattern}");
+        return Some(said(text, first.mark(), hint));
     }
     let Some((found, from)) = blank(scene) else {
         return bad_word(scene, cause);
@@ -171,25 +166,23 @@ fn words_at(scene: &Scene<'_>, slot: Slot, cause: Cause) -> &'static str {
             "the end of the line, since a play node has a card and one later node or end",
         Slot::Points if !is_form => "a number from 0 to 120",
         Slot::Count if !is_form => "a number from 0 to 32",
-        _ => scene.pattern(),
+        _ => scene.row.pattern(),
     }
 }
 
 // Returns why a target isn't a later node, and the hint for it.
 fn not_later(scene: &Scene<'_>, target: &[u8]) -> (Sentence, Hint) {
-    let own = scene.node();
-    let count = scene.node_count();
-    let nodes = match count {
-        1 => "node, number 0",
-        _ => "nodes, numbered from 0",
-    };
+    let (own, count) = (scene.node(), scene.node_count());
+    let last = count.saturating_sub(1);
     let why = match read_number(target) {
-        None => return (Sentence::of(NO_END), None),
+        None => Sentence::of(
+            ": a see line names no end; leave this branch out, since a letter in no branch leads to the end",
+        ),
         Some(number) if number < count => Sentence::of(format_args!(
             ": this is the line of node {own}, and a target has a greater number"
         )),
         Some(number) => Sentence::of(format_args!(
-            ": node {number} isn't there, since the plan has {count} {nodes}"
+            ": node {number} isn't there, since the last one is node {last}"
         )),
     };
     (why, count_hint(scene))

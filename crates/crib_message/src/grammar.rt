@@ -117,7 +117,7 @@ impl Row {
 
     /// Returns the keyword of a line that begins with one.
     pub(crate) fn keyword(self) -> &'static str {
-        self.pattern(false).split(' ').next().unwrap_or("")
+        self.pattern().split(' ').next().unwrap_or("")
     }
 
     /// Returns the line with this keyword.
@@ -126,8 +126,8 @@ impl Row {
         rows.find(|row| row.keyword().as_bytes() == word)
     }
 
-    /// Returns what the line may be. Only a problem of version 2 has the goal `stop`.
-    pub(crate) fn pattern(self, second: bool) -> &'static str {
+    /// Returns what the line may be.
+    pub(crate) fn pattern(self) -> &'static str {
         match self {
             Problem => "problem 1 or problem 2",
             Dealer => "dealer owner or dealer opponent",
@@ -135,8 +135,7 @@ impl Row {
             Starter => "starter and a card",
             Hold => "hold and four cards",
             Throw => "throw and two cards",
-            Goal if second => "goal win, goal holes N or goal stop",
-            Goal => "goal win or goal holes N",
+            Goal => "goal win, goal holes N or, in a problem 2, goal stop",
             Played => "played and the number of turns that follow",
             Plan => "plan 1",
             Nodes => "nodes and the number of nodes that follow",

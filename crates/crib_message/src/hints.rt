@@ -2,10 +2,12 @@
 use crate::branches::are_letters;
 use crate::cards::{TWO_LETTERS, card_hint, card_meant, is_like_card, suitless};
 use crate::grammar::{Row, Slot};
-use crate::misfit::{BAD_LINE, Misfit};
-use crate::order::{COMMENT, is_act, is_comment, is_node, order_hint};
+use crate::misfit::{BAD_LINE, Misfit, refusal};
+use crate::order::{
+    COMMENT, announcing_hint, is_act, is_comment, is_heading, is_known, is_node, order_hint,
+};
 use crate::scene::{Scene, Word, is_blank, text_at};
-use crate::sentence::{Hint, tell};
+use crate::sentence::{Hint, tell, typed};
 use crate::spelling::{bare, is_either, is_word, number_hint, two_numbers_hint, word_hint};
 use crib_cards::read_card;
 use crib_input::Cause;
@@ -13,14 +15,7 @@ use crib_text::read_number;
 
 const ACT_A_LINE: &str = "Write each act on a line of its own.";
 
-const SIDES: &str = "The owner is the player whose plan it is, and the opponent is the other one.";
-
 const ONE_CARD: &str = "Write the rank and the suit of a card together.";
-
-// What people call the two sides.
-const NAMES: &str =
-    "owner opponent own opp me i us we my mine self myself you your they them their he him she her it \
-    other pone dealer player computer cpu a b";
 
 // What people write for a go.
 const GOES: &str = "go g0 g goes says say pass gos no";
@@ -28,14 +23,18 @@ const GOES: &str = "go g0 g goes says say pass gos no";
 /// Returns the hint for a misfit of a line that is refused for a cause.
 pub(crate) fn hint_of(scene: &Scene<'_>, misfit: &Misfit<'_>, cause: Cause) -> Hint {
     let word = misfit.word.bytes;
-    match misfit.slot {
+    let hint = match misfit.slot {
+        Slot::Count if is_either(word, b"own", b"opp") || is_like_card(word) => tell(ACT_A_LINE),
+        Slot::Count | Slot::Many if read_number(word).is_none() => announcing_hint(scene),
         _ if word.is_empty() => cards_hint(scene),
-        Slot::Extra => extra_hint(scene, word),
+        Slot::Extra => extra_hint(scene, &misfit.word),
         Slot::Keyword => keyword_hint(scene, word),
         Slot::Side if scene.word_count() > 2 => None,
-        Slot::Side => word_hint(word, &["owner", "opponent"]).or(tell(SIDES)),
-        Slot::Aim => aim_hint(word),
-        Slot::Kind => word_hint(word, &["play", "see"]),
+        Slot::Side => word_hint(word, &["owner", "opponent"]).or(tell(
+            "The owner is the player whose plan it is, and the opponent is the other one.",
+        )),
+        Slot::Aim => aim_hint(scene, word),
+        Slot::Kind => word_hint(word, &["play", "see"]).or(kind_hint(scene, word)),
         Slot::Actor => actor_hint(scene, word),
         Slot::Card if cause != BAD_LINE => card_hint(word),
         Slot::Card => match bare(word) {
@@ -52,7 +51,22 @@ pub(crate) fn hint_of(scene: &Scene<'_>, misfit: &Misfit<'_>, cause: Cause) -> H
             _ => number_hint(word),
         }),
         slot => figure_hint(scene, slot, word, cause == BAD_LINE),
-    }
+    };
+    hint.or(spare_hint(scene, misfit))
+}
+
+// A word too many, if the next one would fit in its place.
+fn spare_hint(scene: &Scene<'_>, misfit: &Misfit<'_>) -> Hint {
+    let last = scene.slot(scene.word_count().saturating_sub(1));
+    let next = misfit.word.index.saturating_add(1);
+    let is_spare = matches!(last, Slot::Extra) && fits_at(scene, misfit.slot, next);
+    tell("Leave this out.").filter(|_| is_spare)
+}
+
+// Whether the word with an index fits a slot.
+fn fits_at(scene: &Scene<'_>, slot: Slot, index: usize) -> bool {
+    let (bytes, from) = (scene.word(index), 0);
+    refusal(scene, slot, &Word { bytes, index, from }).is_none()
 }
 
 // A number, or a word in the place of one.
@@ -67,8 +81,11 @@ fn figure_hint(scene: &Scene<'_>, slot: Slot, word: &[u8], is_form: bool) -> Hin
 }
 
 // A word behind the last one of its line.
-fn extra_hint(scene: &Scene<'_>, word: &[u8]) -> Hint {
-    if let Some(row) = Row::of_keyword(word) {
+fn extra_hint(scene: &Scene<'_>, misfit: &Word<'_>) -> Hint {
+    let (word, next) = (misfit.bytes, misfit.index.saturating_add(1));
+    if let Some(row) = Row::of_keyword(word)
+        && fits_at(scene, row.slot(scene.word(next), 1), next)
+    {
         let keyword = row.keyword();
         return tell(format_args!("Begin a new line at the word {keyword}."));
     }
@@ -76,7 +93,10 @@ fn extra_hint(scene: &Scene<'_>, word: &[u8]) -> Hint {
         _ if is_either(word, b"own", b"opp") => ACT_A_LINE,
         _ if is_comment(word) => COMMENT,
         Row::Goal if read_number(word).is_some() => "Only goal holes has a number behind it.",
-        _ => return cards_hint(scene),
+        Row::Goal if is_either(word, b"or", b"and") => "A problem has one goal.",
+        Row::Act => "An act ends with its card, or with go.",
+        _ if read_number(word).is_none() => return cards_hint(scene).or(tell("Leave this out.")),
+        _ => return None,
     })
 }
 
@@ -101,15 +121,29 @@ fn cards_hint(scene: &Scene<'_>) -> Hint {
 fn keyword_hint(scene: &Scene<'_>, word: &[u8]) -> Hint {
     let keyword = scene.row.keyword();
     let begin = match scene.word(1) == keyword.as_bytes() {
+        _ if is_heading(scene) => return tell("Remove this line: what is expected is below."),
         true if word == b">".as_slice() => tell("Remove the mark > in front of each line."),
         true => tell(format_args!("Begin this line with the word {keyword}.")),
-        false => order_hint(scene),
+        _ if is_known(scene) || !fits_at(scene, scene.slot(1), 1) => order_hint(scene),
+        _ if scene.row == Row::Dealer => tell("This line says who deals."),
+        _ => tell(format_args!("Write {keyword} in place of {}.", typed(word))),
     };
     word_hint(word, &[keyword]).or(begin)
 }
 
-fn aim_hint(word: &[u8]) -> Hint {
-    tell(match read_number(bare(word)) {
+// The word behind the number of a node, if a card or a branch is there or behind it.
+fn kind_hint(scene: &Scene<'_>, word: &[u8]) -> Hint {
+    let next = scene.word(2);
+    tell(match word.contains(&b':') || next.contains(&b':') {
+        true => "Write see in front of branches.",
+        false if is_like_card(word) || is_like_card(next) => "Write play in front of a card.",
+        false => return None,
+    })
+}
+
+fn aim_hint(scene: &Scene<'_>, word: &[u8]) -> Hint {
+    let number = read_number(bare(word)).or(read_number(scene.word(2)));
+    tell(match number {
         Some(121) => "Write goal win to be at hole 121 first.",
         Some(number @ 1..) => return tell(format_args!("Write goal holes {number}.")),
         None if word == b"stop".as_slice() =>
@@ -117,12 +151,6 @@ fn aim_hint(word: &[u8]) -> Hint {
         None if word != b"holes".as_slice() => return word_hint(word, &["win", "holes", "stop"]),
         _ => "Write goal holes and the number of holes.",
     })
-}
-
-// Whether a word is one of these, with signs around it or not.
-fn is_among(word: &[u8], words: &str) -> bool {
-    let mut choices = words.split(' ');
-    choices.any(|choice| is_word(bare(word), choice.as_bytes()))
 }
 
 fn actor_hint(scene: &Scene<'_>, word: &[u8]) -> Hint {
@@ -134,10 +162,10 @@ fn actor_hint(scene: &Scene<'_>, word: &[u8]) -> Hint {
         _ if is_word(word, b"go") || read_card(word).is_some() =>
             "Write whose act it is in front: own or opp.",
         _ if near.is_some() => return near,
-        _ if is_among(word, NAMES) =>
-            "An act begins with own for the owner, or with opp for the opponent.",
         _ if is_node(scene.text()) => "Nodes stand in a plan, and a game has acts: own 2C.",
-        _ => return order_hint(scene),
+        _ => return order_hint(scene).or(tell(
+            "An act begins with own for the owner, or with opp for the opponent.",
+        )),
     })
 }
 
@@ -147,7 +175,8 @@ fn move_hint(scene: &Scene<'_>, misfit: &Misfit<'_>) -> Hint {
     let is_target = read_number(bytes).is_some() || bytes == b"end".as_slice();
     let next = scene.word(index.saturating_add(1));
     let is_stated = matches!(misfit.slot, Slot::Stated);
-    let is_go = is_among(bytes, GOES);
+    let mut goes = GOES.split(' ');
+    let is_go = goes.any(|go| is_word(bare(bytes), go.as_bytes()));
     tell(match (bytes, next) {
         _ if is_go && is_stated => "A plan states no go of the owner: leave this node out.",
         _ if is_go => "Write a go as go.",

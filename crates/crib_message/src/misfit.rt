@@ -53,8 +53,8 @@ pub(crate) fn first_misfit<'a>(scene: &Scene<'a>, cause: Cause) -> Option<Misfit
     Some(Misfit { slot, word })
 }
 
-// Returns why a word does not fit its slot, if it doesn't.
-fn refusal(scene: &Scene<'_>, slot: Slot, word: &Word<'_>) -> Option<Cause> {
+/// Returns why a word does not fit its slot, if it doesn't.
+pub(crate) fn refusal(scene: &Scene<'_>, slot: Slot, word: &Word<'_>) -> Option<Cause> {
     match slot {
         Slot::Branch => branch_cause(scene, word),
         Slot::Move if word.bytes == b"go".as_slice() => None,

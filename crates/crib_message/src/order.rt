@@ -1,4 +1,5 @@
 //! The order of lines and sections, and how many lines are announced.
+use crate::cards::is_like_card;
 use crate::grammar::Row;
 use crate::scene::{Scene, Section, count_at, is_line_feed, word_in};
 use crate::sentence::{Hint, tell};
@@ -35,8 +36,7 @@ pub(crate) fn count_hint(scene: &Scene<'_>) -> Hint {
     let (announcing, number) = lines.filter(|(line, _)| announces(line)).last()?;
     let row = Row::of_keyword(word_in(announcing, 0))?;
     let count = count_at(scene.input, number) as usize;
-    let above = scene.above().saturating_sub(number) as usize;
-    let found = above.saturating_add(items_from(scene, row));
+    let found = items_behind(scene.input, number, row);
     if count == found {
         return None;
     }
@@ -52,52 +52,68 @@ fn announces(line: &[u8]) -> bool {
     matches!(row, Some(Row::Played | Row::Nodes | Row::Acts | Row::Turns))
 }
 
-// Returns how many lines that a row announces follow each other from the refused line on.
-fn items_from(scene: &Scene<'_>, row: Row) -> usize {
-    let lines = scene.input.split(is_line_feed).skip(scene.above() as usize);
+/// Returns how to write a line that says how many lines follow.
+pub(crate) fn announcing_hint(scene: &Scene<'_>) -> Hint {
+    let keyword = scene.row.keyword();
+    let found = items_behind(scene.input, scene.number, scene.row);
+    tell(format_args!("Write {keyword} {found}."))
+}
+
+// Returns how many lines that a row announces follow each other behind a line.
+fn items_behind(input: &[u8], number: u32, row: Row) -> usize {
+    let lines = input.split(is_line_feed).skip(number as usize);
     match row {
         Row::Nodes => lines.take_while(|line| is_node(line)).count(),
         _ => lines.take_while(|line| is_act(line)).count(),
     }
 }
 
+/// Whether a line has a keyword, or looks like an act or a node.
+pub(crate) fn is_known(scene: &Scene<'_>) -> bool {
+    let line = scene.text();
+    Row::of_keyword(scene.word(0)).is_some() || is_act(line) || is_node(line)
+}
+
+/// Whether a line that has no keyword is above the first line of its section.
+pub(crate) fn is_heading(scene: &Scene<'_>) -> bool {
+    scene.spot.number == 1 && !is_known(scene) && is_below(scene)
+}
+
 /// Returns the hint for a line that is another one than was expected.
 pub(crate) fn order_hint(scene: &Scene<'_>) -> Hint {
     let line = scene.text();
     let row = Row::of_keyword(scene.word(0));
-    let is_item = is_act(line) || is_node(line);
-    let is_played = row == Some(Row::Played) && matches!(scene.spot.section, Section::Problem);
     match (scene.row, row) {
         _ if is_comment(line) => tell(COMMENT),
         (Row::Act | Row::Node, row) => row.and(count_hint(scene)),
         _ if scene.spot.number == 1 => header_hint(scene, row),
-        _ if scene.row == Row::Played || is_played => tell(NEEDS_PLAYED),
-        _ if is_item || row.is_some() => missing_or_moved(scene),
+        (Row::Played, _) => tell(NEEDS_PLAYED),
+        _ if is_known(scene) => missing_or_moved(scene),
         _ => None,
     }
 }
 
 // A line in place of the first line of a section, or behind the last section.
 fn header_hint(scene: &Scene<'_>, row: Option<Row>) -> Hint {
-    let is_verdict = is_either(scene.word(0), b"fails", b"holds");
     let is_opening = row == Some(Row::Played) || is_act(scene.text());
     let is_none = scene.word(0) == b"none".as_slice() && scene.row != Row::End;
     let text = match (scene.row, row) {
         _ if is_none => "Where no plan is sure, solve writes none, and there is no plan to read.",
-        (Row::Problem, Some(Row::Plan | Row::Game | Row::Turns)) => "The problem comes first.",
-        (Row::Problem, None) if is_verdict => "The problem comes first.",
-        (Row::Problem, row) => return row.and(order_of(Section::Problem)),
+        (Row::Problem, None) if scene.word(0).contains(&b',') =>
+            "The command cribplan-many --rows reads tables.",
+        (Row::Problem, None | Some(Row::Plan | Row::Game | Row::Turns)) =>
+            "The problem comes first.",
+        (Row::Problem, _) | (Row::Plan, Some(Row::Nodes)) => return order_of(scene.spot.section),
+        (Row::Game, Some(Row::Hold | Row::Throw | Row::Acts)) => return order_of(Section::Game),
         (_, Some(Row::Problem)) => "An input has one problem.",
         (_, Some(Row::Plan | Row::Game | Row::Turns)) => return sections_hint(scene.sections),
-        (Row::Game, None) if is_verdict =>
-            "Leave out this line of an answer: a game begins with game 1.",
-        (Row::Plan, Some(Row::Nodes)) => return order_of(Section::Plan),
-        (Row::Game, Some(Row::Hold | Row::Throw | Row::Acts)) => return order_of(Section::Game),
         (Row::Turns, _) if is_opening || row == Some(Row::Acts) =>
             "Turns begin with the line turns N; without any it is turns 0.",
         _ if is_opening && !scene.is_second() =>
             "Turns that were played already need problem 2 on line 1.",
-        _ => return count_hint(scene),
+        (Row::End, None) if !is_like_card(scene.word(1)) && !is_like_card(scene.word(2)) =>
+            "Leave this line out.",
+        _ => return count_hint(scene).or(sections_hint(scene.sections)),
     };
     count_hint(scene).or(tell(text))
 }
@@ -116,13 +132,18 @@ pub(crate) fn sections_hint(sections: Sections) -> Hint {
 // Returns that the expected line is missing, or in which order the lines of the section are if it is later.
 fn missing_or_moved(scene: &Scene<'_>) -> Hint {
     let keyword = scene.row.keyword();
-    let lines = scene.input.split(is_line_feed).skip(scene.above() as usize);
-    let words = lines.map(|line| word_in(line, 0));
-    let mut others = words.take_while(|word| !is_either(word, b"plan", b"game"));
-    match others.any(|word| word == keyword.as_bytes()) {
+    match is_below(scene) {
         true => order_of(scene.spot.section),
         false => tell(format_args!("The line {keyword} is missing.")),
     }
+}
+
+// Whether the expected line is below, with no plan or game before it.
+fn is_below(scene: &Scene<'_>) -> bool {
+    let keyword = scene.row.keyword().as_bytes();
+    let lines = scene.input.split(is_line_feed).skip(scene.number as usize);
+    let mut words = lines.map(|line| word_in(line, 0));
+    words.find(|word| *word == keyword || is_either(word, b"plan", b"game")) == Some(keyword)
 }
 
 fn order_of(section: Section) -> Hint {
@@ -131,6 +152,6 @@ fn order_of(section: Section) -> Hint {
         Section::Game =>
             "A game begins with the lines game 1, hold, throw and acts, in this order.",
         _ =>
-            "The lines of a problem are problem, dealer, score, starter, hold, throw and goal, in this order.",
+            "The order is problem, dealer, score, starter, hold, throw, goal and, in a problem 2, played.",
     })
 }

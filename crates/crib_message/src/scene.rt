@@ -232,19 +232,9 @@ impl<'a> Scene<'a> {
         self.row.slot(self.word(1), index)
     }
 
-    /// Returns what may be here.
-    pub(crate) fn pattern(&self) -> &'static str {
-        self.row.pattern(self.is_second())
-    }
-
     /// Whether the input begins with a problem of version 2.
     pub(crate) fn is_second(&self) -> bool {
         Problem.first_lines(self.input) > 7
-    }
-
-    /// Returns the number of lines above.
-    pub(crate) fn above(&self) -> u32 {
-        self.number.saturating_sub(1)
     }
 
     /// Returns the number of lines before the section.

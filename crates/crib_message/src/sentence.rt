@@ -115,18 +115,10 @@ impl Held {
     }
 }
 
-/// Returns a side, as `the owner` or `the opponent`.
-pub(crate) fn the(side: Side) -> &'static str {
+/// Returns a side in words, and its go as a line of a game, in double quotes.
+pub(crate) fn side_and_go(side: Side) -> (&'static str, &'static str) {
     match side {
-        Side::Owner => "the owner",
-        Side::Opponent => "the opponent",
-    }
-}
-
-/// Returns the go of a side, as a line of a game, in double quotes.
-pub(crate) fn go_of(side: Side) -> &'static str {
-    match side {
-        Side::Owner => "\"own go\"",
-        Side::Opponent => "\"opp go\"",
+        Side::Owner => ("the owner", "\"own go\""),
+        Side::Opponent => ("the opponent", "\"opp go\""),
     }
 }

@@ -12,7 +12,6 @@ fn choice_hint(word: &[u8], choice: &str) -> Hint {
     let hint = match word {
         _ if word == wanted => return None,
         _ if is_word(word, wanted) => "Write small letters: ",
-        _ if is_with_zeros(word, wanted) => "Write the letter o, not a zero: ",
         _ if is_word(bare(word), wanted) => "Write no other sign at the word ",
         _ if matches!(word.strip_prefix(wanted), Some([next, ..]) if !next.is_ascii_lowercase()) =>
             "Write a blank behind the word ",
@@ -30,12 +29,6 @@ pub(crate) fn is_word(word: &[u8], wanted: &[u8]) -> bool {
 /// Whether a word is one of two.
 pub(crate) fn is_either(word: &[u8], first: &[u8], second: &[u8]) -> bool {
     word == first || word == second
-}
-
-fn is_with_zeros(word: &[u8], wanted: &[u8]) -> bool {
-    let mut letters = word.iter().zip(wanted);
-    word.len() == wanted.len()
-        && letters.all(|pair| pair == (&b'0', &b'o') || pair.0.eq_ignore_ascii_case(pair.1))
 }
 
 /// Returns a word without the signs around it that are neither letters nor digits.
@@ -87,8 +80,5 @@ pub(crate) fn two_numbers_hint(word: &[u8]) -> Hint {
     if sign.is_ascii_alphanumeric() || !word.split(|byte| byte == sign).all(are_digits) {
         return None;
     }
-    tell(match *sign {
-        b'.' => "Write whole numbers, with a blank between two.",
-        _ => "Write a blank between two numbers.",
-    })
+    tell("Write whole numbers, with a blank between two.")
 }

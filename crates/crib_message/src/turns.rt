@@ -1,8 +1,7 @@
 //! Why an act may not be the next one, in an opening, in a game, or in the turns since.
 use crate::explained::Explained;
-use crate::grammar::Row;
 use crate::scene::{Mark, Scene, text_at};
-use crate::sentence::{Held, Sentence, go_of, moved, named, the, typed};
+use crate::sentence::{Held, Sentence, moved, named, side_and_go, typed};
 use crate::state::State;
 use crate::strays::add_stray;
 use crib_cards::{Card, GAME_HOLE, Move, Scores, Side};
@@ -11,13 +10,11 @@ use crib_input::Cause;
 use crib_input::Cause::{Game, Problem};
 use crib_problem::ProblemCause as Rule;
 
-const ALL_TURNS: &str = "a game begins with all turns of the opening, and here ";
-
 /// Returns the explanation of a turn, or of a line of a game, that is refused for a cause.
 pub(crate) fn explain_turn(scene: &Scene<'_>, cause: Cause) -> Option<Explained> {
     let is_over = cause == Problem(Rule::AlreadyOver);
     let state = State::before(scene, u32::from(is_over))?;
-    let (side, moved) = (the(state.act.side), moved(&state.act.what));
+    let ((side, _), moved) = (side_and_go(state.act.side), moved(&state.act.what));
     let mut sentence = match cause {
         Problem(Rule::NotTurn) => Sentence::of(format_args!("{side} is {cause}: ")),
         Problem(Rule::AlreadyOver) => Sentence::of(format_args!("{cause}: with {moved} ")),
@@ -27,7 +24,6 @@ pub(crate) fn explain_turn(scene: &Scene<'_>, cause: Cause) -> Option<Explained>
     add_reason(&mut sentence, &state, scene, cause)?;
     let mark = match cause {
         Game(Fault::AfterEnd(_)) => None,
-        Game(Fault::NotAsPlayed(_)) if scene.row == Row::Acts => None,
         Game(Fault::NotAsPlayed(_)) => Some(Mark::of(0, 6)),
         Game(Fault::NotUnseen(number @ 5..)) => Some(Mark::of(3 * usize::from(number) - 9, 2)),
         Game(Fault::NotUnseen(number)) => Some(Mark::of(3 * usize::from(number) + 2, 2)),
@@ -58,7 +54,13 @@ fn add_reason(to: &mut Sentence, state: &State, scene: &Scene<'_>, cause: Cause)
         (Problem(Rule::MustPlay | Rule::NoDeal) | Game(Fault::MustPlay(_)), _) => add_go(to, state),
         (Problem(Rule::AlreadyOver) | Game(Fault::AfterEnd(_)), _) => add_end(to, state, cause),
         (Game(Fault::NotUnseen(number)), _) => add_seen(to, state, number)?,
-        (Game(Fault::NotAsPlayed(number)), _) => add_as_played(to, scene, number),
+        (Game(Fault::NotAsPlayed(number)), _) => {
+            let line = u32::from(number).saturating_add(8);
+            let turn = typed(text_at(scene.input, line));
+            to.add(format_args!(
+                "a game begins with the turns of the opening, and the next one is {turn} (line {line})"
+            ));
+        }
         (Game(Fault::Strays(_)), what) => {
             add_stray(to, scene.input, state.acts.as_slice());
             to.add(format_args!(", and the owner plays {}", moved(&what)));
@@ -68,20 +70,9 @@ fn add_reason(to: &mut Sentence, state: &State, scene: &Scene<'_>, cause: Cause)
     Some(())
 }
 
-// Appends which turn of this number the opening has.
-fn add_as_played(to: &mut Sentence, scene: &Scene<'_>, number: u8) {
-    let line = u32::from(number).saturating_add(8);
-    let turn = typed(text_at(scene.input, line));
-    let (front, end) = match scene.row {
-        Row::Acts => (ALL_TURNS, "is missing"),
-        _ => ("the opening has ", "there"),
-    };
-    to.add(format_args!("{front}{turn} (line {line}) {end}"));
-}
-
 // Appends why it isn't the turn of the act's side.
 fn add_not_turn(to: &mut Sentence, state: &State) {
-    let side = the(state.act.side);
+    let (side, _) = side_and_go(state.act.side);
     let is_go = state.act.what == Move::Go;
     let is_idle = is_go && state.round.cards_left(state.act.side) == 0;
     let line = state.line_of(&Move::Go).unwrap_or(0);
@@ -94,8 +85,7 @@ fn add_not_turn(to: &mut Sentence, state: &State) {
         false => add_closed(to, state),
     }
     let other = state.act.side.other();
-    let mover = the(other);
-    let go = go_of(other);
+    let (mover, go) = side_and_go(other);
     let count = state.round.count();
     to.add(format_args!("it is {mover}'s turn, and the count is {count}"));
     match state.held(other) {
@@ -126,7 +116,7 @@ fn add_closed(to: &mut Sentence, state: &State) {
 // Appends which cards fit, instead of a go.
 fn add_go(to: &mut Sentence, state: &State) {
     add_closed(to, state);
-    let side = the(state.act.side);
+    let (side, _) = side_and_go(state.act.side);
     let count = state.round.count();
     to.add(format_args!("the count is {count}, so "));
     match 31u8.saturating_sub(count) {
@@ -146,8 +136,7 @@ fn add_too_high(to: &mut Sentence, state: &State, card: Card) {
     let count = state.round.count();
     let left = 31u8.saturating_sub(count);
     to.add(format_args!("{name} counts {value}, the count is {count}, and {left} is left to 31; "));
-    let side = the(state.act.side);
-    let go = go_of(state.act.side);
+    let (side, go) = side_and_go(state.act.side);
     match state.held(state.act.side) {
         Some(held) if held.fits => to.add(format_args!("{side} holds {}", held.text)),
         Some(_) => to.add(format_args!(
@@ -174,7 +163,7 @@ fn where_named(state: &State, card: Card) -> Option<(&'static str, u32)> {
 
 // Appends where a card is that the act's side doesn't hold, and what this side holds or whose turn it is.
 fn add_not_held(to: &mut Sentence, state: &State, card: Card) {
-    let side = the(state.act.side);
+    let (side, _) = side_and_go(state.act.side);
     let name = named(card);
     let is_held = state.dealt.is_some_and(|dealt| dealt.hold.contains(&card));
     let is_thrown = state.dealt.is_some_and(|dealt| dealt.throw.contains(&card));

@@ -12,18 +12,18 @@ const LINES: &str = r##"
 > problem 1 # x|
 "#" is not expected here; expected: problem 1 or problem 2. Comments are not allowed.
 > dealer owner|
-"dealer" is not expected here; expected: problem 1 or problem 2.
-The lines of a problem are problem, dealer, score, starter, hold, throw and goal, in this order.
+"dealer" is not expected here; expected: problem 1 or problem 2. The order is problem, dealer, score, starter, hold,
+throw, goal and, in a problem 2, played.
 > {"problem":1}|
-"{"problem":1}" is not expected here; expected: problem 1 or problem 2
+"{"problem":1}" is not expected here; expected: problem 1 or problem 2. The problem comes first.
 > problems 1|
 "problems" is not expected here; expected: problem 1 or problem 2. Did you mean problem?
 > problem 1|dealer the owner|
-"the" is not expected here; expected: dealer owner or dealer opponent
+"the" is not expected here; expected: dealer owner or dealer opponent. Leave this out.
 > problem 1|dealer=owner|
 "dealer=owner" is not expected here; expected: dealer owner or dealer opponent. Write a blank behind the word dealer.
 > problem 1|dealer 0wner|
-"0wner" is not expected here; expected: dealer owner or dealer opponent. Write the letter o, not a zero: owner.
+"0wner" is not expected here; expected: dealer owner or dealer opponent. Did you mean owner?
 > problem 1|dealer oponent|
 "oponent" is not expected here; expected: dealer owner or dealer opponent. Did you mean opponent?
 > problem 1|dealer pone|
@@ -36,7 +36,7 @@ the last line is cut short; expected: LF at its end. Every line ends with LF, th
 > problem 1|
 the input ends here; expected: dealer owner or dealer opponent
 > problem 1||dealer owner|
-an empty line is not expected here; expected: dealer owner or dealer opponent. Remove the empty line.
+an empty line is not expected here; expected: dealer owner or dealer opponent. Remove it.
 > # a problem|
 "#" is not expected here; expected: problem 1 or problem 2. Comments are not allowed.
 > problem  1|
@@ -59,6 +59,17 @@ The owner is the player whose plan it is, and the opponent is the other one.
 > problem 1|dealer Bob|
 "Bob" is not expected here; expected: dealer owner or dealer opponent.
 The owner is the player whose plan it is, and the opponent is the other one.
+> My hands|problem 1|dealer owner|
+"My" is not expected here; expected: problem 1 or problem 2. Remove this line: what is expected is below.
+> ```|problem 2|
+"```" is not expected here; expected: problem 1 or problem 2. Remove this line: what is expected is below.
+> dealer,own,opp,starter|
+"dealer,own,opp,starter" is not expected here; expected: problem 1 or problem 2. The command cribplan-many --rows
+reads tables.
+> problem 1|pone owner|
+"pone" is not expected here; expected: dealer owner or dealer opponent. This line says who deals.
+> problem 1|dealer is owner|
+"is" is not expected here; expected: dealer owner or dealer opponent. Leave this out.
 # problem 1|dealer owner|
 > scores 0 0|
 "scores" is not expected here; expected: score and two numbers from 0 to 120, the owner's and the opponent's.
@@ -67,14 +78,15 @@ Did you mean score?
 "zero" is not a valid number here; expected: a number from 0 to 120. Write a number in digits alone.
 > score 109:110|
 "109:110" is not expected here; expected: score and two numbers from 0 to 120, the owner's and the opponent's.
-Write a blank between two numbers.
+Write whole numbers, with a blank between two.
 > score 109 - 110|
-"-" is not expected here; expected: score and two numbers from 0 to 120, the owner's and the opponent's
+"-" is not expected here; expected: score and two numbers from 0 to 120, the owner's and the opponent's.
+Leave this out.
 > score -5 0|
 "-5" is not a valid number here; expected: a number from 0 to 120. Write a number without a sign.
 > score 109-110|
 "109-110" is not expected here; expected: score and two numbers from 0 to 120, the owner's and the opponent's.
-Write a blank between two numbers.
+Write whole numbers, with a blank between two.
 > score 121 0|
 "121" is above 120; expected: a number from 0 to 120. The game is over at 121.
 > score 0 130|
@@ -105,6 +117,16 @@ Write whole numbers, with a blank between two.
 > score 1o9|
 "1o9" is not expected here; expected: score and two numbers from 0 to 120, the owner's and the opponent's.
 Write 0 and 1 as digits, not as letters.
+> pegs 0 0|
+"pegs" is not expected here; expected: score and two numbers from 0 to 120, the owner's and the opponent's.
+Write score in place of "pegs".
+> score me 0 you 0|
+"me" is not expected here; expected: score and two numbers from 0 to 120, the owner's and the opponent's.
+Leave this out.
+> score 0 0|cut KD|
+"cut" is not expected here; expected: starter and a card. Write starter in place of "cut".
+> score 0 0|starter BD|
+"BD" is not a card. Write a jack, a queen and a king as J, Q and K: JD.
 # problem 1|dealer owner|score 0 0|
 > starter King of Diamonds|
 "King" is not expected here; expected: starter and a card. Write a card as two letters, its rank and its suit: TS.
@@ -121,7 +143,7 @@ Write 0 and 1 as digits, not as letters.
 > starter S|
 "S" is not a card. Write the rank in front of the suit, as in TS.
 > upcard KD|
-"upcard" is not expected here; expected: starter and a card
+"upcard" is not expected here; expected: starter and a card. Write starter in place of "upcard".
 > starter 10D|
 "10D" is not a card. Write ten as T: TD.
 > starter kd|
@@ -138,15 +160,15 @@ the end of the line is not expected here; expected: starter and a card. The numb
 "hold" is not expected here; expected: starter and a card. The line starter is missing.
 > hold 2C 3C 4C 5C|starter KD|
 "hold" is not expected here; expected: starter and a card.
-The lines of a problem are problem, dealer, score, starter, hold, throw and goal, in this order.
+The order is problem, dealer, score, starter, hold, throw, goal and, in a problem 2, played.
 > starter = KD|
-"=" is not expected here; expected: starter and a card
+"=" is not expected here; expected: starter and a card. Leave this out.
 "##;
 
 // Slips that are bytes which no line has.
 const BYTES: &str = "
 > problem 1\r|dealer owner\r|
-a Windows line end (CR) is neither LF nor 32 to 126. A line ends with LF alone: save the file with Unix line ends.
+a line end of Windows or old Macs (CR) is neither LF nor 32 to 126. A line ends with LF alone: save the file with Unix line ends.
 > problem\t1|
 a tab is neither LF nor 32 to 126. Write a blank in place of the tab.
 > \u{feff}problem 1|
@@ -164,7 +186,7 @@ a tab is neither LF nor 32 to 126. Write a blank in place of the tab.
 > probl\u{e9}m 1|
 \"\\xc3\\xa9\" is neither LF nor 32 to 126. Write plain ASCII letters, digits and signs.
 > problem 1\rdealer owner\r
-a carriage return (CR) is neither LF nor 32 to 126. A line ends with LF alone: save the file with Unix line ends.
+a line end of Windows or old Macs (CR) is neither LF nor 32 to 126. A line ends with LF alone: save the file with Unix line ends.
 > problem 1|dealer\u{b}owner|
 \"\\x0b\" is neither LF nor 32 to 126. Remove this control character.
 # problem 1|dealer owner|score 0 0|

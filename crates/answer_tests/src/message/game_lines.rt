@@ -17,7 +17,7 @@ the input ends here; expected: game 1. This command reads a problem and then a g
 > game 1|hold 7C 8C 9C TC|throw 7D|
 the end of the line is not expected here; expected: throw and two cards. The number of cards here is 1.
 > fails stuck|game 1|
-"fails" is not expected here; expected: game 1. Leave out this line of an answer: a game begins with game 1.
+"fails" is not expected here; expected: game 1. Remove this line: what is expected is below.
 + game 1|hold 7C 8C 9C TC|throw 7D 8D|
 > acts 2|own 2C|opp pass|
 "pass" is not a card. Write a go as go.
@@ -33,23 +33,23 @@ An act begins with own for the owner, or with opp for the opponent.
 > acts 2|1 own 2C|
 "1" is not expected here; expected: own or opp, and then a card or go. Write no number in front of an act.
 > acts 2|own 2C 2|
-"2" is not expected here; expected: own or opp, and then a card or go
+"2" is not expected here; expected: own or opp, and then a card or go. An act ends with its card, or with go.
 > acts 2|own: 2C|
 "own:" is not expected here; expected: own or opp, and then a card or go. Write no other sign at the word own.
 > acts 2|go|
 "go" is not expected here; expected: own or opp, and then a card or go. Write whose act it is in front: own or opp.
 > acts 2|own 2C||opp 7C|
-an empty line is not expected here; expected: own or opp, and then a card or go. Remove the empty line.
+an empty line is not expected here; expected: own or opp, and then a card or go. Remove it.
 > acts 2|own plays 2C|
-"plays" is not expected here; expected: own or opp, and then a card or go
+"plays" is not expected here; expected: own or opp, and then a card or go. Leave this out.
 > acts 2|own 2C|opp 7C||
-an empty line is after the last section; expected: the end of the input. Remove the empty line.
+an empty line is after the last section; expected: the end of the input. Remove it.
 > acts 2|own 2C|opp 7C|reached|
-"reached" is after the last section; expected: the end of the input
+"reached" is after the last section; expected: the end of the input. Leave this line out.
 > acts 2|own 2C|opp 7C
 the last line is cut short; expected: LF at its end. Every line ends with LF, the last one too: press Enter behind it.
 > acts two|
-"two" is not a valid number here; expected: a number from 0 to 32. Write a number in digits alone.
+"two" is not a valid number here; expected: a number from 0 to 32. Write acts 0.
 > acts 1|own 2C|opp 7C|
 "opp" is after the last section; expected: the end of the input.
 Line 11 says acts 1, but the number of lines for it is 2.
@@ -72,6 +72,15 @@ Line 11 says acts 2, but the number of lines for it is 1.
 "11" is not a card. Write the suit behind the rank, as in JS.
 > acts 1|opp 10c|
 "10c" is not a card. Write ten as T: TC.
+> acts 1|own 2C 0|
+"0" is not expected here; expected: own or opp, and then a card or go. An act ends with its card, or with go.
+> acts 1|Ann 2C|
+"Ann" is not expected here; expected: own or opp, and then a card or go.
+An act begins with own for the owner, or with opp for the opponent.
+> acts|own 2C|
+the end of the line is not expected here; expected: acts and the number of acts that follow. Write acts 1.
+> moves 1|own 2C|
+"moves" is not expected here; expected: acts and the number of acts that follow. Write acts in place of "moves".
 > acts 1|own 2 C|
 "2" is not expected here; expected: own or opp, and then a card or go. Write the rank and the suit of a card together.
 > acts 1|own|
@@ -80,7 +89,7 @@ the end of the line is not expected here; expected: own or opp, and then a card 
 "you" is not expected here; expected: own or opp, and then a card or go.
 An act begins with own for the owner, or with opp for the opponent.
 > acts 1||
-an empty line is not expected here; expected: own or opp, and then a card or go. Remove the empty line.
+an empty line is not expected here; expected: own or opp, and then a card or go. Remove it.
 > acts 1|0 play 2C end|
 "0" is not expected here; expected: own or opp, and then a card or go.
 Nodes stand in a plan, and a game has acts: own 2C.

@@ -134,11 +134,13 @@ cribplan: line 14, line 7 of the game: act 3 comes after the end: the opponent r
   14 | own 9C
 # problem 2|dealer opponent|score 0 0|starter 3H|hold TC 9C 2C 8C|throw 4S 6S|goal win|
 > played 1|own TC|game 1|hold TD KD KH QS|throw 5H 7D|acts 0|
-cribplan: line 13, line 4 of the game: act 1 is not as it was played:
-a game begins with all turns of the opening, and here "own TC" (line 9) is missing
+cribplan: line 13, line 4 of the game: act 1 is not as it was played: a game begins with the turns of the opening,
+and the next one is "own TC" (line 9)
   13 | acts 0
+     | ^^^^^^
 > played 1|own TC|game 1|hold TD KD KH QS|throw 5H 7D|acts 1|own 9C|
-cribplan: line 14, line 5 of the game: act 1 is not as it was played: the opening has "own TC" (line 9) there
+cribplan: line 14, line 5 of the game: act 1 is not as it was played: a game begins with the turns of the opening,
+and the next one is "own TC" (line 9)
   14 | own 9C
      | ^^^^^^
 "#;

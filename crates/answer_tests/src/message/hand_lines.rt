@@ -7,7 +7,7 @@ const LINES: &str = r#"
 > hold TS 4D 9H JC.|
 "JC." is not a card. Write no other sign at a card: JC.
 > hand TS 4D 9H JC|
-"hand" is not expected here; expected: hold and four cards
+"hand" is not expected here; expected: hold and four cards. Write hold in place of "hand".
 > hold: TS 4D 9H JC|
 "hold:" is not expected here; expected: hold and four cards. Write no other sign at the word hold.
 > hold ts 4d 9h jc|
@@ -53,49 +53,64 @@ the end of the line is not expected here; expected: throw and two cards. The num
 "none" is not expected here; expected: hold and four cards. Write a card as two letters, its rank and its suit: TS.
 > my hold 2C 3C 4C 5C|
 "my" is not expected here; expected: hold and four cards. Begin this line with the word hold.
+> hold 2C 3C 4C 5C|discard 6C 6D|
+"discard" is not expected here; expected: throw and two cards. Write throw in place of "discard".
 # problem 1|dealer owner|score 60 0|starter KD|hold 2C 3C 4C 5C|throw 6C 6D|
 > goal holes five|
 "five" is not a valid number here; expected: 1 to 61, what is left from 60 to hole 121.
 Write a number in digits alone.
 > goal holes12|
-"holes12" is not expected here; expected: goal win or goal holes N. Write a blank behind the word holes.
+"holes12" is not expected here; expected: goal win, goal holes N or, in a problem 2, goal stop.
+Write a blank behind the word holes.
 > goal holes 12 x|
-"x" is not expected here; expected: goal win or goal holes N
+"x" is not expected here; expected: goal win, goal holes N or, in a problem 2, goal stop. Leave this out.
 > goal = win|
-"=" is not expected here; expected: goal win or goal holes N
+"=" is not expected here; expected: goal win, goal holes N or, in a problem 2, goal stop. Leave this out.
 > goal wins|
-"wins" is not expected here; expected: goal win or goal holes N. Did you mean win?
+"wins" is not expected here; expected: goal win, goal holes N or, in a problem 2, goal stop. Did you mean win?
 > goals win|
-"goals" is not expected here; expected: goal win or goal holes N. Did you mean goal?
+"goals" is not expected here; expected: goal win, goal holes N or, in a problem 2, goal stop. Did you mean goal?
 > goal win.|
-"win." is not expected here; expected: goal win or goal holes N. Write no other sign at the word win.
+"win." is not expected here; expected: goal win, goal holes N or, in a problem 2, goal stop.
+Write no other sign at the word win.
 >
-the input ends here; expected: goal win or goal holes N
+the input ends here; expected: goal win, goal holes N or, in a problem 2, goal stop
 > goal 121|
-"121" is not expected here; expected: goal win or goal holes N. Write goal win to be at hole 121 first.
+"121" is not expected here; expected: goal win, goal holes N or, in a problem 2, goal stop.
+Write goal win to be at hole 121 first.
 > goal 5|
-"5" is not expected here; expected: goal win or goal holes N. Write goal holes 5.
+"5" is not expected here; expected: goal win, goal holes N or, in a problem 2, goal stop. Write goal holes 5.
 > goal|
-the end of the line is not expected here; expected: goal win or goal holes N
+the end of the line is not expected here; expected: goal win, goal holes N or, in a problem 2, goal stop
 > goal holes|
-"holes" is not expected here; expected: goal win or goal holes N. Write goal holes and the number of holes.
+"holes" is not expected here; expected: goal win, goal holes N or, in a problem 2, goal stop.
+Write goal holes and the number of holes.
 > goal holes 0|
 "0" is out of range; expected: 1 to 61, what is left from 60 to hole 121
 > goal holes 62|
 "62" is out of range; expected: 1 to 61, what is left from 60 to hole 121
 > goal stop|
-"stop" is not expected here; expected: goal win or goal holes N.
+"stop" is not expected here; expected: goal win, goal holes N or, in a problem 2, goal stop.
 The goal stop needs problem 2 on line 1, and a line played 0 behind the goal.
 > goal 0|
-"0" is not expected here; expected: goal win or goal holes N. Write goal holes and the number of holes.
+"0" is not expected here; expected: goal win, goal holes N or, in a problem 2, goal stop.
+Write goal holes and the number of holes.
 > goal +12|
-"+12" is not expected here; expected: goal win or goal holes N. Write goal holes 12.
+"+12" is not expected here; expected: goal win, goal holes N or, in a problem 2, goal stop. Write goal holes 12.
+> goal win or stop|
+"or" is not expected here; expected: goal win, goal holes N or, in a problem 2, goal stop. A problem has one goal.
+> goal points 5|
+"points" is not expected here; expected: goal win, goal holes N or, in a problem 2, goal stop. Write goal holes 5.
+> goal win game|
+"game" is not expected here; expected: goal win, goal holes N or, in a problem 2, goal stop. Leave this out.
+> goal win|none|
+"none" is after the last section; expected: the end of the input. Leave this line out.
 # problem 1|dealer owner|score 60 0|starter KD|hold 2C 3C 4C 5C|throw 6C 6D|goal win|
 > played 0|
 "played" is after the last section; expected: the end of the input.
 Turns that were played already need problem 2 on line 1.
 > |
-an empty line is after the last section; expected: the end of the input. Remove the empty line.
+an empty line is after the last section; expected: the end of the input. Remove it.
 > plan 1|nodes 0|
 "plan" is after the last section; expected: the end of the input. This command reads a problem and nothing else.
 > own 2C|
@@ -115,17 +130,29 @@ Line 8 says played 2, but the number of lines for it is 1.
 Line 8 says played 1, but the number of lines for it is 2.
 > played 1 own 2C|
 "own" is not expected here; expected: played and the number of turns that follow. Write each act on a line of its own.
+> played|
+the end of the line is not expected here; expected: played and the number of turns that follow. Write played 0.
+> played none|opp 7C|
+"none" is not a valid number here; expected: a number from 0 to 32. Write played 1.
+> played opp 7C|
+"opp" is not expected here; expected: played and the number of turns that follow. Write each act on a line of its own.
 #
 > problem 2|dealer owner|score 0 0|starter KD|hold 2C 3C 4C 5C|throw 6C 6D|played 0|goal win|
-"played" is not expected here; expected: goal win, goal holes N or goal stop.
-In a problem 2 the line played follows the goal; at the first lead it is played 0.
+"played" is not expected here; expected: goal win, goal holes N or, in a problem 2, goal stop.
+The order is problem, dealer, score, starter, hold, throw, goal and, in a problem 2, played.
+> problem 2|dealer owner|score 0 0|starter KD|hold 2C 3C 4C 5C|throw 6C 6D|played 0|
+"played" is not expected here; expected: goal win, goal holes N or, in a problem 2, goal stop.
+The line goal is missing.
 # problem 2|dealer owner|score 0 0|starter KD|hold 2C 3C 4C 5C|throw 6C 6D|
 > goal stop 5|
-"5" is not expected here; expected: goal win, goal holes N or goal stop. Only goal holes has a number behind it.
+"5" is not expected here; expected: goal win, goal holes N or, in a problem 2, goal stop.
+Only goal holes has a number behind it.
 > goal win 12|
-"12" is not expected here; expected: goal win, goal holes N or goal stop. Only goal holes has a number behind it.
+"12" is not expected here; expected: goal win, goal holes N or, in a problem 2, goal stop.
+Only goal holes has a number behind it.
 > goal Stop|
-"Stop" is not expected here; expected: goal win, goal holes N or goal stop. Write small letters: stop.
+"Stop" is not expected here; expected: goal win, goal holes N or, in a problem 2, goal stop.
+Write small letters: stop.
 "#;
 
 #[test]

@@ -15,10 +15,9 @@ the end of the line is not expected here; expected: plan 1
 > none|
 "none" is not expected here; expected: plan 1. Where no plan is sure, solve writes none, and there is no plan to read.
 > |plan 1|
-an empty line is not expected here; expected: plan 1. Remove the empty line.
+an empty line is not expected here; expected: plan 1. Remove it.
 > plan 1|nodes one|
-"one" is not a valid number here; expected: nodes and the number of nodes that follow.
-Write a number in digits alone.
+"one" is not a valid number here; expected: nodes and the number of nodes that follow. Write nodes 0.
 > plan v1|
 "v1" is not a valid number here; expected: plan 1. Write a number in digits alone.
 >
@@ -40,7 +39,13 @@ A node begins with its number: 0 play 2C end.
 "node" is not expected here; expected: a node, such as 0 play 2C end or 0 see A2:1.
 A node begins with its number: 0 play 2C end.
 > plan 1|nodes 1|0 play the 2C end|
-"the" is not expected here; expected: a card, and then a later node or end
+"the" is not expected here; expected: a card, and then a later node or end. Leave this out.
+> Plan:|plan 1|nodes 0|
+"Plan:" is not expected here; expected: plan 1. Remove this line: what is expected is below.
+> plan 1|nodes|0 play 2C end|
+the end of the line is not expected here; expected: nodes and the number of nodes that follow. Write nodes 1.
+> plan 1|nodes 0|holds|
+"holds" is after the last section; expected: the end of the input. Leave this line out.
 + plan 1|nodes 2|
 > 1 play 2C end|
 "1" is not expected here; expected: 0, the number of this node. The first node has the number 0.
@@ -52,12 +57,18 @@ Write a blank between two branches, and no other sign.
 > 0 see A: 1|
 "A:" is not a valid number here; expected: the number of a later node behind the colon.
 Write no blank at the colon of a branch.
+> 0 look A:1|
+"look" is not expected here; expected: a node, such as 0 play 2C end or 0 see A2:1. Write see in front of branches.
+> 0 lead 2C 1|
+"lead" is not expected here; expected: a node, such as 0 play 2C end or 0 see A2:1. Write play in front of a card.
+> 0 2C 1|
+"2C" is not expected here; expected: a node, such as 0 play 2C end or 0 see A2:1. Write play in front of a card.
 > 0 play 2C|
 the end of the line is not expected here; expected: the number of a later node, or end
 > 0 play|
 the end of the line is not expected here; expected: a card, and then a later node or end
 > 0 play 2C -> 1|
-"->" is not expected here; expected: the number of a later node, or end
+"->" is not expected here; expected: the number of a later node, or end. Leave this out.
 > 0 play 2C 1 # ok|
 "#" is not expected here; expected: the end of the line, since a play node has a card and one later node or end.
 Comments are not allowed.

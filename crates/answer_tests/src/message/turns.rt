@@ -146,9 +146,9 @@ const LINES: &str = r#"
 > Turns 1|own TC|
 "Turns" is not expected here; expected: turns and the number of turns that follow. Write small letters: turns.
 > turns|
-the end of the line is not expected here; expected: turns and the number of turns that follow
+the end of the line is not expected here; expected: turns and the number of turns that follow. Write turns 0.
 > turns x|
-"x" is not a valid number here; expected: a number from 0 to 32. Write a number in digits alone.
+"x" is not a valid number here; expected: a number from 0 to 32. Write turns 0.
 > turns 33|
 "33" is not a valid number here; expected: a number from 0 to 32
 > turns 1 own TC|
@@ -171,12 +171,13 @@ then a plan and then turns.
 > problem 1|
 "problem" is not expected here; expected: turns and the number of turns that follow. An input has one problem.
 > nodes 0|
-"nodes" is not expected here; expected: turns and the number of turns that follow
+"nodes" is not expected here; expected: turns and the number of turns that follow.
+This command reads a problem, then a plan and then turns.
 > 4 play 2C end|turns 0|
 "4" is not expected here; expected: turns and the number of turns that follow. Line 9 says nodes 4,
 but the number of lines for it is 5.
 > turns 0||
-an empty line is after the last section; expected: the end of the input. Remove the empty line.
+an empty line is after the last section; expected: the end of the input. Remove it.
 > turns 0|own TC|
 "own" is after the last section; expected: the end of the input. Line 14 says turns 0,
 but the number of lines for it is 1.

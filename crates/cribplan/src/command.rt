@@ -41,8 +41,8 @@ An example:
 
 Manual: man cribplan. Guide, formats and examples: share/doc/cribplan, beside the bin that has the program",
         hint: "
-The command is check, solve, replay, board or follow. It is the only word, and --help the only option. The input is
-read from standard input, as in
+The command is check, solve, replay, board or follow. It is the only word, and --help the only option; for the version
+type cribplan-tidy --version. The input is read from standard input, as in
   cribplan solve < FILE
 ",
     }

@@ -42,7 +42,7 @@ An example:
 Manual: man cribsheet. Guide, formats and examples: share/doc/cribplan, beside the bin that has the program",
         hint: "
 The command is plan, game, beaten, try, refute, why, leads, next, scores or holes. It is the only word, and --help the
-only option. The input is read from standard input, as in
+only option; for the version type cribplan-tidy --version. The input is read from standard input, as in
   cribsheet plan < FILE
 ",
     }

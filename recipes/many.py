@@ -28,6 +28,7 @@ ANSWERS = re.compile(
     r"solve (0 plan 1|1 none)|try [01] plan 1|check (0 holds|1 fails .*)|replay 0 play .*|"
     r"beaten (0 beaten 0|1 beaten \d+) of .*|follow (0 reached|1 (open|stuck|lost|short))|\w+ 2 refused line .*"
 )
+DATE = r"(?i)\d[-. /](?:jan|feb|mar|apr|may|jun|jul|aug|sep|oct|nov|dec)|\d[-/.]\d\d?[-/.]\d\d"  # of a spreadsheet
 csv.field_size_limit(2**31 - 1)
 running: set[subprocess.Popen[str]] = set()
 keeping = threading.RLock()  # held while an answer is written; a second signal takes it once more
@@ -125,11 +126,9 @@ def row_of(file: str) -> list[str]:
 
 def said_of(answer: Answer) -> tuple[str, str]:
     """The columns `answer` and `detail`."""
-    first = answer.lines[0]
-    word, _, rest = first.partition(" ")
-    if word == "plan":
-        return "plan", answer.lines[1].partition(" ")[2]
-    return (first, answer.lines[-1]) if word == "play" else (word, rest or "-")
+    first, *others = answer.lines
+    word, _, rest = (others[0] if first == "plan 1" else first).partition(" ")
+    return (first, others[-1]) if word == "play" else (word.replace("nodes", "plan"), rest or "-")
 
 
 def decide_all(lanes: int, jobs: list[partial[list[str]]]) -> list[list[str]]:
@@ -204,6 +203,8 @@ def problem_of(cells: dict[str, str], row: str) -> str:
     for column in COLUMNS[:-1]:
         if not words[column]:
             return f"{column}: the cell is empty"
+        if re.search(DATE, cells[column]):
+            return f'{column}: "{cells[column]}" is a date; format the cells as text, and type this again'
         if column in COLUMNS[:4] and " " in words[column]:
             return f'{column}: "{words[column]}" is more than one word'
     played = re.sub(r"^(\d+|none|-)( |$)", "", words.get("played", ""))

@@ -6,9 +6,7 @@ export LC_ALL=C
 name=${0##*/}
 here=$(dirname "$(readlink -f "$0")")
 
-say() {
-    echo "$name: $1" >&2
-}
+say() { echo "$name: $1" >&2; }
 
 # print_usage: the command lines that the recipe knows, from the comment at its head.
 print_usage() {
@@ -44,16 +42,14 @@ keep_input() {
     fi
     [ $# -eq 0 ] || { say "\"$1\" isn't expected here. Type one of these:" && print_usage >&2 && exit 2; }
     head -c 8388609 >"$room/input" 2>/dev/null && return
-    say "the input can't be read"
-    echo "fault 9" >"$room/out"
+    say "the input can't be read"; echo "fault 9" >"$room/out"
     finish 3
 }
 
 # finish STATUS: prints what is kept in $room/out, and ends the recipe.
 finish() {
     cat "$room/out" 2>/dev/null && exit "$1"
-    say "the answer can't be written"
-    exit 3
+    say "the answer can't be written"; exit 3
 }
 
 # run_python FILE WORD..: runs the part of the recipe that is in Python, and ends the recipe with what it prints and its
@@ -67,10 +63,7 @@ run_python() {
 }
 
 # stop STATUS: ends the recipe for a signal. A second one, as of a key pressed twice, doesn't stop the tidying up.
-stop() {
-    trap '' HUP INT PIPE TERM
-    exit "$1"
-}
+stop() { trap '' HUP INT PIPE TERM && exit "$1"; }
 
 # The name is known before the folder is there, so that a signal leaves nothing.
 room=${TMPDIR:-/tmp}/$name.$$.$RANDOM

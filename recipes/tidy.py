@@ -11,7 +11,7 @@ from graphlib import CycleError, TopologicalSorter
 RANKS = "A23456789TJQK"
 LETTERS = f"{RANKS}g"
 CARD = f"[{RANKS}][CDHS]"
-NUMBERS = dict(zip("ACE TWO THREE FOUR FIVE SIX SEVEN EIGHT NINE TEN JACK QUEEN KING".split(), RANKS))
+NUMBERS = dict(zip("ACE TWO THREE FOUR FIVE SIX SEVEN EIGHT NINE TEN JACK QUEEN KING DEUCE TREY".split(), f"{RANKS}23"))
 KEYWORDS = "problem dealer owner opponent score starter hold throw goal win holes stop played own opp go".split()
 KEYWORDS += "game acts plan nodes turns play see end".split()
 MARKS = rf"(?i)^ *(?:(?:[>|•·] ?)+|- (?=\w)|\d+[.)] +(?=(?:{'|'.join(KEYWORDS[:-3])})\b))"  # of mails and of lists
@@ -19,6 +19,8 @@ ARROW = r"\s*(?:[-=]>|=|[→⇒])\s*"
 NEXT = rf"(?:{ARROW}|,? (?:then|go ?to) (?=\S)|, *)"  # behind the card of a node
 BRANCH = rf"(?:(?:10|[{RANKS}])(?:-(?:10|[{RANKS}]))?|GO?)+"
 COUNTED, ACT = ("played", "acts", "nodes", "turns"), rf"(?:own|opp) (?:{CARD}|go)"
+OTHERS = {"hand": "hold", "keep": "hold", "discard": "throw", "crib": "throw", "cut": "starter", "upcard": "starter"}
+MEANT = dict(zip(KEYWORDS, KEYWORDS)) | OTHERS
 END = -1  # the place after a plan
 MARK = "\ud800"  # no text has it; it is before the place of a node without a name, and around a place in a note
 SHEET = re.compile(r"You are the (?:pone|dealer) at \d|This plan is (?:(?:not )?sure|long)[.:] ")
@@ -56,6 +58,7 @@ def decoded(data: bytes) -> str:
 
 def plain(text: str) -> str:
     """A line in signs of ASCII, with `5 of spades` as a card, and without marks of mails, of lists and of its end."""
+    text = re.sub(r"(?<= )[*?](?= ?:)", "else", text)  # the other branches of a node
     typed = re.sub(MARKS, "", unicodedata.normalize("NFKC", text).translate(SIGNS))
     named = rf"(?i)\b(10|{'|'.join([*NUMBERS, *RANKS])})(?: of)?[: ]([CDHS])(?:lub|iamond|eart|pade)s?\b"
     return re.sub(named, lambda card: NUMBERS.get(card[1].upper(), card[1]) + card[2], typed).rstrip(" .!")
@@ -63,10 +66,9 @@ def plain(text: str) -> str:
 
 def meant(word: str) -> str:
     """A word as it is meant, after its signs are mended: a keyword, a card or several, or the word itself."""
-    small = word.lower().rstrip(":")
     cards = re.sub("1?0(?=[CDHS])", "T", re.sub("^([CDHS])(.{1,2})$", r"\2\1", word.upper()))
     typed = " ".join(re.findall("..", cards)) if re.fullmatch(f"({CARD})+", cards) else word
-    return small if small in KEYWORDS else typed
+    return MEANT.get(word.lower().rstrip(":"), typed)
 
 
 def words_of(text: str) -> list[str]:
@@ -101,8 +103,7 @@ class Node:
     """A line of a plan: its name, what it does, and the rest, as words."""
 
     def __init__(self, words: list[str], has_name: bool = True, has_kind: bool = True) -> None:
-        self.name = bare(words[0]) if has_name else ""
-        self.kind = meant(words[has_name]) if has_kind else ""
+        self.name, self.kind = bare(words[0]) * has_name, meant(words[has_name]) if has_kind else ""
         rest = words[has_name + has_kind :]
         self.is_see = self.kind == "see" or self.kind != "play" and ":" in "".join(rest[:1])
         self.rest = joined(" ".join(rest)) if self.is_see else rest
@@ -112,6 +113,7 @@ class Node:
 
 def node_of(line: str, in_plan: bool) -> Node | None:
     """Reads a line as that of a node. If `play` or `see` is mistyped or missing, the card or the branches show it."""
+    line = re.sub(r"(?i)^(\S+ )(?:look|if)(?= .*[:→=])", r"\1see", line)
     words = re.sub(ARROW, ":", re.sub(rf"\b({CARD}|10[CDHS]){NEXT}", r"\1 ", line, flags=re.I)).split()
     first, second, third = map(meant, [*words, "", ""][:3])
     if second in ("play", "see"):
@@ -264,10 +266,15 @@ def main() -> None:
     lines = [(old, plain(old)) for old in typed + [last] * bool(last)]
     start = next((at for at, (_, line) in enumerate(lines) if SHEET.match(line)), len(lines))
     is_head = re.compile(r"(?:problem|plan|game|turns)\W*\d*", re.I).fullmatch
+    top = next((at for at, (_, line) in enumerate(lines[:start]) if re.fullmatch(r"(?i)problem\W*\d", line)), 0)
     end = next((at for at in range(start, len(lines)) if is_head(lines[at][1])), len(lines))
     notes = ["a printed sheet is read as its plan"] * (start < end)
     printed, blanks, in_plan, sections = [], 0, False, [[]]
     lines[start:end] = [(MARK, line) for line in read_sheet([line for _, line in lines[start:end]], notes)]
+    above = [line for _, line in lines[:top] if line]
+    if above and not any(re.match(rf"(?i)(?!\w+\W+[a-z]+$)(?:{'|'.join(KEYWORDS)})\b", line) for line in above):
+        notes.append(f"left out above the problem: {' / '.join(above)}")
+        lines[:top] = []
     for typed_line, line in lines:
         bare_line = " ".join(typed_line.split())
         blanks += not line or bare_line != typed_line

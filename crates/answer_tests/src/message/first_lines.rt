@@ -168,7 +168,8 @@ The order is problem, dealer, score, starter, hold, throw, goal and, in a proble
 // Slips that are bytes which no line has.
 const BYTES: &str = "
 > problem 1\r|dealer owner\r|
-a line end of Windows or old Macs (CR) is neither LF nor 32 to 126. A line ends with LF alone: save the file with Unix line ends.
+a line end of Windows or old Macs (CR) is neither LF nor 32 to 126.
+A line ends with LF alone: save the file with Unix line ends.
 > problem\t1|
 a tab is neither LF nor 32 to 126. Write a blank in place of the tab.
 > \u{feff}problem 1|
@@ -186,7 +187,8 @@ a tab is neither LF nor 32 to 126. Write a blank in place of the tab.
 > probl\u{e9}m 1|
 \"\\xc3\\xa9\" is neither LF nor 32 to 126. Write plain ASCII letters, digits and signs.
 > problem 1\rdealer owner\r
-a line end of Windows or old Macs (CR) is neither LF nor 32 to 126. A line ends with LF alone: save the file with Unix line ends.
+a line end of Windows or old Macs (CR) is neither LF nor 32 to 126.
+A line ends with LF alone: save the file with Unix line ends.
 > problem 1|dealer\u{b}owner|
 \"\\x0b\" is neither LF nor 32 to 126. Remove this control character.
 # problem 1|dealer owner|score 0 0|

@@ -9,8 +9,8 @@ from contextlib import suppress
 from graphlib import CycleError, TopologicalSorter
 
 RANKS = "A23456789TJQK"
-LETTERS = f"{RANKS}g"
-CARD = f"[{RANKS}][CDHS]"
+LETTERS, CARD = f"{RANKS}g", f"[{RANKS}][CDHS]"
+VERDICT = "^(?:holds|reached|fails (?:stuck|lost|short))$"  # of an answer beside a plan or a game
 NUMBERS = dict(zip("ACE TWO THREE FOUR FIVE SIX SEVEN EIGHT NINE TEN JACK QUEEN KING DEUCE TREY".split(), f"{RANKS}23"))
 KEYWORDS = "problem dealer owner opponent score starter hold throw goal win holes stop played own opp go".split()
 KEYWORDS += "game acts plan nodes turns play see end".split()
@@ -263,7 +263,7 @@ def main() -> None:
         print("refused line 0: 2")
         sys.exit(2)
     *typed, last = decoded(given).split("\n")
-    lines = [(old, plain(old)) for old in typed + [last] * bool(last)]
+    lines = [(old, re.sub(VERDICT, "", plain(old))) for old in typed + [last] * bool(last)]
     start = next((at for at, (_, line) in enumerate(lines) if SHEET.match(line)), len(lines))
     is_head = re.compile(r"(?:problem|plan|game|turns)\W*\d*", re.I).fullmatch
     top = next((at for at, (_, line) in enumerate(lines[:start]) if re.fullmatch(r"(?i)problem\W*\d", line)), 0)
@@ -288,7 +288,7 @@ def main() -> None:
     for section in sections:
         printed += section_lines(section, len(printed), notes)
     notes += [f"line {at}: {line}" for at, (old, line) in enumerate(printed, 1) if old not in (line, MARK)]
-    notes += [f"blanks, line ends or empty lines taken out, lines: {blanks}"] * bool(blanks)
+    notes += [f"blanks, line ends, empty lines or verdicts taken out, lines: {blanks}"] * bool(blanks)
     for note in notes + ["the end of the last line: added"] * bool(last):
         say(note)
     sys.stdout.buffer.write("".join(f"{line}\n" for _, line in printed).encode(errors="surrogateescape"))

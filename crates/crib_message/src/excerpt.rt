@@ -155,10 +155,8 @@ fn goes_on(bytes: &[u8], index: usize) -> bool
 fn has_word_at(bytes: &[u8], index: usize) -> bool
     ensures { result ≡ is_of_word (slice_get bytes.now index) }
 {
-    match bytes.get(index) {
-        Some(byte) => (b'!'..=b'~').contains(byte) && *byte != b':',
-        None => false,
-    }
+    let is_of_word = |byte: &u8| (b'!'..=b'~').contains(byte) && *byte != b':';
+    bytes.get(index).is_some_and(is_of_word)
 }
 
 // Appends carets below bytes, or one caret if there are none.
@@ -194,7 +192,6 @@ fn escape_of(byte: u8) -> [u8; 4]
     ensures { result ≡ codes "\\x" ++ hex_digit (byte / 16) ∷ hex_digit (byte % 16) ∷ [] }
 {
     let digits = b"0123456789abcdef";
-    let first = digits[usize::from(byte / 16)];
     let last = digits[usize::from(byte % 16)];
-    [b'\\', b'x', first, last]
+    [b'\\', b'x', digits[usize::from(byte / 16)], last]
 }

@@ -1,5 +1,5 @@
 -- The deals that beat a plan are open, and what the games after the opening demand of those with some ranks.
-use Rattle.std.proofs.Common.{◌≡◌, ◌↔◌, ℕ, ◌≤◌, Bool, true, false, ◌&&◌, List, map, sym, ap, ◌∙◌}
+use Rattle.std.proofs.Common.{◌≡◌, ◌↔◌, ℕ, Bool, false, ◌&&◌, List, map, sym, ap, ◌∙◌}
 use Rattle.std.proofs.lemmas.Bool.{both_ways}
 use Rattle.crib_cards.specs.Cards.{rank_of}
 use Rattle.crib_cards.specs.Sets.{rank_counts}
@@ -9,7 +9,7 @@ use Rattle.crib_plan.specs.declared.plan.Node.{Node}
 use Rattle.crib_know.specs.Knowledge.{played_events}
 use Rattle.crib_show.specs.declared.demands.Demand.{Demand}
 use Rattle.crib_beaten.specs.declared.plays.Plays.{Plays}
-use Rattle.crib_show.specs.Demands.{is_met}
+use Rattle.crib_show.specs.Demands.{IsMetByAll}
 use Rattle.crib_know.specs.Hidden.{IsOpen}
 use Rattle.crib_sure.specs.Shows.{meets}
 use Rattle.crib_beaten.specs.Beaten.{ArePlays, Beats, Decides}
@@ -35,7 +35,7 @@ module _ {A : Type 0} {problem : Setup} {plan : List Node} {plays : Plays A} (ar
 
   module _ {counts : List ℕ} where
     -- a demand that is joined to one that each deal meets
-    pub decided_as : {old new : Demand} → ((hand crib : ℕ) → hand ≤ 102 → crib ≤ 102 → is_met old hand crib ≡ true) →
+    pub decided_as : {old new : Demand} → IsMetByAll old →
         IsJoined (IsDemandFrom plays.problem.now plays.plan.now plays.start counts) old new → Decides problem plan counts new
     decided_as {old} {new} all joined = record {
       met = λ dealt agrees same met beats.

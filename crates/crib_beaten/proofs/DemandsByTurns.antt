@@ -1,5 +1,5 @@
 -- What a demand at a position decides, from what those after the turns that may be next decide.
-use Rattle.std.proofs.Common.{Bool, ◌≡◌, ℕ, ◌+◌, ◌<◌, ◌≤◌, true, false, eqb, ltb, ◌&&◌, List, ◌∷◌, map, ◌↔◌}
+use Rattle.std.proofs.Common.{◌≡◌, ℕ, ◌+◌, ◌<◌, ◌≤◌, true, false, eqb, ltb, ◌&&◌, List, ◌∷◌, map, ◌↔◌}
 use Rattle.std.proofs.Common.{refl, sym, subst, ◌∙◌, inl, inr, arith}
 use Rattle.std.proofs.lemmas.Bool.{and_cases, and_left, and_right, both_ways, cases_lt, eqb-true, false_from_ne_true, ltb-true}
 use Rattle.std.proofs.lemmas.Bool.Decides.{nat_tests}
@@ -17,7 +17,7 @@ use Rattle.crib_play.specs.declared.turns.Turn.TheVariants as turns
 use Rattle.crib_play.specs.History.{Event, Own, Theirs}
 use Rattle.crib_show.specs.Outcome.{outcome_of}
 use Rattle.crib_show.specs.declared.show.outcomes.Outcome.TheVariants.{Reached}
-use Rattle.crib_problem.specs.Setup.{Setup, IsSetup, IsDealOf}
+use Rattle.crib_problem.specs.Setup.{Setup, IsSetup}
 use Rattle.crib_plan.specs.declared.plan.Node.{Node}
 use Rattle.crib_know.specs.Knowledge.{their_ranks}
 use Rattle.crib_know.specs.Hidden.{AgreesWith, KnowsAfter}
@@ -31,22 +31,17 @@ use Rattle.crib_know.proofs.TurnsAhead.{know_falls}
 use Rattle.crib_game.specs.Private.Judging.{full_at}
 use Rattle.crib_show.specs.declared.demands.Demand.{Demand}
 use Rattle.crib_sure.specs.declared.keys.Key.{Key}
-use Rattle.crib_show.specs.Demands.{IsMetByNone, is_met}
+use Rattle.crib_show.specs.Demands.{is_met}
 use Rattle.crib_sure.specs.Shows.{meets}
 use Rattle.crib_check.specs.Failing.{IsFailingEnding}
 use Rattle.crib_beaten.specs.Beaten.{may_show}
 use Rattle.crib_beaten.specs.Private.Demands.{BeatsFrom, IsAfterSome, IsDemandAfter, IsDemandAt, IsDemandFrom}
 use Rattle.crib_sure.specs.Positions.{IsStuckAt, MayTakeAt, StandsAt}
 use Rattle.crib_beaten.proofs.BeatingDeals.{beats_agrees, beats_earlier, beats_here}
-use Rattle.crib_sure.proofs.PointsOfDeals.{few_crib, few_hand}
+use Rattle.crib_sure.proofs.PointsOfDeals.{all_meet}
 use Rattle.crib_beaten.proofs.JoinedDemands.{met_by_any, no_demand}
 use Rattle.crib_check.proofs.NamedGames.{failed_outcome}
 use Rattle.crib_check.proofs.WalkConclusions.{over_ends, over_misses, own_goes_on, stuck_ends, theirs_goes_on}
-
--- a demand that each deal meets, or none
-pub met_as : {problem : Setup} {dealt : Dealt} {met : Bool} (demand : Demand) → IsSetup problem → IsDealOf problem dealt →
-    ((hand crib : ℕ) → hand ≤ 102 → crib ≤ 102 → is_met demand hand crib ≡ met) → meets problem demand dealt ≡ met
-met_as {problem} {dealt} demand setup deal each = each _ _ (few_hand setup deal) (few_crib setup deal)
 
 -- ---- a hold that shows a letter
 module _ {problem : Setup} {plan : List Node} {key : Key} {history : List Event} (stands : StandsAt problem plan key history)
@@ -126,7 +121,7 @@ module _ {problem : Setup} {plan : List Node} {key : Key} {counts : List ℕ} wh
       )
 
   -- the owner is stuck
-  pub stuck_demand : (demand : Demand) → IsStuckAt plan key → IsMetByNone demand → IsDemandFrom problem plan key counts demand
+  pub stuck_demand : (demand : Demand) → IsStuckAt plan key → ((hand crib : ℕ) → is_met demand hand crib ≡ false) → IsDemandFrom problem plan key counts demand
   stuck_demand demand stuck none history stands dealt agrees same = (
     λ missed. beats_here stands agrees (subst IsFailingEnding (sym (stuck_ends stands stuck dealt)) (inl refl)),
     λ beats. none _ _,
@@ -147,7 +142,7 @@ module _ {problem : Setup} {plan : List Node} {key : Key} {counts : List ℕ} wh
       ((history : List Event) → StandsAt problem plan key history → (dealt : Dealt) → rank_counts (map rank_of dealt.hold) ≡ counts →
       IsBeaten history dealt → ⊥) → IsDemandAt problem plan key counts IsBeaten no_demand
   none_demand never history stands dealt agrees same = (
-    λ missed. absurd (both_ways _ missed (met_as no_demand stands.knows.setup agrees.0 met_by_any)),
+    λ missed. absurd (both_ways _ missed (all_meet stands.knows.setup agrees.0 no_demand met_by_any)),
     λ beats. absurd (never history stands dealt same beats),
   )
 

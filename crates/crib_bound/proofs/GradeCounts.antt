@@ -6,7 +6,7 @@ use Rattle.std.proofs.lemmas.Bool.Decides.{nat_tests}
 use Rattle.std.proofs.lemmas.List.{length-take, get_or-set_same, get_or-set_other}
 use Rattle.crib_cards.specs.Sets.{rank_counts}
 use Rattle.crib_cards.specs.declared.sides.Dealt.{Dealt}
-use Rattle.crib_show.specs.Demands.{IsMetByNone, is_met}
+use Rattle.crib_show.specs.Demands.{is_met}
 use Rattle.crib_show.specs.Indices.{index_among}
 use Rattle.crib_show.specs.declared.demands.Demand.{Demand}
 use Rattle.crib_problem.specs.Setup.{Setup}
@@ -56,11 +56,12 @@ module _ (problem : Setup) (dealt : Dealt) where
       by true few = omega (arith, few)
       by false few = omega arith
 
-  -- no grade, if nothing meets the first demand
-  pub no_grade : (ladder : List Demand) (none : Demand) → 0 < length ladder → IsMetByNone (get_or ladder 0 none) → grade_of problem ladder dealt ≡ 0
+  -- no grade, if it doesn't meet the first demand
+  pub no_grade : (ladder : List Demand) (none : Demand) → 0 < length ladder →
+      meets problem (get_or ladder 0 none) dealt ≡ false → grade_of problem ladder dealt ≡ 0
   unfolding grade_of
   no_grade [] none less first = refl
-  no_grade (demand ∷ ladder) none less first = ap (λ (b : Bool). cond b (1 + grade_of problem ladder dealt) 0) (first _ _)
+  no_grade (demand ∷ ladder) none less first = ap (λ (b : Bool). cond b (1 + grade_of problem ladder dealt) 0) first
 
   pub choice_of_entry : (ladders : List Ladder) → entry_of problem ladders dealt / 8 ≡ index_of dealt
   unfolding entry_of entry_by
@@ -175,7 +176,7 @@ module _ {behind : Behind} {ladder : List Demand} {before : List ℕ} where
 
   -- those of one more grade
   pub one_added : {after : List ℕ} {grade count : ℕ} (demand : Demand) (at : ℕ) → at ≡ 8 * index_among 4 (rank_counts behind.ranks) + grade →
-      at < length after → IsMetByNone demand → count ≤ 209920 →
+      at < length after → ((hand crib : ℕ) → is_met demand hand crib ≡ false) → count ≤ 209920 →
       AreExactly (λ dealt. IsMissing behind demand dealt × (grade_of behind.problem ladder dealt ≡ grade)) count →
       AreAddedBelow behind ladder grade before after → AreAddedBelow behind ladder (grade + 1) before (set after at (get_or after at 0 + count))
   one_added {after} {grade} {count} demand at place inside none few exact so_far = record {
@@ -229,7 +230,8 @@ module _ {behind : Behind} {ladder : List Demand} {before : List ℕ} where
 
   -- all of them have no grade
   pub whole_added : {count : ℕ} (none : Demand) (at : ℕ) → at ≡ 8 * index_among 4 (rank_counts behind.ranks) → at < length before →
-      length ladder ≡ 7 → IsMetByNone (get_or ladder 0 none) → count ≤ 209920 → AreExactly (IsBehind behind) count →
+      length ladder ≡ 7 → ((dealt : Dealt) → IsBehind behind dealt → meets behind.problem (get_or ladder 0 none) dealt ≡ false) →
+      count ≤ 209920 → AreExactly (IsBehind behind) count →
       AreAdded behind ladder before (set before at (get_or before at 0 + count))
   whole_added {count} none at place inside seven first few exact = record {
     count = count;
@@ -242,13 +244,13 @@ module _ {behind : Behind} {ladder : List Demand} {before : List ℕ} where
     };
   }
     where
-      at_entry : (index : ℕ) (dealt : Dealt) → ranks_held dealt ≡ behind.ranks → eqb index (entry_by behind.problem ladder dealt) ≡ eqb index at
-      at_entry index dealt is =
-          let put = here behind ladder dealt is in
-          let zero = no_grade behind.problem dealt ladder none (omega (arith, seven)) first in
+      at_entry : (index : ℕ) (dealt : Dealt) → IsBehind behind dealt → eqb index (entry_by behind.problem ladder dealt) ≡ eqb index at
+      at_entry index dealt has =
+          let put = here behind ladder dealt has.1 in
+          let zero = no_grade behind.problem dealt ladder none (omega (arith, seven)) (first dealt has) in
           ap (λ n. eqb index n) (omega (arith, put, zero, place))
 
       if_there : (index : ℕ) (there : Bool) → eqb index at ≡ there →
           AreExactly (λ dealt. IsBehind behind dealt × (eqb index (entry_by behind.problem ladder dealt) ≡ true)) (cond there count 0)
-      if_there index true e = exactly_same (λ dealt order has. (has, at_entry index dealt has.1 ∙ e)) (λ dealt order has. has.0) exact
-      if_there index false e = exactly_none (λ dealt order has. both_ways _ (at_entry index dealt has.0.1 ∙ e) has.1)
+      if_there index true e = exactly_same (λ dealt order has. (has, at_entry index dealt has ∙ e)) (λ dealt order has. has.0) exact
+      if_there index false e = exactly_none (λ dealt order has. both_ways _ (at_entry index dealt has.0 ∙ e) has.1)

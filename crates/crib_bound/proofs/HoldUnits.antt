@@ -13,7 +13,7 @@ use Rattle.crib_show.proofs.ShowDemands.{dealer_met, pone_met, show_lost, show_r
 use Rattle.crib_problem.specs.Setup.{Setup, IsSetup, IsDealOf, is_stop, target_of}
 use Rattle.crib_plan.specs.declared.plan.Node.{Node}
 use Rattle.crib_game.specs.Replay.{full_with, outcome_for, play_scores}
-use Rattle.crib_sure.proofs.PointsOfDeals as points
+use Rattle.crib_sure.proofs.PointsOfDeals.{few_crib, few_hand}
 use Rattle.crib_deals.specs.Exact.{AreExactly}
 use Rattle.crib_deals.proofs.HoldMultiples.{dealt_by, multiple_of_820}
 use Rattle.crib_beaten.specs.Beaten.{Beats}
@@ -44,8 +44,7 @@ module _ {problem : Setup} (setup : IsSetup problem) (scores : Scores) where
     target_is = refl;
     stop_is = refl;
     own_hand_is = refl;
-    few_hand = points.few_hand setup deal;
-    few_crib = points.few_crib setup deal;
+    few = omega (arith, few_hand setup deal, few_crib setup deal);
   }
 
   -- the scores and the goal are such that the crib doesn't count

@@ -16,6 +16,7 @@ use Rattle.crib_problem.specs.Setup.{Setup, IsSetup}
 use Rattle.crib_know.specs.Hidden.{IsOpen}
 use Rattle.crib_know.proofs.Deals.{hold_cards}
 use Rattle.crib_sure.specs.Shows.{meets}
+use Rattle.crib_sure.proofs.PointsOfDeals.{none_meets}
 use Rattle.crib_deals.specs.Choices.{are_in_order, ranks_of_number}
 use Rattle.crib_deals.specs.Deals.{Behind, IsMissing, behind_by, ranks_held}
 use Rattle.crib_deals.specs.Exact.{IsIn, AreExactly}
@@ -151,6 +152,8 @@ module _ {problem : Setup} (setup : IsSetup problem) where
       let exact = all_below (open_numbered setup) (rw whole at below.exact) in record {
         deals = exact.deals;
         weighed = record {
+          setup = setup;
+          are_open = λ dealt h. ((exact.each dealt).0 h).1;
           counts = λ dealt h.
               let has = (exact.each dealt).0 h in
               let is = (open_numbered setup).are dealt has.1 in
@@ -169,7 +172,6 @@ module _ {problem : Setup} (setup : IsSetup problem) where
         };
         different = exact.different;
         in_order = λ dealt h. ((exact.each dealt).0 h).0;
-        are_open = λ dealt h. ((exact.each dealt).0 h).1;
       }
     where
       rising : (dealt : Dealt) → is_in_pack_order dealt ≡ true → are_rising dealt.hold ≡ true
@@ -195,7 +197,8 @@ module _ {problem : Setup} {ladders : List Ladder} {choices : List (List ℕ)} {
   all_missing weight is none =
       let less = sum_less (λ dealt. cond (eqb index (entry_of problem ladders dealt)) 1 0)
       (λ dealt. cond (misses_at (entry_of problem ladders) problem demand index dealt) 1 0) deals
-      (λ dealt h. one_more (eqb index (entry_of problem ladders dealt)) (not (meets problem demand dealt)) (ap not (none _ _))) in
+      (λ dealt h. one_more (eqb index (entry_of problem ladders dealt)) (not (meets problem demand dealt))
+      (ap not (none_meets are.setup (are.are_open dealt h).0 demand none))) in
       omega (arith, less, is, are.weighed index)
     where
       one_more : (is misses : Bool) → misses ≡ true → cond is 1 0 ≤ cond (is && misses) 1 0

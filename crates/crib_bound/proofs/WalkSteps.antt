@@ -289,6 +289,6 @@ start_strategy {bound} {know} {indices} {before} {after} parts value knows few w
   amounts = taken_of (entry_in bound) before after;
   few = λ dealt h. let most = few (entry_in bound dealt) in omega (arith, most);
   worth = worth.worth are.deals are.weighed (record {
-    passing = λ dealt h some. (passing_same know bound.problem.now (played_events bound.problem.now) knows dealt).0 (are.are_open dealt h);
+    passing = λ dealt h some. (passing_same know bound.problem.now (played_events bound.problem.now) knows dealt).0 (are.weighed.are_open dealt h);
   }) (played_events bound.problem.now) knows;
 }

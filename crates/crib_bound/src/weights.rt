@@ -112,6 +112,7 @@ fn add_deals<'a, A: Allocator>(
 )
     requires index { index ≡ index_among 4 (rank_counts ranks.now) }
     requires small { index < 1820 }
+    requires setup { IsSetup deals.now }
     requires few { (entry : ℕ) → get_or weights.old entry 0 ≤ 50000000000 }
     ensures tables { AreTables deals.now tables.old.items → AreTables deals.now tables.new.items }
     ensures added { AreAdded (behind_by deals.now ranks.now) ladder.now weights.old weights.new }

@@ -14,6 +14,7 @@ use Rattle.crib_know.specs.Knowledge.{Knowledge, their_ranks}
 use Rattle.crib_know.specs.Hidden.{KnowsAfter, IsFirstDeal}
 use Rattle.crib_game.specs.Replay.{outcome_for}
 use Rattle.crib_sure.specs.Shows.{IsDemandAtEnd, IsReachedBehind, worst_of}
+use Rattle.crib_sure.proofs.PointsOfDeals.{none_meets}
 use Rattle.crib_sure.proofs.ShowsBehind.{behind_to, behind_from}
 use Rattle.crib_check.specs.Private.Positions.{AllReach, IsFirstShortfall}
 
@@ -33,7 +34,7 @@ module _ {problem : Setup} {know : Knowledge} {history : List Event} (knows : Kn
     pub none_met : {dealt : Dealt} → IsMetByNone demand → IsFirstDeal problem history dealt → IsFirstShortfall problem history know.round dealt
     none_met {dealt} none first = record {
       agrees = first.agrees;
-      fails = λ reached. both_ways _ (none _ _) ((shown history dealt knows first.agrees).1 reached);
+      fails = λ reached. both_ways _ (none_meets knows.setup first.agrees.0 demand none) ((shown history dealt knows first.agrees).1 reached);
       in_order = first.in_order;
       first = λ other agrees fails. first.first other agrees;
     }

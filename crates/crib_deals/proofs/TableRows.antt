@@ -1,24 +1,20 @@
 -- The rows of a table: the open deals with four ranks whose suits have so many points.
 use Rattle.std.proofs.Common.{◌≡◌, ◌⊎◌, ℕ, ◌+◌, ◌-◌, ◌*◌, ◌<◌, ◌≤◌, min, max, Bool, true, false, not, ◌&&◌, cond, eqb, ltb, List, [], ◌∷◌, ◌++◌, length}
-use Rattle.std.proofs.Common.{length-append, map, slice_index, sum_by, refl, sym, ap, ◌∙◌, inl, inr, arith}
-use Rattle.std.proofs.lemmas.Bool.{cases_Bool, both_ways}
+use Rattle.std.proofs.Common.{map, slice_index, sum_by, refl, sym, ap, ◌∙◌, arith}
+use Rattle.std.proofs.lemmas.Bool.{both_ways}
 use Rattle.std.proofs.lemmas.Bool.Decides.{nat_tests}
-use Rattle.crib_cards.specs.Cards.{IsCard, rank_of}
+use Rattle.crib_cards.specs.Cards.{rank_of}
 use Rattle.crib_cards.specs.Deals.{is_in_pack_order}
-use Rattle.crib_cards.specs.Sets.{are_distinct, has, set_without_all}
+use Rattle.crib_cards.specs.Sets.{has, set_without_all}
 use Rattle.crib_cards.specs.declared.sides.Dealt.{Dealt}
-use Rattle.crib_cards.proofs.Members.{all_cards, distinct_append, distinct_parts, distinct_right}
-use Rattle.crib_cards.proofs.SetFacts.{has-append}
-use Rattle.crib_problem.specs.Setup.{Setup, IsSetup, IsDealOf, known_cards, unseen_of}
-use Rattle.crib_problem.proofs.StartLemmas.{each_has}
+use Rattle.crib_problem.specs.Setup.{IsSetup, unseen_of}
 use Rattle.crib_know.proofs.CardLists.{count_none_of}
 use Rattle.crib_know.specs.Hidden.{IsOpen}
 use Rattle.crib_know.specs.Knowledge.{Knowledge}
-use Rattle.crib_show.specs.Demands.{IsMetByAll, is_met}
-use Rattle.crib_show.specs.Show.{crib_points, hand_points, plain_of_ranks}
+use Rattle.crib_show.specs.Demands.{IsMetByAll, IsMetByNone, is_met}
+use Rattle.crib_show.specs.Show.{crib_points, hand_points, most_points, plain_of_ranks}
 use Rattle.crib_show.specs.declared.demands.Demand.{Demand}
-use Rattle.crib_show.proofs.PossibleHands.{possible_crib_law}
-use Rattle.crib_sure.proofs.PointsOfDeals.{few_crib, few_hand, hidden}
+use Rattle.crib_sure.proofs.PointsOfDeals.{all_meet, few_crib, none_meets}
 use Rattle.crib_sure.specs.Shows.{meets}
 use Rattle.crib_deals.specs.declared.throws.Cribs.{Cribs}
 use Rattle.crib_deals.specs.Deals.{Behind, IsBehind, IsMissing}
@@ -47,33 +43,6 @@ unfolding hand_points
 hand_is hold starter ranks same =
     let plain = ap (λ (listed : List ℕ). plain_of_ranks (rank_of starter ∷ listed)) same in omega (arith, plain)
 
-module _ {problem : Setup} {dealt : Dealt} (setup : IsSetup problem) (deal : IsDealOf problem dealt) where
-  thrown_distinct : are_distinct (problem.starter ∷ problem.thrown) ≡ true
-  thrown_distinct =
-      let parts = distinct_parts problem.starter (problem.hold ++ problem.thrown) setup.distinct in
-      grind (arith, nat_tests, parts.0, has-append problem.hold problem.thrown problem.starter, distinct_right problem.hold problem.thrown parts.1)
-
-  known : (card : ℕ) → has (problem.starter ∷ problem.thrown) card ≡ true → has (known_cards problem) card ≡ true
-  known card h = grind (arith, nat_tests, h, has-append problem.hold problem.thrown card)
-
-  their_throw : (card : ℕ) → has dealt.throw card ≡ true → IsCard card × (has (known_cards problem) card ≡ false)
-  their_throw card h = hidden setup deal card (grind (arith, nat_tests, h, has-append dealt.hold dealt.throw card))
-
-  pub few_points : crib_points (problem.thrown ++ dealt.throw) problem.starter ≤ 29
-  few_points =
-      let possible = possible_crib_law (problem.thrown ++ dealt.throw) problem.starter (record {
-        are_cards = all_cards (problem.starter ∷ problem.thrown ++ dealt.throw) (λ card h. elim (cases_Bool (has dealt.throw card)) [
-          | inl theirs ↦ (their_throw card theirs).0
-          | inr other ↦ each_has IsCard (known_cards problem) card setup.cards
-              (known card (grind (arith, nat_tests, h, other, has-append problem.thrown dealt.throw card)))
-        ]);
-        four = length-append problem.thrown dealt.throw ∙ (λ i. setup.two_thrown i + deal.deal.thrown i);
-        distinct = distinct_append (problem.starter ∷ problem.thrown) dealt.throw thrown_distinct
-            (distinct_right dealt.hold dealt.throw deal.deal.distinct)
-            (λ card h. grind (arith, nat_tests, known card h, their_throw card));
-      }) in
-      grind (arith, nat_tests, possible)
-
 -- ---- a row from the throws that the holds leave
 none_pass : (cards : List ℕ) → passing_throws (λ throw. false) cards ≡ 0
 none_pass [] = refl
@@ -99,7 +68,7 @@ module _ {behind : Behind} {know : Knowledge} {cribs : Cribs} (of : AreOfProblem
       let crib : slice_index cribs.points (52 * throw.0 + throw.1) ≡ crib_points (behind.problem.thrown ++ dealt.throw) starter =
       of.cribs_are throw.0 throw.1 first second
       ∙ (λ i. min (crib_points (behind.problem.thrown ++ sym throw.2 i) starter) 29)
-      ∙ (let few = few_points of.knows.setup is.0 in omega (arith, few)) in
+      ∙ (let few = few_crib of.knows.setup is.0 in omega (arith, few)) in
       let low : min throw.0 throw.1 ≡ throw.0 = omega (arith, throw.5) in
       let high : max throw.0 throw.1 ≡ throw.1 = omega (arith, throw.5) in
       (λ i. is_below cribs.points limit (throw.2 i))
@@ -134,29 +103,28 @@ module _ {behind : Behind} (setup : IsSetup behind.problem) where
   }
 
   -- each deal misses a demand, or none does
-  pub all_missing : (demand : Demand) {count : ℕ} → ((hand crib : ℕ) → is_met demand hand crib ≡ false) → AreExactly (IsBehind behind) count →
-      AreExactly (IsMissing behind demand) count
-  all_missing demand none = exactly_same (λ dealt order has. (has, none _ _)) (λ dealt order has. has.0)
+  pub all_missing : (demand : Demand) {count : ℕ} → IsMetByNone demand → AreExactly (IsBehind behind) count → AreExactly (IsMissing behind demand) count
+  all_missing demand none = exactly_same (λ dealt order has. (has, none_meets setup has.0.0 demand none)) (λ dealt order has. has.0)
 
   pub none_missing_of_all : (demand : Demand) → IsMetByAll demand → (dealt : Dealt) → IsMissing behind demand dealt → ⊥
-  none_missing_of_all demand all dealt has = both_ways _ has.1 (all _ _ (few_hand setup has.0.0.0) (few_crib setup has.0.0.0))
+  none_missing_of_all demand all dealt has = both_ways _ has.1 (all_meet setup has.0.0.0 demand all)
 
   pub none_missing : (demand : Demand) (hand : ℕ) → plain_of_ranks (rank_of behind.problem.starter ∷ behind.ranks) + 6 ≡ hand →
-      ((points crib : ℕ) → points ≤ hand → crib ≤ 29 → is_met demand points crib ≡ true) → (dealt : Dealt) → IsMissing behind demand dealt → ⊥
+      ((points crib : ℕ) → points ≤ hand → crib ≤ most_points → is_met demand points crib ≡ true) → (dealt : Dealt) → IsMissing behind demand dealt → ⊥
   none_missing demand hand is met dealt has =
       let few = suits_few dealt.hold behind.problem.starter in
       let points = hand_is dealt.hold behind.problem.starter behind.ranks has.0.1 in
       both_ways _ has.1 (met (hand_points dealt.hold behind.problem.starter) (crib_points (behind.problem.thrown ++ dealt.throw) behind.problem.starter)
-      (omega (arith, few, points, is)) (few_points setup has.0.0.0))
+      (omega (arith, few, points, is)) (few_crib setup has.0.0.0))
 
   module _ (demand : Demand) (suits hand : ℕ) (below : List ℕ) (row : IsRow behind suits below hand) where
     abbrev crib : Dealt → ℕ
     crib dealt = crib_points (behind.problem.thrown ++ dealt.throw) behind.problem.starter
 
     points_are : (dealt : Dealt) → IsBehind behind dealt → suit_points dealt.hold behind.problem.starter ≡ suits →
-        (hand_points dealt.hold behind.problem.starter ≡ hand) × (crib dealt ≤ 29)
+        (hand_points dealt.hold behind.problem.starter ≡ hand) × (crib dealt ≤ most_points)
     points_are dealt is same =
-        (omega (arith, hand_is dealt.hold behind.problem.starter behind.ranks is.1, row.hand_is, same), few_points setup is.0.0)
+        (omega (arith, hand_is dealt.hold behind.problem.starter behind.ranks is.1, row.hand_is, same), few_crib setup is.0.0)
 
     abbrev IsOfRow : Dealt → Type 0
     IsOfRow dealt = IsBehind behind dealt × (suit_points dealt.hold behind.problem.starter ≡ suits)

@@ -2,6 +2,7 @@
 ghost use Rattle.std.specs.Prelude.{◌≡◌, ◌≤◌, ℕ, length, IsTrue};
 ghost use Rattle.crib_cards.specs.declared.sides.Dealt.{Dealt};
 ghost use Rattle.crib_show.specs.Demands.{is_met};
+ghost use Rattle.crib_show.specs.Show.{most_points};
 ghost use Rattle.crib_deals.specs.Exact.{AreExactly};
 ghost use Rattle.crib_deals.specs.Deals.{IsBehind, IsMissing, behind_by};
 ghost use Rattle.crib_deals.specs.Private.Holds.{AreListed};
@@ -13,11 +14,8 @@ use crate::throws::{Cribs, THROWS};
 use crib_cards::Rank;
 use crib_know::Know;
 use crib_problem::Problem;
-use crib_show::{Demand, count_ranks};
+use crib_show::{Demand, MOST_POINTS, count_ranks};
 use std::marker::Model;
-
-// No crib has more points.
-const MOST_CRIB: u8 = 29;
 
 // No hand has more points for its suits.
 const MOST_SUITS: u8 = 6;
@@ -115,10 +113,11 @@ impl<'a> Deals<'a> {
 
 // Whether each hand of at most so many points and each crib meet a demand.
 fn is_met_below(demand: Demand, hand: u8) -> bool
-    ensures { IsTrue result → (points crib : ℕ) → points ≤ hand → crib ≤ 29 → IsTrue (is_met demand points crib) }
+    ensures { IsTrue result → (points crib : ℕ) → points ≤ hand → crib ≤ most_points
+        → IsTrue (is_met demand points crib) }
 {
     demand.crib == 0
         && hand <= demand.hand
         && hand <= demand.total
-        && MOST_CRIB <= demand.total - hand
+        && MOST_POINTS <= demand.total - hand
 }

@@ -9,16 +9,13 @@ use crate::choices::rank_of;
 use crate::points::plain_points;
 use crib_cards::{Card, CardSet, Rank, Suit};
 use crib_know::lowest_of;
-use crib_show::{hand_flush, jack_points};
+use crib_show::{MOST_POINTS, hand_flush, jack_points};
 
 /// How many throws each hold leaves: two of the 41 cards that are neither known nor held.
 pub(crate) const THROWS: u32 = 820;
 
 /// The limits of the tables are from 0 to 30: no crib has more than 29 points.
 pub(crate) const LIMITS: usize = 31;
-
-// No crib has more points.
-const MOST_POINTS: u8 = 29;
 
 /// The cribs that the opponent's throws of two unseen cards make, counted.
 #[derive(Clone, Copy)]

@@ -1,5 +1,5 @@
 -- Worked examples of what the show demands of the opponent's hand and the crib.
-use Rattle.std.proofs.Common.{◌≡◌, ℕ, Bool, true, false, [], ◌∷◌, ◌++◌, ◌≤◌, Option, Some, None, refl, arith}
+use Rattle.std.proofs.Common.{◌≡◌, ℕ, ◌+◌, Bool, true, false, [], ◌∷◌, ◌++◌, ◌≤◌, Option, Some, None, refl, arith}
 use Rattle.std.proofs.lemmas.Bool.{both_ways}
 use Rattle.std.proofs.lemmas.Bool.Decides.{nat_tests}
 use Rattle.std.specs.Prelude.{IsFalse, map}
@@ -24,20 +24,27 @@ points_of_three : map (λ (points : ℕ × ℕ). is_met of_three points.0 points
 points_of_three = refl
 
 -- each hand and crib meet the demand of nothing, and none meet one of more for the crib than in all
-of_nothing : IsMetByAll (record { hand = 102; total = 204; crib = 0 })
+of_nothing : IsMetByAll (record { hand = 29; total = 58; crib = 0 })
 of_nothing hand crib few also = grind (arith, nat_tests, few, also)
 
-a_hand_of_102_misses_it : IsMetByAll (record { hand = 101; total = 204; crib = 0 }) → ⊥
-a_hand_of_102_misses_it all = absurd (both_ways _ refl (all 102 0 (omega arith) (omega arith)))
+a_hand_of_29_misses_it : IsMetByAll (record { hand = 28; total = 58; crib = 0 }) → ⊥
+a_hand_of_29_misses_it all = absurd (both_ways _ refl (all 29 0 (omega arith) (omega arith)))
 
-a_crib_of_102_misses_it : IsMetByAll (record { hand = 102; total = 203; crib = 0 }) → ⊥
-a_crib_of_102_misses_it all = absurd (both_ways _ refl (all 102 102 (omega arith) (omega arith)))
+a_crib_of_29_misses_it : IsMetByAll (record { hand = 29; total = 57; crib = 0 }) → ⊥
+a_crib_of_29_misses_it all = absurd (both_ways _ refl (all 29 29 (omega arith) (omega arith)))
 
 of_too_much : IsMetByNone (record { hand = 12; total = 20; crib = 21 })
-of_too_much hand crib = grind (arith, nat_tests)
+of_too_much hand crib few also = grind (arith, nat_tests)
 
 a_crib_of_20_meets_it : IsMetByNone (record { hand = 12; total = 20; crib = 20 }) → ⊥
-a_crib_of_20_meets_it none = absurd (both_ways _ (none 0 20) refl)
+a_crib_of_20_meets_it none = absurd (both_ways _ (none 0 20 (omega arith) (omega arith)) refl)
+
+-- nor one of more for the crib than a crib has
+of_30_points : IsMetByNone (record { hand = 29; total = 58; crib = 30 })
+of_30_points hand crib few also = grind (arith, nat_tests, also)
+
+a_crib_of_29_meets_it : IsMetByNone (record { hand = 29; total = 58; crib = 29 }) → ⊥
+a_crib_of_29_meets_it none = absurd (both_ways _ (none 29 29 (omega arith) (omega arith)) refl)
 
 -- with 5C 5D thrown the hand makes 12 and the crib 16: the fives meet a demand of 12, 28 and 16, and no stricter one
 fives_meet : map (λ (demand : Demand). is_met_by four_aces demand aces_and_fives)
@@ -77,8 +84,6 @@ module _ {dealer : Side} {scores : Scores} {target own_hand : ℕ} {is_to_stop :
       × (full.stop ≡ is_to_stop) × (hand_points full.own_hold full.starter ≡ own_hand)
   show_of_a_deal is = (is.dealer_is, is.scores_are, is.target_is, is.stop_is, is.own_hand_is)
 
-  opponent_has_102 : IsShowAt dealer scores target is_to_stop own_hand full → hand_points full.opp.hold full.starter ≤ 102
-  opponent_has_102 is = is.few_hand
-
-  crib_has_102 : IsShowAt dealer scores target is_to_stop own_hand full → crib_points (full.own_throw ++ full.opp.throw) full.starter ≤ 102
-  crib_has_102 is = is.few_crib
+  of_255_points : IsShowAt dealer scores target is_to_stop own_hand full →
+      hand_points full.opp.hold full.starter + crib_points (full.own_throw ++ full.opp.throw) full.starter ≤ 255
+  of_255_points is = is.few

@@ -42,11 +42,11 @@ few_flush : (cards : List ℕ) (starter : ℕ) → hand_flush cards starter ≤ 
 few_flush [] starter = omega arith
 few_flush (card ∷ cards) starter = grind (arith, nat_tests)
 
-pub few_hand : (cards : List ℕ) (starter : ℕ) → AllByRecursion IsRank (map rank_of (starter ∷ cards)) → length cards ≡ 4 → hand_points cards starter ≤ 102
+few_hand : (cards : List ℕ) (starter : ℕ) → AllByRecursion IsRank (map rank_of (starter ∷ cards)) → length cards ≡ 4 → hand_points cards starter ≤ 102
 unfolding hand_points
 few_hand cards starter are four = grind (arith, nat_tests, few_plain (starter ∷ cards) are (ap suc four), few_flush cards starter)
 
-pub few_crib : (cards : List ℕ) (starter : ℕ) → AllByRecursion IsRank (map rank_of (starter ∷ cards)) → length cards ≡ 4 → crib_points cards starter ≤ 102
+few_crib : (cards : List ℕ) (starter : ℕ) → AllByRecursion IsRank (map rank_of (starter ∷ cards)) → length cards ≡ 4 → crib_points cards starter ≤ 102
 unfolding crib_points
 few_crib cards starter are four = grind (arith, nat_tests, few_plain (starter ∷ cards) are (ap suc four))
 

@@ -5,7 +5,7 @@ use Rattle.crib_cards.specs.Deals.{is_in_pack_order, deal_numbers}
 use Rattle.crib_cards.specs.declared.sides.Dealt.{Dealt}
 use Rattle.crib_cards.specs.declared.sides.Side.{Side}
 use Rattle.crib_cards.specs.declared.sides.Scores.{Scores}
-use Rattle.crib_show.specs.Show.{hand_points, crib_points}
+use Rattle.crib_show.specs.Show.{hand_points, crib_points, most_points}
 use Rattle.crib_show.specs.Worst.{AgreesInShow, hidden_crib, hidden_hand}
 use Rattle.crib_show.specs.declared.deals.Full.{Full}
 use Rattle.crib_show.specs.declared.deals.WorstShow.{WorstShow}
@@ -15,13 +15,13 @@ use Rattle.crib_show.specs.declared.demands.Demand.{Demand}
 abbrev pub is_met : Demand → ℕ → ℕ → Bool
 is_met demand hand crib = nat_le hand demand.hand && (nat_le (hand + crib) demand.total && nat_le demand.crib crib)
 
--- each hand and crib of at most 102 points meet a demand
+-- each hand and crib that the cards can make meet a demand
 abbrev pub IsMetByAll : Demand → Type 0
-IsMetByAll demand = (hand crib : ℕ) → hand ≤ 102 → crib ≤ 102 → IsTrue (is_met demand hand crib)
+IsMetByAll demand = (hand crib : ℕ) → hand ≤ most_points → crib ≤ most_points → IsTrue (is_met demand hand crib)
 
--- no hand and crib meet a demand
+-- no hand and crib that the cards can make meet a demand
 abbrev pub IsMetByNone : Demand → Type 0
-IsMetByNone demand = (hand crib : ℕ) → IsFalse (is_met demand hand crib)
+IsMetByNone demand = (hand crib : ℕ) → hand ≤ most_points → crib ≤ most_points → IsFalse (is_met demand hand crib)
 
 -- whether a hidden deal meets a demand
 abbrev pub is_met_by : WorstShow → Demand → Dealt → Bool
@@ -46,7 +46,7 @@ IsFirstMissingOrNone worst demand (Some dealt) = IsFirstMissing worst demand dea
 IsFirstMissingOrNone worst demand None = AllMeet worst demand
 
 -- a show: its dealer, the scores before it, the target, whether the goal is `stop`, and the points of the owner's hand.
--- The opponent's hand and the crib have at most 102 points each
+-- A byte can hold the points of the opponent's hand and the crib together
 pub record IsShowAt
     (dealer : Side) (scores : Scores) (target : ℕ) (is_to_stop : Bool) (own_hand : ℕ) (full : Full) : Type 0 where
   pub dealer_is : full.dealer ≡ dealer
@@ -54,5 +54,5 @@ pub record IsShowAt
   pub target_is : full.target ≡ target
   pub stop_is : full.stop ≡ is_to_stop
   pub own_hand_is : hand_points full.own_hold full.starter ≡ own_hand
-  pub few_hand : hand_points full.opp.hold full.starter ≤ 102
-  pub few_crib : crib_points (full.own_throw ++ full.opp.throw) full.starter ≤ 102
+  pub few :
+      hand_points full.opp.hold full.starter + crib_points (full.own_throw ++ full.opp.throw) full.starter ≤ 255

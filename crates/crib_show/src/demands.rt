@@ -1,5 +1,5 @@
 //! What the opponent's cards must count in the show.
-ghost use Rattle.std.specs.Prelude.{◌≡◌, ◌⊎◌, ℕ, ◌&&◌, ◌++◌, ◌↔◌, IsTrue};
+ghost use Rattle.std.specs.Prelude.{◌≡◌, ◌⊎◌, ℕ, ◌+◌, ◌≤◌, ◌&&◌, ◌++◌, ◌↔◌, IsTrue, IsFalse};
 ghost use Rattle.crib_cards.specs.Sides.{are_decided};
 ghost use Rattle.crib_show.specs.Outcome.{outcome_of};
 ghost use Rattle.crib_show.specs.Show.{crib_points, hand_points};
@@ -7,6 +7,7 @@ ghost use Rattle.crib_show.specs.declared.deals.Full.{Full};
 ghost use Rattle.crib_show.specs.declared.show.outcomes.Outcome.TheVariants.{Reached};
 ghost use Rattle.crib_show.specs.Demands.{IsMetByAll, IsMetByNone, IsShowAt, is_met};
 
+use crate::show::MOST_POINTS;
 use crib_cards::{GAME_HOLE, Scores, Side};
 
 /// What the opponent's hand and the crib must count, in points, so that the owner reaches the goal.
@@ -21,9 +22,9 @@ pub struct Demand {
 }
 
 impl Demand {
-    /// Returns the demand that each deal meets, whose hand and crib have at most 102 points each.
+    /// Returns the demand that each hand and crib meet whose points together a byte can hold.
     pub fn none() -> Self
-        ensures { IsMetByAll result }
+        ensures { (hand crib : ℕ) → hand + crib ≤ 255 → IsTrue (is_met result hand crib) }
     {
         Demand {
             hand: u8::MAX,
@@ -32,9 +33,9 @@ impl Demand {
         }
     }
 
-    /// Returns the demand that no deal meets.
+    /// Returns the demand that no hand and crib meet, whatever their points are.
     pub fn impossible() -> Self
-        ensures { IsMetByNone result }
+        ensures { (hand crib : ℕ) → IsFalse (is_met result hand crib) }
     {
         Demand {
             hand: 0,
@@ -43,12 +44,12 @@ impl Demand {
         }
     }
 
-    /// Whether no deal meets the demand.
+    /// Whether no deal meets the demand. Its hand and its crib have at most 29 points each.
     #[inline]
     pub fn is_impossible(self) -> bool
         ensures { IsTrue result ↔ IsMetByNone self }
     {
-        self.total < self.crib
+        self.total.min(MOST_POINTS) < self.crib
     }
 
     /// Returns the demand that a deal meets exactly if it meets both.
@@ -70,12 +71,12 @@ impl Demand {
         hand <= self.hand && hand <= self.total && crib <= self.total - hand && self.crib <= crib
     }
 
-    /// Whether each deal meets the demand, whose hand and crib have at most 102 points each.
+    /// Whether each deal meets the demand. Its hand and its crib have at most 29 points each.
     #[inline]
     pub fn is_met_by_all(self) -> bool
         ensures { IsTrue result ↔ IsMetByAll self }
     {
-        self.is_met(102, 102) && self.crib == 0
+        self.is_met(MOST_POINTS, MOST_POINTS) && self.crib == 0
     }
 }
 
@@ -117,14 +118,11 @@ pub fn demand_of_show(
             total: 255,
             crib: 0,
         },
+        Side::Owner if target > GAME_HOLE => Demand::impossible(),
         Side::Owner => Demand {
             hand: room,
             total: 255,
-            crib: if target > GAME_HOLE {
-                255
-            } else {
-                target.saturating_sub(counted)
-            },
+            crib: target.saturating_sub(counted),
         },
     }
 }

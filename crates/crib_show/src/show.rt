@@ -5,4 +5,6 @@ pub(crate) mod points;
 mod words;
 
 pub use outcomes::{Outcome, ShowRow, outcome_with, settle, show_rows};
-pub use points::{count_ranks, crib_points, hand_flush, hand_points, jack_points, plain_of_ranks};
+pub use points::{
+    MOST_POINTS, count_ranks, crib_points, hand_flush, hand_points, jack_points, plain_of_ranks,
+};

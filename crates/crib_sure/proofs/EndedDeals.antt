@@ -17,7 +17,7 @@ use Rattle.crib_know.specs.Knowledge.{Knowledge, their_ranks}
 use Rattle.crib_know.specs.Hidden.{AgreesWith, KnowsAfter}
 use Rattle.crib_game.specs.Replay.{outcome_for}
 use Rattle.crib_sure.specs.Shows.{IsDemandAtEnd, IsReachedBehind, full_behind, worst_of}
-use Rattle.crib_sure.proofs.PointsOfDeals.{few_crib, few_hand}
+use Rattle.crib_sure.proofs.PointsOfDeals.{all_meet, none_meets}
 use Rattle.crib_sure.proofs.ShowsBehind.{four_played, behind_to, behind_from}
 
 module _ {know : Knowledge} {problem : Setup} {history : List Event} (knows : KnowsAfter know problem history) where
@@ -55,12 +55,12 @@ module _ {know : Knowledge} {problem : Setup} (demand : Demand) {own : ℕ}
   -- the scores decide
   pub all_reach : IsMetByAll demand → (history : List Event) → KnowsAfter know problem history → (true ≡ true) ↔ IsReachedBehind problem history
   all_reach all history knows =
-      (λ h. reached_if knows (λ dealt agrees. all _ _ (few_hand knows.setup agrees.0) (few_crib knows.setup agrees.0)), λ reached. refl)
+      (λ h. reached_if knows (λ dealt agrees. all_meet knows.setup agrees.0 demand all), λ reached. refl)
 
   pub none_reaches : IsMetByNone demand → (history : List Event) → KnowsAfter know problem history → (false ≡ true) ↔ IsReachedBehind problem history
   none_reaches none history knows = (
     λ h. absurd (both_ways false refl h),
-    λ reached. absurd (both_ways _ (none _ _) (met_if knows reached knows.possible.0 knows.possible.1)),
+    λ reached. absurd (both_ways _ (none_meets knows.setup knows.possible.1.0 demand none) (met_if knows reached knows.possible.0 knows.possible.1)),
   )
 
   -- the show does

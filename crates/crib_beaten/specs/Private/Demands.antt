@@ -6,7 +6,7 @@ use Rattle.crib_cards.specs.Sets.{has, rank_counts}
 use Rattle.crib_cards.specs.declared.letters.Letter.{Letter}
 use Rattle.crib_cards.specs.declared.sides.Dealt.{Dealt}
 use Rattle.crib_play.specs.History.{Event, Theirs}
-use Rattle.crib_show.specs.Show.{hand_points}
+use Rattle.crib_show.specs.Show.{hand_points, most_points}
 use Rattle.crib_problem.specs.Setup.{Setup}
 use Rattle.crib_plan.specs.declared.plan.Node.{Node}
 use Rattle.crib_know.specs.Hidden.{AgreesWith}
@@ -20,9 +20,9 @@ use Rattle.crib_beaten.specs.Beaten.{Beats, counts_of, demand_of}
 use Rattle.crib_sure.specs.Private.Histories.{Extends, history_of_game}
 use Rattle.crib_sure.specs.Positions.{StandsAt}
 
--- the points of the owner's hand, at most 102
+-- the points of the owner's hand
 abbrev pub IsOwnHand : Setup → ℕ → Type 0
-IsOwnHand problem points = (points ≡ hand_points problem.hold problem.starter) × (points ≤ 102)
+IsOwnHand problem points = points ≡ hand_points problem.hold problem.starter
 
 -- a position is one after some history of the problem
 abbrev pub IsAfterSome : Setup → List Node → Key → Type 0
@@ -49,11 +49,11 @@ abbrev pub IsDemandAfter : Setup → List Node → Key → List ℕ → Letter �
 IsDemandAfter problem plan key counts letter =
     IsDemandAt problem plan key counts (λ history. BeatsFrom problem plan (Theirs letter ∷ history))
 
--- a demand of a kind is joined to another. Hands and cribs have at most 102 points each
+-- a demand of a kind is joined to another, for the hands and cribs that the cards can make
 pub record IsJoined (Kind : Demand → Type 0) (old new : Demand) : Type 0 where
   pub more : Demand
   pub kind : Kind more
-  pub joins : (hand crib : ℕ) → hand ≤ 102 → crib ≤ 102 →
+  pub joins : (hand crib : ℕ) → hand ≤ most_points → crib ≤ most_points →
       is_met new hand crib ≡ (is_met old hand crib && is_met more hand crib)
 
 -- at some indices a demand is joined that is of a kind for the counts there. At the others the demand is as it was

@@ -11,7 +11,7 @@ use Rattle.crib_play.specs.History.{Event, event_of}
 use Rattle.crib_show.specs.Indices.{index_among}
 use Rattle.crib_show.specs.Show.{hand_points}
 use Rattle.crib_show.specs.declared.demands.Demand.{Demand}
-use Rattle.crib_problem.specs.Setup.{Setup}
+use Rattle.crib_problem.specs.Setup.{Setup, IsSetup}
 use Rattle.crib_know.specs.Knowledge.{Knowledge}
 use Rattle.crib_know.specs.Hidden.{IsOpen, KnowsAfter, Passes}
 use Rattle.crib_know.specs.Private.Ahead.{turns_ahead}
@@ -87,10 +87,12 @@ pub record AreAdded (behind : Behind) (ladder : List Demand) (before after : Lis
   pub exact : AreExactly (IsBehind behind) count
   pub each : (index : ℕ) → IsAddedAt behind ladder before after index
 
--- some deals are all open ones in pack order. The choice of the entry of each has its counts of ranks, as many as its
--- weight says have an entry, and each table is at its index
+-- some deals of a problem are open, and all of those in pack order. The choice of the entry of each has its counts of
+-- ranks, as many as its weight says have an entry, and each table is at its index
 pub record AreWeighed (problem : Setup) (ladders : List Ladder) (choices : List (List ℕ)) (weights : List ℕ)
     (tables : List (Option Behind)) (deals : List Dealt) : Type 0 where
+  pub setup : IsSetup problem
+  pub are_open : (dealt : Dealt) → IsIn dealt deals → IsOpen problem dealt
   pub counts : (dealt : Dealt) → IsIn dealt deals →
       counts_of choices (entry_of problem ladders dealt / 8) ≡ rank_counts (map rank_of dealt.hold)
   pub weighed : (index : ℕ) →
@@ -110,7 +112,6 @@ pub record AreOpenDeals (problem : Setup) (ladders : List Ladder) (choices : Lis
   pub weighed : AreWeighed problem ladders choices weights tables deals
   pub different : AreDifferent deals
   pub in_order : (dealt : Dealt) → IsIn dealt deals → IsTrue (is_in_pack_order dealt)
-  pub are_open : (dealt : Dealt) → IsIn dealt deals → IsOpen problem dealt
 
 -- those of them that have some indices pass the test of a position
 pub record AreAt (at : Dealt → ℕ) (problem : Setup) (know : Knowledge) (deals : List Dealt) (indices : List ℕ)

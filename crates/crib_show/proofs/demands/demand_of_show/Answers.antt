@@ -5,7 +5,7 @@ use Rattle.crib_show.proofs.ShowDemands.{dealer_met, pone_met, show_lost, show_r
 use Rattle.crib_show.proofs.demands.demand_of_show.Goals as goal
 
 pub returns-then-scores-target-clause-show : goal.returns-then-scores-target-clause-show
-returns-then-scores-target-clause-show c full show = show_reached show c.if-scores-target.true (c.none.ensures _ _ show.few_hand show.few_crib)
+returns-then-scores-target-clause-show c full show = show_reached show c.if-scores-target.true (c.none.ensures _ _ show.few)
 
 pub returns-then-scores-ge-GAME_HOLE-clause-show : goal.returns-then-scores-ge-GAME_HOLE-clause-show
 returns-then-scores-ge-GAME_HOLE-clause-show c full show =
@@ -14,12 +14,12 @@ returns-then-scores-ge-GAME_HOLE-clause-show c full show =
 pub returns-in-Opponent-clause-show : goal.returns-in-Opponent-clause-show
 returns-in-Opponent-clause-show c full show =
     pone_met show c.if-scores-target.false c.if-scores-ge-GAME_HOLE.false c.in-Opponent.is
-    (grind (arith, nat_tests, c, ap (λ (s : Scores). s.owner) c.with-counted.ensures, c.none-in-Opponent.ensures _ _ show.few_hand show.few_crib))
+    (grind (arith, nat_tests, c, ap (λ (s : Scores). s.owner) c.with-counted.ensures, c.none-in-Opponent.ensures _ _ show.few))
 
 pub returns-in-Opponent-2-clause-show : goal.returns-in-Opponent-2-clause-show
 returns-in-Opponent-2-clause-show c full show =
     pone_met show c.if-scores-target.false c.if-scores-ge-GAME_HOLE.false c.in-Opponent-2.is
-    (grind (arith, nat_tests, c, ap (λ (s : Scores). s.owner) c.with-counted.ensures, c.if-is_to_stop.true))
+    (grind (arith, nat_tests, c, ap (λ (s : Scores). s.owner) c.with-counted.ensures, c.if-is_to_stop.true, show.few))
 
 pub returns-in-Opponent-3-clause-show : goal.returns-in-Opponent-3-clause-show
 returns-in-Opponent-3-clause-show c full show =
@@ -31,12 +31,12 @@ returns-in-Owner-clause-show c full show =
     dealer_met show c.if-scores-target.false c.if-scores-ge-GAME_HOLE.false c.in-Owner.is
     (grind (arith, nat_tests, c, ap (λ (s : Scores). s.owner) c.with-counted.ensures))
 
-pub returns-then-target-gt-GAME_HOLE-clause-show : goal.returns-then-target-gt-GAME_HOLE-clause-show
-returns-then-target-gt-GAME_HOLE-clause-show c full show =
+pub returns-in-Owner-2-clause-show : goal.returns-in-Owner-2-clause-show
+returns-in-Owner-2-clause-show c full show =
     dealer_met show c.if-scores-target.false c.if-scores-ge-GAME_HOLE.false c.in-Owner-2.is
-    (grind (arith, nat_tests, c, ap (λ (s : Scores). s.owner) c.with-counted.ensures, c.if-target-gt-GAME_HOLE.true, show.few_crib))
+    (grind (arith, nat_tests, c, ap (λ (s : Scores). s.owner) c.with-counted.ensures, c.if-target-gt-GAME_HOLE.true, c.impossible-in-Owner-2.ensures))
 
-pub returns-else-target-gt-GAME_HOLE-clause-show : goal.returns-else-target-gt-GAME_HOLE-clause-show
-returns-else-target-gt-GAME_HOLE-clause-show c full show =
+pub returns-in-Owner-3-clause-show : goal.returns-in-Owner-3-clause-show
+returns-in-Owner-3-clause-show c full show =
     dealer_met show c.if-scores-target.false c.if-scores-ge-GAME_HOLE.false c.in-Owner-2.is
-    (grind (arith, nat_tests, c, ap (λ (s : Scores). s.owner) c.with-counted.ensures, c.if-target-gt-GAME_HOLE.false))
+    (grind (arith, nat_tests, c, ap (λ (s : Scores). s.owner) c.with-counted.ensures, c.if-target-gt-GAME_HOLE.false, show.few))

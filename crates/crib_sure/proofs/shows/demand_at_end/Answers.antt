@@ -1,4 +1,4 @@
-use Rattle.std.proofs.Common.{◌≡◌, sym, ap, ◌∙◌}
+use Rattle.std.proofs.Common.{◌≡◌, sym, ap, ◌∙◌, arith}
 use Rattle.crib_cards.specs.Sides.{are_decided}
 use Rattle.crib_play.specs.Standing.{Standing}
 use Rattle.crib_game.specs.Replay.{full_with}
@@ -13,8 +13,7 @@ returns-clause-show c = λ own history dealt knows agrees.
       target_is = sym c.target.ensures.value;
       stop_is = sym c.is_to_stop.ensures;
       own_hand_is = sym own;
-      few_hand = few_hand knows.setup agrees.0;
-      few_crib = few_crib knows.setup agrees.0;
+      few = omega (arith, few_hand knows.setup agrees.0, few_crib knows.setup agrees.0);
     })
 
 pub returns-clause-decided : goal.returns-clause-decided

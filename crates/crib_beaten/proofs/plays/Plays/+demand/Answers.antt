@@ -25,7 +25,7 @@ rooms many enough falls = (omega (arith, (room_after 0 enough falls (omega arith
 -- ---- the deal is done
 pub join_from-returns-in-Over : goal.join_from-returns-in-Over
 join_from-returns-in-Over g t c =
-    joined_as (λ counts demand is. rw is (over_demand _ (sym c.in-Over.ensures) (c.demand_at_end-demand.ensures.show c.requires.own.0))) (c.join.ensures _)
+    joined_as (λ counts demand is. rw is (over_demand _ (sym c.in-Over.ensures) (c.demand_at_end-demand.ensures.show c.requires.own))) (c.join.ensures _)
 
 pub join_from-join_by_own-requires : goal.join_from-join_by_own-requires
 join_from-join_by_own-requires g t c κs within =

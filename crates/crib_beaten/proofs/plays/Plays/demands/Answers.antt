@@ -1,9 +1,8 @@
-use Rattle.std.proofs.Common.{◌≡◌, ◌≤◌, ◌*◌, ℕ, length, true, sym, subst, ap, arith, rules}
+use Rattle.std.proofs.Common.{◌≡◌, ◌≤◌, ◌*◌, length, sym, subst, ap, arith, rules}
 use Rattle.crib_know.specs.Private.Ahead.{turns_ahead}
 use Rattle.std.proofs.lemmas.List.{get_or-replicate}
 use Rattle.crib_know.specs.Knowledge.{played_events}
-use Rattle.crib_show.specs.declared.demands.Demand.{Demand}
-use Rattle.crib_show.specs.Demands.{is_met}
+use Rattle.crib_show.specs.Demands.{IsMetByAll}
 use Rattle.crib_beaten.proofs.DemandsAfterOpening.{decided_as, stands_as}
 use Rattle.crib_beaten.proofs.plays.Plays.demands.Goals as goal
 
@@ -12,7 +11,7 @@ join_from-requires g c =
     let are = c.requires.2 in
     let turns : turns_ahead c.args.self.now.start.know ≤ 27 = grind arith in
     let many : length c.each_index.result ≡ 1820 = search rules in record {
-      own = (rw are.same_problem are.points, are.few);
+      own = rw are.same_problem are.points;
       here = (played_events c.requires.0, stands_as are);
       small = c.each_index.ensures.indices;
       room = omega (arith, turns, ap (λ n. n * turns_ahead c.args.self.now.start.know) many);
@@ -20,6 +19,6 @@ join_from-requires g c =
 
 pub returns : goal.returns
 returns g c = λ problem plan are index small.
-    decided_as are (subst (λ (d : Demand). (hand crib : ℕ) → hand ≤ 102 → crib ≤ 102 → is_met d hand crib ≡ true)
-    (sym (get_or-replicate 1820 index c.none-demands.result _ small)) c.none-demands.ensures)
+    decided_as are (subst IsMetByAll (sym (get_or-replicate 1820 index c.none-demands.result _ small))
+    (λ hand crib few also. c.none-demands.ensures hand crib (omega (arith, few, also))))
     (c.join_from.ensures.here index (c.each_index.ensures.all index small))

@@ -1,4 +1,4 @@
-use Rattle.std.proofs.Common.{refl, sym}
+use Rattle.std.proofs.Common.{refl, sym, arith}
 use Rattle.crib_show.proofs.FewPoints.{few_hidden_crib, few_hidden_hand}
 use Rattle.crib_show.proofs.ShowDemands.{first_failed}
 use Rattle.crib_show.specs.Worst.{with_dealt}
@@ -18,6 +18,8 @@ returns c =
       target_is = refl;
       stop_is = refl;
       own_hand_is = sym own.hand;
-      few_hand = few_hidden_hand c.know_set.ensures own dealt agrees;
-      few_crib = few_hidden_crib c.know_set.ensures own dealt agrees;
+      few =
+          let hand = few_hidden_hand c.know_set.ensures own dealt agrees in
+          let crib = few_hidden_crib c.know_set.ensures own dealt agrees in
+          omega (arith, hand, crib);
     })) c.first_missing.result c.first_missing.ensures.first

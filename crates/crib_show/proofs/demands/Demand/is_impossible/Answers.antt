@@ -3,4 +3,7 @@ use Rattle.std.proofs.lemmas.Bool.Decides.{nat_tests}
 use Rattle.crib_show.proofs.demands.Demand.is_impossible.Goals as goal
 
 pub returns : goal.returns
-returns c = (λ less hand crib. grind (arith, nat_tests, less), λ none. grind (arith, nat_tests, none 0 c.args.self.crib))
+returns c = (
+  λ less hand crib few also. grind (arith, nat_tests, c, less, also),
+  λ none. grind (arith, nat_tests, c, none 0 c.args.self.crib (omega arith)),
+)

@@ -12,5 +12,5 @@ returns-then-is_met c = (
 pub returns-else-is_met : goal.returns-else-is_met
 returns-else-is_met c = (
   λ all. absurd cc,
-  λ all. absurd (both_ways _ (sym c.is_met.ensures ∙ c.if-is_met.false) (all 102 102 (omega arith) (omega arith))),
+  λ all. absurd (both_ways _ (sym c.is_met.ensures ∙ c.if-is_met.false) (all 29 29 (omega arith) (omega arith))),
 )

@@ -13,7 +13,7 @@ use crate::sums::sums_of;
 use crate::throws::{Cribs, LIMITS, THROWS};
 use crib_cards::{Card, Rank};
 use crib_problem::Problem;
-use crib_show::Demand;
+use crib_show::{Demand, MOST_POINTS};
 use std::marker::Model;
 
 /// The open deals whose hold has four ranks, and how many of them miss a demand.
@@ -113,7 +113,7 @@ fn missing_in(below: &[u32; LIMITS], hand: u8, demand: Demand) -> u32
     if hand > demand.hand || hand > demand.total {
         return all;
     }
-    let past = (demand.total - hand).min(29) + 1;
+    let past = (demand.total - hand).min(MOST_POINTS) + 1;
     let least = demand.crib.min(past);
     all - (below[past as usize] - below[least as usize])
 }

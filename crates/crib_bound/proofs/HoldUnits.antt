@@ -1,18 +1,35 @@
 -- If the throw doesn't decide whether the goal is reached, how many deals beat a plan is a multiple of 820.
-use Rattle.std.proofs.Common.{◌≡◌, ◌↔◌, ◌⊎◌, ℕ, ◌+◌, ◌-◌, ◌<◌, ◌≤◌, min, Bool, true, false, not, ◌&&◌, ◌||◌, leb, ltb, List}
-use Rattle.std.proofs.Common.{refl, sym, ap, ◌∙◌, inl, inr, arith}
-use Rattle.std.proofs.lemmas.Bool.{cases_lt}
+use Rattle.std.proofs.Common.{◌≡◌, ◌↔◌, ◌⊎◌, ℕ, zero, suc, ◌+◌, ◌-◌, ◌<◌, ◌≤◌, min, Bool, true, false, not, ◌&&◌, ◌||◌, leb, ltb}
+use Rattle.std.proofs.Common.{List, [], ◌∷◌, ◌++◌, refl, sym, ap, ◌∙◌, inl, inr, arith}
+use Rattle.std.proofs.lemmas.Bool.{cases_Bool, cases_lt}
 use Rattle.std.proofs.lemmas.Bool.Decides.{nat_tests}
+use Rattle.std.proofs.lemmas.List.{map-append}
 use Rattle.crib_cards.specs.declared.sides.Dealt.{Dealt}
 use Rattle.crib_cards.specs.declared.sides.Scores.{Scores}
+use Rattle.crib_cards.specs.declared.sides.Side.{Side}
 use Rattle.crib_cards.specs.declared.sides.Side.TheVariants.{Owner, Opponent}
+use Rattle.crib_cards.specs.declared.letters.Letter.{Letter}
+use Rattle.crib_cards.specs.declared.letters.Letter.TheVariants.{Go}
+use Rattle.crib_cards.specs.declared.moves.Act.{Act}
+use Rattle.crib_cards.specs.declared.moves.Move.{Move}
+use Rattle.crib_cards.specs.Letters.{letter_of}
+use Rattle.crib_cards.specs.Start.{Start, pone_of}
+use Rattle.crib_play.specs.Filled.{filled_record, is_silent_next, with_silent_gos}
+use Rattle.crib_play.specs.History.{acts_of, history_letters, moves_of, visible_moves}
+use Rattle.crib_play.specs.Legal.{IsLegal, letters_of}
+use Rattle.crib_play.specs.Points.{points_for}
+use Rattle.crib_play.specs.Record.{Record}
+use Rattle.crib_play.proofs.FilledRecords.{filled_whole, letters_filled, not_silent_done}
 use Rattle.crib_show.specs.Demands.{IsShowAt}
 use Rattle.crib_show.specs.Show.{hand_points}
 use Rattle.crib_show.specs.declared.show.outcomes.Outcome.TheVariants.{Reached}
 use Rattle.crib_show.proofs.ShowDemands.{dealer_met, pone_met, show_lost, show_reached}
-use Rattle.crib_problem.specs.Setup.{Setup, IsSetup, IsDealOf, is_stop, target_of}
+use Rattle.crib_problem.specs.Setup.{Setup, IsSetup, IsDealOf, BeginsAsPlayed, hands_of, is_stop, played_back, start_of, target_of}
+use Rattle.crib_problem.proofs.StartLemmas.{hands_dealt, started}
+use Rattle.crib_know.specs.Knowledge.{played_events}
+use Rattle.crib_know.proofs.OpeningLawProofs.{letters_same}
 use Rattle.crib_plan.specs.declared.plan.Node.{Node}
-use Rattle.crib_game.specs.Replay.{full_with, outcome_for, play_scores}
+use Rattle.crib_game.specs.Replay.{full_with, is_done_for, outcome_for, play_scores}
 use Rattle.crib_sure.proofs.PointsOfDeals.{few_crib, few_hand}
 use Rattle.crib_deals.specs.Exact.{AreExactly}
 use Rattle.crib_deals.proofs.HoldMultiples.{dealt_by, multiple_of_820}
@@ -20,7 +37,7 @@ use Rattle.crib_beaten.specs.Beaten.{Beats}
 use Rattle.crib_players.specs.Players.{Player, follower_of}
 use Rattle.crib_bound.specs.BeatenPlayers.{BeatsPlayer}
 use Rattle.crib_bound.specs.Laws.{IsMultiple}
-use Rattle.crib_bound.specs.Private.HoldOutcomes.{IsByHold}
+use Rattle.crib_bound.specs.Private.HoldOutcomes.{IsByHold, opening_score}
 use Rattle.crib_bound.proofs.Plans.{same}
 
 -- ---- the outcome by the hold
@@ -95,30 +112,75 @@ module _ {problem : Setup} (setup : IsSetup problem) (scores : Scores) where
   same_outcome without dealt other deal also hold reached =
       let test = tested without in (test.1 other also).0 (sym (ap test.0 hold) ∙ (test.1 dealt deal).1 reached)
 
--- the scores after the play are no less than those before it
-still_enough : (target score points own : ℕ) → target ≤ 121 → target ≤ score + own → target ≤ min 121 (min 121 (score + points) + own)
-still_enough target score points own few enough = omega (arith, few, enough)
+-- more points are still enough
+still_enough : (target score more own : ℕ) → target ≤ 121 → target ≤ score + own → score ≤ more → target ≤ min 121 (more + own)
+still_enough target score more own few enough grown = omega (arith, few, enough, grown)
 
 module _ {problem : Setup} (setup : IsSetup problem) where
   pub by_pone : problem.dealer ≡ Opponent → is_stop problem.goal ≡ false → IsByHold problem
   by_pone pone goal = record {
     setup = setup;
-    same = λ dealt other played. same_outcome setup (play_scores problem played) (inl (pone, goal)) dealt other;
+    same = λ dealt other played deal also hold grown. same_outcome setup (play_scores problem played) (inl (pone, goal)) dealt other deal also hold;
   }
 
   pub by_stop : problem.dealer ≡ Owner → is_stop problem.goal ≡ true → IsByHold problem
   by_stop dealer goal = record {
     setup = setup;
-    same = λ dealt other played. same_outcome setup (play_scores problem played) (inr (dealer, inl goal)) dealt other;
+    same = λ dealt other played deal also hold grown. same_outcome setup (play_scores problem played) (inr (dealer, inl goal)) dealt other deal also hold;
   }
 
   pub by_hand : problem.dealer ≡ Owner → target_of problem ≤ 121 →
-      target_of problem ≤ problem.scores.owner + hand_points problem.hold problem.starter → IsByHold problem
+      target_of problem ≤ opening_score problem + hand_points problem.hold problem.starter → IsByHold problem
   by_hand dealer few enough = record {
     setup = setup;
-    same = λ dealt other played. same_outcome setup (play_scores problem played) (inr (dealer, inr (still_enough _ problem.scores.owner _ _ few enough)))
-        dealt other;
+    same = λ dealt other played deal also hold grown. same_outcome setup (play_scores problem played)
+        (inr (dealer, inr (still_enough _ (opening_score problem) _ _ few enough grown))) dealt other deal also hold;
   }
+
+-- ---- the scores after the opening
+-- a record with later gos has no fewer points of the owner
+gos_grow : (n : ℕ) (start : Start) (past : Record) →
+    points_for (pone_of start) Owner past ≤ points_for (pone_of start) Owner (with_silent_gos n start past)
+gos_grow zero start past = omega arith
+gos_grow (suc n) start past = elim (cases_Bool (is_silent_next start past)) [
+  | inl silent ↦ rw silent (
+      let rest = gos_grow n start (Go ∷ past) in
+      omega (arith, rest))
+  | inr stops ↦ rw stops (omega arith)
+]
+
+-- nor has one with later visible turns
+later_grow : (start : Start) (later seen : List Letter) →
+    points_for (pone_of start) Owner (filled_record start seen) ≤ points_for (pone_of start) Owner (filled_record start (later ++ seen))
+later_grow start [] seen = omega arith
+later_grow start (turn ∷ later) seen =
+    let rest = later_grow start later seen in
+    let gos = gos_grow 3 start (turn ∷ filled_record start (later ++ seen)) in
+    omega (arith, rest, gos)
+
+module _ {problem : Setup} (setup : IsSetup problem) {dealt : Dealt} (deal : IsDealOf problem dealt) (played : List Move)
+    (legal : IsLegal (start_of problem) (hands_of problem dealt) played) (begins : BeginsAsPlayed problem (acts_of (pone_of (start_of problem)) played)) where
+  abbrev start : Start
+  start = start_of problem
+
+  abbrev pone : Side
+  pone = pone_of start
+
+  letters_are : is_done_for problem played ≡ true →
+      letters_of played ≡ filled_record start (letters_of (moves_of begins.later) ++ history_letters (played_events problem))
+  letters_are done =
+      ap letters_of (sym (filled_whole start (hands_of problem dealt) played (started problem setup) (hands_dealt problem setup dealt deal.deal) legal
+      (not_silent_done start (letters_of played) done)))
+      ∙ letters_filled start (visible_moves pone played)
+      ∙ ap (λ (acts : List Act). filled_record start (letters_of (moves_of acts))) begins.parts
+      ∙ ap (λ (moves : List Move). filled_record start (letters_of moves)) (map-append (λ (act : Act). act.what) begins.later (played_back problem))
+      ∙ ap (filled_record start) (map-append letter_of (moves_of begins.later) (moves_of (played_back problem)))
+      ∙ ap (λ (letters : List Letter). filled_record start (letters_of (moves_of begins.later) ++ letters)) (sym (letters_same (played_back problem)))
+
+  pub grown : is_done_for problem played ≡ true → opening_score problem ≤ (play_scores problem played).owner
+  grown done =
+      let points = later_grow start (letters_of (moves_of begins.later)) (history_letters (played_events problem)) in
+      rw (letters_are done) (omega (arith, points))
 
 -- ---- the deals that beat a plan
 module _ {problem : Setup} (by : IsByHold problem) where
@@ -130,7 +192,8 @@ module _ {problem : Setup} (by : IsByHold problem) where
     failure = elim beats.failure [
       | inl missed ↦ inl (record {
         done = missed.done;
-        missed = λ reached. missed.missed (by.same (dealt_by dealt.hold throw) dealt beats.played deal beats.by.deal refl reached);
+        missed = λ reached. missed.missed (by.same (dealt_by dealt.hold throw) dealt beats.played deal beats.by.deal refl
+            (grown by.setup beats.by.deal beats.played beats.by.legal beats.by.begins missed.done) reached);
       })
       | inr loss ↦ inr loss
     ];

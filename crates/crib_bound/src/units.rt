@@ -4,6 +4,7 @@ ghost use Rattle.crib_bound.specs.Laws.{IsUnit};
 ghost use Rattle.crib_bound.specs.Private.HoldOutcomes.{IsByHold};
 
 use crib_cards::Side;
+use crib_know::Know;
 use crib_problem::Problem;
 use crib_show::hand_points;
 
@@ -15,7 +16,7 @@ const THROWS: u32 = 820;
 /// A hold goes with 820 throws. If the crib can't decide whether the owner reaches the goal, a plan is beaten by all
 /// deals with a hold or by none of them. This is so if the crib is the opponent's and the goal isn't to stop them, as
 /// the pone counts first. It is also so if the crib is the owner's and the goal is to stop the opponent, or the owner
-/// reaches the target with their hand. No clause says when the number is 820.
+/// reaches the target with their hand from their score after the opening. No clause says when the number is 820.
 pub fn unit_of(problem: &Problem) -> u32
     ensures multiple { IsUnit problem.now result }
     ensures some { 1 ≤ result }
@@ -31,7 +32,7 @@ fn may_crib_decide(problem: &Problem) -> bool
     let target = problem.target();
     let is_to_stop = problem.is_to_stop();
     let hand = hand_points(&problem.hold(), problem.starter());
-    let shown = problem.scores().owner + hand;
+    let shown = Know::start(problem).round().scores().owner + hand;
     match problem.dealer() {
         Side::Opponent => is_to_stop,
         Side::Owner => !is_to_stop && shown < target,

@@ -5,6 +5,7 @@ pub mod Plans
 pub mod AgreeingDeals
 pub mod Letters
 pub mod Taken
+pub mod PutParts
 pub mod WalkSteps
 pub mod Worths
 pub mod OpenDeals

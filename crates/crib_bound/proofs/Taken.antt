@@ -1,9 +1,8 @@
 -- What is taken of amounts, counted and given back.
 use Rattle.std.proofs.Common.{◌≡◌, ◌⊎◌, ℕ, zero, suc, ◌+◌, ◌-◌, ◌*◌, ◌/◌, ◌<◌, ◌≤◌, min, Bool, true, false, not, ◌&&◌, ◌||◌, cond, eqb, List, [], ◌∷◌, ◌++◌}
 use Rattle.std.proofs.Common.{length, set, take, sum_by, count_by, get_or, refl, sym, ap, subst, ◌∙◌, inl, inr, arith}
-use Rattle.std.proofs.Math.Nat.{div-mul-le_self, min-eq_left, min-le_left, min-le_right}
-use Rattle.std.proofs.lemmas.Bool.{both_ways, cases_Bool, cases_eq, eqb-true, eq-eqb, ne_eqb, true_from_ne_false}
-use Rattle.std.proofs.lemmas.Bool.Decides.{nat_tests}
+use Rattle.std.proofs.Math.Nat.{div-mul-le_self, min-le_left}
+use Rattle.std.proofs.lemmas.Bool.{both_ways, cases_eq, eqb-true, eq-eqb, false_from_ne_true, ne_eqb, true_from_ne_false}
 use Rattle.std.proofs.lemmas.List.{get_or-set_same, get_or-set_other, take_more_set}
 use Rattle.std.proofs.lemmas.List.Sums.{sum_by-cons}
 use Rattle.crib_cards.specs.Sets.{has}
@@ -123,6 +122,11 @@ more_counted {bound} {demand} {indices} {before} {after} {sum} {more} {count} at
     parted false false index e = omega arith
 
 -- ---- giving back
+-- an entry is raised by at most so much, and no other
+pub record IsRaised (at more index : ℕ) (after new : List ℕ) : Type 0 where
+  pub no_less : get_or after index 0 ≤ get_or new index 0
+  pub few : get_or new index 0 ≤ get_or after index 0 + cond (eqb at index) more 0
+
 none_taken : (at : Dealt → ℕ) (amounts : List ℕ) (deals : List Dealt) → sum_by (taken_of at amounts amounts) deals ≤ 0
 none_taken at amounts [] = omega arith
 none_taken at amounts (dealt ∷ deals) =
@@ -144,21 +148,22 @@ part_of_rest more rest weight free is =
     omega (arith, few, most)
 
 -- some of one more choice
-pub more_back : {bound : Bound} {indices before after : List ℕ} {most : ℕ} (at more weight : ℕ) → at < length after → has indices at ≡ true →
-    get_or bound.weights.now at 0 ≡ weight → AreGivenBack bound indices before after most →
-    AreGivenBack bound indices before (set after at (get_or after at 0 + more)) (most + more * weight)
-more_back {bound} {indices} {before} {after} {most} at more weight inside here is so_far = record {
-  more = λ index. let put = entry index in omega (arith, put, so_far.more index);
-  elsewhere = λ index none. elim (cases_eq at index) [
-    | inl same ↦ absurd (both_ways (has indices at) (subst (λ (one : ℕ). has indices one ≡ false) (sym same) none) here)
-    | inr apart ↦ get_or-set_other after at index (get_or after at 0 + more) 0 (λ same. apart (sym same)) ∙ so_far.elsewhere index none
-  ];
+pub more_back : {bound : Bound} {indices before after new : List ℕ} {most : ℕ} (at more weight : ℕ) → has indices at ≡ true →
+    get_or bound.weights.now at 0 ≡ weight → ((index : ℕ) → IsRaised at more index after new) → AreGivenBack bound indices before after most →
+    AreGivenBack bound indices before new (most + more * weight)
+more_back {bound} {indices} {before} {after} {new} {most} at more weight here is raised so_far = record {
+  more = λ index. omega (arith, so_far.more index, (raised index).no_less);
+  elsewhere = λ index none.
+      let apart = ap (λ (b : Bool). cond b more 0)
+      (false_from_ne_true (eqb at index) (λ same. both_ways (has indices at) (ap (has indices) (eqb-true at index same) ∙ none) here)) in
+      let kept = so_far.elsewhere index none in
+      omega (arith, apart, kept, (raised index).no_less, (raised index).few);
   few = λ deals are.
       let old = taken_of (entry_in bound) after before in
       let put : Dealt → ℕ = λ dealt. cond (eqb at (entry_in bound dealt)) more 0 in
       let both = sum_both old put deals in
-      let all = sum_less (taken_of (entry_in bound) (set after at (get_or after at 0 + more)) before) (λ dealt. old dealt + put dealt) deals
-      (λ dealt h. let entry = entry (entry_in bound dealt) in omega (arith, entry)) in
+      let all = sum_less (taken_of (entry_in bound) new before) (λ dealt. old dealt + put dealt) deals
+      (λ dealt h. omega (arith, (raised (entry_in bound dealt)).few)) in
       let counted = sum_where (λ dealt. eqb at (entry_in bound dealt)) more deals in
       let many = times (are.weighed at) in
       omega (arith, both, all, counted, many, so_far.few deals are);
@@ -166,21 +171,6 @@ more_back {bound} {indices} {before} {after} {most} at more weight inside here i
   where
     times : {count : ℕ} → get_or bound.weights.now at 0 ≡ count → count * more ≡ more * weight
     times {count} e = let same : count ≡ weight = omega (arith, e, is) in rw same (grind arith)
-
-    entry : (index : ℕ) → get_or (set after at (get_or after at 0 + more)) index 0 ≡ get_or after index 0 + cond (eqb at index) more 0
-    entry index = elim (cases_eq at index) [
-      | inl same ↦
-          let put = set_entry after at (get_or after at 0 + more) index inside in
-          let one = ap (λ (b : Bool). cond b (get_or after at 0 + more) (get_or after index 0)) (eq-eqb at index same) in
-          let other = ap (λ (b : Bool). cond b more 0) (eq-eqb at index same) in
-          let old = ap (λ n. get_or after n 0) same in
-          omega (arith, put, one, other, old)
-      | inr apart ↦
-          let put = set_entry after at (get_or after at 0 + more) index inside in
-          let one = ap (λ (b : Bool). cond b (get_or after at 0 + more) (get_or after index 0)) (ne_eqb at index apart) in
-          let other = ap (λ (b : Bool). cond b more 0) (ne_eqb at index apart) in
-          omega (arith, put, one, other)
-    ]
 
 -- no more is lost than is given back
 pub given_lowered : {bound : Bound} {indices one back new : List ℕ} {lost value least : ℕ} → AreGivenBack bound indices one back lost → lost ≤ value →
@@ -215,21 +205,6 @@ still_most old other new at more inside few so_far index most low also = elim (c
 ]
 
 -- ---- joining
--- what is joined is no more than either
-pub both_below : (indices one other new : List ℕ) →
-    ((index : ℕ) → has indices index ≡ true → get_or new index 0 ≡ min (get_or one index 0) (get_or other index 0)) →
-    ((index : ℕ) → has indices index ≡ false → get_or new index 0 ≡ get_or one index 0) →
-    ((index : ℕ) → has indices index ≡ false → get_or one index 0 ≡ get_or other index 0) → (index : ℕ) →
-    (get_or new index 0 ≤ get_or one index 0) × (get_or new index 0 ≤ get_or other index 0)
-both_below indices one other new both elsewhere same index = elim (cases_Bool (has indices index)) [
-  | inl here ↦
-      let is = both index here in
-      let left = min-le_left (get_or one index 0) (get_or other index 0) in
-      let right = min-le_right (get_or one index 0) (get_or other index 0) in
-      (omega (arith, is, left), omega (arith, is, right))
-  | inr there ↦ let is = elsewhere index there in let also = same index there in (omega (arith, is), omega (arith, is, also))
-]
-
 -- one is given back before
 pub back_lowered : {bound : Bound} {indices one back new : List ℕ} {most value least : ℕ} → AreGivenBack bound indices one back most →
     ((index : ℕ) → get_or new index 0 ≤ get_or back index 0) → least + most ≤ value → AreLowered bound one new value least
@@ -298,44 +273,6 @@ one_held indices held amounts old place allowed room inside few so_far index =
         omega (arith, one, other, kept, so_far index, more place)
 
 -- ---- lists of indices
-min_twice : (one other : ℕ) → min (min one other) other ≡ min one other
-min_twice one other = min-eq_left (min-le_right one other)
-
--- one more index of which two amounts are joined
-pub record AreJoined (seen old other new : List ℕ) : Type 0 where
-  pub both : (index : ℕ) → has seen index ≡ true → get_or new index 0 ≡ min (get_or old index 0) (get_or other index 0)
-  pub elsewhere : (index : ℕ) → has seen index ≡ false → get_or new index 0 ≡ get_or old index 0
-
-pub none_joined : {old other : List ℕ} → AreJoined [] old other old
-none_joined = record { both = λ index h. absurd (both_ways false refl h); elsewhere = λ index h. refl }
-
-pub one_joined : {seen old other new : List ℕ} (at : ℕ) → at < length new → AreJoined seen old other new →
-    AreJoined (seen ++ at ∷ []) old other (set new at (min (get_or new at 0) (get_or other at 0)))
-one_joined {seen} {old} {other} {new} at inside so_far = record {
-  both = λ index h. elim (cases_eq at index) [
-    | inl same ↦
-        let put = set_entry new at (min (get_or new at 0) (get_or other at 0)) index inside in
-        let is = ap (λ (b : Bool). cond b (min (get_or new at 0) (get_or other at 0)) (get_or new index 0)) (eq-eqb at index same) in
-        put ∙ is ∙ by_here (has seen at) refl ∙ ap (λ n. min (get_or old n 0) (get_or other n 0)) same
-    | inr apart ↦
-        let left = or_left_false (has seen index) (eqb at index) (sym (has_push seen at index) ∙ h) (ne_eqb at index apart) in
-        get_or-set_other new at index _ 0 (λ same. apart (sym same)) ∙ so_far.both index left
-  ];
-  elsewhere = λ index h.
-      let parts = or_parts_false (has seen index) (eqb at index) (sym (has_push seen at index) ∙ h) in
-      get_or-set_other new at index _ 0 (λ same. both_ways (eqb at index) parts.1 (eq-eqb at index (sym same))) ∙ so_far.elsewhere index parts.0;
-}
-  where
-    or_left_false : (one other : Bool) → (one || other) ≡ true → other ≡ false → one ≡ true
-    or_left_false one other either none = grind (arith, nat_tests, either, none)
-
-    or_parts_false : (one other : Bool) → (one || other) ≡ false → (one ≡ false) × (other ≡ false)
-    or_parts_false one other neither = grind (arith, nat_tests, neither)
-
-    by_here : (b : Bool) → has seen at ≡ b → min (get_or new at 0) (get_or other at 0) ≡ min (get_or old at 0) (get_or other at 0)
-    by_here true h = ap (λ n. min n (get_or other at 0)) (so_far.both at h) ∙ min_twice (get_or old at 0) (get_or other at 0)
-    by_here false h = ap (λ n. min n (get_or other at 0)) (so_far.elsewhere at h)
-
 -- one more index that is kept
 pub one_kept : (test : ℕ → Bool) (left : List ℕ) (count at : ℕ) → count < length left → test at ≡ true →
     ((index : ℕ) → has (take count left) index ≡ true → test index ≡ true) → (index : ℕ) → has (take (count + 1) (set left count at)) index ≡ true →

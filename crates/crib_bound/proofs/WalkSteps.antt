@@ -257,7 +257,8 @@ module _ {bound : Bound} {know next : Knowledge} {indices spare : List ℕ} {eve
   falls = know_falls know next bound.problem.now event walk.history walk.knows (goes bound.problem.now walk.history walk.knows)
 
   -- with some of the indices
-  pub walk_after : (left room : List ℕ) → All (λ index. index < 14560) left → length left * (2 * turns_ahead next) ≤ length room → MayWalk bound next left room
+  pub walk_after : (left room : List ℕ) → All (λ index. index < 14560) left → length left * (3 * turns_ahead next + 3) ≤ length room →
+      MayWalk bound next left room
   walk_after left room small enough = record {
     own = walk.own;
     history = event ∷ walk.history;
@@ -266,17 +267,21 @@ module _ {bound : Bound} {know next : Knowledge} {indices spare : List ℕ} {eve
     room = enough;
   }
 
--- the spare room is enough for two lists of indices, and for those of the turns after it
-pub room_twice : {many before after room : ℕ} (few : ℕ) → many * (2 * before) ≤ room → after < before → few ≤ many →
-    (few * (2 * after) + few + many ≤ room) × (few * (2 * after) ≤ room)
-room_twice {many} {before} {after} {room} few enough falls fewer =
-    let less : many * (2 * after + 2) ≤ room = grind (arith, enough, falls) in
-    let part : few * (2 * after) ≤ many * (2 * after) = grind (arith, fewer) in
+-- the spare room is enough for three lists
+pub room_thrice : (many before : ℕ) {room : ℕ} → many * (3 * before + 3) ≤ room → 3 * many ≤ room
+room_thrice many before enough = grind (arith, enough)
+
+-- and then for those of the turns after it
+pub room_after : {many before after room : ℕ} (few : ℕ) → many * (3 * before + 3) ≤ room → after < before → few ≤ many →
+    (few * (3 * after + 3) + few + 2 * many ≤ room) × (few * (3 * after + 3) ≤ room)
+room_after {many} {before} {after} {room} few enough falls fewer =
+    let less : many * (3 * after + 6) ≤ room = grind (arith, enough, falls) in
+    let part : few * (3 * after + 3) ≤ many * (3 * after + 3) = grind (arith, fewer) in
     (grind (arith, less, part, fewer), grind (arith, less, part, fewer))
 
 -- ---- the walk from the opening on
-pub start_room : {indices ahead room : ℕ} → indices ≡ 14560 → ahead ≤ 27 → room ≡ 54 * 14560 → indices * (2 * ahead) ≤ room
-start_room {indices} {ahead} {room} is few enough = let all : 14560 * (2 * ahead) ≤ room = omega (arith, few, enough) in rw is all
+pub start_room : {indices ahead room : ℕ} → indices ≡ 14560 → ahead ≤ 27 → room ≡ 84 * 14560 → indices * (3 * ahead + 3) ≤ room
+start_room {indices} {ahead} {room} is few enough = let all : 14560 * (3 * ahead + 3) ≤ room = omega (arith, few, enough) in rw is all
 
 pub start_strategy : {bound : Bound} {know : Knowledge} {indices before after : List ℕ} (parts value : ℕ) →
     KnowsAfter know bound.problem.now (played_events bound.problem.now) → ((index : ℕ) → get_or before index 0 ≤ parts) →

@@ -3,7 +3,7 @@ ghost use Rattle.std.specs.Prelude.{◌≡◌, ◌+◌, ◌/◌, ◌<◌, ◌≤
 ghost use Rattle.std.specs.List.{All};
 ghost use Rattle.crib_cards.specs.Sets.{has};
 ghost use Rattle.crib_beaten.specs.Beaten.{counts_of, may_show};
-ghost use Rattle.crib_bound.specs.Private.Walks.{held_of};
+ghost use Rattle.crib_bound.specs.Private.Walks.{AreReadAt, held_of, with_parts};
 
 use crate::weights::ENTRIES;
 use crib_beaten::may_show;
@@ -56,17 +56,38 @@ pub(crate) fn put_back(indices: &[u16], held: &[u16], amounts: &mut Amounts)
     }
 }
 
-/// Takes what one of two has taken.
-pub(crate) fn take_both(indices: &[u16], amounts: &mut Amounts, other: &Amounts)
-    requires { All (λ index. index < 14560) indices.now }
-    ensures both { (index : ℕ) → IsTrue (has indices.now index)
-        → get_or amounts.new index 0 ≡ min (get_or amounts.old index 0) (get_or other.now index 0) }
-    ensures elsewhere { (index : ℕ) → IsFalse (has indices.now index)
-        → get_or amounts.new index 0 ≡ get_or amounts.old index 0 }
+/// Reads the amounts at some indices.
+pub(crate) fn read_parts(indices: &[u16], amounts: &Amounts, parts: &mut [u16])
+    requires small { All (λ index. index < 14560) indices.now }
+    requires room { length parts.old ≡ length indices.now }
+    ensures read { AreReadAt indices.now amounts.now parts.new }
+    ensures room { length parts.new ≡ length parts.old }
 {
-    for index in indices {
-        let index = *index as usize;
-        amounts[index] = amounts[index].min(other[index]);
+    for at in 0..indices.len() {
+        parts[at] = amounts[indices[at] as usize];
+    }
+}
+
+/// Puts amounts at some indices.
+pub(crate) fn put_parts(indices: &[u16], parts: &[u16], amounts: &mut Amounts)
+    requires small { All (λ index. index < 14560) indices.now }
+    requires room { length parts.now ≡ length indices.now }
+    ensures { amounts.new ≡ with_parts indices.now parts.now (length indices.now) amounts.old }
+{
+    for at in 0..indices.len() {
+        amounts[indices[at] as usize] = parts[at];
+    }
+}
+
+/// Takes what one of two has taken.
+pub(crate) fn take_both(parts: &mut [u16], other: &[u16])
+    requires { length other.now ≡ length parts.old }
+    ensures both { (place : ℕ) → place < length parts.old
+        → get_or parts.new place 0 ≡ min (get_or parts.old place 0) (get_or other.now place 0) }
+    ensures room { length parts.new ≡ length parts.old }
+{
+    for at in 0..parts.len() {
+        parts[at] = parts[at].min(other[at]);
     }
 }
 

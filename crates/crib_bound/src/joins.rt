@@ -1,10 +1,9 @@
 //! What is taken after each of several cards, joined.
-ghost use Rattle.std.specs.Prelude.{◌≡◌, ◌<◌, ◌≤◌, ℕ, IsFalse, get_or};
+ghost use Rattle.std.specs.Prelude.{◌≡◌, ◌<◌, ◌≤◌, ℕ, get_or, length};
 ghost use Rattle.std.specs.List.{All};
-ghost use Rattle.crib_cards.specs.Sets.{has};
-ghost use Rattle.crib_bound.specs.Private.Walks.{AreGivenBack, AreLowered};
+ghost use Rattle.crib_bound.specs.Private.Walks.{AreGivenBackAt, AreLoweredAt};
 
-use crate::entries::{Amounts, take_both};
+use crate::entries::take_both;
 use crate::walk::Bound;
 use crib_search::{Guide, Spot};
 use std::alloc::Allocator;
@@ -28,19 +27,19 @@ impl Bound<'_> {
         spot: &Spot,
         indices: &[u16],
         least: u64,
-        kept: &mut Amounts,
+        kept: &mut [u16],
         value: u64,
-        left: &mut Amounts,
+        left: &mut [u16],
     ) -> u64
         requires small { All (λ index. index < 14560) indices.now }
-        requires same { (index : ℕ) → IsFalse (has indices.now index)
-            → get_or kept.old index 0 ≡ get_or left.old index 0 }
-        ensures less { (index most : ℕ) → get_or kept.old index 0 ≤ most → get_or left.old index 0 ≤ most
-            → get_or kept.new index 0 ≤ most }
-        ensures elsewhere { (index : ℕ) → IsFalse (has indices.now index)
-            → get_or kept.new index 0 ≡ get_or kept.old index 0 }
-        ensures kept { AreLowered self.now kept.old kept.new least result }
-        ensures left { AreLowered self.now left.old kept.new value result }
+        requires kept_room { length kept.old ≡ length indices.now }
+        requires left_room { length left.old ≡ length indices.now }
+        ensures less { (place most : ℕ) → place < length indices.now → get_or kept.old place 0 ≤ most
+            → get_or left.old place 0 ≤ most → get_or kept.new place 0 ≤ most }
+        ensures kept { AreLoweredAt self.now indices.now kept.old kept.new least result }
+        ensures left { AreLoweredAt self.now indices.now left.old kept.new value result }
+        ensures kept_room { length kept.new ≡ length kept.old }
+        ensures left_room { length left.new ≡ length left.old }
     {
         if least == u64::MAX {
             return self.join(guide, indices, least, kept, value, left);
@@ -58,27 +57,27 @@ impl Bound<'_> {
         guide: &Guide<'_, A>,
         indices: &[u16],
         least: u64,
-        kept: &mut Amounts,
+        kept: &mut [u16],
         value: u64,
-        left: &mut Amounts,
+        left: &mut [u16],
     ) -> u64
         requires small { All (λ index. index < 14560) indices.now }
-        requires same { (index : ℕ) → IsFalse (has indices.now index)
-            → get_or kept.old index 0 ≡ get_or left.old index 0 }
-        ensures less { (index most : ℕ) → get_or kept.old index 0 ≤ most → get_or left.old index 0 ≤ most
-            → get_or kept.new index 0 ≤ most }
-        ensures elsewhere { (index : ℕ) → IsFalse (has indices.now index)
-            → get_or kept.new index 0 ≡ get_or kept.old index 0 }
-        ensures kept { AreLowered self.now kept.old kept.new least result }
-        ensures left { AreLowered self.now left.old kept.new value result }
+        requires kept_room { length kept.old ≡ length indices.now }
+        requires left_room { length left.old ≡ length indices.now }
+        ensures less { (place most : ℕ) → place < length indices.now → get_or kept.old place 0 ≤ most
+            → get_or left.old place 0 ≤ most → get_or kept.new place 0 ≤ most }
+        ensures kept { AreLoweredAt self.now indices.now kept.old kept.new least result }
+        ensures left { AreLoweredAt self.now indices.now left.old kept.new value result }
+        ensures kept_room { length kept.new ≡ length kept.old }
+        ensures left_room { length left.new ≡ length left.old }
     {
         if value < least {
             self.give_back(guide, Given::All, indices, kept, left, least - value);
-            take_both(indices, kept, left);
+            take_both(kept, left);
             return value;
         }
         self.give_back(guide, Given::All, indices, left, kept, value - least);
-        take_both(indices, kept, left);
+        take_both(kept, left);
         least
     }
 
@@ -89,26 +88,29 @@ impl Bound<'_> {
         guide: &Guide<'_, A>,
         given: Given,
         indices: &[u16],
-        amounts: &mut Amounts,
-        other: &Amounts,
+        parts: &mut [u16],
+        other: &[u16],
         most: u64,
     ) -> u64
-        requires { All (λ index. index < 14560) indices.now }
-        ensures back { AreGivenBack self.now indices.now amounts.old amounts.new result }
+        requires small { All (λ index. index < 14560) indices.now }
+        requires room { length parts.old ≡ length indices.now }
+        requires other_room { length other.now ≡ length indices.now }
+        ensures back { AreGivenBackAt self.now indices.now parts.old parts.new result }
         ensures few { result ≤ most }
-        ensures less { (index most : ℕ) → get_or amounts.old index 0 ≤ most → get_or other.now index 0 ≤ most
-            → get_or amounts.new index 0 ≤ most }
+        ensures less { (place most : ℕ) → get_or parts.old place 0 ≤ most → get_or other.now place 0 ≤ most
+            → get_or parts.new place 0 ≤ most }
+        ensures room { length parts.new ≡ length parts.old }
     {
         let mut rest = most;
-        for index in indices {
-            let index = *index as usize;
+        for at in 0..indices.len() {
+            let index = indices[at] as usize;
             let weight = self.weights[index];
             if weight == 0 || given == Given::Strays && guide.is_noted(index) {
                 continue;
             }
-            let free = other[index].saturating_sub(amounts[index]);
+            let free = other[at].saturating_sub(parts[at]);
             let more = (rest / weight).min(free as u64);
-            amounts[index] += more as u16;
+            parts[at] += more as u16;
             rest -= more * weight;
         }
         most - rest

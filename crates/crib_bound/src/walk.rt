@@ -11,7 +11,9 @@ ghost use Rattle.crib_bound.specs.Worth.{IsStrategy};
 ghost use Rattle.crib_bound.specs.Private.Walks.{AreDealsOf, IsBoundAfter, IsBoundAt};
 ghost use Rattle.crib_bound.specs.Private.Walks.{MayWalk, entry_in, misses_at};
 
-use crate::entries::{Amounts, each_index, hold_back, keep_indices, parts_of_all, put_back};
+use crate::entries::{
+    Amounts, each_index, hold_back, keep_indices, parts_of_all, put_back, put_parts, read_parts,
+};
 use crate::grades::missing_with;
 use crate::weights::{Choices, ENTRIES};
 use crib_cards::{Letter, RankCounts};
@@ -25,7 +27,7 @@ use crib_sure::demand_at_end;
 use std::alloc::{AllocError, Allocator};
 
 // More than the turns of a deal.
-const TURNS: usize = 27;
+const TURNS: usize = 28;
 
 /// What a bound is counted from.
 #[derive(Drop)]
@@ -110,7 +112,8 @@ impl Bound<'_> {
         }
     }
 
-    // The least after each card that the owner may play. For each card the same is taken.
+    // The least after each card that the owner may play. For each card the same is taken. What each
+    // takes of the amounts that were there before is joined.
     #[cycle(worth)]
     #[inline(never)]
     fn worth_by_own<A: Allocator + Copy>(
@@ -132,7 +135,12 @@ impl Bound<'_> {
             next.own_go();
             return self.worth_at(guide, spot, &next, indices, spare, amounts);
         }
-        let before = *amounts;
+        let count = indices.len();
+        let (before, spare) = spare.split_at_mut(count);
+        let (kept, spare) = spare.split_at_mut(count);
+        let (left, spare) = spare.split_at_mut(count);
+        read_parts(indices, amounts, before);
+        read_parts(indices, amounts, kept);
         let mut least = u64::MAX;
         let mut rest = know.own_left();
         while let Some(card) = rest.lowest() {
@@ -143,14 +151,15 @@ impl Bound<'_> {
             let mut next = know.copy();
             next.own_play(card);
             let after = guide.after_card(spot, card.rank());
-            let mut left = before;
-            let value = self.worth_at(guide, &after, &next, indices, spare, &mut left);
-            least = self.settle(guide, spot, indices, least, amounts, value, &mut left);
+            let value = self.worth_at(guide, &after, &next, indices, spare, amounts);
+            read_parts(indices, amounts, left);
+            least = self.settle(guide, spot, indices, least, kept, value, left);
+            put_parts(indices, before, amounts);
             if least == 0 {
-                *amounts = before;
                 return 0;
             }
         }
+        put_parts(indices, kept, amounts);
         least
     }
 
@@ -245,7 +254,7 @@ pub fn bound_of<A: Allocator + Copy>(
         tables: choices.tables.as_slice(),
         own_hand: hand_points(&problem.hold(), problem.starter()),
     };
-    let mut spare = vec![in alloc; 0; 2 * TURNS * ENTRIES]?;
+    let mut spare = vec![in alloc; 0; 3 * TURNS * ENTRIES]?;
     let mut amounts = parts_of_all(&choices.weights, parts);
     let spot = guide.start();
     Ok(bound.worth_at(

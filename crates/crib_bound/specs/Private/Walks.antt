@@ -1,6 +1,6 @@
 -- A walk over what the owner knows, which counts what amounts of deals are worth.
 use Rattle.std.specs.Prelude.{◌≡◌, ℕ, zero, suc, ◌+◌, ◌-◌, ◌*◌, ◌/◌, ◌<◌, ◌≤◌, nat_eq, Bool, not, ◌&&◌, cond}
-use Rattle.std.specs.Prelude.{List, [], ◌∷◌, length, count_by, get_or, map, sum_by, take}
+use Rattle.std.specs.Prelude.{List, [], ◌∷◌, length, count_by, get_or, map, set, sum_by, take}
 use Rattle.std.specs.Prelude.{Option, None, IfSome, IsTrue, IsFalse}
 use Rattle.std.specs.List.{All}
 use Rattle.crib_cards.specs.Cards.{rank_of}
@@ -163,11 +163,36 @@ pub record AreLowered (bound : Bound) (before after : List ℕ) (value least : �
   pub lost : (deals : List Dealt) → AreDealsOf bound deals →
       least + sum_by (taken_of (entry_in bound) mid before) deals ≤ value
 
+-- amounts with others put at the first places of a list of indices
+abbrev pub with_parts : List ℕ → List ℕ → ℕ → List ℕ → List ℕ
+with_parts indices parts zero amounts = amounts
+with_parts indices parts (suc places) amounts =
+    set (with_parts indices parts places amounts) (get_or indices places 0) (get_or parts places 0)
+
+-- some parts are the amounts at the indices of a list
+abbrev pub AreReadAt : List ℕ → List ℕ → List ℕ → Type 0
+AreReadAt indices amounts parts =
+    (place : ℕ) → place < length indices → get_or parts place 0 ≡ get_or amounts (get_or indices place 0) 0
+
+-- something is given back to parts that are put at the indices of a list
+abbrev pub AreGivenBackAt : Bound → List ℕ → List ℕ → List ℕ → ℕ → Type 0
+AreGivenBackAt bound indices before after most =
+    (amounts : List ℕ) → length amounts ≡ 14560 →
+    AreGivenBack bound indices (with_parts indices before (length indices) amounts)
+    (with_parts indices after (length indices) amounts) most
+
+-- a value is lowered by what happens to such parts
+abbrev pub AreLoweredAt : Bound → List ℕ → List ℕ → List ℕ → ℕ → ℕ → Type 0
+AreLoweredAt bound indices before after value least =
+    (amounts : List ℕ) → length amounts ≡ 14560 →
+    AreLowered bound (with_parts indices before (length indices) amounts)
+    (with_parts indices after (length indices) amounts) value least
+
 -- a walk may begin: the owner's hand is counted, the position is one after some history, and the spare room is enough
--- for the indices that are kept after each turn ahead
+-- for three lists now and at each turn ahead
 pub record MayWalk (bound : Bound) (know : Knowledge) (indices spare : List ℕ) : Type 0 where
   pub own : bound.own_hand ≡ hand_points bound.problem.now.hold bound.problem.now.starter
   pub history : List Event
   pub knows : KnowsAfter know bound.problem.now history
   pub small : All (λ index. index < 14560) indices
-  pub room : length indices * (2 * turns_ahead know) ≤ length spare
+  pub room : length indices * (3 * turns_ahead know + 3) ≤ length spare

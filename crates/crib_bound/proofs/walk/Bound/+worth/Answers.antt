@@ -1,10 +1,13 @@
-use Rattle.std.proofs.Common.{◌≡◌, ◌∙◌, get_or, length, take, refl, sym, arith, rules}
+use Rattle.std.proofs.Common.{◌≡◌, ◌<◌, ◌≤◌, ◌∙◌, ℕ, get_or, length, take, refl, sym, arith, rules}
 use Rattle.std.proofs.lemmas.List.{length-take}
 use Rattle.crib_cards.specs.declared.moves.Move.TheVariants as move
 use Rattle.crib_cards.proofs.Members.{has_here}
 use Rattle.crib_cards.proofs.LowestCard.{lowest_none, lowest_split, rest_smaller}
+use Rattle.crib_know.specs.Private.Ahead.{turns_ahead}
+use Rattle.crib_bound.specs.Private.Walks.{with_parts}
+use Rattle.crib_bound.proofs.PutParts.{with_elsewhere, with_few, with_read}
 use Rattle.crib_bound.proofs.WalkSteps.{all_done, cannot_play, falls, go_bound, held_bound, more_letters, no_letter, none_bound, none_walked}
-use Rattle.crib_bound.proofs.WalkSteps.{one_passed, one_walked, own_after, own_bound, room_twice, some_card, some_letter, still_held, walk_after}
+use Rattle.crib_bound.proofs.WalkSteps.{one_passed, one_walked, own_after, own_bound, room_after, room_thrice, some_card, some_letter, still_held, walk_after}
 use Rattle.crib_bound.proofs.walk.Bound.+worth.Goals as goal
 
 -- ---- a letter
@@ -19,12 +22,12 @@ worth_after-keep_indices-count-requires-clause-room g t c = omega (arith, c.spli
 
 pub worth_after-split_at_mut-left-requires : goal.worth_after-split_at_mut-left-requires
 worth_after-split_at_mut-left-requires g t c =
-    let room = room_twice 0 c.requires.room (falls c.requires (rw c.copy-next.ensures at c.saw.ensures)) (omega arith) in
+    let room = room_after 0 c.requires.room (falls c.requires (rw c.copy-next.ensures at c.saw.ensures)) (omega arith) in
     omega (arith, room.0)
 
 pub worth_after-split_at_mut-held-requires : goal.worth_after-split_at_mut-held-requires
 worth_after-split_at_mut-held-requires g t c =
-    let room = room_twice c.keep_indices-count.result c.requires.room (falls c.requires (rw c.copy-next.ensures at c.saw.ensures))
+    let room = room_after c.keep_indices-count.result c.requires.room (falls c.requires (rw c.copy-next.ensures at c.saw.ensures))
     c.keep_indices-count.ensures.few in
     omega (arith, room.0, c.split_at_mut-left.ensures.back_len)
 
@@ -45,7 +48,7 @@ worth_after-worth_at-value-requires g t c κs within =
       c.keep_indices-count.ensures.room,
       c.split_at_mut-left.ensures.front_len,
     ) in
-    let room = room_twice c.keep_indices-count.result c.requires.room less c.keep_indices-count.ensures.few in (
+    let room = room_after c.keep_indices-count.result c.requires.room less c.keep_indices-count.ensures.few in (
       omega (arith, less, c.decreases),
       (
         within,
@@ -92,15 +95,45 @@ pub worth_by_own-worth_at-requires : goal.worth_by_own-worth_at-requires
 worth_by_own-worth_at-requires g t c κs within =
     let goes = rw c.copy-next.ensures at c.own_go.ensures in
     let less = falls c.requires.walk goes in
-    let room = room_twice (length c.args.indices.now) c.requires.walk.room less (omega arith) in
+    let room = room_after (length c.args.indices.now) c.requires.walk.room less (omega arith) in
     (omega (arith, less, c.decreases), (within, walk_after c.requires.walk goes c.args.indices.now _ c.requires.walk.small room.1))
 
 pub worth_by_own-returns-then-must_go-clause-worth : goal.worth_by_own-returns-then-must_go-clause-worth
 worth_by_own-returns-then-must_go-clause-worth g t c =
     go_bound (own_after _ c.requires.asked (rw c.copy-next.ensures at c.own_go.ensures) c.worth_at.ensures.worth)
 
+pub worth_by_own-split_at_mut-before-requires : goal.worth_by_own-split_at_mut-before-requires
+worth_by_own-split_at_mut-before-requires g t c = omega (arith, room_thrice (length c.args.indices.now) (turns_ahead c.args.know.now) c.requires.walk.room)
+
+pub worth_by_own-split_at_mut-kept-requires : goal.worth_by_own-split_at_mut-kept-requires
+worth_by_own-split_at_mut-kept-requires g t c =
+    omega (arith, room_thrice (length c.args.indices.now) (turns_ahead c.args.know.now) c.requires.walk.room, c.split_at_mut-before.ensures.back_len)
+
+pub worth_by_own-split_at_mut-left-requires : goal.worth_by_own-split_at_mut-left-requires
+worth_by_own-split_at_mut-left-requires g t c =
+    let room = room_thrice (length c.args.indices.now) (turns_ahead c.args.know.now) c.requires.walk.room in
+    omega (arith, room, c.split_at_mut-before.ensures.back_len, c.split_at_mut-kept.ensures.back_len)
+
 pub worth_by_own-loop-card-init : goal.worth_by_own-loop-card-init
-worth_by_own-loop-card-init g t c = record { held = λ card h. rw c.own_left-rest.ensures at h; done = rw c.own_left-rest.ensures none_walked; room = refl }
+worth_by_own-loop-card-init g t c = record {
+  held = λ card h. rw c.own_left-rest.ensures at h;
+  done = rw (
+    c.own_left-rest.ensures,
+    with_read c.args.indices.now c.args.amounts.now c.requires.walk.small (search rules) c.args.amounts.now c.read_parts-2.new.parts (search rules)
+        c.read_parts-2.ensures.read (λ index none. refl),
+  ) none_walked;
+  same = refl;
+  below = λ place inside. let read = c.read_parts-2.ensures.read place inside in omega (arith, read);
+  kept_room = omega (arith, c.read_parts-2.ensures.room, c.split_at_mut-kept.ensures.front_len);
+  left_room = omega (arith, c.split_at_mut-left.ensures.front_len);
+  room = omega (
+    arith,
+    room_thrice (length c.args.indices.now) (turns_ahead c.args.know.now) c.requires.walk.room,
+    c.split_at_mut-before.ensures.back_len,
+    c.split_at_mut-kept.ensures.back_len,
+    c.split_at_mut-left.ensures.back_len,
+  );
+}
 
 pub worth_by_own-loop-card-smaller-then-not-fits : goal.worth_by_own-loop-card-smaller-then-not-fits
 worth_by_own-loop-card-smaller-then-not-fits g t c =
@@ -113,6 +146,10 @@ worth_by_own-loop-card-preserved-then-not-fits g t c =
       held = still_held c.args.know.now.own_left parts c.loop-card.invariant.held;
       done = one_passed parts (cannot_play c.args.know.now c.in-Some.card c.fits.result
           (rw (c.round.ensures, c.rank.ensures.value) at c.fits.ensures) c.if-not-fits.true) c.loop-card.invariant.done;
+      same = c.loop-card.invariant.same;
+      below = c.loop-card.invariant.below;
+      kept_room = c.loop-card.invariant.kept_room;
+      left_room = c.loop-card.invariant.left_room;
       room = c.loop-card.invariant.room;
     }
 
@@ -129,34 +166,53 @@ pub worth_by_own-worth_at-value-requires : goal.worth_by_own-worth_at-value-requ
 worth_by_own-worth_at-value-requires g t c κs within =
     let goes = rw c.copy-next-in-Some.ensures at c.own_play.ensures in
     let less = falls c.requires.walk goes in
-    let room = room_twice (length c.args.indices.now) c.requires.walk.room less (omega arith) in (
+    let room = room_after (length c.args.indices.now) c.requires.walk.room less (omega arith) in (
       omega (arith, less, c.decreases),
-      (within, walk_after c.requires.walk goes c.args.indices.now _ c.requires.walk.small (omega (arith, room.1, c.loop-card.invariant.room))),
+      (within, walk_after c.requires.walk goes c.args.indices.now _ c.requires.walk.small (omega (arith, room.0, c.loop-card.invariant.room))),
     )
 
 pub worth_by_own-returns-then-least-eq0-clause-worth : goal.worth_by_own-returns-then-least-eq0-clause-worth
-worth_by_own-returns-then-least-eq0-clause-worth g t c = none_bound
-
-pub worth_by_own-settle-least-requires-clause-same : goal.worth_by_own-settle-least-requires-clause-same
-worth_by_own-settle-least-requires-clause-same g t c = λ index none.
-    c.loop-card.invariant.done.fewer.elsewhere index none ∙ sym (c.worth_at-value.ensures.worth.fewer.elsewhere index none)
+worth_by_own-returns-then-least-eq0-clause-worth g t c =
+    let there = rw c.loop-card.invariant.same at c.worth_at-value.ensures.worth in
+    rw (c.put_parts.ensures ∙ with_read c.args.indices.now c.worth_at-value.new.amounts c.requires.walk.small (search rules) c.args.amounts.now
+    c.read_parts.new.parts (search rules) c.read_parts.ensures.read there.fewer.elsewhere) none_bound
 
 pub worth_by_own-loop-card-preserved : goal.worth_by_own-loop-card-preserved
 worth_by_own-loop-card-preserved g t c =
     let parts = lowest_split c.loop-card.rest c.without-rest.result c.in-Some.card c.in-Some.ensures.set c.in-Some.ensures.first c.without-rest.ensures in
+    let there = rw c.loop-card.invariant.same at c.worth_at-value.ensures.worth in
+    let long : length c.args.amounts.now ≡ 14560 = search rules in
+    let below : (place : ℕ) → place < length c.args.indices.now →
+    get_or c.settle-least.new.kept place 0 ≤ get_or c.args.amounts.now (get_or c.args.indices.now place 0) 0 =
+    λ place inside. c.settle-least.ensures.less place (get_or c.args.amounts.now (get_or c.args.indices.now place 0) 0) inside
+    (c.loop-card.invariant.below place inside)
+    (let read = c.read_parts-in-Some.ensures.read place inside in
+    let less = there.fewer.less (get_or c.args.indices.now place 0) in
+    omega (arith, read, less)) in
     record {
       held = still_held c.args.know.now.own_left parts c.loop-card.invariant.held;
       done = one_walked parts (record {
-        less = λ index. c.settle-least.ensures.less index (get_or c.args.amounts.now index 0) (c.loop-card.invariant.done.fewer.less index)
-            (c.worth_at-value.ensures.worth.fewer.less index);
-        elsewhere = λ index none. c.settle-least.ensures.elsewhere index none ∙ c.loop-card.invariant.done.fewer.elsewhere index none;
-      }) c.settle-least.ensures.kept c.settle-least.ensures.left
-          (own_after (move.Card c.in-Some.card) c.requires.asked (rw c.copy-next-in-Some.ensures at c.own_play.ensures) c.worth_at-value.ensures.worth)
+        less = λ index. with_few c.args.indices.now c.args.amounts.now c.requires.walk.small long c.settle-least.new.kept (length c.args.indices.now) index
+            (omega arith) below;
+        elsewhere = λ index none. with_elsewhere c.args.indices.now c.args.amounts.now c.requires.walk.small long c.settle-least.new.kept
+            (length c.args.indices.now) index (omega arith) none;
+      }) (c.settle-least.ensures.kept c.args.amounts.now long)
+          (rw (with_read c.args.indices.now c.args.amounts.now c.requires.walk.small long c.worth_at-value.new.amounts
+          c.read_parts-in-Some.new.parts (search rules)
+          c.read_parts-in-Some.ensures.read (λ index none. sym (there.fewer.elsewhere index none))) at (c.settle-least.ensures.left c.args.amounts.now long))
+          (own_after (move.Card c.in-Some.card) c.requires.asked (rw c.copy-next-in-Some.ensures at c.own_play.ensures) there)
           c.loop-card.invariant.done;
-      room = search rules;
+      same = c.put_parts.ensures ∙ with_read c.args.indices.now c.worth_at-value.new.amounts c.requires.walk.small (search rules) c.args.amounts.now
+          c.read_parts.new.parts (search rules) c.read_parts.ensures.read there.fewer.elsewhere;
+      below = below;
+      kept_room = c.settle-least.ensures.kept_room ∙ c.loop-card.invariant.kept_room;
+      left_room = c.settle-least.ensures.left_room ∙ c.read_parts-in-Some.ensures.room ∙ c.loop-card.invariant.left_room;
+      room = omega (arith, c.worth_at-value.ensures.room, c.loop-card.invariant.room);
     }
 
 pub worth_by_own-returns-clause-worth : goal.worth_by_own-returns-clause-worth
 worth_by_own-returns-clause-worth g t c =
     let some = some_card c.args.know.now c.must_go.result c.must_go.ensures.exact c.requires.asked c.if-must_go.false in
-    own_bound c.requires.asked some.0 some.1 (all_done (lowest_none c.loop-card.rest c.in_default.ensures.first) c.loop-card.invariant.done)
+    rw (c.put_parts-2.ensures, c.loop-card.invariant.same)
+    (own_bound c.requires.asked some.0 some.1 (all_done {after = with_parts c.args.indices.now c.loop-card.kept (length c.args.indices.now) c.args.amounts.now}
+    (lowest_none c.loop-card.rest c.in_default.ensures.first) c.loop-card.invariant.done))

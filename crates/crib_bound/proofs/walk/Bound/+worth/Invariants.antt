@@ -1,7 +1,7 @@
-use Rattle.std.proofs.Common.{◌≡◌, ◌*◌, ◌+◌, ℕ, length, true}
+use Rattle.std.proofs.Common.{◌≡◌, ◌*◌, ◌+◌, ◌<◌, ◌≤◌, ℕ, get_or, length, true}
 use Rattle.crib_cards.specs.Sets.{has}
 use Rattle.crib_know.specs.Private.Ahead.{turns_ahead}
-use Rattle.crib_bound.specs.Private.Walks.{IsBoundAt}
+use Rattle.crib_bound.specs.Private.Walks.{IsBoundAt, with_parts}
 use Rattle.crib_bound.proofs.WalkSteps.{AreWalked}
 use Rattle.crib_bound.proofs.walk.Bound.+worth.Given as goal
 
@@ -20,8 +20,12 @@ decreases-worth_after g l = 3 * turns_ahead l.know.now
 abbrev pub invariant-worth_by_own-loop-card : goal.invariant-worth_by_own-loop-card
 invariant-worth_by_own-loop-card g l = record {
   held : (card : ℕ) → has l.rest card ≡ true → has l.know.own_left card ≡ true;
-  done : AreWalked l.self l.know l.indices l.fn.amounts l.amounts l.rest l.least;
-  room : length l.spare ≡ length l.fn.spare;
+  done : AreWalked l.self l.know l.indices l.fn.amounts (with_parts l.indices l.kept (length l.indices) l.fn.amounts) l.rest l.least;
+  same : l.amounts ≡ l.fn.amounts;
+  below : (place : ℕ) → place < length l.indices → get_or l.kept place 0 ≤ get_or l.fn.amounts (get_or l.indices place 0) 0;
+  kept_room : length l.kept ≡ length l.indices;
+  left_room : length l.left ≡ length l.indices;
+  room : length l.spare + 3 * length l.indices ≡ length l.fn.spare;
 }
 
 abbrev pub decreases-worth_by_own-loop-card : goal.decreases-worth_by_own-loop-card

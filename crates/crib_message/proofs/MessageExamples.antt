@@ -144,8 +144,9 @@ words_of_spots = refl
 
 -- a word goes on behind its first byte. A blank, a colon and a tab are of no word, nor is what isn't there
 pub words_that_go_on :
-    map (goes_on (codes "10 A:2")) (0 ∷ 1 ∷ 2 ∷ 3 ∷ 4 ∷ 5 ∷ 6 ∷ 7 ∷ []) ≡ false ∷ true ∷ false ∷ false ∷ false ∷ false ∷ false ∷ false ∷ []
-words_that_go_on = refl
+    (map (goes_on (codes "10 A:2")) (0 ∷ 1 ∷ 2 ∷ 3 ∷ 4 ∷ 5 ∷ 6 ∷ 7 ∷ []) ≡ false ∷ true ∷ false ∷ false ∷ false ∷ false ∷ false ∷ false ∷ [])
+    × (goes_on (codes "aaab") 3 ≡ true)
+words_that_go_on = (refl, refl)
 
 pub bytes_of_words :
     map is_of_word (Some 33 ∷ Some 126 ∷ Some 32 ∷ Some 127 ∷ Some 58 ∷ Some 57 ∷ Some 59 ∷ None ∷ [])

@@ -97,7 +97,7 @@ that_it_says_little : (little_lines (own_lead (Beaten 6 10) ∷ own_lead (Beaten
 that_it_says_little = (refl, refl, refl, refl)
 
 -- the best card to stop them is the first of equals, and none is named if half of the deals are against it
-best_to_stop : (best_line (two_lead (Beaten 4 10) ∷ own_lead (Beaten 3 10) ∷ two_lead (Beaten 6 20) ∷ [])
+best_to_stop : (best_line (two_lead (Beaten 4 10) ∷ own_lead (Beaten 4 11) ∷ two_lead (Beaten 8 22) ∷ [])
     ≡ codes "To stop them, the fewest deals beat a plan after 8D.\n")
     × (best_line (two_lead (Sure 4) ∷ own_lead Missed ∷ own_lead Reached ∷ []) ≡ codes "To stop them, the fewest deals beat a plan after 2C.\n")
     × (best_line (own_lead (Beaten 9 10) ∷ two_lead (Beaten 5 10) ∷ []) ≡ []) × (best_line [] ≡ [])

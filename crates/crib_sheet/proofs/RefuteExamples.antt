@@ -25,7 +25,7 @@ use Rattle.crib_why.specs.declared.why.Why.TheVariants as why
 use Rattle.crib_why_sheet.specs.WhyPlay.{held_with}
 use Rattle.crib_why_sheet.specs.WhyRows.{lines_from}
 use Rattle.crib_sheet.specs.Meaning.{IsDecidedBySuits, IsRefutedBy, SheetMeans}
-use Rattle.crib_sheet.specs.Refute.{WhyTexts, refute_reply, refute_texts, refuted_text, rows_text, why_texts}
+use Rattle.crib_sheet.specs.Refute.{WhyTexts, refute_reply, refute_texts, refuted_text, rows_text, suits_line, why_texts}
 use Rattle.crib_sheet.specs.Sheet.{AnswersWhy}
 use Rattle.crib_sheet.specs.declared.answer.job.SheetJob.TheVariants.{Refute, Why}
 
@@ -100,13 +100,23 @@ what_refute_means : (input text : List ℕ) (problem : Setup) (some : HasSomePla
     × (SheetMeans Why input (record { output = codes "fault 50\n"; status = Fault }) → ⊥)
 unfolding digits
 what_refute_means input text problem some =
-    ((some, refl), λ is. (let bytes = is.1 in cc), λ spelled is. is problem spelled, refl, λ is. (let bytes = is in cc))
+    (
+      (some, refl),
+      λ is. (let bytes = is.1 in cc),
+      λ spelled is. is problem spelled,
+      refl,
+      λ is. (let digit : 53 ≡ 49 = ap (λ bytes. slice_index bytes 6) is in absurd (omega (arith, digit))),
+    )
 
 -- neither games nor suits have an empty text
+no_line_of_suits : (ranks : List ℕ) → [] ≡ suits_line ranks → ⊥
+no_line_of_suits [] is = (let bytes = is in cc)
+no_line_of_suits (rank ∷ ranks) is = (let bytes = is in cc)
+
 no_text_of_games : (input : List ℕ) → SheetMeans Refute input (record { output = []; status = No }) → ⊥
 unfolding refuted_text
 no_text_of_games input (inl is) = (let bytes = is.printed in cc)
-no_text_of_games input (inr is) = (let bytes = is.printed in cc)
+no_text_of_games input (inr is) = no_line_of_suits is.ranks is.printed
 
 -- no games, 25 of them, or another text refute nothing; nor do any where a player is sure
 wrong_games : (input text : List ℕ) (is : IsRefutedBy (λ problem. refute_texts) input text) →

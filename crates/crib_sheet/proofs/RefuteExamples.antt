@@ -99,14 +99,13 @@ what_refute_means : (input text : List ℕ) (problem : Setup) (some : HasSomePla
     × SheetMeans Why input (record { output = codes "fault 11\n"; status = Fault })
     × (SheetMeans Why input (record { output = codes "fault 50\n"; status = Fault }) → ⊥)
 unfolding digits
-what_refute_means input text problem some =
-    (
-      (some, refl),
-      λ is. (let bytes = is.1 in cc),
-      λ spelled is. is problem spelled,
-      refl,
-      λ is. (let digit : 53 ≡ 49 = ap (λ bytes. slice_index bytes 6) is in absurd (omega (arith, digit))),
-    )
+what_refute_means input text problem some = (
+  (some, refl),
+  λ is. (let bytes = is.1 in cc),
+  λ spelled is. is problem spelled,
+  refl,
+  λ is. (let digit : 53 ≡ 49 = ap (λ bytes. slice_index bytes 6) is in absurd (omega (arith, digit))),
+)
 
 -- neither games nor suits have an empty text
 no_line_of_suits : (ranks : List ℕ) → [] ≡ suits_line ranks → ⊥

@@ -33,7 +33,8 @@ use Rattle.crib_game.specs.declared.replaying.report.Report.{Report}
 use Rattle.crib_game.specs.Replay.{replay_result}
 use Rattle.crib_game_sheet.specs.GamePlay.{game_reasons}
 use Rattle.crib_game_sheet.specs.GameText.{sheet_of}
-use Rattle.crib_sheet.specs.PlanBeaten.{AreBeatingOf, IsLeast}
+use Rattle.crib_sheet.specs.PlanBeaten.{AreBeatingOf, IsBest}
+use Rattle.crib_sheet.specs.declared.verdict.beaten.Best.{Best}
 use Rattle.crib_plan.specs.Spelling.{plan_text}
 use Rattle.crib_beaten.specs.Tally.{AreFigures}
 use Rattle.crib_beaten.specs.declared.rows.Rows.{Rows}
@@ -65,11 +66,11 @@ pub plan_answers : (verdict : Verdict) → IsAnswer (verdict_status verdict)
 plan_answers Holds = inl refl
 plan_answers (Fails result game) = inr refl
 
-pub sheet_made : (problem : Setup) (plan : List Node) (verdict : Verdict) (open_deals beaten : ℕ) (hands : Option Rows) (least : ℕ) (apart : ℕ → Bool)
-    (reply : Reply) → IsRight problem plan verdict → AreBeatingOf problem plan verdict open_deals beaten hands → IsLeast problem least
-    → reply ≡ plan_reply problem plan verdict open_deals beaten hands least apart → IsSheetOf problem plan reply ⊎ (reply ≡ fault_reply no_memory)
-sheet_made problem plan verdict open_deals beaten hands least apart reply right figures bound is =
-    inl (verdict, open_deals, beaten, hands, least, apart, right, figures, bound, is)
+pub sheet_made : (problem : Setup) (plan : List Node) (verdict : Verdict) (open_deals beaten : ℕ) (hands : Option Rows) (best : Best) (apart : ℕ → Bool)
+    (reply : Reply) → IsRight problem plan verdict → AreBeatingOf problem plan verdict open_deals beaten hands → IsBest problem best
+    → reply ≡ plan_reply problem plan verdict open_deals beaten hands best apart → IsSheetOf problem plan reply ⊎ (reply ≡ fault_reply no_memory)
+sheet_made problem plan verdict open_deals beaten hands best apart reply right figures bound is =
+    inl (verdict, open_deals, beaten, hands, best, apart, right, figures, bound, is)
 
 -- the sheet of a plan that is spelled
 pub typed_made : (input : List ℕ) (problem : Setup) (behind : Option (List Node)) (plan : List Node) (reply : Reply)

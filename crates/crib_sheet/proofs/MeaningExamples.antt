@@ -40,7 +40,8 @@ use Rattle.crib_answer.specs.Input.{report_of_input}
 use Rattle.crib_game_sheet.specs.GameText.{game_sheet_text}
 use Rattle.crib_sheet.specs.Asked.{asked_of_input, plan_or_none}
 use Rattle.crib_sheet.specs.PlanHead.{failing_text, position_text, sure_text}
-use Rattle.crib_sheet.specs.PlanBeaten.{beating_text, least_text}
+use Rattle.crib_sheet.specs.PlanBeaten.{beating_text, best_text}
+use Rattle.crib_sheet.specs.declared.verdict.beaten.Best.{Best}
 use Rattle.crib_beaten.specs.declared.rows.Rows.{Rows}
 use Rattle.crib_plan_sheet.specs.PlanPage.{page_text, plan_page}
 use Rattle.crib_plan_sheet.specs.PlanPlay.{ReachesGoal}
@@ -105,23 +106,23 @@ aces_are_counted : (beaten : ℕ) → AreExactly (Beats four_twos in_a_row) beat
 aces_are_counted beaten exact none = in_none aces exact.deals ((exact.each aces).1 (refl, aces_beat_it)) (exact.counted ∙ none)
 
 replies_to_twos : (reply : Reply) (answers : AnswersPlan (Ok (four_twos, Some in_a_row)) reply) →
-    (reply.status ≡ Yes) ⊎ (answers.2 ≡ 0) ⊎ ((answers.2 ≡ 8) × (answers.4 ≡ 9)) → ⊥
-replies_to_twos reply (Holds, open_deals, beaten, hands, least, apart, sure, figures, is_least, same) wrong = short_plan_is_not_sure sure
-replies_to_twos reply (Fails result game, open_deals, beaten, hands, least, apart, right, figures, is_least, same) (inl sure) =
+    (reply.status ≡ Yes) ⊎ (answers.2 ≡ 0) ⊎ ((answers.2 ≡ 8) × (answers.4.least ≡ 9)) → ⊥
+replies_to_twos reply (Holds, open_deals, beaten, hands, best, apart, sure, figures, is_best, same) wrong = short_plan_is_not_sure sure
+replies_to_twos reply (Fails result game, open_deals, beaten, hands, best, apart, right, figures, is_best, same) (inl sure) =
     let status : No ≡ Yes = sym (ap (λ (r : Reply). r.status) same) ∙ sure in absurd cc
-replies_to_twos reply (Fails result game, open_deals, beaten, hands, least, apart, right, figures, is_least, same) (inr (inl none)) =
+replies_to_twos reply (Fails result game, open_deals, beaten, hands, best, apart, right, figures, is_best, same) (inr (inl none)) =
     aces_are_counted beaten figures.are_beaten none
-replies_to_twos reply (Fails result game, open_deals, beaten, hands, least, apart, right, figures, is_least, same) (inr (inr few)) =
-    absurd (omega (arith, is_least in_a_row beaten figures.are_beaten, few.0, few.1))
+replies_to_twos reply (Fails result game, open_deals, beaten, hands, best, apart, right, figures, is_best, same) (inr (inr few)) =
+    absurd (omega (arith, is_best.1 in_a_row beaten figures.are_beaten, few.0, few.1))
 
 not_empty : (first : ℕ) (bytes : List ℕ) → [] ≡ first ∷ bytes → ⊥
 not_empty first bytes text = cc
 
 no_reply_without_a_text : (plan : List Node) (status : Status) → AnswersPlan (Ok (four_twos, Some plan)) (record { output = []; status = status }) → ⊥
 unfolding position_text heading_text scores_line
-no_reply_without_a_text plan status (Holds, open_deals, beaten, hands, least, apart, right, figures, is_least, same) =
+no_reply_without_a_text plan status (Holds, open_deals, beaten, hands, best, apart, right, figures, is_best, same) =
     not_empty _ _ (ap (λ (reply : Reply). reply.output) same)
-no_reply_without_a_text plan status (Fails result game, open_deals, beaten, hands, least, apart, right, figures, is_least, same) =
+no_reply_without_a_text plan status (Fails result game, open_deals, beaten, hands, best, apart, right, figures, is_best, same) =
     not_empty _ _ (ap (λ (reply : Reply). reply.output) same)
 
 -- of a problem alone: a plan that is found may have too many nodes, and no sheet has the status of a fault
@@ -139,21 +140,21 @@ sheet_of_a_problem : (reply : Reply) → IsToTry four_twos two_twos reply.status
 sheet_of_a_problem reply tried is = inl (two_twos, tried, is)
 
 sure_plan_is_written : (problem : Setup) (plan : List Node) (open_deals beaten : ℕ) (hands : Option Rows) (apart : ℕ → Bool) → IsSure problem plan →
-    AnswersPlan (Ok (problem, Some plan)) (plan_reply problem plan Holds open_deals beaten hands 0 apart)
+    AnswersPlan (Ok (problem, Some plan)) (plan_reply problem plan Holds open_deals beaten hands (record { found = None; least = 0 }) apart)
 sure_plan_is_written problem plan open_deals beaten hands apart sure =
-    (Holds, open_deals, beaten, hands, 0, apart, sure, tt, (λ other count exact. omega arith), refl)
+    (Holds, open_deals, beaten, hands, record { found = None; least = 0 }, apart, sure, tt, (tt, (λ other count exact. omega arith)), refl)
 
-replies_of_verdicts : (problem : Setup) (plan : List Node) (game : Game) (open_deals beaten : ℕ) (hands : Option Rows) (apart : ℕ → Bool) →
-    (plan_reply problem [] Holds open_deals beaten hands 7 apart
+replies_of_verdicts : (problem : Setup) (plan : List Node) (game : Game) (open_deals beaten : ℕ) (hands : Option Rows) (best : Best) (apart : ℕ → Bool) →
+    (plan_reply problem [] Holds open_deals beaten hands best apart
     ≡ record { output = sure_text problem ++ page_text true (record { first = Over; paragraphs = [] }); status = Yes })
-    × (plan_reply problem plan (Fails Short game) open_deals beaten hands 7 apart
+    × (plan_reply problem plan (Fails Short game) open_deals beaten hands best apart
     ≡ record {
-      output = (position_text problem ++ beating_text open_deals beaten hands ++ least_text beaten 7 ++ failing_text problem plan Short game)
+      output = (position_text problem ++ beating_text open_deals beaten hands ++ best_text beaten best ++ failing_text problem plan Short game)
           ++ plan_page false apart plan;
       status = No;
     })
 unfolding sheet_with plan_page
-replies_of_verdicts problem plan game open_deals beaten hands apart = (refl, refl)
+replies_of_verdicts problem plan game open_deals beaten hands best apart = (refl, refl)
 
 refused_plan_is_written : (reply : Reply) → AnswersPlan (Err (record { line = 3; number = 21 })) reply → reply ≡ refused_reply (codes "refused line 3: 21\n")
 unfolding digits
@@ -218,7 +219,7 @@ wrong_unsure_sheets : (input text : List ℕ) (means : SheetMeans Plan input (re
     AreThese means.problem means.plan at_29 ace_or_two ⊎ ((means.problem ≡ at_29) × SpellsProblem input means.problem)
     ⊎ (AreThese means.problem means.plan four_twos [] × SpellsProblem input means.problem)
     ⊎ (AreThese means.problem means.plan four_twos in_a_row × (means.beaten ≡ 0))
-    ⊎ ((means.beaten ≡ 8) × (means.least ≡ 9)) → ⊥
+    ⊎ ((means.beaten ≡ 8) × (means.best.least ≡ 9)) → ⊥
 wrong_unsure_sheets input text means sure (inl are) = of_these (λ setup plan. ¬ IsSure setup plan) means.problem means.plan _ _ are means.unsure sure
 wrong_unsure_sheets input text means sure (inr (inl (same, alone))) =
     subst (λ setup. ¬ IsWinnable setup) same (means.none alone) (record { plan = ace_or_two; sure = sure })
@@ -228,7 +229,7 @@ wrong_unsure_sheets input text means sure (inr (inr (inr (inl (are, none))))) =
     aces_are_counted means.beaten (of_these (λ setup plan. AreExactly (Beats setup plan) means.beaten) means.problem means.plan _ _ are
     means.figures.are_beaten) none
 wrong_unsure_sheets input text means sure (inr (inr (inr (inr few)))) =
-    absurd (omega (arith, means.is_least means.plan means.beaten means.figures.are_beaten, few.0, few.1))
+    absurd (omega (arith, means.is_best.1 means.plan means.beaten means.figures.are_beaten, few.0, few.1))
 
 no_sheet_without_a_text : (input : List ℕ) → (SheetMeans Plan input (record { output = []; status = Yes }) → ⊥)
     × (SheetMeans Plan input (record { output = []; status = No }) → ⊥)

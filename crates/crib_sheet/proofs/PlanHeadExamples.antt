@@ -1,5 +1,5 @@
 -- Worked examples of what comes before the sheet of a plan.
-use Rattle.std.specs.Prelude.{◌≡◌, ℕ, Option, true, false, refl, [], ◌∷◌, ◌++◌, codes, map, take, Err}
+use Rattle.std.specs.Prelude.{◌≡◌, ℕ, Option, None, Some, true, false, refl, [], ◌∷◌, ◌++◌, codes, map, take, Err}
 use Rattle.std.specs.Fmt.{digits}
 use Rattle.crib_cards.specs.declared.sides.Side.TheVariants.{Owner, Opponent}
 use Rattle.crib_game.specs.declared.fault.GameFault.TheVariants.{NotTurn}
@@ -14,13 +14,13 @@ use Rattle.crib_run.specs.Pieces.{other_score}
 use Rattle.crib_game_sheet.specs.Heading.{goal_line, heading_text, opening_line, own_line, scores_line}
 use Rattle.crib_game_sheet.specs.GameText.{dealt_line, played_text}
 use Rattle.crib_sheet.specs.PlanHead.{failing_line, failing_text, game_lines, head_text, is_sure, position_text, turn_line, turn_lines, why_text}
-use Rattle.crib_sheet.specs.PlanBeaten.{beating_text, least_text}
+use Rattle.crib_sheet.specs.PlanBeaten.{beating_text, best_text}
 use Rattle.crib_beaten.specs.declared.rows.Rows.{Rows}
 use Rattle.crib_plan_sheet.specs.PlanNow.{now_line}
 use Rattle.crib_plan_sheet.specs.PlanStuck.{stuck_text, stuck_words}
 use Rattle.crib_plan_sheet.proofs.PlanWordExamples.{kings, one_line}
 
-sure_head : (open_deals beaten : ℕ) (hands : Option Rows) → head_text after_tens [] Holds open_deals beaten hands 0 ≡
+sure_head : (open_deals beaten : ℕ) (hands : Option Rows) → head_text after_tens [] Holds open_deals beaten hands (record { found = None; least = 0 }) ≡
     codes "You are the pone at 0, and the dealer is at 0. The starter is 3H.\nYou hold TC 9C 2C 8C and threw 4S 6S.\nYou want to win.\n"
     ++ codes "The first 2 turns were played. Scores and cards are those before them.\n  pone TC\n  dealer TD\n"
     ++ codes "You are at 0 now, and the dealer is at 2. You still hold 9C 2C 8C.\n"
@@ -50,8 +50,8 @@ unfolding digits failing_text stuck_text stuck_words kings one_line
 heads_of_failing_plans = (refl, refl)
 
 unsure_head : (open_deals beaten : ℕ) (hands : Option Rows) → head_text close_to_lost one_line (Fails Stuck (game_with pairing []))
-    open_deals beaten hands 820
-    ≡ position_text close_to_lost ++ beating_text open_deals beaten hands ++ least_text beaten 820
+    open_deals beaten hands (record { found = None; least = 820 })
+    ≡ position_text close_to_lost ++ beating_text open_deals beaten hands ++ best_text beaten (record { found = None; least = 820 })
     ++ failing_text close_to_lost one_line Stuck (game_with pairing [])
 unsure_head open_deals beaten hands = refl
 
@@ -72,19 +72,18 @@ words_of_heads :
 unfolding turn_line
 words_of_heads = (refl, refl)
 
--- ---- how many deals beat each plan at least
-best_plan : least_text 820 820 ≡ codes "No plan is beaten by fewer deals.\n"
-unfolding digits least_text
-best_plan = refl
+-- ---- how few deals beat a plan
+best_plans : (found : Option ℕ) → best_text 820 (record { found = found; least = 820 }) ≡ codes "No plan is beaten by fewer deals.\n"
+unfolding digits best_text
+best_plans found = refl
 
-not_shown_to_be_best : least_text 42640 39360 ≡ codes "Every plan is beaten by at least 39,360 deals.\n"
-unfolding digits least_text
-not_shown_to_be_best = refl
-
-one_deal : least_text 2 1 ≡ codes "Every plan is beaten by at least 1 deal.\n"
-unfolding digits least_text
-one_deal = refl
-
-nothing_is_shown : least_text 820 0 ≡ []
-unfolding least_text
-nothing_is_shown = refl
+other_plans :
+    (best_text 42640 (record { found = None; least = 39360 }) ≡ codes "Every plan is beaten by at least 39,360 deals.\n")
+    × (best_text 42640 (record { found = Some 40180; least = 39360 })
+    ≡ codes "The best plan found is beaten by 40,180 deals.\nEvery plan is beaten by at least 39,360 deals.\n")
+    × (best_text 2 (record { found = Some 1; least = 1 })
+    ≡ codes "The best plan found is beaten by 1 deal.\nEvery plan is beaten by at least 1 deal.\n")
+    × (best_text 820 (record { found = Some 0; least = 0 }) ≡ codes "Another plan is sure.\n")
+    × (best_text 820 (record { found = None; least = 0 }) ≡ [])
+unfolding digits best_text
+other_plans = (refl, refl, refl, refl, refl)

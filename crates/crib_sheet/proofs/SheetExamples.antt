@@ -20,7 +20,7 @@ use Rattle.crib_plan_sheet.specs.PlanPage.{legend_text, page_text, plan_page}
 use Rattle.crib_plan_sheet.specs.PlanPlay.{ReachesGoal}
 use Rattle.crib_plan_sheet.specs.PlanSheet.{sheet_with}
 use Rattle.crib_plan_sheet.specs.PlanText.{label, paragraph_text, rank_words, sheet_text}
-use Rattle.crib_sheet.specs.PlanBeaten.{AreBeating, IsLeast, beating_text, least_text}
+use Rattle.crib_sheet.specs.PlanBeaten.{AreBeating, IsLeast, beating_text, best_text}
 use Rattle.crib_sheet.specs.PlanHead.{position_text, turn_line}
 use Rattle.crib_sheet.specs.declared.answer.job.SheetJob.TheVariants.{Plan, Game as GameJob, Beaten, Try, Refute, Why}
 use Rattle.crib_sheet.specs.Job.{job_called, sections_of}
@@ -47,7 +47,7 @@ a_sure_plan : (input : List ℕ) → SpellsPlan input at_29 ace_or_two → IsSur
           ++ legend_text true;
       status = Yes;
     })
-unfolding digits heading_text scores_line other_score own_line goal_line opening_line position_text turn_line now_line beating_text least_text plan_page
+unfolding digits heading_text scores_line other_score own_line goal_line opening_line position_text turn_line now_line beating_text best_text plan_page
     page_text sheet_text sheet_with paragraph_text rank_words label
 a_sure_plan input spelled sure goes_on ends reaches = record {
   problem = at_29;
@@ -70,7 +70,7 @@ a_stuck_plan : (input : List ℕ) → SpellsPlan input four_twos [] → ¬ Spell
           ++ legend_text false;
       status = No;
     })
-unfolding digits heading_text scores_line other_score own_line goal_line opening_line position_text turn_line now_line beating_text least_text plan_page
+unfolding digits heading_text scores_line other_score own_line goal_line opening_line position_text turn_line now_line beating_text best_text plan_page
     page_text sheet_text sheet_with paragraph_text rank_words label
 a_stuck_plan input spelled typed unsure figures is_least = record {
   problem = four_twos;
@@ -83,8 +83,8 @@ a_stuck_plan input spelled typed unsure figures is_least = record {
   beaten = 820;
   hands = None;
   figures = figures;
-  least = 7;
-  is_least = is_least;
+  best = record { found = None; least = 7 };
+  is_best = (tt, is_least);
   middle = codes "The plan:\n\n";
   apart = λ node. false;
   printed = refl;

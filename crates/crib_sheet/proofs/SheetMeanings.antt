@@ -46,7 +46,8 @@ use Rattle.crib_next.proofs.NextInputs.{question_accepted as next_accepted, ques
 use Rattle.crib_next.proofs.NextLaws.{next_is_after, sure_law}
 use Rattle.crib_game_sheet.specs.GameText.{game_sheet_text, sheet_for}
 use Rattle.crib_sheet.specs.PlanHead.{failing_text}
-use Rattle.crib_sheet.specs.PlanBeaten.{AreBeatingOf, IsLeast}
+use Rattle.crib_sheet.specs.PlanBeaten.{AreBeatingOf, IsBest}
+use Rattle.crib_sheet.specs.declared.verdict.beaten.Best.{Best}
 use Rattle.crib_beaten.specs.declared.rows.Rows.{Rows}
 use Rattle.crib_sheet.specs.Beaten.{beaten_reply}
 use Rattle.crib_plan_sheet.proofs.PlanPlays.{sure_is_reached}
@@ -117,12 +118,12 @@ about_plan : (input : List ℕ) (problem : Setup) (plan : List Node) → AsksAbo
 about_plan input problem plan (inl spelled) = spelled.plan_is
 about_plan input problem plan (inr alone) = alone.1
 
-verdict_means : (input : List ℕ) (problem : Setup) (plan : List Node) (verdict : Verdict) (open_deals beaten : ℕ) (hands : Option Rows) (least : ℕ)
+verdict_means : (input : List ℕ) (problem : Setup) (plan : List Node) (verdict : Verdict) (open_deals beaten : ℕ) (hands : Option Rows) (best : Best)
     (apart : ℕ → Bool) → AsksAbout input problem plan
     → (verdict_status verdict ≡ No → SpellsProblem input problem → (¬ IsWinnable problem) × IsNeverStuck problem plan) → IsRight problem plan verdict
-    → AreBeatingOf problem plan verdict open_deals beaten hands → IsLeast problem least
-    → SheetMeans Plan input (plan_reply problem plan verdict open_deals beaten hands least apart)
-verdict_means input problem plan Holds open_deals beaten hands least apart asked none right figures bound = record {
+    → AreBeatingOf problem plan verdict open_deals beaten hands → IsBest problem best
+    → SheetMeans Plan input (plan_reply problem plan verdict open_deals beaten hands best apart)
+verdict_means input problem plan Holds open_deals beaten hands best apart asked none right figures bound = record {
   problem = problem;
   plan = plan;
   asked = asked;
@@ -133,7 +134,7 @@ verdict_means input problem plan Holds open_deals beaten hands least apart asked
   printed = refl;
   reaches = (sure_is_reached apart problem plan (about_plan input problem plan asked)).0 right;
 }
-verdict_means input problem plan (Fails result game) open_deals beaten hands least apart asked none right figures bound = record {
+verdict_means input problem plan (Fails result game) open_deals beaten hands best apart asked none right figures bound = record {
   problem = problem;
   plan = plan;
   asked = asked;
@@ -144,8 +145,8 @@ verdict_means input problem plan (Fails result game) open_deals beaten hands lea
   beaten = beaten;
   hands = hands;
   figures = figures;
-  least = least;
-  is_least = bound;
+  best = best;
+  is_best = bound;
   middle = failing_text problem plan result game;
   apart = apart;
   printed = refl;
@@ -154,9 +155,9 @@ verdict_means input problem plan (Fails result game) open_deals beaten hands lea
 sheet_means : (input : List ℕ) (problem : Setup) (plan : List Node) (reply : Reply) → AsksAbout input problem plan
     → (reply.status ≡ No → SpellsProblem input problem → (¬ IsWinnable problem) × IsNeverStuck problem plan) → IsSheetOf problem plan reply
     → SheetMeans Plan input reply
-sheet_means input problem plan reply asked none (verdict, open_deals, beaten, hands, least, apart, right, figures, bound, is) =
+sheet_means input problem plan reply asked none (verdict, open_deals, beaten, hands, best, apart, right, figures, bound, is) =
     subst (SheetMeans Plan input) (sym is)
-    (verdict_means input problem plan verdict open_deals beaten hands least apart asked (λ same. none (ap (λ (r : Reply). r.status) is ∙ same))
+    (verdict_means input problem plan verdict open_deals beaten hands best apart asked (λ same. none (ap (λ (r : Reply). r.status) is ∙ same))
     right figures bound)
 
 plan_means : (input : List ℕ) (said : Result (Setup × Option (List Node)) Refusal) (reply : Reply) → asked_of_input input ≡ said → AnswersPlan said reply

@@ -34,7 +34,8 @@ use Rattle.crib_sheet.specs.Holes.{HasHoles}
 use Rattle.crib_sheet.specs.Leads.{HasLeads}
 use Rattle.crib_sheet.specs.Next.{next_text}
 use Rattle.crib_sheet.specs.PlanHead.{position_text, sure_text}
-use Rattle.crib_sheet.specs.PlanBeaten.{AreBeating, IsLeast, beating_text, least_text}
+use Rattle.crib_sheet.specs.PlanBeaten.{AreBeating, IsBest, beating_text, best_text}
+use Rattle.crib_sheet.specs.declared.verdict.beaten.Best.{Best}
 use Rattle.crib_sheet.specs.Refute.{WhyTexts, refute_texts, why_texts}
 use Rattle.crib_sheet.specs.Scores.{scores_text}
 use Rattle.crib_tables.specs.Scores.{AreScores}
@@ -71,8 +72,8 @@ pub record HasUnsurePlan (input : List ℕ) : Type 0 where
   pub unsure : ¬ IsSure problem plan
 
 -- an input asks about a plan that is not sure, and if it spells a problem alone, no plan is sure, and this one is never
--- stuck. The text has after the position how many deals beat the plan, which hands these have, and how many beat each
--- plan at least, and ends with the sheet of the plan
+-- stuck. The text has after the position how many deals beat the plan, which hands these have, and how few beat
+-- another plan, and ends with the sheet of the plan
 pub record HasUnsureSheet (input text : List ℕ) : Type 0 where
   pub problem : Setup
   pub plan : List Node
@@ -84,12 +85,12 @@ pub record HasUnsureSheet (input text : List ℕ) : Type 0 where
   pub beaten : ℕ
   pub hands : Option Rows
   pub figures : AreBeating problem plan open_deals beaten hands
-  pub least : ℕ
-  pub is_least : IsLeast problem least
+  pub best : Best
+  pub is_best : IsBest problem best
   pub middle : List ℕ
   pub apart : ℕ → Bool
   pub printed :
-      text ≡ position_text problem ++ beating_text open_deals beaten hands ++ least_text beaten least ++ middle
+      text ≡ position_text problem ++ beating_text open_deals beaten hands ++ best_text beaten best ++ middle
       ++ plan_page false apart plan
 
 -- an input spells a problem and a game, and `text` is the sheet of the game

@@ -14,6 +14,7 @@ use Rattle.crib_deals.specs.Exact.{AreExactly}
 use Rattle.crib_beaten.specs.Terms.{AreBestFirst, AreRows}
 use Rattle.crib_beaten.specs.declared.rows.Row.{Row}
 use Rattle.crib_beaten.specs.declared.rows.Rows.{Rows}
+use Rattle.crib_sheet.specs.declared.verdict.beaten.Best.{Best}
 use Rattle.crib_plan_sheet.specs.PlanSheetSize.{longest_line}
 use Rattle.crib_plan_sheet.specs.PlanText.{label}
 
@@ -90,18 +91,39 @@ beating_text open_deals beaten hands =
     ++ codes " deals that they may have, whatever they play. With the other\n" ++ grouped beaten
     ++ codes " they can beat it." ++ hands_text hands
 
--- how many deals beat each plan at least, beside how many beat this one. Nothing is said if that is no deal
-unfoldable pub least_text : ℕ → ℕ → List ℕ
-least_text beaten least =
+-- how many deals beat the best plan that was found
+abbrev pub found_text : Option ℕ → List ℕ
+found_text None = []
+found_text (Some found) =
+    if found == 0 then codes "Another plan is sure.\n"
+    else codes "The best plan found is beaten by " ++ grouped found ++ deals_word found ++ codes ".\n"
+
+-- how many deals beat each plan at least. Nothing is said if that is no deal
+abbrev pub least_text : ℕ → List ℕ
+least_text least =
     if least == 0 then []
-    else if nat_le beaten least then codes "No plan is beaten by fewer deals.\n"
     else codes "Every plan is beaten by at least " ++ grouped least ++ deals_word least ++ codes ".\n"
+
+-- how few deals beat a plan, beside how many beat this one
+unfoldable pub best_text : ℕ → Best → List ℕ
+best_text beaten best =
+    if nat_le beaten best.least then codes "No plan is beaten by fewer deals.\n"
+    else found_text best.found ++ least_text best.least
 
 -- ---- right figures
 
 -- at least so many deals beat each plan
 abbrev pub IsLeast : Setup → ℕ → Type 0
 IsLeast problem least = (plan : List Node) (count : ℕ) → AreExactly (Beats problem plan) count → least ≤ count
+
+-- if a plan was found, exactly so many deals beat some plan
+abbrev pub IsFoundWith : Setup → Option ℕ → Type 0
+IsFoundWith problem None = Unit {0}
+IsFoundWith problem (Some found) = (plan : List Node) × AreExactly (Beats problem plan) found
+
+-- what is said of the best plan is right
+abbrev pub IsBest : Setup → Best → Type 0
+IsBest problem best = IsFoundWith problem best.found × IsLeast problem best.least
 
 -- rows are right: exactly so many deals that beat the plan meet a row and none above. Each has one at least, and none
 -- below has more. Each leaves a blank before the column of these numbers, and all numbers end in one column

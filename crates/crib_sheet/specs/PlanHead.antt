@@ -21,7 +21,8 @@ use Rattle.crib_run.specs.Pieces.{role_word}
 use Rattle.crib_game_sheet.specs.GamePlay.{game_reasons}
 use Rattle.crib_game_sheet.specs.GameText.{played_text}
 use Rattle.crib_game_sheet.specs.Heading.{heading_text}
-use Rattle.crib_sheet.specs.PlanBeaten.{beating_text, least_text}
+use Rattle.crib_sheet.specs.declared.verdict.beaten.Best.{Best}
+use Rattle.crib_sheet.specs.PlanBeaten.{beating_text, best_text}
 use Rattle.crib_plan_sheet.specs.PlanNow.{now_text}
 use Rattle.crib_plan_sheet.specs.PlanStuck.{stuck_text}
 
@@ -73,11 +74,11 @@ failing_text problem plan ending game =
     ++ codes "\nThe plan:\n\n"
 
 -- the head of a plan's sheet, by the verdict on the plan: the position, and if it is not sure how many deals beat it,
--- and how many beat each plan at least
-abbrev pub head_text : Setup → List Node → Verdict → ℕ → ℕ → Option Rows → ℕ → List ℕ
-head_text problem plan Holds open_deals beaten hands least = sure_text problem
-head_text problem plan (Fails ending game) open_deals beaten hands least =
-    position_text problem ++ beating_text open_deals beaten hands ++ least_text beaten least
+-- and how few beat another
+abbrev pub head_text : Setup → List Node → Verdict → ℕ → ℕ → Option Rows → Best → List ℕ
+head_text problem plan Holds open_deals beaten hands best = sure_text problem
+head_text problem plan (Fails ending game) open_deals beaten hands best =
+    position_text problem ++ beating_text open_deals beaten hands ++ best_text beaten best
     ++ failing_text problem plan ending game
 
 -- whether the status of a sheet says that the plan is sure

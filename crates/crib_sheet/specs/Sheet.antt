@@ -35,7 +35,8 @@ use Rattle.crib_sheet.specs.Holes.{HasHoles, holes_sheet_reply}
 use Rattle.crib_sheet.specs.Leads.{HasLargePlan, HasLeads, leads_reply}
 use Rattle.crib_sheet.specs.Next.{next_parts_reply, next_reply}
 use Rattle.crib_sheet.specs.PlanHead.{head_text, is_sure}
-use Rattle.crib_sheet.specs.PlanBeaten.{AreBeatingOf, IsLeast}
+use Rattle.crib_sheet.specs.PlanBeaten.{AreBeatingOf, IsBest}
+use Rattle.crib_sheet.specs.declared.verdict.beaten.Best.{Best}
 use Rattle.crib_sheet.specs.Refute.{WhyTexts, words_reply, refute_reply, refute_texts, why_texts}
 use Rattle.crib_sheet.specs.Scores.{scores_reply, scores_text}
 use Rattle.crib_tables.specs.Scores.{AreScores}
@@ -91,22 +92,22 @@ abbrev pub verdict_status : Verdict → Status
 verdict_status Holds = Yes
 verdict_status (Fails result game) = No
 
--- the reply with the sheet of a plan, by the verdict on it, the deals that beat it, how many beat each plan at least,
--- and which nodes have paragraphs of their own: the position, verdict and deals in words, the sheet, and how to read it
-abbrev pub plan_reply : Setup → List Node → Verdict → ℕ → ℕ → Option Rows → ℕ → (ℕ → Bool) → Reply
-plan_reply problem plan verdict open_deals beaten hands least apart = record {
-  output = head_text problem plan verdict open_deals beaten hands least
+-- the reply with the sheet of a plan, by the verdict on it, the deals that beat it, how few beat another plan, and
+-- which nodes have paragraphs of their own: the position, verdict and deals in words, the sheet, and how to read it
+abbrev pub plan_reply : Setup → List Node → Verdict → ℕ → ℕ → Option Rows → Best → (ℕ → Bool) → Reply
+plan_reply problem plan verdict open_deals beaten hands best apart = record {
+  output = head_text problem plan verdict open_deals beaten hands best
       ++ plan_page (is_sure (verdict_status verdict)) apart plan;
   status = verdict_status verdict;
 }
 
 -- a reply is the sheet of a plan: it is that of a right verdict on the problem and the plan, of right figures if the
--- plan fails, of a number of deals that beat each plan at least, and of any nodes with paragraphs of their own
+-- plan fails, of how few beat another plan, and of any nodes with paragraphs of their own
 abbrev pub IsSheetOf : Setup → List Node → Reply → Type 0
 IsSheetOf problem plan reply =
-    (verdict : Verdict) × (open_deals : ℕ) × (beaten : ℕ) × (hands : Option Rows) × (least : ℕ)
+    (verdict : Verdict) × (open_deals : ℕ) × (beaten : ℕ) × (hands : Option Rows) × (best : Best)
     × (apart : ℕ → Bool) × IsRight problem plan verdict × AreBeatingOf problem plan verdict open_deals beaten hands
-    × IsLeast problem least × (reply ≡ plan_reply problem plan verdict open_deals beaten hands least apart)
+    × IsBest problem best × (reply ≡ plan_reply problem plan verdict open_deals beaten hands best apart)
 
 -- a reply is right for `plan`, by what was read: it is the sheet of the plan, or that of a plan to try if there is a
 -- problem alone, or it is that of the refusal
@@ -119,7 +120,7 @@ AnswersPlan (Err refusal) reply = reply ≡ refusal_reply refusal
 unfoldable pub parts_reply : {A : Type 0} → PlanSheet A → Reply
 parts_reply sheet = record {
   output = head_text sheet.problem sheet.plan sheet.verdict sheet.tally.open_deals sheet.tally.beaten sheet.hands
-      sheet.least
+      sheet.best
       ++ plan_page (is_sure sheet.status) (apart_in sheet.outline) sheet.plan;
   status = sheet.status;
 }

@@ -18,3 +18,4 @@ pub use holes::HolesSheet;
 pub use laws::sheet_law;
 pub use refutation::InWords;
 pub use scores::ScoreSheet;
+pub use verdict::Best;

@@ -4,6 +4,7 @@ mod figures;
 mod head;
 mod page;
 
-pub(crate) use beaten::{beaten_by, figures_of, least_of};
+pub use beaten::Best;
+pub(crate) use beaten::{beaten_by, best_beside, figures_of, least_of};
 pub(crate) use figures::{put_beating, put_grouped};
 pub(crate) use page::put_plan_sheet;

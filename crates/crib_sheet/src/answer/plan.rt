@@ -3,13 +3,13 @@ ghost use Rattle.std.specs.Prelude.{◌≡◌, ◌⊎◌, ◌≤◌, length};
 ghost use Rattle.crib_text.specs.Refusals.{no_memory};
 ghost use Rattle.crib_check.specs.Verdicts.{IsRight};
 ghost use Rattle.crib_run.specs.Reply.{IsOutcome, fault_reply};
-ghost use Rattle.crib_sheet.specs.PlanBeaten.{IsLeast};
+ghost use Rattle.crib_sheet.specs.PlanBeaten.{IsBest};
 ghost use Rattle.crib_sheet.specs.Sheet.{AnswersWithPlan, IsSheetOf, SheetMakes, parts_reply, verdict_status};
 
 use crate::answer::asked::{Asked, asked_of};
 use crate::answer::job::SheetJob;
 use crate::answer::to_try::tried_of;
-use crate::verdict::{beaten_by, least_of};
+use crate::verdict::{Best, beaten_by, best_beside, least_of};
 use crib_beaten::{Rows, Tally};
 use crib_check::{Verdict, verdict_on};
 use crib_input::{FaultCause, Reason};
@@ -30,8 +30,8 @@ pub struct PlanSheet<A: Allocator> {
     pub tally: Tally<A>,
     /// Rows that say which hands beat the plan if it is not sure, unless more than a tenth of all deals do.
     pub hands: Option<Rows>,
-    /// At least so many deals beat each plan. It is counted if no plan was typed and none is sure.
-    pub least: u32,
+    /// How few deals beat another plan, if this one is not sure.
+    pub best: Best,
     /// Which nodes have paragraphs of their own.
     pub outline: Outline<A>,
     /// `Yes` if the plan is sure, and `No` if it is not.
@@ -51,12 +51,25 @@ pub(crate) fn plan_sheet<A: Allocator + Copy>(
     let asked = asked_of(alloc, input)?;
     let Asked { problem, plan } = asked;
     match plan {
-        Some(plan) => {
-            let verdict = verdict_on(alloc, &problem, &plan);
-            sheet_of(alloc, problem, plan, verdict, 0)
-        }
+        Some(plan) => typed_sheet(alloc, problem, plan),
         None => sheet_to_try(alloc, problem),
     }
+}
+
+// The sheet of a plan that was typed.
+fn typed_sheet<A: Allocator + Copy>(
+    alloc: A,
+    problem: Problem,
+    plan: Plan<A>,
+) -> Result<PlanSheet<A>, Reason>
+    ensures { IsOutcome parts_reply
+        (λ reply. IsSheetOf problem plan reply ⊎ (reply ≡ fault_reply no_memory)) result }
+{
+    let verdict = verdict_on(alloc, &problem, &plan);
+    let Ok(best) = best_beside(alloc, &problem, &verdict) else {
+        return Err(Reason::Fault(FaultCause::NoMemory));
+    };
+    sheet_of(alloc, problem, plan, verdict, best)
 }
 
 // The sheet of a plan to try. The search has found that a sure one is sure.
@@ -67,26 +80,35 @@ fn sheet_to_try<A: Allocator + Copy>(alloc: A, problem: Problem) -> Result<PlanS
     let mut advice = None;
     let tried = tried_of(alloc, &problem, &mut advice)?;
     if tried.is_sure {
-        return sheet_of(alloc, problem, tried.plan, Verdict::Holds, 0);
+        let best = Best {
+            found: None,
+            least: 0,
+        };
+        return sheet_of(alloc, problem, tried.plan, Verdict::Holds, best);
     }
     let verdict = verdict_on(alloc, &problem, &tried.plan);
     let Ok(least) = least_of(alloc, &problem, advice) else {
         return Err(Reason::Fault(FaultCause::NoMemory));
     };
-    sheet_of(alloc, problem, tried.plan, verdict, least)
+    sheet_of(
+        alloc,
+        problem,
+        tried.plan,
+        verdict,
+        Best { found: None, least },
+    )
 }
 
-// The sheet of a plan by the verdict on it and how many deals beat each plan at least, or `fault 11` if an allocation
-// fails.
+// The sheet of a plan by the verdict on it and how few deals beat another plan, or `fault 11` if an allocation fails.
 fn sheet_of<A: Allocator + Copy>(
     alloc: A,
     problem: Problem,
     plan: Plan<A>,
     verdict: Verdict,
-    least: u32,
+    best: Best,
 ) -> Result<PlanSheet<A>, Reason>
     requires right { IsRight problem plan verdict }
-    requires least { IsLeast problem least }
+    requires best { IsBest problem best }
     ensures { IsOutcome parts_reply
         (λ reply. IsSheetOf problem plan reply ⊎ (reply ≡ fault_reply no_memory)) result }
 {
@@ -103,7 +125,7 @@ fn sheet_of<A: Allocator + Copy>(
         verdict,
         tally,
         hands,
-        least,
+        best,
         outline,
     })
 }

@@ -2,18 +2,27 @@
 ghost use Rattle.std.specs.Prelude.{IfOk, List, ◌<◌, ◌^◌};
 ghost use Rattle.crib_plan.specs.declared.plan.Node.{Node};
 ghost use Rattle.crib_beaten.specs.Tally.{IsTally};
-ghost use Rattle.crib_sheet.specs.PlanBeaten.{AreBeating, AreBeatingOf, AreHandsOf, IsLeast};
+ghost use Rattle.crib_sheet.specs.PlanBeaten.{AreBeating, AreBeatingOf, AreHandsOf, IsBest, IsLeast};
 
 use crib_beaten::{Rows, Tally, rows_of, tally_of};
 use crib_bound::{bound_of, unit_of};
 use crib_check::{NoMemory, Verdict};
 use crib_plan::Plan;
 use crib_problem::Problem;
-use crib_search::Advice;
+use crib_search::{Advice, SearchFault, try_plan};
 use std::alloc::{AllocError, Allocator};
 
 // The parts into which each deal is divided for the least. With more of them it is hardly greater.
 const PARTS: u16 = 60_000;
+
+/// How few deals beat a plan.
+#[derive(Clone, Copy)]
+pub struct Best {
+    /// How many deals beat the best plan that was found, if one was looked for.
+    pub found: Option<u32>,
+    /// At least so many deals beat each plan.
+    pub least: u32,
+}
 
 /// Counts the deals that beat a plan if the verdict on it is that it fails, and no deals of a sure plan. It fails if an
 /// allocation fails.
@@ -66,6 +75,39 @@ fn hands_of<A: Allocator>(problem: &Problem, tally: &Tally<A>) -> Option<Rows>
         None
     } else {
         Some(rows_of(problem, tally))
+    }
+}
+
+/// Looks for another plan if the verdict on one is that it fails, and counts how many deals beat it, and each plan at
+/// least. It fails if an allocation fails.
+pub(crate) fn best_beside<A: Allocator + Copy>(
+    alloc: A,
+    problem: &Problem,
+    verdict: &Verdict,
+) -> Result<Best, NoMemory>
+    ensures { IfOk result (IsBest problem.now) }
+{
+    let unknown = Best {
+        found: None,
+        least: 0,
+    };
+    if let Verdict::Holds = verdict {
+        return Ok(unknown);
+    }
+    let mut advice = None;
+    match try_plan(alloc, problem, problem, None, &mut advice) {
+        Ok(tried) => {
+            let tally = tally_of(alloc, problem, &tried.plan)?;
+            let Ok(least) = least_of(alloc, problem, advice) else {
+                return Err(NoMemory);
+            };
+            Ok(Best {
+                found: Some(tally.beaten),
+                least,
+            })
+        },
+        Err(SearchFault::TooLarge) => Ok(unknown),
+        Err(SearchFault::NoMemory) => Err(NoMemory),
     }
 }
 

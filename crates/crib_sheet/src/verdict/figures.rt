@@ -1,12 +1,13 @@
 //! How many deals beat a plan that is not sure, in words.
-ghost use Rattle.std.specs.Prelude.{◌≡◌, ◌≤◌, ◌+◌, ◌*◌, ◌++◌, ◌∷◌, [], false, length, count_by};
+ghost use Rattle.std.specs.Prelude.{◌≡◌, ◌≤◌, ◌+◌, ◌*◌, ◌++◌, ◌∷◌, [], false, codes, length, count_by};
 ghost use Rattle.std.specs.List.{list_all};
 ghost use Rattle.arrayvec.specs.ArrayVec.{array_vec_len};
 ghost use Rattle.crib_run.specs.Prints.{Prints};
 ghost use Rattle.crib_sheet.specs.PlanBeaten.{deals_word, grouped, hands_text, deals_line};
-ghost use Rattle.crib_sheet.specs.PlanBeaten.{beating_text, least_text, others_line};
+ghost use Rattle.crib_sheet.specs.PlanBeaten.{beating_text, best_text, found_text, least_text, others_line};
 ghost use Rattle.crib_sheet.specs.PlanBeaten.{row_lines, rows_lines, slot_part, term_text, with_commas};
 
+use crate::verdict::beaten::Best;
 use arrayvec::ArrayVec;
 use crib_beaten::{Row, Rows, Slot, Tally, Term};
 use crib_plan_sheet::label_of;
@@ -45,21 +46,49 @@ pub(crate) fn put_beating<A: Allocator, P: Page>(
     put_hands(page, hands);
 }
 
-/// Puts how many deals beat each plan at least, beside how many beat this one. It puts nothing if that is no deal.
-pub(crate) fn put_least<P: Page>(page: &mut P, beaten: u32, least: u32)
-    ensures { Prints (least_text beaten least) (P.stand page.old) (P.stand page.new) }
+/// Puts how few deals beat a plan, beside how many beat this one.
+pub(crate) fn put_best<P: Page>(page: &mut P, beaten: u32, best: Best)
+    ensures { Prints (best_text beaten best) (P.stand page.old) (P.stand page.new) }
 {
-    if least == 0 {
-        return;
-    }
-    if beaten <= least {
+    if beaten <= best.least {
         page.put(b"No plan is beaten by fewer deals.\n");
     } else {
-        page.put(b"Every plan is beaten by at least ");
-        put_grouped(page, least);
-        page.put(deals_word(least));
-        page.put(b".\n");
+        put_found(page, best.found);
+        put_least(page, best.least);
     }
+}
+
+// Puts how many deals beat the best plan that was found, if one was.
+fn put_found<P: Page>(page: &mut P, found: Option<u32>)
+    ensures { Prints (found_text found) (P.stand page.old) (P.stand page.new) }
+{
+    match found {
+        None => {},
+        Some(0) => page.put(b"Another plan is sure.\n"),
+        Some(found) => {
+            page.put(b"The best plan found is beaten by ");
+            put_deals(page, found);
+        },
+    }
+}
+
+// Puts how many deals beat each plan at least. It puts nothing if that is no deal.
+fn put_least<P: Page>(page: &mut P, least: u32)
+    ensures { Prints (least_text least) (P.stand page.old) (P.stand page.new) }
+{
+    if least > 0 {
+        page.put(b"Every plan is beaten by at least ");
+        put_deals(page, least);
+    }
+}
+
+// Puts a number of deals at the end of a sentence.
+fn put_deals<P: Page>(page: &mut P, deals: u32)
+    ensures { Prints (grouped deals ++ deals_word deals ++ codes ".\n") (P.stand page.old) (P.stand page.new) }
+{
+    put_grouped(page, deals);
+    page.put(deals_word(deals));
+    page.put(b".\n");
 }
 
 // Puts which hands beat the plan, if there are rows for them, or the end of the line.

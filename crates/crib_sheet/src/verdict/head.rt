@@ -6,7 +6,7 @@ ghost use Rattle.crib_sheet.specs.PlanHead.{failing_line, game_lines, head_text,
 ghost use Rattle.crib_sheet.specs.PlanHead.{why_text};
 
 use crate::answer::PlanSheet;
-use crate::verdict::figures::{put_beating, put_least};
+use crate::verdict::figures::{put_beating, put_best};
 use crib_cards::{Act, Side};
 use crib_check::Verdict;
 use crib_game::{Ending, Game, replay};
@@ -21,7 +21,7 @@ use std::alloc::Allocator;
 /// what they led to, and that the plan is sure; or how many deals beat it, and the first game in which it fails.
 pub(crate) fn put_head<A: Allocator, P: Page>(page: &mut P, sheet: &PlanSheet<A>)
     ensures { Prints (head_text sheet.now.problem sheet.now.plan sheet.now.verdict sheet.now.tally.open_deals
-        sheet.now.tally.beaten sheet.now.hands sheet.now.least) (P.stand page.old) (P.stand page.new) }
+        sheet.now.tally.beaten sheet.now.hands sheet.now.best) (P.stand page.old) (P.stand page.new) }
 {
     let problem = &sheet.problem;
     put_position(page, problem);
@@ -31,7 +31,7 @@ pub(crate) fn put_head<A: Allocator, P: Page>(page: &mut P, sheet: &PlanSheet<A>
         ),
         Verdict::Fails(ending, game) => {
             put_beating(page, &sheet.tally, &sheet.hands);
-            put_least(page, sheet.tally.beaten, sheet.least);
+            put_best(page, sheet.tally.beaten, sheet.best);
             page.put(failing_words(*ending));
             put_game(page, problem, game);
             put_why(page, problem, &sheet.plan, *ending, game);

@@ -14,30 +14,25 @@ fn prints_sure_plans(rt: HostRuntime) {
     prints(&rt, SheetJob::Plan, &[TWELVE, LOOK], &parts, Status::Yes);
 }
 
-// One that is not sure has the status 1, and its sheet says so before the plan.
+// One that is not sure has the status 1, and its sheet says so before the plan, and how few deals beat another.
 #[test]
 fn prints_plans_that_are_not_sure(rt: HostRuntime) {
-    prints(
-        &rt,
-        SheetJob::Plan,
-        &[THIRTEEN, TWOS],
-        &["not sure"],
-        Status::No,
-    );
-    prints(
-        &rt,
-        SheetJob::Plan,
-        &[TWELVE, NO_PLAN],
-        &["not sure"],
-        Status::No,
-    );
-    prints(
-        &rt,
-        SheetJob::Plan,
-        &[BEGUN, NO_PLAN],
-        &["not sure"],
-        Status::No,
-    );
+    let best = "No plan is beaten by fewer deals.\n";
+    let better = "The best plan found is beaten by 67,929,620 deals.\n";
+    for (sections, said) in [
+        ([THIRTEEN, TWOS], best),
+        ([THIRTEEN, NO_PLAN], better),
+        ([TWELVE, NO_PLAN], "Another plan is sure.\n"),
+        ([BEGUN, NO_PLAN], "Another plan is sure.\n"),
+    ] {
+        prints(
+            &rt,
+            SheetJob::Plan,
+            &sections,
+            &["not sure", said],
+            Status::No,
+        );
+    }
 }
 
 // A problem alone has the sheet of a plan that is found: a sure one, or, if no plan is sure, another.

@@ -5,7 +5,7 @@ use Rattle.crib_sheet.proofs.answer.plan.plan_sheet.Goals as goal
 
 pub returns-in-Some : goal.returns-in-Some
 returns-in-Some g c =
-    outcome_map parts_reply _ _ (λ reply. typed_made _ _ _ _ reply c.in_ok-asked.ensures.read c.in-Some.is) c.sheet_of.result c.sheet_of.ensures
+    outcome_map parts_reply _ _ (λ reply. typed_made _ _ _ _ reply c.in_ok-asked.ensures.read c.in-Some.is) c.typed_sheet.result c.typed_sheet.ensures
 
 pub returns-in-None : goal.returns-in-None
 returns-in-None g c =

@@ -5,4 +5,4 @@ use Rattle.crib_sheet.proofs.answer.plan.sheet_of.Goals as goal
 
 pub returns : goal.returns
 unfolding parts_reply
-returns g c = rw c.status_of.ensures (plan_answers _, sheet_made _ _ _ _ _ _ _ _ _ c.requires.right c.in-Ok-beaten_by.ensures c.requires.least refl)
+returns g c = rw c.status_of.ensures (plan_answers _, sheet_made _ _ _ _ _ _ _ _ _ c.requires.right c.in-Ok-beaten_by.ensures c.requires.best refl)

@@ -21,4 +21,4 @@ returns-in-Fails g c =
     (more (more (more c.put-in-Fails.ensures c.put_game.ensures) c.put_why.ensures) c.put-in-Fails-2.ensures)
     (rw c.failing_words.ensures.value
     (regroup (failing_line ending) (game_lines problem game (replay_result problem game)) (why_text problem plan ending game) (codes "\nThe plan:\n\n"))) in
-    rw c.in-Fails.is (more (more (more c.put_position.ensures c.put_beating.ensures) c.put_least.ensures) failing)
+    rw c.in-Fails.is (more (more (more c.put_position.ensures c.put_beating.ensures) c.put_best.ensures) failing)

@@ -24,6 +24,10 @@ paired = record level { version = Two; dealer = Owner; played = plays Opponent 3
 five_holes : (with_holes four_twos 5).goal ≡ goals.Holes 5
 five_holes = refl
 
+-- with this goal too a problem may have an opening
+holes_with_an_opening : (with_holes four_twos 5).version ≡ Two
+holes_with_an_opening = refl
+
 -- a pair is two holes for the side that makes it
 two_for_the_owner : opening_scores paired ≡ record { owner = 2; opponent = 0 }
 two_for_the_owner = refl
@@ -36,6 +40,13 @@ two_are_pegged = (omega arith, λ pegged. omega (arith, pegged))
 
 none_is_pegged : ArePegged four_twos 0 × (ArePegged four_twos 1 → ⊥)
 none_is_pegged = (omega arith, λ pegged. omega (arith, pegged))
+
+-- the same from 10 to 20, whence 111 holes are left to hole 121
+abbrev further : Setup
+further = record paired { scores = record { owner = 10; opponent = 20 } }
+
+two_more_are_pegged : ArePegged further 2 × (ArePegged further 3 → ⊥)
+two_more_are_pegged = (omega arith, λ pegged. omega (arith, pegged))
 
 -- ---- holes that are sure
 
@@ -78,9 +89,20 @@ one_too_many AreSure none are = none are.sure
 none_beyond : (AreSure : ℕ → Type 0) → AreMost AreSure four_twos 122 → ⊥
 none_beyond AreSure are = let left = are.left in omega (arith, left)
 
--- the entry of a turn is on this turn
+all_that_are_left : (AreSure : ℕ → Type 0) → AreSure 111 → AreMost AreSure further 111 × (AreMost AreSure further 110 → ⊥)
+    × (AreMost AreSure further 112 → ⊥)
+all_that_are_left AreSure sure = (
+  record { sure = sure; left = omega arith; most = λ more above below. absurd (omega (arith, above, below)) },
+  λ are. are.most 111 (omega arith) (omega arith) sure,
+  λ are. let left = are.left in omega (arith, left),
+)
+
+-- the entry of a turn is on this turn, and on the most holes
 another_turn : (turn : TurnHoles) → (turn.act ≡ plays Owner 4 → ⊥) → AreMostWith four_twos (plays Owner 4) turn → ⊥
 another_turn turn other are = other are.0
+
+beyond_with_a_turn : (act : Act) → AreMostWith further act (record { act = act; holes = 112 }) → ⊥
+beyond_with_a_turn act are = let left = are.1.left in omega (arith, left)
 
 -- ---- the whole
 

@@ -33,6 +33,7 @@ use Rattle.crib_search.specs.Winnable.{IsWinnable}
 use Rattle.crib_plan.specs.Nodes.{ArePlan}
 use Rattle.crib_input.specs.Spelled.{SpellsPlan, SpellsProblem}
 use Rattle.crib_input.proofs.InputReaders.{read_count, read_played, read_problem, read_question, refused}
+use Rattle.crib_next.specs.Input.{next_question_at, next_question_of_input}
 use Rattle.crib_run.specs.declared.status.Status.{Status}
 use Rattle.crib_run.specs.declared.status.Status.TheVariants.{Yes, No, Refused, Fault}
 use Rattle.crib_run.specs.Reply.{Reply}
@@ -46,7 +47,8 @@ use Rattle.crib_beaten.specs.declared.rows.Rows.{Rows}
 use Rattle.crib_plan_sheet.specs.PlanPage.{page_text, plan_page}
 use Rattle.crib_plan_sheet.specs.PlanPlay.{ReachesGoal}
 use Rattle.crib_plan_sheet.specs.PlanSheet.{Over, sheet_with}
-use Rattle.crib_sheet.specs.declared.answer.job.SheetJob.TheVariants.{Plan, Game as GameJob, Beaten, Refute, Why}
+use Rattle.crib_sheet.specs.declared.answer.job.SheetJob.TheVariants.{Plan, Game as GameJob, Beaten, Try, Refute, Why}
+use Rattle.crib_sheet.specs.declared.answer.job.SheetJob.TheVariants.{Leads, Next, Scores, Holes}
 use Rattle.crib_sheet.specs.Meaning.{AsksAbout, GameMeans, IsRefusedByReplay, PlanMeans, SheetMeans}
 use Rattle.crib_sheet.specs.Sheet.{AnswersPlan, IsSheetOf, IsToTry, SheetAnswers, SheetAsksForMemory, SheetMakes, game_sheet_of_input, plan_reply}
 
@@ -77,12 +79,24 @@ refused_sections :
 unfolding read_played read_question game_sheet_of_input digits
 refused_sections = (refl, refl, refl)
 
--- `refute` and `why` read a problem alone
+-- six jobs read a problem alone
 refused_behind_a_problem :
-    SheetAnswers Refute with_a_bad_node (refused_reply (codes "refused line 8: 8\n"))
+    SheetAnswers Try with_a_bad_node (refused_reply (codes "refused line 8: 8\n"))
+    × SheetAnswers Refute with_a_bad_node (refused_reply (codes "refused line 8: 8\n"))
     × SheetAnswers Why with_a_bad_node (refused_reply (codes "refused line 8: 8\n"))
+    × SheetAnswers Leads with_a_bad_node (refused_reply (codes "refused line 8: 8\n"))
+    × SheetAnswers Scores with_a_bad_node (refused_reply (codes "refused line 8: 8\n"))
+    × SheetAnswers Holes with_a_bad_node (refused_reply (codes "refused line 8: 8\n"))
 unfolding read_problem digits
-refused_behind_a_problem = (refl, refl)
+refused_behind_a_problem = (refl, refl, refl, refl, refl, refl)
+
+refused_node : SheetAnswers Beaten with_a_bad_node (refused_reply (codes "refused line 10: 4\n"))
+unfolding read_question digits
+refused_node = refl
+
+refused_turns : SheetAnswers Next with_a_bad_node (refused_reply (codes "refused line 10: 4\n"))
+unfolding next_question_of_input next_question_at read_question digits
+refused_turns = refl
 
 -- a problem alone is read; with a line after it that begins no plan, it is refused
 what_is_read : (problem : Setup) (plan : List Node) (refusal other : Refusal) →
@@ -168,9 +182,11 @@ plan_asks_for_memory :
 unfolding read_count read_question digits
 plan_asks_for_memory = (inl refl, refl, inr (inl refl, refl), inl refl)
 
-problem_asks_for_memory : SheetAsksForMemory Plan problem_section
-unfolding read_problem
-problem_asks_for_memory = inr refl
+problem_asks_for_memory : SheetAsksForMemory Plan problem_section × SheetAsksForMemory Try problem_section × SheetAsksForMemory Refute problem_section
+    × SheetAsksForMemory Why problem_section × SheetAsksForMemory Leads problem_section × SheetAsksForMemory Scores problem_section
+    × SheetAsksForMemory Holes problem_section × SheetAsksForMemory Next with_a_bad_node
+unfolding read_problem read_count
+problem_asks_for_memory = (inr refl, refl, refl, refl, refl, refl, refl, refl)
 
 never_asks : (input : List ℕ) → SheetAsksForMemory Plan (problem_section ++ codes "plan 1\n")
     ⊎ SheetAsksForMemory Beaten (problem_section ++ codes "plan 1\n") ⊎ SheetAsksForMemory GameJob input → ⊥
@@ -179,6 +195,16 @@ never_asks input (inl (inl asks)) = absurd (both_ways false refl asks)
 never_asks input (inl (inr asks)) = absurd (both_ways false refl asks)
 never_asks input (inr (inl asks)) = absurd (both_ways false refl asks)
 never_asks input (inr (inr asks)) = asks
+
+-- the others ask for it if there is a problem alone, and `next` if there is a number of nodes
+asks_for_none : (SheetAsksForMemory Try with_a_bad_node → ⊥) × (SheetAsksForMemory Refute with_a_bad_node → ⊥)
+    × (SheetAsksForMemory Why with_a_bad_node → ⊥) × (SheetAsksForMemory Leads with_a_bad_node → ⊥) × (SheetAsksForMemory Scores with_a_bad_node → ⊥)
+    × (SheetAsksForMemory Holes with_a_bad_node → ⊥) × (SheetAsksForMemory Next problem_section → ⊥)
+unfolding read_problem read_count
+asks_for_none = (refused, refused, refused, refused, refused, refused, refused)
+  where
+    refused : false ≡ true → ⊥
+    refused = both_ways false refl
 
 game_never_runs_out_of_memory : SheetMakes GameJob with_a_bad_game fault_11 → ⊥
 unfolding read_played game_sheet_of_input digits

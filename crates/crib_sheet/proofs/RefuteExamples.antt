@@ -142,6 +142,10 @@ twenty_four_games input games spelled refutes long nobody = inl (record {
   printed = refl;
 })
 
+suits_of_jacks : (input : List ℕ) → IsDecidedBySuits (λ problem. refute_texts) input (codes "suits J\n") →
+    SheetMeans Refute input (record { output = codes "suits J\n"; status = No })
+suits_of_jacks input is = inr is
+
 -- suits decide neither where a plan is sure, nor where every player is refuted, nor after aces twice; and what is said of jacks isn't said of queens
 wrong_suits : (input text : List ℕ) (is : IsDecidedBySuits (λ problem. refute_texts) input text) →
     ((is.none.problem ≡ at_29) × IsSure at_29 ace_or_two) ⊎ ((player : Player) → ¬ IsSurePlayer is.none.problem player) ⊎ (is.ranks ≡ 1 ∷ 1 ∷ [])

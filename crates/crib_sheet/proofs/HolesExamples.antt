@@ -1,5 +1,5 @@
 -- Worked examples of how many holes are sure, as text.
-use Rattle.std.proofs.Common.{◌≡◌, [], ◌∷◌, ◌++◌, Some, None, codes, map, refl}
+use Rattle.std.proofs.Common.{◌≡◌, ℕ, [], ◌∷◌, ◌++◌, Some, None, codes, map, refl}
 use Rattle.crib_problem.specs.Setup.{Setup, IsSetup}
 use Rattle.crib_tables.specs.Holes.{AreHoles}
 use Rattle.std.specs.Fmt.{digits}
@@ -84,18 +84,24 @@ text : (holes others : Holes) → holes.holes ≡ 12 → holes.pegs ≡ record {
 unfolding digits text_with sure_text figure_line
 text holes others count pegs turns same = rw (count, pegs, turns, same) refl
 
--- four twos with a king turned up count twelve
-counted : (holes others : Holes) → holes_text four_twos holes others ≡ text_with 12 four_twos holes others
-unfolding hand_points
-counted holes others = refl
+-- four twos with a king turned up count twelve. What is sure at 0 to 0 is said if it is another number
+abbrev so_many : ℕ → Holes
+so_many count = record { pegs = record { owner = 0; opponent = 0 }; holes = count; turns = record { items = [] } }
 
-none_at_zero : (holes : Holes) → (unhurried holes None ≡ holes)
-none_at_zero holes = refl
+counted : holes_reply four_twos (so_many 13) None
+    ≡ record { output = codes "sure: 13 holes, 1 in the play and 12 in the show\n"; status = Yes }
+unfolding digits hand_points text_with sure_text figure_line
+counted = refl
 
-at_zero_first : (holes others : Holes) → holes_reply four_twos holes (Some others) ≡ record { output = holes_text four_twos holes others; status = Yes }
-at_zero_first holes others = refl
+at_zero_too : holes_reply four_twos (so_many 11) (Some (so_many 14)) ≡ record {
+  output = codes "sure: 11 holes\nnot exact: from 0 0 somebody may be at hole 121 before all is counted\n"
+      ++ codes "sure at 0 to 0: 14 holes, 2 in the play and 12 in the show\n";
+  status = Yes;
+}
+unfolding digits hand_points text_with sure_text not_exact_text figure_line
+at_zero_too = refl
 
-scores_at_zero : at_zero close_to_lost ≡ record (at_zero close_to_lost) { scores = record { owner = 0; opponent = 0 } }
+scores_at_zero : (at_zero close_to_lost).scores ≡ record { owner = 0; opponent = 0 }
 scores_at_zero = refl
 
 -- ---- at 0 to 0

@@ -102,15 +102,16 @@ no_blank : blank_line [] ≡ []
 no_blank = refl
 
 -- ---- the whole
-parts : (table : ScoreTable) → scores_text four_twos table
-    ≡ above_text four_twos table ++ columns_text table.columns.items ++ flat_map row_text table.rows.items
-unfolding scores_text
-parts table = refl
-
-above : (table : ScoreTable) → above_text four_twos table
-    ≡ count_line table.turn true ++ cards_line four_twos ++ turns_line [] ++ sides_line true ++ blank_line table.rows.items ++ codes "\n"
-unfolding above_text
-above table = refl
+whole : (sheet : ScoreSheet) (row : Row) → sheet.problem ≡ four_twos → sheet.table.turn ≡ turns.Owner → sheet.table.columns.items ≡ 9 ∷ 10 ∷ [] →
+    sheet.table.rows.items ≡ row ∷ [] → row.owner ≡ 8 → row.marks.items ≡ mark.Turns 2 ∷ mark.Impossible ∷ [] → scores_reply sheet ≡ record {
+      output = codes "Cards that are sure to lead: a digit is how many, and . is none.\n"
+          ++ codes "hold 2C 2D 2H 2S, throw 4C 6D, starter KD, dealer opponent, goal holes 13\n"
+          ++ codes "The owner's score is at the side, the opponent's at the top.\n"
+          ++ codes "A blank is a score that the goal or the turns can't have.\n\n      1\n    9 0\n  8 2\n";
+      status = Yes;
+    }
+unfolding scores_text above_text cards_line columns_text row_text digits
+whole sheet row problem turn columns rows owner marks = rw (problem, turn, columns, rows, owner, marks) refl
 
 -- after a turn the scores are still those at the first lead
 abbrev after_one : Setup
@@ -121,6 +122,3 @@ above_after_a_turn : (table : ScoreTable) → table.turn ≡ turns.Opponent → 
     ++ codes "played own 2C\nThe owner's score at the first lead is at the side, the opponent's at the top.\n\n"
 unfolding above_text cards_line digits
 above_after_a_turn table turn rows = rw (turn, rows) refl
-
-reply : (sheet : ScoreSheet) → scores_reply sheet ≡ record { output = scores_text sheet.problem sheet.table; status = Yes }
-reply sheet = refl

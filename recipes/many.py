@@ -199,7 +199,7 @@ def mended(cell: str, column: str, row: str) -> str:
 
 def problem_of(cells: dict[str, str], row: str) -> str:
     """The problem of a row, or what is wrong with the form of one of its cells, in a line."""
-    words = {column: mended(cell, column, row) for column, cell in cells.items()}
+    words = {column: mended(cells[column], column, row) for column in COLUMNS if column in cells}
     for column in COLUMNS[:-1]:
         if not words[column]:
             return f"{column}: the cell is empty"
@@ -209,9 +209,8 @@ def problem_of(cells: dict[str, str], row: str) -> str:
             return f'{column}: "{words[column]}" is more than one word'
     played = re.sub(r"^(\d+|none|-)( |$)", "", words.get("played", ""))
     turns = [*filter(None, re.split(r" (?=own\b|opp\b)", played))]
-    front = "problem 2/dealer {dealer}/score {own} {opp}/starter {starter}/hold {hold}/throw {throw}/goal {goal}"
-    lines = [line.format(**words) for line in front.split("/")]
-    return "".join(f"{line}\n" for line in (*lines, f"played {len(turns)}", *turns))
+    text = "problem 2/dealer {dealer}/score {own} {opp}/starter {starter}/hold {hold}/throw {throw}/goal {goal}/played "
+    return "\n".join([text.format(**words).replace("/", "\n") + str(len(turns)), *turns, ""])
 
 
 def decide_table(file: str, lanes: int) -> list[str]:
@@ -242,8 +241,7 @@ def decide_table(file: str, lanes: int) -> list[str]:
         elif len(cells) > len(names):
             text = f'there are {len(cells)} cells, and {len(names)} columns; quote a cell that has "{sign}" in it'
         else:
-            given = {name: cell for name, cell in zip(columns, cells) if name in COLUMNS}
-            text = problem_of(given, f"row {at} of {file}")
+            text = problem_of(dict(zip(columns, cells)), f"row {at} of {file}")
         jobs.append(partial(decide_row, f"{file}.rows/{at:06}.txt", f"row {at}, ", text))
         rows.append(cells[: len(names)])
     added = decide_all(lanes, jobs)

@@ -29,21 +29,16 @@ find_program() {
 # need_cribplan: finds cribplan, in $program.
 need_cribplan() {
     program=$(find_program cribplan) && return
-    [ $? -eq 3 ] || say "there is no cribplan that can be run beside it, one folder up, or on the path"
-    exit 3
+    [ $? -eq 3 ] || say "there is no cribplan that can be run beside it, one folder up, or on the path"; exit 3
 }
 
 # keep_input WORD..: for a recipe that has no words of its own. Keeps standard input in $room/input, in which a byte
 # more than cribplan reads is enough. If it can't be read, the answer is the fault of cribplan.
 keep_input() {
-    if [ $# -eq 1 ] && [ -f "$1" ]; then
-        say "it reads standard input; type $name < $1"
-        exit 2
-    fi
+    [ $# -ne 1 ] || [ ! -f "$1" ] || { say "it reads standard input; type $name < $1" && exit 2; }
     [ $# -eq 0 ] || { say "\"$1\" isn't expected here. Type one of these:" && print_usage >&2 && exit 2; }
     head -c 8388609 >"$room/input" 2>/dev/null && return
-    say "the input can't be read"; echo "fault 9" >"$room/out"
-    finish 3
+    say "the input can't be read" && echo "fault 9" >"$room/out" && finish 3
 }
 
 # finish STATUS: prints what is kept in $room/out, and ends the recipe.

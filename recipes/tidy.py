@@ -14,13 +14,15 @@ VERDICT = "^(?:holds|reached|fails (?:stuck|lost|short))$"  # of an answer besid
 NUMBERS = dict(zip("ACE TWO THREE FOUR FIVE SIX SEVEN EIGHT NINE TEN JACK QUEEN KING DEUCE TREY".split(), f"{RANKS}23"))
 KEYWORDS = "problem dealer owner opponent score starter hold throw goal win holes stop played own opp go".split()
 KEYWORDS += "game acts plan nodes turns play see end".split()
-MARKS = rf"(?i)^ *(?:(?:[>|•·] ?)+|- (?=\w)|\d+[.)] +(?=(?:{'|'.join(KEYWORDS[:-3])})\b))"  # of mails and of lists
+# The marks of mails and of lists.
+MARKS = rf"(?i)^ *(?:(?:[>|•·] ?)+|- (?=\w)|node (?=\d)|\d+[.)] +(?=(?:{'|'.join(KEYWORDS[:-3])})\b))"
 ARROW = r"\s*(?:[-=]>|=|[→⇒])\s*"
 NEXT = rf"(?:{ARROW}|,? (?:then|go ?to) (?=\S)|, *)"  # behind the card of a node
 BRANCH = rf"(?:(?:10|[{RANKS}])(?:-(?:10|[{RANKS}]))?|GO?)+"
 COUNTED, ACT = ("played", "acts", "nodes", "turns"), rf"(?:own|opp) (?:{CARD}|go)"
-OTHERS = {"hand": "hold", "keep": "hold", "discard": "throw", "crib": "throw", "cut": "starter", "upcard": "starter"}
-MEANT = dict(zip(KEYWORDS, KEYWORDS)) | OTHERS
+TABLE = re.compile(r"([,;\t])(?:[^,;\t]*\1){5}")
+OTHERS = "hand=hold keep=hold discard=throw crib=throw cut=starter upcard=starter pass=go passes=go goes=go"
+MEANT = dict(zip(KEYWORDS, KEYWORDS)) | dict(pair.split("=") for pair in OTHERS.split())
 END = -1  # the place after a plan
 MARK = "\ud800"  # no text has it; it is before the place of a node without a name, and around a place in a note
 SHEET = re.compile(r"You are the (?:pone|dealer) at \d|This plan is (?:(?:not )?sure|long)[.:] ")
@@ -43,7 +45,7 @@ class Signs(dict[int, str]):
         suit = re.search(r"(?<!\w)([CDHS])(?:LUB|IAMOND|EART|PADE)\b", name)
         made = suit[1] if suit else f" {name[13:]} " if name.startswith("PLAYING CARD ") else sign
         made = "-" if kind == "Pd" or sign == "−" else " " if sign.isspace() else made
-        return self.setdefault(code, "" if kind in ("Cf", "Mn", "Me", "Pi", "Pf") or sign in '"`*„‚' else made)
+        return self.setdefault(code, "" if kind in ("Cf", "Mn", "Me", "Pi", "Pf") or sign in "\"'`*„‚" else made)
 
 
 SIGNS = Signs()
@@ -60,21 +62,23 @@ def plain(text: str) -> str:
     """A line in signs of ASCII, with `5 of spades` as a card, and without marks of mails, of lists and of its end."""
     text = re.sub(r"(?<= )[*?](?= ?:)", "else", text)  # the other branches of a node
     typed = re.sub(MARKS, "", unicodedata.normalize("NFKC", text).translate(SIGNS))
-    named = rf"(?i)\b(10|{'|'.join([*NUMBERS, *RANKS])})(?: of)?[: ]([CDHS])(?:lub|iamond|eart|pade)s?\b"
+    named = rf"(?i)\b(10|{'|'.join([*NUMBERS, *RANKS])})(?: of)?[: ]?([CDHS])(?:lub|iamond|eart|pade)s?\b"
     return re.sub(named, lambda card: NUMBERS.get(card[1].upper(), card[1]) + card[2], typed).rstrip(" .!")
 
 
 def meant(word: str) -> str:
     """A word as it is meant, after its signs are mended: a keyword, a card or several, or the word itself."""
-    cards = re.sub("1?0(?=[CDHS])", "T", re.sub("^([CDHS])(.{1,2})$", r"\2\1", word.upper()))
+    cards = re.sub("(?:1[0O]|0)(?=[CDHS])", "T", re.sub("^([CDHS])(.{1,2})$", r"\2\1", word.upper()))
     typed = " ".join(re.findall("..", cards)) if re.fullmatch(f"({CARD})+", cards) else word
     return MEANT.get(word.lower().rstrip(":"), typed)
 
 
 def words_of(text: str) -> list[str]:
     """The words of a line that is no node's, or of a cell, each as it is meant."""
-    between = rf"{ARROW}|(?<=\d)(?:-| to )(?=\d)|(?<=[CDHS])-(?=[{RANKS}1])| - |\.+(?= )|[][(),;:/|&+]|\band\b"
-    return " ".join(map(meant, re.sub(between, " ", text, flags=re.I).split())).split()
+    between = rf"{ARROW}|(?<=\d)(?:-| to )(?=\d)|(?<=[CDHS])-(?=\w)| - |\.+(?= )|[][(),;:/|&+]|\b(?:and|says?|plays)\b"
+    typed = " ".join(map(meant, re.sub(between, " ", text, flags=re.I).split()))
+    typed = re.sub(rf"(?i)(?<!\S)([{RANKS}]|10) ([CDHS])(?!\S)", lambda card: meant(card[1] + card[2]), typed)
+    return re.sub(rf"\b(own|opp)(?:er|onent)(?= (?:{CARD}|go)\b)", r"\1", typed).split()
 
 
 def bare(name: str) -> str:
@@ -103,9 +107,9 @@ class Node:
     """A line of a plan: its name, what it does, and the rest, as words."""
 
     def __init__(self, words: list[str], has_name: bool = True, has_kind: bool = True) -> None:
-        self.name, self.kind = bare(words[0]) * has_name, meant(words[has_name]) if has_kind else ""
+        self.name, kind = bare(words[0]) * has_name, meant(words[has_name]) if has_kind else ""
         rest = words[has_name + has_kind :]
-        self.is_see = self.kind == "see" or self.kind != "play" and ":" in "".join(rest[:1])
+        self.is_see = kind == "see" or kind != "play" and ":" in "".join(rest[:1])
         self.rest = joined(" ".join(rest)) if self.is_see else rest
         names = [word.rpartition(":")[2] for word in self.rest if ":" in word] if self.is_see else self.rest[1:]
         self.places: dict[str, int | None] = dict.fromkeys(filter(None, names))  # what each name means
@@ -210,7 +214,7 @@ class Plan:
         node = self.nodes[at]
         name = node.name if self.are_kept or node.name in self.twice else str(self.numbers[at])
         rest = self.branches(at) if node.is_see else [*map(meant, node.rest[:1]), *map(self.target, node.rest[1:])]
-        return " ".join(word for word in (name, node.kind, *rest) if word and word[0] != MARK)
+        return " ".join(word for word in (name, "see" if node.is_see else "play", *rest) if word[0] != MARK)
 
 
 def read_sheet(sheet: list[str], notes: list[str]) -> list[str]:
@@ -242,7 +246,8 @@ def section_lines(section: list[tuple[str, list[str] | Node]], start: int, notes
     """The lines of a section, each behind what was typed for it. What is reported of its nodes is put into notes."""
     for at in [at for at, (_, words) in enumerate(section) if not isinstance(words, Node) and words[0] in COUNTED]:
         words, below = section[at][1], [words for _, words in section[at + 1 :]]
-        can_be_read = all(isinstance(words, Node) or re.fullmatch(ACT, " ".join(words)) for words in below)
+        kinds = [Node if isinstance(words, Node) else re.fullmatch(ACT, " ".join(words)) for words in below]
+        can_be_read = all(kind and (kind is Node) == (words[0] == "nodes") for kind in kinds)
         if len(words) == 1 or len(words) == 2 and can_be_read:
             words[1:] = [str(len(below))]
     slots = [at for at, (_, words) in enumerate(section) if isinstance(words, Node)]
@@ -272,19 +277,22 @@ def main() -> None:
     printed, blanks, in_plan, sections = [], 0, False, [[]]
     lines[start:end] = [(MARK, line) for line in read_sheet([line for _, line in lines[start:end]], notes)]
     above = [line for _, line in lines[:top] if line]
-    if above and not any(re.match(rf"(?i)(?!\w+\W+[a-z]+$)(?:{'|'.join(KEYWORDS)})\b", line) for line in above):
+    if above and not any(re.fullmatch(rf"(?i)(?:(?:{'|'.join(KEYWORDS)}|{CARD}|\d+)\b\W*)+", line) for line in above):
         notes.append(f"left out above the problem: {' / '.join(above)}")
         lines[:top] = []
     for typed_line, line in lines:
         bare_line = " ".join(typed_line.split())
         blanks += not line or bare_line != typed_line
         if line:
-            words = node_of(" ".join(line.split()), in_plan) or words_of(line) or [line]
+            is_table = len(sections) == 1 and TABLE.search(typed_line)  # which cribplan-many reads
+            words = is_table and [bare_line] or node_of(" ".join(line.split()), in_plan) or words_of(line) or [line]
             if not isinstance(words, Node) and words[0] in ("problem", "plan", "game", "turns"):
                 words += ["1"] * (words in (["plan"], ["game"]))
                 sections.append([])
                 in_plan = words[0] == "plan"
-            sections[-1].append((bare_line, words))
+            has_acts = not isinstance(words, Node) and words[0] in (*COUNTED, "own", "opp")
+            parts = re.split(f" (?={ACT})", " ".join(words)) if has_acts else []
+            sections[-1] += [(bare_line, part.split()) for part in parts] or [(bare_line, words)]
     for section in sections:
         printed += section_lines(section, len(printed), notes)
     notes += [f"line {at}: {line}" for at, (old, line) in enumerate(printed, 1) if old not in (line, MARK)]

@@ -1,6 +1,6 @@
 -- If the throw doesn't decide whether the goal is reached, how many deals beat a plan is a multiple of 820.
 use Rattle.std.proofs.Common.{◌≡◌, ◌↔◌, ◌⊎◌, ℕ, zero, suc, ◌+◌, ◌-◌, ◌<◌, ◌≤◌, min, Bool, true, false, not, ◌&&◌, ◌||◌, leb, ltb}
-use Rattle.std.proofs.Common.{List, [], ◌∷◌, ◌++◌, refl, sym, ap, ◌∙◌, inl, inr, arith}
+use Rattle.std.proofs.Common.{List, [], ◌∷◌, ◌++◌, length, refl, sym, ap, subst, ◌∙◌, inl, inr, arith}
 use Rattle.std.proofs.lemmas.Bool.{cases_Bool, cases_lt}
 use Rattle.std.proofs.lemmas.Bool.Decides.{nat_tests}
 use Rattle.std.proofs.lemmas.List.{map-append}
@@ -18,15 +18,16 @@ use Rattle.crib_play.specs.Filled.{filled_record, is_silent_next, with_silent_go
 use Rattle.crib_play.specs.History.{acts_of, history_letters, moves_of, visible_moves}
 use Rattle.crib_play.specs.Legal.{IsLegal, letters_of}
 use Rattle.crib_play.specs.Points.{points_for}
-use Rattle.crib_play.specs.Record.{Record}
+use Rattle.crib_play.specs.Record.{Record, cards_in}
+use Rattle.crib_play.proofs.SilentGos.{other_twice}
 use Rattle.crib_play.proofs.FilledRecords.{filled_whole, letters_filled, not_silent_done}
 use Rattle.crib_show.specs.Demands.{IsShowAt}
-use Rattle.crib_show.specs.Show.{hand_points}
+use Rattle.crib_show.specs.Show.{crib_points, hand_points}
 use Rattle.crib_show.specs.declared.show.outcomes.Outcome.TheVariants.{Reached}
 use Rattle.crib_show.proofs.ShowDemands.{dealer_met, pone_met, show_lost, show_reached}
 use Rattle.crib_problem.specs.Setup.{Setup, IsSetup, IsDealOf, BeginsAsPlayed, hands_of, is_stop, played_back, start_of, target_of}
 use Rattle.crib_problem.proofs.StartLemmas.{hands_dealt, started}
-use Rattle.crib_know.specs.Knowledge.{played_events}
+use Rattle.crib_know.specs.Knowledge.{knowledge_after, played_events}
 use Rattle.crib_know.proofs.OpeningLawProofs.{letters_same}
 use Rattle.crib_plan.specs.declared.plan.Node.{Node}
 use Rattle.crib_game.specs.Replay.{full_with, is_done_for, outcome_for, play_scores}
@@ -37,7 +38,8 @@ use Rattle.crib_beaten.specs.Beaten.{Beats}
 use Rattle.crib_players.specs.Players.{Player, follower_of}
 use Rattle.crib_bound.specs.BeatenPlayers.{BeatsPlayer}
 use Rattle.crib_bound.specs.Laws.{IsMultiple}
-use Rattle.crib_bound.specs.Private.HoldOutcomes.{IsByHold, opening_score}
+use Rattle.crib_bound.specs.Private.HoldOutcomes.{IsByHold}
+use Rattle.crib_bound.proofs.DealerPegs.{dealer_pegs}
 use Rattle.crib_bound.proofs.Plans.{same}
 
 -- ---- the outcome by the hold
@@ -64,10 +66,17 @@ module _ {problem : Setup} (setup : IsSetup problem) (scores : Scores) where
     few = omega (arith, few_hand setup deal, few_crib setup deal);
   }
 
-  -- the scores and the goal are such that the crib doesn't count
+  -- every crib has enough points for the owner, unless the scores decide
+  record IsEnough : Type 0 where
+    least : ℕ
+    crib : (theirs : List ℕ) → least ≤ crib_points (problem.thrown ++ theirs) problem.starter
+    few : target ≤ 121
+    enough : scores.owner < target → scores.opponent < 121 → target ≤ scores.owner + (own + least)
+
+  -- the scores and the goal are such that the crib doesn't decide
   abbrev IsWithoutCrib : Type 0
   IsWithoutCrib = ((problem.dealer ≡ Opponent) × (is_stop problem.goal ≡ false))
-      ⊎ ((problem.dealer ≡ Owner) × ((is_stop problem.goal ≡ true) ⊎ (target ≤ min 121 (scores.owner + own))))
+      ⊎ ((problem.dealer ≡ Owner) × ((is_stop problem.goal ≡ true) ⊎ IsEnough))
 
   pone_test : (goal many : Bool) (score : ℕ) → goal ≡ false → (ltb score target && (many || not goal)) ≡ not (leb target score)
   pone_test goal many score is = grind (arith, nat_tests, is)
@@ -81,8 +90,9 @@ module _ {problem : Setup} (setup : IsSetup problem) (scores : Scores) where
   past_it : (goal few : Bool) → few ≡ false → (few && not goal) ≡ false
   past_it goal few is = grind (arith, nat_tests, is)
 
-  at_or_past : (crib : ℕ) → target ≤ min 121 (scores.owner + own) → ltb (min 121 (min 121 (scores.owner + own) + crib)) target ≡ false
-  at_or_past crib enough = grind (arith, nat_tests, enough)
+  at_or_past : (least crib : ℕ) → target ≤ 121 → target ≤ scores.owner + (own + least) → least ≤ crib →
+      ltb (min 121 (min 121 (scores.owner + own) + crib)) target ≡ false
+  at_or_past least crib few enough more = grind (arith, nat_tests, few, enough, more)
 
   undecided : scores.owner < target → scores.opponent < 121 → IsWithoutCrib → IsTested
   undecided low few (inl pone) = (
@@ -95,7 +105,8 @@ module _ {problem : Setup} (setup : IsSetup problem) (scores : Scores) where
   )
   undecided low few (inr (dealer, inr enough)) = (
     λ hold. not (leb (121 - scores.opponent) (hand_points hold problem.starter)),
-    λ dealt deal. dealer_met (show dealt deal) low few dealer (dealer_test (is_stop problem.goal) _ _ (past_it _ _ (at_or_past _ enough))),
+    λ dealt deal. dealer_met (show dealt deal) low few dealer
+        (dealer_test (is_stop problem.goal) _ _ (past_it _ _ (at_or_past _ _ enough.few (enough.enough low few) (enough.crib dealt.throw)))),
   )
 
   tested : IsWithoutCrib → IsTested
@@ -112,32 +123,11 @@ module _ {problem : Setup} (setup : IsSetup problem) (scores : Scores) where
   same_outcome without dealt other deal also hold reached =
       let test = tested without in (test.1 other also).0 (sym (ap test.0 hold) ∙ (test.1 dealt deal).1 reached)
 
--- more points are still enough
-still_enough : (target score more own : ℕ) → target ≤ 121 → target ≤ score + own → score ≤ more → target ≤ min 121 (more + own)
-still_enough target score more own few enough grown = omega (arith, few, enough, grown)
-
-module _ {problem : Setup} (setup : IsSetup problem) where
-  pub by_pone : problem.dealer ≡ Opponent → is_stop problem.goal ≡ false → IsByHold problem
-  by_pone pone goal = record {
-    setup = setup;
-    same = λ dealt other played deal also hold grown. same_outcome setup (play_scores problem played) (inl (pone, goal)) dealt other deal also hold;
-  }
-
-  pub by_stop : problem.dealer ≡ Owner → is_stop problem.goal ≡ true → IsByHold problem
-  by_stop dealer goal = record {
-    setup = setup;
-    same = λ dealt other played deal also hold grown. same_outcome setup (play_scores problem played) (inr (dealer, inl goal)) dealt other deal also hold;
-  }
-
-  pub by_hand : problem.dealer ≡ Owner → target_of problem ≤ 121 →
-      target_of problem ≤ opening_score problem + hand_points problem.hold problem.starter → IsByHold problem
-  by_hand dealer few enough = record {
-    setup = setup;
-    same = λ dealt other played deal also hold grown. same_outcome setup (play_scores problem played)
-        (inr (dealer, inr (still_enough _ (opening_score problem) _ _ few enough grown))) dealt other deal also hold;
-  }
-
 -- ---- the scores after the opening
+-- the owner's score after the opening
+abbrev opening_score : Setup → ℕ
+opening_score problem = (knowledge_after problem (played_events problem)).round.scores.owner
+
 -- a record with later gos has no fewer points of the owner
 gos_grow : (n : ℕ) (start : Start) (past : Record) →
     points_for (pone_of start) Owner past ≤ points_for (pone_of start) Owner (with_silent_gos n start past)
@@ -177,10 +167,56 @@ module _ {problem : Setup} (setup : IsSetup problem) {dealt : Dealt} (deal : IsD
       ∙ ap (filled_record start) (map-append letter_of (moves_of begins.later) (moves_of (played_back problem)))
       ∙ ap (λ (letters : List Letter). filled_record start (letters_of (moves_of begins.later) ++ letters)) (sym (letters_same (played_back problem)))
 
-  pub grown : is_done_for problem played ≡ true → opening_score problem ≤ (play_scores problem played).owner
+  grown : is_done_for problem played ≡ true → opening_score problem ≤ (play_scores problem played).owner
   grown done =
       let points = later_grow start (letters_of (moves_of begins.later)) (history_letters (played_events problem)) in
       rw (letters_are done) (omega (arith, points))
+
+  -- once all cards are played the dealer has a point more than at the start
+  with_a_point : problem.dealer ≡ Owner → is_done_for problem played ≡ true → (play_scores problem played).owner < target_of problem →
+      (play_scores problem played).opponent < 121 → target_of problem ≤ 121 → problem.scores.owner + 1 ≤ (play_scores problem played).owner
+  with_a_point dealer done low few least =
+      let all : length (cards_in (letters_of played)) ≡ 8 = grind (arith, nat_tests, done, low, few) in
+      let pegs = dealer_pegs start (hands_of problem dealt) (hands_dealt problem setup dealt deal.deal) played legal all in
+      let point : 1 ≤ points_for pone Owner (letters_of played) =
+      subst (λ (side : Side). 1 ≤ points_for pone side (letters_of played)) (other_twice problem.dealer ∙ dealer) pegs in
+      omega (arith, point, low, least)
+
+module _ {problem : Setup} (setup : IsSetup problem) where
+  pub by_pone : problem.dealer ≡ Opponent → is_stop problem.goal ≡ false → IsByHold problem
+  by_pone pone goal = record {
+    setup = setup;
+    same = λ dealt other played deal also hold legal begins done.
+        same_outcome setup (play_scores problem played) (inl (pone, goal)) dealt other deal also hold;
+  }
+
+  pub by_stop : problem.dealer ≡ Owner → is_stop problem.goal ≡ true → IsByHold problem
+  by_stop dealer goal = record {
+    setup = setup;
+    same = λ dealt other played deal also hold legal begins done.
+        same_outcome setup (play_scores problem played) (inr (dealer, inl goal)) dealt other deal also hold;
+  }
+
+  -- the least points of the play, of the hand and of the crib are enough
+  pub by_least : problem.dealer ≡ Owner → target_of problem ≤ 121 → (pegged least : ℕ) →
+      ((theirs : List ℕ) → least ≤ crib_points (problem.thrown ++ theirs) problem.starter) →
+      ((score : ℕ) → opening_score problem ≤ score → problem.scores.owner + 1 ≤ score → pegged ≤ score) →
+      target_of problem ≤ pegged + (hand_points problem.hold problem.starter + least) → IsByHold problem
+  by_least dealer most pegged least crib reached enough = record {
+    setup = setup;
+    same = λ dealt other played deal also hold legal begins done.
+        same_outcome setup (play_scores problem played) (inr (
+          dealer,
+          inr (record {
+            least = least;
+            crib = crib;
+            few = most;
+            enough = λ low few.
+                let score = reached _ (grown setup deal played legal begins done) (with_a_point setup deal played legal begins dealer done low few most) in
+                omega (arith, enough, score);
+          }),
+        )) dealt other deal also hold;
+  }
 
 -- ---- the deals that beat a plan
 module _ {problem : Setup} (by : IsByHold problem) where
@@ -192,8 +228,8 @@ module _ {problem : Setup} (by : IsByHold problem) where
     failure = elim beats.failure [
       | inl missed ↦ inl (record {
         done = missed.done;
-        missed = λ reached. missed.missed (by.same (dealt_by dealt.hold throw) dealt beats.played deal beats.by.deal refl
-            (grown by.setup beats.by.deal beats.played beats.by.legal beats.by.begins missed.done) reached);
+        missed = λ reached. missed.missed
+            (by.same (dealt_by dealt.hold throw) dealt beats.played deal beats.by.deal refl beats.by.legal beats.by.begins missed.done reached);
       })
       | inr loss ↦ inr loss
     ];

@@ -9,6 +9,7 @@ pub mod PutParts
 pub mod WalkSteps
 pub mod Worths
 pub mod OpenDeals
+pub mod DealerPegs
 pub mod HoldUnits
 mod EndExamples
 mod Examples

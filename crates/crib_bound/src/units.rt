@@ -6,7 +6,7 @@ ghost use Rattle.crib_bound.specs.Private.HoldOutcomes.{IsByHold};
 use crib_cards::Side;
 use crib_know::Know;
 use crib_problem::Problem;
-use crib_show::hand_points;
+use crib_show::ExtremesByRanks;
 
 // With each hold the opponent may have thrown any two of the 41 other cards that the owner hasn't seen.
 const THROWS: u32 = 820;
@@ -15,8 +15,10 @@ const THROWS: u32 = 820;
 ///
 /// A hold goes with 820 throws. If the crib can't decide whether the owner reaches the goal, a plan is beaten by all
 /// deals with a hold or by none of them. This is so if the crib is the opponent's and the goal isn't to stop them, as
-/// the pone counts first. It is also so if the crib is the owner's and the goal is to stop the opponent, or the owner
-/// reaches the target with their hand from their score after the opening. No clause says when the number is 820.
+/// the pone counts first. It is also so if the crib is the owner's and the goal is to stop the opponent, or the points
+/// that the owner is sure of take them to the target: their score after the opening, or a point more than at the start
+/// as the dealer always scores one in the play; their hand; and the fifteens, the pairs and the jack that the starter
+/// and their throw make. No clause says when the number is 820.
 pub fn unit_of(problem: &Problem) -> u32
     ensures multiple { IsUnit problem.now result }
     ensures some { 1 ≤ result }
@@ -31,10 +33,13 @@ fn may_crib_decide(problem: &Problem) -> bool
 {
     let target = problem.target();
     let is_to_stop = problem.is_to_stop();
-    let hand = hand_points(&problem.hold(), problem.starter());
-    let shown = Know::start(problem).round().scores().owner + hand;
+    let own = ExtremesByRanks::new(&problem.hold(), &problem.thrown(), problem.starter()).own;
+    let before = problem.scores();
+    let opening = Know::start(problem).round().scores();
+    let pegged = opening.owner.max(before.owner + 1);
+    let least = pegged.saturating_add(own.hand).saturating_add(own.crib);
     match problem.dealer() {
         Side::Opponent => is_to_stop,
-        Side::Owner => !is_to_stop && shown < target,
+        Side::Owner => !is_to_stop && least < target,
     }
 }

@@ -114,7 +114,8 @@ macro_rules! for_goal {
 }
 
 /// A hold goes with 820 throws. They decide if the opponent's crib may take the opponent out, or if the owner may need
-/// the points of their own crib.
+/// points of their own crib beside the one that they always score in the play. In the last row the hand counts six, and
+/// with the starter their throw makes two.
 #[test]
 fn the_unit_is_the_throws_of_a_hold_if_the_crib_does_not_decide(rt: HostRuntime) {
     let units = [
@@ -122,10 +123,14 @@ fn the_unit_is_the_throws_of_a_hold_if_the_crib_does_not_decide(rt: HostRuntime)
         (for_goal!("opponent", "100 100", "holes 13"), 820),
         (for_goal!("opponent", "100 100", "stop"), 1),
         (for_goal!("owner", "100 100", "stop"), 820),
-        (for_goal!("owner", "108 0", "win"), 1),
-        (for_goal!("owner", "109 0", "win"), 820),
-        (for_goal!("owner", "0 0", "holes 13"), 1),
-        (for_goal!("owner", "0 0", "holes 12"), 820),
+        (for_goal!("owner", "107 0", "win"), 1),
+        (for_goal!("owner", "108 0", "win"), 820),
+        (for_goal!("owner", "0 0", "holes 14"), 1),
+        (for_goal!("owner", "0 0", "holes 13"), 820),
+        (
+            "problem 2\ndealer owner\nscore 112 110\nstarter 8S\nhold AD 3D 4H 7D\nthrow 5C KH\ngoal win\nplayed 0\n",
+            820,
+        ),
     ];
     for (of, unit) in &units {
         same(&rt, unit_of(&problem(&rt, of)), *unit);

@@ -1,4 +1,4 @@
--- If the throw doesn't decide whether the goal is reached, how many deals beat a plan is a multiple of 820.
+-- If the throw doesn't decide whether the goal is reached, how many deals beat a player is a multiple of 820.
 use Rattle.std.proofs.Common.{◌≡◌, ◌↔◌, ◌⊎◌, ℕ, zero, suc, ◌+◌, ◌-◌, ◌<◌, ◌≤◌, min, Bool, true, false, not, ◌&&◌, ◌||◌, leb, ltb}
 use Rattle.std.proofs.Common.{List, [], ◌∷◌, ◌++◌, length, refl, sym, ap, subst, ◌∙◌, inl, inr, arith}
 use Rattle.std.proofs.lemmas.Bool.{cases_Bool, cases_lt}
@@ -29,15 +29,14 @@ use Rattle.crib_problem.specs.Setup.{Setup, IsSetup, IsDealOf, BeginsAsPlayed, h
 use Rattle.crib_problem.proofs.StartLemmas.{hands_dealt, started}
 use Rattle.crib_know.specs.Knowledge.{knowledge_after, played_events}
 use Rattle.crib_know.proofs.OpeningLawProofs.{letters_same}
-use Rattle.crib_plan.specs.declared.plan.Node.{Node}
 use Rattle.crib_game.specs.Replay.{full_with, is_done_for, outcome_for, play_scores}
 use Rattle.crib_sure.proofs.PointsOfDeals.{few_crib, few_hand}
 use Rattle.crib_deals.specs.Exact.{AreExactly}
+use Rattle.crib_deals.proofs.ExactCounts.{exactly_same}
 use Rattle.crib_deals.proofs.HoldMultiples.{dealt_by, multiple_of_820}
-use Rattle.crib_beaten.specs.Beaten.{Beats}
 use Rattle.crib_players.specs.Players.{Player, follower_of}
 use Rattle.crib_bound.specs.BeatenPlayers.{BeatsPlayer}
-use Rattle.crib_bound.specs.Laws.{IsMultiple}
+use Rattle.crib_bound.specs.Laws.{IsMultiple, IsUnit, IsUnitOfPlayers}
 use Rattle.crib_bound.specs.Private.HoldOutcomes.{IsByHold}
 use Rattle.crib_bound.proofs.DealerPegs.{dealer_pegs}
 use Rattle.crib_bound.proofs.Plans.{same}
@@ -218,7 +217,7 @@ module _ {problem : Setup} (setup : IsSetup problem) where
         )) dealt other deal also hold;
   }
 
--- ---- the deals that beat a plan
+-- ---- the deals that beat a player
 module _ {problem : Setup} (by : IsByHold problem) where
   beats_other : (player : Player) (dealt : Dealt) (throw : List ℕ) → BeatsPlayer problem player dealt → IsDealOf problem (dealt_by dealt.hold throw) →
       BeatsPlayer problem player (dealt_by dealt.hold throw)
@@ -235,12 +234,17 @@ module _ {problem : Setup} (by : IsByHold problem) where
     ];
   }
 
-  pub of_hold : (plan : List Node) (count : ℕ) → AreExactly (Beats problem plan) count → IsMultiple count 820
-  of_hold plan count exact = multiple_of_820 by.setup (record {
-    deal = λ dealt beats. ((same problem plan dealt).0 beats).by.deal;
-    other = λ dealt throw beats deal. (same problem plan (dealt_by dealt.hold throw)).1
-        (beats_other (follower_of problem plan) dealt throw ((same problem plan dealt).0 beats) deal);
+  pub of_hold : (player : Player) (count : ℕ) → AreExactly (BeatsPlayer problem player) count → IsMultiple count 820
+  of_hold player count exact = multiple_of_820 by.setup (record {
+    deal = λ dealt beats. beats.by.deal;
+    other = λ dealt throw beats deal. beats_other player dealt throw beats deal;
   }) exact
 
 pub of_one : (count : ℕ) → IsMultiple count 1
 of_one count = (count, omega arith)
+
+-- a unit for players is one for plans
+pub for_plans : {problem : Setup} (unit : ℕ) → IsUnitOfPlayers problem unit → IsUnit problem unit
+for_plans {problem} unit is plan count exact =
+    is (follower_of problem plan) count (exactly_same (λ dealt order beats. (same problem plan dealt).0 beats)
+    (λ dealt order beats. (same problem plan dealt).1 beats) exact)

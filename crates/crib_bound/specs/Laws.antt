@@ -62,3 +62,8 @@ IsMultiple count unit = (times : ℕ) × (count ≡ times * unit)
 abbrev pub IsUnit : Setup → ℕ → Type 0
 IsUnit problem unit =
     (plan : List Node) (count : ℕ) → AreExactly (Beats problem plan) count → IsMultiple count unit
+
+-- how many deals beat a player is a multiple of a unit, whatever the player
+abbrev pub IsUnitOfPlayers : Setup → ℕ → Type 0
+IsUnitOfPlayers problem unit =
+    (player : Player) (count : ℕ) → AreExactly (BeatsPlayer problem player) count → IsMultiple count unit

@@ -1,6 +1,6 @@
-//! A number that divides how many deals beat a plan.
+//! A number that divides how many deals beat a plan, or a player.
 ghost use Rattle.std.specs.Prelude.{◌≤◌, IsFalse};
-ghost use Rattle.crib_bound.specs.Laws.{IsUnit};
+ghost use Rattle.crib_bound.specs.Laws.{IsUnit, IsUnitOfPlayers};
 ghost use Rattle.crib_bound.specs.Private.HoldOutcomes.{IsByHold};
 
 use crib_cards::Side;
@@ -13,7 +13,9 @@ const THROWS: u32 = 820;
 
 /// Returns a number of deals, 820 or 1: how many deals beat a plan is a multiple of it, whatever the plan.
 ///
-/// A hold goes with 820 throws. If the crib can't decide whether the owner reaches the goal, a plan is beaten by all
+/// So is how many beat a player, also one who sees suits (`players`).
+///
+/// A hold goes with 820 throws. If the crib can't decide whether the owner reaches the goal, a player is beaten by all
 /// deals with a hold or by none of them. This is so if the crib is the opponent's and the goal isn't to stop them, as
 /// the pone counts first. It is also so if the crib is the owner's and the goal is to stop the opponent, or the points
 /// that the owner is sure of take them to the target: their score after the opening, or a point more than at the start
@@ -21,6 +23,7 @@ const THROWS: u32 = 820;
 /// and their throw make. No clause says when the number is 820.
 pub fn unit_of(problem: &Problem) -> u32
     ensures multiple { IsUnit problem.now result }
+    ensures players { IsUnitOfPlayers problem.now result }
     ensures some { 1 ≤ result }
     ensures few { result ≤ 820 }
 {

@@ -43,7 +43,7 @@ asked_so true side = (λ over. refl, λ owner. absurd cc)
 asked_so false Owner = (λ over. absurd cc, λ owner. (refl, refl))
 asked_so false Opponent = (λ over. absurd cc, λ owner. absurd cc)
 
-both_true : (one other : Bool) → (one ≡ true → other ≡ true) → (other ≡ true → one ≡ true) → one ≡ other
+pub both_true : (one other : Bool) → (one ≡ true → other ≡ true) → (other ≡ true → one ≡ true) → one ≡ other
 both_true one other to from = grind (arith, nat_tests, to, from)
 
 module _ {know : Knowledge} {problem : Setup} {history : List Event} (knows : KnowsAfter know problem history) {dealt : Dealt}

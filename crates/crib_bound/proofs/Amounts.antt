@@ -42,25 +42,39 @@ without most x (y ∷ xs) (inr h) =
     let below = without most x xs h in
     (y ∷ below.0, omega (arith, below.1, sum_by-cons most y xs, sum_by-cons most y below.0), λ z h. grind (arith, h, below.2 z))
 
--- amounts that are at most so much each, where each of which there is some is in another list
-pub sum_within : (amounts most : Dealt → ℕ) (xs ys : List Dealt) → AreDifferent xs → ((x : Dealt) → IsIn x xs → amounts x ≤ most x) →
-    ((x : Dealt) → IsIn x xs → 1 ≤ amounts x → IsIn x ys) → sum_by amounts xs ≤ sum_by most ys
-sum_within amounts most [] ys apart few within = omega arith
-sum_within amounts most (x ∷ xs) ys apart few within =
-    here (λ zs less. sum_within amounts most xs zs apart.1 (λ y h. few y (inr h)) less) (amounts x) refl
+-- amounts that are at most so much each, where each of which there is some goes to another place of another list
+pub sum_images : (image : Dealt → Dealt) (amounts most : Dealt → ℕ) (xs ys : List Dealt) → AreDifferent xs →
+    ((x : Dealt) → IsIn x xs → amounts x ≤ most (image x)) → ((x : Dealt) → IsIn x xs → 1 ≤ amounts x → IsIn (image x) ys) →
+    ((x y : Dealt) → IsIn x xs → IsIn y xs → 1 ≤ amounts x → 1 ≤ amounts y → image x ≡ image y → x ≡ y) → sum_by amounts xs ≤ sum_by most ys
+sum_images image amounts most [] ys apart few within one = omega arith
+sum_images image amounts most (x ∷ xs) ys apart few within one =
+    here (λ zs less. sum_images image amounts most xs zs apart.1 (λ y h. few y (inr h)) less (λ y z h k. one y z (inr h) (inr k))) (amounts x) refl
   where
-    here : ((zs : List Dealt) → ((y : Dealt) → IsIn y xs → 1 ≤ amounts y → IsIn y zs) → sum_by amounts xs ≤ sum_by most zs) → (amount : ℕ) →
+    here : ((zs : List Dealt) → ((y : Dealt) → IsIn y xs → 1 ≤ amounts y → IsIn (image y) zs) → sum_by amounts xs ≤ sum_by most zs) → (amount : ℕ) →
         amounts x ≡ amount → sum_by amounts (x ∷ xs) ≤ sum_by most ys
     here rest zero none = omega (arith, sum_by-cons amounts x xs, none, rest ys (λ y h. within y (inr h)))
     here rest (suc amount) some =
-        let left = without most x ys (within x (inl refl) (omega (arith, some))) in
-        let below = rest left.0 (λ y h more. grind (arith, left.2 y (within y (inr h) more), apart_from x xs apart.0 y h)) in
+        let more : 1 ≤ amounts x = omega (arith, some) in
+        let left = without most (image x) ys (within x (inl refl) more) in
+        let below = rest left.0 (λ y h much. elim (left.2 (image y) (within y (inr h) much)) [
+          | inl same ↦ absurd (apart_from x xs apart.0 y h (one x y (inl refl) (inr h) more much same))
+          | inr there ↦ there
+        ]) in
         omega (arith, left.1, sum_by-cons amounts x xs, few x (inl refl), below)
+
+-- amounts that are at most so much each, where each of which there is some is in another list
+pub sum_within : (amounts most : Dealt → ℕ) (xs ys : List Dealt) → AreDifferent xs → ((x : Dealt) → IsIn x xs → amounts x ≤ most x) →
+    ((x : Dealt) → IsIn x xs → 1 ≤ amounts x → IsIn x ys) → sum_by amounts xs ≤ sum_by most ys
+sum_within amounts most xs ys apart few within = sum_images (λ x. x) amounts most xs ys apart few within (λ x y h k some more same. same)
 
 -- a part of an amount, or nothing
 pub part_few : (kept : Bool) (parts : ℕ) → cond kept parts 0 ≤ parts
 part_few true parts = omega arith
 part_few false parts = omega arith
+
+pub passing : (passes : Bool) → 1 ≤ cond passes 1 0 → passes ≡ true
+passing true some = refl
+passing false some = absurd (omega (arith, some))
 
 -- the same of each
 pub sum_same : (amount : ℕ) (xs : List Dealt) → sum_by (λ x. amount) xs ≡ amount * length xs

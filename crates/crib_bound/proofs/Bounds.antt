@@ -159,7 +159,7 @@ module _ {Seen : Type 0} (look : Act → Seen) (one_card : (card other : ℕ) �
         (by, λ late other same. is ∙ ap Some (one_card card other same)) (after card may_it)) (choice turns) refl
 
   module _ (parts value : ℕ) (strategy : IsStrategy look problem parts value) where
-    lost : Loses strategy.deals strategy.amounts value
+    pub lost : Loses strategy.deals strategy.amounts value
     lost =
         let back = length-reverse problem.played in
         let sizes = length-map (played_back problem) look in

@@ -122,6 +122,21 @@ module _ {problem : Setup} (setup : IsSetup problem) (scores : Scores) where
   same_outcome without dealt other deal also hold reached =
       let test = tested without in (test.1 other also).0 (sym (ap test.0 hold) ∙ (test.1 dealt deal).1 reached)
 
+  -- for a pone who wants to reach a hole the hold decides nothing either
+  pub pone_outcome : problem.dealer ≡ Opponent → is_stop problem.goal ≡ false → (dealt other : Dealt) → IsDealOf problem dealt → IsDealOf problem other →
+      outcome_for problem dealt scores ≡ Reached → outcome_for problem other scores ≡ Reached
+  pone_outcome dealer goal dealt other deal also reached = elim (cases_lt scores.owner target) [
+    | inl low ↦ elim (cases_lt scores.opponent 121) [
+      | inl few ↦ (met other also low few).0 ((met dealt deal low few).1 reached)
+      | inr lost ↦ (show_lost (show other also) low lost refl).0 ((show_lost (show dealt deal) low lost refl).1 reached)
+    ]
+    | inr enough ↦ (show_reached (show other also) enough refl).0 ((show_reached (show dealt deal) enough refl).1 reached)
+  ]
+    where
+      met : (one : Dealt) → IsDealOf problem one → scores.owner < target → scores.opponent < 121 →
+          (leb target (min 121 (scores.owner + own)) ≡ true) ↔ (outcome_for problem one scores ≡ Reached)
+      met one is low few = pone_met (show one is) low few dealer (pone_test (is_stop problem.goal) _ _ goal)
+
 -- ---- the scores after the opening
 -- the owner's score after the opening
 abbrev opening_score : Setup → ℕ

@@ -11,6 +11,12 @@ pub mod Worths
 pub mod OpenDeals
 pub mod DealerPegs
 pub mod HoldUnits
+pub mod Swaps
+pub mod RenamedDeals
+pub mod LowestDeals
+pub mod Recast
+pub mod RecastPlayers
+pub mod AllPlayers
 mod EndExamples
 mod Examples
 mod WorthExamples

@@ -29,7 +29,7 @@ use Rattle.crib_beaten.proofs.TallyRows.{open_numbered}
 use Rattle.crib_search.specs.declared.tries.grades.Ladder.{Ladder}
 use Rattle.crib_bound.specs.Private.Walks.{AreAdded, AreOpenDeals, AreTables, AreWeighed, IsTableAt}
 use Rattle.crib_bound.specs.Private.Walks.{entry_by, entry_of, grade_of, ladder_at, misses_at, rungs_at}
-use Rattle.crib_bound.proofs.Amounts.{few_in, part_few, sum_less, sum_same, sum_within}
+use Rattle.crib_bound.proofs.Amounts.{few_in, part_few, passing, sum_less, sum_same, sum_within}
 use Rattle.crib_bound.proofs.GradeCounts.{choice_of_entry, entry_at}
 
 -- the number of the ranks of a deal
@@ -90,12 +90,8 @@ same_count : {Has : Dealt → Type 0} {count : ℕ} (test : Dealt → Bool) (dea
 same_count test deals exact different to from =
     let less = few_in test exact.deals deals exact.different from in
     let more = sum_within (λ dealt. cond (test dealt) 1 0) (λ dealt. 1) deals exact.deals different (λ dealt h. part_few (test dealt) 1)
-    (λ dealt h some. to dealt h (passes (test dealt) some)) in
+    (λ dealt h some. to dealt h (passing (test dealt) some)) in
     omega (arith, less, more, sum_same 1 exact.deals, exact.counted)
-  where
-    passes : (b : Bool) → 1 ≤ cond b 1 0 → b ≡ true
-    passes true some = refl
-    passes false some = absurd (omega (arith, some))
 
 -- ---- one number more
 module _ {problem : Setup} (setup : IsSetup problem) where

@@ -1,9 +1,10 @@
 -- The laws of bounds.
-use Rattle.std.specs.Prelude.{◌≡◌, ◌↔◌, ℕ, ◌*◌, ◌≤◌, List, Option}
+use Rattle.std.specs.Prelude.{◌≡◌, ◌↔◌, ℕ, ◌*◌, ◌≤◌, List, Option, IsFalse}
 use Rattle.crib_cards.specs.declared.sides.Dealt.{Dealt}
+use Rattle.crib_cards.specs.declared.sides.Side.TheVariants.{Opponent}
 use Rattle.crib_cards.specs.declared.moves.Act.{Act}
 use Rattle.crib_play.specs.History.{Event, event_of}
-use Rattle.crib_problem.specs.Setup.{Setup}
+use Rattle.crib_problem.specs.Setup.{Setup, IsSetup, is_stop}
 use Rattle.crib_plan.specs.declared.plan.Node.{Node}
 use Rattle.crib_sure.specs.Sure.{IsSure}
 use Rattle.crib_deals.specs.Exact.{AreExactly}
@@ -29,6 +30,14 @@ RanksLaw =
     (problem : Setup) (parts value count : ℕ) (choice : List Event → Option ℕ) →
     IsStrategy event_of problem parts value →
     AreExactly (BeatsPlayer problem (player_by event_of choice)) count → value ≤ parts * count
+
+-- if the owner is the pone and is to win or to reach a hole, a strategy that sees events is worth at most that many
+-- times the deals that beat a player, also one who sees suits
+abbrev pub SuitsLaw : Type 0
+SuitsLaw =
+    (problem : Setup) (parts value count : ℕ) (player : Player) → IsSetup problem → problem.dealer ≡ Opponent →
+    IsFalse (is_stop problem.goal) → IsStrategy event_of problem parts value →
+    AreExactly (BeatsPlayer problem player) count → value ≤ parts * count
 
 -- each is worth at most that many times the deals that beat a plan
 abbrev pub PlanLaw : {Seen : Type 0} → (Act → Seen) → Type 0

@@ -217,4 +217,4 @@ module _ {problem : Setup} (setup : IsSetup problem) (dealer : problem.dealer â‰
       some_names = total_some free
 
 pub suits : SuitsLaw
-suits problem parts value count player setup dealer goal strategy exact = bound setup dealer goal parts value count player strategy exact
+suits problem setup reaches parts value count player strategy exact = bound setup reaches.0 reaches.1 parts value count player strategy exact

@@ -31,13 +31,19 @@ RanksLaw =
     IsStrategy event_of problem parts value →
     AreExactly (BeatsPlayer problem (player_by event_of choice)) count → value ≤ parts * count
 
--- if the owner is the pone and is to win or to reach a hole, a strategy that sees events is worth at most that many
--- times the deals that beat a player, also one who sees suits
-abbrev pub SuitsLaw : Type 0
-SuitsLaw =
-    (problem : Setup) (parts value count : ℕ) (player : Player) → IsSetup problem → problem.dealer ≡ Opponent →
-    IsFalse (is_stop problem.goal) → IsStrategy event_of problem parts value →
+-- a strategy that sees events is worth at most that many times the deals that beat a player, also one who sees suits
+abbrev pub BoundsPlayers : Setup → Type 0
+BoundsPlayers problem =
+    (parts value count : ℕ) (player : Player) → IsStrategy event_of problem parts value →
     AreExactly (BeatsPlayer problem player) count → value ≤ parts * count
+
+-- the owner is the pone, and is to win or to reach a hole
+abbrev pub IsPoneToReach : Setup → Type 0
+IsPoneToReach problem = (problem.dealer ≡ Opponent) × IsFalse (is_stop problem.goal)
+
+-- for such an owner, strategies that see events bound the players who see suits too
+abbrev pub SuitsLaw : Type 0
+SuitsLaw = (problem : Setup) → IsSetup problem → IsPoneToReach problem → BoundsPlayers problem
 
 -- each is worth at most that many times the deals that beat a plan
 abbrev pub PlanLaw : {Seen : Type 0} → (Act → Seen) → Type 0

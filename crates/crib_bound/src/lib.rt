@@ -5,10 +5,12 @@ mod entries;
 mod grades;
 mod joins;
 mod laws;
+mod players;
 mod units;
 mod walk;
 mod weights;
 
 pub use laws::bound_law;
+pub use players::is_for_all_players;
 pub use units::unit_of;
 pub use walk::bound_of;

@@ -8,8 +8,8 @@ use Rattle.crib_show.specs.Show.{hand_points}
 use Rattle.crib_problem.proofs.ExampleProblems.{after_two, close_to_lost, four_twos, plays, says_go}
 use Rattle.crib_tables.specs.declared.holes.Holes.{Holes}
 use Rattle.crib_run.specs.declared.status.Status.TheVariants.{Yes}
-use Rattle.crib_sheet.specs.Holes.{AreAtZero, at_zero, figure_line, hand_line, holes_reply, holes_text, holes_word, not_exact_text, parts_text, pegs_line}
-use Rattle.crib_sheet.specs.Holes.{sure_text, text_with, turn_line, turn_lines, unhurried}
+use Rattle.crib_sheet.specs.Holes.{AreAtZero, at_zero, figure_line, hand_line, holes_reply, holes_word, not_exact_text, parts_text, pegs_line}
+use Rattle.crib_sheet.specs.Holes.{sure_text, text_with, turn_line, turn_lines}
 
 -- ---- figures
 words : map holes_word (0 ∷ 1 ∷ 12 ∷ []) ≡ codes "0 holes" ∷ codes "1 hole" ∷ codes "12 holes" ∷ []

@@ -41,7 +41,7 @@ use Rattle.crib_answer.specs.Input.{report_of_input}
 use Rattle.crib_game_sheet.specs.GameText.{game_sheet_text}
 use Rattle.crib_sheet.specs.Asked.{asked_of_input, plan_or_none}
 use Rattle.crib_sheet.specs.PlanHead.{failing_text, position_text, sure_text}
-use Rattle.crib_sheet.specs.PlanBeaten.{beating_text, best_text}
+use Rattle.crib_sheet.specs.PlanBeaten.{IsBest, beating_text, best_text}
 use Rattle.crib_sheet.specs.declared.verdict.beaten.Best.{Best}
 use Rattle.crib_beaten.specs.declared.rows.Rows.{Rows}
 use Rattle.crib_plan_sheet.specs.PlanPage.{page_text, plan_page}
@@ -127,7 +127,7 @@ replies_to_twos reply (Fails result game, open_deals, beaten, hands, best, apart
 replies_to_twos reply (Fails result game, open_deals, beaten, hands, best, apart, right, figures, is_best, same) (inr (inl none)) =
     aces_are_counted beaten figures.are_beaten none
 replies_to_twos reply (Fails result game, open_deals, beaten, hands, best, apart, right, figures, is_best, same) (inr (inr few)) =
-    absurd (omega (arith, is_best.1 in_a_row beaten figures.are_beaten, few.0, few.1))
+    absurd (omega (arith, is_best.plans in_a_row beaten figures.are_beaten, few.0, few.1))
 
 not_empty : (first : ℕ) (bytes : List ℕ) → [] ≡ first ∷ bytes → ⊥
 not_empty first bytes text = cc
@@ -154,9 +154,14 @@ sheet_of_a_problem : (reply : Reply) → IsToTry four_twos two_twos reply.status
 sheet_of_a_problem reply tried is = inl (two_twos, tried, is)
 
 sure_plan_is_written : (problem : Setup) (plan : List Node) (open_deals beaten : ℕ) (hands : Option Rows) (apart : ℕ → Bool) → IsSure problem plan →
-    AnswersPlan (Ok (problem, Some plan)) (plan_reply problem plan Holds open_deals beaten hands (record { found = None; least = 0 }) apart)
+    AnswersPlan (Ok (problem, Some plan)) (plan_reply problem plan Holds open_deals beaten hands (record { found = None; least = 0; is_for_all = false }) apart)
 sure_plan_is_written problem plan open_deals beaten hands apart sure =
-    (Holds, open_deals, beaten, hands, record { found = None; least = 0 }, apart, sure, tt, (tt, (λ other count exact. omega arith)), refl)
+    let best : IsBest problem (record { found = None; least = 0; is_for_all = false }) = record {
+      found = tt;
+      plans = λ other count exact. omega arith;
+      players = λ all. absurd cc;
+    } in
+    (Holds, open_deals, beaten, hands, record { found = None; least = 0; is_for_all = false }, apart, sure, tt, best, refl)
 
 replies_of_verdicts : (problem : Setup) (plan : List Node) (game : Game) (open_deals beaten : ℕ) (hands : Option Rows) (best : Best) (apart : ℕ → Bool) →
     (plan_reply problem [] Holds open_deals beaten hands best apart
@@ -255,7 +260,7 @@ wrong_unsure_sheets input text means sure (inr (inr (inr (inl (are, none))))) =
     aces_are_counted means.beaten (of_these (λ setup plan. AreExactly (Beats setup plan) means.beaten) means.problem means.plan _ _ are
     means.figures.are_beaten) none
 wrong_unsure_sheets input text means sure (inr (inr (inr (inr few)))) =
-    absurd (omega (arith, means.is_best.1 means.plan means.beaten means.figures.are_beaten, few.0, few.1))
+    absurd (omega (arith, means.is_best.plans means.plan means.beaten means.figures.are_beaten, few.0, few.1))
 
 no_sheet_without_a_text : (input : List ℕ) → (SheetMeans Plan input (record { output = []; status = Yes }) → ⊥)
     × (SheetMeans Plan input (record { output = []; status = No }) → ⊥)

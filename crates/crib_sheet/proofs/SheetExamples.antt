@@ -83,8 +83,8 @@ a_stuck_plan input spelled typed unsure figures is_least = record {
   beaten = 820;
   hands = None;
   figures = figures;
-  best = record { found = None; least = 7 };
-  is_best = (tt, is_least);
+  best = record { found = None; least = 7; is_for_all = false };
+  is_best = record { found = tt; plans = is_least; players = λ all. absurd cc };
   middle = codes "The plan:\n\n";
   apart = λ node. false;
   printed = refl;

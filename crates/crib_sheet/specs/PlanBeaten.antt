@@ -1,12 +1,14 @@
 -- The deals that beat a plan that is not sure, in words.
-use Rattle.std.specs.Prelude.{◌≡◌, ℕ, ◌<◌, ◌≤◌, ◌-◌, ◌/◌, ◌%◌, ◌==◌, Bool, false, ◌&&◌, Option, None, Some}
-use Rattle.std.specs.Prelude.{List, [], ◌∷◌, ◌++◌, length, flat_map}
+use Rattle.std.specs.Prelude.{◌≡◌, ℕ, ◌<◌, ◌≤◌, ◌-◌, ◌/◌, ◌%◌, ◌==◌, Bool, true, false, ◌&&◌, Option, None, Some}
+use Rattle.std.specs.Prelude.{List, [], ◌∷◌, ◌++◌, length, flat_map, IsTrue}
 use Rattle.std.specs.Prelude.{count_by, replicate, nat_le, nat_lt, codes, decimal, if◌then◌else◌}
 use Rattle.std.specs.List.{All, list_all}
 use Rattle.crib_text.specs.Spelling.{space}
 use Rattle.crib_problem.specs.Setup.{Setup}
 use Rattle.crib_plan.specs.declared.plan.Node.{Node}
+use Rattle.crib_players.specs.Players.{Player}
 use Rattle.crib_beaten.specs.Beaten.{Beats}
+use Rattle.crib_bound.specs.BeatenPlayers.{BeatsPlayer}
 use Rattle.crib_know.specs.Hidden.{IsOpen}
 use Rattle.crib_check.specs.declared.verdict.Verdict.{Verdict}
 use Rattle.crib_check.specs.declared.verdict.Verdict.TheVariants.{Holds, Fails}
@@ -104,10 +106,15 @@ least_text least =
     if least == 0 then []
     else codes "Every plan is beaten by at least " ++ grouped least ++ deals_word least ++ codes ".\n"
 
+-- that no plan is beaten by fewer deals, or no player
+abbrev pub fewest_text : Bool → List ℕ
+fewest_text true = codes "No player is beaten by fewer deals, whatever they look at.\n"
+fewest_text false = codes "No plan is beaten by fewer deals.\n"
+
 -- how few deals beat a plan, beside how many beat this one
 unfoldable pub best_text : ℕ → Best → List ℕ
 best_text beaten best =
-    if nat_le beaten best.least then codes "No plan is beaten by fewer deals.\n"
+    if nat_le beaten best.least then fewest_text best.is_for_all
     else found_text best.found ++ least_text best.least
 
 -- ---- right figures
@@ -116,14 +123,21 @@ best_text beaten best =
 abbrev pub IsLeast : Setup → ℕ → Type 0
 IsLeast problem least = (plan : List Node) (count : ℕ) → AreExactly (Beats problem plan) count → least ≤ count
 
+-- at least so many deals beat each player, also one who sees suits
+abbrev pub IsLeastOfPlayers : Setup → ℕ → Type 0
+IsLeastOfPlayers problem least =
+    (player : Player) (count : ℕ) → AreExactly (BeatsPlayer problem player) count → least ≤ count
+
 -- if a plan was found, exactly so many deals beat some plan
 abbrev pub IsFoundWith : Setup → Option ℕ → Type 0
 IsFoundWith problem None = Unit {0}
 IsFoundWith problem (Some found) = (plan : List Node) × AreExactly (Beats problem plan) found
 
 -- what is said of the best plan is right
-abbrev pub IsBest : Setup → Best → Type 0
-IsBest problem best = IsFoundWith problem best.found × IsLeast problem best.least
+pub record IsBest (problem : Setup) (best : Best) : Type 0 where
+  pub found : IsFoundWith problem best.found
+  pub plans : IsLeast problem best.least
+  pub players : IsTrue best.is_for_all → IsLeastOfPlayers problem best.least
 
 -- rows are right: exactly so many deals that beat the plan meet a row and none above. Each has one at least, and none
 -- below has more. Each leaves a blank before the column of these numbers, and all numbers end in one column

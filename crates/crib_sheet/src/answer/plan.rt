@@ -9,7 +9,7 @@ ghost use Rattle.crib_sheet.specs.Sheet.{AnswersWithPlan, IsSheetOf, SheetMakes,
 use crate::answer::asked::{Asked, asked_of};
 use crate::answer::job::SheetJob;
 use crate::answer::to_try::tried_of;
-use crate::verdict::{Best, beaten_by, best_beside, least_of};
+use crate::verdict::{Best, beaten_by, best_beside, best_of};
 use crib_beaten::{Rows, Tally};
 use crib_check::{Verdict, verdict_on};
 use crib_input::{FaultCause, Reason};
@@ -79,24 +79,15 @@ fn sheet_to_try<A: Allocator + Copy>(alloc: A, problem: Problem) -> Result<PlanS
 {
     let mut advice = None;
     let tried = tried_of(alloc, &problem, &mut advice)?;
-    if tried.is_sure {
-        let best = Best {
-            found: None,
-            least: 0,
-        };
-        return sheet_of(alloc, problem, tried.plan, Verdict::Holds, best);
-    }
-    let verdict = verdict_on(alloc, &problem, &tried.plan);
-    let Ok(least) = least_of(alloc, &problem, advice) else {
+    let verdict = if tried.is_sure {
+        Verdict::Holds
+    } else {
+        verdict_on(alloc, &problem, &tried.plan)
+    };
+    let Ok(best) = best_of(alloc, &problem, None, advice) else {
         return Err(Reason::Fault(FaultCause::NoMemory));
     };
-    sheet_of(
-        alloc,
-        problem,
-        tried.plan,
-        verdict,
-        Best { found: None, least },
-    )
+    sheet_of(alloc, problem, tried.plan, verdict, best)
 }
 
 // The sheet of a plan by the verdict on it and how few deals beat another plan, or `fault 11` if an allocation fails.

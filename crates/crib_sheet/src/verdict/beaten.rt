@@ -2,10 +2,10 @@
 ghost use Rattle.std.specs.Prelude.{IfOk, List, ◌<◌, ◌^◌};
 ghost use Rattle.crib_plan.specs.declared.plan.Node.{Node};
 ghost use Rattle.crib_beaten.specs.Tally.{IsTally};
-ghost use Rattle.crib_sheet.specs.PlanBeaten.{AreBeating, AreBeatingOf, AreHandsOf, IsBest, IsLeast};
+ghost use Rattle.crib_sheet.specs.PlanBeaten.{AreBeating, AreBeatingOf, AreHandsOf, IsBest, IsFoundWith};
 
 use crib_beaten::{Rows, Tally, rows_of, tally_of};
-use crib_bound::{bound_of, unit_of};
+use crib_bound::{bound_of, is_for_all_players, unit_of};
 use crib_check::{NoMemory, Verdict};
 use crib_plan::Plan;
 use crib_problem::Problem;
@@ -22,6 +22,8 @@ pub struct Best {
     pub found: Option<u32>,
     /// At least so many deals beat each plan.
     pub least: u32,
+    /// Whether at least so many beat each player too, whatever they look at.
+    pub is_for_all: bool,
 }
 
 /// Counts the deals that beat a plan if the verdict on it is that it fails, and no deals of a sure plan. It fails if an
@@ -84,47 +86,49 @@ pub(crate) fn best_beside<A: Allocator + Copy>(
     alloc: A,
     problem: &Problem,
     verdict: &Verdict,
-) -> Result<Best, NoMemory>
+) -> Result<Best, AllocError>
     ensures { IfOk result (IsBest problem.now) }
 {
-    let unknown = Best {
-        found: None,
-        least: 0,
-    };
     if let Verdict::Holds = verdict {
-        return Ok(unknown);
+        return best_of(alloc, problem, None, None);
     }
     let mut advice = None;
     match try_plan(alloc, problem, problem, None, &mut advice) {
         Ok(tried) => {
-            let tally = tally_of(alloc, problem, &tried.plan)?;
-            let Ok(least) = least_of(alloc, problem, advice) else {
-                return Err(NoMemory);
+            let Ok(tally) = tally_of(alloc, problem, &tried.plan) else {
+                return Err(AllocError);
             };
-            Ok(Best {
-                found: Some(tally.beaten),
-                least,
-            })
+            best_of(alloc, problem, Some(tally.beaten), advice)
         },
-        Err(SearchFault::TooLarge) => Ok(unknown),
-        Err(SearchFault::NoMemory) => Err(NoMemory),
+        Err(SearchFault::TooLarge) => best_of(alloc, problem, None, None),
+        Err(SearchFault::NoMemory) => Err(AllocError),
     }
 }
 
-/// Returns a number of deals that is at most that of the deals that beat a plan, whatever the plan. It fails if an
-/// allocation fails.
-pub(crate) fn least_of<A: Allocator + Copy>(
+/// Counts how many deals beat each plan at least, by what the search for a plan was advised. Without advice these are
+/// none. It fails if an allocation fails.
+pub(crate) fn best_of<A: Allocator + Copy>(
     alloc: A,
     problem: &Problem,
+    found: Option<u32>,
     advice: Option<Advice<A>>,
-) -> Result<u32, AllocError>
-    ensures { IfOk result (IsLeast problem.now) }
+) -> Result<Best, AllocError>
+    requires { IsFoundWith problem.now found }
+    ensures { IfOk result (IsBest problem.now) }
 {
     let Some(advice) = advice else {
-        return Ok(0);
+        return Ok(Best {
+            found,
+            least: 0,
+            is_for_all: false,
+        });
     };
     let worth = bound_of(alloc, problem, PARTS, &mut advice.guide(alloc)?)?;
     let unit = unit_of(problem) as u64;
     let times = worth.div_ceil(PARTS as u64 * unit);
-    Ok(times.saturating_mul(unit).min(u32::MAX as u64) as u32)
+    Ok(Best {
+        found,
+        least: times.saturating_mul(unit).min(u32::MAX as u64) as u32,
+        is_for_all: is_for_all_players(problem),
+    })
 }

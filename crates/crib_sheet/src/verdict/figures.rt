@@ -3,7 +3,7 @@ ghost use Rattle.std.specs.Prelude.{◌≡◌, ◌≤◌, ◌+◌, ◌*◌, ◌+
 ghost use Rattle.std.specs.List.{list_all};
 ghost use Rattle.arrayvec.specs.ArrayVec.{array_vec_len};
 ghost use Rattle.crib_run.specs.Prints.{Prints};
-ghost use Rattle.crib_sheet.specs.PlanBeaten.{deals_word, grouped, hands_text, deals_line};
+ghost use Rattle.crib_sheet.specs.PlanBeaten.{fewest_text, deals_word, grouped, hands_text, deals_line};
 ghost use Rattle.crib_sheet.specs.PlanBeaten.{beating_text, best_text, found_text, least_text, others_line};
 ghost use Rattle.crib_sheet.specs.PlanBeaten.{row_lines, rows_lines, slot_part, term_text, with_commas};
 
@@ -51,10 +51,22 @@ pub(crate) fn put_best<P: Page>(page: &mut P, beaten: u32, best: Best)
     ensures { Prints (best_text beaten best) (P.stand page.old) (P.stand page.new) }
 {
     if beaten <= best.least {
-        page.put(b"No plan is beaten by fewer deals.\n");
+        page.put(fewest_words(best.is_for_all));
     } else {
         put_found(page, best.found);
         put_least(page, best.least);
+    }
+}
+
+// That no plan is beaten by fewer deals, or no player.
+fn fewest_words(is_for_all: bool) -> &'static [u8]
+    ensures value { result.now ≡ fewest_text is_for_all }
+    ensures short { length result.now ≤ 60 }
+{
+    if is_for_all {
+        b"No player is beaten by fewer deals, whatever they look at.\n"
+    } else {
+        b"No plan is beaten by fewer deals.\n"
     }
 }
 

@@ -17,7 +17,7 @@ fn prints_sure_plans(rt: HostRuntime) {
 // One that is not sure has the status 1, and its sheet says so before the plan, and how few deals beat another.
 #[test]
 fn prints_plans_that_are_not_sure(rt: HostRuntime) {
-    let best = "No plan is beaten by fewer deals.\n";
+    let best = "No player is beaten by fewer deals, whatever they look at.\n";
     let better = "The best plan found is beaten by 67,929,620 deals.\n";
     for (sections, said) in [
         ([THIRTEEN, TWOS], best),

@@ -4,11 +4,8 @@ use Rattle.crib_sheet.specs.Sheet.{IsSheetOf, parts_reply}
 use Rattle.crib_sheet.proofs.MadeSheets.{tried_sheet, untried_sheet}
 use Rattle.crib_sheet.proofs.answer.plan.sheet_to_try.Goals as goal
 
-pub returns-then-tried : goal.returns-then-tried
-returns-then-tried g c = outcome_map parts_reply _ _ (λ reply. tried_sheet _ _ _ reply c.in_ok-tried.ensures) c.sheet_of.result c.sheet_of.ensures
-
 pub returns : goal.returns
-returns g c = outcome_map parts_reply _ _ (λ reply. tried_sheet _ _ _ reply c.in_ok-tried.ensures) c.sheet_of-2.result c.sheet_of-2.ensures
+returns g c = outcome_map parts_reply _ _ (λ reply. tried_sheet _ _ _ reply c.in_ok-tried.ensures) c.sheet_of.result c.sheet_of.ensures
 
 pub returns-in_err-tried : goal.returns-in_err-tried
 returns-in_err-tried g c = let none = untried_sheet c.args.problem (IsSheetOf c.args.problem) _ c.in_err-tried.ensures in search rules

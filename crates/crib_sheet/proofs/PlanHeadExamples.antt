@@ -54,7 +54,7 @@ unsure_head : (open_deals beaten : ℕ) (hands : Option Rows) → head_text clos
     open_deals beaten hands (record { found = None; least = 820; is_for_all = false })
     ≡ position_text close_to_lost ++ beating_text open_deals beaten hands ++ best_text beaten (record { found = None; least = 820; is_for_all = false })
     ++ failing_text close_to_lost one_line Stuck (game_with pairing [])
-unsure_head open_deals beaten hands best = refl
+unsure_head open_deals beaten hands = refl
 
 why_plans_fail :
     (failing_line Stuck ≡ codes "In this game it states no card that you can play:\n")

@@ -20,6 +20,7 @@ mod places;
 mod planner;
 mod register;
 mod rounds;
+mod splitting;
 mod spot;
 mod survey;
 mod tape;

@@ -14,19 +14,19 @@ use std::alloc::{AllocError, Allocator};
 const TIMES: u8 = 4;
 
 // The rounds after which what was learned is tried.
-const ROUNDS: [u32; 8] = [16, 32, 64, 128, 256, 512, 1024, 2048];
+const ROUNDS: [u32; 5] = [16, 32, 64, 128, 256];
 
 // The guests that are heard in all rounds.
-const PATIENCE: usize = 3_000_000;
+const PATIENCE: usize = 6_000_000;
 
 // A plan is near sure if at most one of so many deals beats it. For another plan there are no rounds.
 const NEAR: u64 = 10;
 
 /// The choices in the making.
 #[derive(Drop)]
-struct Choosing<'a, A: Allocator> {
+pub(crate) struct Choosing<'a, A: Allocator> {
     choices: &'a Choices<A>,
-    net: Net<A>,
+    pub(crate) net: Net<A>,
     ledger: Ledger<A>,
     // The best chosen edges so far, and how many deals beat them.
     kept: Vec<usize, A>,
@@ -54,7 +54,9 @@ pub(crate) fn choose<A: Allocator + Copy>(
         }
     }
     let mut ledger = Ledger::new(alloc, choices.len())?;
-    let net = Net::knit(alloc, places, first, &mut ledger, forced)?;
+    // The net of a pone is small. Whole, it leads deals with the same ranks and different shows better.
+    let is_whole = !choices.is_dealer;
+    let net = Net::knit(alloc, places, first, &mut ledger, forced, is_whole)?;
     ledger.divide(choices)?;
     let mut choosing = Choosing {
         choices,
@@ -67,9 +69,10 @@ pub(crate) fn choose<A: Allocator + Copy>(
     choosing.choose_all((0, end), false, DEPTH);
     choosing.improve()?;
     if beaten.saturating_add(choosing.least) <= choices.open_deals() / NEAR {
-        let matching = choosing.learn(alloc)?;
+        let mut matching = choosing.learn(alloc)?;
         tape.learned.push((first, places.len()))?;
         choosing.keep_on(tape, places, &matching)?;
+        choosing.split(alloc, &mut matching)?;
     }
     choosing.restore();
     choosing.net.choose_at(places);
@@ -81,24 +84,34 @@ impl<A: Allocator + Copy> Choosing<'_, A> {
     fn learn(&mut self, alloc: A) -> Result<Matching<A>, AllocError> {
         let mut matching = Matching::new(alloc, &self.net, &self.ledger)?;
         let mut patience = PATIENCE;
-        for round in 1..2049u32 {
+        for round in 1..257u32 {
             matching.play(&self.net);
             patience = patience.saturating_sub(matching.len());
-            if patience == 0 || ROUNDS.contains(&round) {
-                let least = matching.least(&self.net);
-                self.follow(&matching, false);
-                self.improve()?;
-                if least.saturating_add(self.ledger.step()) > self.least {
-                    break;
-                }
-                self.follow(&matching, true);
-                self.improve()?;
+            if (patience == 0 || ROUNDS.contains(&round)) && self.is_best_now(&mut matching)? {
+                break;
             }
             if patience == 0 {
                 break;
             }
         }
         Ok(matching)
+    }
+
+    /// Tries what was learned. Returns whether no plan can be better than the best so far.
+    pub(crate) fn is_best_now(&mut self, matching: &mut Matching<A>) -> Result<bool, AllocError> {
+        let least = matching.least(&self.net);
+        self.follow(matching, false);
+        self.improve()?;
+        if !self.is_best(least) {
+            self.follow(matching, true);
+            self.improve()?;
+        }
+        Ok(self.is_best(least))
+    }
+
+    /// Whether no plan can be better than the best so far, if each is beaten by so many deals at least.
+    pub(crate) fn is_best(&self, least: u64) -> bool {
+        least.saturating_add(self.ledger.step()) > self.least
     }
 
     // Keeps on a tape what was learned.

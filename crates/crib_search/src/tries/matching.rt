@@ -77,9 +77,22 @@ pub(crate) struct Lesson {
     pub(crate) guest_end: usize,
     /// The share with which the owner gets here.
     pub(crate) reach: u64,
-    /// How many deals pass from here at least, if the opponent plays as in all rounds, and the best edge then.
+    /// How many deals pass from here on, in parts of one: in the round, or at least, if the opponent plays as in all
+    /// rounds. The best edge then.
     pub(crate) worth: u64,
     pub(crate) answer: usize,
+    /// The index of the only edge that may be played, if there is one.
+    pub(crate) fixed: Option<usize>,
+}
+
+impl Lesson {
+    /// Whether an edge may be played.
+    pub(crate) fn may_go_on(&self, edge: usize) -> bool {
+        match self.fixed {
+            Some(fixed) => fixed == edge,
+            None => true,
+        }
+    }
 }
 
 /// The two sides, as far as they have learned.
@@ -122,6 +135,7 @@ impl<A: Allocator + Copy> Matching<A> {
         )?;
         for index in 0..net.nodes.len() {
             if let Some(node) = net.node(index) {
+                matching.share_out(index, &node);
                 register.seat(index, matching.lesson(index).guest);
                 for at in node.edge..node.edge_end {
                     if let Some(edge) = net.edge(at) {

@@ -45,6 +45,8 @@ pub(crate) struct Net<A: Allocator> {
     pub(crate) edges: Vec<Edge, A>,
     /// The items of the ledger that the edges let through.
     pub(crate) hits: Vec<usize, A>,
+    // Whether places are kept where a card lets nothing more through.
+    is_whole: bool,
     // The classes of each choice of ranks that pass on the way, and those that did before.
     covered: Vec<Classes, A>,
     before: Vec<(usize, Classes), A>,
@@ -52,18 +54,21 @@ pub(crate) struct Net<A: Allocator> {
 
 impl<A: Allocator + Copy> Net<A> {
     /// Knits the net of the places from an index on, and enters what its edges let through. The classes of each choice
-    /// that pass in any case are given. It fails if an allocation fails.
+    /// that pass in any case are given. A place where some card lets nothing more through is left out, unless the net
+    /// is to be whole. It fails if an allocation fails.
     pub(crate) fn knit(
         alloc: A,
         places: &mut Places<A>,
         first: usize,
         ledger: &mut Ledger<A>,
         forced: Vec<Classes, A>,
+        is_whole: bool,
     ) -> Result<Self, AllocError> {
         let mut net = Net {
             nodes: Vec::new(alloc),
             edges: Vec::new(alloc),
             hits: Vec::new(alloc),
+            is_whole,
             covered: forced,
             before: Vec::new(alloc),
         };
@@ -120,15 +125,32 @@ impl<A: Allocator + Copy> Net<A> {
         for at in edge..self.edges.len() {
             self.knit_edge(places, ledger, at, place, depth)?;
         }
-        if self.hits.len() == hit && self.nodes.len() == node + 1 {
+        if let Some(branch) = self.free_branch(node) {
+            places.choose(index, branch);
             self.nodes.truncate(node);
             self.edges.truncate(edge);
+            self.hits.truncate(hit);
         }
         let end = self.nodes.len();
         if let Some(node) = self.nodes.get_mut(node) {
             node.end = end;
         }
         Ok(())
+    }
+
+    // A branch of a node that lets nothing more through, if there is one and the net isn't whole.
+    fn free_branch(&self, node: usize) -> Option<usize> {
+        if self.is_whole {
+            return None;
+        }
+        let node = self.node(node)?;
+        for at in node.edge..node.edge_end {
+            let edge = self.edge(at)?;
+            if edge.hit == edge.hit_end && edge.next == edge.end {
+                return Some(edge.branch);
+            }
+        }
+        None
     }
 
     // Adds the node of a place, with an edge for each open branch.

@@ -5,32 +5,31 @@ use crate::tries::net::{Net, Node};
 use std::alloc::Allocator;
 
 impl<A: Allocator + Copy> Matching<A> {
-    /// Plays a round.
+    /// Plays a round. First the opponent plays as they have learned, and the owner learns from it. Then the owner plays
+    /// as they have learned, and the opponent learns from that.
     pub(crate) fn play(&mut self, net: &Net<A>) {
         self.round = self.round.saturating_add(1);
         let first = net.edges.len();
-        self.reach(net, (0, net.nodes.len()), ONE);
         self.spread(first);
+        for at in 0..net.edges.len() {
+            self.spread(at);
+        }
+        for before in 0..net.nodes.len() {
+            let index = net.nodes.len() - 1 - before;
+            if let Some(node) = net.node(index) {
+                self.learn(net, index, &node);
+            }
+        }
+        self.reach(net, (0, net.nodes.len()), ONE);
         for index in 0..net.nodes.len() {
             if let Some(node) = net.node(index) {
-                self.share_out(&node);
-                let reach = self.lesson(index).reach;
-                for at in node.edge..node.edge_end {
-                    if let Some(edge) = net.edge(at) {
-                        self.reach(
-                            net,
-                            (edge.next, edge.end),
-                            part(self.habit(at).share, reach),
-                        );
-                        self.spread(at);
-                    }
-                }
+                self.go_on(net, &node, self.lesson(index).reach);
             }
         }
         for before in 0..net.nodes.len() {
             let index = net.nodes.len() - 1 - before;
             if let Some(node) = net.node(index) {
-                self.settle(index, &node);
+                self.settle(&node, self.lesson(index).reach);
             }
         }
         self.collect(&self.habit(first), ONE);
@@ -87,18 +86,31 @@ impl<A: Allocator + Copy> Matching<A> {
         }
     }
 
-    // Counts what passes from a node on. What passes from the nodes behind it has been counted.
-    fn settle(&mut self, index: usize, node: &Node) {
-        let reach = self.lesson(index).reach;
+    // The owner goes on from a node, to which they get with a share.
+    fn go_on(&mut self, net: &Net<A>, node: &Node, reach: u64) {
+        let weight = self.round.saturating_mul(self.round);
         for at in node.edge..node.edge_end {
-            let habit = self.habit(at);
-            self.collect(&habit, part(habit.share, reach));
-            let lost = self.lose(&habit) / ONE;
+            let near = part(self.habit(at).share, reach);
             if let Some(habit) = self.habits.get_mut(at) {
-                habit.lost = lost;
+                habit.total = habit.total.saturating_add(near.saturating_mul(weight));
+            }
+            if let Some(edge) = net.edge(at) {
+                self.reach(net, (edge.next, edge.end), near);
             }
         }
-        self.learn(node, reach);
+    }
+
+    // Counts for the guests of a node, to which the owner gets with a share, what passes from it on. What passes from
+    // the nodes behind it has been counted.
+    fn settle(&mut self, node: &Node, reach: u64) {
+        for at in node.edge..node.edge_end {
+            let habit = self.habit(at);
+            let near = part(habit.share, reach);
+            if near > 0 {
+                self.collect(&habit, near);
+                self.pass(&habit);
+            }
+        }
     }
 
     // Adds up what passes the nodes after an edge, to which the owner gets with a share. The guests there learn.
@@ -129,16 +141,13 @@ impl<A: Allocator + Copy> Matching<A> {
         }
     }
 
-    // Adds to the values of the guests of a node what passes an edge. Returns how many deals do, in parts of one.
-    fn lose(&mut self, habit: &Habit) -> u64 {
-        let mut lost = 0u64;
+    // Adds to the values of the guests of a node what passes an edge.
+    fn pass(&mut self, habit: &Habit) {
         for index in habit.way..habit.way_end {
             if let Some(way) = self.ways.get(index) {
                 if let Some(host) = way.host {
                     if let Some(guest) = self.guests.get_mut(host) {
                         guest.value = guest.value.saturating_add(part(habit.share, way.value));
-                        let flow = part(way.flow, way.value);
-                        lost = lost.saturating_add(flow.saturating_mul(way.weight));
                     }
                 }
             }
@@ -147,6 +156,44 @@ impl<A: Allocator + Copy> Matching<A> {
             if let Some(loss) = self.losses.get(index) {
                 if let Some(guest) = self.guests.get_mut(loss.guest) {
                     guest.value = guest.value.saturating_add(habit.share);
+                }
+            }
+        }
+    }
+
+    // Lets the owner learn at a node how many deals pass from it on. Those that do from the nodes behind it have been
+    // counted.
+    fn learn(&mut self, net: &Net<A>, index: usize, node: &Node) {
+        let mut worth = 0u64;
+        for at in node.edge..node.edge_end {
+            let lost = self.lost(net, at) / ONE;
+            if let Some(habit) = self.habits.get_mut(at) {
+                habit.lost = lost;
+                worth = worth.saturating_add(habit.share.saturating_mul(lost));
+            }
+        }
+        let average = worth / ONE;
+        for at in node.edge..node.edge_end {
+            if let Some(habit) = self.habits.get_mut(at) {
+                habit.regret = habit
+                    .regret
+                    .saturating_add(average)
+                    .saturating_sub(habit.lost);
+            }
+        }
+        if let Some(lesson) = self.lessons.get_mut(index) {
+            lesson.worth = worth;
+        }
+        self.share_out(index, node);
+    }
+
+    // How many deals pass an edge or from the nodes after it on, in parts of one.
+    fn lost(&self, net: &Net<A>, at: usize) -> u64 {
+        let habit = self.habit(at);
+        let mut lost = self.worth_after(net, at);
+        for index in habit.loss..habit.loss_end {
+            if let Some(loss) = self.losses.get(index) {
+                if let Some(guest) = self.guests.get(loss.guest) {
                     lost = lost.saturating_add(guest.flow.saturating_mul(loss.weight));
                 }
             }
@@ -154,8 +201,9 @@ impl<A: Allocator + Copy> Matching<A> {
         lost
     }
 
-    // Shares out the edges of a node.
-    fn share_out(&mut self, node: &Node) {
+    /// Shares out the edges of a node. If one is fixed, it is played alone.
+    pub(crate) fn share_out(&mut self, index: usize, node: &Node) {
+        let fixed = self.lesson(index).fixed;
         let mut all = 0u64;
         let mut doors = 0u64;
         for at in node.edge..node.edge_end {
@@ -164,26 +212,11 @@ impl<A: Allocator + Copy> Matching<A> {
         }
         for at in node.edge..node.edge_end {
             if let Some(habit) = self.habits.get_mut(at) {
-                habit.share = share(habit.regret, all, doors);
-            }
-        }
-    }
-
-    // Lets the owner learn at a node to which they get with a share.
-    fn learn(&mut self, node: &Node, reach: u64) {
-        let weight = self.round.saturating_mul(self.round).saturating_mul(reach);
-        let mut average = 0u64;
-        for at in node.edge..node.edge_end {
-            let habit = self.habit(at);
-            average = average.saturating_add(part(habit.share, habit.lost));
-        }
-        for at in node.edge..node.edge_end {
-            if let Some(habit) = self.habits.get_mut(at) {
-                habit.total = habit.total.saturating_add(part(habit.share, weight));
-                habit.regret = habit
-                    .regret
-                    .saturating_add(average)
-                    .saturating_sub(habit.lost);
+                habit.share = match fixed {
+                    Some(fixed) if fixed == at => ONE,
+                    Some(_) => 0,
+                    None => share(habit.regret, all, doors),
+                };
             }
         }
     }
@@ -210,7 +243,7 @@ impl<A: Allocator + Copy> Matching<A> {
                 };
                 for at in node.edge..node.edge_end {
                     let worth = self.worth(net, at, weight);
-                    if worth < best.worth {
+                    if worth < best.worth && best.may_go_on(at) {
                         best.worth = worth;
                         best.answer = at;
                     }
@@ -226,10 +259,7 @@ impl<A: Allocator + Copy> Matching<A> {
     // How many deals pass an edge or from the nodes after it on, in parts of one, with the average flow.
     fn worth(&self, net: &Net<A>, at: usize, weight: u64) -> u64 {
         let habit = self.habit(at);
-        let mut worth = match net.edge(at) {
-            Some(edge) => self.worth_of(net, (edge.next, edge.end)),
-            None => 0,
-        };
+        let mut worth = self.worth_after(net, at);
         for index in habit.loss..habit.loss_end {
             if let Some(loss) = self.losses.get(index) {
                 if let Some(guest) = self.guests.get(loss.guest) {
@@ -239,6 +269,14 @@ impl<A: Allocator + Copy> Matching<A> {
             }
         }
         worth
+    }
+
+    // How many deals pass from the nodes after an edge on.
+    fn worth_after(&self, net: &Net<A>, at: usize) -> u64 {
+        match net.edge(at) {
+            Some(edge) => self.worth_of(net, (edge.next, edge.end)),
+            None => 0,
+        }
     }
 
     // How many deals pass from the nodes between two indices on, side by side.

@@ -1,5 +1,5 @@
 -- Worked examples of deals that miss a demand at the end, and of what is taken.
-use Rattle.std.proofs.Common.{◌≡◌, ℕ, ◌+◌, true, false, List, [], ◌∷◌, length, map, refl}
+use Rattle.std.proofs.Common.{◌≡◌, ℕ, ◌+◌, true, false, List, [], ◌∷◌, ◌++◌, length, map, refl}
 use Rattle.crib_cards.specs.declared.sides.Dealt.{Dealt}
 use Rattle.crib_show.specs.Show.{hand_points, crib_points}
 use Rattle.crib_show.specs.declared.demands.Demand.{Demand}
@@ -43,18 +43,18 @@ unfolding hand_points crib_points grade_of
 grades = refl
 
 -- the second choice is that of the index 323
-entries : map (entry_by four_twos falling) (four_aces ∷ clubs ∷ mixed ∷ []) ≡ 3 ∷ 2589 ∷ 2591 ∷ []
+entries : map (entry_by four_twos falling) (four_aces ∷ clubs ∷ mixed ∷ []) ≡ 3 ∷ 5173 ∷ 5175 ∷ []
 unfolding hand_points crib_points grade_of entry_by
 entries = refl
 
 -- it has no ladder here, and so no grades
-entries_by_ladders : map (entry_of four_twos (record { rungs = falling } ∷ [])) (four_aces ∷ clubs ∷ mixed ∷ []) ≡ 3 ∷ 2584 ∷ 2584 ∷ []
+entries_by_ladders : map (entry_of four_twos (record { rungs = falling } ∷ [])) (four_aces ∷ clubs ∷ mixed ∷ []) ≡ 3 ∷ 5168 ∷ 5168 ∷ []
 unfolding hand_points crib_points grade_of entry_by entry_of
 entries_by_ladders = refl
 
--- a ladder of eight demands has seven
-eighth_rung : length (ladder_at (record { rungs = at_most 15 ∷ falling } ∷ []) 0) ≡ 7
-eighth_rung = refl
+-- a ladder of sixteen demands has fifteen
+sixteenth_rung : length (ladder_at (record { rungs = at_most 15 ∷ at_most 15 ∷ falling ++ falling } ∷ []) 0) ≡ 15
+sixteenth_rung = refl
 
 -- a list has an index two times: two parts of it are held back, and then four more
 held_twice : (held_of (5 ∷ 7 ∷ 5 ∷ []) (2 ∷ 3 ∷ 4 ∷ []) 2 5 ≡ 2) × (held_of (5 ∷ 7 ∷ 5 ∷ []) (2 ∷ 3 ∷ 4 ∷ []) 3 5 ≡ 6)

@@ -63,18 +63,18 @@ module _ (problem : Setup) (dealt : Dealt) where
   no_grade [] none less first = refl
   no_grade (demand ∷ ladder) none less first = ap (λ (b : Bool). cond b (1 + grade_of problem ladder dealt) 0) first
 
-  pub choice_of_entry : (ladders : List Ladder) → entry_of problem ladders dealt / 8 ≡ index_of dealt
+  pub choice_of_entry : (ladders : List Ladder) → entry_of problem ladders dealt / 16 ≡ index_of dealt
   unfolding entry_of entry_by
   choice_of_entry ladders =
       let few = grade_few (ladder_at ladders (index_of dealt)) in
-      let seven = length-take 7 (rungs_at ladders (index_of dealt)) in
-      omega (arith, few, seven)
+      let fifteen = length-take 15 (rungs_at ladders (index_of dealt)) in
+      omega (arith, few, fifteen)
 
-  pub entry_at : (ladders : List Ladder) {choice index : ℕ} → choice ≡ index / 8 → index_of dealt ≡ choice →
-      grade_of problem (ladder_at ladders (index / 8)) dealt ≡ index % 8 → index ≡ entry_of problem ladders dealt
+  pub entry_at : (ladders : List Ladder) {choice index : ℕ} → choice ≡ index / 16 → index_of dealt ≡ choice →
+      grade_of problem (ladder_at ladders (index / 16)) dealt ≡ index % 16 → index ≡ entry_of problem ladders dealt
   unfolding entry_of entry_by
   entry_at ladders {choice} {index} place is grade =
-      let same : grade_of problem (ladder_at ladders (index_of dealt)) dealt ≡ grade_of problem (ladder_at ladders (index / 8)) dealt =
+      let same : grade_of problem (ladder_at ladders (index_of dealt)) dealt ≡ grade_of problem (ladder_at ladders (index / 16)) dealt =
       ap (λ n. grade_of problem (ladder_at ladders n) dealt) (is ∙ place) in
       omega (arith, place, is, grade, same)
 
@@ -143,9 +143,9 @@ pub record AreAddedBelow (behind : Behind) (ladder : List Demand) (grade : ℕ) 
 
 -- the entry of a deal with some ranks
 here : (behind : Behind) (ladder : List Demand) (dealt : Dealt) → ranks_held dealt ≡ behind.ranks →
-    entry_by behind.problem ladder dealt ≡ 8 * index_among 4 (rank_counts behind.ranks) + grade_of behind.problem ladder dealt
+    entry_by behind.problem ladder dealt ≡ 16 * index_among 4 (rank_counts behind.ranks) + grade_of behind.problem ladder dealt
 unfolding entry_by
-here behind ladder dealt is = ap (λ (ranks : List ℕ). 8 * index_among 4 (rank_counts ranks) + grade_of behind.problem ladder dealt) is
+here behind ladder dealt is = ap (λ (ranks : List ℕ). 16 * index_among 4 (rank_counts ranks) + grade_of behind.problem ladder dealt) is
 
 -- what is set at an entry
 entry : (after : List ℕ) (at count index : ℕ) → at < length after →
@@ -175,7 +175,7 @@ module _ {behind : Behind} {ladder : List Demand} {before : List ℕ} where
   }
 
   -- those of one more grade
-  pub one_added : {after : List ℕ} {grade count : ℕ} (demand : Demand) (at : ℕ) → at ≡ 8 * index_among 4 (rank_counts behind.ranks) + grade →
+  pub one_added : {after : List ℕ} {grade count : ℕ} (demand : Demand) (at : ℕ) → at ≡ 16 * index_among 4 (rank_counts behind.ranks) + grade →
       at < length after → ((hand crib : ℕ) → is_met demand hand crib ≡ false) → count ≤ 209920 →
       AreExactly (λ dealt. IsMissing behind demand dealt × (grade_of behind.problem ladder dealt ≡ grade)) count →
       AreAddedBelow behind ladder grade before after → AreAddedBelow behind ladder (grade + 1) before (set after at (get_or after at 0 + count))
@@ -213,8 +213,8 @@ module _ {behind : Behind} {ladder : List Demand} {before : List ℕ} where
       if_there true = exactly_same (λ dealt order has. (has, refl)) (λ dealt order has. has.0) exact
       if_there false = exactly_none (λ dealt order has. both_ways false refl has.1)
 
-  pub all_added : {after : List ℕ} → length ladder ≡ 7 → AreAddedBelow behind ladder 8 before after → AreAdded behind ladder before after
-  all_added seven added = record {
+  pub all_added : {after : List ℕ} → length ladder ≡ 15 → AreAddedBelow behind ladder 16 before after → AreAdded behind ladder before after
+  all_added fifteen added = record {
     count = added.count;
     exact = exactly_same (λ dealt order has. has.0) (λ dealt order has. (has, below dealt)) added.exact;
     each = λ index. record {
@@ -225,15 +225,15 @@ module _ {behind : Behind} {ladder : List Demand} {before : List ℕ} where
     };
   }
     where
-      below : (dealt : Dealt) → grade_of behind.problem ladder dealt < 8
-      below dealt = let few = grade_few behind.problem dealt ladder in omega (arith, few, seven)
+      below : (dealt : Dealt) → grade_of behind.problem ladder dealt < 16
+      below dealt = let few = grade_few behind.problem dealt ladder in omega (arith, few, fifteen)
 
   -- all of them have no grade
-  pub whole_added : {count : ℕ} (none : Demand) (at : ℕ) → at ≡ 8 * index_among 4 (rank_counts behind.ranks) → at < length before →
-      length ladder ≡ 7 → ((dealt : Dealt) → IsBehind behind dealt → meets behind.problem (get_or ladder 0 none) dealt ≡ false) →
+  pub whole_added : {count : ℕ} (none : Demand) (at : ℕ) → at ≡ 16 * index_among 4 (rank_counts behind.ranks) → at < length before →
+      length ladder ≡ 15 → ((dealt : Dealt) → IsBehind behind dealt → meets behind.problem (get_or ladder 0 none) dealt ≡ false) →
       count ≤ 209920 → AreExactly (IsBehind behind) count →
       AreAdded behind ladder before (set before at (get_or before at 0 + count))
-  whole_added {count} none at place inside seven first few exact = record {
+  whole_added {count} none at place inside fifteen first few exact = record {
     count = count;
     exact = exact;
     each = λ index. record {
@@ -247,7 +247,7 @@ module _ {behind : Behind} {ladder : List Demand} {before : List ℕ} where
       at_entry : (index : ℕ) (dealt : Dealt) → IsBehind behind dealt → eqb index (entry_by behind.problem ladder dealt) ≡ eqb index at
       at_entry index dealt has =
           let put = here behind ladder dealt has.1 in
-          let zero = no_grade behind.problem dealt ladder none (omega (arith, seven)) (first dealt has) in
+          let zero = no_grade behind.problem dealt ladder none (omega (arith, fifteen)) (first dealt has) in
           ap (λ n. eqb index n) (omega (arith, put, zero, place))
 
       if_there : (index : ℕ) (there : Bool) → eqb index at ≡ there →

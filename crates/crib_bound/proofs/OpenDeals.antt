@@ -45,8 +45,8 @@ abbrev pub ladder_for : List Ladder → List ℕ → List Demand
 ladder_for ladders ranks = ladder_at ladders (index_among 4 (rank_counts ranks))
 
 -- it has all demands
-pub seven_rungs : (ladders : List Ladder) (index : ℕ) → length (rungs_at ladders index) ≡ 7 → rungs_at ladders index ≡ ladder_at ladders index
-seven_rungs ladders index long = sym (take_all 7 (rungs_at ladders index) (omega (arith, long)))
+pub fifteen_rungs : (ladders : List Ladder) (index : ℕ) → length (rungs_at ladders index) ≡ 15 → rungs_at ladders index ≡ ladder_at ladders index
+fifteen_rungs ladders index long = sym (take_all 15 (rungs_at ladders index) (omega (arith, long)))
 
 -- the entry of a deal by the ladder for its ranks
 entry_for : (problem : Setup) (ladders : List Ladder) (ranks : List ℕ) (dealt : Dealt) → ranks_held dealt ≡ ranks →
@@ -59,7 +59,7 @@ pub record AreBelow (problem : Setup) (ladders : List Ladder) (number : ℕ) (we
   pub count : ℕ
   pub exact : AreExactly (λ dealt. IsOpen problem dealt × (number_of dealt < number)) count
   pub weighed : (index : ℕ) → AreExactly (λ dealt. HasEntry problem ladders index dealt × (number_of dealt < number)) (get_or weights index 0)
-  pub few : (index : ℕ) → get_or weights index 0 ≤ 8 * 209920 * number
+  pub few : (index : ℕ) → get_or weights index 0 ≤ 16 * 209920 * number
 
 -- a further entry of a list whose entries have a property at their indices
 pub set_each : {X : Type 0} (Has : ℕ → X → Type 0) (xs : List X) (at : ℕ) (x none : X) → at < length xs → Has at x →
@@ -202,29 +202,29 @@ module _ {problem : Setup} {ladders : List Ladder} {choices : List (List ℕ)} {
       one_more false misses e = omega arith
 
   -- those of its grade that a table counts
-  pub table_missing : (behind : Behind) (missing : ℕ) → get_or tables (index / 8) None ≡ Some behind →
-      length (rungs_at ladders (index / 8)) ≡ 7 →
-      AreExactly (λ dealt. IsMissing behind demand dealt × (grade_of behind.problem (rungs_at ladders (index / 8)) dealt ≡ index % 8)) missing →
+  pub table_missing : (behind : Behind) (missing : ℕ) → get_or tables (index / 16) None ≡ Some behind →
+      length (rungs_at ladders (index / 16)) ≡ 15 →
+      AreExactly (λ dealt. IsMissing behind demand dealt × (grade_of behind.problem (rungs_at ladders (index / 16)) dealt ≡ index % 16)) missing →
       missing ≤ count_by (misses_at (entry_of problem ladders) problem demand index) deals
-  table_missing behind missing is seven counted =
-      let at : IsTableAt problem (index / 8) (Some behind) = subst (IsTableAt problem (index / 8)) is (are.tabled (index / 8)) in
-      few_of (misses_at (entry_of problem ladders) problem demand index) deals (whole seven counted) (λ dealt order has.
+  table_missing behind missing is fifteen counted =
+      let at : IsTableAt problem (index / 16) (Some behind) = subst (IsTableAt problem (index / 16)) is (are.tabled (index / 16)) in
+      few_of (misses_at (entry_of problem ladders) problem demand index) deals (whole fifteen counted) (λ dealt order has.
       let agrees : IsOpen problem dealt = subst (λ (of : Setup). IsOpen of dealt) at.0 has.0.0.0 in (
         are.all dealt order agrees,
         and_from (eqb index (entry_of problem ladders dealt)) (not (meets problem demand dealt))
-            (is_here behind.ranks at.1 dealt has.0.0.1 (subst (λ (of : Setup). grade_of of (ladder_at ladders (index / 8)) dealt ≡ index % 8) at.0 has.1))
+            (is_here behind.ranks at.1 dealt has.0.0.1 (subst (λ (of : Setup). grade_of of (ladder_at ladders (index / 16)) dealt ≡ index % 16) at.0 has.1))
             (ap not (subst (λ (of : Setup). meets of demand dealt ≡ false) at.0 has.0.1)),
       ))
     where
-      whole : length (rungs_at ladders (index / 8)) ≡ 7 →
-          AreExactly (λ dealt. IsMissing behind demand dealt × (grade_of behind.problem (rungs_at ladders (index / 8)) dealt ≡ index % 8)) missing →
-          AreExactly (λ dealt. IsMissing behind demand dealt × (grade_of behind.problem (ladder_at ladders (index / 8)) dealt ≡ index % 8)) missing
+      whole : length (rungs_at ladders (index / 16)) ≡ 15 →
+          AreExactly (λ dealt. IsMissing behind demand dealt × (grade_of behind.problem (rungs_at ladders (index / 16)) dealt ≡ index % 16)) missing →
+          AreExactly (λ dealt. IsMissing behind demand dealt × (grade_of behind.problem (ladder_at ladders (index / 16)) dealt ≡ index % 16)) missing
       whole long exact =
-          subst (λ (ladder : List Demand). AreExactly (λ dealt. IsMissing behind demand dealt × (grade_of behind.problem ladder dealt ≡ index % 8)) missing)
-          (seven_rungs ladders (index / 8) long) exact
+          subst (λ (ladder : List Demand). AreExactly (λ dealt. IsMissing behind demand dealt × (grade_of behind.problem ladder dealt ≡ index % 16)) missing)
+          (fifteen_rungs ladders (index / 16) long) exact
 
-      is_here : (ranks : List ℕ) → index_among 4 (rank_counts ranks) ≡ index / 8 → (dealt : Dealt) → ranks_held dealt ≡ ranks →
-          grade_of problem (ladder_at ladders (index / 8)) dealt ≡ index % 8 → eqb index (entry_of problem ladders dealt) ≡ true
+      is_here : (ranks : List ℕ) → index_among 4 (rank_counts ranks) ≡ index / 16 → (dealt : Dealt) → ranks_held dealt ≡ ranks →
+          grade_of problem (ladder_at ladders (index / 16)) dealt ≡ index % 16 → eqb index (entry_of problem ladders dealt) ≡ true
       is_here ranks place dealt is grade =
           eq-eqb index (entry_of problem ladders dealt)
           (entry_at problem dealt ladders place (ap (λ (held : List ℕ). index_among 4 (rank_counts held)) is) grade)

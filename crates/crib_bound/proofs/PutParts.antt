@@ -16,7 +16,7 @@ pub with_length : (indices parts : List ℕ) (places : ℕ) (amounts : List ℕ)
 with_length indices parts zero amounts = refl
 with_length indices parts (suc places) amounts = length-set _ _ _ ∙ with_length indices parts places amounts
 
-module _ (indices amounts : List ℕ) (small : All (λ index. index < 14560) indices) (long : length amounts ≡ 14560) where
+module _ (indices amounts : List ℕ) (small : All (λ index. index < 29120) indices) (long : length amounts ≡ 29120) where
   -- one more place
   with_more : (parts : List ℕ) (places index : ℕ) → places < length indices →
       get_or (with_parts indices parts (suc places) amounts) index 0
@@ -102,7 +102,7 @@ module _ (indices amounts : List ℕ) (small : All (λ index. index < 14560) ind
           one ∙ rest ∙ sym (ap (λ (b : Bool). cond b (get_or others index 0) (get_or amounts index 0)) (taken ∙ or_false seen))
 
   -- at all places
-  pub with_read : (others parts : List ℕ) → length others ≡ 14560 → AreReadAt indices others parts →
+  pub with_read : (others parts : List ℕ) → length others ≡ 29120 → AreReadAt indices others parts →
       ((index : ℕ) → has indices index ≡ false → get_or amounts index 0 ≡ get_or others index 0) →
       with_parts indices parts (length indices) amounts ≡ others
   with_read others parts other_long read elsewhere =

@@ -134,7 +134,7 @@ module _ {bound : Bound} {know : Knowledge} {indices : List ℕ} where
 
   pub some_letter : {next : Knowledge} {letter : Letter} {left before after : List ℕ} {value : ℕ} →
       ((other : Setup) (history : List Event) → KnowsAfter know other history → KnowsAfter next other (Theirs letter ∷ history)) →
-      ((index : ℕ) → has left index ≡ true → (has indices index && may_show know next letter (counts_of bound.choices.now (index / 8))) ≡ true) →
+      ((index : ℕ) → has left index ≡ true → (has indices index && may_show know next letter (counts_of bound.choices.now (index / 16))) ≡ true) →
       IsBoundAt bound next left before after value → IsBoundAfter bound know (Theirs letter) indices before after value
   some_letter {next} {letter} {left} {before} {after} goes kept there = record {
     fewer = record {
@@ -257,7 +257,7 @@ module _ {bound : Bound} {know next : Knowledge} {indices spare : List ℕ} {eve
   falls = know_falls know next bound.problem.now event walk.history walk.knows (goes bound.problem.now walk.history walk.knows)
 
   -- with some of the indices
-  pub walk_after : (left room : List ℕ) → All (λ index. index < 14560) left → length left * (3 * turns_ahead next + 3) ≤ length room →
+  pub walk_after : (left room : List ℕ) → All (λ index. index < 29120) left → length left * (3 * turns_ahead next + 3) ≤ length room →
       MayWalk bound next left room
   walk_after left room small enough = record {
     own = walk.own;
@@ -280,8 +280,8 @@ room_after {many} {before} {after} {room} few enough falls fewer =
     (grind (arith, less, part, fewer), grind (arith, less, part, fewer))
 
 -- ---- the walk from the opening on
-pub start_room : {indices ahead room : ℕ} → indices ≡ 14560 → ahead ≤ 27 → room ≡ 84 * 14560 → indices * (3 * ahead + 3) ≤ room
-start_room {indices} {ahead} {room} is few enough = let all : 14560 * (3 * ahead + 3) ≤ room = omega (arith, few, enough) in rw is all
+pub start_room : {indices ahead room : ℕ} → indices ≡ 29120 → ahead ≤ 27 → room ≡ 84 * 29120 → indices * (3 * ahead + 3) ≤ room
+start_room {indices} {ahead} {room} is few enough = let all : 29120 * (3 * ahead + 3) ≤ room = omega (arith, few, enough) in rw is all
 
 pub start_strategy : {bound : Bound} {know : Knowledge} {indices before after : List ℕ} (parts value : ℕ) →
     KnowsAfter know bound.problem.now (played_events bound.problem.now) → ((index : ℕ) → get_or before index 0 ≤ parts) →

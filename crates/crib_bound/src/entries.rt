@@ -24,7 +24,7 @@ pub(crate) fn hold_back<A: Allocator + Copy>(
     held: &mut [u16],
     amounts: &mut Amounts,
 )
-    requires small { All (λ index. index < 14560) indices.now }
+    requires small { All (λ index. index < 29120) indices.now }
     requires room { length held.old ≡ length indices.now }
     ensures held { (index : ℕ) → get_or amounts.new index 0
         + held_of indices.now held.new (length indices.now) index ≤ get_or amounts.old index 0 }
@@ -43,7 +43,7 @@ pub(crate) fn hold_back<A: Allocator + Copy>(
 
 /// Puts back what was held.
 pub(crate) fn put_back(indices: &[u16], held: &[u16], amounts: &mut Amounts)
-    requires small { All (λ index. index < 14560) indices.now }
+    requires small { All (λ index. index < 29120) indices.now }
     requires room { length held.now ≡ length indices.now }
     ensures most { (index : ℕ) → get_or amounts.new index 0
         ≤ get_or amounts.old index 0 + held_of indices.now held.now (length indices.now) index }
@@ -58,7 +58,7 @@ pub(crate) fn put_back(indices: &[u16], held: &[u16], amounts: &mut Amounts)
 
 /// Reads the amounts at some indices.
 pub(crate) fn read_parts(indices: &[u16], amounts: &Amounts, parts: &mut [u16])
-    requires small { All (λ index. index < 14560) indices.now }
+    requires small { All (λ index. index < 29120) indices.now }
     requires room { length parts.old ≡ length indices.now }
     ensures read { AreReadAt indices.now amounts.now parts.new }
     ensures room { length parts.new ≡ length parts.old }
@@ -70,7 +70,7 @@ pub(crate) fn read_parts(indices: &[u16], amounts: &Amounts, parts: &mut [u16])
 
 /// Puts amounts at some indices.
 pub(crate) fn put_parts(indices: &[u16], parts: &[u16], amounts: &mut Amounts)
-    requires small { All (λ index. index < 14560) indices.now }
+    requires small { All (λ index. index < 29120) indices.now }
     requires room { length parts.now ≡ length indices.now }
     ensures { amounts.new ≡ with_parts indices.now parts.now (length indices.now) amounts.old }
 {
@@ -101,18 +101,18 @@ pub(crate) fn keep_indices(
     indices: &[u16],
     left: &mut [u16],
 ) -> usize
-    requires small { All (λ index. index < 14560) indices.now }
+    requires small { All (λ index. index < 29120) indices.now }
     requires room { length indices.now ≤ length left.old }
     ensures few { result ≤ length indices.now }
     ensures room { length left.new ≡ length left.old }
     ensures kept { (index : ℕ) → IsTrue (has (take result left.new) index) → IsTrue (has indices.now index
-        && may_show before.now after.now letter.now (counts_of choices.now (index / 8))) }
-    ensures small { All (λ index. index < 14560) (take result left.new) }
+        && may_show before.now after.now letter.now (counts_of choices.now (index / 16))) }
+    ensures small { All (λ index. index < 29120) (take result left.new) }
 {
     let mut count = 0;
     for index in indices {
         let at = *index as usize;
-        let choice = at / 8;
+        let choice = at / 16;
         if amounts[at] == 0 || !may_show(before, after, letter, &choices[choice]) {
             continue;
         }
@@ -124,11 +124,11 @@ pub(crate) fn keep_indices(
 
 /// Each index, in order.
 pub(crate) fn each_index() -> [u16; ENTRIES]
-    ensures small { All (λ index. index < 14560) result }
-    ensures long { length result ≡ 14560 }
+    ensures small { All (λ index. index < 29120) result }
+    ensures long { length result ≡ 29120 }
 {
     let mut indices = [0; ENTRIES];
-    for index in 0..14_560u16 {
+    for index in 0..29_120u16 {
         indices[index as usize] = index;
     }
     indices
@@ -139,7 +139,7 @@ pub(crate) fn parts_of_all(weights: &[u64; ENTRIES], parts: u16) -> Amounts
     ensures { (index : ℕ) → get_or result index 0 ≤ parts }
 {
     let mut amounts = [0; ENTRIES];
-    for index in 0..14_560usize {
+    for index in 0..29_120usize {
         if weights[index] > 0 {
             amounts[index] = parts;
         }

@@ -8,22 +8,28 @@ ghost use Rattle.crib_deals.specs.Exact.{AreExactly};
 ghost use Rattle.crib_bound.specs.Private.Walks.{grade_of};
 
 use crib_deals::Table;
+use crib_search::RUNGS;
 use crib_show::Demand;
 
 /// Counts the deals of a table that have a grade and miss a demand.
-pub(crate) fn missing_with(table: &Table, ladder: &[Demand; 7], demand: Demand, grade: u16) -> u32
-    requires { grade < 8 }
+pub(crate) fn missing_with(
+    table: &Table,
+    ladder: &[Demand; RUNGS],
+    demand: Demand,
+    grade: u16,
+) -> u32
+    requires { grade < 16 }
     ensures exact { AreExactly (λ dealt. IsMissing table.now demand dealt
         × (grade_of table.now.problem ladder.now dealt ≡ grade)) result }
-    ensures long { length ladder.now ≡ 7 }
+    ensures long { length ladder.now ≡ 15 }
     ensures few { result ≤ 209920 }
 {
     missing_from(table, ladder, demand, grade) - missing_from(table, ladder, demand, grade + 1)
 }
 
 // Counts the deals of a table that have a grade or a higher one, and miss a demand.
-fn missing_from(table: &Table, ladder: &[Demand; 7], demand: Demand, grade: u16) -> u32
-    requires { grade ≤ 8 }
+fn missing_from(table: &Table, ladder: &[Demand; RUNGS], demand: Demand, grade: u16) -> u32
+    requires { grade ≤ 16 }
     ensures exact { AreExactly (λ dealt. IsMissing table.now demand dealt
         × (grade ≤ grade_of table.now.problem ladder.now dealt)) result }
     ensures few { result ≤ 209920 }
@@ -31,7 +37,7 @@ fn missing_from(table: &Table, ladder: &[Demand; 7], demand: Demand, grade: u16)
     if grade == 0 {
         return table.count(demand).missing;
     }
-    if grade == 8 {
+    if grade == 16 {
         return 0;
     }
     let met = first_of(ladder, grade);
@@ -39,9 +45,9 @@ fn missing_from(table: &Table, ladder: &[Demand; 7], demand: Demand, grade: u16)
 }
 
 // Returns the demand that a deal meets if it meets so many demands of a ladder, from the first on.
-fn first_of(ladder: &[Demand; 7], count: u16) -> Demand
+fn first_of(ladder: &[Demand; RUNGS], count: u16) -> Demand
     requires some { 0 < count }
-    requires few { count ≤ 7 }
+    requires few { count ≤ 15 }
     ensures { (problem : Setup) (dealt : Dealt)
         → meets problem result dealt ≡ nat_le count (grade_of problem ladder.now dealt) }
 {

@@ -31,7 +31,7 @@ impl Bound<'_> {
         value: u64,
         left: &mut [u16],
     ) -> u64
-        requires small { All (λ index. index < 14560) indices.now }
+        requires small { All (λ index. index < 29120) indices.now }
         requires kept_room { length kept.old ≡ length indices.now }
         requires left_room { length left.old ≡ length indices.now }
         ensures less { (place most : ℕ) → place < length indices.now → get_or kept.old place 0 ≤ most
@@ -61,7 +61,7 @@ impl Bound<'_> {
         value: u64,
         left: &mut [u16],
     ) -> u64
-        requires small { All (λ index. index < 14560) indices.now }
+        requires small { All (λ index. index < 29120) indices.now }
         requires kept_room { length kept.old ≡ length indices.now }
         requires left_room { length left.old ≡ length indices.now }
         ensures less { (place most : ℕ) → place < length indices.now → get_or kept.old place 0 ≤ most
@@ -92,7 +92,7 @@ impl Bound<'_> {
         other: &[u16],
         most: u64,
     ) -> u64
-        requires small { All (λ index. index < 14560) indices.now }
+        requires small { All (λ index. index < 29120) indices.now }
         requires room { length parts.old ≡ length indices.now }
         requires other_room { length other.now ≡ length indices.now }
         ensures back { AreGivenBackAt self.now indices.now parts.old parts.new result }

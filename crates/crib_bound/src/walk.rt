@@ -39,7 +39,7 @@ pub(crate) struct Bound<'a> {
     parts: u16,
     // The demands that give the open deals of each choice their grades.
     ladders: &'a [Ladder; CHOICES],
-    /// How many open deals the entries have. The index of an entry is 8 times that of its choice, and its grade.
+    /// How many open deals the entries have. The index of an entry is 16 times that of its choice, and its grade.
     pub(crate) weights: &'a [u64; ENTRIES],
     // The deals of each choice by the points of the show, if the opponent's show may decide.
     tables: &'a [Option<Table<'a>>],
@@ -75,7 +75,7 @@ impl Bound<'_> {
     fn worth_at_end(&self, know: &Know, indices: &[u16], amounts: &mut Amounts) -> u64
         requires own { self.now.own_hand ≡ hand_points self.now.problem.now.hold self.now.problem.now.starter }
         requires over { know.now.round.asked ≡ Turn.Over }
-        requires small { All (λ index. index < 14560) indices.now }
+        requires small { All (λ index. index < 29120) indices.now }
         ensures { IsBoundAt self.now know.now indices.now amounts.old amounts.new result }
     {
         let demand = demand_at_end(self.problem, self.own_hand, know);
@@ -97,17 +97,17 @@ impl Bound<'_> {
 
     // How many deals of an entry miss a demand. Without a table it may be fewer.
     fn missing_at(&self, index: u16, demand: Demand) -> u64
-        requires { index < 14560 }
+        requires { index < 29120 }
         ensures { (deals : List Dealt) → AreDealsOf self.now deals
             → result ≤ count_by (misses_at (entry_in self.now) self.now.problem.now demand index) deals }
     {
         if demand.is_impossible() {
             return self.weights[index as usize];
         }
-        let choice = (index / 8) as usize;
+        let choice = (index / 16) as usize;
         let ladder = &self.ladders[choice].rungs;
         match self.tables.get(choice) {
-            Some(Some(table)) => missing_with(table, ladder, demand, index % 8) as u64,
+            Some(Some(table)) => missing_with(table, ladder, demand, index % 16) as u64,
             _ => 0,
         }
     }

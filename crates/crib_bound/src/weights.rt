@@ -10,12 +10,12 @@ use crate::grades::missing_with;
 use crib_cards::{Rank, RankCounts, Side};
 use crib_deals::{Deals, Table, are_in_order, ranks_at};
 use crib_problem::Problem;
-use crib_search::Ladder;
+use crib_search::{GRADES, Ladder, RUNGS};
 use crib_show::{CHOICES, Demand, choice_index, count_ranks};
 use std::alloc::{AllocError, Allocator};
 
-/// How many entries there are. Each choice of four ranks has eight, one for each grade.
-pub(crate) const ENTRIES: usize = 14_560;
+/// How many entries there are. Each choice of four ranks has sixteen, one for each grade.
+pub(crate) const ENTRIES: usize = GRADES * CHOICES;
 
 /// The choices of four ranks, by their indices.
 #[derive(Drop)]
@@ -24,7 +24,7 @@ pub(crate) struct Choices<'a, A: Allocator> {
     pub(crate) counts: [RankCounts; CHOICES],
     /// The demands that give the open deals of each choice their grades.
     pub(crate) ladders: [Ladder; CHOICES],
-    /// How many open deals the entries have. The index of an entry is 8 times that of its choice, and its grade.
+    /// How many open deals the entries have. The index of an entry is 16 times that of its choice, and its grade.
     pub(crate) weights: [u64; ENTRIES],
     /// The deals of each choice by the points of the show. The list is empty if the opponent's show can't decide.
     pub(crate) tables: Vec<Option<Table<'a>>, A>,
@@ -80,7 +80,7 @@ fn ladders_if(may_decide: bool, ladders: &[Ladder; CHOICES]) -> [Ladder; CHOICES
         return *ladders;
     }
     [Ladder {
-        rungs: [Demand::impossible(); 7],
+        rungs: [Demand::impossible(); RUNGS],
     }; CHOICES]
 }
 
@@ -106,20 +106,20 @@ fn add_deals<'a, A: Allocator>(
     weights: &mut [u64; ENTRIES],
     tables: &mut Vec<Option<Table<'a>>, A>,
     deals: &Deals<'a>,
-    ladder: &[Demand; 7],
+    ladder: &[Demand; RUNGS],
     ranks: &[Rank; 4],
     index: usize,
 )
     requires index { index ≡ index_among 4 (rank_counts ranks.now) }
     requires small { index < 1820 }
     requires setup { IsSetup deals.now }
-    requires few { (entry : ℕ) → get_or weights.old entry 0 ≤ 50000000000 }
+    requires few { (entry : ℕ) → get_or weights.old entry 0 ≤ 100000000000 }
     ensures tables { AreTables deals.now tables.old.items → AreTables deals.now tables.new.items }
     ensures added { AreAdded (behind_by deals.now ranks.now) ladder.now weights.old weights.new }
-    ensures long { length ladder.now ≡ 7 }
+    ensures long { length ladder.now ≡ 15 }
 {
     if tables.is_empty() && ladder[0].is_impossible() {
-        weights[8 * index] += deals.count(ranks, Demand::none()).open_deals as u64;
+        weights[16 * index] += deals.count(ranks, Demand::none()).open_deals as u64;
         return;
     }
     let table = deals.table(ranks);
@@ -128,15 +128,15 @@ fn add_deals<'a, A: Allocator>(
 }
 
 // Adds the deals of a table to the weights of their entries.
-fn add_grades(weights: &mut [u64; ENTRIES], table: &Table, ladder: &[Demand; 7], index: usize)
+fn add_grades(weights: &mut [u64; ENTRIES], table: &Table, ladder: &[Demand; RUNGS], index: usize)
     requires index { index ≡ index_among 4 (rank_counts table.now.ranks) }
     requires small { index < 1820 }
-    requires few { (entry : ℕ) → get_or weights.old entry 0 ≤ 50000000000 }
+    requires few { (entry : ℕ) → get_or weights.old entry 0 ≤ 100000000000 }
     ensures { AreAdded table.now ladder.now weights.old weights.new }
 {
-    for grade in 0..8u16 {
+    for grade in 0..16u16 {
         let count = missing_with(table, ladder, Demand::impossible(), grade);
-        weights[8 * index + grade as usize] += count as u64;
+        weights[16 * index + grade as usize] += count as u64;
     }
 }
 

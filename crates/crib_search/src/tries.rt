@@ -33,7 +33,7 @@ use crib_cards::Card;
 use crib_know::Know;
 use crib_plan::Plan;
 use crib_problem::Problem;
-pub use grades::Ladder;
+pub use grades::{GRADES, Ladder, RUNGS};
 pub use guide::Guide;
 pub use spot::Spot;
 use std::alloc::{AllocError, Allocator, Global};

@@ -36,13 +36,13 @@ grade_of problem (demand ∷ ladder) dealt = cond (meets problem demand dealt) (
 abbrev pub rungs_at : List Ladder → ℕ → List Demand
 rungs_at ladders index = (get_or ladders index (record { rungs = [] })).rungs
 
--- seven of them: a ladder has no more
+-- fifteen of them: a ladder has no more
 abbrev pub ladder_at : List Ladder → ℕ → List Demand
-ladder_at ladders index = take 7 (rungs_at ladders index)
+ladder_at ladders index = take 15 (rungs_at ladders index)
 
--- the index of the entry of a deal, by the ranks that the opponent held and its grade. A choice has eight entries
+-- the index of the entry of a deal, by the ranks that the opponent held and its grade. A choice has sixteen
 unfoldable pub entry_by : Setup → List Demand → Dealt → ℕ
-entry_by problem ladder dealt = 8 * index_of dealt + grade_of problem ladder dealt
+entry_by problem ladder dealt = 16 * index_of dealt + grade_of problem ladder dealt
 
 -- the same by the ladder of its choice
 unfoldable pub entry_of : Setup → List Ladder → Dealt → ℕ
@@ -77,7 +77,7 @@ AreTables problem tables = (index : ℕ) → IsTableAt problem index (get_or tab
 pub record IsAddedAt (behind : Behind) (ladder : List Demand) (before after : List ℕ) (index : ℕ) : Type 0 where
   pub more : ℕ
   pub added : get_or after index 0 ≡ get_or before index 0 + more
-  pub few : more ≤ 8 * 209920
+  pub few : more ≤ 16 * 209920
   pub exact :
       AreExactly (λ dealt. IsBehind behind dealt × IsTrue (nat_eq index (entry_by behind.problem ladder dealt))) more
 
@@ -94,7 +94,7 @@ pub record AreWeighed (problem : Setup) (ladders : List Ladder) (choices : List 
   pub setup : IsSetup problem
   pub are_open : (dealt : Dealt) → IsIn dealt deals → IsOpen problem dealt
   pub counts : (dealt : Dealt) → IsIn dealt deals →
-      counts_of choices (entry_of problem ladders dealt / 8) ≡ rank_counts (map rank_of dealt.hold)
+      counts_of choices (entry_of problem ladders dealt / 16) ≡ rank_counts (map rank_of dealt.hold)
   pub weighed : (index : ℕ) →
       get_or weights index 0 ≡ count_by (λ dealt. nat_eq index (entry_of problem ladders dealt)) deals
   pub tabled : AreTables problem tables
@@ -177,14 +177,14 @@ AreReadAt indices amounts parts =
 -- something is given back to parts that are put at the indices of a list
 abbrev pub AreGivenBackAt : Bound → List ℕ → List ℕ → List ℕ → ℕ → Type 0
 AreGivenBackAt bound indices before after most =
-    (amounts : List ℕ) → length amounts ≡ 14560 →
+    (amounts : List ℕ) → length amounts ≡ 29120 →
     AreGivenBack bound indices (with_parts indices before (length indices) amounts)
     (with_parts indices after (length indices) amounts) most
 
 -- a value is lowered by what happens to such parts
 abbrev pub AreLoweredAt : Bound → List ℕ → List ℕ → List ℕ → ℕ → ℕ → Type 0
 AreLoweredAt bound indices before after value least =
-    (amounts : List ℕ) → length amounts ≡ 14560 →
+    (amounts : List ℕ) → length amounts ≡ 29120 →
     AreLowered bound (with_parts indices before (length indices) amounts)
     (with_parts indices after (length indices) amounts) value least
 
@@ -194,5 +194,5 @@ pub record MayWalk (bound : Bound) (know : Knowledge) (indices spare : List ℕ)
   pub own : bound.own_hand ≡ hand_points bound.problem.now.hold bound.problem.now.starter
   pub history : List Event
   pub knows : KnowsAfter know bound.problem.now history
-  pub small : All (λ index. index < 14560) indices
+  pub small : All (λ index. index < 29120) indices
   pub room : length indices * (3 * turns_ahead know + 3) ≤ length spare

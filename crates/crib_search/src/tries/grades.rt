@@ -6,13 +6,19 @@ use crib_show::{Demand, choice_index, count_ranks};
 use std::alloc::Allocator;
 
 /// How many grades there are.
-pub(crate) const GRADES: usize = 8;
+pub const GRADES: usize = 16;
+
+/// How many rungs a ladder has: one fewer.
+pub const RUNGS: usize = 15;
 
 /// A ladder of demands. The grade of a deal is how many of them it meets in a row, from the first on.
 #[derive(Clone, Copy)]
 pub struct Ladder {
-    pub rungs: [Demand; 7],
+    pub rungs: [Demand; RUNGS],
 }
+
+// How many rungs of a ladder of hands or of cribs a deal may meet. The classes have no more.
+const FEW: u8 = 7;
 
 /// By which points of the show deals have their grades. From one rung of a ladder to the next it is a point.
 #[derive(Clone, Copy)]
@@ -28,14 +34,14 @@ pub(crate) enum Scale {
 impl Scale {
     /// The ladder for the deals of a choice of ranks.
     pub(crate) fn ladder<A: Allocator>(self, choices: &Choices<A>, choice: &Choice) -> Ladder {
-        let mut rungs = [Demand::none(); 7];
-        for rung in 0..7u8 {
+        let mut rungs = [Demand::none(); RUNGS];
+        for rung in 0..15u8 {
             rungs[rung as usize] = match self {
-                Scale::Hands => Demand {
+                Scale::Hands if rung < FEW => Demand {
                     hand: choice.hand.saturating_add(6 - rung),
                     ..Demand::none()
                 },
-                Scale::Cribs => Demand {
+                Scale::Cribs if rung < FEW => Demand {
                     crib: choices.crib.saturating_sub(6 - rung),
                     ..Demand::none()
                 },
@@ -43,6 +49,7 @@ impl Scale {
                     total: choices.total.saturating_sub(rung),
                     ..Demand::none()
                 },
+                _ => Demand::impossible(),
             };
         }
         Ladder { rungs }
@@ -66,8 +73,11 @@ fn hands_at(grade: usize) -> Classes {
 }
 
 fn cribs_at(grade: usize) -> Classes {
-    if grade == 0 || grade > 7 {
+    if grade == 0 {
         return FROM_CRIB[6];
+    }
+    if grade > 7 {
+        return 0;
     }
     if grade == 7 {
         return FROM_HAND[0] & !FROM_CRIB[0];
@@ -77,10 +87,10 @@ fn cribs_at(grade: usize) -> Classes {
 
 fn totals_at(grade: usize) -> Classes {
     let mut below: Classes = 0;
-    for _ in 0..grade.min(7) {
+    for _ in 0..grade.min(RUNGS) {
         below = below.saturating_mul(2).saturating_add(1);
     }
-    if grade < 7 {
+    if grade < RUNGS {
         below.saturating_add(1)
     } else {
         FROM_HAND[0] & !below

@@ -1,7 +1,7 @@
 //! A guide for the opponent: how much of the open deals they keep for each turn, as a search found.
 
 use crate::tries::choices::Choices;
-use crate::tries::grades::{GRADES, Ladder, Scale};
+use crate::tries::grades::{GRADES, Ladder, RUNGS, Scale};
 use crate::tries::matching::ONE;
 use crate::tries::places::Places;
 use crate::tries::spot::Spot;
@@ -12,8 +12,8 @@ use crib_show::{CHOICES, Demand};
 use std::alloc::{AllocError, Allocator};
 
 /// A guide for the opponent. The open deals whose holds have the same four ranks, and that have the same grade, are an
-/// entry. Its index is 8 times that of the ranks, and its grade. The grade of a deal is how many demands of a ladder it
-/// meets in a row.
+/// entry. Its index is 16 times that of the ranks, and its grade. The grade of a deal is how many demands of a ladder
+/// it meets in a row.
 #[derive(Drop)]
 pub struct Guide<'a, A: Allocator> {
     choices: &'a Choices<A>,
@@ -104,7 +104,7 @@ impl<'a, A: Allocator + Copy> Guide<'a, A> {
     /// The ladders of the choices of four ranks, by their indices.
     pub fn ladders(&self) -> [Ladder; CHOICES] {
         let mut ladders = [Ladder {
-            rungs: [Demand::none(); 7],
+            rungs: [Demand::none(); RUNGS],
         }; CHOICES];
         for number in 0..self.choices.len() {
             if let Some(choice) = self.choices.get(number) {

@@ -19,14 +19,14 @@ loop-index-preserved c =
     omega (arith, c.loop-index-test.true, c.loop-index.invariant.few, c.loop-index.invariant.long, c.requires.room) in
     let here : has c.args.indices.now at ≡ true =
     list_any_at (λ other. eqb other at) c.args.indices.now c.loop-index.index-index 0 c.loop-index-test.true (eq-eqb at at refl) in
-    let choice = get_or_default c.args.choices.now (at / 8) [] c.index-choices-choice.result (omega (arith, small, c.told-choices)) in
+    let choice = get_or_default c.args.choices.now (at / 16) [] c.index-choices-choice.result (omega (arith, small, c.told-choices)) in
     let may = ap (may_show c.args.before.now c.args.after.now c.args.letter.now) choice ∙ sym c.may_show.ensures ∙ c.if-not-may_show.false in
     let longer = take_more_set c.loop-index.left c.loop-index.count at room in
     record {
       few = omega (arith, c.loop-index.invariant.few);
       long = search rules;
       kept = one_kept (λ index. has c.args.indices.now index
-          && may_show c.args.before.now c.args.after.now c.args.letter.now (counts_of c.args.choices.now (index / 8)))
+          && may_show c.args.before.now c.args.after.now c.args.letter.now (counts_of c.args.choices.now (index / 16)))
           c.loop-index.left c.loop-index.count at room (and_from _ _ here may) c.loop-index.invariant.kept;
-      small = rw longer (All-push (λ index. index < 14560) (take c.loop-index.count c.loop-index.left) at c.loop-index.invariant.small small);
+      small = rw longer (All-push (λ index. index < 29120) (take c.loop-index.count c.loop-index.left) at c.loop-index.invariant.small small);
     }

@@ -9,6 +9,6 @@ invariant-loop-index l = record {
   few : l.count ≤ l.index-index;
   long : length l.left ≡ length l.fn.left;
   kept : (index : ℕ) → has (take l.count l.left) index ≡ true →
-      (has l.indices index && may_show l.before l.after l.letter (counts_of l.choices (index / 8))) ≡ true;
-  small : All (λ index. index < 14560) (take l.count l.left);
+      (has l.indices index && may_show l.before l.after l.letter (counts_of l.choices (index / 16))) ≡ true;
+  small : All (λ index. index < 29120) (take l.count l.left);
 }

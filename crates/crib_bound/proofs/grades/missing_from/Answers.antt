@@ -17,8 +17,8 @@ pub returns-then-grade-eq0-clause-exact : goal.returns-then-grade-eq0-clause-exa
 returns-then-grade-eq0-clause-exact c =
     exactly_same (λ dealt order has. (has, omega (arith, c.if-grade-eq0.true))) (λ dealt order has. has.0) c.count.ensures.missing
 
-pub returns-then-grade-eq8-clause-exact : goal.returns-then-grade-eq8-clause-exact
-returns-then-grade-eq8-clause-exact c = exactly_none (λ dealt order has.
+pub returns-then-grade-eq16-clause-exact : goal.returns-then-grade-eq16-clause-exact
+returns-then-grade-eq16-clause-exact c = exactly_none (λ dealt order has.
     let few = grade_few c.args.table.now.problem dealt c.args.ladder.now in
     let least = has.1 in
-    absurd (omega (arith, few, least, c.told-ladder, c.if-grade-eq8.true)))
+    absurd (omega (arith, few, least, c.told-ladder, c.if-grade-eq16.true)))

@@ -25,7 +25,7 @@ returns-clause-plans g c nodes count exact =
 pub worth_at-requires : goal.worth_at-requires
 worth_at-requires g c =
     let turns = few_turns c.start-start.ensures in
-    let spare : length c.as_mut_slice.result.now ≡ 84 * 14560 = search (rules, arith) in
+    let spare : length c.as_mut_slice.result.now ≡ 84 * 29120 = search (rules, arith) in
     record {
       own = rw (c.hold.ensures, c.starter.ensures) at c.hand_points.ensures.value;
       history = played_events c.args.problem.now;

@@ -181,7 +181,7 @@ pub worth_by_own-loop-card-preserved : goal.worth_by_own-loop-card-preserved
 worth_by_own-loop-card-preserved g t c =
     let parts = lowest_split c.loop-card.rest c.without-rest.result c.in-Some.card c.in-Some.ensures.set c.in-Some.ensures.first c.without-rest.ensures in
     let there = rw c.loop-card.invariant.same at c.worth_at-value.ensures.worth in
-    let long : length c.args.amounts.now ≡ 14560 = search rules in
+    let long : length c.args.amounts.now ≡ 29120 = search rules in
     let below : (place : ℕ) → place < length c.args.indices.now →
     get_or c.settle-least.new.kept place 0 ≤ get_or c.args.amounts.now (get_or c.args.indices.now place 0) 0 =
     λ place inside. c.settle-least.ensures.less place (get_or c.args.amounts.now (get_or c.args.indices.now place 0) 0) inside

@@ -6,7 +6,7 @@ use Rattle.crib_bound.specs.Private.Walks.{AreAdded, IsTableAt, ladder_at}
 use Rattle.crib_deals.specs.Choices.{ranks_of_number}
 use Rattle.crib_deals.specs.Deals.{behind_by}
 use Rattle.crib_show.specs.declared.demands.Demand.{Demand}
-use Rattle.crib_bound.proofs.OpenDeals.{all_listed, next_listed, none_listed, seven_rungs, skip_listed}
+use Rattle.crib_bound.proofs.OpenDeals.{all_listed, next_listed, none_listed, fifteen_rungs, skip_listed}
 use Rattle.crib_bound.proofs.weights.Choices.of.Goals as goal
 
 pub loop-number-init : goal.loop-number-init
@@ -14,7 +14,7 @@ loop-number-init g c = record {
   counted = search rules;
   weighed = search rules;
   are = λ n less. absurd (omega (arith, less));
-  below = none_listed c.requires 14560;
+  below = none_listed c.requires 29120;
   tables = λ index. subst (IsTableAt c.args.problem.now index) (sym (c.in_ok-tables.ensures index)) tt;
 }
 
@@ -52,7 +52,7 @@ loop-number-preserved g c = record {
       (subst (λ (n : ℕ). AreAdded (behind_by c.args.problem.now (ranks_of_number c.loop-number.number)) (ladder_at c.ladders_if-ladders.result n)
       c.loop-number.weights c.add_deals.new.weights) place
       (subst (λ (ladder : List Demand). AreAdded (behind_by c.args.problem.now (ranks_of_number c.loop-number.number)) ladder c.loop-number.weights
-      c.add_deals.new.weights) (seven_rungs c.ladders_if-ladders.result c.choice_index-index.result c.add_deals.ensures.long) added))
+      c.add_deals.new.weights) (fifteen_rungs c.ladders_if-ladders.result c.choice_index-index.result c.add_deals.ensures.long) added))
       c.loop-number.invariant.below;
   tables = rw c.of-deals.ensures at (c.add_deals.ensures.tables (rw c.of-deals.ensures c.loop-number.invariant.tables));
 }

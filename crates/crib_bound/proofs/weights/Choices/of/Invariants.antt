@@ -7,7 +7,7 @@ use Rattle.crib_bound.proofs.weights.Choices.of.Given as goal
 abbrev pub invariant-loop-number : goal.invariant-loop-number
 invariant-loop-number g l = record {
   counted : length l.counts ≡ 1820;
-  weighed : length l.weights ≡ 14560;
+  weighed : length l.weights ≡ 29120;
   are : AreChoices l.number l.counts;
   below : AreBelow l.problem l.ladders l.number l.weights;
   tables : AreTables l.problem l.tables.items;

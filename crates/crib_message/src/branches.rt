@@ -90,7 +90,7 @@ fn letter_hint(branch: &Word<'_>, letter: u8) -> &'static str {
         b'G' => "a go is a small g alone",
         b'o' | b'O' if is_word(letters, b"go") => "a go is a small g alone",
         b'0' | b'1' => "a ten is T, and an ace A",
-        _ if letters.iter().any(is_other) => "write each rank by its letter",
+        _ if letters.iter().any(is_other) => "write each rank by its letter, and no word",
         b'a' | b't' | b'j' | b'q' | b'k' => "a rank is a capital",
         _ if letter.is_ascii_alphanumeric() => "a branch has ranks and no suits",
         _ => "write each letter, with no sign between two, as in A23:1",

@@ -2,6 +2,7 @@
 use crate::cards::TWO_LETTERS;
 use crate::excerpt::is_plain;
 use crate::explained::{Explained, said};
+use crate::order::TABLES;
 use crate::scene::{Mark, Scene};
 use crate::sentence::{Sentence, tell, typed};
 use crib_text::TextCause;
@@ -48,6 +49,7 @@ fn file_hint(scene: &Scene<'_>) -> Option<&'static str> {
 fn byte_hint(rest: &[u8]) -> &'static str {
     match rest {
         [b'\r', ..] => "A line ends with LF alone: save the file with Unix line ends.",
+        [b'\t', ..] if rest.iter().filter(|byte| **byte == b'\t').count() > 5 => TABLES,
         [b'\t', ..] => "Write a blank in place of the tab.",
         [0x1B, ..] => "Remove the colour codes of a terminal.",
         [0..=31 | 127, ..] => "Remove this control character.",

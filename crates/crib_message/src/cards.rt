@@ -65,9 +65,9 @@ fn rank_meant(number: &[u8]) -> Option<(&'static str, u8)> {
         [b'1' | b'I' | b'l', b'0' | b'O' | b'o'] => (TEN, b'T'),
         [b'0' | b'O' | b'o' | b'X' | b'x'] => (TEN, b'T'),
         [b'1' | b'I' | b'l'] | [b'1', b'4'] => (ACE, b'A'),
-        [b'1', b'1'] | [b'B' | b'b'] => (COURT, b'J'),
-        [b'1', b'2'] => (COURT, b'Q'),
-        [b'1', b'3'] => (COURT, b'K'),
+        [b'1', b'1'] | [b'B' | b'b' | b'V' | b'v'] => (COURT, b'J'),
+        [b'1', b'2'] | [b'D' | b'd'] => (COURT, b'Q'),
+        [b'1', b'3'] | [b'R' | b'r'] => (COURT, b'K'),
         _ => return None,
     })
 }

@@ -80,23 +80,21 @@ fn bad_line(scene: &Scene<'_>, cause: Cause) -> Option<Explained> {
         let text = format_args!("{found} is {cause}; expected: {pattern}");
         return Some(said(text, first.mark(), hint));
     }
-    let Some((found, from)) = blank(scene) else {
-        return bad_word(scene, cause);
+    blank(scene).or(bad_word(scene, cause))
+}
+
+// Explains a blank at an end of a line, or of two blanks side by side the second.
+fn blank(scene: &Scene<'_>) -> Option<Explained> {
+    let line = scene.text();
+    let (found, from) = match line.windows(2).position(|pair| pair == b"  ".as_slice()) {
+        _ if line.starts_with(b" ") => ("a blank at the beginning of a line", 0),
+        Some(first) => ("a second blank", first.saturating_add(1)),
+        None if !line.ends_with(b" ") => return None,
+        None => ("a blank at the end of a line", line.len().saturating_sub(1)),
     };
     let hint = tell("Write one blank between two words, and none at the ends of a line.");
     let mark = Some(Mark::of(from, 1));
     Some(said(format_args!("{found} is {BAD_LINE}"), mark, hint))
-}
-
-// Returns a blank at an end of a line, or of two blanks side by side the second, and its index.
-fn blank(scene: &Scene<'_>) -> Option<(&'static str, usize)> {
-    let line = scene.text();
-    match line.windows(2).position(|pair| pair == b"  ".as_slice()) {
-        _ if line.starts_with(b" ") => Some(("a blank at the beginning of a line", 0)),
-        Some(first) => Some(("a second blank", first.saturating_add(1))),
-        None if !line.ends_with(b" ") => None,
-        None => Some(("a blank at the end of a line", line.len().saturating_sub(1))),
-    }
 }
 
 // Explains a word that does not fit, or the end of a line with too few words.
@@ -182,7 +180,7 @@ fn not_later(scene: &Scene<'_>, target: &[u8]) -> (Sentence, Hint) {
             ": this is the line of node {own}, and a target has a greater number"
         )),
         Some(number) => Sentence::of(format_args!(
-            ": node {number} isn't there, since the last one is node {last}"
+            ": node {number} isn't there: the nodes are numbered 0 to {last}"
         )),
     };
     (why, count_hint(scene))

@@ -4,7 +4,7 @@ use crate::cards::{TWO_LETTERS, card_hint, card_meant, is_like_card, suitless};
 use crate::grammar::{Row, Slot};
 use crate::misfit::{BAD_LINE, Misfit, refusal};
 use crate::order::{
-    COMMENT, announcing_hint, is_act, is_comment, is_heading, is_known, is_node, order_hint,
+    COMMENT, announcing_hint, is_act, is_below, is_comment, is_known, is_node, order_hint,
 };
 use crate::scene::{Scene, Word, is_blank, text_at};
 use crate::sentence::{Hint, tell, typed};
@@ -15,6 +15,8 @@ use crib_text::read_number;
 
 const ACT_A_LINE: &str = "Write each act on a line of its own.";
 
+const SHEET: &str = "This is a printed sheet: cribplan-tidy reads it in place of a plan.";
+
 const ONE_CARD: &str = "Write the rank and the suit of a card together.";
 
 // What people write for a go.
@@ -22,37 +24,34 @@ const GOES: &str = "go g0 g goes says say pass gos no";
 
 /// Returns the hint for a misfit of a line that is refused for a cause.
 pub(crate) fn hint_of(scene: &Scene<'_>, misfit: &Misfit<'_>, cause: Cause) -> Hint {
-    let word = misfit.word.bytes;
+    let (word, is_form) = (misfit.word.bytes, cause == BAD_LINE);
     let hint = match misfit.slot {
         Slot::Count if is_either(word, b"own", b"opp") || is_like_card(word) => tell(ACT_A_LINE),
         Slot::Count | Slot::Many if read_number(word).is_none() => announcing_hint(scene),
         _ if word.is_empty() => cards_hint(scene),
         Slot::Extra => extra_hint(scene, &misfit.word),
         Slot::Keyword => keyword_hint(scene, word),
-        Slot::Side if scene.word_count() > 2 => None,
-        Slot::Side => word_hint(word, &["owner", "opponent"]).or(tell(
-            "The owner is the player whose plan it is, and the opponent is the other one.",
-        )),
+        Slot::Side => word_hint(word, &["owner", "opponent"]),
         Slot::Aim => aim_hint(scene, word),
         Slot::Kind => word_hint(word, &["play", "see"]).or(kind_hint(scene, word)),
         Slot::Actor => actor_hint(scene, word),
-        Slot::Card if cause != BAD_LINE => card_hint(word),
-        Slot::Card => match bare(word) {
-            [] => None,
-            [_] if scene.word_count() > 2 => tell(ONE_CARD),
-            _ => card_hint(word).or(tell(TWO_LETTERS)),
-        },
+        Slot::Card if is_form && bare(word).len() == 1 && scene.word_count() > 2 => tell(ONE_CARD),
+        Slot::Card => card_hint(word),
         Slot::Move | Slot::Stated => move_hint(scene, misfit),
-        Slot::Own if cause == BAD_LINE => own_hint(scene, word),
+        Slot::Own if is_form => own_hint(scene, word),
         Slot::Branch => branch_hint(scene, &misfit.word, cause),
-        Slot::Target => word_hint(word, &["end"]).or(match bare(word) {
-            [] => None,
-            name if is_name(name) => tell("Write end, or the number of a node."),
-            _ => number_hint(word),
-        }),
-        slot => figure_hint(scene, slot, word, cause == BAD_LINE),
+        Slot::Target => word_hint(word, &["end"]),
+        slot => figure_hint(scene, slot, word, is_form),
     };
-    hint.or(spare_hint(scene, misfit))
+    let hint = hint.or(spare_hint(scene, misfit));
+    hint.or(match (misfit.slot, bare(word)) {
+        (_, []) => None,
+        (Slot::Side, _) => tell("The plan is the owner's, and the other player is the opponent."),
+        (Slot::Card, _) if is_form => tell(TWO_LETTERS),
+        (Slot::Target, name) if is_name(name) => tell("Write end, or the number of a node."),
+        (Slot::Target, _) => number_hint(word),
+        _ => None,
+    })
 }
 
 // A word too many, if the next one would fit in its place.
@@ -103,42 +102,49 @@ fn extra_hint(scene: &Scene<'_>, misfit: &Word<'_>) -> Hint {
 // Returns how many cards the line has, if each word behind its keyword is one.
 fn cards_hint(scene: &Scene<'_>) -> Hint {
     let mut words = scene.text().split(is_blank).skip(1);
-    if !matches!(scene.slot(1), Slot::Card) || !words.all(|word| read_card(word).is_some()) {
-        return None;
-    }
+    let are_cards = matches!(scene.slot(1), Slot::Card)
+        && words.all(|word| read_card(word).is_some());
     let cards = scene.word_count().saturating_sub(1);
     let mut next = text_at(scene.input, scene.number.saturating_add(1)).split(is_blank);
     let more = match (next.next().unwrap_or(b""), scene.row) {
         (_, Row::Hold) if cards == 6 => ": hold has four, and throw has the other two",
-        (b"throw", Row::Hold) if cards == 2 && next.count() == 4 =>
-            ": hold has four, and throw has two, so exchange them",
+        (b"throw", Row::Hold) if cards == 2 && next.count() == 4 => ": exchange hold and throw",
         (card, _) if read_card(card).is_some() => ": the cards on the next line belong on this one",
         _ => "",
     };
-    tell(format_args!("The number of cards here is {cards}{more}."))
+    tell(format_args!("The number of cards here is {cards}{more}.")).filter(|_| are_cards)
 }
 
 fn keyword_hint(scene: &Scene<'_>, word: &[u8]) -> Hint {
     let keyword = scene.row.keyword();
-    let begin = match scene.word(1) == keyword.as_bytes() {
-        _ if is_heading(scene) => return tell("Remove this line: what is expected is below."),
+    let aim = scene.slot(1);
+    let is_other = scene.row != Row::Dealer && fits_at(scene, aim, 1) && !fits_at(scene, aim, 0);
+    let hint = match scene.word(1) == keyword.as_bytes() {
+        _ if word.starts_with(b"{") => return tell("JSON is not read: write the expected line."),
+        _ if is_either(word, b"You", b"This") => return tell(SHEET),
+        _ if is_known(scene) => order_hint(scene),
+        _ if is_below(scene) => return tell("Remove this line: what is expected is below."),
         true if word == b">".as_slice() => tell("Remove the mark > in front of each line."),
-        true => tell(format_args!("Begin this line with the word {keyword}.")),
-        _ if is_known(scene) || !fits_at(scene, scene.slot(1), 1) => order_hint(scene),
-        _ if scene.row == Row::Dealer => tell("This line says who deals."),
-        _ => tell(format_args!("Write {keyword} in place of {}.", typed(word))),
+        false if is_other => tell(format_args!("Write {keyword} in place of {}.", typed(word))),
+        begins => order_hint(scene).filter(|_| !begins),
     };
-    word_hint(word, &[keyword]).or(begin)
+    word_hint(word, &[keyword]).or(hint).or(match scene.row {
+        Row::Dealer => tell("This line says who deals."),
+        _ => tell(format_args!("Begin this line with the word {keyword}.")),
+    })
 }
 
 // The word behind the number of a node, if a card or a branch is there or behind it.
 fn kind_hint(scene: &Scene<'_>, word: &[u8]) -> Hint {
     let next = scene.word(2);
-    tell(match word.contains(&b':') || next.contains(&b':') {
-        true => "Write see in front of branches.",
-        false if is_like_card(word) || is_like_card(next) => "Write play in front of a card.",
+    let kind = match next.contains(&b':') {
+        _ if word.contains(&b':') => return tell("Write see in front of branches."),
+        _ if is_like_card(word) => return tell("Write play in front of a card."),
+        true => "see",
+        false if is_like_card(next) => "play",
         false => return None,
-    })
+    };
+    tell(format_args!("Write {kind} in place of {}.", typed(word)))
 }
 
 fn aim_hint(scene: &Scene<'_>, word: &[u8]) -> Hint {
@@ -154,16 +160,13 @@ fn aim_hint(scene: &Scene<'_>, word: &[u8]) -> Hint {
 }
 
 fn actor_hint(scene: &Scene<'_>, word: &[u8]) -> Hint {
-    let near = word_hint(word, &["own", "opp"]);
-    tell(match read_number(bare(word)) {
-        _ if is_comment(word) => COMMENT,
-        Some(_) if is_either(scene.word(1), b"own", b"opp") =>
-            "Write no number in front of an act.",
-        _ if is_word(word, b"go") || read_card(word).is_some() =>
-            "Write whose act it is in front: own or opp.",
-        _ if near.is_some() => return near,
-        _ if is_node(scene.text()) => "Nodes stand in a plan, and a game has acts: own 2C.",
-        _ => return order_hint(scene).or(tell(
+    word_hint(word, &["own", "opp"]).or(match word {
+        _ if is_word(word, b"go") || read_card(word).is_some() => tell("Begin with own or opp."),
+        _ if is_either(scene.word(1), b"own", b"opp") => tell(
+            "Write nothing in front of own or opp.",
+        ),
+        _ if is_node(scene.text()) => tell("Nodes stand in a plan, and a game has acts: own 2C."),
+        _ => order_hint(scene).or(tell(
             "An act begins with own for the owner, or with opp for the opponent.",
         )),
     })
@@ -190,21 +193,22 @@ fn move_hint(scene: &Scene<'_>, misfit: &Misfit<'_>) -> Hint {
 
 // The number in front of a node.
 fn own_hint(scene: &Scene<'_>, word: &[u8]) -> Hint {
-    let order = order_hint(scene);
-    order.or(tell(match read_number(word) {
-        _ if is_act(scene.text()) => "Acts stand in a game, and a plan has nodes: 0 play 2C end.",
-        Some(_) if scene.node() == 0 => "The first node has the number 0.",
-        _ if read_number(bare(word)).is_some() => return order.or(number_hint(word)),
-        _ => "A node begins with its number: 0 play 2C end.",
-    }))
+    order_hint(scene).or(match read_number(word) {
+        _ if is_act(scene.text()) => tell(
+            "Acts stand in a game, and a plan has nodes: 0 play 2C end.",
+        ),
+        Some(_) if scene.node() == 0 => tell("The first node has the number 0."),
+        _ if read_number(bare(word)).is_some() => number_hint(word),
+        _ => tell("A node begins with its number: 0 play 2C end."),
+    })
 }
 
 fn branch_hint(scene: &Scene<'_>, branch: &Word<'_>, cause: Cause) -> Hint {
     let next = scene.word(branch.index.saturating_add(1));
     tell(match branch.target().bytes {
-        [] if !branch.bytes.contains(&b':') && !next.starts_with(b":") => return None,
-        [] if next.is_empty() => return None,
-        [] => "Write no blank at the colon of a branch.",
+        [] if !next.is_empty() && (branch.bytes.contains(&b':') || next.starts_with(b":")) =>
+            "Write no blank at the colon of a branch.",
+        [] => return None,
         _ if cause == BAD_LINE => "Write a blank between two branches, and no other sign.",
         end if is_word(bare(end), b"end") =>
             "Leave this branch out: a letter in no branch leads to the end.",

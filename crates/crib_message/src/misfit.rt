@@ -45,12 +45,10 @@ pub(crate) fn first_misfit<'a>(scene: &Scene<'a>, cause: Cause) -> Option<Misfit
     }
     let index = scene.word_count();
     let slot = scene.slot(index);
-    if cause != BAD_LINE || matches!(slot, Slot::Extra | Slot::Branch) {
-        return None;
-    }
+    let is_short = cause == BAD_LINE && !matches!(slot, Slot::Extra | Slot::Branch);
     let (bytes, from) = (b"".as_slice(), scene.text().len());
     let word = Word { bytes, index, from };
-    Some(Misfit { slot, word })
+    Some(Misfit { slot, word }).filter(|_| is_short)
 }
 
 /// Returns why a word does not fit its slot, if it doesn't.
@@ -84,10 +82,8 @@ fn is_fitting(scene: &Scene<'_>, slot: Slot, word: &[u8]) -> bool {
 
 /// Returns the first line of a problem that has a card before this word, if there is one.
 pub(crate) fn earlier_line(scene: &Scene<'_>, card: &Word<'_>) -> Option<u32> {
-    if !matches!(scene.spot.section, Section::Problem) {
-        return None;
-    }
-    (1..=scene.number).find(|line| {
+    let is_problem = matches!(scene.spot.section, Section::Problem);
+    (1..=scene.number).take_while(|_| is_problem).find(|line| {
         let end = if *line == scene.number { card.index } else { 5 };
         let words = text_at(scene.input, *line).split(is_blank);
         words.take(end).skip(1).any(|word| word == card.bytes)

@@ -1,12 +1,14 @@
 //! The order of lines and sections, and how many lines are announced.
 use crate::cards::is_like_card;
 use crate::grammar::Row;
-use crate::scene::{Scene, Section, count_at, is_line_feed, word_in};
+use crate::scene::{Scene, Section, count_at, is_line_feed, text_at, word_in};
 use crate::sentence::{Hint, tell};
 use crate::spelling::{is_either, is_word};
 use crib_input::Sections;
 
 pub(crate) const COMMENT: &str = "Comments are not allowed.";
+
+pub(crate) const TABLES: &str = "The command cribplan-many --rows reads tables.";
 
 pub(crate) const NEEDS_PLAYED: &str =
     "In a problem 2 the line played follows the goal; at the first lead it is played 0.";
@@ -37,13 +39,11 @@ pub(crate) fn count_hint(scene: &Scene<'_>) -> Hint {
     let row = Row::of_keyword(word_in(announcing, 0))?;
     let count = count_at(scene.input, number) as usize;
     let found = items_behind(scene.input, number, row);
-    if count == found {
-        return None;
-    }
     let keyword = row.keyword();
-    tell(format_args!(
+    let hint = tell(format_args!(
         "Line {number} says {keyword} {count}, but the number of lines for it is {found}."
-    ))
+    ));
+    hint.filter(|_| count != found)
 }
 
 // Whether a line says how many lines of one kind follow.
@@ -74,11 +74,6 @@ pub(crate) fn is_known(scene: &Scene<'_>) -> bool {
     Row::of_keyword(scene.word(0)).is_some() || is_act(line) || is_node(line)
 }
 
-/// Whether a line that has no keyword is above the first line of its section.
-pub(crate) fn is_heading(scene: &Scene<'_>) -> bool {
-    scene.spot.number == 1 && !is_known(scene) && is_below(scene)
-}
-
 /// Returns the hint for a line that is another one than was expected.
 pub(crate) fn order_hint(scene: &Scene<'_>) -> Hint {
     let line = scene.text();
@@ -87,7 +82,7 @@ pub(crate) fn order_hint(scene: &Scene<'_>) -> Hint {
         _ if is_comment(line) => tell(COMMENT),
         (Row::Act | Row::Node, row) => row.and(count_hint(scene)),
         _ if scene.spot.number == 1 => header_hint(scene, row),
-        (Row::Played, _) => tell(NEEDS_PLAYED),
+        (Row::Played, _) if !is_act(line) => tell(NEEDS_PLAYED),
         _ if is_known(scene) => missing_or_moved(scene),
         _ => None,
     }
@@ -99,8 +94,7 @@ fn header_hint(scene: &Scene<'_>, row: Option<Row>) -> Hint {
     let is_none = scene.word(0) == b"none".as_slice() && scene.row != Row::End;
     let text = match (scene.row, row) {
         _ if is_none => "Where no plan is sure, solve writes none, and there is no plan to read.",
-        (Row::Problem, None) if scene.word(0).contains(&b',') =>
-            "The command cribplan-many --rows reads tables.",
+        (Row::Problem, None) if scene.word(0).iter().any(|byte| b",;".contains(byte)) => TABLES,
         (Row::Problem, None | Some(Row::Plan | Row::Game | Row::Turns)) =>
             "The problem comes first.",
         (Row::Problem, _) | (Row::Plan, Some(Row::Nodes)) => return order_of(scene.spot.section),
@@ -132,14 +126,21 @@ pub(crate) fn sections_hint(sections: Sections) -> Hint {
 // Returns that the expected line is missing, or in which order the lines of the section are if it is later.
 fn missing_or_moved(scene: &Scene<'_>) -> Hint {
     let keyword = scene.row.keyword();
+    let above = scene.number.saturating_sub(1);
+    let before = word_in(text_at(scene.input, above), 0);
+    let found = items_behind(scene.input, above, scene.row);
     match is_below(scene) {
+        _ if before == scene.word(0) => tell("This line stands twice: leave one out."),
         true => order_of(scene.spot.section),
+        false if announces(keyword.as_bytes()) => tell(format_args!(
+            "The line {keyword} {found} is missing."
+        )),
         false => tell(format_args!("The line {keyword} is missing.")),
     }
 }
 
-// Whether the expected line is below, with no plan or game before it.
-fn is_below(scene: &Scene<'_>) -> bool {
+/// Whether the expected line is below, with no plan or game before it.
+pub(crate) fn is_below(scene: &Scene<'_>) -> bool {
     let keyword = scene.row.keyword().as_bytes();
     let lines = scene.input.split(is_line_feed).skip(scene.number as usize);
     let mut words = lines.map(|line| word_in(line, 0));

@@ -39,12 +39,13 @@ pub(crate) fn bare(word: &[u8]) -> &[u8] {
     bare.unwrap_or(b"")
 }
 
-// Whether one letter is missing, wrong or too many, or two neighbours are in the wrong order.
+// Whether one word begins the other, or one letter is missing, wrong or too many, or two neighbours are exchanged.
 fn is_near(word: &[u8], wanted: &[u8]) -> bool {
     let same = word.iter().zip(wanted).take_while(|(a, b)| a == b).count();
     let (rest, others) = (behind(word, same), behind(wanted, same));
     let (tail, other_tail) = (behind(rest, 1), behind(others, 1));
-    let is_near = tail == other_tail || tail == others || rest == other_tail;
+    let is_part = rest.is_empty() || others.is_empty();
+    let is_near = is_part || tail == other_tail || tail == others || rest == other_tail;
     let swapped = matches!(rest, [a, b, end @ ..] if others.strip_prefix(&[*b, *a]) == Some(end));
     (is_near || swapped) && wanted.len() > 2 && word.len() > 1
 }
@@ -77,8 +78,7 @@ pub(crate) fn are_digits(word: &[u8]) -> bool {
 /// Returns the hint for numbers with one sign between two in place of a blank, as `109-110`.
 pub(crate) fn two_numbers_hint(word: &[u8]) -> Hint {
     let sign = word.iter().find(|byte| !byte.is_ascii_digit())?;
-    if sign.is_ascii_alphanumeric() || !word.split(|byte| byte == sign).all(are_digits) {
-        return None;
-    }
-    tell("Write whole numbers, with a blank between two.")
+    let are_numbers = word.split(|byte| byte == sign).all(are_digits);
+    let hint = tell("Write whole numbers, with a blank between two.");
+    hint.filter(|_| are_numbers && !sign.is_ascii_alphanumeric())
 }

@@ -23,7 +23,6 @@ pub(crate) fn explain_turn(scene: &Scene<'_>, cause: Cause) -> Option<Explained>
     };
     add_reason(&mut sentence, &state, scene, cause)?;
     let mark = match cause {
-        Game(Fault::AfterEnd(_)) => None,
         Game(Fault::NotAsPlayed(_)) => Some(Mark::of(0, 6)),
         Game(Fault::NotUnseen(number @ 5..)) => Some(Mark::of(3 * usize::from(number) - 9, 2)),
         Game(Fault::NotUnseen(number)) => Some(Mark::of(3 * usize::from(number) + 2, 2)),

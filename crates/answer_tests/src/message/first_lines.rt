@@ -15,7 +15,8 @@ const LINES: &str = r##"
 "dealer" is not expected here; expected: problem 1 or problem 2. The order is problem, dealer, score, starter, hold,
 throw, goal and, in a problem 2, played.
 > {"problem":1}|
-"{"problem":1}" is not expected here; expected: problem 1 or problem 2. The problem comes first.
+"{"problem":1}" is not expected here; expected: problem 1 or problem 2. JSON is not read: write the expected
+line.
 > problems 1|
 "problems" is not expected here; expected: problem 1 or problem 2. Did you mean problem?
 > problem 1|dealer the owner|
@@ -28,7 +29,7 @@ throw, goal and, in a problem 2, played.
 "oponent" is not expected here; expected: dealer owner or dealer opponent. Did you mean opponent?
 > problem 1|dealer pone|
 "pone" is not expected here; expected: dealer owner or dealer opponent.
-The owner is the player whose plan it is, and the opponent is the other one.
+The plan is the owner's, and the other player is the opponent.
 >
 the input ends here; expected: problem 1 or problem 2. The input is empty.
 > problem 1
@@ -49,7 +50,7 @@ a blank at the end of a line is not expected here. Write one blank between two w
 "3" is not a version of this section; expected: problem 1 or problem 2
 > problem 1|dealer me|
 "me" is not expected here; expected: dealer owner or dealer opponent.
-The owner is the player whose plan it is, and the opponent is the other one.
+The plan is the owner's, and the other player is the opponent.
 > problem 1|dealer Owner|
 "Owner" is not expected here; expected: dealer owner or dealer opponent. Write small letters: owner.
 > plan 1|nodes 0|
@@ -58,7 +59,7 @@ The owner is the player whose plan it is, and the opponent is the other one.
 "dealer" is not expected here; expected: problem 1 or problem 2. Begin a new line at the word dealer.
 > problem 1|dealer Bob|
 "Bob" is not expected here; expected: dealer owner or dealer opponent.
-The owner is the player whose plan it is, and the opponent is the other one.
+The plan is the owner's, and the other player is the opponent.
 > My hands|problem 1|dealer owner|
 "My" is not expected here; expected: problem 1 or problem 2. Remove this line: what is expected is below.
 > ```|problem 2|
@@ -68,6 +69,21 @@ The owner is the player whose plan it is, and the opponent is the other one.
 reads tables.
 > problem 1|pone owner|
 "pone" is not expected here; expected: dealer owner or dealer opponent. This line says who deals.
+> dealer;own;opp;starter|
+"dealer;own;opp;starter" is not expected here; expected: problem 1 or problem 2.
+The command cribplan-many --rows reads tables.
+> You are the pone at 1, and the dealer is at 2.|
+"You" is not expected here; expected: problem 1 or problem 2.
+This is a printed sheet: cribplan-tidy reads it in place of a plan.
+> problem 1|dealer opp|
+"opp" is not expected here; expected: dealer owner or dealer opponent. Did you mean opponent?
+> problem 1|dealer Anna (me)|
+"Anna" is not expected here; expected: dealer owner or dealer opponent.
+The plan is the owner's, and the other player is the opponent.
+> problem 1|opponent deals|
+"opponent" is not expected here; expected: dealer owner or dealer opponent. This line says who deals.
+> Problem of the day|problem 1|
+"Problem" is not expected here; expected: problem 1 or problem 2. Remove this line: what is expected is below.
 > problem 1|dealer is owner|
 "is" is not expected here; expected: dealer owner or dealer opponent. Leave this out.
 # problem 1|dealer owner|

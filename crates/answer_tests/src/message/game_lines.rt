@@ -25,19 +25,19 @@ the end of the line is not expected here; expected: throw and two cards. The num
 "pone" is not expected here; expected: own or opp, and then a card or go.
 An act begins with own for the owner, or with opp for the opponent.
 > acts 2|own 2C|7C opp|
-"7C" is not expected here; expected: own or opp, and then a card or go. Write whose act it is in front: own or opp.
+"7C" is not expected here; expected: own or opp, and then a card or go. Begin with own or opp.
 > acts 2|OWN 2C|
 "OWN" is not expected here; expected: own or opp, and then a card or go. Write small letters: own.
 > acts 2|own-2C|
 "own-2C" is not expected here; expected: own or opp, and then a card or go. Write a blank behind the word own.
 > acts 2|1 own 2C|
-"1" is not expected here; expected: own or opp, and then a card or go. Write no number in front of an act.
+"1" is not expected here; expected: own or opp, and then a card or go. Write nothing in front of own or opp.
 > acts 2|own 2C 2|
 "2" is not expected here; expected: own or opp, and then a card or go. An act ends with its card, or with go.
 > acts 2|own: 2C|
 "own:" is not expected here; expected: own or opp, and then a card or go. Write no other sign at the word own.
 > acts 2|go|
-"go" is not expected here; expected: own or opp, and then a card or go. Write whose act it is in front: own or opp.
+"go" is not expected here; expected: own or opp, and then a card or go. Begin with own or opp.
 > acts 2|own 2C||opp 7C|
 an empty line is not expected here; expected: own or opp, and then a card or go. Remove it.
 > acts 2|own plays 2C|
@@ -57,7 +57,7 @@ Line 11 says acts 1, but the number of lines for it is 2.
 the input ends here; expected: own or opp, and then a card or go.
 Line 11 says acts 2, but the number of lines for it is 1.
 > own 2C|
-"own" is not expected here; expected: acts and the number of acts that follow. The line acts is missing.
+"own" is not expected here; expected: acts and the number of acts that follow. The line acts 1 is missing.
 > acts 1|own 2c|
 "2c" is not a card. Write a card in capital letters: 2C.
 > acts 1|own 2C opp 7C|

@@ -119,9 +119,11 @@ and 3 is left to 31; the opponent holds no card that fits, so "opp go" is missin
 > acts 11|own TC|opp TD|own 9C|opp go|own 2C|opp KD|own 8C|opp KH|opp go|opp QS|own go|
 cribplan: line 22, line 15 of the game: act 11 comes after the end: all eight cards are played (line 21)
   22 | own go
+     |     ^^
 > acts 11|own TC|opp TD|own 9C|opp go|own 2C|opp KD|own 8C|opp KH|opp go|opp QS|opp QS|
 cribplan: line 22, line 15 of the game: act 11 comes after the end: all eight cards are played (line 21)
   22 | opp QS
+     |     ^^
 > acts 5|own TC|opp TD|own 9C|opp go|own 8C|
 cribplan: line 16, line 9 of the game: act 5 plays a card that does not fit:
 8C counts 8, the count is 29, and 2 is left to 31; the owner holds 2C 8C, of which 2C fits
@@ -132,6 +134,7 @@ cribplan: line 16, line 9 of the game: act 5 plays a card that does not fit:
 > acts 3|own TC|opp TD|own 9C|
 cribplan: line 14, line 7 of the game: act 3 comes after the end: the opponent reached hole 121 (line 13)
   14 | own 9C
+     |     ^^
 # problem 2|dealer opponent|score 0 0|starter 3H|hold TC 9C 2C 8C|throw 4S 6S|goal win|
 > played 1|own TC|game 1|hold TD KD KH QS|throw 5H 7D|acts 0|
 cribplan: line 13, line 4 of the game: act 1 is not as it was played: a game begins with the turns of the opening,

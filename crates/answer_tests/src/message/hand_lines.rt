@@ -31,7 +31,7 @@ the end of the line is not expected here; expected: hold and four cards. The num
 The number of cards here is 6: hold has four, and throw has the other two.
 > hold 6C 6D|throw 2C 3C 4C 5C|
 the end of the line is not expected here; expected: hold and four cards.
-The number of cards here is 2: hold has four, and throw has two, so exchange them.
+The number of cards here is 2: exchange hold and throw.
 > hold 2S 8D|8H 8S|
 the end of the line is not expected here; expected: hold and four cards.
 The number of cards here is 2: the cards on the next line belong on this one.
@@ -51,6 +51,16 @@ the end of the line is not expected here; expected: throw and two cards. The num
 "goal" is not expected here; expected: throw and two cards. The line throw is missing.
 > hold none|
 "none" is not expected here; expected: hold and four cards. Write a card as two letters, its rank and its suit: TS.
+> 2C 3C 4C 5C|
+"2C" is not expected here; expected: hold and four cards. Begin this line with the word hold.
+> hold hold 2C 3C 4C 5C|
+"hold" is not expected here; expected: hold and four cards. Leave this out.
+> starter KD|hold 2C 3C 4C 5C|
+"starter" is not expected here; expected: hold and four cards. This line stands twice: leave one out.
+> hold 2C DC VC RC|
+"DC" is not a card. Write a jack, a queen and a king as J, Q and K: QC.
+> notes|hold 2C 3C 4C 5C|
+"notes" is not expected here; expected: hold and four cards. Remove this line: what is expected is below.
 > my hold 2C 3C 4C 5C|
 "my" is not expected here; expected: hold and four cards. Begin this line with the word hold.
 > hold 2C 3C 4C 5C|discard 6C 6D|
@@ -101,6 +111,12 @@ Write goal holes and the number of holes.
 "or" is not expected here; expected: goal win, goal holes N or, in a problem 2, goal stop. A problem has one goal.
 > goal points 5|
 "points" is not expected here; expected: goal win, goal holes N or, in a problem 2, goal stop. Write goal holes 5.
+> win|
+"win" is not expected here; expected: goal win, goal holes N or, in a problem 2, goal stop.
+Begin this line with the word goal.
+> goal winning|
+"winning" is not expected here; expected: goal win, goal holes N or, in a problem 2, goal stop. Did you mean
+win?
 > goal win game|
 "game" is not expected here; expected: goal win, goal holes N or, in a problem 2, goal stop. Leave this out.
 > goal win|none|
@@ -132,6 +148,13 @@ Line 8 says played 1, but the number of lines for it is 2.
 "own" is not expected here; expected: played and the number of turns that follow. Write each act on a line of its own.
 > played|
 the end of the line is not expected here; expected: played and the number of turns that follow. Write played 0.
+> opp 7C|own 2C|
+"opp" is not expected here; expected: played and the number of turns that follow. The line played 2 is
+missing.
+> played 1|opponent 7C|
+"opponent" is not expected here; expected: own or opp, and then a card or go. Did you mean opp?
+> played 1|* opp 7C|
+"*" is not expected here; expected: own or opp, and then a card or go. Write nothing in front of own or opp.
 > played none|opp 7C|
 "none" is not a valid number here; expected: a number from 0 to 32. Write played 1.
 > played opp 7C|

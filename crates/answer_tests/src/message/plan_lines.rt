@@ -5,7 +5,7 @@ use crib_input::Sections;
 const LINES: &str = r##"
 # problem 1|dealer owner|score 60 0|starter KD|hold 2C 3C 4C 5C|throw 6C 6D|goal win|
 > plan 1|0 play 2C end|
-"0" is not expected here; expected: nodes and the number of nodes that follow. The line nodes is missing.
+"0" is not expected here; expected: nodes and the number of nodes that follow. The line nodes 1 is missing.
 > Plan 1|
 "Plan" is not expected here; expected: plan 1. Write small letters: plan.
 > plan|
@@ -58,9 +58,18 @@ Write a blank between two branches, and no other sign.
 "A:" is not a valid number here; expected: the number of a later node behind the colon.
 Write no blank at the colon of a branch.
 > 0 look A:1|
-"look" is not expected here; expected: a node, such as 0 play 2C end or 0 see A2:1. Write see in front of branches.
+"look" is not expected here; expected: a node, such as 0 play 2C end or 0 see A2:1. Write see in place of
+"look".
+> 0 play 2C node 1|
+"node" is not expected here; expected: the number of a later node, or end. Leave this out.
+> 0 play 2C 3C 1|
+"3C" is not expected here; expected: the number of a later node, or end. Leave this out.
+> node 0 play 2C 1|
+"node" is not expected here; expected: a node, such as 0 play 2C end or 0 see A2:1.
+A node begins with its number: 0 play 2C end.
 > 0 lead 2C 1|
-"lead" is not expected here; expected: a node, such as 0 play 2C end or 0 see A2:1. Write play in front of a card.
+"lead" is not expected here; expected: a node, such as 0 play 2C end or 0 see A2:1. Write play in place of
+"lead".
 > 0 2C 1|
 "2C" is not expected here; expected: a node, such as 0 play 2C end or 0 see A2:1. Write play in front of a card.
 > 0 play 2C|
@@ -130,13 +139,15 @@ write the letters in front of the colon, and the node behind it
 > 0 see 10:2|
 "10:2" is not a valid branch: "1" is none of the letters A23456789TJQKg; a ten is T, and an ace A
 > 0 see other:1 23:1|
-"other:1" is not a valid branch: "o" is none of the letters A23456789TJQKg; write each rank by its letter
+"other:1" is not a valid branch: "o" is none of the letters A23456789TJQKg; write each rank by its letter, and
+no word
 > 0 see GO:1|
 "GO:1" is not a valid branch: "G" is none of the letters A23456789TJQKg; a go is a small g alone
 > 0 see 5c:1|
 "5c:1" is not a valid branch: "c" is none of the letters A23456789TJQKg; a branch has ranks and no suits
 > 0 see king:1|
-"king:1" is not a valid branch: "k" is none of the letters A23456789TJQKg; write each rank by its letter
+"king:1" is not a valid branch: "k" is none of the letters A23456789TJQKg; write each rank by its letter, and
+no word
 # problem 2|dealer owner|score 60 0|starter KD|hold 2C 3C 4C 5C|throw 6C 6D|goal win|
 > plan 1|nodes 0|
 "plan" is not expected here; expected: played and the number of turns that follow.

@@ -15,13 +15,13 @@ this is the line of node 1, and a target has a greater number
   11 | 1 play 9C 0
      |           ^
 > plan 1|nodes 1|0 play TC 7|
-cribplan: line 10, line 3 of the plan: "7" is not a later node of the plan: node 7 isn't there, since the last one
-is node 0
+cribplan: line 10, line 3 of the plan: "7" is not a later node of the plan: node 7 isn't there: the nodes are
+numbered 0 to 0
   10 | 0 play TC 7
      |           ^
 > plan 1|nodes 2|0 play TC 7|1 play 9C end|
-cribplan: line 10, line 3 of the plan: "7" is not a later node of the plan: node 7 isn't there, since the last one
-is node 1
+cribplan: line 10, line 3 of the plan: "7" is not a later node of the plan: node 7 isn't there: the nodes are
+numbered 0 to 1
   10 | 0 play TC 7
      |           ^
 > plan 1|nodes 2|0 see A:end|1 play TC end|
@@ -30,8 +30,8 @@ leave this branch out, since a letter in no branch leads to the end
   10 | 0 see A:end
      |         ^^^
 > plan 1|nodes 2|0 see A:9|1 play TC end|
-cribplan: line 10, line 3 of the plan: "9" is not a later node of the plan: node 9 isn't there, since the last one
-is node 1
+cribplan: line 10, line 3 of the plan: "9" is not a later node of the plan: node 9 isn't there: the nodes are
+numbered 0 to 1
   10 | 0 see A:9
      |         ^
 > plan 1|nodes 2|0 see :1|1 play TC end|
@@ -151,8 +151,8 @@ expected: the number of a later node, or end. Write a number without a sign.
   10 | 0 play TC -1
      |           ^^
 > plan 1|nodes 1|0 play TC 1|1 play 9C end|
-cribplan: line 10, line 3 of the plan: "1" is not a later node of the plan: node 1 isn't there, since the last one
-is node 0. Line 9 says nodes 1, but the number of lines for it is 2.
+cribplan: line 10, line 3 of the plan: "1" is not a later node of the plan: node 1 isn't there: the nodes are
+numbered 0 to 0. Line 9 says nodes 1, but the number of lines for it is 2.
   10 | 0 play TC 1
      |           ^
 > plan 1|nodes 2|0 see go:1|1 play TC end|
@@ -166,8 +166,8 @@ cribplan: line 10, line 3 of the plan: "A-5:1" is not a valid branch:
   10 | 0 see A-5:1
      |       ^^^^^
 > plan 1|nodes 2|0 see else:1|1 play TC end|
-cribplan: line 10, line 3 of the plan: "else:1" is not a valid branch:
-"e" is none of the letters A23456789TJQKg; write each rank by its letter
+cribplan: line 10, line 3 of the plan: "else:1" is not a valid branch: "e" is none of the letters
+A23456789TJQKg; write each rank by its letter, and no word
   10 | 0 see else:1
      |       ^^^^^^
 "#;

@@ -59,6 +59,7 @@ and the owner plays 8C
 > turns 11|own TC|opp TD|own 9C|opp go|own 2C|opp KD|own 8C|opp KH|opp go|opp QS|opp QH|
 cribplan: line 25, line 12 of the turns: act 11 comes after the end: all eight cards are played (line 24)
   25 | opp QH
+     |     ^^
 >
 cribplan: line 14, line 1 of the turns: the input ends here; expected: turns and the number of turns that follow.
 This command reads a problem, then a plan and then turns.
@@ -96,6 +97,7 @@ and the owner plays 9C
 > turns 3|own TC|opp TD|own 9C|
 cribplan: line 17, line 4 of the turns: act 3 comes after the end: the opponent reached hole 121 (line 16)
   17 | own 9C
+     |     ^^
 # problem 2|dealer opponent|score 0 0|starter 3H|hold TC 9C 2C 8C|throw 4S 6S|goal win|
 + played 4|own TC|opp TD|own 9C|opp go|plan 1|nodes 2|0 play 2C 1|1 play 8C end|
 > turns 1|own 8C|

@@ -160,8 +160,7 @@ fn words_at(scene: &Scene<'_>, slot: Slot, cause: Cause) -> &'static str {
         Slot::Many if matches!(cause, Cause::Plan(_)) => "the number of nodes, 0 to 65535",
         Slot::Target => "the number of a later node, or end",
         Slot::Stated => "a card, and then a later node or end",
-        Slot::Extra if scene.row == Row::Node =>
-            "the end of the line, since a play node has a card and one later node or end",
+        Slot::Extra if scene.row == Row::Node => "the end of the line, behind a card and one node",
         Slot::Points if !is_form => "a number from 0 to 120",
         Slot::Count if !is_form => "a number from 0 to 32",
         _ => scene.row.pattern(),

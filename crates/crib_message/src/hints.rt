@@ -73,6 +73,7 @@ fn figure_hint(scene: &Scene<'_>, slot: Slot, word: &[u8], is_form: bool) -> Hin
     let is_word = is_form && !word.iter().any(u8::is_ascii_digit);
     let hint = if is_word { None } else { number_hint(word) };
     match slot {
+        Slot::Points if is_word && word.starts_with(b"o") => tell("The owner's comes first."),
         Slot::Points if !is_form && word == b"121".as_slice() => tell("The game is over at 121."),
         Slot::Points if scene.word_count() < 3 => two_numbers_hint(word).or(hint),
         _ => hint,
@@ -92,7 +93,7 @@ fn extra_hint(scene: &Scene<'_>, misfit: &Word<'_>) -> Hint {
         _ if is_either(word, b"own", b"opp") => ACT_A_LINE,
         _ if is_comment(word) => COMMENT,
         Row::Goal if read_number(word).is_some() => "Only goal holes has a number behind it.",
-        Row::Goal if is_either(word, b"or", b"and") => "A problem has one goal.",
+        Row::Goal if is_either(word, b"or", b"and") => "A problem has one goal: end the line.",
         Row::Act => "An act ends with its card, or with go.",
         _ if read_number(word).is_none() => return cards_hint(scene).or(tell("Leave this out.")),
         _ => return None,

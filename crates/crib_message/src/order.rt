@@ -132,7 +132,7 @@ fn missing_or_moved(scene: &Scene<'_>) -> Hint {
     match is_below(scene) {
         _ if before == scene.word(0) => tell("This line stands twice: leave one out."),
         true => order_of(scene.spot.section),
-        false if announces(keyword.as_bytes()) => tell(format_args!(
+        false if found > 0 && announces(keyword.as_bytes()) => tell(format_args!(
             "The line {keyword} {found} is missing."
         )),
         false => tell(format_args!("The line {keyword} is missing.")),

@@ -74,7 +74,7 @@ fn add_not_turn(to: &mut Sentence, state: &State) {
     let (side, _) = side_and_go(state.act.side);
     let is_go = state.act.what == Move::Go;
     let is_idle = is_go && state.round.cards_left(state.act.side) == 0;
-    let line = state.line_of(&Move::Go).unwrap_or(0);
+    let line = state.line_of(&state.act.what).unwrap_or(0);
     let is_said = is_go && line > state.closed;
     match is_idle {
         _ if is_said => to.add(format_args!(
@@ -89,6 +89,7 @@ fn add_not_turn(to: &mut Sentence, state: &State) {
     to.add(format_args!("it is {mover}'s turn, and the count is {count}"));
     match state.held(other) {
         _ if is_idle || is_said => to.add("; leave this line out"),
+        _ if line > 0 && !is_go => to.add(format_args!("; this card was played (line {line})")),
         _ if state.acts.is_empty() => to.add("; the pone leads, and line 2 says who deals"),
         Some(held) if held.fits => to.add(format_args!("; {mover} holds {}", held.text)),
         Some(Held { cards, .. }) => to.add(format_args!(

@@ -92,6 +92,9 @@ The plan is the owner's, and the other player is the opponent.
 Did you mean score?
 > score 0 zero|
 "zero" is not a valid number here; expected: a number from 0 to 120. Write a number in digits alone.
+> score own 109 opp 110|
+"own" is not expected here; expected: score and two numbers from 0 to 120, the owner's and the opponent's.
+The owner's comes first.
 > score 109:110|
 "109:110" is not expected here; expected: score and two numbers from 0 to 120, the owner's and the opponent's.
 Write whole numbers, with a blank between two.

@@ -58,6 +58,8 @@ the input ends here; expected: own or opp, and then a card or go.
 Line 11 says acts 2, but the number of lines for it is 1.
 > own 2C|
 "own" is not expected here; expected: acts and the number of acts that follow. The line acts 1 is missing.
+> turns 1|own 2C|
+"turns" is not expected here; expected: acts and the number of acts that follow. The line acts is missing.
 > acts 1|own 2c|
 "2c" is not a card. Write a card in capital letters: 2C.
 > acts 1|own 2C opp 7C|

@@ -108,7 +108,8 @@ Write goal holes and the number of holes.
 > goal +12|
 "+12" is not expected here; expected: goal win, goal holes N or, in a problem 2, goal stop. Write goal holes 12.
 > goal win or stop|
-"or" is not expected here; expected: goal win, goal holes N or, in a problem 2, goal stop. A problem has one goal.
+"or" is not expected here; expected: goal win, goal holes N or, in a problem 2, goal stop.
+A problem has one goal: end the line.
 > goal points 5|
 "points" is not expected here; expected: goal win, goal holes N or, in a problem 2, goal stop. Write goal holes 5.
 > win|

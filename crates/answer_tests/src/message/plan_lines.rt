@@ -79,8 +79,7 @@ the end of the line is not expected here; expected: a card, and then a later nod
 > 0 play 2C -> 1|
 "->" is not expected here; expected: the number of a later node, or end. Leave this out.
 > 0 play 2C 1 # ok|
-"#" is not expected here; expected: the end of the line, since a play node has a card and one later node or end.
-Comments are not allowed.
+"#" is not expected here; expected: the end of the line, behind a card and one node. Comments are not allowed.
 > 0|
 the end of the line is not expected here; expected: a node, such as 0 play 2C end or 0 see A2:1
 > 0 play 2C 1|0 play 3C end|

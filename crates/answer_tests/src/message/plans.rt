@@ -111,8 +111,8 @@ expected: a node, such as 0 play 2C end or 0 see A2:1
   10 | 0
      |  ^
 > plan 1|nodes 1|0 play TC 1 2|
-cribplan: line 10, line 3 of the plan: "2" is not expected here;
-expected: the end of the line, since a play node has a card and one later node or end
+cribplan: line 10, line 3 of the plan: "2" is not expected here; expected: the end of the line, behind a card
+and one node
   10 | 0 play TC 1 2
      |             ^
 > plan 1|nodes 1|x play TC end|

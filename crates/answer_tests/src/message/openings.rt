@@ -34,6 +34,11 @@ cribplan: line 15: 2D is a turn that no deal lets the opponent show:
 the opponent said go at a count of 28 (line 12), so each of their cards counts 4 or more
   15 | opp 2D
      |     ^^
+> played 2|own TC|own TC|
+cribplan: line 10: the owner is not the side to move: it is the opponent's turn, and the count is 10; this
+card was played (line 9)
+  10 | own TC
+     | ^^^
 > played 1|own KC|
 cribplan: line 9: KC is not held: the owner still holds 2C 8C 9C TC
   9 | own KC

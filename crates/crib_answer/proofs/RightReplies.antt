@@ -18,6 +18,7 @@ use Rattle.crib_input.specs.Input.{played_at, played_of_input, played_under_at, 
 use Rattle.crib_input.proofs.Inputs.{counted, read_of_long}
 use Rattle.crib_answer.specs.Input.{board_of_input, ending_of_input, report_of_input}
 use Rattle.crib_answer.specs.Laws.{TooLongLaw}
+use Rattle.crib_answer.specs.Told.{game_fault_in}
 
 -- each job answers an input that is too long with the same refusal
 pub long_answers : (job : Job) (input : List ℕ) (reply : Reply) → most_bytes < length input → reply ≡ refusal_reply (record { line = 0; number = too_long })
@@ -28,6 +29,15 @@ long_answers Follow input reply long is = rw (read_of_long played_under_at input
 long_answers Check input reply long is = rw (read_of_long question_at input long) is
 long_answers Solve input reply long is = rw (read_of_long problem_alone_at input long) is
 long_answers Board input reply long is = rw (read_of_long played_at input long) is
+
+-- in an input that is too long no game is read
+pub long_fault : (job : Job) (input : List ℕ) → most_bytes < length input → None ≡ game_fault_in job input
+unfolding played_of_input played_under_of_input
+long_fault Replay input long = rw (read_of_long played_at input long) refl
+long_fault Follow input long = rw (read_of_long played_under_at input long) refl
+long_fault Check input long = refl
+long_fault Solve input long = refl
+long_fault Board input long = rw (read_of_long played_at input long) refl
 
 pub too_long_law : TooLongLaw
 too_long_law job input long = long_answers job input _ long refl

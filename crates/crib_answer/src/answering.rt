@@ -1,8 +1,9 @@
 //! Makes the whole answer of a job to the bytes of an input.
-ghost use Rattle.std.specs.Prelude.{◌≤◌, length};
+ghost use Rattle.std.specs.Prelude.{◌≤◌, IfErr, length};
 ghost use Rattle.crib_answer.specs.Answer.{Makes};
 ghost use Rattle.crib_run.specs.Reply.{IsOutcome, reply_of};
 ghost use Rattle.crib_answer.specs.Meaning.{StatusMeans};
+ghost use Rattle.crib_answer.specs.Told.{Tells};
 
 use crate::ending::ending_answer;
 use crate::job::Job;
@@ -49,7 +50,8 @@ pub(crate) fn answer_of<A: Allocator + Copy>(
     job: Job,
     input: &[u8],
 ) -> Result<Answer<A>, Reason>
-    ensures { IsOutcome reply_of (Makes job input.now) result }
+    ensures outcome { IsOutcome reply_of (Makes job input.now) result }
+    ensures told { IfErr result (Tells job input.now) }
 {
     if input.len() > MAX_INPUT {
         return Err(Reason::from(TextFault::of_input(TextCause::TooLong)));
@@ -67,7 +69,8 @@ pub(crate) fn answer_of<A: Allocator + Copy>(
 #[tactic(auto, unfolding(crate::specs::Input::report_of_input))]
 fn replay_answer<A: Allocator>(input: &[u8]) -> Result<Answer<A>, Reason>
     requires { length input.now ≤ MAX_INPUT }
-    ensures { IsOutcome reply_of (Makes Job.Replay input.now) result }
+    ensures outcome { IsOutcome reply_of (Makes Job.Replay input.now) result }
+    ensures told { IfErr result (Tells Job.Replay input.now) }
 {
     let played = played_of(input)?;
     match replay(&played.problem, &played.game) {
@@ -80,7 +83,8 @@ fn replay_answer<A: Allocator>(input: &[u8]) -> Result<Answer<A>, Reason>
 #[tactic(auto, unfolding(crate::specs::Input::ending_of_input))]
 fn follow_answer<A: Allocator + Copy>(alloc: A, input: &[u8]) -> Result<Answer<A>, Reason>
     requires { length input.now ≤ MAX_INPUT }
-    ensures { IsOutcome reply_of (Makes Job.Follow input.now) result }
+    ensures outcome { IsOutcome reply_of (Makes Job.Follow input.now) result }
+    ensures told { IfErr result (Tells Job.Follow input.now) }
 {
     let played = played_under_of(alloc, input)?;
     match follow(&played.problem, &played.plan, &played.game) {
@@ -92,7 +96,8 @@ fn follow_answer<A: Allocator + Copy>(alloc: A, input: &[u8]) -> Result<Answer<A
 // The answer of `check`: the verdict on the plan.
 fn check_answer<A: Allocator + Copy>(alloc: A, input: &[u8]) -> Result<Answer<A>, Reason>
     requires { length input.now ≤ MAX_INPUT }
-    ensures { IsOutcome reply_of (Makes Job.Check input.now) result }
+    ensures outcome { IsOutcome reply_of (Makes Job.Check input.now) result }
+    ensures told { IfErr result (Tells Job.Check input.now) }
 {
     let question = question_of(alloc, input)?;
     let mut table = KeySet::new(alloc);
@@ -104,7 +109,8 @@ fn check_answer<A: Allocator + Copy>(alloc: A, input: &[u8]) -> Result<Answer<A>
 #[tactic(auto, unfolding(crate::specs::Input::board_of_input))]
 fn board_answer<A: Allocator + Copy>(alloc: A, input: &[u8]) -> Result<Answer<A>, Reason>
     requires { length input.now ≤ MAX_INPUT }
-    ensures { IsOutcome reply_of (Makes Job.Board input.now) result }
+    ensures outcome { IsOutcome reply_of (Makes Job.Board input.now) result }
+    ensures told { IfErr result (Tells Job.Board input.now) }
 {
     let played = played_of(input)?;
     match write_board(alloc, &played.problem, &played.game) {

@@ -2,6 +2,7 @@
 ghost use Rattle.crib_answer.specs.Answer.{Makes};
 ghost use Rattle.crib_answer.specs.Job.{sections_of};
 ghost use Rattle.crib_answer.specs.Meaning.{StatusMeans};
+ghost use Rattle.crib_answer.specs.Told.{Tells};
 
 use crate::answering::answer_of;
 use crate::job::Job;
@@ -13,6 +14,8 @@ impl<A: Allocator + Copy> Asks<A> for Job {
     ghost makes = { Makes };
 
     ghost means = { StatusMeans };
+
+    ghost tells = { Tells };
 
     ghost reads = { sections_of };
 

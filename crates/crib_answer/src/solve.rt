@@ -1,7 +1,8 @@
 //! The answer of `solve`.
-ghost use Rattle.std.specs.Prelude.{◌≡◌, ◌⊎◌, Some};
+ghost use Rattle.std.specs.Prelude.{◌≡◌, ◌⊎◌, IfErr, None, Some};
 ghost use Rattle.crib_text.specs.Refusals.{no_memory};
 ghost use Rattle.crib_answer.specs.Answer.{AnswersProblem, found_reply};
+ghost use Rattle.crib_input.specs.Refusals.{FitsFault};
 ghost use Rattle.crib_run.specs.Reply.{IsOutcome, fault_reply, reply_of};
 
 use crate::passed::{PassedPlan, passed};
@@ -19,7 +20,9 @@ pub(crate) fn solve_answer<A: Allocator + Copy>(
     alloc: A,
     problem: &Problem,
 ) -> Result<Answer<A>, Reason>
-    ensures { IsOutcome reply_of (λ reply. AnswersProblem problem.now reply ⊎ (reply ≡ fault_reply no_memory)) result }
+    ensures outcome { IsOutcome reply_of
+        (λ reply. AnswersProblem problem.now reply ⊎ (reply ≡ fault_reply no_memory)) result }
+    ensures told { IfErr result (FitsFault None) }
 {
     let (found, shows) = find_with_shows(alloc, problem, 65_535);
     match found {
@@ -38,8 +41,9 @@ fn plan_answer<A: Allocator + Copy>(
     alloc: A,
     passed: &PassedPlan<'_, A>,
 ) -> Result<Answer<A>, Reason>
-    ensures { IsOutcome reply_of
+    ensures outcome { IsOutcome reply_of
         (λ reply. (reply ≡ found_reply (Some passed.now.plan.now)) ⊎ (reply ≡ fault_reply no_memory)) result }
+    ensures told { IfErr result (FitsFault None) }
 {
     match write_plan(alloc, passed.plan()) {
         Ok(text) => Ok(section_answer(text)),

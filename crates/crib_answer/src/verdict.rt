@@ -1,8 +1,9 @@
 //! The answer of `check`.
-ghost use Rattle.std.specs.Prelude.{◌≡◌, ◌≢◌, ◌⊎◌, ◌≤◌, length};
+ghost use Rattle.std.specs.Prelude.{◌≡◌, ◌≢◌, ◌⊎◌, ◌≤◌, IfErr, None, length};
 ghost use Rattle.crib_text.specs.Refusals.{no_memory};
 ghost use Rattle.crib_game.specs.Spelling.{game_text};
 ghost use Rattle.crib_answer.specs.Answer.{verdict_reply};
+ghost use Rattle.crib_input.specs.Refusals.{FitsFault};
 ghost use Rattle.crib_run.specs.Reply.{IsOutcome, fault_reply, reply_of};
 
 use crate::ending::add_ending;
@@ -20,8 +21,9 @@ pub(crate) fn verdict_answer<A: Allocator + Copy>(
     alloc: A,
     verdict: &Verdict,
 ) -> Result<Answer<A>, Reason>
-    ensures { IsOutcome reply_of (λ reply. (reply ≡ verdict_reply verdict.now)
+    ensures outcome { IsOutcome reply_of (λ reply. (reply ≡ verdict_reply verdict.now)
         ⊎ ((verdict.now ≢ Verdict.Holds) × (reply ≡ fault_reply no_memory))) result }
+    ensures told { IfErr result (FitsFault None) }
 {
     match verdict {
         Verdict::Holds => Ok(line_answer(b"holds\n", Status::Yes)),

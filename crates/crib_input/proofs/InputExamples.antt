@@ -1,11 +1,12 @@
 -- Worked examples of whole inputs: what their bytes are read as, how they are refused, and what they spell. A card is a number below 52: 4 is 2C.
-use Rattle.std.specs.Prelude.{◌≡◌, refl, ◌+◌, nat_le, ℕ, List, [], ◌∷◌, ◌++◌, length, map, Result, Ok, Err, codes, if◌then◌else◌}
+use Rattle.std.specs.Prelude.{◌≡◌, refl, ◌+◌, nat_le, ℕ, List, [], ◌∷◌, ◌++◌, length, map, Option, Some, None, Result, Ok, Err, codes, if◌then◌else◌}
 use Rattle.std.proofs.Common.{arith, ◌≤◌, sym, ap, subst}
 use Rattle.std.specs.Fmt.{digits}
 use Rattle.crib_cards.specs.declared.sides.Side.TheVariants.{Owner}
 use Rattle.crib_text.specs.Refusals.{Refusal}
 use Rattle.crib_text.specs.declared.fault.TextCause.TheVariants as texts
 use Rattle.crib_problem.specs.declared.fault.ProblemCause.TheVariants.{BadGoal}
+use Rattle.crib_problem.specs.declared.fault.ProblemCause.TheVariants as problems
 use Rattle.crib_problem.specs.Setup.{Setup, IsSetup}
 use Rattle.crib_problem.specs.Spelling.{problem_lines, problem_text}
 use Rattle.crib_problem.proofs.ExampleProblems.{plays, after_two, aces}
@@ -18,16 +19,18 @@ use Rattle.crib_plan.specs.declared.plan.Node.{Node}
 use Rattle.crib_plan.specs.declared.plan.Node.TheVariants.{Play}
 use Rattle.crib_plan.specs.Nodes.{ArePlan}
 use Rattle.crib_plan.specs.Spelling.{plan_text, plan_lines}
-use Rattle.crib_game.specs.declared.fault.GameFault.TheVariants.{Strays}
+use Rattle.crib_game.specs.declared.fault.GameFault.{GameFault}
+use Rattle.crib_game.specs.declared.fault.GameFault.TheVariants.{NotHeld, NotUnseen, Strays}
 use Rattle.crib_game.specs.declared.section.game.Game.{Game}
 use Rattle.crib_game.specs.Spelling.{IsGame, game_text, game_lines}
 use Rattle.crib_input.specs.declared.refusal.Cause.TheVariants as causes
+use Rattle.crib_input.specs.declared.refusal.Refusal as refusals
 use Rattle.crib_input.specs.declared.reason.Reason.TheVariants as reasons
 use Rattle.crib_input.specs.declared.reason.FaultCause.TheVariants as faults
 use Rattle.crib_text.specs.Reading.{all_lines}
 use Rattle.crib_input.specs.Input.{input_lines}
 use Rattle.crib_input.proofs.InputReaders.{read_count, read_lines, read_played, read_played_under, read_problem, read_question, refused}
-use Rattle.crib_input.specs.Refusals.{IsForPlan, ReadsAs, fault_words, input_cause_number, refusal_of}
+use Rattle.crib_input.specs.Refusals.{FitsFault, IsForPlan, ReadsAs, fault_words, input_cause_number, refusal_of}
 use Rattle.crib_input.specs.Spelled.{SpellsGame, SpellsPlan, SpellsPlannedGame, SpellsProblem}
 
 -- ---- the sections: a problem of ten lines, a plan of three, and a game of five
@@ -133,6 +136,21 @@ pub anything_without_memory : ReadsAs (λ (n : ℕ). n) (Err (reasons.Fault faul
     × (ReadsAs (λ (n : ℕ). n) (Err (reasons.Fault faults.TooLarge)) (refused 3 4) → ⊥)
 anything_without_memory = (refl, λ is. absurd cc)
 
+-- ---- the fault of a game: it isn't that of an opening, and a fault of the game is no cause of another section
+pub fits_the_fault : FitsFault (Some (NotHeld 3)) (reasons.Refused (record { line = 12; cause = causes.Game (NotHeld 3) }))
+    × FitsFault None (reasons.Refused (record { line = 12; cause = causes.Problem problems.NotHeld }))
+    × FitsFault (Some (NotHeld 3)) (reasons.Fault faults.NoMemory)
+fits_the_fault = (refl, refl, tt)
+
+abbrev card_of : Option GameFault → ℕ
+card_of (Some (NotUnseen card)) = card
+card_of fault = 0
+
+pub fits_no_other : (FitsFault (Some (NotHeld 3)) (reasons.Refused (record { line = 12; cause = causes.Problem problems.NotHeld })) → ⊥)
+    × (FitsFault None (reasons.Refused (record { line = 12; cause = causes.Game (NotHeld 3) })) → ⊥)
+    × (FitsFault (Some (NotUnseen 1)) (reasons.Refused (record { line = 9; cause = causes.Game (NotUnseen 2) })) → ⊥)
+fits_no_other = (λ is. absurd cc, λ is. absurd cc, λ is. (let same : 2 ≡ 1 = ap card_of is in absurd (omega (arith, same))))
+
 -- ---- an input that was not read because of its plan
 abbrev bad_set_9 : Fault PlanCause
 bad_set_9 = record { line = 9; cause = plans.BadSet }
@@ -144,7 +162,11 @@ pub refused_for_a_set : IsForPlan bad_set_9 (reasons.Refused (record { line = 9;
 refused_for_a_set = (refl, λ e. absurd (omega (arith, e)))
 
 pub refused_at_another_line : IsForPlan bad_set_9 (reasons.Refused (record { line = 8; cause = causes.Plan plans.BadSet })) → ⊥
-refused_at_another_line is = (let line : 8 ≡ 9 = ap (λ (refusal : Refusal). refusal.line) is.0 in absurd (omega (arith, line)))
+refused_at_another_line is = (let line : 8 ≡ 9 = ap (λ (refusal : refusals.Refusal). refusal.line) is.0 in absurd (omega (arith, line)))
+
+pub refused_for_a_text : IsForPlan bad_set_9 (reasons.Refused (record { line = 9; cause = causes.Text texts.BadLine })) → ⊥
+refused_for_a_text is =
+    (let cause : causes.Text texts.BadLine ≡ causes.Plan plans.BadSet = ap (λ (refusal : refusals.Refusal). refusal.cause) is.0 in absurd cc)
 
 pub memory_for_a_plan : IsForPlan no_memory (reasons.Fault faults.NoMemory)
     × (IsForPlan no_memory (reasons.Refused (record { line = 0; cause = causes.Text texts.NoMemory })) → ⊥)

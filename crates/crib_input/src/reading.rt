@@ -1,9 +1,9 @@
 //! Reads whole inputs. Each call accepts at most 8,388,608 bytes, and refuses a line after the last section.
-ghost use Rattle.std.specs.Prelude.{◌≡◌, ◌≤◌, Err, IsOk, length};
+ghost use Rattle.std.specs.Prelude.{◌≡◌, ◌≤◌, Err, IfErr, IsOk, None, length};
 ghost use Rattle.crib_text.specs.Reading.{Gives};
 ghost use Rattle.crib_input.specs.Input.{played_of_input, played_under_of_input, problem_of_input, question_of_input};
 ghost use Rattle.crib_input.specs.Memory.{count_of_input};
-ghost use Rattle.crib_input.specs.Refusals.{ReadsAs, refusal_of};
+ghost use Rattle.crib_input.specs.Refusals.{FitsFault, ReadsAs, game_fault_of, refusal_of};
 ghost use Rattle.crib_input.specs.declared.reason.FaultCause.TheVariants.{NoMemory};
 ghost use Rattle.crib_input.specs.declared.reason.Reason.TheVariants.{Fault};
 
@@ -47,7 +47,8 @@ pub struct PlayedUnder<A: Allocator> {
 #[tactic(auto, unfolding(crate::specs::Input::input_lines, crate::specs::Input::problem_of_input, crate::specs::Input::problem_alone_at))]
 pub fn problem_of(input: &[u8]) -> Result<Problem, Refusal>
     requires { length input.now ≤ MAX_INPUT }
-    ensures { Gives (λ problem. problem) refusal_of result (problem_of_input input.now) }
+    ensures read { Gives (λ problem. problem) refusal_of result (problem_of_input input.now) }
+    ensures cause { IfErr result (λ refusal. game_fault_of refusal.cause ≡ None) }
 {
     let mut lines = Lines::new(input)?;
     let problem = read_problem(&mut lines)?;
@@ -62,6 +63,7 @@ pub fn problem_of(input: &[u8]) -> Result<Problem, Refusal>
 pub fn question_of<A: Allocator + Copy>(alloc: A, input: &[u8]) -> Result<Question<A>, Reason>
     requires { length input.now ≤ MAX_INPUT }
     ensures read { ReadsAs (λ question. (question.problem, question.plan)) result (question_of_input input.now) }
+    ensures cause { IfErr result (FitsFault None) }
     ensures asked { result ≡ Err (Fault NoMemory) → IsOk (count_of_input input.now) }
 {
     let mut lines = Lines::new(input)?;
@@ -75,8 +77,9 @@ pub fn question_of<A: Allocator + Copy>(alloc: A, input: &[u8]) -> Result<Questi
 #[tactic(auto, unfolding(crate::specs::Input::input_lines, crate::specs::Input::played_of_input, crate::specs::Input::played_at))]
 pub fn played_of(input: &[u8]) -> Result<Played, Refusal>
     requires { length input.now ≤ MAX_INPUT }
-    ensures { Gives (λ played. (played.problem, played.game, played.first)) refusal_of result
+    ensures read { Gives (λ played. (played.problem, played.game, played.first)) refusal_of result
         (played_of_input input.now) }
+    ensures cause { IfErr result (λ refusal. game_fault_of refusal.cause ≡ None) }
 {
     let mut lines = Lines::new(input)?;
     let problem = read_problem(&mut lines)?;
@@ -102,6 +105,7 @@ pub fn played_under_of<A: Allocator + Copy>(
     requires { length input.now ≤ MAX_INPUT }
     ensures read { ReadsAs (λ played. (played.problem, played.plan, played.game, played.first)) result
         (played_under_of_input input.now) }
+    ensures cause { IfErr result (FitsFault None) }
     ensures asked { result ≡ Err (Fault NoMemory) → IsOk (count_of_input input.now) }
 {
     let mut lines = Lines::new(input)?;

@@ -62,7 +62,8 @@ impl Refusal {
     /// Returns the refusal of a game for `fault`. The section of the game begins at line `first`.
     pub fn of_game(fault: GameFault, first: u32, game: &Game) -> Refusal
         requires { first + 258 ≤ u32.MAX }
-        ensures { refusal_of result ≡ game_refusal first (length game.now.acts.items) fault }
+        ensures printed { refusal_of result ≡ game_refusal first (length game.now.acts.items) fault }
+        ensures cause { result.cause ≡ causes.Game fault }
     {
         Refusal::at(fault.line(first, game.acts.len()), Cause::Game(fault))
     }

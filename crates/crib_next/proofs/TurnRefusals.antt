@@ -24,7 +24,10 @@ use Rattle.crib_play.specs.declared.turns.Turn.TheVariants as turns
 use Rattle.crib_play.proofs.FilledRecords.{filled_law, letters_filled}
 use Rattle.crib_problem.specs.Played.{OpeningBasis, act_refusal, asked_by, count_by_acts, is_over_by, least_by, move_refusal, own_left_by, seen_by, shows_seen}
 use Rattle.crib_problem.specs.Played as opening
-use Rattle.crib_problem.specs.Refusals.{already_over, does_not_fit, must_play, no_deal, not_held, not_turn, same_card}
+use Rattle.crib_problem.specs.Refusals.{already_over, does_not_fit, must_play, no_deal, not_held, not_turn, problem_cause_number, same_card}
+use Rattle.crib_problem.specs.declared.fault.ProblemCause.{ProblemCause}
+use Rattle.crib_problem.specs.declared.fault.ProblemCause.TheVariants as problems
+use Rattle.crib_text.specs.declared.fault.TextCause.TheVariants as texts
 use Rattle.crib_problem.specs.Setup.{Setup, IsSetup, hands_of, opening_basis_of, played_back, start_of}
 use Rattle.crib_problem.proofs.Setups.{without_opening}
 use Rattle.crib_problem.proofs.StartLemmas.{hands_dealt, started}
@@ -33,7 +36,7 @@ use Rattle.crib_know.proofs.HonestOpenings.{allowed_proved}
 use Rattle.crib_know.proofs.OpeningLawProofs.{letters_same}
 use Rattle.crib_plan.specs.declared.plan.Node.{Node}
 use Rattle.crib_game.specs.Followed.{strays_at}
-use Rattle.crib_next.specs.Next.{acts_with, place_with, strays, turn_refusal, unless_ending}
+use Rattle.crib_next.specs.Next.{acts_with, place_with, strays, turn_refusal, unless_ending, turn_fault}
 
 -- the deal is not done after an opening
 pub going : (problem : Setup) → IsSetup problem → is_over_by (opening_basis_of problem) (played_back problem) ≡ false
@@ -124,3 +127,25 @@ module _ (problem : Setup) (plan : List Node) (before : List Act) (act : Act) (n
 
   pub by_none : unless_ending rule ≡ None → is_stray ≡ false → turn_refusal problem plan before act ≡ None
   by_none fine is = refused_not _ rule is_stray not_over fine is
+
+-- the cause of an opening's refusal is no fault of a game
+pub of_no_game : (turn : ℕ) (cause : ProblemCause) → None ≡ turn_fault turn (problem_cause_number cause)
+of_no_game turn (problems.Text texts.BadByte) = refl
+of_no_game turn (problems.Text texts.TooLong) = refl
+of_no_game turn (problems.Text texts.CutShort) = refl
+of_no_game turn (problems.Text texts.BadLine) = refl
+of_no_game turn (problems.Text texts.BadCard) = refl
+of_no_game turn (problems.Text texts.BadNumber) = refl
+of_no_game turn (problems.Text texts.BadVersion) = refl
+of_no_game turn (problems.Text texts.Trailing) = refl
+of_no_game turn (problems.Text texts.ReadFault) = refl
+of_no_game turn (problems.Text texts.NoMemory) = refl
+of_no_game turn problems.SameCard = refl
+of_no_game turn problems.BadScore = refl
+of_no_game turn problems.BadGoal = refl
+of_no_game turn problems.NoDeal = refl
+of_no_game turn problems.AlreadyOver = refl
+of_no_game turn problems.NotHeld = refl
+of_no_game turn problems.DoesNotFit = refl
+of_no_game turn problems.MustPlay = refl
+of_no_game turn problems.NotTurn = refl

@@ -1,5 +1,5 @@
 -- What an input with turns spells, and what comes next after them.
-use Rattle.std.specs.Prelude.{◌≡◌, ℕ, ◌+◌, List, [], ◌++◌, Result, Ok}
+use Rattle.std.specs.Prelude.{◌≡◌, ℕ, ◌+◌, ◌-◌, List, [], ◌++◌, Option, None, Result, Ok, Err}
 use Rattle.crib_cards.specs.declared.moves.Act.{Act}
 use Rattle.crib_text.specs.Refusals.{Refusal}
 use Rattle.crib_text.specs.Reading.{◌>>=◌, Rest, end_at}
@@ -10,9 +10,10 @@ use Rattle.crib_plan.specs.declared.plan.Node.{Node}
 use Rattle.crib_plan.specs.Nodes.{ArePlan}
 use Rattle.crib_plan.specs.Reading.{plan_at}
 use Rattle.crib_plan.specs.Spelling.{plan_text}
+use Rattle.crib_game.specs.declared.fault.GameFault.{GameFault}
 use Rattle.crib_input.specs.Input.{input_lines}
 use Rattle.crib_next.specs.Section.{AreTurns, turns_at, turns_text}
-use Rattle.crib_next.specs.Next.{next_from}
+use Rattle.crib_next.specs.Next.{next_from, turn_fault}
 use Rattle.crib_next.specs.declared.next.NextTurn.{NextTurn}
 
 -- the problem, the plan and the turns that the lines spell, and the line at which the section of the turns begins, or
@@ -32,6 +33,18 @@ next_question_of_input bytes = input_lines bytes >>= next_question_at
 -- what comes next after the turns that were read, or the refusal of the first wrong one
 abbrev pub next_of_question : Setup × List Node × List Act × ℕ → Result NextTurn Refusal
 next_of_question (problem, plan, turns, first) = next_from problem plan (first + 1) [] turns
+
+-- the fault of a game for which a turn is refused, if what comes next is such a refusal. The turns begin behind line
+-- `first`
+abbrev pub fault_of_next : ℕ → Result NextTurn Refusal → Option GameFault
+fault_of_next first (Ok next) = None
+fault_of_next first (Err refusal) = turn_fault (refusal.line - first) refusal.number
+
+-- the same by what was read, and none if nothing was
+abbrev pub fault_of_question : Result (Setup × List Node × List Act × ℕ) Refusal → Option GameFault
+fault_of_question (Ok (problem, plan, turns, first)) =
+    fault_of_next first (next_of_question (problem, plan, turns, first))
+fault_of_question (Err refusal) = None
 
 -- an input spells a problem, a plan and turns: it is their texts, one after the other, and nothing else
 pub record SpellsTurns (input : List ℕ) (problem : Setup) (plan : List Node) (turns : List Act) : Type 0 where

@@ -19,6 +19,8 @@ use Rattle.crib_plan.specs.declared.plan.Node.{Node}
 use Rattle.crib_plan.specs.Places.{stated_card}
 use Rattle.crib_know.specs.Knowledge.{asked_now, count_after, own_left}
 use Rattle.crib_game.specs.Followed.{strays_at}
+use Rattle.crib_game.specs.declared.fault.GameFault.{GameFault}
+use Rattle.crib_game.specs.declared.fault.GameFault.TheVariants.{AfterEnd, Strays}
 use Rattle.crib_sure.specs.HistoryPlaces.{place_by}
 use Rattle.crib_next.specs.declared.next.NextTurn.{NextTurn}
 use Rattle.crib_next.specs.declared.next.NextTurn.TheVariants.{Play, Go, Wait, Over, Stuck}
@@ -81,6 +83,12 @@ turn_refusal problem plan before act =
     else
     option_or (unless_ending (act_refusal (opening_basis_of problem) (acts_with problem before) act))
     (if strays_at plan (place_with problem plan before) act.side act.what then Some strays else None)
+
+-- the fault of a game for which a turn is refused, by the turn's number and that of the refusal. The others are
+-- refusals of an opening
+abbrev pub turn_fault : ℕ → ℕ → Option GameFault
+turn_fault turn number =
+    if number == after_end then Some (AfterEnd turn) else if number == strays then Some (Strays turn) else None
 
 -- ---- turns one after another
 

@@ -1,7 +1,7 @@
 //! Reads a problem, a plan, and the turns since.
-ghost use Rattle.std.specs.Prelude.{◌≡◌, ◌≤◌, Err, IsOk, length};
+ghost use Rattle.std.specs.Prelude.{◌≡◌, ◌≤◌, Err, IfErr, IsOk, None, length};
 ghost use Rattle.crib_input.specs.Memory.{count_of_input};
-ghost use Rattle.crib_input.specs.Refusals.{ReadsAs};
+ghost use Rattle.crib_input.specs.Refusals.{FitsFault, ReadsAs};
 ghost use Rattle.crib_input.specs.declared.reason.FaultCause.TheVariants.{NoMemory};
 ghost use Rattle.crib_input.specs.declared.reason.Reason.TheVariants.{Fault};
 ghost use Rattle.crib_next.specs.Input.{next_question_of_input};
@@ -36,6 +36,7 @@ pub fn next_question_of<A: Allocator + Copy>(
     requires { length input.now ≤ MAX_INPUT }
     ensures read { ReadsAs (λ question. (question.problem, question.plan, question.turns.items, question.first)) result
         (next_question_of_input input.now) }
+    ensures cause { IfErr result (FitsFault None) }
     ensures asked { result ≡ Err (Fault NoMemory) → IsOk (count_of_input input.now) }
 {
     let mut lines = Lines::new(input)?;

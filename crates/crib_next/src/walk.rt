@@ -1,6 +1,6 @@
 //! The turns since a problem, judged one after another, and what comes next after them.
-ghost use Rattle.std.specs.Prelude.{◌≡◌, ℕ, ◌+◌, ◌≤◌, List, [], ◌∷◌, length, Some, None, IsTrue, MatchOption};
-ghost use Rattle.std.specs.Prelude.{MatchResult};
+ghost use Rattle.std.specs.Prelude.{◌≡◌, ℕ, ◌+◌, ◌-◌, ◌≤◌, List, [], ◌∷◌, length, Some, None};
+ghost use Rattle.std.specs.Prelude.{IfErr, IsTrue, MatchOption, MatchResult};
 ghost use Rattle.crib_cards.specs.declared.moves.Act.{Act};
 ghost use Rattle.crib_text.specs.Reading.{Gives};
 ghost use Rattle.crib_play.specs.History.{event_of};
@@ -9,9 +9,9 @@ ghost use Rattle.crib_problem.specs.Setup.{Setup, opening_basis_of};
 ghost use Rattle.crib_plan.specs.declared.plan.Node.{Node};
 ghost use Rattle.crib_game.specs.Followed.{is_stated, strays_at};
 ghost use Rattle.crib_sure.specs.HistoryPlaces.{place_after_event};
-ghost use Rattle.crib_input.specs.Refusals.{input_cause_number, refusal_of};
-ghost use Rattle.crib_next.specs.Next.{acts_with, next_from, turn_refusal};
-ghost use Rattle.crib_next.specs.Private.Walking.{IsAfter, wrong_line};
+ghost use Rattle.crib_input.specs.Refusals.{game_fault_of, input_cause_number, refusal_of};
+ghost use Rattle.crib_next.specs.Next.{acts_with, next_from, turn_fault, turn_refusal};
+ghost use Rattle.crib_next.specs.Private.Walking.{HasCause, IsAfter, wrong_line};
 
 use crate::next::{NextTurn, next_at};
 use crate::question::NextQuestion;
@@ -34,8 +34,10 @@ struct WrongTurn {
 /// A turn is refused as in an opening, but it may end the deal. A turn after the end of the deal is refused with 45. A
 /// card of the owner that the rules allow is refused with 46 if the plan doesn't state it there.
 pub fn next_of<A: Allocator>(question: &NextQuestion<A>) -> Result<NextTurn, Refusal>
-    ensures { Gives (λ next. next) refusal_of result
+    ensures next { Gives (λ next. next) refusal_of result
         (next_from question.now.problem question.now.plan (question.now.first + 1) [] question.now.turns.items) }
+    ensures cause { IfErr result (λ refusal. game_fault_of refusal.cause
+        ≡ turn_fault (refusal.line - question.now.first) (refusal_of refusal).number) }
 {
     // The proof reads from this call that the problem is valid.
     let _ = question.problem.target();
@@ -65,9 +67,10 @@ fn walk<A: Allocator>(
     number: u8,
 ) -> Result<NextTurn, WrongTurn>
     requires { number + length turns.now ≤ 200 }
-    ensures { (problem : Setup) (before : List Act) (first : ℕ) → IsAfter problem plan.now before at.now place
+    ensures next { (problem : Setup) (before : List Act) (first : ℕ) → IsAfter problem plan.now before at.now place
         → Gives (λ next. next) (wrong_line first) result
         (next_from problem plan.now (first + number) before turns.now) }
+    ensures cause { IfErr result HasCause }
 {
     let [turn, rest @ ..] = turns else {
         return Ok(next_at(at, plan, place));
@@ -87,9 +90,10 @@ fn walk<A: Allocator>(
 
 // Returns what comes next after the end of the deal: nothing, unless there are turns, of which the first is wrong.
 fn ended(turns: &[Act], number: u8) -> Result<NextTurn, WrongTurn>
-    ensures { (problem : Setup) (plan : List Node) (before : List Act) (first : ℕ)
+    ensures next { (problem : Setup) (plan : List Node) (before : List Act) (first : ℕ)
         → IsTrue (is_over_by (opening_basis_of problem) (acts_with problem before))
         → Gives (λ next. next) (wrong_line first) result (next_from problem plan (first + number) before turns.now) }
+    ensures cause { IfErr result HasCause }
 {
     match turns {
         [] => Ok(NextTurn::Over),
@@ -105,13 +109,15 @@ fn after<A: Allocator>(
     turn: &Act,
     number: u8,
 ) -> Result<Option<Problem>, WrongTurn>
-    ensures { (problem : Setup) (before : List Act) → IsAfter problem plan.now before at.now place → MatchResult result
+    ensures next { (problem : Setup) (before : List Act) → IsAfter problem plan.now before at.now place
+        → MatchResult result
         (λ later. (turn_refusal problem plan.now before turn.now ≡ None)
         × MatchOption later (IsTrue (is_over_by (opening_basis_of problem) (acts_with problem (turn.now ∷ before))))
         (λ next. IsAfter problem plan.now (turn.now ∷ before) next
         (place_after_event plan.now place (event_of turn.now))))
         (λ wrong. (turn_refusal problem plan.now before turn.now ≡ Some (input_cause_number wrong.cause))
         × (wrong.number ≡ number)) }
+    ensures cause { IfErr result HasCause }
 {
     match at.after(*turn) {
         Ok(later) => {
@@ -134,7 +140,7 @@ fn after<A: Allocator>(
 
 fn stray(number: u8) -> WrongTurn
     ensures number { result.number ≡ number }
-    ensures cause { input_cause_number result.cause ≡ 46 }
+    ensures cause { result.cause ≡ Cause.Game (GameFault.Strays number) }
 {
     wrong(number, Cause::Game(GameFault::Strays(number)))
 }

@@ -1,10 +1,10 @@
 -- What is delivered: an answer, or the reason why there is none, and the words beside it.
-use Rattle.std.proofs.Common.{◌≡◌, ◌⊎◌, ◌<◌, inl, inr, List, ℕ, [], length, take, Option, Result, Ok, Err, OnOk, OnErr, IfErr}
+use Rattle.std.proofs.Common.{◌≡◌, ◌⊎◌, ◌<◌, inl, inr, sym, subst, List, ℕ, [], length, take, Option, Result, Ok, Err, OnOk, OnErr, IfErr}
 use Rattle.std.specs.Io.KnownBytes.{Appends}
 use Rattle.crib_input.specs.declared.reason.Reason.{Reason}
 use Rattle.crib_run.specs.declared.status.Status.{Status}
-use Rattle.crib_run.specs.declared.status.Status.TheVariants.{Yes, No}
-use Rattle.crib_run.specs.Beside.{Explains}
+use Rattle.crib_run.specs.declared.status.Status.TheVariants.{Yes, No, Refused, Fault}
+use Rattle.crib_run.specs.Beside.{Explains, IsReason}
 use Rattle.crib_run.specs.Reply.{IsOutcome, Reply, reason_reply}
 
 -- ---- outcomes
@@ -18,12 +18,25 @@ outcome_map reply may other f (Err reason) is = f (reason_reply reason) is
 -- ---- the words
 
 -- beside yes and no nothing is written
-pub silent : (says : Reason → List ℕ → Type 0) (reply : Reply) (ended : Status) (old new : Option (List ℕ)) (failed : Type 0)
-    → Explains says reply ended old new failed → (ended ≡ Yes) ⊎ (ended ≡ No) → Appends old new []
-silent says reply Yes old new failed nothing quiet = nothing
-silent says reply No old new failed nothing quiet = nothing
-silent says reply ended old new failed said (inl is) = cc
-silent says reply ended old new failed said (inr is) = cc
+pub silent : (tells : Reason → Type 0) (says : Reason → List ℕ → Type 0) (reply : Reply) (ended : Status) (old new : Option (List ℕ)) (failed : Type 0)
+    → Explains tells says reply ended old new failed → (ended ≡ Yes) ⊎ (ended ≡ No) → Appends old new []
+silent tells says reply Yes old new failed nothing quiet = nothing
+silent tells says reply No old new failed nothing quiet = nothing
+silent tells says reply ended old new failed said (inl is) = cc
+silent tells says reply ended old new failed said (inr is) = cc
+
+same_reason : (tells : Reason → Type 0) (reply : Reply) (ended : Status) (reason told : Reason) → tells reason
+    → IsReason (λ one. one ≡ reason) reply ended told → IsReason tells reply ended told
+same_reason tells reply ended reason told may (inl is) = inl (is.0, is.1, subst tells (sym is.2) may)
+same_reason tells reply ended reason told may (inr failed) = inr failed
+
+-- the words of a reason that may be given
+pub told : (tells : Reason → Type 0) (says : Reason → List ℕ → Type 0) (reply : Reply) (ended : Status) (old new : Option (List ℕ)) (failed : Type 0)
+    (reason : Reason) → tells reason → Explains (λ one. one ≡ reason) says reply ended old new failed → Explains tells says reply ended old new failed
+told tells says reply Yes old new failed reason may said = said
+told tells says reply No old new failed reason may said = said
+told tells says reply Refused old new failed reason may said = (said.0, same_reason tells reply Refused reason said.0 may said.1, said.2)
+told tells says reply Fault old new failed reason may said = (said.0, same_reason tells reply Fault reason said.0 may said.1, said.2)
 
 -- ---- a text
 

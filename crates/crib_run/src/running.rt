@@ -1,11 +1,12 @@
 //! Does a job: reads the input, sends the answer or the line of the reason why there is none, and explains the reason.
-ghost use Rattle.std.specs.Prelude.{◌≡◌, ◌⊎◌, ◌≤◌, ℕ, List, IfSome, [], length};
+ghost use Rattle.std.specs.Prelude.{◌≡◌, ◌⊎◌, ◌≤◌, ℕ, List, None, IfErr, IfSome, [], length};
 ghost use Rattle.std.specs.Io.KnownBytes.{Appends};
 ghost use Rattle.crib_text.specs.Device.{HasFailed};
 ghost use Rattle.crib_text.specs.Transfer.{IsReadingFault};
 ghost use Rattle.crib_input.specs.declared.reason.Reason.{Reason};
+ghost use Rattle.crib_input.specs.Refusals.{FitsFault};
 ghost use Rattle.crib_input.specs.declared.sections.Sections.{Sections};
-ghost use Rattle.crib_run.specs.Beside.{Explains, Writes, input_of};
+ghost use Rattle.crib_run.specs.Beside.{Explains, TellsRead, Writes, input_of};
 ghost use Rattle.crib_run.specs.Reply.{IsOutcome, Reply, reason_reply};
 ghost use Rattle.crib_run.specs.Run.{Delivers, HaveMeaning, RunMeans, Sends, unread_reply};
 
@@ -23,6 +24,9 @@ pub trait Asks<A: Allocator>: Copy {
 
     ghost means: { Self → List ℕ → Reply → Type 0 };
 
+    // The reasons that may be given for an input.
+    ghost tells: { Self → List ℕ → Reason → Type 0 };
+
     // The sections that the input of a job has to have.
     ghost reads: { Self → Sections };
 
@@ -36,7 +40,8 @@ pub trait Asks<A: Allocator>: Copy {
     /// Returns the answer to an input, or the reason why there is none.
     fn answer(self, alloc: A, input: &[u8]) -> Result<Self::Made, Reason>
         requires { length input.now ≤ MAX_INPUT }
-        ensures { IsOutcome Self.Made.reply (makes self input.now) result };
+        ensures outcome { IsOutcome Self.Made.reply (makes self input.now) result }
+        ensures told { IfErr result (tells self input.now) };
 }
 
 /// What explains why there is no answer.
@@ -58,7 +63,8 @@ pub trait Explain {
 /// - `answers`: what is written is a reply that the job makes for what was read. It is the whole reply, or a proper
 ///   beginning of it if the writer failed. If the bytes of the reader are known, these are what was read.
 /// - `means`: what the output and the status mean for the input.
-/// - `words`: a refusal or a fault is explained on the third device, by a whole text unless that device fails.
+/// - `words`: a refusal or a fault is explained on the third device, by a whole text unless that device fails. The
+///   reason that is explained is one that the job gives for what was read.
 /// - `silent`: nothing is written there if the status is `Yes` or `No`.
 pub fn run_with_words<A: Allocator + Copy, J: Asks<A>, X: Explain, S: Source, W: Sink, E: Sink>(
     alloc: A,
@@ -78,8 +84,8 @@ pub fn run_with_words<A: Allocator + Copy, J: Asks<A>, X: Explain, S: Source, W:
     ensures words { (run : Delivers (J.makes job) (S.remaining source.old)
         (HasFailed (S.faults source.old) (S.faults source.new)) (W.contents sink.old) (W.contents sink.new)
         (HasFailed (W.faults sink.old) (W.faults sink.new)) result)
-        × Explains (X.says (J.reads job) (input_of run.read)) run.reply result (E.contents words.old)
-        (E.contents words.new) (HasFailed (E.faults words.old) (E.faults words.new)) }
+        × Explains (TellsRead (J.tells job) run.read) (X.says (J.reads job) (input_of run.read)) run.reply result
+        (E.contents words.old) (E.contents words.new) (HasFailed (E.faults words.old) (E.faults words.new)) }
     ensures silent { (result ≡ Status.Yes) ⊎ (result ≡ Status.No)
         → Appends (E.contents words.old) (E.contents words.new) [] }
 {
@@ -104,8 +110,8 @@ fn answer<A: Allocator + Copy, J: Asks<A>, X: Explain, W: Sink, E: Sink>(
     ensures { (reply : Reply) × J.makes job input.now reply
         × Sends reply (W.contents sink.old) (W.contents sink.new)
         (HasFailed (W.faults sink.old) (W.faults sink.new)) result
-        × Explains (X.says (J.reads job) input.now) reply result (E.contents words.old) (E.contents words.new)
-        (HasFailed (E.faults words.old) (E.faults words.new)) }
+        × Explains (J.tells job input.now) (X.says (J.reads job) input.now) reply result (E.contents words.old)
+        (E.contents words.new) (HasFailed (E.faults words.old) (E.faults words.new)) }
 {
     match job.answer(alloc, input) {
         Ok(made) => {
@@ -123,7 +129,8 @@ fn answer<A: Allocator + Copy, J: Asks<A>, X: Explain, W: Sink, E: Sink>(
 // Returns the reason why no whole input was read.
 fn unread_reason(fault: TextFault) -> Reason
     requires { IsReadingFault fault }
-    ensures { reason_reply result ≡ unread_reply fault.cause }
+    ensures reply { reason_reply result ≡ unread_reply fault.cause }
+    ensures told { FitsFault None result }
 {
     match fault.cause {
         TextCause::ReadFault => Reason::Fault(FaultCause::ReadFailed),
@@ -136,7 +143,7 @@ fn unread_reason(fault: TextFault) -> Reason
 /// run. It needs no memory.
 ///
 /// - `sent`: `sink` has the whole line, or a proper beginning of it if this device failed.
-/// - `words`: it is explained on `words`, by a whole text unless this device failed.
+/// - `words`: this reason and no other is explained on `words`, by a whole text unless this device failed.
 pub fn deliver_reason<X: Explain, W: Sink, E: Sink>(
     sections: Sections,
     input: &[u8],
@@ -147,8 +154,8 @@ pub fn deliver_reason<X: Explain, W: Sink, E: Sink>(
     requires { length input.now ≤ MAX_INPUT }
     ensures sent { Sends (reason_reply reason) (W.contents sink.old) (W.contents sink.new)
         (HasFailed (W.faults sink.old) (W.faults sink.new)) result }
-    ensures words { Explains (X.says sections input.now) (reason_reply reason) result (E.contents words.old)
-        (E.contents words.new) (HasFailed (E.faults words.old) (E.faults words.new)) }
+    ensures words { Explains (λ told. told ≡ reason) (X.says sections input.now) (reason_reply reason) result
+        (E.contents words.old) (E.contents words.new) (HasFailed (E.faults words.old) (E.faults words.new)) }
 {
     let line = reason_answer::<Global>(reason);
     let status = line.send(sink);

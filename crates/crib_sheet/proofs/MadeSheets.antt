@@ -1,7 +1,7 @@
 -- What the readers and the writers of sheets return is a right reply of the job to the input.
 use Rattle.std.proofs.Common.{◌≡◌, ◌≤◌, ◌⊎◌, inl, inr, ℕ, zero, suc, Bool, List, [], ◌∷◌, Ok, Err, length, refl, ap}
 use Rattle.std.proofs.Common.{true, false, ◌∙◌, Option, Some, None, subst, sym}
-use Rattle.std.specs.Prelude.{MatchResult, Result}
+use Rattle.std.specs.Prelude.{IfErr, MatchResult, Result}
 use Rattle.crib_text.specs.Refusals.{no_memory}
 use Rattle.crib_cards.specs.declared.moves.Act.{Act}
 use Rattle.crib_problem.specs.Setup.{Setup}
@@ -14,11 +14,11 @@ use Rattle.crib_check.specs.declared.verdict.Verdict.TheVariants.{Holds, Fails}
 use Rattle.crib_check.specs.Verdicts.{IsRight}
 use Rattle.crib_check.proofs.OneFirstGame.{exact_law}
 use Rattle.crib_input.specs.declared.refusal.Refusal.{Refusal as Refused}
-use Rattle.crib_input.specs.declared.reason.FaultCause.TheVariants.{NoMemory}
+use Rattle.crib_input.specs.declared.reason.FaultCause.TheVariants.{NoMemory, TooLarge}
 use Rattle.crib_input.specs.declared.reason.Reason.{Reason}
 use Rattle.crib_input.specs.declared.reason.Reason.TheVariants as reasons
 use Rattle.crib_input.specs.Input.{played_of_input, problem_of_input, question_of_input}
-use Rattle.crib_input.specs.Refusals.{refusal_of}
+use Rattle.crib_input.specs.Refusals.{FitsFault, refusal_of}
 use Rattle.crib_input.proofs.Inputs.{counted}
 use Rattle.crib_next.specs.Input.{next_of_question, next_question_of_input}
 use Rattle.crib_next.specs.declared.next.NextTurn.{NextTurn}
@@ -86,6 +86,17 @@ pub found_made : (input : List ℕ) (problem : Setup) (behind : Option (List Nod
 found_made input problem behind reply asked same (inl is) = inl (rw (asked, same) is)
 found_made input problem behind reply asked same (inr want) =
     inr (inr (rw (asked_alone input problem (asked ∙ ap (λ (b : Option (List Node)). Ok (problem, b)) same)) refl), want)
+
+-- ---- reasons that are no refusals
+
+pub fits_large : {B : Type 0} (reason : Reason) → (reason ≡ reasons.Fault NoMemory) ⊎ ((reason ≡ reasons.Fault TooLarge) × B) → FitsFault None reason
+fits_large reason (inl want) = subst (FitsFault None) (sym want) tt
+fits_large reason (inr large) = subst (FitsFault None) (sym large.0) tt
+
+pub fits_memory : {A : Type 0} (P : A → Type 0) (result : Result A Reason) → MatchResult result P (λ reason. reason ≡ reasons.Fault NoMemory)
+    → IfErr result (FitsFault None)
+fits_memory P (Ok value) is = tt
+fits_memory P (Err reason) want = subst (FitsFault None) (sym want) tt
 
 -- ---- a game
 

@@ -13,3 +13,4 @@ pub mod Private
 pub mod Refute
 pub mod Scores
 pub mod Sheet
+pub mod Told

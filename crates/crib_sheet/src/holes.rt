@@ -1,10 +1,11 @@
 //! How many holes are sure, for the problem that an input spells.
-ghost use Rattle.std.specs.Prelude.{◌≤◌, IfOk, length};
+ghost use Rattle.std.specs.Prelude.{◌≤◌, IfErr, IfOk, length};
 ghost use Rattle.crib_run.specs.Prints.{Prints};
 ghost use Rattle.crib_run.specs.Reply.{IsOutcome};
 ghost use Rattle.crib_sheet.specs.Holes.{AreAtZero, figure_line, hand_line, holes_sheet_reply, holes_text, parts_text};
 ghost use Rattle.crib_sheet.specs.Holes.{not_exact_text, pegs_line, sure_text, turn_line, turn_lines, zero_text};
 ghost use Rattle.crib_sheet.specs.Sheet.{SheetMakes};
+ghost use Rattle.crib_sheet.specs.Told.{SheetTells};
 ghost use Rattle.crib_tables.specs.Holes.{AreHoles};
 
 use crate::answer::SheetJob;
@@ -32,7 +33,8 @@ pub struct HolesSheet {
 /// the refusal of the input, or an allocation that failed.
 pub(crate) fn holes_sheet<A: Allocator + Copy>(alloc: A, input: &[u8]) -> Result<HolesSheet, Reason>
     requires { length input.now ≤ MAX_INPUT }
-    ensures { IsOutcome holes_sheet_reply (SheetMakes SheetJob.Holes input.now) result }
+    ensures outcome { IsOutcome holes_sheet_reply (SheetMakes SheetJob.Holes input.now) result }
+    ensures told { IfErr result (SheetTells SheetJob.Holes input.now) }
 {
     let problem = problem_of(input)?;
     match figures_of(alloc, &problem) {

@@ -1,5 +1,5 @@
 //! Why no plan is sure for the problem that an input spells: games that refute every player, as text or in words.
-ghost use Rattle.std.specs.Prelude.{◌≡◌, ◌≤◌, ◌++◌, ◌∷◌, [], decimal, flat_map, length, MatchResult};
+ghost use Rattle.std.specs.Prelude.{◌≡◌, ◌≤◌, ◌++◌, ◌∷◌, IfErr, [], decimal, flat_map, length, MatchResult};
 ghost use Rattle.crib_text.specs.Spelling.{line_text, space};
 ghost use Rattle.crib_game.specs.Spelling.{game_text};
 ghost use Rattle.crib_problem.specs.Spelling.{act_line, actor_word};
@@ -9,6 +9,7 @@ ghost use Rattle.crib_why.specs.Answer.{HasFewGames, IsRightWhy};
 ghost use Rattle.crib_sheet.specs.Refute.{refute_reply, refuted_text, rows_text, suits_line, suits_sentences};
 ghost use Rattle.crib_sheet.specs.Refute.{words_reply};
 ghost use Rattle.crib_sheet.specs.Sheet.{SheetMakes};
+ghost use Rattle.crib_sheet.specs.Told.{SheetTells};
 
 use crate::answer::SheetJob;
 use crate::tally::put_ranks;
@@ -39,7 +40,8 @@ pub enum InWords<A: Allocator> {
 /// answer: the refusal of the input, or an allocation that failed.
 pub(crate) fn why_none<A: Allocator + Copy>(alloc: A, input: &[u8]) -> Result<Why<A>, Reason>
     requires { length input.now ≤ MAX_INPUT }
-    ensures { IsOutcome refute_reply (SheetMakes SheetJob.Refute input.now) result }
+    ensures outcome { IsOutcome refute_reply (SheetMakes SheetJob.Refute input.now) result }
+    ensures told { IfErr result (SheetTells SheetJob.Refute input.now) }
 {
     let problem = problem_of(input)?;
     reason_of(alloc, &problem)
@@ -51,7 +53,8 @@ pub(crate) fn why_in_words<A: Allocator + Copy>(
     input: &[u8],
 ) -> Result<InWords<A>, Reason>
     requires { length input.now ≤ MAX_INPUT }
-    ensures { IsOutcome words_reply (SheetMakes SheetJob.Why input.now) result }
+    ensures outcome { IsOutcome words_reply (SheetMakes SheetJob.Why input.now) result }
+    ensures told { IfErr result (SheetTells SheetJob.Why input.now) }
 {
     let problem = problem_of(input)?;
     match reason_of(alloc, &problem)? {

@@ -1,5 +1,5 @@
 //! At which scores turns are sure, or a plan is, for the problem that an input spells.
-ghost use Rattle.std.specs.Prelude.{◌≡◌, ◌<◌, ◌≤◌, ◌++◌, codes, flat_map, length, nat_lt};
+ghost use Rattle.std.specs.Prelude.{◌≡◌, ◌<◌, ◌≤◌, ◌++◌, IfErr, codes, flat_map, length, nat_lt};
 ghost use Rattle.std.specs.List.{list_all, list_any};
 ghost use Rattle.crib_cards.specs.Words.{side_word};
 ghost use Rattle.crib_text.specs.Spelling.{line_bytes};
@@ -11,6 +11,7 @@ ghost use Rattle.crib_sheet.specs.Scores.{above_text, blank_line, blanks_before,
 ghost use Rattle.crib_sheet.specs.Scores.{digit_text, digits_line, mark_text, marks_text, row_text, scores_reply};
 ghost use Rattle.crib_sheet.specs.Scores.{scores_text, sides_line, turn_text, turns_line};
 ghost use Rattle.crib_sheet.specs.Sheet.{SheetMakes};
+ghost use Rattle.crib_sheet.specs.Told.{SheetTells};
 
 use crate::answer::SheetJob;
 use crate::refutation::put_actor;
@@ -34,7 +35,8 @@ pub struct ScoreSheet {
 /// there is no answer: the refusal of the input, or an allocation that failed.
 pub(crate) fn score_sheet<A: Allocator + Copy>(alloc: A, input: &[u8]) -> Result<ScoreSheet, Reason>
     requires { length input.now ≤ MAX_INPUT }
-    ensures { IsOutcome scores_reply (SheetMakes SheetJob.Scores input.now) result }
+    ensures outcome { IsOutcome scores_reply (SheetMakes SheetJob.Scores input.now) result }
+    ensures told { IfErr result (SheetTells SheetJob.Scores input.now) }
 {
     let problem = problem_of(input)?;
     match scores_of(alloc, &problem) {

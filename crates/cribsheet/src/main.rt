@@ -5,11 +5,12 @@
 ghost use Rattle.std.specs.Prelude.{◌≡◌, ◌⊎◌, ℕ, List, IfSome, []};
 ghost use Rattle.std.specs.Io.KnownBytes.{Appends};
 ghost use Rattle.crib_text.specs.Device.{HasFailed};
-ghost use Rattle.crib_run.specs.Beside.{Explains, input_of};
+ghost use Rattle.crib_run.specs.Beside.{Explains, TellsRead, input_of};
 ghost use Rattle.crib_run.specs.Run.{Delivers, RunMeans};
 ghost use Rattle.crib_sheet.specs.Job.{sections_of};
 ghost use Rattle.crib_sheet.specs.Meaning.{SheetMeans};
 ghost use Rattle.crib_sheet.specs.Sheet.{SheetMakes};
+ghost use Rattle.crib_sheet.specs.Told.{SheetTells};
 ghost use Rattle.cribsheet.specs.Beside.{IsSaid};
 
 mod beside;
@@ -81,7 +82,8 @@ fn job_of_args(rt: &(impl Env + AllocGlobal)) -> Result<SheetJob, Error> {
 ///   `scores` and the figures of `holes`. The status `No` of `next` means that the plan of the input is not sure. The
 ///   status `Fault` means that an allocation or a device failed, or that a plan has too many nodes.
 /// - `words`: a refusal or a fault has its message on the third device, whole unless that device fails. After the
-///   refusal of an act are the acts before it, and after no other message.
+///   refusal of an act are the acts before it, and after no other message. If a game or a turn is refused, the reason
+///   is its fault.
 /// - `silent`: nothing is written there if the status is `Yes` or `No`.
 pub fn run_with_words<A: Allocator + Copy, S: Source, W: Sink, E: Sink>(
     alloc: A,
@@ -100,8 +102,9 @@ pub fn run_with_words<A: Allocator + Copy, S: Source, W: Sink, E: Sink>(
     ensures words { (run : Delivers (SheetMakes job) (S.remaining source.old)
         (HasFailed (S.faults source.old) (S.faults source.new)) (W.contents sink.old) (W.contents sink.new)
         (HasFailed (W.faults sink.old) (W.faults sink.new)) result)
-        × Explains (IsSaid (sections_of job) (input_of run.read)) run.reply result (E.contents words.old)
-        (E.contents words.new) (HasFailed (E.faults words.old) (E.faults words.new)) }
+        × Explains (TellsRead (SheetTells job) run.read) (IsSaid (sections_of job) (input_of run.read)) run.reply
+        result (E.contents words.old) (E.contents words.new)
+        (HasFailed (E.faults words.old) (E.faults words.new)) }
     ensures silent { (result ≡ Status.Yes) ⊎ (result ≡ Status.No)
         → Appends (E.contents words.old) (E.contents words.new) [] }
 {

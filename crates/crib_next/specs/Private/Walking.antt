@@ -5,8 +5,8 @@ use Rattle.crib_text.specs.Refusals.{Refusal}
 use Rattle.crib_problem.specs.Setup.{Setup, IsSetup, at_lead, played_back}
 use Rattle.crib_plan.specs.declared.plan.Next.{Next}
 use Rattle.crib_plan.specs.declared.plan.Node.{Node}
-use Rattle.crib_input.specs.Refusals.{input_cause_number}
-use Rattle.crib_next.specs.Next.{acts_with, place_with}
+use Rattle.crib_input.specs.Refusals.{game_fault_of, input_cause_number}
+use Rattle.crib_next.specs.Next.{acts_with, place_with, turn_fault}
 use Rattle.crib_next.specs.declared.walk.WrongTurn.{WrongTurn}
 
 -- a problem has some turns more than another in its opening, which ends before the deal, and the plan is at this place
@@ -19,3 +19,7 @@ pub record IsAfter (problem : Setup) (plan : List Node) (before : List Act) (at 
 -- the refusal of a wrong turn, by the line at which the section of the turns begins
 abbrev pub wrong_line : ℕ → WrongTurn → Refusal
 wrong_line first wrong = record { line = first + wrong.number; number = input_cause_number wrong.cause }
+
+-- the cause of a wrong turn is a fault of a game exactly if its number is that of one
+abbrev pub HasCause : WrongTurn → Type 0
+HasCause wrong = game_fault_of wrong.cause ≡ turn_fault wrong.number (input_cause_number wrong.cause)

@@ -1,7 +1,7 @@
 //! Reads the problem of an input, and the plan behind it if there is one.
-ghost use Rattle.std.specs.Prelude.{◌≡◌, ◌≤◌, Err, IsOk, length};
+ghost use Rattle.std.specs.Prelude.{◌≡◌, ◌≤◌, Err, IfErr, IsOk, None, length};
 ghost use Rattle.crib_input.specs.Memory.{count_of_input};
-ghost use Rattle.crib_input.specs.Refusals.{ReadsAs};
+ghost use Rattle.crib_input.specs.Refusals.{FitsFault, ReadsAs};
 ghost use Rattle.crib_input.specs.declared.reason.FaultCause.TheVariants.{NoMemory};
 ghost use Rattle.crib_input.specs.declared.reason.Reason.TheVariants.{Fault};
 ghost use Rattle.crib_sheet.specs.Asked.{asked_of_input};
@@ -26,6 +26,7 @@ pub(crate) struct Asked<A: Allocator> {
 pub(crate) fn asked_of<A: Allocator + Copy>(alloc: A, input: &[u8]) -> Result<Asked<A>, Reason>
     requires { length input.now ≤ MAX_INPUT }
     ensures read { ReadsAs (λ asked. (asked.problem, asked.plan)) result (asked_of_input input.now) }
+    ensures cause { IfErr result (FitsFault None) }
     ensures asked { result ≡ Err (Fault NoMemory) → IsOk (count_of_input input.now) }
 {
     let mut lines = Lines::new(input)?;

@@ -2,6 +2,7 @@
 ghost use Rattle.crib_sheet.specs.Job.{sections_of};
 ghost use Rattle.crib_sheet.specs.Meaning.{SheetMeans};
 ghost use Rattle.crib_sheet.specs.Sheet.{SheetMakes};
+ghost use Rattle.crib_sheet.specs.Told.{SheetTells};
 
 use crate::answer::Sheet;
 use crate::answer::beaten::beaten_tally;
@@ -22,6 +23,8 @@ impl<A: Allocator + Copy> Asks<A> for SheetJob {
     ghost makes = { SheetMakes };
 
     ghost means = { SheetMeans };
+
+    ghost tells = { SheetTells };
 
     ghost reads = { sections_of };
 

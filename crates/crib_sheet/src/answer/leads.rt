@@ -1,10 +1,11 @@
 //! What may be played next for the problem that an input spells.
-ghost use Rattle.std.specs.Prelude.{◌≡◌, ◌≤◌, MatchResult, length};
+ghost use Rattle.std.specs.Prelude.{◌≡◌, ◌≤◌, IfErr, MatchResult, length};
 ghost use Rattle.crib_leads.specs.Leads.{AreLeads};
 ghost use Rattle.crib_run.specs.Reply.{IsOutcome};
 ghost use Rattle.crib_sheet.specs.Leads.{AreStops, IsBelow, below_text, leads_reply, wants_stops};
 ghost use Rattle.crib_sheet.specs.Private.Tries.{IsNoLeads, IsNoTurns};
 ghost use Rattle.crib_sheet.specs.Sheet.{SheetMakes};
+ghost use Rattle.crib_sheet.specs.Told.{SheetTells};
 
 use crate::answer::job::SheetJob;
 use crate::answer::to_try::tried_of;
@@ -47,7 +48,8 @@ pub(crate) fn leads_sheet<A: Allocator + Copy>(
     input: &[u8],
 ) -> Result<LeadsSheet<A>, Reason>
     requires { length input.now ≤ MAX_INPUT }
-    ensures { IsOutcome leads_reply (SheetMakes SheetJob.Leads input.now) result }
+    ensures outcome { IsOutcome leads_reply (SheetMakes SheetJob.Leads input.now) result }
+    ensures told { IfErr result (SheetTells SheetJob.Leads input.now) }
 {
     let problem = problem_of(input)?;
     let mut advice = None;

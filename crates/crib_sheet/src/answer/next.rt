@@ -1,8 +1,9 @@
 //! What comes next after the turns that an input spells.
-ghost use Rattle.std.specs.Prelude.{◌≤◌, length};
+ghost use Rattle.std.specs.Prelude.{◌≤◌, IfErr, length};
 ghost use Rattle.crib_run.specs.Reply.{IsOutcome};
 ghost use Rattle.crib_sheet.specs.Next.{next_parts_reply};
 ghost use Rattle.crib_sheet.specs.Sheet.{SheetMakes};
+ghost use Rattle.crib_sheet.specs.Told.{SheetTells};
 
 use crate::answer::job::SheetJob;
 use crib_input::Reason;
@@ -24,7 +25,8 @@ pub(crate) fn next_sheet<A: Allocator + Copy>(
     input: &[u8],
 ) -> Result<NextSheet<A>, Reason>
     requires { length input.now ≤ MAX_INPUT }
-    ensures { IsOutcome next_parts_reply (SheetMakes SheetJob.Next input.now) result }
+    ensures outcome { IsOutcome next_parts_reply (SheetMakes SheetJob.Next input.now) result }
+    ensures told { IfErr result (SheetTells SheetJob.Next input.now) }
 {
     let question = next_question_of(alloc, input)?;
     match next_of(&question) {

@@ -1,10 +1,12 @@
 //! The sheet of a plan as an answer.
-ghost use Rattle.std.specs.Prelude.{◌≡◌, ◌⊎◌, ◌≤◌, length};
+ghost use Rattle.std.specs.Prelude.{◌≡◌, ◌⊎◌, ◌≤◌, IfErr, None, length};
 ghost use Rattle.crib_text.specs.Refusals.{no_memory};
 ghost use Rattle.crib_check.specs.Verdicts.{IsRight};
+ghost use Rattle.crib_input.specs.Refusals.{FitsFault};
 ghost use Rattle.crib_run.specs.Reply.{IsOutcome, fault_reply};
 ghost use Rattle.crib_sheet.specs.PlanBeaten.{IsBest};
 ghost use Rattle.crib_sheet.specs.Sheet.{AnswersWithPlan, IsSheetOf, SheetMakes, parts_reply, verdict_status};
+ghost use Rattle.crib_sheet.specs.Told.{SheetTells};
 
 use crate::answer::asked::{Asked, asked_of};
 use crate::answer::job::SheetJob;
@@ -46,7 +48,8 @@ pub(crate) fn plan_sheet<A: Allocator + Copy>(
     input: &[u8],
 ) -> Result<PlanSheet<A>, Reason>
     requires { length input.now ≤ MAX_INPUT }
-    ensures { IsOutcome parts_reply (SheetMakes SheetJob.Plan input.now) result }
+    ensures outcome { IsOutcome parts_reply (SheetMakes SheetJob.Plan input.now) result }
+    ensures told { IfErr result (SheetTells SheetJob.Plan input.now) }
 {
     let asked = asked_of(alloc, input)?;
     let Asked { problem, plan } = asked;
@@ -62,8 +65,9 @@ fn typed_sheet<A: Allocator + Copy>(
     problem: Problem,
     plan: Plan<A>,
 ) -> Result<PlanSheet<A>, Reason>
-    ensures { IsOutcome parts_reply
+    ensures outcome { IsOutcome parts_reply
         (λ reply. IsSheetOf problem plan reply ⊎ (reply ≡ fault_reply no_memory)) result }
+    ensures told { IfErr result (FitsFault None) }
 {
     let verdict = verdict_on(alloc, &problem, &plan);
     let Ok(best) = best_beside(alloc, &problem, &verdict) else {
@@ -74,8 +78,9 @@ fn typed_sheet<A: Allocator + Copy>(
 
 // The sheet of a plan to try. The search has found that a sure one is sure.
 fn sheet_to_try<A: Allocator + Copy>(alloc: A, problem: Problem) -> Result<PlanSheet<A>, Reason>
-    ensures { IsOutcome parts_reply
+    ensures outcome { IsOutcome parts_reply
         (λ reply. AnswersWithPlan problem (IsSheetOf problem) reply ⊎ (reply ≡ fault_reply no_memory)) result }
+    ensures told { IfErr result (FitsFault None) }
 {
     let mut advice = None;
     let tried = tried_of(alloc, &problem, &mut advice)?;
@@ -100,8 +105,9 @@ fn sheet_of<A: Allocator + Copy>(
 ) -> Result<PlanSheet<A>, Reason>
     requires right { IsRight problem plan verdict }
     requires best { IsBest problem best }
-    ensures { IsOutcome parts_reply
+    ensures outcome { IsOutcome parts_reply
         (λ reply. IsSheetOf problem plan reply ⊎ (reply ≡ fault_reply no_memory)) result }
+    ensures told { IfErr result (FitsFault None) }
 {
     let Ok(outline) = Outline::of(alloc, &plan) else {
         return Err(Reason::Fault(FaultCause::NoMemory));

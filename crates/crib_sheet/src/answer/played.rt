@@ -1,7 +1,8 @@
 //! The sheet of the game that an input spells.
-ghost use Rattle.std.specs.Prelude.{◌≤◌, length};
+ghost use Rattle.std.specs.Prelude.{◌≤◌, IfErr, length};
 ghost use Rattle.crib_run.specs.Reply.{IsOutcome};
 ghost use Rattle.crib_sheet.specs.Sheet.{SheetMakes, game_parts_reply};
+ghost use Rattle.crib_sheet.specs.Told.{SheetTells};
 
 use crate::answer::game::GameSheet;
 use crate::answer::job::SheetJob;
@@ -12,7 +13,8 @@ use crib_text::MAX_INPUT;
 /// Returns the sheet of the game of an input, or its refusal. It needs no memory.
 pub(crate) fn game_sheet(input: &[u8]) -> Result<GameSheet, Reason>
     requires { length input.now ≤ MAX_INPUT }
-    ensures { IsOutcome game_parts_reply (SheetMakes SheetJob.Game input.now) result }
+    ensures outcome { IsOutcome game_parts_reply (SheetMakes SheetJob.Game input.now) result }
+    ensures told { IfErr result (SheetTells SheetJob.Game input.now) }
 {
     let played = played_of(input)?;
     match replay(&played.problem, &played.game) {

@@ -1,10 +1,12 @@
 //! A plan to try for the problem that an input spells.
-ghost use Rattle.std.specs.Prelude.{◌≡◌, ◌⊎◌, ◌≤◌, MatchResult, length};
+ghost use Rattle.std.specs.Prelude.{◌≡◌, ◌⊎◌, ◌≤◌, IfErr, MatchResult, None, length};
 ghost use Rattle.crib_text.specs.Refusals.{no_memory};
 ghost use Rattle.crib_plan.specs.Spelling.{plan_text};
+ghost use Rattle.crib_input.specs.Refusals.{FitsFault};
 ghost use Rattle.crib_run.specs.Reply.{IsOutcome, fault_reply, reply_of};
 ghost use Rattle.crib_sheet.specs.Private.Tries.{IsTried, IsUntried, tried_status};
 ghost use Rattle.crib_sheet.specs.Sheet.{SheetMakes};
+ghost use Rattle.crib_sheet.specs.Told.{SheetTells};
 
 use crate::answer::job::SheetJob;
 use crib_input::{FaultCause, Reason, problem_of};
@@ -20,7 +22,8 @@ use std::alloc::Allocator;
 /// input, a plan with more than 65,535 nodes, or an allocation that failed.
 pub(crate) fn plan_to_try<A: Allocator + Copy>(alloc: A, input: &[u8]) -> Result<Answer<A>, Reason>
     requires { length input.now ≤ MAX_INPUT }
-    ensures { IsOutcome reply_of (SheetMakes SheetJob.Try input.now) result }
+    ensures outcome { IsOutcome reply_of (SheetMakes SheetJob.Try input.now) result }
+    ensures told { IfErr result (SheetTells SheetJob.Try input.now) }
 {
     let problem = problem_of(input)?;
     let tried = tried_of(alloc, &problem, &mut None)?;
@@ -46,9 +49,10 @@ pub(crate) fn tried_of<A: Allocator + Copy>(
 // The answer with a plan as its text, or `fault 11` if the allocation for the text fails.
 #[tactic(auto, unfolding(crib_run::specs::Reply::reply_of))]
 fn plan_answer<A: Allocator + Copy>(alloc: A, tried: &Tried<A>) -> Result<Answer<A>, Reason>
-    ensures { IsOutcome reply_of (λ reply.
+    ensures outcome { IsOutcome reply_of (λ reply.
         (reply ≡ record { output = plan_text tried.now.plan; status = tried_status tried.now.is_sure })
         ⊎ (reply ≡ fault_reply no_memory)) result }
+    ensures told { IfErr result (FitsFault None) }
 {
     match write_plan(alloc, &tried.plan) {
         Ok(text) => {

@@ -4,26 +4,26 @@ use Rattle.crib_leads.specs.declared.leads.Lead.{Lead}
 use Rattle.crib_run.specs.declared.status.Status.{Status}
 use Rattle.crib_sheet.specs.Leads.{AreStops, IsBelow, below_text}
 use Rattle.crib_sheet.proofs.LeadsMade.{no_turns}
-use Rattle.crib_sheet.proofs.MadeSheets.{leads_answers, leads_made, leads_unmade}
+use Rattle.crib_sheet.proofs.MadeSheets.{fits_large, leads_answers, leads_made, leads_unmade}
 use Rattle.crib_sheet.proofs.answer.leads.leads_sheet.Goals as goal
 
-pub returns-in_err-leads : goal.returns-in_err-leads
-returns-in_err-leads g c = let none = leads_unmade _ _ _ c.in_ok-problem.ensures (no_turns _ _ c.in_err-leads.ensures) in search rules
+pub returns-in_err-leads-clause-outcome : goal.returns-in_err-leads-clause-outcome
+returns-in_err-leads-clause-outcome g c = let none = leads_unmade _ _ _ c.in_ok-problem.ensures.read (no_turns _ _ c.in_err-leads.ensures) in search rules
 
-pub returns-in_err-stops : goal.returns-in_err-stops
-returns-in_err-stops g c =
+pub returns-in_err-stops-clause-outcome : goal.returns-in_err-stops-clause-outcome
+returns-in_err-stops-clause-outcome g c =
     let p = err_from_is_err_and c.from_residual-in_err-stops.result c.from_residual-in_err-stops.ensures.1 in
-    rw (p.1, p.2) (leads_unmade _ _ _ c.in_ok-problem.ensures c.in_err-stops.ensures)
+    rw (p.1, p.2) (leads_unmade _ _ _ c.in_ok-problem.ensures.read c.in_err-stops.ensures)
 
-pub returns-in_err-below : goal.returns-in_err-below
-returns-in_err-below g c =
+pub returns-in_err-below-clause-outcome : goal.returns-in_err-below-clause-outcome
+returns-in_err-below-clause-outcome g c =
     let p = err_from_is_err_and c.from_residual-in_err-below.result c.from_residual-in_err-below.ensures.1 in
-    rw (p.1, p.2) (leads_unmade _ _ _ c.in_ok-problem.ensures c.in_err-below.ensures)
+    rw (p.1, p.2) (leads_unmade _ _ _ c.in_ok-problem.ensures.read c.in_err-below.ensures)
 
-pub returns : goal.returns
-returns g c = (
+pub returns-clause-outcome : goal.returns-clause-outcome
+returns-clause-outcome g c = (
   leads_answers c.in_ok-leads.leads.own.items c.in_ok-leads.leads.theirs.items,
-  leads_made c.args.input.now c.in_ok-problem.problem _ c.in_ok-problem.ensures (record {
+  leads_made c.args.input.now c.in_ok-problem.problem _ c.in_ok-problem.ensures.read (record {
     own = c.in_ok-leads.leads.own.items;
     theirs = c.in_ok-leads.leads.theirs.items;
     stops = c.in_ok-stops.stops.items;
@@ -38,3 +38,16 @@ returns g c = (
     written = refl;
   }),
 )
+
+pub returns-in_err-leads-clause-told : goal.returns-in_err-leads-clause-told
+returns-in_err-leads-clause-told g c = let fits = fits_large _ c.in_err-leads.ensures in search rules
+
+pub returns-in_err-stops-clause-told : goal.returns-in_err-stops-clause-told
+returns-in_err-stops-clause-told g c =
+    let p = err_from_is_err_and c.from_residual-in_err-stops.result c.from_residual-in_err-stops.ensures.1 in
+    rw (p.1, p.2) (fits_large _ c.in_err-stops.ensures)
+
+pub returns-in_err-below-clause-told : goal.returns-in_err-below-clause-told
+returns-in_err-below-clause-told g c =
+    let p = err_from_is_err_and c.from_residual-in_err-below.result c.from_residual-in_err-below.ensures.1 in
+    rw (p.1, p.2) (fits_large _ c.in_err-below.ensures)

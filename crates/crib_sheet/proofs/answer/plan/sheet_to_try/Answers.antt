@@ -1,11 +1,15 @@
 use Rattle.std.proofs.Common.{rules}
 use Rattle.crib_run.proofs.Delivery.{outcome_map}
 use Rattle.crib_sheet.specs.Sheet.{IsSheetOf, parts_reply}
-use Rattle.crib_sheet.proofs.MadeSheets.{tried_sheet, untried_sheet}
+use Rattle.crib_sheet.proofs.MadeSheets.{fits_large, tried_sheet, untried_sheet}
 use Rattle.crib_sheet.proofs.answer.plan.sheet_to_try.Goals as goal
 
-pub returns : goal.returns
-returns g c = outcome_map parts_reply _ _ (λ reply. tried_sheet _ _ _ reply c.in_ok-tried.ensures) c.sheet_of.result c.sheet_of.ensures
+pub returns-clause-outcome : goal.returns-clause-outcome
+returns-clause-outcome g c =
+    outcome_map parts_reply _ _ (λ reply. tried_sheet _ _ _ reply c.in_ok-tried.ensures) c.sheet_of.result c.sheet_of.ensures.outcome
 
-pub returns-in_err-tried : goal.returns-in_err-tried
-returns-in_err-tried g c = let none = untried_sheet c.args.problem (IsSheetOf c.args.problem) _ c.in_err-tried.ensures in search rules
+pub returns-in_err-tried-clause-outcome : goal.returns-in_err-tried-clause-outcome
+returns-in_err-tried-clause-outcome g c = let none = untried_sheet c.args.problem (IsSheetOf c.args.problem) _ c.in_err-tried.ensures in search rules
+
+pub returns-in_err-tried-clause-told : goal.returns-in_err-tried-clause-told
+returns-in_err-tried-clause-told g c = let fits = fits_large _ c.in_err-tried.ensures in search rules

@@ -1,12 +1,16 @@
 use Rattle.std.proofs.Common.{rules}
 use Rattle.crib_run.specs.Reply.{reply_of}
 use Rattle.crib_run.proofs.Delivery.{outcome_map}
-use Rattle.crib_sheet.proofs.MadeSheets.{try_made, try_unmade}
+use Rattle.crib_sheet.proofs.MadeSheets.{fits_large, try_made, try_unmade}
 use Rattle.crib_sheet.proofs.answer.to_try.plan_to_try.Goals as goal
 
-pub returns : goal.returns
-returns g c =
-    outcome_map reply_of _ _ (λ reply. try_made _ _ _ _ reply c.in_ok-problem.ensures c.in_ok-tried.ensures) c.plan_answer.result c.plan_answer.ensures
+pub returns-clause-outcome : goal.returns-clause-outcome
+returns-clause-outcome g c =
+    outcome_map reply_of _ _ (λ reply. try_made _ _ _ _ reply c.in_ok-problem.ensures.read c.in_ok-tried.ensures) c.plan_answer.result
+    c.plan_answer.ensures.outcome
 
-pub returns-in_err-tried : goal.returns-in_err-tried
-returns-in_err-tried g c = let none = try_unmade _ _ _ c.in_ok-problem.ensures c.in_err-tried.ensures in search rules
+pub returns-in_err-tried-clause-outcome : goal.returns-in_err-tried-clause-outcome
+returns-in_err-tried-clause-outcome g c = let none = try_unmade _ _ _ c.in_ok-problem.ensures.read c.in_err-tried.ensures in search rules
+
+pub returns-in_err-tried-clause-told : goal.returns-in_err-tried-clause-told
+returns-in_err-tried-clause-told g c = let fits = fits_large _ c.in_err-tried.ensures in search rules

@@ -20,9 +20,10 @@ use Rattle.crib_plan.specs.declared.plan.Node.TheVariants.{Play as PlayNode, See
 use Rattle.crib_plan.specs.Spelling.{plan_lines, plan_text}
 use Rattle.crib_input.proofs.InputReaders.{read_question, refused}
 use Rattle.crib_next.specs.Section.{AreTurns, turns_at, turns_lines, turns_text}
-use Rattle.crib_next.specs.Input.{SpellsTurns, next_of_question, next_question_at, next_question_of_input}
-use Rattle.crib_next.specs.Next.{next_for, next_from, unless_ending}
+use Rattle.crib_next.specs.Input.{SpellsTurns, next_of_question, next_question_at, next_question_of_input, fault_of_next, fault_of_question}
+use Rattle.crib_next.specs.Next.{next_for, next_from, unless_ending, turn_fault}
 use Rattle.crib_next.specs.declared.next.NextTurn.TheVariants.{Play, Go, Wait, Over, Stuck}
+use Rattle.crib_game.specs.declared.fault.GameFault.TheVariants as faults
 
 -- the twos, the lowest first
 abbrev two_by_two : List Node
@@ -230,3 +231,17 @@ nothing_spells_turns is = (let none : 0 ≡ length (problem_section ++ plan_sect
 what_is_spelled : (input : List ℕ) (problem : Setup) (plan : List Node) (turns : List Act) → SpellsTurns input problem plan turns
     → ((IsSetup problem → ⊥) → ⊥) × ((ArePlan plan → ⊥) → ⊥) × ((AreTurns turns → ⊥) → ⊥)
 what_is_spelled input problem plan turns is = (λ none. none is.problem_is, λ none. none is.plan_is, λ none. none is.turns_are)
+
+-- ---- the fault of a game for which a turn is refused: after the end, or a stray, and none of an opening
+turn_faults : turn_fault 3 45 ≡ Some (faults.AfterEnd 3)
+turn_faults = refl
+
+stray_faults : turn_fault 3 46 ≡ Some (faults.Strays 3)
+stray_faults = refl
+
+no_turn_faults : (turn_fault 3 44 ≡ None) × (turn_fault 3 47 ≡ None)
+no_turn_faults = (refl, refl)
+
+faults_by_line : (fault_of_next 14 (Err (record { line = 17; number = 46 })) ≡ Some (faults.Strays 3))
+    × (fault_of_question (Err (record { line = 17; number = 46 })) ≡ None)
+faults_by_line = (refl, refl)

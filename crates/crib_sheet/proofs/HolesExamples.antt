@@ -78,16 +78,15 @@ no_turn : turn_lines [] (record { act = plays Owner 4; holes = 2 } ∷ []) ≡ [
 no_turn = refl
 
 -- ---- the whole
-text : (holes others : Holes) → holes.holes ≡ 12 → holes.pegs ≡ record { owner = 3; opponent = 4 } → holes.turns.items ≡ []
-    → others.holes ≡ 12 → text_with 12 after_two holes others
-    ≡ codes "pegs now: owner 3, opponent 4\nsure: 12 holes, 0 in the play and 12 in the show\n"
-unfolding digits text_with sure_text figure_line
-text holes others count pegs turns same = rw (count, pegs, turns, same) refl
-
--- four twos with a king turned up count twelve. What is sure at 0 to 0 is said if it is another number
 abbrev so_many : ℕ → Holes
 so_many count = record { pegs = record { owner = 0; opponent = 0 }; holes = count; turns = record { items = [] } }
 
+pegs_in_the_text : text_with 12 after_two (record (so_many 12) { pegs = record { owner = 3; opponent = 4 } }) (so_many 12)
+    ≡ codes "pegs now: owner 3, opponent 4\nsure: 12 holes, 0 in the play and 12 in the show\n"
+unfolding digits text_with sure_text figure_line
+pegs_in_the_text = refl
+
+-- four twos with a king turned up count twelve. What is sure at 0 to 0 is said if it is another number
 counted : holes_reply four_twos (so_many 13) None
     ≡ record { output = codes "sure: 13 holes, 1 in the play and 12 in the show\n"; status = Yes }
 unfolding digits hand_points text_with sure_text figure_line

@@ -1,4 +1,5 @@
 mod BeatenExamples
+mod DoubledExamples
 mod HolesExamples
 mod LeadsExamples
 mod MeaningExamples

@@ -1,5 +1,5 @@
 -- Worked examples of what the texts of `leads`, `next`, `scores` and `holes` guarantee.
-use Rattle.std.proofs.Common.{◌≡◌, ◌⊎◌, ◌∙◌, inl, inr, ℕ, List, [], ◌∷◌, codes, refl, sym, ap, subst, arith}
+use Rattle.std.proofs.Common.{Ok, ◌≡◌, ◌⊎◌, ◌∙◌, inl, inr, ℕ, List, [], ◌∷◌, codes, refl, sym, ap, subst, arith}
 use Rattle.std.specs.Prelude.{Bool, true, false, ◌++◌, reverse}
 use Rattle.std.specs.Fmt.{digits}
 use Rattle.crib_cards.specs.Sets.{set_where}
@@ -30,6 +30,7 @@ use Rattle.crib_sheet.specs.Leads.{HasLeads}
 use Rattle.crib_sheet.specs.LeadsText.{leads_status}
 use Rattle.crib_sheet.specs.Meaning.{IsSomeRefused, SheetMeans}
 use Rattle.crib_sheet.specs.Next.{next_text}
+use Rattle.crib_sheet.specs.Sheet.{AnswersScores}
 use Rattle.crib_sheet.specs.Scores.{above_text, count_line, scores_text}
 use Rattle.crib_sheet.specs.declared.answer.job.SheetJob.TheVariants.{Leads, Next, Scores, Holes}
 
@@ -182,6 +183,15 @@ unfolding scores_text above_text
 no_table_without_a_text input means =
     let above = front_of (above_text means.problem means.table) _ (front_of _ _ means.printed) in
     tables_begin means.table.turn _ (front_of _ _ (front_of _ _ (front_of _ _ (front_of _ _ (front_of _ _ above)))))
+
+-- a right table has the status yes, and says who is to move
+tables_are_right : (text : List ℕ) → (AnswersScores (Ok four_twos) (no text) → ⊥)
+    × ((is : AnswersScores (Ok four_twos) (yes text)) → is.0.turn ≡ turns.Opponent → ⊥)
+unfolding set_where
+tables_are_right text = (
+  λ is. (let status : No ≡ Yes = ap (λ (reply : Reply). reply.status) is.2 in absurd cc),
+  λ is turn. (let right = is.1.turn in absurd cc),
+)
 
 -- ---- `holes`: 122 holes from 0 are too many
 too_many_holes : (input text : List ℕ) (means : SheetMeans Holes input (yes text)) → means.2.0.holes ≡ 122 → ⊥

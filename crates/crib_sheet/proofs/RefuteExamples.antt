@@ -95,6 +95,7 @@ refused_problem_has_no_games reply is = is
 what_refute_means : (input text : List ℕ) (problem : Setup) (some : HasSomePlan input) →
     SheetMeans Refute input (record { output = codes "sure\n"; status = Yes })
     × (SheetMeans Refute input (record { output = codes "sure"; status = Yes }) → ⊥)
+    × (SheetMeans Refute input (record { output = codes "ssure\n"; status = Yes }) → ⊥)
     × (SpellsProblem input problem → SheetMeans Refute input (record { output = text; status = Refused }) → ⊥)
     × SheetMeans Why input (record { output = codes "fault 11\n"; status = Fault })
     × (SheetMeans Why input (record { output = codes "fault 50\n"; status = Fault }) → ⊥)
@@ -102,6 +103,7 @@ unfolding digits
 what_refute_means input text problem some = (
   (some, refl),
   λ is. (let bytes = is.1 in cc),
+  λ is. (let byte : 115 ≡ 117 = ap (λ bytes. slice_index bytes 1) is.1 in absurd (omega (arith, byte))),
   λ spelled is. is problem spelled,
   refl,
   λ is. (let digit : 53 ≡ 49 = ap (λ bytes. slice_index bytes 6) is in absurd (omega (arith, digit))),

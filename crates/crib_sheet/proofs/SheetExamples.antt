@@ -10,7 +10,7 @@ use Rattle.crib_problem.specs.Setup.{Setup}
 use Rattle.crib_plan.specs.declared.plan.Node.{Node}
 use Rattle.crib_game.specs.declared.following.ending.Ending.TheVariants.{Short}
 use Rattle.crib_input.specs.Spelled.{SpellsPlan, SpellsProblem}
-use Rattle.crib_input.specs.declared.sections.Sections.TheVariants.{Problem, Question, Played}
+use Rattle.crib_input.specs.declared.sections.Sections.TheVariants.{Problem, Question, Played, Turns}
 use Rattle.crib_run.specs.declared.status.Status.TheVariants.{Yes, No, Refused, Fault}
 use Rattle.crib_input.proofs.EmptyExamples.{no_plan_in_nothing, no_problem_in_nothing}
 use Rattle.crib_game_sheet.specs.Heading.{goal_line, heading_text, opening_line, own_line, scores_line}
@@ -23,6 +23,7 @@ use Rattle.crib_plan_sheet.specs.PlanText.{label, paragraph_text, rank_words, sh
 use Rattle.crib_sheet.specs.PlanBeaten.{AreBeating, IsLeast, beating_text, best_text}
 use Rattle.crib_sheet.specs.PlanHead.{position_text, turn_line}
 use Rattle.crib_sheet.specs.declared.answer.job.SheetJob.TheVariants.{Plan, Game as GameJob, Beaten, Try, Refute, Why}
+use Rattle.crib_sheet.specs.declared.answer.job.SheetJob.TheVariants.{Leads, Next, Scores, Holes}
 use Rattle.crib_sheet.specs.Job.{job_called, sections_of}
 use Rattle.crib_sheet.specs.Sheet.{game_reply, verdict_status}
 use Rattle.crib_sheet.specs.Meaning.{AsksAbout, BeatenMeans, GameMeans, PlanMeans, SheetMeans}
@@ -31,11 +32,12 @@ use Rattle.crib_sheet.specs.Meaning.{AsksAbout, BeatenMeans, GameMeans, PlanMean
 jobs_and_statuses : (game : Game) →
     (map job_called (codes "plan" ∷ codes "game" ∷ codes "beaten" ∷ codes "try" ∷ codes "refute" ∷ codes "why" ∷ codes "check" ∷ codes "pplan" ∷ [])
     ≡ Ok Plan ∷ Ok GameJob ∷ Ok Beaten ∷ Ok Try ∷ Ok Refute ∷ Ok Why ∷ Err (record {}) ∷ Err (record {}) ∷ [])
-    × (map sections_of (Plan ∷ GameJob ∷ Beaten ∷ Try ∷ Refute ∷ Why ∷ [])
-    ≡ Question ∷ Played ∷ Question ∷ Problem ∷ Problem ∷ Problem ∷ [])
+    × (map job_called (codes "leads" ∷ codes "next" ∷ codes "scores" ∷ codes "holes" ∷ []) ≡ Ok Leads ∷ Ok Next ∷ Ok Scores ∷ Ok Holes ∷ [])
+    × (map sections_of (Plan ∷ GameJob ∷ Beaten ∷ Try ∷ Refute ∷ Why ∷ Leads ∷ Next ∷ Scores ∷ Holes ∷ [])
+    ≡ Question ∷ Played ∷ Question ∷ Problem ∷ Problem ∷ Problem ∷ Problem ∷ Turns ∷ Problem ∷ Problem ∷ [])
     × (map verdict_status (Holds ∷ Fails Short game ∷ []) ≡ Yes ∷ No ∷ [])
     × (game_reply (codes "a") ≡ record { output = codes "a"; status = Yes })
-jobs_and_statuses game = (refl, refl, refl, refl)
+jobs_and_statuses game = (refl, refl, refl, refl, refl)
 
 -- ---- what a sheet means. What crib_check shows of the two plans is assumed here
 a_sure_plan : (input : List ℕ) → SpellsPlan input at_29 ace_or_two → IsSure at_29 ace_or_two → GoesOn at_29 ace_or_two → Ends at_29 →

@@ -17,15 +17,17 @@ pub struct Ladder {
     pub rungs: [Demand; RUNGS],
 }
 
-// How many rungs of a ladder of hands or of cribs a deal may meet. The classes have no more.
-const FEW: u8 = 7;
+// How many rungs tell the hands of a choice apart, and how many the cribs.
+const HAND_RUNGS: u8 = 6;
+
+const CRIB_RUNGS: u8 = 8;
 
 /// By which points of the show deals have their grades. From one rung of a ladder to the next it is a point.
 #[derive(Clone, Copy)]
 pub(crate) enum Scale {
-    /// By those of the opponent's hand.
+    /// By those of the opponent's hand, and of the least hands by those of the crib.
     Hands,
-    /// By those of the crib.
+    /// By those of the crib, and where it has enough by those of the opponent's hand.
     Cribs,
     /// By those of the opponent's hand and crib together.
     Totals,
@@ -34,22 +36,17 @@ pub(crate) enum Scale {
 impl Scale {
     /// The ladder for the deals of a choice of ranks.
     pub(crate) fn ladder<A: Allocator>(self, choices: &Choices<A>, choice: &Choice) -> Ladder {
-        let mut rungs = [Demand::none(); RUNGS];
+        let mut rungs = [Demand::impossible(); RUNGS];
         for rung in 0..15u8 {
             rungs[rung as usize] = match self {
-                Scale::Hands if rung < FEW => Demand {
-                    hand: choice.hand.saturating_add(6 - rung),
-                    ..Demand::none()
-                },
-                Scale::Cribs if rung < FEW => Demand {
-                    crib: choices.crib.saturating_sub(6 - rung),
-                    ..Demand::none()
-                },
+                Scale::Hands if rung < HAND_RUNGS => least_hand(choice, HAND_RUNGS - rung),
+                Scale::Hands => least_crib(choices, (HAND_RUNGS + CRIB_RUNGS).saturating_sub(rung)),
+                Scale::Cribs if rung < CRIB_RUNGS => least_crib(choices, CRIB_RUNGS - rung),
+                Scale::Cribs => least_hand(choice, (HAND_RUNGS + CRIB_RUNGS).saturating_sub(rung)),
                 Scale::Totals => Demand {
                     total: choices.total.saturating_sub(rung),
                     ..Demand::none()
                 },
-                _ => Demand::impossible(),
             };
         }
         Ladder { rungs }
@@ -57,32 +54,57 @@ impl Scale {
 
     /// The classes of deals that have a grade.
     pub(crate) fn classes(self, grade: usize) -> Classes {
+        let (hands, cribs) = (HAND_RUNGS as usize, CRIB_RUNGS as usize);
         match self {
-            Scale::Hands => hands_at(grade),
-            Scale::Cribs => cribs_at(grade),
             Scale::Totals => totals_at(grade),
+            _ if grade > hands + cribs => 0,
+            Scale::Hands if grade < hands => hands_above(hands - grade),
+            Scale::Hands => hands_above(0) & cribs_below(hands + cribs - grade),
+            Scale::Cribs if grade < cribs => cribs_below(cribs - grade),
+            Scale::Cribs => cribs_below(0) & hands_above(hands + cribs - grade),
         }
     }
 }
 
-fn hands_at(grade: usize) -> Classes {
-    if grade == 0 || grade > 7 {
-        return 0;
+// The demand that a hand has fewer points than so many above the least hand of a choice. None is asked for no points.
+fn least_hand(choice: &Choice, above: u8) -> Demand {
+    if above == 0 {
+        return Demand::impossible();
     }
-    FROM_HAND[7 - grade] & !FROM_HAND[8 - grade]
+    Demand {
+        hand: choice.hand.saturating_add(above).saturating_sub(1),
+        ..Demand::none()
+    }
 }
 
-fn cribs_at(grade: usize) -> Classes {
-    if grade == 0 {
-        return FROM_CRIB[6];
+// The demand that the crib lacks fewer points than so many.
+fn least_crib<A: Allocator>(choices: &Choices<A>, lacking: u8) -> Demand {
+    if lacking == 0 {
+        return Demand::impossible();
     }
-    if grade > 7 {
+    Demand {
+        crib: choices.crib.saturating_add(1).saturating_sub(lacking),
+        ..Demand::none()
+    }
+}
+
+// The classes of hands so many points above the least one.
+fn hands_above(points: usize) -> Classes {
+    if points > HAND_RUNGS as usize {
         return 0;
     }
-    if grade == 7 {
+    FROM_HAND[points] & !FROM_HAND[points + 1]
+}
+
+// The classes of cribs that lack so many points, the last one or more.
+fn cribs_below(points: usize) -> Classes {
+    if points == 0 {
         return FROM_HAND[0] & !FROM_CRIB[0];
     }
-    FROM_CRIB[6 - grade] & !FROM_CRIB[7 - grade]
+    if points > CRIB_RUNGS as usize {
+        return 0;
+    }
+    FROM_CRIB[points - 1] & !FROM_CRIB[points]
 }
 
 fn totals_at(grade: usize) -> Classes {

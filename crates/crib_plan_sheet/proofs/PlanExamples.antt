@@ -1,12 +1,13 @@
 -- Worked examples of the sheets of plans.
-use Rattle.std.specs.Prelude.{◌≡◌, ℕ, ◌==◌, true, false, refl, List, [], ◌∷◌, ◌++◌, map, nat_le, replicate, codes, None, Some}
+use Rattle.std.proofs.Common.{◌≡◌, ℕ, ◌≤◌, true, false, refl, List, [], ◌∷◌, ◌++◌, map, nat_le, replicate, codes, None, Some, arith}
+use Rattle.std.specs.Prelude.{◌==◌}
 use Rattle.crib_cards.specs.Sets.{has}
 use Rattle.crib_cards.specs.declared.letters.Letter.TheVariants.{Seen, Go}
 use Rattle.crib_plan.specs.declared.plan.Next.TheVariants.{End, To}
 use Rattle.crib_plan.specs.declared.plan.Node.{Node}
 use Rattle.crib_plan.specs.declared.plan.Node.TheVariants.{Play, See}
 use Rattle.crib_plan.specs.Spelling.{letter_bytes}
-use Rattle.crib_plan_sheet.specs.PlanOutline.{apart_in, behind_cards, first_look, is_among, looks_to_name, second_looks}
+use Rattle.crib_plan_sheet.specs.PlanOutline.{BeginsWithFirst, apart_in, behind_cards, first_look, is_among, looks_to_name, second_looks}
 use Rattle.crib_plan_sheet.specs.PlanSheet.{Row, Lines, Sheet, Over, Plays, Looks, Named, NoLine, Line, OwnCard, Shown, row_for, sheet_with, sheet_card}
 
 -- a look, with the letters of each line as a plan writes them
@@ -102,3 +103,19 @@ long_plans :
     × (looks_to_name (three_eights ++ replicate 19 (See [])) ≡ End ∷ End ∷ To 3 ∷ replicate 11 End)
     × (map (is_among (End ∷ To 3 ∷ To 7 ∷ [])) (0 ∷ 3 ∷ 7 ∷ []) ≡ false ∷ true ∷ true ∷ [])
 long_plans = (refl, refl, refl, refl, refl, refl, refl)
+
+-- the last node is a card behind the first look
+card_behind_a_look : looks_to_name (See (replicate 13 End ++ To 21 ∷ []) ∷ replicate 20 (See []) ++ Play deuce End ∷ []) ≡ replicate 14 End
+card_behind_a_look = refl
+
+-- of 21 looks the first has another one in a line: the sheet of so long a plan begins without it
+begins_with_two_looks : BeginsWithFirst (λ node. false) (See (To 1 ∷ replicate 13 End) ∷ replicate 20 (See [])) → ⊥
+unfolding sheet_with
+begins_with_two_looks begins = (let deep : 2 ≤ 1 = begins refl in absurd (omega (arith, deep)))
+
+begins_with_one_look : BeginsWithFirst (λ node. node == 1) (See (To 1 ∷ replicate 13 End) ∷ replicate 20 (See []))
+unfolding sheet_with
+begins_with_one_look long = (let flat : 1 ≤ 1 = omega arith in flat)
+
+twenty_looks_begin_with_two : BeginsWithFirst (λ node. false) (See (To 1 ∷ replicate 13 End) ∷ replicate 19 (See []))
+twenty_looks_begin_with_two long = (let e = long in absurd cc)

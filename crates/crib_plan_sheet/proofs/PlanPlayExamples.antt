@@ -98,12 +98,13 @@ unfolding sheet_card
 not_from_this_sheet dealt is = (let card = is.from_sheet.1 refl in cc)
 
 -- ---- a choice: at the lead, not on the other's turn, not after the end, and not where no card fits
--- the last row: TC TD 9C make 29, the opponent says go, and of 3C 8C none fits
+-- the second row: TC TD 9C make 29, the opponent says go, and of 3C 8C none fits. The third: only 2S is left to play
 choices_of_the_owner :
     (has_choice four_twos aces [] ∷ has_choice four_twos aces (move.Card 4 ∷ []) ∷ has_choice four_twos aces (move.Card 0 ∷ move.Card 4 ∷ []) ∷
     has_choice close_to_lost pairing (move.Card 1 ∷ move.Card 0 ∷ []) ∷ [] ≡ true ∷ false ∷ true ∷ false ∷ [])
     × (has_choice (record level { hold = 36 ∷ 32 ∷ 8 ∷ 28 ∷ [] }) level_deal (move.Go ∷ move.Card 32 ∷ move.Card 37 ∷ move.Card 36 ∷ []) ≡ false)
-choices_of_the_owner = (refl, refl)
+    × (has_choice (record four_twos { dealer = Owner }) aces (map move.Card (3 ∷ 6 ∷ 2 ∷ 5 ∷ 1 ∷ 4 ∷ 0 ∷ [])) ≡ true)
+choices_of_the_owner = (refl, refl, refl)
 
 -- a sheet without a card doesn't reach the goal: at the lead it states none, though the row has ended
 no_card_is_found : ReachesGoal four_twos nothing → ⊥

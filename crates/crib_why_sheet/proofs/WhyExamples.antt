@@ -20,7 +20,7 @@ use Rattle.crib_why_sheet.specs.declared.line.WhyLine.{WhyLine}
 use Rattle.crib_why_sheet.specs.WhyPlay.{are_alike, held_with, is_flush, joined, own_name, shown_names, spread_by, spread_with, turn_name, with_turns}
 use Rattle.crib_why_sheet.specs.WhyRows.{all_with_first, are_alike_if_any, before_runs, level_below, lines_from, play_alike, play_text}
 use Rattle.crib_why_sheet.specs.WhyRows.{runs_of, show_alike, then_line, whatever_names, why_lines}
-use Rattle.crib_why_sheet.specs.WhyText.{columns_text, line_text, lines_text, range_text, spread_text}
+use Rattle.crib_why_sheet.specs.WhyText.{columns_text, line_text, lines_text, range_text, spread_text, widest_held}
 
 -- the pone holds 2S 8D 8H 8S and threw KS QS, and the starter is 5S
 abbrev eights : Setup
@@ -268,3 +268,6 @@ spreads :
     ≡ record { least = record { owner = 6; opponent = 2 }; most = record { owner = 8; opponent = 8 } })
     × (spread_by (Err (NotTurn 1)) (Some lows_and_highs) ≡ Some lows_and_highs)
 spreads = (refl, refl, refl, refl)
+
+no_line_is_wide : widest_held [] ≡ 0
+no_line_is_wide = refl

@@ -17,7 +17,7 @@ pub struct Ladder {
     pub rungs: [Demand; RUNGS],
 }
 
-// How many rungs tell the hands of a choice apart, and how many the cribs.
+// How many rungs separate the hands of a choice, and how many the cribs.
 const HAND_RUNGS: u8 = 6;
 
 const CRIB_RUNGS: u8 = 8;

@@ -10,7 +10,6 @@ from graphlib import CycleError, TopologicalSorter
 
 RANKS = "A23456789TJQK"
 LETTERS, CARD = f"{RANKS}g", f"[{RANKS}][CDHS]"
-VERDICT = "^(?:holds|reached|fails (?:stuck|lost|short))$"  # of an answer beside a plan or a game
 NUMBERS = dict(zip("ACE TWO THREE FOUR FIVE SIX SEVEN EIGHT NINE TEN JACK QUEEN KING DEUCE TREY".split(), f"{RANKS}23"))
 KEYWORDS = "problem dealer owner opponent score starter hold throw goal win holes stop played own opp go".split()
 KEYWORDS += "game acts plan nodes turns play see end".split()
@@ -268,7 +267,8 @@ def main() -> None:
         print("refused line 0: 2")
         sys.exit(2)
     *typed, last = decoded(given).split("\n")
-    lines = [(old, re.sub(VERDICT, "", plain(old))) for old in typed + [last] * bool(last)]
+    # Lines such as holds or fails stuck, of an answer beside a plan or a game, are taken out.
+    lines = [(old, re.sub("^(holds|reached|fails (stuck|lost|short))$", "", plain(old))) for old in typed + [last] * bool(last)]
     start = next((at for at, (_, line) in enumerate(lines) if SHEET.match(line)), len(lines))
     is_head = re.compile(r"(?:problem|plan|game|turns)\W*\d*", re.I).fullmatch
     top = next((at for at, (_, line) in enumerate(lines[:start]) if re.fullmatch(r"(?i)problem\W*\d", line)), 0)

@@ -268,7 +268,7 @@ def main() -> None:
         sys.exit(2)
     *typed, last = decoded(given).split("\n")
     # Lines such as holds or fails stuck, of an answer beside a plan or a game, are taken out.
-    lines = [(old, re.sub("^(holds|reached|fails (stuck|lost|short))$", "", plain(old))) for old in typed + [last] * bool(last)]
+    lines = [(old, re.sub(r"^(holds|reached|fails \w+)$", "", plain(old))) for old in typed + [last] * bool(last)]
     start = next((at for at, (_, line) in enumerate(lines) if SHEET.match(line)), len(lines))
     is_head = re.compile(r"(?:problem|plan|game|turns)\W*\d*", re.I).fullmatch
     top = next((at for at, (_, line) in enumerate(lines[:start]) if re.fullmatch(r"(?i)problem\W*\d", line)), 0)

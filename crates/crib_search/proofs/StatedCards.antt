@@ -26,7 +26,7 @@ use Rattle.crib_know.proofs.PassingIsAgreeing.{theirs_asked, theirs_letter}
 use Rattle.crib_cards.specs.Letters.{letter_index}
 use Rattle.crib_search.specs.Trees.{Tree, plan_of_tree, same_tree, trees_after_walk}
 use Rattle.crib_search.specs.Tried.{IsNeverStuck}
-use Rattle.crib_search.specs.Private.States.{IsOption, States, Lowest, Done, Goes, Says, Looks, in_order}
+use Rattle.crib_search.specs.Private.States.{IsOption, States, Lowest, Goes, Says, Looks, in_order}
 use Rattle.crib_search.proofs.FoundBySide.{letter_at}
 use Rattle.crib_search.proofs.Options.{left_option, option_left, no_option}
 use Rattle.crib_search.proofs.PlacesOfTrees.{Does, joined_does, play_stays}
@@ -82,7 +82,6 @@ module _ (problem : Setup) (setup : IsSetup problem) where
         goes = Lowest (Own (move.Card first) ∷ history) (in_order rest) (ap in_order (sym (left_after history first rest all)));
         plays = same ∙ ap in_order all;
       }
-  states_plays history tree card (Done h t over) asked is = absurd (let e = sym asked ∙ over in cc)
   states_plays history tree card (Goes h t owner none states) asked is = absurd (no_option problem history none card is)
   states_plays history tree card (Says h t stated next owner option same states) asked is =
       record { card = stated; next = next; option = option; goes = states; plays = same }
@@ -92,7 +91,6 @@ module _ (problem : Setup) (setup : IsSetup problem) where
   states_passes : (history : List Event) (tree : Tree) → States problem history tree → asked_now problem history ≡ turns.Owner →
       ((card : ℕ) → IsOption problem history card → ⊥) → States problem (Own move.Go ∷ history) tree
   states_passes history tree (Lowest h t same) asked none = Lowest (Own move.Go ∷ history) tree same
-  states_passes history tree (Done h t over) asked none = absurd (let e = sym asked ∙ over in cc)
   states_passes history tree (Goes h t owner none_fits states) asked none = states
   states_passes history tree (Says h t stated next owner option same states) asked none = absurd (none stated option)
   states_passes history tree (Looks h t branches theirs same count each) asked none = absurd (let e = sym asked ∙ theirs in cc)
@@ -108,7 +106,6 @@ module _ (problem : Setup) (setup : IsSetup problem) where
         goes = Lowest (Theirs letter ∷ history) tree same;
         does = λ plan place does. rw same (in_order_stays plan (own_left problem history) letter place (rw same at does));
       }
-      by (Done h t over) asked = absurd (let e = sym asked ∙ over in cc)
       by (Goes h t owner none next) asked = absurd (let e = sym asked ∙ owner in cc)
       by (Says h t stated next owner option same after) asked = absurd (let e = sym asked ∙ owner in cc)
       by (Looks h t branches theirs same count each) asked =

@@ -16,16 +16,13 @@ use Rattle.crib_know.specs.Hidden.{CanShow, KnowsAfter}
 use Rattle.crib_know.proofs.OwnCalls.{moved}
 use Rattle.crib_search.specs.Trees.{Tree, Plays, joined_tree}
 use Rattle.crib_search.specs.Finder.{letters, options}
-use Rattle.crib_search.specs.Private.States.{States, Lowest, Done, Goes, Says, Looks, StatesAfter, StatesAt, in_order}
+use Rattle.crib_search.specs.Private.States.{States, Lowest, Goes, Says, Looks, StatesAfter, StatesAt, in_order}
 use Rattle.crib_search.proofs.FoundBySide.{zip_at}
 use Rattle.crib_search.proofs.Options.{option_left}
 
 module _ (problem : Setup) (know : Knowledge) where
   asked_at : (history : List Event) → KnowsAfter know problem history → (turn : Turn) → know.round.asked ≡ turn → asked_now problem history ≡ turn
   asked_at history knows turn asked = sym (ap (λ (k : Knowledge). k.round.asked) knows.knowledge) ∙ asked
-
-  pub states_done : know.round.asked ≡ turns.Over → (tree : Tree) → StatesAt problem know tree
-  states_done over tree history knows = Done history tree (asked_at history knows turns.Over over)
 
   pub states_lowest : (cards : List ℕ) → cards ≡ know.own_left → (tree : Tree) → tree ≡ in_order cards → StatesAt problem know tree
   states_lowest cards left tree same history knows =

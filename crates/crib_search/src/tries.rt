@@ -8,9 +8,11 @@ ghost use Rattle.crib_search.specs.Tried.{IsNeverStuck};
 ghost use Rattle.crib_search.specs.Winnable.{IsWinnable};
 
 mod advice;
+mod cases;
 mod choices;
 mod choosing;
 mod closing;
+mod favour;
 mod grades;
 mod guide;
 mod ledger;
@@ -24,11 +26,13 @@ mod splitting;
 mod spot;
 mod survey;
 mod tape;
+mod trails;
 
 use crate::finder::{Found, SearchFault, find, plan_from};
 use crate::nodes::{DraftPlace, Nodes};
 use crate::tries::planner::{lowest_first, make_plan};
 pub use advice::Advice;
+pub use cases::Case;
 use crib_cards::Card;
 use crib_know::Know;
 use crib_plan::Plan;

@@ -30,7 +30,6 @@ in_order (card ∷ cards) = Plays card (in_order cards)
 pub data States (problem : Setup) : List Event → Tree → Type 0 where
   Lowest : (history : List Event) (tree : Tree) → tree ≡ in_order (own_left problem history) →
       States problem history tree
-  Done : (history : List Event) (tree : Tree) → asked_now problem history ≡ turns.Over → States problem history tree
   Goes : (history : List Event) (tree : Tree) → asked_now problem history ≡ turns.Owner → options problem history ≡ [] →
       States problem (Own move.Go ∷ history) tree → States problem history tree
   Says : (history : List Event) (tree : Tree) (card : ℕ) (next : Tree) → asked_now problem history ≡ turns.Owner →

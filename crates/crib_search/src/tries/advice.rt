@@ -52,7 +52,13 @@ impl<A: Allocator + Copy> Advice<A> {
 
     /// A guide for the opponent, as the search found it. It fails if an allocation fails.
     pub fn guide(&self, alloc: A) -> Result<Guide<'_, A>, AllocError> {
-        Guide::of(alloc, &self.survey, self.spot)
+        let mut beaten = u64::MAX;
+        for index in 0..self.starts.len() {
+            if let Some(start) = self.starts.get(index) {
+                beaten = beaten.min(start.beaten);
+            }
+        }
+        Guide::of(alloc, &self.survey, self.spot, beaten)
     }
 
     /// The places at which the owner has a choice.
@@ -157,12 +163,18 @@ impl<A: Allocator + Copy> Advice<A> {
         }
         let next = self.survey.places.len();
         let forced = self.survey.look(alloc, problem, know)?;
+        let (beaten, cases) = choose(alloc, &mut self.survey, next, forced)?;
         let start = Start {
             rank,
             next,
             end: self.survey.places.len(),
-            beaten: choose(alloc, &mut self.survey, next, forced)?,
+            beaten,
         };
+        if start.rank.is_none() {
+            let spot = Spot::at(start.next, start.end);
+            self.survey.cases = cases;
+            self.survey.trace_all(problem, know, &spot)?;
+        }
         self.starts.push(start)?;
         Ok(start)
     }

@@ -1,5 +1,6 @@
 //! Which card is chosen at each place, so that few deals beat the plan.
 
+use crate::tries::cases::Cases;
 use crate::tries::choices::{Choices, Classes};
 use crate::tries::ledger::Ledger;
 use crate::tries::matching::Matching;
@@ -34,13 +35,14 @@ pub(crate) struct Choosing<'a, A: Allocator> {
 }
 
 /// Chooses a card at each place from an index on. The classes of each choice of ranks that beat the owner in any case
-/// are given. Returns how many deals beat the cards that are chosen. It fails if an allocation fails.
+/// are given. Returns how many deals beat the cards that are chosen, and the cases that show that no fewer can. It
+/// fails if an allocation fails.
 pub(crate) fn choose<A: Allocator + Copy>(
     alloc: A,
     survey: &mut Survey<A>,
     first: usize,
     forced: Vec<Classes, A>,
-) -> Result<u64, AllocError> {
+) -> Result<(u64, Cases<A>), AllocError> {
     let Survey {
         choices,
         places,
@@ -68,15 +70,17 @@ pub(crate) fn choose<A: Allocator + Copy>(
     let end = choosing.net.nodes.len();
     choosing.choose_all((0, end), false, DEPTH);
     choosing.improve()?;
+    let mut cases = Cases::new(alloc);
     if beaten.saturating_add(choosing.least) <= choices.open_deals() / NEAR {
         let mut matching = choosing.learn(alloc)?;
         tape.learned.push((first, places.len()))?;
         choosing.keep_on(tape, places, &matching)?;
-        choosing.split(alloc, &mut matching)?;
+        cases = choosing.split(alloc, places, &mut matching)?;
     }
     choosing.restore();
+    choosing.enrich_all(places, (0, end), DEPTH);
     choosing.net.choose_at(places);
-    Ok(beaten.saturating_add(choosing.least))
+    Ok((beaten.saturating_add(choosing.least), cases))
 }
 
 impl<A: Allocator + Copy> Choosing<'_, A> {
@@ -114,8 +118,8 @@ impl<A: Allocator + Copy> Choosing<'_, A> {
         least.saturating_add(self.ledger.step()) > self.least
     }
 
-    // Keeps on a tape what was learned.
-    fn keep_on(
+    /// Keeps on a tape what was learned.
+    pub(crate) fn keep_on(
         &self,
         tape: &mut Tape<A>,
         places: &Places<A>,
@@ -188,6 +192,8 @@ impl<A: Allocator + Copy> Choosing<'_, A> {
 
     // Takes the best choices.
     fn restore(&mut self) {
+        let all = (0, self.net.nodes.len());
+        self.pass_all(all, true, DEPTH);
         for index in 0..self.net.nodes.len() {
             if let Some(node) = self.net.nodes.get_mut(index) {
                 if let Some(choice) = self.kept.get(index) {
@@ -195,6 +201,55 @@ impl<A: Allocator + Copy> Choosing<'_, A> {
                 }
             }
         }
+        self.pass_all(all, false, DEPTH);
+    }
+
+    // Takes the cards that score most at the nodes between two indices, side by side, and at those behind them, where
+    // no more deals beat the plan then.
+    #[cycle(enriching)]
+    fn enrich_all(&mut self, places: &Places<A>, range: (usize, usize), depth: u8) {
+        let (first, end) = range;
+        let mut index = first;
+        for _ in first..end {
+            if index >= end {
+                break;
+            }
+            self.enrich(places, index, depth);
+            index = self.net.past(index);
+        }
+    }
+
+    // The same for a node.
+    #[cycle(enriching)]
+    fn enrich(&mut self, places: &Places<A>, index: usize, depth: u8) {
+        let Some(node) = self.net.node(index) else {
+            return;
+        };
+        if depth == 0 {
+            return;
+        }
+        let richest = self.net.richest(places, &node);
+        if richest != node.choice {
+            let beaten = self.ledger.beaten;
+            self.turn(index, richest, depth);
+            if self.ledger.beaten > beaten {
+                self.turn(index, node.choice, depth);
+            }
+        }
+        if let Some(node) = self.net.node(index) {
+            if let Some(edge) = self.net.edge(node.choice) {
+                self.enrich_all(places, (edge.next, edge.end), depth - 1);
+            }
+        }
+    }
+
+    // Chooses an edge at a node from which on the chosen ones pass.
+    fn turn(&mut self, index: usize, edge: usize, depth: u8) {
+        self.pass_node(index, true, depth);
+        if let Some(node) = self.net.nodes.get_mut(index) {
+            node.choice = edge;
+        }
+        self.pass_node(index, false, depth);
     }
 
     // Takes the choices that were learned: those that were played most, or the best against what was played.

@@ -1,16 +1,18 @@
 //! What a survey notes of a place.
 
 use crate::tries::choices::Classes;
-use crate::tries::places::{Branch, Hit};
+use crate::tries::places::{Branch, Hit, Place};
 use crate::tries::survey::Survey;
 use std::alloc::{AllocError, Allocator};
 
 impl<A: Allocator + Copy> Survey<A> {
     /// Closes a place above a level between two indices. The levels after each of its cards are above that, and have
-    /// its entries in the same order. It fails if an allocation fails.
+    /// its entries in the same order. The number of its card that scores most is given. It fails if an allocation
+    /// fails.
     pub(crate) fn close(
         &mut self,
         index: usize,
+        richest: usize,
         base: usize,
         end: usize,
     ) -> Result<(), AllocError> {
@@ -19,8 +21,12 @@ impl<A: Allocator + Copy> Survey<A> {
         };
         let size = end.saturating_sub(base);
         let mut open = [false; 4];
-        for one in 0..place.count.min(4) {
-            open[one] = !self.is_dropped(one, &open, place.count, (end, size));
+        for at in 0..place.count.min(4) {
+            let one = number_from(richest, at).min(3);
+            match self.instead_of(one, &open, place.count, (end, size)) {
+                Some(other) => self.drop_branch(&place, one, other),
+                None => open[one] = true,
+            }
         }
         for at in 0..size {
             self.join(base.saturating_add(at), at, &open, (end, size));
@@ -33,30 +39,41 @@ impl<A: Allocator + Copy> Survey<A> {
         let last = self.places.len();
         if let Some(place) = self.places.places.get_mut(index) {
             place.end = last;
+            place.richest = richest;
         }
         Ok(())
     }
 
-    // Whether another card is as good for each deal: one of those before it that are open, or one after it that is
-    // better.
-    fn is_dropped(
+    // Another card that is as good for each deal: one that is open, or one that is better.
+    fn instead_of(
         &self,
         one: usize,
         open: &[bool; 4],
         count: usize,
         levels: (usize, usize),
-    ) -> bool {
+    ) -> Option<usize> {
         for other in 0..4usize {
             if open[other] && self.is_within(other, one, levels) {
-                return true;
+                return Some(other);
             }
         }
-        for other in one.saturating_add(1)..count {
-            if self.is_within(other, one, levels) && !self.is_within(one, other, levels) {
-                return true;
+        for other in 0..count {
+            if other != one
+                && self.is_within(other, one, levels)
+                && !self.is_within(one, other, levels)
+            {
+                return Some(other);
             }
         }
-        false
+        None
+    }
+
+    // Drops a branch, since another one is as good.
+    fn drop_branch(&mut self, place: &Place, one: usize, other: usize) {
+        let index = place.branch.saturating_add(one);
+        if let Some(branch) = self.places.branches.get_mut(index) {
+            branch.instead = other;
+        }
     }
 
     // Whether each class that beats the owner at the worst after one card does in any case after another.
@@ -129,6 +146,17 @@ impl<A: Allocator + Copy> Survey<A> {
             self.places.put_branch(index, one, open);
         }
         Ok(())
+    }
+}
+
+// The number of a card, if one with a number comes first, and the others in their order.
+fn number_from(first: usize, at: usize) -> usize {
+    if at == 0 {
+        first
+    } else if at <= first {
+        at - 1
+    } else {
+        at
     }
 }
 

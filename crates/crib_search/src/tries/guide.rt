@@ -1,9 +1,8 @@
 //! A guide for the opponent: how much of the open deals they keep for each turn, as a search found.
 
-use crate::tries::choices::Choices;
+use crate::tries::cases::Case;
 use crate::tries::grades::{GRADES, Ladder, RUNGS, Scale};
 use crate::tries::matching::ONE;
-use crate::tries::places::Places;
 use crate::tries::spot::Spot;
 use crate::tries::survey::Survey;
 use crate::tries::tape::{Stop, Tape, Visit};
@@ -16,10 +15,12 @@ use std::alloc::{AllocError, Allocator};
 /// it meets in a row.
 #[derive(Drop)]
 pub struct Guide<'a, A: Allocator> {
-    choices: &'a Choices<A>,
-    places: &'a Places<A>,
+    survey: &'a Survey<A>,
+    // What was learned in the case that is taken.
     tape: &'a Tape<A>,
     start: Spot,
+    // How many deals beat the best plan that was found.
+    beaten: u64,
     scale: Scale,
     // What goes to the stops, and for each stop the index of the first flow and the index past the last one.
     flows: Vec<Flow, A>,
@@ -46,12 +47,17 @@ struct Note {
 
 impl<'a, A: Allocator + Copy> Guide<'a, A> {
     /// The guide that a survey gives. It fails if an allocation fails.
-    pub(crate) fn of(alloc: A, survey: &'a Survey<A>, start: Spot) -> Result<Self, AllocError> {
+    pub(crate) fn of(
+        alloc: A,
+        survey: &'a Survey<A>,
+        start: Spot,
+        beaten: u64,
+    ) -> Result<Self, AllocError> {
         let mut guide = Guide {
-            choices: &survey.choices,
-            places: &survey.places,
+            survey,
             tape: &survey.tape,
             start,
+            beaten,
             scale: survey.tape.scale(&survey.choices),
             flows: Vec::new(alloc),
             ranges: Vec::new(alloc),
@@ -62,12 +68,58 @@ impl<'a, A: Allocator + Copy> Guide<'a, A> {
         for _ in 0..GRADES * CHOICES {
             guide.notes.push(Note::default())?;
         }
-        for index in 0..survey.tape.stops.len() {
-            if let Some(stop) = survey.tape.stops.get(index) {
-                guide.add_flows(stop)?;
+        guide.take(guide.whole())?;
+        Ok(guide)
+    }
+
+    /// How many deals beat the best plan that the search found.
+    pub fn beaten(&self) -> u64 {
+        self.beaten
+    }
+
+    /// The case in which no card is fixed.
+    pub fn whole(&self) -> Case {
+        Case { index: 0 }
+    }
+
+    /// Takes what was learned in a case. It fails if an allocation fails.
+    pub fn take(&mut self, case: Case) -> Result<(), AllocError> {
+        self.tape = match self.survey.cases.tape(case.index) {
+            Some(tape) => tape,
+            None => &self.survey.tape,
+        };
+        self.flows.truncate(0);
+        self.ranges.truncate(0);
+        self.is_noted = false;
+        for index in 0..self.tape.stops.len() {
+            if let Some(stop) = self.tape.stops.get(index).copied() {
+                self.add_flows(&stop)?;
             }
         }
-        Ok(guide)
+        Ok(())
+    }
+
+    /// The turns since the opening that lead to the place of the owner at which a case is split, the first one first,
+    /// if it is split. For each there is the index of its letter, and 14 more if the turn is the owner's.
+    pub fn question(&self, case: Case) -> Option<&[u8]> {
+        self.survey.cases.turns(case.index)
+    }
+
+    /// The case in which the owner plays a card of a rank at the place at which another one is split, or one that is as
+    /// good against each deal.
+    pub fn answer(&self, case: Case, rank: Rank) -> Case {
+        let cases = &self.survey.cases;
+        let Some(place) = cases.place(case.index) else {
+            return case;
+        };
+        let rank = match self.survey.places.as_good(place, rank) {
+            Some(other) => other,
+            None => rank,
+        };
+        match cases.answer(case.index, rank) {
+            Some(index) => Case { index },
+            None => case,
+        }
     }
 
     // Adds what goes to a stop.
@@ -84,13 +136,17 @@ impl<'a, A: Allocator + Copy> Guide<'a, A> {
 
     // Adds what a visit brings of each entry.
     fn add_parts(&mut self, visit: &Visit) -> Result<(), AllocError> {
-        let Some(choice) = self.choices.get(visit.choice) else {
+        let Some(choice) = self.survey.choices.get(visit.choice) else {
             return Ok(());
         };
         for grade in 0..GRADES {
             let classes = self.scale.classes(grade);
-            let all = u64::from(self.choices.count(visit.choice, classes));
-            let part = u64::from(self.choices.count(visit.choice, classes & visit.classes));
+            let all = u64::from(self.survey.choices.count(visit.choice, classes));
+            let part = u64::from(
+                self.survey
+                    .choices
+                    .count(visit.choice, classes & visit.classes),
+            );
             if part > 0 && all > 0 {
                 self.flows.push(Flow {
                     entry: choice.index.saturating_mul(GRADES).saturating_add(grade),
@@ -106,10 +162,10 @@ impl<'a, A: Allocator + Copy> Guide<'a, A> {
         let mut ladders = [Ladder {
             rungs: [Demand::none(); RUNGS],
         }; CHOICES];
-        for number in 0..self.choices.len() {
-            if let Some(choice) = self.choices.get(number) {
+        for number in 0..self.survey.choices.len() {
+            if let Some(choice) = self.survey.choices.get(number) {
                 if choice.index < CHOICES {
-                    ladders[choice.index] = self.scale.ladder(self.choices, choice);
+                    ladders[choice.index] = self.scale.ladder(&self.survey.choices, choice);
                 }
             }
         }
@@ -123,7 +179,7 @@ impl<'a, A: Allocator + Copy> Guide<'a, A> {
 
     /// The spot after a card of a rank, if the owner had a choice at another.
     pub fn after_card(&self, spot: &Spot, rank: Rank) -> Spot {
-        self.places.after_card(spot, rank)
+        self.survey.places.after_card(spot, rank)
     }
 
     /// Notes how much of the entries goes to the stops ahead of a spot, of those that go to a stop since the last card.
@@ -147,8 +203,8 @@ impl<'a, A: Allocator + Copy> Guide<'a, A> {
     pub fn note_here(&mut self, spot: &Spot) {
         self.number = self.number.saturating_add(1);
         self.is_noted = false;
-        if let Some(place) = self.places.index_at(spot) {
-            self.is_noted = self.tape.is_learned(place);
+        if let Some(place) = self.survey.places.index_at(spot) {
+            self.is_noted = self.survey.tape.is_learned(place);
             let index = self.tape.first_stop(place);
             if let Some(stop) = self.tape.stops.get(index) {
                 if stop.place == place {

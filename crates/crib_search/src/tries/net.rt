@@ -3,6 +3,7 @@
 use crate::tries::choices::Classes;
 use crate::tries::ledger::Ledger;
 use crate::tries::places::{Branch, Place, Places};
+use crib_cards::Rank;
 use std::alloc::{AllocError, Allocator};
 
 /// No more choices of the owner are one behind another.
@@ -260,6 +261,26 @@ impl<A: Allocator + Copy> Net<A> {
     /// The edge at an index.
     pub(crate) fn edge(&self, index: usize) -> Option<Edge> {
         self.edges.get(index).copied()
+    }
+
+    /// The rank of the card of an edge of a node.
+    pub(crate) fn rank_of(&self, places: &Places<A>, node: &Node, at: usize) -> Option<Rank> {
+        let place = places.place(node.place)?;
+        Some(places.branch(&place, self.edge(at)?.branch)?.rank)
+    }
+
+    /// The index of the edge of a node whose card scores most. If no edge has that card, it is that of the chosen edge.
+    pub(crate) fn richest(&self, places: &Places<A>, node: &Node) -> usize {
+        if let Some(place) = places.place(node.place) {
+            for at in node.edge..node.edge_end {
+                if let Some(edge) = self.edge(at) {
+                    if edge.branch == place.richest {
+                        return at;
+                    }
+                }
+            }
+        }
+        node.choice
     }
 
     /// The index past a node and those behind it.

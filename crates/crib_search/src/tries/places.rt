@@ -18,6 +18,8 @@ pub(crate) struct Place {
     pub(crate) count: usize,
     /// Which branch is chosen.
     pub(crate) choice: usize,
+    /// Which branch scores most.
+    pub(crate) richest: usize,
 }
 
 /// A card that the owner may play at a place.
@@ -32,8 +34,9 @@ pub(crate) struct Branch {
     pub(crate) hit: usize,
     /// The index past that.
     pub(crate) hit_end: usize,
-    /// Whether no other card is as good for each deal.
+    /// Whether no other card is as good for each deal. If one is, its number.
     pub(crate) is_open: bool,
+    pub(crate) instead: usize,
 }
 
 impl Branch {
@@ -46,6 +49,7 @@ impl Branch {
             hit: 0,
             hit_end: 0,
             is_open: false,
+            instead: 0,
         }
     }
 }
@@ -84,6 +88,7 @@ impl<A: Allocator + Copy> Places<A> {
             branch: self.branches.len(),
             count,
             choice: 0,
+            richest: 0,
         })?;
         for _ in 0..count {
             self.branches.push(Branch::after(Rank::default(), 0, 0))?;
@@ -213,6 +218,42 @@ impl<A: Allocator + Copy> Places<A> {
             }
         }
         *spot
+    }
+
+    /// The branch of the place at a spot behind which the place with an index lies.
+    pub(crate) fn branch_to(&self, spot: &Spot, index: usize) -> Option<Branch> {
+        let place = self.place_at(spot)?;
+        for number in 0..place.count {
+            let branch = self.branch(&place, number)?;
+            if branch.next <= index && index < branch.end {
+                return Some(branch);
+            }
+        }
+        None
+    }
+
+    /// The rank of the open card that is as good for each deal as one of a rank at the place with an index.
+    pub(crate) fn as_good(&self, index: usize, rank: Rank) -> Option<Rank> {
+        let place = self.place(index)?;
+        for number in 0..place.count {
+            let branch = self.branch(&place, number)?;
+            if branch.rank == rank {
+                return self.open_rank(&place, &branch);
+            }
+        }
+        None
+    }
+
+    // The rank of the open card that is as good as that of a branch.
+    fn open_rank(&self, place: &Place, branch: &Branch) -> Option<Rank> {
+        let mut best = *branch;
+        for _ in 0..place.count {
+            if best.is_open {
+                return Some(best.rank);
+            }
+            best = self.branch(place, best.instead)?;
+        }
+        None
     }
 
     /// Whether a choice lies ahead of a spot.

@@ -1,5 +1,5 @@
 //! The plan that plays the chosen cards.
-ghost use Rattle.std.specs.Prelude.{◌≡◌, ◌+◌, ◌≤◌, ◌<◌, length, IsTrue, IfOk};
+ghost use Rattle.std.specs.Prelude.{◌≡◌, ◌+◌, ◌≤◌, ◌<◌, ℕ, length, IsTrue, IfOk};
 ghost use Rattle.crib_cards.specs.Cards.{card_value};
 ghost use Rattle.crib_cards.specs.Sets.{has};
 ghost use Rattle.crib_play.specs.Record.{count_of};
@@ -12,8 +12,10 @@ ghost use Rattle.crib_search.specs.Tried.{IsNeverStuck};
 use crate::join::join;
 use crate::nodes::{DraftNode, DraftPlace, Nodes};
 use crate::own_options::options;
-use crate::tries::places::Places;
+use crate::tries::favour::safest;
+use crate::tries::places::{Branch, Places};
 use crate::tries::spot::Spot;
+use crate::tries::survey::card_at;
 use arrayvec::ArrayVec;
 use crib_cards::{Card, CardSet, Letter, Rank};
 use crib_know::Know;
@@ -69,19 +71,15 @@ pub(crate) fn lowest_first<A: Allocator + Copy>(
 }
 
 impl<A: Allocator + Copy> Planner<'_, A> {
-    /// The place at which the plan goes on from this knowledge. If no choice lies ahead, the owner plays the lowest
-    /// card first.
+    /// The place at which the plan goes on from this knowledge.
     #[cycle(planning)]
     pub(crate) fn place_at(&mut self, problem: &Problem, know: &Know, spot: &Spot) -> Placed
         requires here { IsHere problem.now know.now }
         ensures kept { IsMore self.old.nodes self.new.nodes }
         ensures planned { IfOk result (IsPlanned self.new.nodes (StatesAt problem.now know.now)) }
     {
-        if !self.places.are_ahead(spot) {
-            return lowest_first(&mut self.nodes, know.own_left());
-        }
         match know.turn() {
-            Turn::Over => Ok(DraftPlace::End),
+            Turn::Over => lowest_first(&mut self.nodes, know.own_left()),
             Turn::Owner => self.own_place(problem, know, spot),
             Turn::Opponent => self.their_place(problem, know, spot),
         }
@@ -100,7 +98,7 @@ impl<A: Allocator + Copy> Planner<'_, A> {
             next.own_go();
             return self.place_at(problem, &next, spot);
         }
-        let (card, after) = chosen(self.places, spot, &cards[..len]);
+        let (card, after) = chosen(self.places, know, spot, &cards[..len]);
         self.place_with(problem, know, card, &after)
     }
 
@@ -119,13 +117,17 @@ impl<A: Allocator + Copy> Planner<'_, A> {
         self.nodes.place_of(&DraftNode::Play { card, next })
     }
 
-    // The same if the opponent is to move. The letters go in their order.
+    // The same if the opponent is to move. The letters go in their order. If no choice lies ahead, the owner plays the
+    // lowest card first.
     #[cycle(planning)]
     fn their_place(&mut self, problem: &Problem, know: &Know, spot: &Spot) -> Placed
         requires turn { IsTurnOf problem.now know.now Turn.Opponent }
         ensures kept { IsMore self.old.nodes self.new.nodes }
         ensures planned { IfOk result (IsPlanned self.new.nodes (StatesAt problem.now know.now)) }
     {
+        if !self.places.are_ahead(spot) {
+            return lowest_first(&mut self.nodes, know.own_left());
+        }
         let mut nexts: ArrayVec<DraftPlace, 14> = ArrayVec::new();
         for index in 0..14u8 {
             let letter = Letter::at(index);
@@ -157,17 +159,36 @@ impl<A: Allocator + Copy> Planner<'_, A> {
     }
 }
 
-// The card that is chosen at a spot, and the spot after it. If there is no choice, it is the first.
-fn chosen<A: Allocator + Copy>(places: &Places<A>, spot: &Spot, cards: &[Card]) -> (Card, Spot)
+// The card that is chosen at a spot, and the spot after it. If there is no choice, it is the safest.
+fn chosen<A: Allocator + Copy>(
+    places: &Places<A>,
+    know: &Know,
+    spot: &Spot,
+    cards: &[Card],
+) -> (Card, Spot)
+    requires some { 0 < length cards.now }
+    requires turn { know.now.round.asked ≡ Turn.Owner }
+    requires playable { (card : ℕ) → IsTrue (has cards.now card)
+        → IsTrue (has know.now.own_left card) × (count_of know.now.round.pile + card_value card ≤ 31) }
+    ensures { IsTrue (has cards.now result.0) }
+{
+    if cards.len() > 1 {
+        let branch = places.chosen(spot);
+        if branch.is_none() {
+            return (card_at(cards, safest(know, cards)), *spot);
+        }
+        return card_of(branch, spot, cards);
+    }
+    (cards[0], *spot)
+}
+
+/// The card of a branch, and the spot after it. If there is no branch, it is the first card.
+pub(crate) fn card_of(branch: Option<Branch>, spot: &Spot, cards: &[Card]) -> (Card, Spot)
     requires { 0 < length cards.now }
     ensures { IsTrue (has cards.now result.0) }
 {
-    let first = cards[0];
-    if cards.len() == 1 {
-        return (first, *spot);
-    }
-    let Some(branch) = places.chosen(spot) else {
-        return (first, *spot);
+    let Some(branch) = branch else {
+        return (cards[0], *spot);
     };
     let card = cards[index_of(branch.rank, cards)];
     (card, spot.after_card(branch.next, branch.end))

@@ -1,9 +1,12 @@
 //! Cases: a card is fixed at the place that is most in doubt, each in turn, and both sides learn anew.
 
+use crate::tries::cases::Cases;
 use crate::tries::choosing::Choosing;
 use crate::tries::matching::{Matching, ONE};
 use crate::tries::net::{Net, Node};
+use crate::tries::places::Places;
 use crate::tries::rounds::average;
+use crate::tries::tape::Tape;
 use std::alloc::{AllocError, Allocator};
 
 // The rounds in a case.
@@ -15,14 +18,66 @@ const DEPTH: u8 = 16;
 // The guests that are heard in all cases.
 const PATIENCE: usize = 12_000_000;
 
-impl<A: Allocator + Copy> Choosing<'_, A> {
-    /// Tries what is learned in cases, until no plan can be better than the best so far.
-    pub(crate) fn split(&mut self, alloc: A, matching: &mut Matching<A>) -> Result<(), AllocError> {
-        if self.is_best(matching.least(&self.net)) {
-            return Ok(());
+/// The cases in the making.
+#[derive(Drop)]
+pub(crate) struct Splitting<'a, A: Allocator> {
+    places: &'a Places<A>,
+    cases: Cases<A>,
+    // Whether some case was left in which a plan may be better. Then no more are kept.
+    is_left: bool,
+    patience: usize,
+}
+
+/// A card of a node that is fixed in a case of which another one is a part.
+#[derive(Clone, Copy)]
+struct Fixed {
+    whole: usize,
+    node: usize,
+    edge: usize,
+}
+
+impl<A: Allocator + Copy> Splitting<'_, A> {
+    // Adds the case in which a card is fixed. Returns its index.
+    fn open(&mut self, alloc: A, net: &Net<A>, fixed: &Fixed) -> Result<usize, AllocError> {
+        if self.is_left {
+            return Ok(0);
         }
-        let mut patience = PATIENCE;
-        self.split_at(alloc, matching, &mut patience, DEPTH)
+        let next = self.cases.open(alloc)?;
+        if let Some(node) = net.node(fixed.node) {
+            self.cases.split(fixed.whole, node.place);
+            if let Some(rank) = net.rank_of(self.places, &node, fixed.edge) {
+                self.cases.put_answer(fixed.whole, rank, next)?;
+            }
+        }
+        Ok(next)
+    }
+
+    // Leaves a case in which a plan may be better.
+    fn leave(&mut self, alloc: A) {
+        self.is_left = true;
+        self.cases = Cases::new(alloc);
+    }
+}
+
+impl<A: Allocator + Copy> Choosing<'_, A> {
+    /// Tries what is learned in cases, until no plan can be better than the best so far. Returns the cases.
+    pub(crate) fn split(
+        &mut self,
+        alloc: A,
+        places: &Places<A>,
+        matching: &mut Matching<A>,
+    ) -> Result<Cases<A>, AllocError> {
+        let mut splitting = Splitting {
+            places,
+            cases: Cases::new(alloc),
+            is_left: false,
+            patience: PATIENCE,
+        };
+        if !self.is_best(matching.least(&self.net)) {
+            let whole = splitting.cases.open(alloc)?;
+            self.split_at(alloc, matching, &mut splitting, whole, DEPTH)?;
+        }
+        Ok(splitting.cases)
     }
 
     // Fixes each card at the place that is most in doubt.
@@ -31,52 +86,67 @@ impl<A: Allocator + Copy> Choosing<'_, A> {
         &mut self,
         alloc: A,
         matching: &mut Matching<A>,
-        patience: &mut usize,
+        splitting: &mut Splitting<'_, A>,
+        whole: usize,
         depth: u8,
     ) -> Result<(), AllocError> {
-        if depth == 0 {
-            return Ok(());
-        }
         let Some((index, node)) = matching.most_in_doubt(&self.net) else {
+            splitting.leave(alloc);
             return Ok(());
         };
-        let first = matching.favourite(&node);
+        if depth == 0 {
+            splitting.leave(alloc);
+            return Ok(());
+        }
+        let mut fixed = Fixed {
+            whole,
+            node: index,
+            edge: matching.favourite(&node),
+        };
+        let first = fixed.edge;
         let regrets = matching.regrets(alloc)?;
-        self.try_case(alloc, matching, &regrets, (index, first), patience, depth)?;
+        self.try_case(alloc, matching, splitting, &regrets, &fixed, depth)?;
         for at in node.edge..node.edge_end {
             if at != first {
-                self.try_case(alloc, matching, &regrets, (index, at), patience, depth)?;
+                fixed.edge = at;
+                self.try_case(alloc, matching, splitting, &regrets, &fixed, depth)?;
             }
         }
         matching.fix(index, None);
         Ok(())
     }
 
-    // Lets both sides learn in the case that an edge is played at a node. What they regretted before is given.
+    // Lets both sides learn in the case that a card is fixed. What they regretted before is given.
     #[cycle(splitting)]
     fn try_case(
         &mut self,
         alloc: A,
         matching: &mut Matching<A>,
+        splitting: &mut Splitting<'_, A>,
         regrets: &[u64],
-        case: (usize, usize),
-        patience: &mut usize,
+        fixed: &Fixed,
         depth: u8,
     ) -> Result<(), AllocError> {
-        let (index, at) = case;
-        if *patience == 0 || depth == 0 {
+        if splitting.patience == 0 || depth == 0 {
+            splitting.leave(alloc);
             return Ok(());
         }
-        matching.fix(index, Some(at));
+        let case = splitting.open(alloc, &self.net, fixed)?;
+        matching.fix(fixed.node, Some(fixed.edge));
         matching.restart(&self.net, regrets);
         for _ in 0..ROUNDS {
             matching.play(&self.net);
-            *patience = patience.saturating_sub(matching.len());
+            splitting.patience = splitting.patience.saturating_sub(matching.len());
         }
-        if self.is_best_now(matching)? {
-            return Ok(());
+        if !self.is_best_now(matching)? {
+            return self.split_at(alloc, matching, splitting, case, depth - 1);
         }
-        self.split_at(alloc, matching, patience, depth - 1)
+        if !splitting.is_left {
+            let mut tape = Tape::new(alloc);
+            self.keep_on(&mut tape, splitting.places, matching)?;
+            splitting.cases.keep(case, tape);
+        }
+        Ok(())
     }
 }
 

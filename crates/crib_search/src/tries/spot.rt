@@ -1,5 +1,7 @@
 //! Where a walk is among the places at which the owner has a choice.
 
+use crib_cards::Letter;
+
 /// Where a walk is after the last card that the owner chose: the letters since the beginning are the digits of its key.
 #[derive(Clone, Copy)]
 pub struct Spot {
@@ -32,6 +34,17 @@ impl Spot {
             .key
             .saturating_add(span.saturating_mul(u64::from(index)));
         Spot { key, span, ..*self }
+    }
+
+    /// The letter that leads on to a key.
+    pub(crate) fn letter_to(&self, key: u64) -> Letter {
+        let span = (self.span / 14).max(1);
+        let index = key.saturating_sub(self.key) / span;
+        if index < 13 {
+            Letter::at(index as u8)
+        } else {
+            Letter::Go
+        }
     }
 
     /// The spot after a card of the owner, if these places lie ahead.

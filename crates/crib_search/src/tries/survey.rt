@@ -6,7 +6,9 @@ ghost use Rattle.crib_play.specs.Record.{count_of};
 ghost use Rattle.crib_search.specs.Private.Search.{IsHere, IsTurnOf};
 
 use crate::own_options::options;
+use crate::tries::cases::Cases;
 use crate::tries::choices::{Choices, Classes, Left, fitting, one_of};
+use crate::tries::favour::richest;
 use crate::tries::places::{Branch, Places};
 use crate::tries::spot::Spot;
 use crate::tries::tape::Tape;
@@ -54,8 +56,9 @@ pub(crate) struct Survey<A: Allocator> {
     first: usize,
     /// The places that were surveyed.
     pub(crate) places: Places<A>,
-    /// What was learned of them.
+    /// What was learned of them, and the cases that were tried then.
     pub(crate) tape: Tape<A>,
+    pub(crate) cases: Cases<A>,
 }
 
 impl<A: Allocator + Copy> Survey<A> {
@@ -68,6 +71,7 @@ impl<A: Allocator + Copy> Survey<A> {
             first: 0,
             places: Places::new(alloc),
             tape: Tape::new(alloc),
+            cases: Cases::new(alloc),
         })
     }
 
@@ -161,7 +165,7 @@ impl<A: Allocator + Copy> Survey<A> {
             self.look_after(problem, know, card, spot)?;
             self.close_branch(index, at, card.rank(), next);
         }
-        self.close(index, base, end)?;
+        self.close(index, richest(know, cards), base, end)?;
         self.entries.truncate(end);
         self.first = base;
         Ok(())

@@ -11,18 +11,19 @@ use Rattle.crib_search.proofs.JoinedTrees.{draft_place_earlier}
 use Rattle.crib_search.proofs.PlannedPlaces.{left_is_card, more_trans, planned_end, planned_joined, planned_map}
 use Rattle.crib_search.proofs.PlannedPlaces.{planned_play}
 use Rattle.crib_search.proofs.PlannedPlaces.{planned_push, trees_planned}
-use Rattle.crib_search.proofs.StatedTrees.{never_shown, states_card, states_done, states_go, states_letter, states_look, states_lowest}
+use Rattle.crib_search.proofs.StatedTrees.{never_shown, states_card, states_go, states_letter, states_look, states_lowest}
 use Rattle.crib_search.proofs.tries.planner.Planner.+planning.Goals as goal
 
 -- ---- the deal is done, or nothing is left to play for
-pub place_at-returns-then-not-are_ahead-clause-planned : goal.place_at-returns-then-not-are_ahead-clause-planned
-place_at-returns-then-not-are_ahead-clause-planned g t c =
+pub their_place-returns-then-not-are_ahead-clause-planned : goal.their_place-returns-then-not-are_ahead-clause-planned
+their_place-returns-then-not-are_ahead-clause-planned g t c =
     ok_map c.lowest_first.result _ _
     (planned_map _ _ _ (states_lowest c.args.problem.now c.args.know.now c.own_left.result c.own_left.ensures)) c.lowest_first.ensures.planned
 
 pub place_at-returns-in-Over-clause-planned : goal.place_at-returns-in-Over-clause-planned
 place_at-returns-in-Over-clause-planned g t c =
-    planned_end c.args.self.now.nodes _ (states_done c.args.problem.now c.args.know.now (sym c.in-Over.ensures) _)
+    ok_map c.lowest_first.result _ _
+    (planned_map _ _ _ (states_lowest c.args.problem.now c.args.know.now c.own_left.result c.own_left.ensures)) c.lowest_first.ensures.planned
 
 pub place_after-returns-then-not-can_show-clause-planned : goal.place_after-returns-then-not-can_show-clause-planned
 place_after-returns-then-not-can_show-clause-planned g t c =

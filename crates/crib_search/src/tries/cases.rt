@@ -1,0 +1,161 @@
+//! The cases of a search: in each, some cards of the owner are fixed.
+
+use crate::tries::tape::Tape;
+use crib_cards::Rank;
+use std::alloc::{AllocError, Allocator};
+
+/// A case of a search, in which some cards of the owner are fixed.
+#[derive(Clone, Copy, PartialEq, Eq)]
+pub struct Case {
+    // Its index. That of the case in which no card is fixed is 0.
+    pub(crate) index: usize,
+}
+
+/// What is kept of a case.
+#[derive(Drop)]
+struct Kept<A: Allocator> {
+    // The place at which it is split, if it is.
+    question: Option<Question>,
+    // What was learned in it, if it isn't split.
+    tape: Tape<A>,
+}
+
+/// The place at which a case is split.
+#[derive(Clone, Copy)]
+struct Question {
+    // The index of the place.
+    place: usize,
+    // The indices of the first turn on the way there, and past the last one.
+    turn: usize,
+    turn_end: usize,
+}
+
+/// A card that is fixed at the place at which a case is split.
+#[derive(Clone, Copy)]
+struct Answer {
+    case: usize,
+    rank: Rank,
+    // The index of the case in which it is fixed.
+    next: usize,
+}
+
+/// The cases of a search. There are none, unless in each that isn't split no plan can be better than the best.
+#[derive(Drop)]
+pub(crate) struct Cases<A: Allocator> {
+    cases: Vec<Kept<A>, A>,
+    answers: Vec<Answer, A>,
+    /// The turns on the way to the places at which cases are split.
+    pub(crate) turns: Vec<u8, A>,
+}
+
+impl<A: Allocator + Copy> Cases<A> {
+    /// No cases.
+    pub(crate) fn new(alloc: A) -> Self {
+        Cases {
+            cases: Vec::new(alloc),
+            answers: Vec::new(alloc),
+            turns: Vec::new(alloc),
+        }
+    }
+
+    /// How many cases there are.
+    pub(crate) fn len(&self) -> usize {
+        self.cases.len()
+    }
+
+    /// Adds a case. Returns its index. It fails if an allocation fails.
+    pub(crate) fn open(&mut self, alloc: A) -> Result<usize, AllocError> {
+        let index = self.cases.len();
+        self.cases.push(Kept {
+            question: None,
+            tape: Tape::new(alloc),
+        })?;
+        Ok(index)
+    }
+
+    /// Splits a case at the place with an index.
+    pub(crate) fn split(&mut self, case: usize, place: usize) {
+        if let Some(kept) = self.cases.get_mut(case) {
+            kept.question = Some(Question {
+                place,
+                turn: 0,
+                turn_end: 0,
+            });
+        }
+    }
+
+    /// Adds the case in which a card of a rank is fixed at the place at which another one is split. It fails if an
+    /// allocation fails.
+    pub(crate) fn put_answer(
+        &mut self,
+        case: usize,
+        rank: Rank,
+        next: usize,
+    ) -> Result<(), AllocError> {
+        self.answers.push(Answer { case, rank, next })?;
+        Ok(())
+    }
+
+    /// Keeps what was learned in a case.
+    pub(crate) fn keep(&mut self, case: usize, tape: Tape<A>) {
+        if let Some(kept) = self.cases.get_mut(case) {
+            kept.tape = tape;
+        }
+    }
+
+    /// Keeps where the turns are that lead to the place at which a case is split: those from an index on.
+    pub(crate) fn put_turns(&mut self, case: usize, turn: usize) {
+        let turn_end = self.turns.len();
+        if let Some(kept) = self.cases.get_mut(case) {
+            if let Some(question) = kept.question {
+                kept.question = Some(Question {
+                    turn,
+                    turn_end,
+                    ..question
+                });
+            }
+        }
+    }
+
+    fn question(&self, case: usize) -> Option<Question> {
+        self.cases.get(case)?.question
+    }
+
+    /// The index of the place at which a case is split, if it is.
+    pub(crate) fn place(&self, case: usize) -> Option<usize> {
+        Some(self.question(case)?.place)
+    }
+
+    /// The turns that lead to the place at which a case is split, if it is.
+    pub(crate) fn turns(&self, case: usize) -> Option<&[u8]> {
+        let question = self.question(case)?;
+        self.turns.get(question.turn..question.turn_end)
+    }
+
+    /// What was learned in a case, if it isn't split.
+    pub(crate) fn tape(&self, case: usize) -> Option<&Tape<A>> {
+        let kept = self.cases.get(case)?;
+        match kept.question {
+            Some(_) => None,
+            None => Some(&kept.tape),
+        }
+    }
+
+    /// The case in which a card of a rank is fixed at the place at which another one is split. If there is none, it is
+    /// that of the first card there.
+    pub(crate) fn answer(&self, case: usize, rank: Rank) -> Option<usize> {
+        let mut first = None;
+        for index in 0..self.answers.len() {
+            let answer = self.answers.get(index)?;
+            if answer.case == case {
+                if answer.rank == rank {
+                    return Some(answer.next);
+                }
+                if first.is_none() {
+                    first = Some(answer.next);
+                }
+            }
+        }
+        first
+    }
+}

@@ -1,0 +1,135 @@
+//! The turns that lead to the places at which cases are split.
+ghost use Rattle.std.specs.Prelude.{◌+◌, ◌≤◌, IsTrue};
+ghost use Rattle.crib_cards.specs.Cards.{card_value};
+ghost use Rattle.crib_cards.specs.Sets.{has};
+ghost use Rattle.crib_play.specs.Record.{count_of};
+ghost use Rattle.crib_search.specs.Private.Search.{IsHere, IsTurnOf};
+
+use crate::own_options::options;
+use crate::tries::planner::card_of;
+use crate::tries::spot::Spot;
+use crate::tries::survey::Survey;
+use crib_cards::{Card, Letter};
+use crib_know::Know;
+use crib_play::Turn;
+use crib_problem::Problem;
+use std::alloc::{AllocError, Allocator};
+
+// The number of an ace of the owner.
+const OWN: u8 = 14;
+
+impl<A: Allocator + Copy> Survey<A> {
+    /// Keeps for each case that is split the turns that lead from a position to the place. It fails if an allocation
+    /// fails.
+    pub(crate) fn trace_all(
+        &mut self,
+        problem: &Problem,
+        know: &Know,
+        spot: &Spot,
+    ) -> Result<(), AllocError>
+        requires here { IsHere problem.now know.now }
+    {
+        for case in 0..self.cases.len() {
+            if let Some(place) = self.cases.place(case) {
+                let turn = self.cases.turns.len();
+                self.trace(problem, know, spot, place)?;
+                self.cases.put_turns(case, turn);
+            }
+        }
+        Ok(())
+    }
+
+    // Adds the turns that lead from a position to the place with an index.
+    #[cycle(tracing)]
+    fn trace(
+        &mut self,
+        problem: &Problem,
+        know: &Know,
+        spot: &Spot,
+        place: usize,
+    ) -> Result<(), AllocError>
+        requires here { IsHere problem.now know.now }
+    {
+        match know.turn() {
+            Turn::Over => Ok(()),
+            Turn::Owner => self.trace_own(problem, know, spot, place),
+            Turn::Opponent => self.trace_theirs(problem, know, spot, place),
+        }
+    }
+
+    // The same if the owner is to move.
+    #[cycle(tracing)]
+    fn trace_own(
+        &mut self,
+        problem: &Problem,
+        know: &Know,
+        spot: &Spot,
+        place: usize,
+    ) -> Result<(), AllocError>
+        requires turn { IsTurnOf problem.now know.now Turn.Owner }
+    {
+        let (cards, len) = options(problem, know);
+        if len == 0 {
+            self.cases.turns.push(OWN + Letter::Go.index())?;
+            let mut next = know.copy();
+            next.own_go();
+            return self.trace(problem, &next, spot, place);
+        }
+        let branch = if len > 1 {
+            self.places.branch_to(spot, place)
+        } else {
+            None
+        };
+        if len > 1 && branch.is_none() {
+            return Ok(());
+        }
+        let (card, after) = card_of(branch, spot, &cards[..len]);
+        self.trace_after(problem, know, card, &after, place)
+    }
+
+    // The same after a card.
+    #[cycle(tracing)]
+    fn trace_after(
+        &mut self,
+        problem: &Problem,
+        know: &Know,
+        card: Card,
+        spot: &Spot,
+        place: usize,
+    ) -> Result<(), AllocError>
+        requires turn { IsTurnOf problem.now know.now Turn.Owner }
+        requires held { IsTrue (has know.now.own_left card) }
+        requires fits { count_of know.now.round.pile + card_value card ≤ 31 }
+    {
+        self.cases
+            .turns
+            .push(OWN + Letter::Seen(card.rank()).index())?;
+        let mut next = know.copy();
+        next.own_play(card);
+        self.trace(problem, &next, spot, place)
+    }
+
+    // The same if the opponent is to move.
+    #[cycle(tracing)]
+    fn trace_theirs(
+        &mut self,
+        problem: &Problem,
+        know: &Know,
+        spot: &Spot,
+        place: usize,
+    ) -> Result<(), AllocError>
+        requires turn { IsTurnOf problem.now know.now Turn.Opponent }
+    {
+        let Some(goal) = self.places.place(place) else {
+            return Ok(());
+        };
+        let letter = spot.letter_to(goal.key);
+        if !know.can_show(letter) {
+            return Ok(());
+        }
+        self.cases.turns.push(letter.index())?;
+        let mut next = know.copy();
+        next.saw(&letter);
+        self.trace(problem, &next, &spot.after_letter(letter.index()), place)
+    }
+}

@@ -24,15 +24,15 @@ use Rattle.crib_plan.specs.declared.plan.Node.{Node}
 use Rattle.crib_deals.specs.Exact.{IsIn, AreExactly}
 use Rattle.crib_beaten.specs.Beaten.{Beats}
 use Rattle.crib_bound.specs.Laws.{IsMultiple}
-use Rattle.crib_bound.specs.Worth.{MissesAfter, MayPlayAfter, IsWorth, IsStrategy}
-use Rattle.crib_bound.specs.Worth.IsWorth.{Missed, Turn, Choice}
+use Rattle.crib_bound.specs.Worth.{EachCard, MissesAfter, MayPlayAfter, IsWorthIf, IsStrategy}
+use Rattle.crib_bound.specs.Worth.IsWorthIf.{Missed, Barred, Turn, Choice}
 use Rattle.crib_bound.proofs.Plans.{plan}
 use Rattle.crib_show.specs.Outcome.{outcome_from}
 
 abbrev fours : List ℕ
 fours = 12 ∷ 13 ∷ 14 ∷ 15 ∷ []
 
-abbrev problem : Setup
+abbrev pub problem : Setup
 problem = record {
   version = Two;
   dealer = Owner;
@@ -135,14 +135,21 @@ each_deal P each dealt (inr (inr none)) = absurd none
 abbrev one_each : Dealt → ℕ
 one_each dealt = 1
 
-king_then_ace : IsWorth event_of problem deals [] one_each 2
+king_then_ace : IsWorthIf event_of problem EachCard deals [] one_each 2
 king_then_ace =
     Turn [] one_each 2 (Theirs (Seen 13)) (λ card is. absurd cc)
-    (Choice after_king one_each 2 any_four 12 refl
+    (Choice after_king one_each 2 any_four 12 refl tt
     (λ dealt h some. each_deal (MayPlayAfter event_of problem after_king any_four) fours_may_be_played dealt h)
-    (λ card may. Turn (Own (move.Card card) ∷ after_king) one_each 2 (Theirs (Seen 1)) (λ other is. absurd cc)
+    (λ card may allowed. Turn (Own (move.Card card) ∷ after_king) one_each 2 (Theirs (Seen 1)) (λ other is. absurd cc)
     (Missed (after_ace card) one_each (λ dealt h some.
     each_deal (MissesAfter event_of problem (after_ace card)) (λ throw deal. lost_with throw deal card (and_parts _ _ may).0) dealt h))))
+
+-- where no card is allowed, all is lost at the owner's turn
+barred : IsWorthIf event_of problem (λ turns card. ⊥) deals [] one_each 2
+barred =
+    Turn [] one_each 2 (Theirs (Seen 13)) (λ card is. absurd cc)
+    (Barred after_king one_each any_four 12 refl
+    (λ dealt h some. each_deal (MayPlayAfter event_of problem after_king any_four) fours_may_be_played dealt h) (λ card may none. none))
 
 two_deals : with_throw (28 ∷ 29 ∷ []) ≢ with_throw (28 ∷ 30 ∷ [])
 two_deals same = both_ways false refl (ap (λ (dealt : Dealt). has dealt.throw 30) same)

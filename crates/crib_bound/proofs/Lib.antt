@@ -3,6 +3,7 @@ pub mod Bounds
 pub mod GradeCounts
 pub mod Plans
 pub mod AgreeingDeals
+pub mod Keepers
 pub mod Letters
 pub mod Taken
 pub mod PutParts
@@ -17,6 +18,7 @@ pub mod LowestDeals
 pub mod Recast
 pub mod RecastPlayers
 pub mod AllPlayers
+mod CaseExamples
 mod EndExamples
 mod Examples
 mod WorthExamples

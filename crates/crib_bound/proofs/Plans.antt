@@ -30,7 +30,7 @@ use Rattle.crib_players.specs.Players.{AreBy, Player, own_card, follower_of, is_
 use Rattle.crib_players.proofs.Followers.{follower}
 use Rattle.crib_bound.specs.BeatenPlayers.{BeatsPlayer}
 use Rattle.crib_bound.specs.Laws.{PlanLaw, NoPlanLaw, SameDealsLaw, whole}
-use Rattle.crib_bound.proofs.Bounds.{bound_by, some_beats, sure_unbeaten, event_card, whole_card, whole_player}
+use Rattle.crib_bound.proofs.Bounds.{bound_if, each_obeys, some_beats, sure_unbeaten, event_card, whole_card, whole_player}
 
 done_missed : (done stuck : Bool) (result : Outcome) → done ≡ true → (result ≡ outcome.Reached → ⊥) →
     IsFailingEnding (ending_without (cond done (Some result) None) stuck)
@@ -145,16 +145,18 @@ same problem plan dealt = (
 )
 
 -- the player who follows a plan sees events
-abbrev follows : Setup → List Node → List Event → Option ℕ
+abbrev pub follows : Setup → List Node → List Event → Option ℕ
 follows problem plan history = stated_card plan (place_by plan problem.played history)
 
 pub plan : PlanLaw event_of
 plan problem parts value count nodes strategy exact =
-    bound_by event_of event_card problem (follows problem nodes) parts value strategy (λ dealt beats. (same problem nodes dealt).1 beats) exact
+    bound_if event_of event_card problem (follows problem nodes) (each_obeys event_of event_card problem (follows problem nodes)) parts value strategy
+    (λ dealt beats. (same problem nodes dealt).1 beats) exact
 
 pub plan_by_cards : PlanLaw whole
 plan_by_cards problem parts value count nodes strategy exact =
-    bound_by whole whole_card problem (λ acts. follows problem nodes (map event_of acts)) parts value strategy
+    let choice : Player = λ acts. follows problem nodes (map event_of acts) in
+    bound_if whole whole_card problem choice (each_obeys whole whole_card problem choice) parts value strategy
     (λ dealt beats. (same problem nodes dealt).1
     (subst (λ (one : Player). BeatsPlayer problem one dealt) (whole_player (follower_of problem nodes)) beats)) exact
 

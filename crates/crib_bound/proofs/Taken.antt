@@ -1,5 +1,5 @@
 -- What is taken of amounts, counted and given back.
-use Rattle.std.proofs.Common.{◌≡◌, ◌⊎◌, ℕ, zero, suc, ◌+◌, ◌-◌, ◌*◌, ◌/◌, ◌<◌, ◌≤◌, min, Bool, true, false, not, ◌&&◌, ◌||◌, cond, eqb, List, [], ◌∷◌, ◌++◌}
+use Rattle.std.proofs.Common.{◌≡◌, ◌⊎◌, ℕ, zero, suc, ◌+◌, ◌-◌, ◌*◌, ◌/◌, ◌<◌, ◌≤◌, min, Bool, true, false, not, ◌&&◌, ◌||◌, cond, eqb, List, [], ◌∷◌}
 use Rattle.std.proofs.Common.{length, set, take, sum_by, count_by, get_or, refl, sym, ap, subst, ◌∙◌, inl, inr, arith}
 use Rattle.std.proofs.Math.Nat.{div-mul-le_self, min-le_left}
 use Rattle.std.proofs.lemmas.Bool.{both_ways, cases_eq, eqb-true, eq-eqb, false_from_ne_true, ne_eqb, true_from_ne_false}
@@ -11,7 +11,7 @@ use Rattle.crib_cards.proofs.SetLemmas.{has_push}
 use Rattle.crib_show.specs.declared.demands.Demand.{Demand}
 use Rattle.crib_sure.specs.Shows.{meets}
 use Rattle.crib_bound.specs.declared.walk.Bound.{Bound}
-use Rattle.crib_bound.specs.Private.Walks.{AreDealsOf, AreFewer, AreGivenBack, AreLowered, entry_in, held_of, misses_at, taken_of}
+use Rattle.crib_bound.specs.Private.Walks.{AreCounted, AreDealsOf, AreFewer, AreGivenBack, AreLowered, entry_in, held_of, misses_at, taken_of}
 use Rattle.crib_bound.proofs.Amounts.{sum_both, sum_less}
 
 -- ---- sums
@@ -68,12 +68,6 @@ taken_here at {indices} {before} {after} fewer dealt some =
     true_from_ne_false (has indices (at dealt)) (λ none. let same = fewer.elsewhere (at dealt) none in omega (arith, same, some))
 
 -- ---- the deals that miss a demand
--- so much is counted of the deals that miss a demand, by what is taken so far
-pub record AreCounted (bound : Bound) (demand : Demand) (indices before after : List ℕ) (sum : ℕ) : Type 0 where
-  pub fewer : AreFewer indices before after
-  pub few : (deals : List Dealt) → AreDealsOf bound deals →
-      sum ≤ sum_by (λ dealt. cond (not (meets bound.problem.now demand dealt)) (taken_of (entry_in bound) before after dealt) 0) deals
-
 pub none_counted : {bound : Bound} {demand : Demand} {indices amounts : List ℕ} → AreCounted bound demand indices amounts amounts 0
 none_counted = record { fewer = same_amounts; few = λ deals are. omega arith }
 

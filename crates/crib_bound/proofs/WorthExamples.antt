@@ -26,8 +26,8 @@ use Rattle.crib_deals.specs.Exact.{IsIn}
 use Rattle.crib_players.specs.Players.{Player, IsPlayedBy, is_at_loss, own_card}
 use Rattle.crib_bound.specs.BeatenPlayers.{IsMissedBy, BeatsPlayer}
 use Rattle.crib_bound.specs.Laws.{whole}
-use Rattle.crib_bound.specs.Worth.{IsNoCard, LooksLike, MissesAfter, MayPlayAfter, EachLeft, IsWorth, IsStrategy}
-use Rattle.crib_bound.specs.Worth.IsWorth.{Nothing, Missed, Parts, Turn, Choice}
+use Rattle.crib_bound.specs.Worth.{IsNoCard, LooksLike, MissesAfter, MayPlayAfter, EachCard, EachLeft, IsWorthIf, IsStrategy}
+use Rattle.crib_bound.proofs.Bounds.{no_more}
 use Rattle.crib_show.specs.Outcome.{outcome_from}
 
 -- ---- deals that beat a player
@@ -221,20 +221,10 @@ first_is_left = (
 
 -- ---- strategies
 -- without a deal nothing is worth anything
-worth_of_none : {Seen : Type 0} (look : Act → Seen) (problem : Setup) (turns : List Seen) (amounts : Dealt → ℕ) (value : ℕ) →
-    IsWorth look problem [] turns amounts value → value ≡ 0
-worth_of_none look problem turns amounts value (Nothing _ _) = refl
-worth_of_none look problem turns amounts value (Missed _ _ each) = refl
-worth_of_none look problem turns amounts value (Parts _ _ one other first second _ few sum is also) =
-    omega (arith, sum, worth_of_none look problem turns one first is, worth_of_none look problem turns other second also)
-worth_of_none look problem turns amounts value (Turn _ _ _ turn theirs is) = worth_of_none look problem (turn ∷ turns) amounts value is
-worth_of_none look problem turns amounts value (Choice _ _ _ may some passes each is) =
-    worth_of_none look problem (look (own_card some) ∷ turns) amounts value (is some passes)
-
 none_without_deals : (is : IsStrategy event_of close_to_lost 1 1) → is.deals ≡ [] → ⊥
 none_without_deals is none =
-    let worth = subst (λ deals. IsWorth event_of close_to_lost deals [] is.amounts 1) none is.worth in
-    let nothing = worth_of_none event_of close_to_lost [] is.amounts 1 worth in absurd (omega (arith, nothing))
+    let worth = subst (λ deals. IsWorthIf event_of close_to_lost EachCard deals [] is.amounts 1) none is.worth in
+    let nothing = no_more event_of close_to_lost [] [] is.amounts 1 worth in absurd (omega (arith, nothing))
 
 -- one deal is not there twice, it is in pack order, and no more of it than its parts
 not_twice : (value : ℕ) (is : IsStrategy event_of close_to_lost 1 value) → is.deals ≡ pairing ∷ pairing ∷ [] → ⊥

@@ -50,33 +50,50 @@ pub record MayPlayAfter {Seen : Type 0} (look : Act → Seen) (problem : Setup) 
 abbrev pub EachLeft : List Dealt → (Dealt → ℕ) → (Dealt → Type 0) → Type 0
 EachLeft deals amounts Has = (dealt : Dealt) → IsIn dealt deals → 1 ≤ amounts dealt → Has dealt
 
--- after these turns, amounts of some deals are worth so much:
+-- some cards may be barred: only those with which the owner may go on after some turns are looked at. Here none is
+abbrev pub EachCard : {Seen : Type 0} → List Seen → ℕ → Type 0
+EachCard turns card = Unit {0}
+
+-- after these turns, amounts of some deals are worth so much to an opponent of whom an owner plays allowed cards alone:
 -- - nothing, of whatever deals;
 -- - all that there is, if each deal misses the goal with these turns;
+-- - all that there is, if the owner has to play a card, and none that may be played is allowed;
 -- - at most the sum of what two parts of the amounts are worth;
 -- - what they are worth after a further turn that is no card of the owner;
--- - what they are worth after each card that the owner may play, if there is such a card
-pub data IsWorth {Seen : Type 0} (look : Act → Seen) (problem : Setup) (deals : List Dealt)
-    : List Seen → (Dealt → ℕ) → ℕ → Type 0 where
-  Nothing : (turns : List Seen) (amounts : Dealt → ℕ) → IsWorth look problem deals turns amounts 0
+-- - what they are worth after each allowed card that the owner may play, if there is such a card
+pub data IsWorthIf {Seen : Type 0} (look : Act → Seen) (problem : Setup) (Allowed : List Seen → ℕ → Type 0)
+    (deals : List Dealt) : List Seen → (Dealt → ℕ) → ℕ → Type 0 where
+  Nothing : (turns : List Seen) (amounts : Dealt → ℕ) → IsWorthIf look problem Allowed deals turns amounts 0
   Missed : (turns : List Seen) (amounts : Dealt → ℕ) → EachLeft deals amounts (MissesAfter look problem turns) →
-      IsWorth look problem deals turns amounts (sum_by amounts deals)
+      IsWorthIf look problem Allowed deals turns amounts (sum_by amounts deals)
+  Barred : (turns : List Seen) (amounts : Dealt → ℕ) (may : ℕ → Bool) (some : ℕ) → IsTrue (may some) →
+      EachLeft deals amounts (MayPlayAfter look problem turns may) →
+      ((card : ℕ) → IsTrue (may card) → ¬ Allowed turns card) →
+      IsWorthIf look problem Allowed deals turns amounts (sum_by amounts deals)
   Parts : (turns : List Seen) (amounts one other : Dealt → ℕ) (value more least : ℕ) →
       ((dealt : Dealt) → IsIn dealt deals → one dealt + other dealt ≤ amounts dealt) → least ≤ value + more →
-      IsWorth look problem deals turns one value → IsWorth look problem deals turns other more →
-      IsWorth look problem deals turns amounts least
+      IsWorthIf look problem Allowed deals turns one value → IsWorthIf look problem Allowed deals turns other more →
+      IsWorthIf look problem Allowed deals turns amounts least
   Turn : (turns : List Seen) (amounts : Dealt → ℕ) (value : ℕ) (turn : Seen) → IsNoCard look turn →
-      IsWorth look problem deals (turn ∷ turns) amounts value → IsWorth look problem deals turns amounts value
+      IsWorthIf look problem Allowed deals (turn ∷ turns) amounts value →
+      IsWorthIf look problem Allowed deals turns amounts value
   Choice : (turns : List Seen) (amounts : Dealt → ℕ) (value : ℕ) (may : ℕ → Bool) (some : ℕ) → IsTrue (may some) →
-      EachLeft deals amounts (MayPlayAfter look problem turns may) →
-      ((card : ℕ) → IsTrue (may card) → IsWorth look problem deals (look (own_card card) ∷ turns) amounts value) →
-      IsWorth look problem deals turns amounts value
+      Allowed turns some → EachLeft deals amounts (MayPlayAfter look problem turns may) →
+      ((card : ℕ) → IsTrue (may card) → Allowed turns card →
+      IsWorthIf look problem Allowed deals (look (own_card card) ∷ turns) amounts value) →
+      IsWorthIf look problem Allowed deals turns amounts value
 
--- a strategy of the opponent from the opening on, with at most so many parts of each deal, is worth so much
-pub record IsStrategy {Seen : Type 0} (look : Act → Seen) (problem : Setup) (parts value : ℕ) : Type 0 where
+-- a strategy of the opponent from the opening on, with at most so many parts of each deal, is worth so much to them if
+-- the owner plays allowed cards alone
+pub record IsStrategyIf {Seen : Type 0} (look : Act → Seen) (problem : Setup) (Allowed : List Seen → ℕ → Type 0)
+    (parts value : ℕ) : Type 0 where
   pub deals : List Dealt
   pub different : AreDifferent deals
   pub in_order : (dealt : Dealt) → IsIn dealt deals → IsTrue (is_in_pack_order dealt)
   pub amounts : Dealt → ℕ
   pub few : (dealt : Dealt) → IsIn dealt deals → amounts dealt ≤ parts
-  pub worth : IsWorth look problem deals (map look (played_back problem)) amounts value
+  pub worth : IsWorthIf look problem Allowed deals (map look (played_back problem)) amounts value
+
+-- the same if each card is allowed
+abbrev pub IsStrategy : {Seen : Type 0} → (Act → Seen) → Setup → ℕ → ℕ → Type 0
+IsStrategy look problem parts value = IsStrategyIf look problem EachCard parts value

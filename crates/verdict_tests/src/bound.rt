@@ -2,7 +2,7 @@
 use crate::same;
 use crate::sections::{plan, problem};
 use crib_beaten::tally_of;
-use crib_bound::{bound_of, unit_of};
+use crib_bound::{bound_in_cases, bound_of, unit_of};
 use crib_problem::Problem;
 use crib_search::{Advice, try_plan};
 use refusing_alloc::Refusing;
@@ -34,6 +34,8 @@ fn is_bound(rt: &(impl Abort + AllocGlobal), of: &str, deals: u64) {
     for parts in [1u16, 12, 4_096] {
         let bound = bound_of(rt.alloc(), &problem, parts, &mut guide).expect(rt, "memory");
         same(rt, bound, deals.saturating_mul(parts as u64));
+        let cases = bound_in_cases(rt.alloc(), &problem, parts, &mut guide).expect(rt, "memory");
+        same(rt, cases, bound);
     }
 }
 
@@ -144,7 +146,14 @@ fn is_served(rt: &(impl Abort + AllocGlobal), of: &str, served: u64) -> bool {
     let heap = Refusing::after(rt.alloc(), served);
     let advice = advice(rt, &plenty, &problem);
     let mut guide = advice.guide(&plenty).expect(rt, "memory");
-    bound_of(&heap, &problem, 1, &mut guide).is_ok()
+    let is_served = bound_of(&heap, &problem, 1, &mut guide).is_ok();
+    let heap = Refusing::after(rt.alloc(), served);
+    same(
+        rt,
+        bound_in_cases(&heap, &problem, 1, &mut guide).is_ok(),
+        is_served,
+    );
+    is_served
 }
 
 /// It allocates the room for its lists, and before it the tables, which a pone with this goal doesn't need.

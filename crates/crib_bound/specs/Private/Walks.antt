@@ -12,7 +12,7 @@ use Rattle.crib_show.specs.Indices.{index_among}
 use Rattle.crib_show.specs.Show.{hand_points}
 use Rattle.crib_show.specs.declared.demands.Demand.{Demand}
 use Rattle.crib_problem.specs.Setup.{Setup, IsSetup}
-use Rattle.crib_know.specs.Knowledge.{Knowledge}
+use Rattle.crib_know.specs.Knowledge.{Knowledge, played_events}
 use Rattle.crib_know.specs.Hidden.{IsOpen, KnowsAfter, Passes}
 use Rattle.crib_know.specs.Private.Ahead.{turns_ahead}
 use Rattle.crib_sure.specs.Shows.{meets}
@@ -20,7 +20,10 @@ use Rattle.crib_deals.specs.Deals.{Behind, IsBehind}
 use Rattle.crib_deals.specs.Exact.{IsIn, AreExactly}
 use Rattle.crib_beaten.specs.Beaten.{counts_of}
 use Rattle.crib_search.specs.declared.tries.grades.Ladder.{Ladder}
-use Rattle.crib_bound.specs.Worth.{IsWorth}
+use Rattle.crib_bound.specs.Worth.{IsWorthIf}
+use Rattle.crib_bound.specs.Private.Cases.{IsAllowedBy, IsTrailOf}
+use Rattle.crib_bound.specs.declared.cases.Cases.{Cases}
+use Rattle.crib_bound.specs.declared.cases.Room.{Room}
 use Rattle.crib_bound.specs.declared.walk.Bound.{Bound}
 
 -- the index of the ranks that the opponent held
@@ -118,16 +121,27 @@ pub record AreAt (at : Dealt → ℕ) (problem : Setup) (know : Knowledge) (deal
     : Type 0 where
   pub passing : (dealt : Dealt) → IsIn dealt deals → IsTrue (has indices (at dealt)) → Passes problem know dealt
 
--- for such deals something holds after each history of a position
-abbrev pub HoldsAfter : Bound → Knowledge → List ℕ → (List Dealt → List Event → Type 0) → Type 0
-HoldsAfter bound know indices Holds =
+-- for such deals something holds after each history of a position that has a trail
+abbrev pub HoldsAfter : Bound → Knowledge → List ℕ → List ℕ → (List Dealt → List Event → Type 0) → Type 0
+HoldsAfter bound know trail indices Holds =
     (deals : List Dealt) → AreDealsOf bound deals → AreAt (entry_in bound) bound.problem.now know deals indices →
-    (history : List Event) → KnowsAfter know bound.problem.now history → Holds deals history
+    (history : List Event) → KnowsAfter know bound.problem.now history → IsTrailOf bound.problem.now trail history →
+    Holds deals history
+
+-- some amounts are worth so much after a history if the owner plays only what the fixed cards of a bound allow
+abbrev pub IsWorthIn : Bound → List Dealt → List Event → (Dealt → ℕ) → ℕ → Type 0
+IsWorthIn bound = IsWorthIf event_of bound.problem.now (IsAllowedBy bound.problem.now bound.fixed.now)
 
 -- some is taken off amounts at some indices, if any
 pub record AreFewer (indices before after : List ℕ) : Type 0 where
   pub less : (index : ℕ) → get_or after index 0 ≤ get_or before index 0
   pub elsewhere : (index : ℕ) → IsFalse (has indices index) → get_or after index 0 ≡ get_or before index 0
+
+-- so much is counted of the deals that miss a demand, by what is taken so far
+pub record AreCounted (bound : Bound) (demand : Demand) (indices before after : List ℕ) (sum : ℕ) : Type 0 where
+  pub fewer : AreFewer indices before after
+  pub few : (deals : List Dealt) → AreDealsOf bound deals → sum ≤ sum_by (λ dealt.
+      cond (not (meets bound.problem.now demand dealt)) (taken_of (entry_in bound) before after dealt) 0) deals
 
 -- how much of an index is held back at the first places of a list of indices
 abbrev pub held_of : List ℕ → List ℕ → ℕ → ℕ → ℕ
@@ -136,18 +150,18 @@ held_of indices held (suc places) index =
     held_of indices held places index + cond (nat_eq (get_or indices places 0) index) (get_or held places 0) 0
 
 -- what is taken at a position is worth so much there
-pub record IsBoundAt (bound : Bound) (know : Knowledge) (indices before after : List ℕ) (value : ℕ) : Type 0 where
-  pub fewer : AreFewer indices before after
-  pub worth : HoldsAfter bound know indices
-      (λ deals history. IsWorth event_of bound.problem.now deals history (taken_of (entry_in bound) before after) value)
-
--- what is taken at a position is worth so much after a further event
-pub record IsBoundAfter (bound : Bound) (know : Knowledge) (event : Event) (indices before after : List ℕ) (value : ℕ)
+pub record IsBoundAt (bound : Bound) (know : Knowledge) (trail indices before after : List ℕ) (value : ℕ)
     : Type 0 where
   pub fewer : AreFewer indices before after
-  pub worth : HoldsAfter bound know indices
-      (λ deals history.
-      IsWorth event_of bound.problem.now deals (event ∷ history) (taken_of (entry_in bound) before after) value)
+  pub worth : HoldsAfter bound know trail indices
+      (λ deals history. IsWorthIn bound deals history (taken_of (entry_in bound) before after) value)
+
+-- what is taken at a position is worth so much after a further event
+pub record IsBoundAfter (bound : Bound) (know : Knowledge) (event : Event) (trail indices before after : List ℕ)
+    (value : ℕ) : Type 0 where
+  pub fewer : AreFewer indices before after
+  pub worth : HoldsAfter bound know trail indices
+      (λ deals history. IsWorthIn bound deals (event ∷ history) (taken_of (entry_in bound) before after) value)
 
 -- something is given back to amounts. The parts of all deals that are given back are at most so many
 pub record AreGivenBack (bound : Bound) (indices before after : List ℕ) (most : ℕ) : Type 0 where
@@ -189,10 +203,18 @@ AreLoweredAt bound indices before after value least =
     (with_parts indices after (length indices) amounts) value least
 
 -- a walk may begin: the owner's hand is counted, the position is one after some history, and the spare room is enough
--- for three lists now and at each turn ahead
-pub record MayWalk (bound : Bound) (know : Knowledge) (indices spare : List ℕ) : Type 0 where
+-- for three lists now and at each turn ahead, and so is that of the trail
+pub record MayWalk (bound : Bound) (know : Knowledge) (trail indices spare : List ℕ) : Type 0 where
   pub own : bound.own_hand ≡ hand_points bound.problem.now.hold bound.problem.now.starter
   pub history : List Event
   pub knows : KnowsAfter know bound.problem.now history
   pub small : All (λ index. index < 29120) indices
   pub room : length indices * (3 * turns_ahead know + 3) ≤ length spare
+  pub short : length trail + turns_ahead know ≤ 27
+
+-- the walk may begin, the open deals are counted, and the room of a walk is enough
+pub record IsReady {A : Type 0} (cases : Cases A) (room : Room A) : Type 0 where
+  pub begun : KnowsAfter cases.start cases.problem.now (played_events cases.problem.now)
+  pub counted : AreOpenDeals cases.problem.now cases.choices.ladders cases.choices.counts cases.choices.weights
+      cases.choices.tables.items
+  pub long : length room.spare.items ≡ 2446080

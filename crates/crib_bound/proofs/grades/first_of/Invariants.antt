@@ -1,4 +1,4 @@
-use Rattle.std.proofs.Common.{◌≡◌, ◌≤◌, leb}
+use Rattle.std.proofs.Common.{◌≡◌, leb}
 use Rattle.crib_cards.specs.declared.sides.Dealt.{Dealt}
 use Rattle.crib_problem.specs.Setup.{Setup}
 use Rattle.crib_sure.specs.Shows.{meets}

@@ -1,8 +1,8 @@
-use Rattle.std.proofs.Common.{◌≡◌, ◌*◌, ◌+◌, ◌<◌, ◌≤◌, ℕ, get_or, length, true}
+use Rattle.std.proofs.Common.{◌≡◌, ◌*◌, ◌+◌, ◌<◌, ◌≤◌, ℕ, get_or, length, false, true}
 use Rattle.crib_cards.specs.Sets.{has}
 use Rattle.crib_know.specs.Private.Ahead.{turns_ahead}
 use Rattle.crib_bound.specs.Private.Walks.{IsBoundAt, with_parts}
-use Rattle.crib_bound.proofs.WalkSteps.{AreWalked}
+use Rattle.crib_bound.proofs.WalkSteps.{AreBarred, AreWalked, SomeAllowed}
 use Rattle.crib_bound.proofs.walk.Bound.+worth.Given as goal
 
 abbrev pub decreases-worth_at : goal.decreases-worth_at
@@ -20,7 +20,9 @@ decreases-worth_after g l = 3 * turns_ahead l.know.now
 abbrev pub invariant-worth_by_own-loop-card : goal.invariant-worth_by_own-loop-card
 invariant-worth_by_own-loop-card g l = record {
   held : (card : ℕ) → has l.rest card ≡ true → has l.know.own_left card ≡ true;
-  done : AreWalked l.self l.know l.indices l.fn.amounts (with_parts l.indices l.kept (length l.indices) l.fn.amounts) l.rest l.least;
+  done : AreWalked l.self l.know l.path.trail.items l.indices l.fn.amounts (with_parts l.indices l.kept (length l.indices) l.fn.amounts) l.rest l.least;
+  barred : l.is_barred ≡ true → AreBarred l.self l.know l.path.trail.items l.rest;
+  some : l.is_barred ≡ false → SomeAllowed l.self l.know l.path.trail.items;
   same : l.amounts ≡ l.fn.amounts;
   below : (place : ℕ) → place < length l.indices → get_or l.kept place 0 ≤ get_or l.fn.amounts (get_or l.indices place 0) 0;
   kept_room : length l.kept ≡ length l.indices;
@@ -33,6 +35,6 @@ decreases-worth_by_own-loop-card g l = length l.rest
 
 abbrev pub invariant-worth_by_theirs-loop-place : goal.invariant-worth_by_theirs-loop-place
 invariant-worth_by_theirs-loop-place g l = record {
-  so_far : IsBoundAt l.self l.know l.indices l.fn.amounts l.amounts l.sum;
+  so_far : IsBoundAt l.self l.know l.path.trail.items l.indices l.fn.amounts l.amounts l.sum;
   room : length l.spare ≡ length l.fn.spare;
 }

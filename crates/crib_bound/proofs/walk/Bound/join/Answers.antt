@@ -1,4 +1,4 @@
-use Rattle.std.proofs.Common.{◌≤◌, ◌<◌, ◌∙◌, get_or, length, min, arith}
+use Rattle.std.proofs.Common.{get_or, length, arith}
 use Rattle.std.proofs.Math.Nat.{min-le_left, min-le_right}
 use Rattle.crib_bound.proofs.Taken.{back_lowered, kept_lowered}
 use Rattle.crib_bound.proofs.PutParts.{with_less}

@@ -1,5 +1,5 @@
 -- Worked examples of what the texts of `leads`, `next`, `scores` and `holes` guarantee.
-use Rattle.std.proofs.Common.{Ok, ◌≡◌, ◌⊎◌, ◌∙◌, inl, inr, ℕ, List, [], ◌∷◌, codes, refl, sym, ap, subst, arith}
+use Rattle.std.proofs.Common.{Ok, Err, ◌≡◌, ◌⊎◌, ◌∙◌, inl, inr, ℕ, List, [], ◌∷◌, codes, refl, sym, ap, subst, arith}
 use Rattle.std.specs.Prelude.{Bool, true, false, ◌++◌, reverse}
 use Rattle.std.specs.Fmt.{digits}
 use Rattle.crib_cards.specs.Sets.{set_where}
@@ -184,13 +184,15 @@ no_table_without_a_text input means =
     let above = front_of (above_text means.problem means.table) _ (front_of _ _ means.printed) in
     tables_begin means.table.turn _ (front_of _ _ (front_of _ _ (front_of _ _ (front_of _ _ (front_of _ _ above)))))
 
--- a right table has the status yes, and says who is to move
+-- a right table has the status yes, and says who is to move; a score of 121 has none
 tables_are_right : (text : List ℕ) → (AnswersScores (Ok four_twos) (no text) → ⊥)
     × ((is : AnswersScores (Ok four_twos) (yes text)) → is.0.turn ≡ turns.Opponent → ⊥)
+    × (AnswersScores (Err (record { line = 3; number = 21 })) (yes text) → ⊥)
 unfolding set_where
 tables_are_right text = (
   λ is. (let status : No ≡ Yes = ap (λ (reply : Reply). reply.status) is.2 in absurd cc),
   λ is turn. (let right = is.1.turn in absurd cc),
+  λ is. (let status : Yes ≡ Refused = ap (λ (reply : Reply). reply.status) is in absurd cc),
 )
 
 -- ---- `holes`: 122 holes from 0 are too many

@@ -8,8 +8,12 @@ use Rattle.crib_sure.proofs.ExampleOpening.{ace_or_two, at_29}
 use Rattle.crib_game.specs.declared.section.game.Game.{Game}
 use Rattle.crib_problem.specs.Setup.{Setup}
 use Rattle.crib_plan.specs.declared.plan.Node.{Node}
+use Rattle.crib_game.specs.declared.fault.GameFault.TheVariants.{NotHeld}
+use Rattle.crib_text.specs.declared.fault.TextCause.TheVariants.{BadCard}
 use Rattle.crib_game.specs.declared.following.ending.Ending.TheVariants.{Short}
 use Rattle.crib_input.specs.Spelled.{SpellsPlan, SpellsProblem}
+use Rattle.crib_input.specs.declared.refusal.Cause.TheVariants as causes
+use Rattle.crib_input.specs.declared.reason.Reason.TheVariants as reasons
 use Rattle.crib_input.specs.declared.sections.Sections.TheVariants.{Problem, Question, Played, Turns}
 use Rattle.crib_run.specs.declared.status.Status.TheVariants.{Yes, No, Refused, Fault}
 use Rattle.crib_input.proofs.EmptyExamples.{no_plan_in_nothing, no_problem_in_nothing}
@@ -26,6 +30,7 @@ use Rattle.crib_sheet.specs.declared.answer.job.SheetJob.TheVariants.{Plan, Game
 use Rattle.crib_sheet.specs.declared.answer.job.SheetJob.TheVariants.{Leads, Next, Scores, Holes}
 use Rattle.crib_sheet.specs.Job.{job_called, sections_of}
 use Rattle.crib_sheet.specs.Sheet.{game_reply, verdict_status}
+use Rattle.crib_sheet.specs.Told.{SheetTells}
 use Rattle.crib_sheet.specs.Meaning.{AsksAbout, BeatenMeans, GameMeans, PlanMeans, SheetMeans}
 
 -- ---- the jobs, what they read, and the statuses of their replies
@@ -38,6 +43,11 @@ jobs_and_statuses : (game : Game) →
     × (map verdict_status (Holds ∷ Fails Short game ∷ []) ≡ Yes ∷ No ∷ [])
     × (game_reply (codes "a") ≡ record { output = codes "a"; status = Yes })
 jobs_and_statuses game = (refl, refl, refl, refl, refl)
+
+-- an input without a game may be refused for a word that is no card, and not for an act of a game
+reasons_without_a_game : (input : List ℕ) → SheetTells Plan input (reasons.Refused (record { line = 5; cause = causes.Text BadCard }))
+    × (SheetTells Plan input (reasons.Refused (record { line = 16; cause = causes.Game (NotHeld 2) })) → ⊥)
+reasons_without_a_game input = (refl, λ fits. cc)
 
 -- ---- what a sheet means. What crib_check shows of the two plans is assumed here
 a_sure_plan : (input : List ℕ) → SpellsPlan input at_29 ace_or_two → IsSure at_29 ace_or_two → GoesOn at_29 ace_or_two → Ends at_29 →

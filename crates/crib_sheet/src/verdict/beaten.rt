@@ -1,15 +1,20 @@
 //! The deals that beat a plan that is not sure.
-ghost use Rattle.std.specs.Prelude.{IfOk, List, ◌<◌, ◌^◌};
+ghost use Rattle.std.specs.Prelude.{IfOk, List, ℕ, ◌*◌, ◌<◌, ◌≤◌, ◌^◌};
+ghost use Rattle.crib_play.specs.History.{event_of};
 ghost use Rattle.crib_plan.specs.declared.plan.Node.{Node};
+ghost use Rattle.crib_deals.specs.Exact.{AreExactly};
+ghost use Rattle.crib_beaten.specs.Beaten.{Beats};
 ghost use Rattle.crib_beaten.specs.Tally.{IsTally};
+ghost use Rattle.crib_bound.specs.Laws.{IsPoneToReach};
+ghost use Rattle.crib_bound.specs.Worth.{IsStrategy};
 ghost use Rattle.crib_sheet.specs.PlanBeaten.{AreBeating, AreBeatingOf, AreHandsOf, IsBest, IsFoundWith};
 
 use crib_beaten::{Rows, Tally, rows_of, tally_of};
-use crib_bound::{bound_of, is_for_all_players, unit_of};
+use crib_bound::{bound_in_cases, bound_of, is_for_all_players, unit_of};
 use crib_check::{NoMemory, Verdict};
 use crib_plan::Plan;
 use crib_problem::Problem;
-use crib_search::{Advice, SearchFault, try_plan};
+use crib_search::{Advice, Guide, SearchFault, try_plan};
 use std::alloc::{AllocError, Allocator};
 
 // The parts into which each deal is divided for the least. With more of them it is hardly greater.
@@ -123,7 +128,7 @@ pub(crate) fn best_of<A: Allocator + Copy>(
             is_for_all: false,
         });
     };
-    let worth = bound_of(alloc, problem, PARTS, &mut advice.guide(alloc)?)?;
+    let worth = worth_of(alloc, problem, &mut advice.guide(alloc)?)?;
     let unit = unit_of(problem) as u64;
     let times = worth.div_ceil(PARTS as u64 * unit);
     Ok(Best {
@@ -131,4 +136,20 @@ pub(crate) fn best_of<A: Allocator + Copy>(
         least: times.saturating_mul(unit).min(u32::MAX as u64) as u32,
         is_for_all: is_for_all_players(problem),
     })
+}
+
+// What each plan loses at least, in parts of deals. Where suits may decide, it is counted in cases.
+fn worth_of<A: Allocator + Copy>(
+    alloc: A,
+    problem: &Problem,
+    guide: &mut Guide<'_, A>,
+) -> Result<u64, AllocError>
+    ensures plans { IfOk result (λ worth. (plan : List Node) (count : ℕ) → AreExactly (Beats problem.now plan) count
+        → worth ≤ 60000 * count) }
+    ensures strategy { IsPoneToReach problem.now → IfOk result (IsStrategy event_of problem.now 60000) }
+{
+    if is_for_all_players(problem) {
+        return bound_of(alloc, problem, PARTS, guide);
+    }
+    bound_in_cases(alloc, problem, PARTS, guide)
 }

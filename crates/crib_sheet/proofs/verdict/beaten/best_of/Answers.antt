@@ -10,5 +10,5 @@ returns g c = record {
   players = λ all player count exact.
       rw (c.min.ensures, c.saturating_mul.ensures, c.div_ceil-times.ensures) (deals_of_worth _ _ _ 4294967295 count c.unit_of-unit.ensures.some
       (c.unit_of-unit.ensures.players player count exact)
-      (c.is_for_all_players.ensures.players all _ _ count player c.in_ok-worth.ensures.strategy exact));
+      (c.is_for_all_players.ensures.players all _ _ count player (c.in_ok-worth.ensures.strategy (c.is_for_all_players.ensures.exact.0 all)) exact));
 }

@@ -1,12 +1,13 @@
 -- Lemmas about the text of a message, which is appended piece by piece.
 use Rattle.std.proofs.Common.{arith, ◌≡◌, ◌≤◌, ℕ, leb, ◌&&◌, ◌++◌, List, [], ◌∷◌, true, inl, inr}
-use Rattle.std.proofs.lemmas.Bool.{and_from, and_parts, cases_Bool, le-leb, leb-true, or_cases}
+use Rattle.std.proofs.lemmas.Bool.{and_from, and_parts, both_ways, cases_Bool, eqb-true, le-leb, leb-true, or_cases}
 use Rattle.std.specs.Char.{is_ascii_alphabetic}
 use Rattle.std.specs.List.{filter, list_any}
-use Rattle.std.proofs.Common.{refl, ap, ◌∙◌, append_assoc}
-use Rattle.std.specs.Prelude.{Some, None, MatchOption}
+use Rattle.std.proofs.Common.{refl, sym, ap, ◌∙◌, append_assoc, codes, false, flat_map, length}
+use Rattle.std.specs.Prelude.{Some, None, MatchOption, ◌==◌}
+use Rattle.crib_text.specs.Refusals.{Refusal}
 use Rattle.crib_text.specs.Spelling.{line_feed}
-use Rattle.crib_message.specs.Message.{IsExcerpt, is_plain}
+use Rattle.crib_message.specs.Message.{IsExcerpt, carets, is_plain, marks_below}
 use Rattle.crib_message.specs.Place.{numbered_line}
 
 -- four pieces, one after another
@@ -57,14 +58,23 @@ still_worded (byte ∷ bytes) any =
     ]
 
 -- the excerpt of the line that the input has
-pub shows_line : (input line excerpt : List ℕ) (number : ℕ) → numbered_line input number ≡ Some line → IsExcerpt number line excerpt →
-    MatchOption (numbered_line input number) (excerpt ≡ []) (λ bytes. IsExcerpt number bytes excerpt)
-shows_line input line excerpt number e is = rw e is
+pub shows_line : (input line excerpt : List ℕ) (refusal : Refusal) → numbered_line input refusal.line ≡ Some line → IsExcerpt refusal line excerpt →
+    MatchOption (numbered_line input refusal.line) (excerpt ≡ []) (λ bytes. IsExcerpt refusal bytes excerpt)
+shows_line input line excerpt refusal e is = rw e is
 
-pub shows_none : (input excerpt : List ℕ) (number : ℕ) → numbered_line input number ≡ None → excerpt ≡ [] →
-    MatchOption (numbered_line input number) (excerpt ≡ []) (λ bytes. IsExcerpt number bytes excerpt)
-shows_none input excerpt number e is = rw e is
+pub shows_none : (input excerpt : List ℕ) (refusal : Refusal) → numbered_line input refusal.line ≡ None → excerpt ≡ [] →
+    MatchOption (numbered_line input refusal.line) (excerpt ≡ []) (λ bytes. IsExcerpt refusal bytes excerpt)
+shows_none input excerpt refusal e is = rw e is
 
 pub nothing_added : (bytes : List ℕ) → bytes ≡ bytes ++ []
 nothing_added [] = refl
 nothing_added (byte ∷ bytes) = ap (λ (xs : List ℕ). byte ∷ xs) (nothing_added bytes)
+
+-- the carets below no bytes, and below some
+pub caret_of_none : (bytes : List ℕ) → true ≡ (length bytes == 0) → codes "^" ≡ carets bytes
+caret_of_none [] none = refl
+caret_of_none (byte ∷ bytes) none = absurd (omega (arith, eqb-true (length (byte ∷ bytes)) 0 (sym none)))
+
+pub carets_of_some : (bytes : List ℕ) → false ≡ (length bytes == 0) → flat_map (marks_below 94) bytes ≡ carets bytes
+carets_of_some [] some = absurd (both_ways true (sym some) refl)
+carets_of_some (byte ∷ bytes) some = refl

@@ -59,7 +59,8 @@ spots_of_line_8 = refl
 
 -- a message begins with these bytes
 abbrev Begins : List ℕ → Sections → ℕ → List ℕ → Type 0
-Begins text sections line words = (rest : List ℕ) × IsRefusalMessage (codes "cribplan") sections planned_game line text × (text ≡ words ++ rest)
+Begins text sections line words = (rest : List ℕ) × IsRefusalMessage (codes "cribplan") sections planned_game (record { line = line; number = 4 }) text
+    × (text ≡ words ++ rest)
 
 -- line 10 is the third one of the plan, and not the fourth, nor one of the game, nor without a place
 the_next_number : (text : List ℕ) → Begins text inputs.Question 10 (codes "cribplan: line 10, line 4 of the plan: ") → ⊥

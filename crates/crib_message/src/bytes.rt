@@ -3,14 +3,14 @@ use crate::cards::TWO_LETTERS;
 use crate::excerpt::is_plain;
 use crate::explained::{Explained, said};
 use crate::order::TABLES;
-use crate::scene::{Mark, Scene};
+use crate::scene::{Scene, mark_of};
 use crate::sentence::{Sentence, tell, typed};
 use crib_text::TextCause;
 
 /// Explains a line with a byte that is neither LF nor 32 to 126. Returns nothing if there is no such byte.
 pub(crate) fn bad_byte(scene: &Scene<'_>) -> Option<Explained> {
     let line = scene.text();
-    let from = line.iter().position(|byte| !is_plain(*byte))?;
+    let from = line.iter().position(|byte| !is_plain(byte))?;
     let rest = line.get(from..).unwrap_or(b"");
     // A sign in UTF-8 has up to four bytes.
     let len = match rest {
@@ -26,7 +26,7 @@ pub(crate) fn bad_byte(scene: &Scene<'_>) -> Option<Explained> {
         (None, [b'\t', ..]) => Sentence::of("a tab"),
         _ => typed(bytes),
     };
-    let mark = Some(Mark::of(from, bytes.len()));
+    let mark = Some(mark_of(from, bytes.len()));
     let hint = tell(file.unwrap_or(byte_hint(rest)));
     let text = format_args!("{found} is {}", TextCause::BadByte);
     Some(said(text, mark, hint))
@@ -53,13 +53,13 @@ fn byte_hint(rest: &[u8]) -> &'static str {
         [b'\t', ..] => "Write a blank in place of the tab.",
         [0x1B, ..] => "Remove the colour codes of a terminal.",
         [0..=31 | 127, ..] => "Remove this control character.",
-        [0xC2, 0xA0, ..] | [0xE2, 0x80, 0x80..=0x8F | 0xAF, ..] | [0xE3, 0x80, 0x80, ..] =>
+        [0xC2, 0xA0, ..] | [0xE2, 0x80, 0x80..=0x8A | 0xAF, ..] | [0xE3, 0x80, 0x80, ..] =>
             "Write a plain blank in place of the special one.",
         [0xE2, 0x99, 0xA0 | 0xA4, ..] => "Write the suit sign of spades as the letter S.",
         [0xE2, 0x99, 0xA1 | 0xA5, ..] => "Write the suit sign of hearts as the letter H.",
         [0xE2, 0x99, 0xA2 | 0xA6, ..] => "Write the suit sign of diamonds as the letter D.",
         [0xE2, 0x99, 0xA3 | 0xA7, ..] => "Write the suit sign of clubs as the letter C.",
-        [0xEF, 0xB8, 0x8F, ..] => "Remove the invisible sign here.",
+        [0xEF, 0xB8, 0x8F, ..] | [0xE2, 0x80, 0x8B..=0x8F, ..] => "Remove the invisible sign here.",
         [0xE2, 0x80, 0x98..=0x9F, ..] => "Remove the quotation mark.",
         [0xF0, 0x9F, 0x82 | 0x83, ..] => TWO_LETTERS,
         _ => "Write plain ASCII letters, digits and signs.",

@@ -1,12 +1,17 @@
 //! A line of the input as it is shown: its number, its bytes, and below them the mark.
-ghost use Rattle.std.specs.Prelude.{◌≡◌, ◌<◌, ◌≤◌, ◌⊎◌, ◌+◌, ◌-◌, ◌*◌, ◌/◌, ◌%◌, ◌++◌, ◌∷◌, []};
-ghost use Rattle.std.specs.Prelude.{ℕ, List, codes, flat_map, length, min, slice_get};
+ghost use Rattle.std.specs.Prelude.{◌≡◌, ◌<◌, ◌≤◌, ◌⊎◌, ◌+◌, ◌-◌, ◌*◌, ◌/◌, ◌%◌, ◌++◌, []};
+ghost use Rattle.std.specs.Prelude.{ℕ, List, drop, flat_map, length, min, take};
+ghost use Rattle.std.specs.List.{list_all};
 ghost use Rattle.arrayvec.specs.ArrayVec.{array_vec_len};
-ghost use Rattle.crib_message.specs.Message.{IsExcerpt, IsMark, carets, dots, goes_on, hex_digit, is_of_word, is_plain};
-ghost use Rattle.crib_message.specs.Message.{marks_below, shown_byte, shown_line};
+ghost use Rattle.crib_input.specs.Refusals.{refusal_of};
+ghost use Rattle.crib_message.specs.Message.{IsExcerpt, IsMark, dots, is_plain, is_refused, marks_below};
+ghost use Rattle.crib_message.specs.Message.{shown_byte, shown_line, touch};
 
 use crate::scene::Mark;
 use arrayvec::ArrayVec;
+use crib_cards::read_card;
+use crib_input::Refusal;
+use crib_text::read_number;
 use itoa::Buffer;
 
 // The most bytes of a line that are shown.
@@ -26,35 +31,27 @@ struct Window<'a> {
     after: &'a [u8],
 }
 
-/// Returns a line with its number and the mark below it. At most 100 bytes of the line are shown, with `...` where it
-/// is cut. Bytes other than 32 to 126 are shown as `\xNN`.
-pub(crate) fn excerpt_of(number: u32, line: &[u8], mark: Option<Mark>) -> Excerpt
-    ensures { IsExcerpt number line.now result.items }
+/// Returns a line with its number and the mark below it. At most 100 bytes of the line are shown, the first ones or
+/// those around the mark, with `...` where it is cut. Bytes other than 32 to 126 are shown as `\xNN`.
+pub(crate) fn excerpt_of(refusal: &Refusal, line: &[u8], mark: Option<Mark>) -> Excerpt
+    ensures { IsExcerpt (refusal_of refusal.now) line.now result.items }
 {
-    let window = window_on(line, mark);
-    let mut excerpt = shown(number, window);
+    let from = mark.map_or(0, |mark| mark.from.saturating_sub(BEFORE));
+    let window = cut(line, from.min(line.len().saturating_sub(SHOWN)), SHOWN);
+    let mut excerpt = shown(refusal.line, window);
     if let Some(mark) = mark {
-        add_mark(&mut excerpt, number, window, mark);
+        let meant = cut(line, mark.from, mark.len);
+        add_mark(&mut excerpt, refusal, window, meant);
     }
     excerpt
-}
-
-// Cuts a line so that its first 100 bytes are shown, or 100 around the mark.
-fn window_on(line: &[u8], mark: Option<Mark>) -> Window<'_>
-    ensures cut { line.now ≡ result.before.now ++ (result.shown.now ++ result.after.now) }
-    ensures wide { length result.shown.now ≡ min 100 (length line.now) }
-{
-    let wanted = match mark {
-        Some(mark) => mark.from.saturating_sub(BEFORE),
-        None => 0,
-    };
-    cut(line, wanted.min(line.len().saturating_sub(SHOWN)), SHOWN)
 }
 
 // Cuts bytes in three, the middle one from an index on, with so many bytes if there are.
 fn cut(bytes: &[u8], from: usize, len: usize) -> Window<'_>
     ensures cut { bytes.now ≡ result.before.now ++ (result.shown.now ++ result.after.now) }
     ensures wide { length result.shown.now ≡ min len (length bytes.now - from) }
+    ensures before { result.before.now ≡ take from bytes.now }
+    ensures shown { result.shown.now ≡ take len (drop from bytes.now) }
 {
     let (before, rest) = bytes.split_at(from.min(bytes.len()));
     let (shown, after) = rest.split_at(len.min(rest.len()));
@@ -99,10 +96,12 @@ fn add_byte(excerpt: &mut Excerpt, byte: u8)
     ensures items { excerpt.new.items ≡ excerpt.old.items ++ shown_byte byte }
     ensures len { array_vec_len excerpt.new ≤ array_vec_len excerpt.old + 4 }
 {
-    if is_plain(byte) {
+    let digits = b"0123456789abcdef";
+    let (first, last) = (usize::from(byte / 16), usize::from(byte % 16));
+    if is_plain(&byte) {
         add(excerpt, &[byte]);
     } else {
-        add(excerpt, &escape_of(byte));
+        add(excerpt, &[b'\\', b'x', digits[first], digits[last]]);
     }
 }
 
@@ -115,61 +114,74 @@ fn add(excerpt: &mut Excerpt, bytes: &[u8])
 }
 
 /// Whether a byte is shown as it is.
-pub(crate) fn is_plain(byte: u8) -> bool
-    ensures { result ≡ is_plain byte }
+pub(crate) fn is_plain(byte: &u8) -> bool
+    ensures { result ≡ is_plain byte.now }
 {
-    (b' '..=b'~').contains(&byte)
+    (b' '..=b'~').contains(byte)
 }
 
-// Appends the line below: carets below the bytes that are meant, or one caret if the mark is empty. A mark that begins
-// or ends within a word is left out.
-fn add_mark(excerpt: &mut Excerpt, number: u32, window: Window<'_>, mark: Mark)
+fn are_plain(bytes: &[u8]) -> bool
+    ensures { result ≡ list_all is_plain bytes.now }
+{
+    bytes.iter().all(is_plain)
+}
+
+// Appends the line below: carets below the bytes that are meant, or one caret if the mark is empty. A mark below what
+// can't be refused is left out.
+fn add_mark(excerpt: &mut Excerpt, refusal: &Refusal, window: Window<'_>, mark: Window<'_>)
     requires room { array_vec_len excerpt.old ≤ 422 }
     requires short { length window.shown.now ≤ 100 }
-    ensures { (below : List ℕ) × ((below ≡ []) ⊎ IsMark number window.entry.before.now window.entry.shown.now below)
-        × (excerpt.new.items ≡ excerpt.old.items ++ below) }
+    ensures { (below : List ℕ) × ((below ≡ []) ⊎ IsMark (refusal_of refusal.now)
+        (mark.entry.before.now ++ (mark.entry.shown.now ++ mark.entry.after.now))
+        window.entry.before.now window.entry.shown.now below) × (excerpt.new.items ≡ excerpt.old.items ++ below) }
 {
-    let from = mark.from.saturating_sub(window.before.len());
-    let stretch = cut(window.shown, from, mark.len);
-    let start = stretch.before.len();
-    if goes_on(window.shown, start) || goes_on(window.shown, start + stretch.shown.len()) {
+    let (from, hidden) = (mark.before.len(), window.before.len());
+    if from < hidden || !is_refused(refusal.cause.number(), mark) {
         return;
     }
+    let Window { before, shown, .. } = cut(window.shown, from - hidden, mark.shown.len());
+    let meant = if shown.is_empty() { b" " } else { shown };
     add(excerpt, b"  ");
-    add_below(excerpt, b' ', Buffer::new().format(number).as_bytes());
+    add_below(excerpt, b' ', Buffer::new().format(refusal.line).as_bytes());
     add(excerpt, b" | ");
     add_below(excerpt, b' ', dots(window.before));
-    add_below(excerpt, b' ', stretch.before);
-    add_carets(excerpt, stretch.shown);
+    add_below(excerpt, b' ', before);
+    add_below(excerpt, b'^', meant);
     add(excerpt, b"\n");
 }
 
-// Whether a word goes on at an index.
-fn goes_on(bytes: &[u8], index: usize) -> bool
-    ensures { result ≡ goes_on bytes.now index }
+// Whether a stretch of a line can be what is refused with this number.
+fn is_refused(number: u8, mark: Window<'_>) -> bool
+    ensures { result ≡ is_refused number mark.entry.before.now mark.entry.shown.now mark.entry.after.now }
 {
-    index > 0 && has_word_at(bytes, index - 1) && has_word_at(bytes, index)
+    let word = mark.shown;
+    let (is_card, value) = (read_card(word).is_some(), read_number(word));
+    match number {
+        _ if touch(mark.before, word) || touch(word, mark.after) => false,
+        1 => are_plain(mark.before) && word.first().is_some_and(|byte| !is_plain(byte)),
+        8 => mark.before.is_empty(),
+        47 => mark.before.is_empty() && mark.after.is_empty(),
+        _ if word.is_empty() => matches!(number, 3 | 4) && mark.after.is_empty(),
+        _ if word.contains(&b' ') => number == 4 && word.len() == 1,
+        _ if mark.before.is_empty() => matches!(number, 4 | 6 | 44),
+        4 | 23 | 24 | 41 | 42 | 43 | 45 | 46 => true,
+        5 => !is_card,
+        6 => !value.is_some_and(|value| value <= 32),
+        7 | 22 | 32 => value.is_some(),
+        20 | 40 => is_card,
+        21 => value.is_some_and(|value| value > 120),
+        30 => value.is_some() || word == b"end".as_slice(),
+        31 => word.contains(&b':'),
+        _ => false,
+    }
 }
 
-// Whether a word has the byte at an index.
-fn has_word_at(bytes: &[u8], index: usize) -> bool
-    ensures { result ≡ is_of_word (slice_get bytes.now index) }
+// Whether a word has the last byte before a place, and the first one behind it.
+fn touch(before: &[u8], behind: &[u8]) -> bool
+    ensures { result ≡ touch before.now behind.now }
 {
     let is_of_word = |byte: &u8| (b'!'..=b'~').contains(byte) && *byte != b':';
-    bytes.get(index).is_some_and(is_of_word)
-}
-
-// Appends carets below bytes, or one caret if there are none.
-fn add_carets(excerpt: &mut Excerpt, meant: &[u8])
-    requires { array_vec_len excerpt.old + 4 * length meant.now + 1 ≤ 900 }
-    ensures items { excerpt.new.items ≡ excerpt.old.items ++ carets meant.now }
-    ensures len { array_vec_len excerpt.new ≤ array_vec_len excerpt.old + 4 * length meant.now + 1 }
-{
-    if meant.is_empty() {
-        add(excerpt, b"^");
-    } else {
-        add_below(excerpt, b'^', meant);
-    }
+    before.last().is_some_and(is_of_word) && behind.first().is_some_and(is_of_word)
 }
 
 // Appends a mark below each column in which bytes are shown.
@@ -179,19 +191,10 @@ fn add_below(excerpt: &mut Excerpt, mark: u8, bytes: &[u8])
     ensures len { array_vec_len excerpt.new ≤ array_vec_len excerpt.old + 4 * length bytes.now }
 {
     for byte in bytes {
-        if is_plain(*byte) {
+        if is_plain(byte) {
             add(excerpt, &[mark]);
         } else {
             add(excerpt, &[mark; 4]);
         }
     }
-}
-
-// Returns `\xNN` for a byte.
-fn escape_of(byte: u8) -> [u8; 4]
-    ensures { result ≡ codes "\\x" ++ hex_digit (byte / 16) ∷ hex_digit (byte % 16) ∷ [] }
-{
-    let digits = b"0123456789abcdef";
-    let last = digits[usize::from(byte % 16)];
-    [b'\\', b'x', digits[usize::from(byte / 16)], last]
 }

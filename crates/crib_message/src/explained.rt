@@ -5,7 +5,7 @@ use crate::grammar::{Row, Slot};
 use crate::hints::hint_of;
 use crate::misfit::{BAD_CARD, BAD_LINE, BAD_NEXT, BAD_SET, SAME_CARD, earlier_line, first_misfit};
 use crate::order::{NEEDS_PLAYED, count_hint, order_hint, sections_hint};
-use crate::scene::{Mark, Scene, Word};
+use crate::scene::{Mark, Scene, Word, mark_of};
 use crate::sentence::{Hint, Sentence, named, tell, typed};
 use crate::turns::explain_turn;
 use crib_cards::read_card;
@@ -51,7 +51,7 @@ pub(crate) fn said<T: Display + Drop>(text: T, mark: Option<Mark>, hint: Hint) -
 // Explains an input that is cut short: its last line has no LF, or a line is missing.
 fn cut_short(scene: &Scene<'_>) -> Explained {
     if !scene.input.is_empty() && !scene.input.ends_with(b"\n") {
-        let mark = Some(Mark::of(scene.text().len(), 1));
+        let mark = Some(mark_of(scene.text().len(), 1));
         let hint = tell("Every line ends with LF, the last one too: press Enter behind it.");
         let text = "the last line is cut short; expected: LF at its end";
         return said(text, mark, hint);
@@ -93,7 +93,7 @@ fn blank(scene: &Scene<'_>) -> Option<Explained> {
         None => ("a blank at the end of a line", line.len().saturating_sub(1)),
     };
     let hint = tell("Write one blank between two words, and none at the ends of a line.");
-    let mark = Some(Mark::of(from, 1));
+    let mark = Some(mark_of(from, 1));
     Some(said(format_args!("{found} is {BAD_LINE}"), mark, hint))
 }
 

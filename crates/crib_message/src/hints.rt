@@ -20,7 +20,7 @@ const SHEET: &str = "This is a printed sheet: cribplan-tidy reads it in place of
 const ONE_CARD: &str = "Write the rank and the suit of a card together.";
 
 // What people write for a go.
-const GOES: &str = "go g0 g goes says say pass gos no";
+const GOES: &str = "go g0 g goes says say pass passes knock knocks one gos no";
 
 /// Returns the hint for a misfit of a line that is refused for a cause.
 pub(crate) fn hint_of(scene: &Scene<'_>, misfit: &Misfit<'_>, cause: Cause) -> Hint {
@@ -45,9 +45,11 @@ pub(crate) fn hint_of(scene: &Scene<'_>, misfit: &Misfit<'_>, cause: Cause) -> H
     };
     let hint = hint.or(spare_hint(scene, misfit));
     hint.or(match (misfit.slot, bare(word)) {
+        (Slot::Card | Slot::Move, []) if !word.is_empty() => tell("No card may be left open."),
         (_, []) => None,
         (Slot::Side, _) => tell("The plan is the owner's, and the other player is the opponent."),
         (Slot::Card, _) if is_form => tell(TWO_LETTERS),
+        (Slot::Aim, _) => tell("Who wants not to lose writes goal stop, in a problem 2."),
         (Slot::Target, name) if is_name(name) => tell("Write end, or the number of a node."),
         (Slot::Target, _) => number_hint(word),
         _ => None,
@@ -73,8 +75,9 @@ fn figure_hint(scene: &Scene<'_>, slot: Slot, word: &[u8], is_form: bool) -> Hin
     let is_word = is_form && !word.iter().any(u8::is_ascii_digit);
     let hint = if is_word { None } else { number_hint(word) };
     match slot {
-        Slot::Points if is_word && word.starts_with(b"o") => tell("The owner's comes first."),
+        Slot::Points if is_word && word.starts_with(b"o") => tell("Leave the names out."),
         Slot::Points if !is_form && word == b"121".as_slice() => tell("The game is over at 121."),
+        Slot::Holes if is_either(word, b"win", b"stop") => tell("Leave out the word holes."),
         Slot::Points if scene.word_count() < 3 => two_numbers_hint(word).or(hint),
         _ => hint,
     }
@@ -110,7 +113,8 @@ fn cards_hint(scene: &Scene<'_>) -> Hint {
     let more = match (next.next().unwrap_or(b""), scene.row) {
         (_, Row::Hold) if cards == 6 => ": hold has four, and throw has the other two",
         (b"throw", Row::Hold) if cards == 2 && next.count() == 4 => ": exchange hold and throw",
-        (card, _) if read_card(card).is_some() => ": the cards on the next line belong on this one",
+        (card, _) if read_card(card).is_some() || card == scene.word(0) =>
+            ": the cards on the next line belong on this one",
         _ => "",
     };
     tell(format_args!("The number of cards here is {cards}{more}.")).filter(|_| are_cards)
@@ -123,11 +127,12 @@ fn keyword_hint(scene: &Scene<'_>, word: &[u8]) -> Hint {
     let hint = match scene.word(1) == keyword.as_bytes() {
         _ if word.starts_with(b"{") => return tell("JSON is not read: write the expected line."),
         _ if is_either(word, b"You", b"This") => return tell(SHEET),
-        _ if is_known(scene) => order_hint(scene),
+        _ if word == b"board".as_slice() => return tell("Write the game, and not its board."),
+        false if is_known(scene) && (scene.row != Row::Acts || !is_other) => order_hint(scene),
         _ if is_below(scene) => return tell("Remove this line: what is expected is below."),
-        true if word == b">".as_slice() => tell("Remove the mark > in front of each line."),
         false if is_other => tell(format_args!("Write {keyword} in place of {}.", typed(word))),
-        begins => order_hint(scene).filter(|_| !begins),
+        true => tell(format_args!("Write nothing in front of {keyword}.")),
+        false => order_hint(scene),
     };
     word_hint(word, &[keyword]).or(hint).or(match scene.row {
         Row::Dealer => tell("This line says who deals."),
@@ -163,13 +168,9 @@ fn aim_hint(scene: &Scene<'_>, word: &[u8]) -> Hint {
 fn actor_hint(scene: &Scene<'_>, word: &[u8]) -> Hint {
     word_hint(word, &["own", "opp"]).or(match word {
         _ if is_word(word, b"go") || read_card(word).is_some() => tell("Begin with own or opp."),
-        _ if is_either(scene.word(1), b"own", b"opp") => tell(
-            "Write nothing in front of own or opp.",
-        ),
+        _ if is_either(scene.word(1), b"own", b"opp") => tell("Leave this out."),
         _ if is_node(scene.text()) => tell("Nodes stand in a plan, and a game has acts: own 2C."),
-        _ => order_hint(scene).or(tell(
-            "An act begins with own for the owner, or with opp for the opponent.",
-        )),
+        _ => order_hint(scene).or(tell("Write own for the owner, and opp for the opponent.")),
     })
 }
 
@@ -184,7 +185,7 @@ fn move_hint(scene: &Scene<'_>, misfit: &Misfit<'_>) -> Hint {
     tell(match (bytes, next) {
         _ if is_go && is_stated => "A plan states no go of the owner: leave this node out.",
         _ if is_go => "Write a go as go.",
-        _ if is_stated && is_target && is_like_card(next) =>
+        _ if is_stated && is_target && (next.is_empty() || is_like_card(next)) =>
             "Write the card in front of the node to go on at: 0 play 2C 1.",
         _ if is_either(bytes, b"own", b"opp") => ACT_A_LINE,
         ([rank], [suit]) if card_meant(*rank, *suit).is_some() => ONE_CARD,
@@ -195,9 +196,7 @@ fn move_hint(scene: &Scene<'_>, misfit: &Misfit<'_>) -> Hint {
 // The number in front of a node.
 fn own_hint(scene: &Scene<'_>, word: &[u8]) -> Hint {
     order_hint(scene).or(match read_number(word) {
-        _ if is_act(scene.text()) => tell(
-            "Acts stand in a game, and a plan has nodes: 0 play 2C end.",
-        ),
+        _ if is_act(scene.text()) => tell("A plan has nodes, and a game has acts: 0 play 2C end."),
         Some(_) if scene.node() == 0 => tell("The first node has the number 0."),
         _ if read_number(bare(word)).is_some() => number_hint(word),
         _ => tell("A node begins with its number: 0 play 2C end."),

@@ -3,6 +3,7 @@ ghost use Rattle.std.specs.Prelude.{◌≡◌, ◌≤◌, ◌+◌, ◌++◌, len
 ghost use Rattle.std.specs.Char.{is_ascii_alphabetic};
 ghost use Rattle.std.specs.List.{filter, list_any};
 ghost use Rattle.arrayvec.specs.ArrayVec.{array_vec_len};
+ghost use Rattle.crib_input.specs.Refusals.{refusal_of};
 ghost use Rattle.crib_message.specs.Message.{IsMessage, IsRefusalMessage, fault_text};
 ghost use Rattle.crib_message.specs.Message.{heading, is_plain, message_text, spot_words};
 
@@ -33,9 +34,8 @@ impl Message {
         requires { length program.now ≤ 20 }
         ensures { result.text.items ≡ program.now ++ codes ": " }
     {
-        let mut message = Message {
-            text: ArrayVec::new(),
-        };
+        let text = ArrayVec::new();
+        let mut message = Message { text };
         message.add(program);
         message.add(b": ");
         message
@@ -56,7 +56,7 @@ impl Message {
         ensures len { array_vec_len self.new.text ≤ array_vec_len self.old.text + length sentence.now }
     {
         for byte in sentence {
-            if is_plain(*byte) {
+            if is_plain(byte) {
                 self.add(&[*byte]);
             }
         }
@@ -116,7 +116,7 @@ pub fn message_of(program: &[u8], sections: Sections, input: &[u8], reason: &Rea
 
 fn refusal_message(program: &[u8], sections: Sections, input: &[u8], refusal: &Refusal) -> Message
     requires { length program.now ≤ 20 }
-    ensures { IsRefusalMessage program.now sections input.now refusal.now.line result.text.items }
+    ensures { IsRefusalMessage program.now sections input.now (refusal_of refusal.now) result.text.items }
 {
     let scene = Scene::new(sections, input, refusal.line);
     let Explained { sentence, mark } = explain(&scene, refusal.cause);
@@ -124,7 +124,7 @@ fn refusal_message(program: &[u8], sections: Sections, input: &[u8], refusal: &R
     message.add_sentence(worded(sentence.0.as_str().as_bytes()));
     message.add(b"\n");
     if let Some(line) = scene.line {
-        message.add(excerpt_of(refusal.line, line, mark).as_slice());
+        message.add(excerpt_of(refusal, line, mark).as_slice());
     }
     message
 }

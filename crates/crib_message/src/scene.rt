@@ -56,11 +56,9 @@ pub(crate) struct Mark {
     pub(crate) len: usize,
 }
 
-impl Mark {
-    /// Returns the stretch of so many bytes from an index.
-    pub(crate) fn of(from: usize, len: usize) -> Mark {
-        Mark { from, len }
-    }
+/// Returns the stretch of so many bytes from an index.
+pub(crate) fn mark_of(from: usize, len: usize) -> Mark {
+    Mark { from, len }
 }
 
 /// A word of a line, its index there, and that of its first byte in the line.
@@ -80,7 +78,7 @@ impl<'a> Word<'a> {
 
     /// Returns the bytes of the line that the word takes.
     pub(crate) fn mark(&self) -> Option<Mark> {
-        Some(Mark::of(self.from, self.bytes.len()))
+        Some(mark_of(self.from, self.bytes.len()))
     }
 
     /// Returns the part in front of the first colon.

@@ -66,6 +66,7 @@ pub(crate) fn number_hint(word: &[u8]) -> Hint {
         _ if are_digits(bare(word)) => "Write no other sign at a number.",
         _ if word.iter().all(|byte| b"0123456789OolIi".contains(byte)) =>
             "Write 0 and 1 as digits, not as letters.",
+        _ if word.iter().any(|byte| b";\\".contains(byte)) => "End the line behind the number.",
         _ => "Write a number in digits alone.",
     })
 }

@@ -1,6 +1,6 @@
 //! Why an act may not be the next one, in an opening, in a game, or in the turns since.
 use crate::explained::Explained;
-use crate::scene::{Mark, Scene, text_at};
+use crate::scene::{Scene, mark_of, text_at};
 use crate::sentence::{Held, Sentence, moved, named, side_and_go, typed};
 use crate::state::State;
 use crate::strays::add_stray;
@@ -23,11 +23,11 @@ pub(crate) fn explain_turn(scene: &Scene<'_>, cause: Cause) -> Option<Explained>
     };
     add_reason(&mut sentence, &state, scene, cause)?;
     let mark = match cause {
-        Game(Fault::NotAsPlayed(_)) => Some(Mark::of(0, 6)),
-        Game(Fault::NotUnseen(number @ 5..)) => Some(Mark::of(3 * usize::from(number) - 9, 2)),
-        Game(Fault::NotUnseen(number)) => Some(Mark::of(3 * usize::from(number) + 2, 2)),
-        Game(Fault::NotTurn(_)) | Problem(Rule::NotTurn) => Some(Mark::of(0, 3)),
-        _ => Some(Mark::of(4, 2)),
+        Game(Fault::NotAsPlayed(_)) => Some(mark_of(0, 6)),
+        Game(Fault::NotUnseen(number @ 5..)) => Some(mark_of(3 * usize::from(number) - 9, 2)),
+        Game(Fault::NotUnseen(number)) => Some(mark_of(3 * usize::from(number) + 2, 2)),
+        Game(Fault::NotTurn(_)) | Problem(Rule::NotTurn) => Some(mark_of(0, 3)),
+        _ => Some(mark_of(4, 2)),
     };
     Some(Explained { sentence, mark })
 }

@@ -5,6 +5,8 @@ use crib_input::Sections;
 const LINES: &str = r##"
 > problem one|
 "one" is not a valid number here; expected: problem 1 or problem 2. Write a number in digits alone.
+> problem 1;dealer owner|
+"1;dealer" is not expected here; expected: problem 1 or problem 2. End the line behind the number.
 > problem 1.0|
 "1.0" is not a valid number here; expected: problem 1 or problem 2. Write a number in digits alone.
 > Problem: 1|
@@ -94,7 +96,7 @@ Did you mean score?
 "zero" is not a valid number here; expected: a number from 0 to 120. Write a number in digits alone.
 > score own 109 opp 110|
 "own" is not expected here; expected: score and two numbers from 0 to 120, the owner's and the opponent's.
-The owner's comes first.
+Leave the names out.
 > score 109:110|
 "109:110" is not expected here; expected: score and two numbers from 0 to 120, the owner's and the opponent's.
 Write whole numbers, with a blank between two.
@@ -150,7 +152,7 @@ Leave this out.
 > starter King of Diamonds|
 "King" is not expected here; expected: starter and a card. Write a card as two letters, its rank and its suit: TS.
 > starter ??|
-"??" is not a card; expected: a rank of A23456789TJQK and then a suit of CDHS, such as TS
+"??" is not a card. No card may be left open.
 > starter K-D|
 "K-D" is not a card. Write no other sign at a card: KD.
 > starter 13D|
@@ -215,6 +217,8 @@ A line ends with LF alone: save the file with Unix line ends.
 \"\\xe2\\x99\\xa6\" is neither LF nor 32 to 126. Write the suit sign of diamonds as the letter D.
 > starter KD\u{fe0f}|
 \"\\xef\\xb8\\x8f\" is neither LF nor 32 to 126. Remove the invisible sign here.
+> starter K\u{200b}D|
+\"\\xe2\\x80\\x8b\" is neither LF nor 32 to 126. Remove the invisible sign here.
 > starter \u{201c}KD\u{201d}|
 \"\\xe2\\x80\\x9c\" is neither LF nor 32 to 126. Remove the quotation mark.
 ";

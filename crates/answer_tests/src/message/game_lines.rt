@@ -8,6 +8,8 @@ const LINES: &str = r#"
 the end of the line is not expected here; expected: hold and four cards. The number of cards here is 3.
 > game 1|hold 7C 8C 9C 1OC|
 "1OC" is not a card. Write ten as T: TC.
+> game 1|opp hold 7C 8C 9C TC|
+"opp" is not expected here; expected: hold and four cards. Write nothing in front of hold.
 > game 1|throw 7C 8C|
 "throw" is not expected here; expected: hold and four cards. The line hold is missing.
 >
@@ -16,14 +18,18 @@ the input ends here; expected: game 1. This command reads a problem and then a g
 "plan" is not expected here; expected: game 1. This command reads a problem and then a game.
 > game 1|hold 7C 8C 9C TC|throw 7D|
 the end of the line is not expected here; expected: throw and two cards. The number of cards here is 1.
+> board 1|
+"board" is not expected here; expected: game 1. Write the game, and not its board.
 > fails stuck|game 1|
 "fails" is not expected here; expected: game 1. Remove this line: what is expected is below.
 + game 1|hold 7C 8C 9C TC|throw 7D 8D|
+> acts 2|own 2C|opp one for go|
+"one" is not expected here; expected: own or opp, and then a card or go. Write a go as go.
 > acts 2|own 2C|opp pass|
 "pass" is not a card. Write a go as go.
 > acts 2|own 2C|pone 7C|
 "pone" is not expected here; expected: own or opp, and then a card or go.
-An act begins with own for the owner, or with opp for the opponent.
+Write own for the owner, and opp for the opponent.
 > acts 2|own 2C|7C opp|
 "7C" is not expected here; expected: own or opp, and then a card or go. Begin with own or opp.
 > acts 2|OWN 2C|
@@ -31,7 +37,7 @@ An act begins with own for the owner, or with opp for the opponent.
 > acts 2|own-2C|
 "own-2C" is not expected here; expected: own or opp, and then a card or go. Write a blank behind the word own.
 > acts 2|1 own 2C|
-"1" is not expected here; expected: own or opp, and then a card or go. Write nothing in front of own or opp.
+"1" is not expected here; expected: own or opp, and then a card or go. Leave this out.
 > acts 2|own 2C 2|
 "2" is not expected here; expected: own or opp, and then a card or go. An act ends with its card, or with go.
 > acts 2|own: 2C|
@@ -59,7 +65,7 @@ Line 11 says acts 2, but the number of lines for it is 1.
 > own 2C|
 "own" is not expected here; expected: acts and the number of acts that follow. The line acts 1 is missing.
 > turns 1|own 2C|
-"turns" is not expected here; expected: acts and the number of acts that follow. The line acts is missing.
+"turns" is not expected here; expected: acts and the number of acts that follow. Write acts in place of "turns".
 > acts 1|own 2c|
 "2c" is not a card. Write a card in capital letters: 2C.
 > acts 1|own 2C opp 7C|
@@ -68,6 +74,8 @@ Line 11 says acts 2, but the number of lines for it is 1.
 "10C" is not a card. Write ten as T: TC.
 > acts 1|opp 10|
 "10" is not a card. Write the suit behind the rank, as in TS.
+> acts 1|opp ?|
+"?" is not a card. No card may be left open.
 > acts 1|opp t|
 "t" is not a card. Write the suit behind the rank, as in TS.
 > acts 1|opp 11|
@@ -78,7 +86,7 @@ Line 11 says acts 2, but the number of lines for it is 1.
 "0" is not expected here; expected: own or opp, and then a card or go. An act ends with its card, or with go.
 > acts 1|Ann 2C|
 "Ann" is not expected here; expected: own or opp, and then a card or go.
-An act begins with own for the owner, or with opp for the opponent.
+Write own for the owner, and opp for the opponent.
 > acts|own 2C|
 the end of the line is not expected here; expected: acts and the number of acts that follow. Write acts 1.
 > moves 1|own 2C|
@@ -89,7 +97,7 @@ the end of the line is not expected here; expected: acts and the number of acts 
 the end of the line is not expected here; expected: own or opp, and then a card or go
 > acts 1|you 2C|
 "you" is not expected here; expected: own or opp, and then a card or go.
-An act begins with own for the owner, or with opp for the opponent.
+Write own for the owner, and opp for the opponent.
 > acts 1||
 an empty line is not expected here; expected: own or opp, and then a card or go. Remove it.
 > acts 1|0 play 2C end|

@@ -35,8 +35,13 @@ The number of cards here is 2: exchange hold and throw.
 > hold 2S 8D|8H 8S|
 the end of the line is not expected here; expected: hold and four cards.
 The number of cards here is 2: the cards on the next line belong on this one.
+> hold 2S 8D|hold 8H 8S|
+the end of the line is not expected here; expected: hold and four cards.
+The number of cards here is 2: the cards on the next line belong on this one.
+> hold 2S 8D ? 8S|
+"?" is not a card. No card may be left open.
 > > hold 2C 3C 4C 5C|
-">" is not expected here; expected: hold and four cards. Remove the mark > in front of each line.
+">" is not expected here; expected: hold and four cards. Write nothing in front of hold.
 > hold KD 4D 9H JC|
 KD is already used, on line 4
 > hold 4D 4D 9H JC|
@@ -62,13 +67,18 @@ the end of the line is not expected here; expected: throw and two cards. The num
 > notes|hold 2C 3C 4C 5C|
 "notes" is not expected here; expected: hold and four cards. Remove this line: what is expected is below.
 > my hold 2C 3C 4C 5C|
-"my" is not expected here; expected: hold and four cards. Begin this line with the word hold.
+"my" is not expected here; expected: hold and four cards. Write nothing in front of hold.
 > hold 2C 3C 4C 5C|discard 6C 6D|
 "discard" is not expected here; expected: throw and two cards. Write throw in place of "discard".
 # problem 1|dealer owner|score 60 0|starter KD|hold 2C 3C 4C 5C|throw 6C 6D|
 > goal holes five|
 "five" is not a valid number here; expected: 1 to 61, what is left from 60 to hole 121.
 Write a number in digits alone.
+> goal holes win|
+"win" is not a valid number here; expected: 1 to 61, what is left from 60 to hole 121. Leave out the word holes.
+> goal not lose|
+"not" is not expected here; expected: goal win, goal holes N or, in a problem 2, goal stop.
+Who wants not to lose writes goal stop, in a problem 2.
 > goal holes12|
 "holes12" is not expected here; expected: goal win, goal holes N or, in a problem 2, goal stop.
 Write a blank behind the word holes.
@@ -155,7 +165,7 @@ missing.
 > played 1|opponent 7C|
 "opponent" is not expected here; expected: own or opp, and then a card or go. Did you mean opp?
 > played 1|* opp 7C|
-"*" is not expected here; expected: own or opp, and then a card or go. Write nothing in front of own or opp.
+"*" is not expected here; expected: own or opp, and then a card or go. Leave this out.
 > played none|opp 7C|
 "none" is not a valid number here; expected: a number from 0 to 32. Write played 1.
 > played opp 7C|

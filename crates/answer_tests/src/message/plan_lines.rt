@@ -74,6 +74,9 @@ A node begins with its number: 0 play 2C end.
 "2C" is not expected here; expected: a node, such as 0 play 2C end or 0 see A2:1. Write play in front of a card.
 > 0 play 2C|
 the end of the line is not expected here; expected: the number of a later node, or end
+> 0 play 1|
+"1" is not expected here; expected: a card, and then a later node or end.
+Write the card in front of the node to go on at: 0 play 2C 1.
 > 0 play|
 the end of the line is not expected here; expected: a card, and then a later node or end
 > 0 play 2C -> 1|
@@ -97,7 +100,7 @@ Write a number in digits alone.
 "go" is not a card. A plan states no go of the owner: leave this node out.
 > own 2C|
 "own" is not expected here; expected: a node, such as 0 play 2C end or 0 see A2:1.
-Acts stand in a game, and a plan has nodes: 0 play 2C end.
+A plan has nodes, and a game has acts: 0 play 2C end.
 > 0 play 2C 1|
 the input ends here; expected: a node, such as 0 play 2C end or 0 see A2:1.
 Line 9 says nodes 2, but the number of lines for it is 1.

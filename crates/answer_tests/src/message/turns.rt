@@ -194,8 +194,8 @@ but the number of lines for it is 1.
 > turns 1|own|
 the end of the line is not expected here; expected: own or opp, and then a card or go
 > turns 1|me TC|
-"me" is not expected here; expected: own or opp, and then a card or go. An act begins with own for the owner,
-or with opp for the opponent.
+"me" is not expected here; expected: own or opp, and then a card or go.
+Write own for the owner, and opp for the opponent.
 > turns 1|0 play TC end|
 "0" is not expected here; expected: own or opp, and then a card or go. Nodes stand in a plan, and a game has acts:
 own 2C.

@@ -3,13 +3,13 @@ use Rattle.std.specs.Prelude.{option_map}
 use Rattle.std.specs.List.{filter}
 use Rattle.std.proofs.lemmas.List.Elements.{filter_passes}
 use Rattle.crib_text.specs.Spelling.{line_feed}
+use Rattle.crib_input.specs.Refusals.{refusal_of}
 use Rattle.crib_message.specs.Message.{heading, is_plain}
 use Rattle.crib_message.proofs.MessageLemmas.{said, said_alone, shows_line, shows_none, still_worded}
 use Rattle.crib_message.proofs.message.refusal_message.Goals as goal
 
 pub returns-in-Some : goal.returns-in-Some
 returns-in-Some c =
-    let line = c.args.refusal.now.line in
     let start = c.headed-message.result.text.items in
     let sentence = filter is_plain c.worded.result.now in
     let excerpt = c.excerpt_of.result.items in
@@ -26,7 +26,7 @@ returns-in-Some c =
           ∙ ap (λ (xs : List ℕ). xs ++ (sentence ++ line_feed ∷ excerpt)) head;
       plain = filter_passes is_plain c.worded.result.now;
       worded = still_worded c.worded.result.now c.worded.ensures.word;
-      shows = shows_line c.args.input.now c.in-Some.line.now excerpt line
+      shows = shows_line c.args.input.now c.in-Some.line.now excerpt (refusal_of c.args.refusal.now)
           (sym c.new-scene.ensures.line ∙ ap (option_map (λ (b : Bor (List ℕ)). b.now)) c.in-Some.is) c.excerpt_of.ensures;
     }
 
@@ -43,6 +43,6 @@ returns-in_default c =
           ∙ ap (λ (xs : List ℕ). xs ++ (sentence ++ line_feed ∷ [])) head;
       plain = filter_passes is_plain c.worded.result.now;
       worded = still_worded c.worded.result.now c.worded.ensures.word;
-      shows = shows_none c.args.input.now [] c.args.refusal.now.line
+      shows = shows_none c.args.input.now [] (refusal_of c.args.refusal.now)
           (sym c.new-scene.ensures.line ∙ ap (option_map (λ (b : Bor (List ℕ)). b.now)) c.in_default.is) refl;
     }

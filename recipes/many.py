@@ -221,11 +221,11 @@ def decide_table(file: str, lanes: int) -> list[str]:
         say(f"{file} can't be read: {error.strerror}")
         print("fault 9")
         sys.exit(3)
-    is_row = re.compile(r'(?!sep=)[ ,;\t"]*[^ ,;\t"]').match
+    is_row = re.compile(r'(?!sep=)[ ,;\t|"]*[^ ,;\t|"]').match
     (_, head), *lines = [(at, line) for at, line in lines if is_row(line)] or refuse(f"{file} is empty")
-    sign = max(",;\t", key=head.count)
+    sign = max(",;\t|", key=head.count)
     names = next(csv.reader([head], delimiter=sign))
-    columns = [plain(name).strip(" :").lower() for name in names]
+    columns = [" ".join(words_of(plain(name))).lower() for name in names]
     for column in COLUMNS:
         if columns.count(column) > 1:
             refuse(f"{file} has two columns {column}")
@@ -254,7 +254,7 @@ def refuse_table(file: str) -> None:
     """Ends if a file looks like a table of positions, which is no input."""
     with suppress(OSError):
         front = table_text(file).partition("\n")[0] if os.path.isfile(file) else ""
-        if re.search(r"\.[ct]sv$", file, re.I) or re.search("dealer.*[,;\t]|[,;\t].*dealer", front, re.I):
+        if re.search(r"\.[ct]sv$", file, re.I) or re.search("dealer.*[,;\t|]|[,;\t|].*dealer", front, re.I):
             refuse(f"{file} is a table; type {NAME} --rows {file}")
 
 

@@ -14,18 +14,18 @@ NUMBERS = dict(zip("ACE TWO THREE FOUR FIVE SIX SEVEN EIGHT NINE TEN JACK QUEEN 
 KEYWORDS = "problem dealer owner opponent score starter hold throw goal win holes stop played own opp go".split()
 KEYWORDS += "game acts plan nodes turns play see end".split()
 # The marks of mails and of lists.
-MARKS = rf"(?i)^ *(?:(?:[>|•·] ?)+|- (?=\w)|node (?=\d)|\d+[.)] +(?=(?:{'|'.join(KEYWORDS[:-3])})\b))"
+MARKS = rf"(?i)^ *(?:(?:[>|•·$] ?)+|- (?=\w)|node (?=\d)|\d+[.):]?[ |]+(?=(?!holes)(?:{'|'.join(KEYWORDS[:-3])})\b))"
 ARROW = r"\s*(?:[-=]>|=|[→⇒])\s*"
 NEXT = rf"(?:{ARROW}|,? (?:then|go ?to) (?=\S)|, *)"  # behind the card of a node
 BRANCH = rf"(?:(?:10|[{RANKS}])(?:-(?:10|[{RANKS}]))?|GO?)+"
 COUNTED, ACT = ("played", "acts", "nodes", "turns"), rf"(?:own|opp) (?:{CARD}|go)"
-TABLE = re.compile(r"([,;\t])(?:[^,;\t]*\1){5}")
+TABLE = re.compile(r"([,;\t|])(?:[^,;\t|]*\1){5}")
 OTHERS = "hand=hold keep=hold discard=throw crib=throw cut=starter upcard=starter pass=go passes=go goes=go"
 MEANT = dict(zip(KEYWORDS, KEYWORDS)) | dict(pair.split("=") for pair in OTHERS.split())
 END = -1  # the place after a plan
 MARK = "\ud800"  # no text has it; it is before the place of a node without a name, and around a place in a note
-SHEET = re.compile(r"You are the (?:pone|dealer) at \d|This plan is (?:(?:not )?sure|long)[.:] ")
-ROWS = re.compile(r"^(?:This plan is (?:sure|long)[^\n]*|The plan:)\n(.*?)(?=^Play a row|\Z)", re.M | re.S)
+SHEET = re.compile(r" *(?:You (?:are the \w+ at \d|hold \w\w |want )|This plan is (?:(?:not )?sure|long)[.:] )")
+ROWS = re.compile(r"^ *(?:This plan is (?:sure|long)[^\n]*|The plan:)\n(.*?)(?=^ *Play a row|\Z)", re.M | re.S)
 ROW = r"(?i)( *)(?:(\[\d+\]) |([^:]*?) *: )?((?:\b\w{2,3}\b,? ?)*)(?:(?:, then )?(?:(look):?|see (\[\d+\])|end))?"
 
 
@@ -77,6 +77,7 @@ def words_of(text: str) -> list[str]:
     between = rf"{ARROW}|(?<=\d)(?:-| to )(?=\d)|(?<=[CDHS])-(?=\w)| - |\.+(?= )|[][(),;:/|&+]|\b(?:and|says?|plays)\b"
     typed = " ".join(map(meant, re.sub(between, " ", text, flags=re.I).split()))
     typed = re.sub(rf"(?i)(?<!\S)([{RANKS}]|10) ([CDHS])(?!\S)", lambda card: meant(card[1] + card[2]), typed)
+    typed = re.sub(r"^(goal|score) (?:holes (?=win|stop)|own(?:er)? (\d+ )opp(?:onent)? (?=\d))", r"\1 \2", typed)
     return re.sub(rf"\b(own|opp)(?:er|onent)(?= (?:{CARD}|go)\b)", r"\1", typed).split()
 
 
@@ -222,17 +223,16 @@ def read_sheet(sheet: list[str], notes: list[str]) -> list[str]:
     made = ["plan 1", "nodes"] if rows else sheet
     looks: list[tuple[int, int]] = []  # the blanks before each look that is open, and the place of its line
     for at, row in enumerate(filter(None, "".join(rows[-1:]).splitlines())):
-        if not (found := re.fullmatch(ROW, row)):
-            if not row.startswith(("This plan is long", "No card is needed", "The plan states no card")):
-                notes.append(f'this row can\'t be read: "{row.strip()}"')
+        if not (found := re.fullmatch(ROW, row)) or found[3] and not any(one[0] < len(found[1]) for one in looks):
+            if not row.lstrip().startswith(("This plan is long", "No card is needed", "The plan states no card")):
+                notes.append(f'this row, or the blanks in front of it, can\'t be read: "{row.strip()}"')
                 made.append(row)
             continue
         blanks, name, label, cards, look, target = found.groups()
         steps = [*cards.replace(",", "").split(), *filter(None, [look])]
         names = [name or f"{at}.0", *(f"{at}.{step}" for step in range(1, len(steps)))]
         names[len(steps) :] = [target or "end"]
-        while looks and looks[-1][0] >= len(blanks):
-            looks.pop()
+        looks = [one for one in looks if one[0] < len(blanks)]
         if label and looks:
             made[looks[-1][1]] += f" {label.replace(' ', '')}:{names[0]}"
         for step, name, following in zip(steps, names, names[1:]):
@@ -270,8 +270,8 @@ def main() -> None:
     # Lines such as holds or fails stuck, of an answer beside a plan or a game, are taken out.
     lines = [(old, re.sub(r"^(holds|reached|fails \w+)$", "", plain(old))) for old in typed + [last] * bool(last)]
     start = next((at for at, (_, line) in enumerate(lines) if SHEET.match(line)), len(lines))
-    is_head = re.compile(r"(?:problem|plan|game|turns)\W*\d*", re.I).fullmatch
-    top = next((at for at, (_, line) in enumerate(lines[:start]) if re.fullmatch(r"(?i)problem\W*\d", line)), 0)
+    is_head = re.compile(r" *(?:problem|plan|game|turns)\W*\d*", re.I).fullmatch
+    top = next((at for at, (_, line) in enumerate(lines[:start]) if re.fullmatch(r"(?i) *problem\W*\d", line)), 0)
     end = next((at for at in range(start, len(lines)) if is_head(lines[at][1])), len(lines))
     notes = ["a printed sheet is read as its plan"] * (start < end)
     printed, blanks, in_plan, sections = [], 0, False, [[]]

@@ -56,7 +56,7 @@ class Declared:
 
     def type_in_antt(self, crate: str, rust: str, uses: set[str]) -> str:
         """A type of Rust as antt has it. Adds the imports for it."""
-        rust = self.others.get(rust.strip(), rust.strip())
+        rust = re.sub(r"<'\w+>|'\w+, ", "", self.others.get(rust.strip(), rust.strip()))
         if len(rust) == 1:  # it is a parameter
             return rust
         for form, antt in LIBRARY["forms"].items():

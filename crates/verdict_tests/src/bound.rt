@@ -144,15 +144,12 @@ fn is_served(rt: &(impl Abort + AllocGlobal), of: &str, served: u64) -> bool {
     let problem = problem(rt, of);
     let plenty = Refusing::after(rt.alloc(), u64::MAX);
     let heap = Refusing::after(rt.alloc(), served);
+    let other = Refusing::after(rt.alloc(), served);
     let advice = advice(rt, &plenty, &problem);
     let mut guide = advice.guide(&plenty).expect(rt, "memory");
     let is_served = bound_of(&heap, &problem, 1, &mut guide).is_ok();
-    let heap = Refusing::after(rt.alloc(), served);
-    same(
-        rt,
-        bound_in_cases(&heap, &problem, 1, &mut guide).is_ok(),
-        is_served,
-    );
+    let too = bound_in_cases(&other, &problem, 1, &mut guide).is_ok();
+    same(rt, too, is_served);
     is_served
 }
 

@@ -25,10 +25,9 @@ use Rattle.crib_why.specs.declared.why.Why.TheVariants as why
 use Rattle.crib_why_sheet.specs.WhyPlay.{held_with}
 use Rattle.crib_why_sheet.specs.WhyRows.{lines_from}
 use Rattle.crib_sheet.specs.Meaning.{IsDecidedBySuits, IsRefutedBy, SheetMeans}
-use Rattle.crib_sheet.specs.Refute.{WhyTexts, refute_reply, refute_texts, refuted_text, rows_text, suits_line, why_texts, words_reply}
+use Rattle.crib_sheet.specs.Refute.{WhyTexts, refute_reply, refute_texts, refuted_text, rows_text, suits_line, why_texts}
 use Rattle.crib_sheet.specs.Sheet.{AnswersWhy}
 use Rattle.crib_sheet.specs.declared.answer.job.SheetJob.TheVariants.{Refute, Why}
-use Rattle.crib_sheet.specs.declared.refutation.InWords.TheVariants as words
 
 -- two games with two acts and with none
 abbrev one_go : Game
@@ -74,14 +73,7 @@ rows_once = refl
 replies_of_refute : (A : Type 0) →
     (refute_reply {A = A} why.Sure ≡ record { output = codes "sure\n"; status = Yes })
     × (refute_reply {A = A} (why.BySuits (record { items = 11 ∷ [] })) ≡ record { output = codes "suits J\n"; status = No })
-    × (words_reply {A = A} words.Sure ≡ record { output = codes "Some plan is sure: cribplan solve prints one.\n"; status = Yes })
-    × (words_reply {A = A} (words.BySuits (record { items = 11 ∷ [] })) ≡ record {
-      output = codes "No plan is sure, since a plan sees no suits. But a player who does is sure.\n"
-          ++ codes "Look at the suit if they show one of these next: J\n";
-      status = No;
-    })
-    × ((words_reply {A = A} (words.Refuted (record { items = [] }))).status ≡ No)
-replies_of_refute A = (refl, refl, refl, refl, refl)
+replies_of_refute A = (refl, refl)
 
 three_answers : (texts : WhyTexts) (problem : Setup) (reply : Reply) →
     (IsWinnable problem → reply.output ≡ texts.sure → reply.status ≡ Yes → ⊥) →

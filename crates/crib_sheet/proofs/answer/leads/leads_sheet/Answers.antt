@@ -8,7 +8,9 @@ use Rattle.crib_sheet.proofs.MadeSheets.{fits_large, leads_answers, leads_made, 
 use Rattle.crib_sheet.proofs.answer.leads.leads_sheet.Goals as goal
 
 pub returns-in_err-leads-clause-outcome : goal.returns-in_err-leads-clause-outcome
-returns-in_err-leads-clause-outcome g c = let none = leads_unmade _ _ _ c.in_ok-problem.ensures.read (no_turns _ _ c.in_err-leads.ensures) in search rules
+returns-in_err-leads-clause-outcome g c =
+    let p = err_from_is_err_and c.from_residual-in_err-leads.result c.from_residual-in_err-leads.ensures.1 in
+    rw (p.1, p.2) (leads_unmade _ _ _ c.in_ok-problem.ensures.read (no_turns _ _ c.in_err-leads.ensures))
 
 pub returns-in_err-stops-clause-outcome : goal.returns-in_err-stops-clause-outcome
 returns-in_err-stops-clause-outcome g c =

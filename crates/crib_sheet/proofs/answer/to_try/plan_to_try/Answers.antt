@@ -1,4 +1,5 @@
 use Rattle.std.proofs.Common.{rules}
+use Rattle.std.proofs.lemmas.Result.{err_from_is_err_and}
 use Rattle.crib_run.specs.Reply.{reply_of}
 use Rattle.crib_run.proofs.Delivery.{outcome_map}
 use Rattle.crib_sheet.proofs.MadeSheets.{fits_large, try_made, try_unmade}
@@ -10,7 +11,9 @@ returns-clause-outcome g c =
     c.plan_answer.ensures.outcome
 
 pub returns-in_err-tried-clause-outcome : goal.returns-in_err-tried-clause-outcome
-returns-in_err-tried-clause-outcome g c = let none = try_unmade _ _ _ c.in_ok-problem.ensures.read c.in_err-tried.ensures in search rules
+returns-in_err-tried-clause-outcome g c =
+    let p = err_from_is_err_and c.from_residual-in_err-tried.result c.from_residual-in_err-tried.ensures.1 in
+    rw (p.1, p.2) (try_unmade _ _ _ c.in_ok-problem.ensures.read c.in_err-tried.ensures)
 
 pub returns-in_err-tried-clause-told : goal.returns-in_err-tried-clause-told
 returns-in_err-tried-clause-told g c = let fits = fits_large _ c.in_err-tried.ensures in search rules

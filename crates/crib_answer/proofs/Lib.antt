@@ -9,3 +9,4 @@ pub mod JudgedInputs
 pub mod Agreement
 mod InputExamples
 mod MeaningExamples
+mod StatusExamples

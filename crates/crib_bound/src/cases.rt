@@ -22,7 +22,7 @@ use std::alloc::{AllocError, Allocator};
 const DEPTH: u8 = 24;
 
 // No more walks are taken.
-const WALKS: u8 = 200;
+const WALKS: u8 = 40;
 
 // What the bound is counted from in each case.
 #[derive(Drop)]
@@ -30,7 +30,7 @@ struct Cases<'a, A: Allocator> {
     problem: &'a Problem,
     start: Know,
     choices: Choices<'a, A>,
-    parts: u16,
+    parts: u32,
     // So much shows that the plan of the search is best.
     enough: u64,
 }
@@ -39,7 +39,7 @@ struct Cases<'a, A: Allocator> {
 #[derive(Drop)]
 struct Room<A: Allocator> {
     fixed: Vec<Fixed, A>,
-    spare: Vec<u16, A>,
+    spare: Vec<u32, A>,
     walks: u8,
 }
 
@@ -51,7 +51,7 @@ struct Room<A: Allocator> {
 pub fn bound_in_cases<A: Allocator + Copy>(
     alloc: A,
     problem: &Problem,
-    parts: u16,
+    parts: u32,
     guide: &mut Guide<'_, A>,
 ) -> Result<u64, AllocError>
     ensures { IfOk result (λ value. (plan : List Node) (count : ℕ) → AreExactly (Beats problem.now plan) count

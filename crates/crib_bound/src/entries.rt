@@ -14,14 +14,14 @@ use crib_show::CHOICES;
 use std::alloc::Allocator;
 
 /// So many parts are left of each open deal of the entry with an index.
-pub(crate) type Amounts = [u16; ENTRIES];
+pub(crate) type Amounts = [u32; ENTRIES];
 
 /// Holds back what the notes of a guide don't allow.
 pub(crate) fn hold_back<A: Allocator + Copy>(
     guide: &Guide<'_, A>,
-    parts: u16,
-    indices: &[u16],
-    held: &mut [u16],
+    parts: u32,
+    indices: &[u32],
+    held: &mut [u32],
     amounts: &mut Amounts,
 )
     requires small { All (λ index. index < 29120) indices.now }
@@ -42,7 +42,7 @@ pub(crate) fn hold_back<A: Allocator + Copy>(
 }
 
 /// Puts back what was held.
-pub(crate) fn put_back(indices: &[u16], held: &[u16], amounts: &mut Amounts)
+pub(crate) fn put_back(indices: &[u32], held: &[u32], amounts: &mut Amounts)
     requires small { All (λ index. index < 29120) indices.now }
     requires room { length held.now ≡ length indices.now }
     ensures most { (index : ℕ) → get_or amounts.new index 0
@@ -57,7 +57,7 @@ pub(crate) fn put_back(indices: &[u16], held: &[u16], amounts: &mut Amounts)
 }
 
 /// Reads the amounts at some indices.
-pub(crate) fn read_parts(indices: &[u16], amounts: &Amounts, parts: &mut [u16])
+pub(crate) fn read_parts(indices: &[u32], amounts: &Amounts, parts: &mut [u32])
     requires small { All (λ index. index < 29120) indices.now }
     requires room { length parts.old ≡ length indices.now }
     ensures read { AreReadAt indices.now amounts.now parts.new }
@@ -69,7 +69,7 @@ pub(crate) fn read_parts(indices: &[u16], amounts: &Amounts, parts: &mut [u16])
 }
 
 /// Puts amounts at some indices.
-pub(crate) fn put_parts(indices: &[u16], parts: &[u16], amounts: &mut Amounts)
+pub(crate) fn put_parts(indices: &[u32], parts: &[u32], amounts: &mut Amounts)
     requires small { All (λ index. index < 29120) indices.now }
     requires room { length parts.now ≡ length indices.now }
     ensures { amounts.new ≡ with_parts indices.now parts.now (length indices.now) amounts.old }
@@ -80,7 +80,7 @@ pub(crate) fn put_parts(indices: &[u16], parts: &[u16], amounts: &mut Amounts)
 }
 
 /// Takes what one of two has taken.
-pub(crate) fn take_both(parts: &mut [u16], other: &[u16])
+pub(crate) fn take_both(parts: &mut [u32], other: &[u32])
     requires { length other.now ≡ length parts.old }
     ensures both { (place : ℕ) → place < length parts.old
         → get_or parts.new place 0 ≡ min (get_or parts.old place 0) (get_or other.now place 0) }
@@ -98,8 +98,8 @@ pub(crate) fn keep_indices(
     after: &Know,
     letter: &Letter,
     amounts: &Amounts,
-    indices: &[u16],
-    left: &mut [u16],
+    indices: &[u32],
+    left: &mut [u32],
 ) -> usize
     requires small { All (λ index. index < 29120) indices.now }
     requires room { length indices.now ≤ length left.old }
@@ -123,19 +123,19 @@ pub(crate) fn keep_indices(
 }
 
 /// Each index, in order.
-pub(crate) fn each_index() -> [u16; ENTRIES]
+pub(crate) fn each_index() -> [u32; ENTRIES]
     ensures small { All (λ index. index < 29120) result }
     ensures long { length result ≡ 29120 }
 {
     let mut indices = [0; ENTRIES];
-    for index in 0..29_120u16 {
+    for index in 0..29_120u32 {
         indices[index as usize] = index;
     }
     indices
 }
 
 /// So many parts at the entries that have deals.
-pub(crate) fn parts_of_all(weights: &[u64; ENTRIES], parts: u16) -> Amounts
+pub(crate) fn parts_of_all(weights: &[u64; ENTRIES], parts: u32) -> Amounts
     ensures { (index : ℕ) → get_or result index 0 ≤ parts }
 {
     let mut amounts = [0; ENTRIES];

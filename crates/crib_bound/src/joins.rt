@@ -25,11 +25,11 @@ impl Bound<'_> {
         &self,
         guide: &mut Guide<'_, A>,
         spot: &Spot,
-        indices: &[u16],
+        indices: &[u32],
         least: u64,
-        kept: &mut [u16],
+        kept: &mut [u32],
         value: u64,
-        left: &mut [u16],
+        left: &mut [u32],
     ) -> u64
         requires small { All (λ index. index < 29120) indices.now }
         requires kept_room { length kept.old ≡ length indices.now }
@@ -55,11 +55,11 @@ impl Bound<'_> {
     fn join<A: Allocator + Copy>(
         &self,
         guide: &Guide<'_, A>,
-        indices: &[u16],
+        indices: &[u32],
         least: u64,
-        kept: &mut [u16],
+        kept: &mut [u32],
         value: u64,
-        left: &mut [u16],
+        left: &mut [u32],
     ) -> u64
         requires small { All (λ index. index < 29120) indices.now }
         requires kept_room { length kept.old ≡ length indices.now }
@@ -87,9 +87,9 @@ impl Bound<'_> {
         &self,
         guide: &Guide<'_, A>,
         given: Given,
-        indices: &[u16],
-        parts: &mut [u16],
-        other: &[u16],
+        indices: &[u32],
+        parts: &mut [u32],
+        other: &[u32],
         most: u64,
     ) -> u64
         requires small { All (λ index. index < 29120) indices.now }
@@ -110,7 +110,7 @@ impl Bound<'_> {
             }
             let free = other[at].saturating_sub(parts[at]);
             let more = (rest / weight).min(free as u64);
-            parts[at] += more as u16;
+            parts[at] += more as u32;
             rest -= more * weight;
         }
         most - rest

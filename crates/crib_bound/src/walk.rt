@@ -40,7 +40,7 @@ pub(crate) struct Bound<'a> {
     // How many cards of each rank the choices of four ranks have, by their indices.
     choices: &'a [RankCounts; CHOICES],
     // How many parts of each deal there are.
-    parts: u16,
+    parts: u32,
     // The demands that give the open deals of each choice their grades.
     ladders: &'a [Ladder; CHOICES],
     /// How many open deals the entries have. The index of an entry is 16 times that of its choice, and its grade.
@@ -62,8 +62,8 @@ impl Bound<'_> {
         guide: &mut Guide<'_, A>,
         path: &Path,
         know: &Know,
-        indices: &[u16],
-        spare: &mut [u16],
+        indices: &[u32],
+        spare: &mut [u32],
         amounts: &mut Amounts,
     ) -> u64
         requires { MayWalk self.now know.now path.now.trail.items indices.now spare.old }
@@ -78,7 +78,7 @@ impl Bound<'_> {
     }
 
     // At the end: the parts of the deals that miss the goal.
-    fn worth_at_end(&self, know: &Know, indices: &[u16], amounts: &mut Amounts) -> u64
+    fn worth_at_end(&self, know: &Know, indices: &[u32], amounts: &mut Amounts) -> u64
         requires own { self.now.own_hand ≡ hand_points self.now.problem.now.hold self.now.problem.now.starter }
         requires over { know.now.round.asked ≡ Turn.Over }
         requires small { All (λ index. index < 29120) indices.now }
@@ -92,7 +92,7 @@ impl Bound<'_> {
     }
 
     // Takes the parts of the deals that miss a demand. All of an entry of which some deal misses it is taken.
-    fn take_missing(&self, demand: Demand, indices: &[u16], amounts: &mut Amounts) -> u64
+    fn take_missing(&self, demand: Demand, indices: &[u32], amounts: &mut Amounts) -> u64
         requires { All (λ index. index < 29120) indices.now }
         ensures { AreCounted self.now demand indices.now amounts.old amounts.new result }
     {
@@ -110,7 +110,7 @@ impl Bound<'_> {
     }
 
     // How many deals of an entry miss a demand. Without a table it may be fewer.
-    fn missing_at(&self, index: u16, demand: Demand) -> u64
+    fn missing_at(&self, index: u32, demand: Demand) -> u64
         requires { index < 29120 }
         ensures { (deals : List Dealt) → AreDealsOf self.now deals
             → result ≤ count_by (misses_at (entry_in self.now) self.now.problem.now demand index) deals }
@@ -121,7 +121,7 @@ impl Bound<'_> {
         let choice = (index / 16) as usize;
         let ladder = &self.ladders[choice].rungs;
         match self.tables.get(choice) {
-            Some(Some(table)) => missing_with(table, ladder, demand, index % 16) as u64,
+            Some(Some(table)) => missing_with(table, ladder, demand, (index % 16) as u16) as u64,
             _ => 0,
         }
     }
@@ -135,8 +135,8 @@ impl Bound<'_> {
         guide: &mut Guide<'_, A>,
         path: &Path,
         know: &Know,
-        indices: &[u16],
-        spare: &mut [u16],
+        indices: &[u32],
+        spare: &mut [u32],
         amounts: &mut Amounts,
     ) -> u64
         requires walk { MayWalk self.now know.now path.now.trail.items indices.now spare.old }
@@ -192,8 +192,8 @@ impl Bound<'_> {
         guide: &mut Guide<'_, A>,
         path: &Path,
         know: &Know,
-        indices: &[u16],
-        spare: &mut [u16],
+        indices: &[u32],
+        spare: &mut [u32],
         amounts: &mut Amounts,
     ) -> u64
         requires { MayWalk self.now know.now path.now.trail.items indices.now spare.old }
@@ -217,8 +217,8 @@ impl Bound<'_> {
         path: &Path,
         know: &Know,
         letter: &Letter,
-        indices: &[u16],
-        spare: &mut [u16],
+        indices: &[u32],
+        spare: &mut [u32],
         amounts: &mut Amounts,
     ) -> u64
         requires { MayWalk self.now know.now path.now.trail.items indices.now spare.old }
@@ -259,7 +259,7 @@ impl Bound<'_> {
 pub fn bound_of<A: Allocator + Copy>(
     alloc: A,
     problem: &Problem,
-    parts: u16,
+    parts: u32,
     guide: &mut Guide<'_, A>,
 ) -> Result<u64, AllocError>
     ensures strategy { IfOk result (λ value. IsStrategy event_of problem.now parts value) }
@@ -286,10 +286,10 @@ pub(crate) fn worth_if<A: Allocator + Copy>(
     problem: &Problem,
     start: &Know,
     choices: &Choices<'_, A>,
-    parts: u16,
+    parts: u32,
     guide: &mut Guide<'_, A>,
     fixed: &[Fixed],
-    spare: &mut [u16],
+    spare: &mut [u32],
 ) -> u64
     requires begun { KnowsAfter start.now problem.now (played_events problem.now) }
     requires open { AreOpenDeals problem.now choices.now.ladders choices.now.counts choices.now.weights

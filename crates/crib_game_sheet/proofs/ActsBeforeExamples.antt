@@ -40,8 +40,8 @@ unfolding digits right_in reason_text points_text score_text act_text act_line a
 acts_before_faults = (refl, refl, refl, refl, refl)
 
 acts_before_each_fault :
-    map acts_before (NotUnseen 3 ∷ NotHeld 1 ∷ DoesNotFit 2 ∷ MustPlay 3 ∷ NotTurn 4 ∷ AfterEnd 11 ∷ Strays 6 ∷ NotAsPlayed 7 ∷ [])
-    ≡ 0 ∷ 0 ∷ 1 ∷ 2 ∷ 3 ∷ 10 ∷ 5 ∷ 6 ∷ []
+    map acts_before (NotUnseen 3 ∷ NotHeld 4 ∷ DoesNotFit 2 ∷ MustPlay 3 ∷ NotTurn 4 ∷ AfterEnd 11 ∷ Strays 6 ∷ NotAsPlayed 7 ∷ [])
+    ≡ 0 ∷ 3 ∷ 1 ∷ 2 ∷ 3 ∷ 10 ∷ 5 ∷ 6 ∷ []
 acts_before_each_fault = refl
 
 -- ---- which acts are shown

@@ -68,11 +68,13 @@ pub cards_in_their_order :
 unfolding hand_combinations crib_combinations combinations_of
 cards_in_their_order = (refl, refl, refl, refl, refl, refl)
 
--- QC KD AH 2S with 8C. A flush and the jack aren't seen from ranks, and no card is no flush
+-- QC KD AH 2S with 8C. A flush and the jack aren't seen from ranks. No card is no flush, nor are 4C 6C 8C TC with 2D, first or last
 pub what_is_not_counted :
     (hand_combinations (44 ∷ 49 ∷ 2 ∷ 7 ∷ []) 28 ≡ [])
     × (counts_as Flush (2 ∷ 4 ∷ 6 ∷ 8 ∷ []) (2 ∷ 4 ∷ 6 ∷ 8 ∷ []) ≡ false)
     × (counts_as Jack (11 ∷ []) (11 ∷ []) ≡ false)
     × (flush_in_hand [] 19 ≡ [])
+    × (flush_in_hand (5 ∷ 12 ∷ 20 ∷ 28 ∷ []) 36 ∷ flush_in_hand (12 ∷ 20 ∷ 28 ∷ 5 ∷ []) 36 ∷ flush_in_crib (5 ∷ 12 ∷ 20 ∷ 28 ∷ []) 36
+    ∷ flush_in_crib (12 ∷ 20 ∷ 28 ∷ 5 ∷ []) 36 ∷ [] ≡ [] ∷ [] ∷ [] ∷ [] ∷ [])
 unfolding hand_combinations combinations_of
-what_is_not_counted = (refl, refl, refl, refl)
+what_is_not_counted = (refl, refl, refl, refl, refl)

@@ -1,10 +1,12 @@
 -- Worked examples of the order of entries. A card is a number below 52: 0 is AC, 1 is AD, 4 is 2C.
-use Rattle.std.proofs.Common.{◌≡◌, ℕ, true, false, [], ◌∷◌, map, refl}
+use Rattle.std.proofs.Common.{◌≡◌, ℕ, true, false, List, [], ◌∷◌, ◌++◌, ap, map, refl, subst}
 use Rattle.crib_cards.specs.declared.sides.Side.TheVariants.{Opponent}
 use Rattle.crib_problem.proofs.ExampleProblems.{plays}
+use Rattle.crib_problem.specs.Setup.{Setup}
 use Rattle.crib_leads.specs.declared.leads.Lead.{Lead}
+use Rattle.crib_leads.specs.declared.verdict.LeadVerdict.{LeadVerdict}
 use Rattle.crib_leads.specs.declared.verdict.LeadVerdict.TheVariants.{Sure, Beaten, Reached, Missed}
-use Rattle.crib_leads.specs.Leads.{badness, is_sure, is_worse, placed, worst_first}
+use Rattle.crib_leads.specs.Leads.{AreTheirs, badness, is_sure, is_worse, placed, worst_first}
 
 -- entries of ranks: after one a plan is sure, one misses the goal, and others are beaten by some of ten deals
 abbrev sure_rank : Lead
@@ -33,3 +35,17 @@ put_in_place = refl
 
 good_or_not : map is_sure (Sure 4 ∷ Beaten 0 7 ∷ Reached ∷ Missed ∷ []) ≡ true ∷ false ∷ true ∷ false ∷ []
 good_or_not = refl
+
+-- a rank after which a plan is sure doesn't come before one that misses the goal, and a go isn't left out
+abbrev first_verdict : List Lead → LeadVerdict
+first_verdict [] = Reached
+first_verdict (lead ∷ leads) = lead.verdict
+
+the_worst_is_first : (problem : Setup) (is : AreTheirs problem (sure_rank ∷ missed_rank 5 ∷ [])) → is.0 ≡ sure_rank ∷ [] → is.1 ≡ missed_rank 5 ∷ [] → ⊥
+the_worst_is_first problem is cards gos =
+    (let first : Sure 3 ≡ Missed = ap first_verdict (subst (λ its. (sure_rank ∷ missed_rank 5 ∷ []) ≡ worst_first (its ++ missed_rank 5 ∷ [])) cards
+    (subst (λ its. (sure_rank ∷ missed_rank 5 ∷ []) ≡ worst_first (is.0 ++ its)) gos is.4)) in cc)
+
+all_of_theirs_are_there : (problem : Setup) (is : AreTheirs problem []) → is.0 ≡ [] → is.1 ≡ missed_rank 5 ∷ [] → ⊥
+all_of_theirs_are_there problem is cards gos =
+    (let none = subst (λ its. [] ≡ worst_first (its ++ missed_rank 5 ∷ [])) cards (subst (λ its. [] ≡ worst_first (is.0 ++ its)) gos is.4) in cc)

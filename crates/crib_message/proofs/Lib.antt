@@ -2,4 +2,5 @@ mod LineLemmas
 mod PlaceLemmas
 mod MessageLemmas
 pub mod MessageExamples
+mod RefusedExamples
 mod PlaceExamples

@@ -13,6 +13,9 @@ use Rattle.crib_text.specs.Words.{number_read}
 use Rattle.crib_problem.specs.Refusals.{same_card, bad_score, bad_goal, no_deal, already_over, not_held}
 use Rattle.crib_problem.specs.Refusals.{does_not_fit, must_play, not_turn}
 use Rattle.crib_plan.specs.Refusals.{bad_next, bad_set, too_many}
+use Rattle.crib_game.specs.declared.fault.GameFault.{GameFault}
+use Rattle.crib_game.specs.declared.fault.GameFault.TheVariants.{NotUnseen, AfterEnd, Strays, NotAsPlayed}
+use Rattle.crib_game.specs.Refusals.{game_fault_number}
 use Rattle.crib_input.specs.Refusals.{fault_words, refusal_of}
 use Rattle.crib_input.specs.declared.reason.FaultCause.{FaultCause}
 use Rattle.crib_input.specs.declared.reason.Reason.{Reason}
@@ -91,18 +94,22 @@ is_number test word = unwrap_or (option_map test (number_read word)) false
 abbrev pub is_card : List ℕ → Bool
 is_card word = is_some (card_read word)
 
+-- whether a number is that of the refusals of a game for this fault, of whichever card or act
+abbrev pub is_for : (ℕ → GameFault) → ℕ → Bool
+is_for fault number = number == game_fault_number (fault 1)
+
 -- whether a word behind the first one of its line can be what is refused with this number: no card for `not a card`, a
 -- number above 120 for `above 120`. A turn has only one such word, and so has a line with a version, holes or nodes
 abbrev pub is_wrong : ℕ → List ℕ → Bool
 is_wrong number word =
     if (number == bad_line) || (number == no_deal) || (number == already_over) || (number == not_held)
-    || (number == does_not_fit) || (number == must_play) || (number == 45) || (number == 46)
+    || (number == does_not_fit) || (number == must_play) || is_for AfterEnd number || is_for Strays number
     then true
     else if number == bad_card then not (is_card word)
     else if number == bad_number then not (is_number (λ value. nat_le value 32) word)
     else if (number == bad_version) || (number == bad_goal) || (number == too_many)
     then is_number (λ value. true) word
-    else if (number == same_card) || (number == 40) then is_card word
+    else if (number == same_card) || is_for NotUnseen number then is_card word
     else if number == bad_score then is_number (nat_lt 120) word
     else if number == bad_next then is_number (λ value. true) word || bytes_eq word (codes "end")
     else (number == bad_set) && list_any (λ byte. byte == 58) word
@@ -118,7 +125,7 @@ is_refused number left meant right =
     else if number == bad_byte
     then list_all is_plain left && unwrap_or (option_map (λ byte. not (is_plain byte)) (slice_get meant 0)) false
     else if number == trailing_bytes then bytes_eq left []
-    else if number == 47 then bytes_eq left [] && bytes_eq right []
+    else if is_for NotAsPlayed number then bytes_eq left [] && bytes_eq right []
     else if bytes_eq meant [] then ((number == cut_short) || (number == bad_line)) && bytes_eq right []
     else if list_any (λ byte. byte == space) meant then (number == bad_line) && (length meant == 1)
     else if bytes_eq left [] then (number == bad_line) || (number == bad_number) || (number == not_turn)

@@ -3,6 +3,7 @@ pub mod PlanWordExamples
 pub mod HaltedPlays
 pub mod LabelPieces
 pub mod PlanApart
+mod ApartExamples
 pub mod PlanBeginnings
 pub mod PlanExamples
 pub mod PlanFits

@@ -111,9 +111,9 @@ no_card_is_found : ReachesGoal four_twos nothing → ⊥
 unfolding sheet_card
 no_card_is_found reaches = absurd (both_ways false refl (reaches.found aces [] (at_the_lead nothing) refl))
 
-choice_where_the_row_has_ended : ReachesGoal four_twos nothing → ⊥
-unfolding row_after
-choice_where_the_row_has_ended reaches = absurd (both_ways true (reaches.no_choice_left aces [] [] (at_the_lead nothing) refl) refl)
+-- nor does any other whose row has ended there
+choice_where_the_row_has_ended : (sheet : Sheet) → row_after four_twos sheet [] ≡ Over → ReachesGoal four_twos sheet → ⊥
+choice_where_the_row_has_ended sheet ended reaches = absurd (both_ways true (reaches.no_choice_left aces [] [] (at_the_lead sheet) ended) refl)
 
 -- after 2C nothing has to be chosen on the opponent's turn, but once they have played AC
 two_and_ace : IsPlayedFrom four_twos (record { first = Plays 4 Over; paragraphs = [] }) aces (move.Card 0 ∷ move.Card 4 ∷ [])

@@ -1,4 +1,4 @@
-//! A plan to try: a sure one if there is one, otherwise one that few deals beat.
+//! A plan to try: a sure one if there is one, otherwise one that few deals should beat.
 ghost use Rattle.std.specs.Prelude.{◌≡◌, ◌≢◌, IfOk, IsErr, Err, Some, IsTrue, IsFalse};
 ghost use Rattle.crib_sure.specs.Sure.{IsSure};
 ghost use Rattle.crib_search.specs.Finder.{ExceedsLimit, IsFound};
@@ -51,7 +51,7 @@ pub struct Tried<A: Allocator = Global> {
     pub is_sure: bool,
 }
 
-/// Returns the plan of [`find`], or, if no plan is sure, a plan that few deals beat.
+/// Returns the plan of [`find`], or, if no plan is sure, a plan that few deals should beat.
 ///
 /// How few is not stated by the contract. But the plan is never stuck: wherever the owner has to choose a card, it
 /// states one that they hold and that fits. It fails with [`SearchFault::TooLarge`] if the plan of [`find`] has more

@@ -7,6 +7,7 @@ mod NextTextExamples
 mod OtherMeaningExamples
 mod PlanBeatenExamples
 mod PlanHeadExamples
+mod ReasonExamples
 mod RefuteExamples
 mod ScoresExamples
 mod SheetExamples

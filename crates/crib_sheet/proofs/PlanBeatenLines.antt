@@ -62,16 +62,16 @@ others_listed others some = rw (ne_eqb others 0 some) refl
 
 -- what a strategy is worth that divides each deal into 4,096 parts, in deals, rounded up to a unit and cut off at two greatest numbers, where how many
 -- deals there are is a multiple of the unit
-pub deals_of_worth : (worth unit bound most count : ℕ) → 1 ≤ unit → (times : ℕ) × (count ≡ times * unit) → worth ≤ 60000 * count →
-    min (min ((worth / (60000 * unit) + min 1 (worth % (60000 * unit))) * unit) bound) most ≤ count
+pub deals_of_worth : (worth unit bound most count : ℕ) → 1 ≤ unit → (times : ℕ) × (count ≡ times * unit) → worth ≤ 16777216 * count →
+    min (min ((worth / (16777216 * unit) + min 1 (worth % (16777216 * unit))) * unit) bound) most ≤ count
 deals_of_worth worth unit bound most count some are small =
     let times = are.0 in
-    let up = worth / (60000 * unit) + min 1 (worth % (60000 * unit)) in
-    let parts : times * (60000 * unit) ≡ 60000 * count = grind (arith, are.1) in
-    let close = (div_ceil_times worth (60000 * unit) (omega (arith, some))).1 in
+    let up = worth / (16777216 * unit) + min 1 (worth % (16777216 * unit)) in
+    let parts : times * (16777216 * unit) ≡ 16777216 * count = grind (arith, are.1) in
+    let close = (div_ceil_times worth (16777216 * unit) (omega (arith, some))).1 in
     let few : up ≤ times = elim (cases_lt times up) [
-      | inl more ↦ let most = mul-le (times + 1) (60000 * unit) up (60000 * unit) (omega (arith, more)) (omega arith) in
-          let next : (times + 1) * (60000 * unit) ≡ times * (60000 * unit) + 60000 * unit = grind arith in
+      | inl more ↦ let most = mul-le (times + 1) (16777216 * unit) up (16777216 * unit) (omega (arith, more)) (omega arith) in
+          let next : (times + 1) * (16777216 * unit) ≡ times * (16777216 * unit) + 16777216 * unit = grind arith in
           absurd (omega (arith, most, next, parts, small, close))
       | inr few ↦ few
     ] in

@@ -31,7 +31,7 @@ fn is_bound(rt: &(impl Abort + AllocGlobal), of: &str, deals: u64) {
     let problem = problem(rt, of);
     let advice = advice(rt, rt.alloc(), &problem);
     let mut guide = advice.guide(rt.alloc()).expect(rt, "memory");
-    for parts in [1u16, 12, 4_096] {
+    for parts in [1u32, 12, 4_096] {
         let bound = bound_of(rt.alloc(), &problem, parts, &mut guide).expect(rt, "memory");
         same(rt, bound, deals.saturating_mul(parts as u64));
         let cases = bound_in_cases(rt.alloc(), &problem, parts, &mut guide).expect(rt, "memory");

@@ -11,6 +11,7 @@ use crate::tries::guide::Guide;
 use crate::tries::places::{Branch, Places};
 use crate::tries::spot::Spot;
 use crate::tries::survey::{Survey, card_at};
+use crate::tries::trails::own_turn;
 use crib_cards::{Card, Rank};
 use crib_know::Know;
 use crib_play::Turn;
@@ -23,8 +24,9 @@ pub struct Advice<A: Allocator = Global> {
     survey: Survey<A>,
     // The starts that have been searched.
     starts: Vec<Start, A>,
-    // Where the play of the problem begins.
+    // Where the play of the problem begins, and the case in which no card is fixed.
     spot: Spot,
+    whole: usize,
 }
 
 /// The places behind the first card of the owner, or behind the opening.
@@ -38,6 +40,9 @@ struct Start {
     end: usize,
     // How many deals beat the cards that are chosen there.
     beaten: u64,
+    // The index of the case in which no card is fixed but that one, and the index past the last one of its parts.
+    case: usize,
+    case_end: usize,
 }
 
 impl<A: Allocator + Copy> Advice<A> {
@@ -47,6 +52,7 @@ impl<A: Allocator + Copy> Advice<A> {
             survey: Survey::of(alloc, problem)?,
             starts: Vec::new(alloc),
             spot: Spot::at(0, 0),
+            whole: 0,
         })
     }
 
@@ -58,7 +64,7 @@ impl<A: Allocator + Copy> Advice<A> {
                 beaten = beaten.min(start.beaten);
             }
         }
-        Guide::of(alloc, &self.survey, self.spot, beaten)
+        Guide::of(alloc, &self.survey, self.spot, self.whole, beaten)
     }
 
     /// The places at which the owner has a choice.
@@ -94,6 +100,7 @@ impl<A: Allocator + Copy> Advice<A> {
             }
         }
         let start = self.start_at(alloc, problem, know, None)?;
+        self.whole = start.case;
         Ok(Spot::at(start.next, start.end))
     }
 
@@ -110,6 +117,7 @@ impl<A: Allocator + Copy> Advice<A> {
             → IsTrue (has know.now.own_left card) × (count_of know.now.round.pile + card_value card ≤ 31) }
     {
         let index = self.survey.places.open(0, cards.len())?;
+        self.whole = self.survey.cases.open()?;
         let mut least = u64::MAX;
         for at in 0..cards.len() {
             let card = card_at(cards, at);
@@ -119,6 +127,12 @@ impl<A: Allocator + Copy> Advice<A> {
                 at,
                 Branch::after(card.rank(), start.next, start.end),
             );
+            self.survey
+                .cases
+                .put_answer(self.whole, card.rank(), start.case)?;
+            if self.survey.cases.place(start.case).is_some() {
+                self.survey.cases.split(self.whole, index);
+            }
             if start.beaten < least {
                 least = start.beaten;
                 self.survey.places.choose(index, at);
@@ -141,7 +155,39 @@ impl<A: Allocator + Copy> Advice<A> {
     {
         let mut after = know.copy();
         after.own_play(card);
-        self.start_at(alloc, problem, &after, Some(card.rank()))
+        self.start_with(alloc, problem, &after, card)
+    }
+
+    // What is behind a card that has been played last.
+    fn start_with(
+        &mut self,
+        alloc: A,
+        problem: &Problem,
+        know: &Know,
+        card: Card,
+    ) -> Result<Start, AllocError>
+        requires here { IsHere problem.now know.now }
+    {
+        let start = self.start_at(alloc, problem, know, Some(card.rank()))?;
+        self.trace(problem, know, &[own_turn(card)], &start)?;
+        Ok(start)
+    }
+
+    // Keeps the turns that lead to the places at which the cases of a start are split. Those before it are given.
+    fn trace(
+        &mut self,
+        problem: &Problem,
+        know: &Know,
+        turns: &[u8],
+        start: &Start,
+    ) -> Result<(), AllocError>
+        requires here { IsHere problem.now know.now }
+    {
+        for case in start.case..start.case_end {
+            let spot = Spot::at(start.next, start.end);
+            self.survey.trace_case(problem, know, turns, &spot, case)?;
+        }
+        Ok(())
     }
 
     // What is behind a card of a rank that has been played, or behind the opening.
@@ -163,17 +209,17 @@ impl<A: Allocator + Copy> Advice<A> {
         }
         let next = self.survey.places.len();
         let forced = self.survey.look(alloc, problem, know)?;
-        let (beaten, cases) = choose(alloc, &mut self.survey, next, forced)?;
+        let (beaten, case) = choose(alloc, &mut self.survey, next, forced)?;
         let start = Start {
             rank,
             next,
             end: self.survey.places.len(),
             beaten,
+            case,
+            case_end: self.survey.cases.len(),
         };
         if start.rank.is_none() {
-            let spot = Spot::at(start.next, start.end);
-            self.survey.cases = cases;
-            self.survey.trace_all(problem, know, &spot)?;
+            self.trace(problem, know, &[], &start)?;
         }
         self.starts.push(start)?;
         Ok(start)

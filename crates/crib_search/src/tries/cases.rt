@@ -16,8 +16,8 @@ pub struct Case {
 struct Kept<A: Allocator> {
     // The place at which it is split, if it is.
     question: Option<Question>,
-    // What was learned in it, if it isn't split.
-    tape: Tape<A>,
+    // What was learned in it alone.
+    tape: Option<Tape<A>>,
 }
 
 /// The place at which a case is split.
@@ -39,7 +39,7 @@ struct Answer {
     next: usize,
 }
 
-/// The cases of a search. There are none, unless in each that isn't split no plan can be better than the best.
+/// The cases of a search. If one is split, no plan can be better than the best in each that isn't.
 #[derive(Drop)]
 pub(crate) struct Cases<A: Allocator> {
     cases: Vec<Kept<A>, A>,
@@ -64,13 +64,30 @@ impl<A: Allocator + Copy> Cases<A> {
     }
 
     /// Adds a case. Returns its index. It fails if an allocation fails.
-    pub(crate) fn open(&mut self, alloc: A) -> Result<usize, AllocError> {
+    pub(crate) fn open(&mut self) -> Result<usize, AllocError> {
         let index = self.cases.len();
         self.cases.push(Kept {
             question: None,
-            tape: Tape::new(alloc),
+            tape: None,
         })?;
         Ok(index)
+    }
+
+    /// Takes out the cases behind one, which isn't split then. No earlier one leads to them.
+    pub(crate) fn close(&mut self, case: usize) {
+        self.cases.truncate(case.saturating_add(1));
+        if let Some(kept) = self.cases.get_mut(case) {
+            kept.question = None;
+        }
+        let mut count = 0usize;
+        for index in 0..self.answers.len() {
+            if let Some(answer) = self.answers.get(index) {
+                if answer.case < case {
+                    count = index.saturating_add(1);
+                }
+            }
+        }
+        self.answers.truncate(count);
     }
 
     /// Splits a case at the place with an index.
@@ -99,7 +116,7 @@ impl<A: Allocator + Copy> Cases<A> {
     /// Keeps what was learned in a case.
     pub(crate) fn keep(&mut self, case: usize, tape: Tape<A>) {
         if let Some(kept) = self.cases.get_mut(case) {
-            kept.tape = tape;
+            kept.tape = Some(tape);
         }
     }
 
@@ -132,13 +149,9 @@ impl<A: Allocator + Copy> Cases<A> {
         self.turns.get(question.turn..question.turn_end)
     }
 
-    /// What was learned in a case, if it isn't split.
+    /// What was learned in a case alone, if something was.
     pub(crate) fn tape(&self, case: usize) -> Option<&Tape<A>> {
-        let kept = self.cases.get(case)?;
-        match kept.question {
-            Some(_) => None,
-            None => Some(&kept.tape),
-        }
+        self.cases.get(case)?.tape.as_ref()
     }
 
     /// The case in which a card of a rank is fixed at the place at which another one is split. If there is none, it is

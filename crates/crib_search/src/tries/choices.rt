@@ -10,9 +10,8 @@ use std::alloc::{AllocError, Allocator};
 
 /// The classes that deals with the same ranks fall into by their show, as bits.
 ///
-/// If the owner deals, the hand has seven classes by its points, the fewest first, and for each of them the crib has
-/// nine, the most points first. If the opponent deals and is to be stopped, there are 63 by the points of both, the
-/// most first. Otherwise there is one class.
+/// If the owner deals, there are seven by the points of the hand, the fewest first, and for each nine by those of the
+/// crib, the most first. If the opponent deals and is to be stopped, there are 63 by both. Otherwise there is one.
 pub(crate) type Classes = u64;
 
 /// How many cards of each rank are left: the digits in base 16, that of the ace last.
@@ -239,17 +238,22 @@ impl<A: Allocator + Copy> Choices<A> {
         let mut sum = 0u32;
         for less in 0..CLASSES {
             if less > self.total as usize {
+                counts[less] = table.count(Demand::none()).open_deals.saturating_sub(sum);
                 break;
             }
             let demand = Demand {
                 total: self.total.saturating_sub(less as u8),
                 ..Demand::none()
             };
-            let missing = table.count(demand).missing;
-            counts[less] = missing.saturating_sub(sum);
-            sum = missing;
+            counts[less] = table.count(demand).missing.saturating_sub(sum);
+            sum = sum.saturating_add(counts[less]);
         }
         counts
+    }
+
+    /// Whether deals with the same ranks fall into classes by the points of both.
+    pub(crate) fn are_by_totals(&self) -> bool {
+        !self.is_dealer && !self.counts.is_empty()
     }
 
     /// How many open deals there are.
@@ -306,7 +310,7 @@ impl<A: Allocator + Copy> Choices<A> {
         let mut missing = 0;
         let mut class = 1u64;
         for less in 0..63u8 {
-            if self.total.saturating_sub(less) < demand.total {
+            if less > self.total || self.total - less < demand.total {
                 break;
             }
             missing |= class;

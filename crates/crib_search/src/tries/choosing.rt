@@ -1,6 +1,5 @@
 //! Which card is chosen at each place, so that few deals beat the plan.
 
-use crate::tries::cases::Cases;
 use crate::tries::choices::{Choices, Classes};
 use crate::tries::ledger::Ledger;
 use crate::tries::matching::Matching;
@@ -35,18 +34,19 @@ pub(crate) struct Choosing<'a, A: Allocator> {
 }
 
 /// Chooses a card at each place from an index on. The classes of each choice of ranks that beat the owner in any case
-/// are given. Returns how many deals beat the cards that are chosen, and the cases that show that no fewer can. It
-/// fails if an allocation fails.
+/// are given. Returns how many deals beat the cards that are chosen, and the index of a case, whose parts may show that
+/// no fewer can. It fails if an allocation fails.
 pub(crate) fn choose<A: Allocator + Copy>(
     alloc: A,
     survey: &mut Survey<A>,
     first: usize,
     forced: Vec<Classes, A>,
-) -> Result<(u64, Cases<A>), AllocError> {
+) -> Result<(u64, usize), AllocError> {
     let Survey {
         choices,
         places,
         tape,
+        cases,
         ..
     } = survey;
     let mut beaten = 0u64;
@@ -70,17 +70,17 @@ pub(crate) fn choose<A: Allocator + Copy>(
     let end = choosing.net.nodes.len();
     choosing.choose_all((0, end), false, DEPTH);
     choosing.improve()?;
-    let mut cases = Cases::new(alloc);
+    let case = cases.open()?;
     if beaten.saturating_add(choosing.least) <= choices.open_deals() / NEAR {
         let mut matching = choosing.learn(alloc)?;
         tape.learned.push((first, places.len()))?;
         choosing.keep_on(tape, places, &matching)?;
-        cases = choosing.split(alloc, places, &mut matching)?;
+        choosing.split(alloc, places, &mut matching, cases, case)?;
     }
     choosing.restore();
     choosing.enrich_all(places, (0, end), DEPTH);
     choosing.net.choose_at(places);
-    Ok((beaten.saturating_add(choosing.least), cases))
+    Ok((beaten.saturating_add(choosing.least), case))
 }
 
 impl<A: Allocator + Copy> Choosing<'_, A> {
@@ -113,9 +113,15 @@ impl<A: Allocator + Copy> Choosing<'_, A> {
         Ok(self.is_best(least))
     }
 
-    /// Whether no plan can be better than the best so far, if each is beaten by so many deals at least.
+    /// Whether no plan can be better than the best so far, if each is beaten by so many deals at least. By totals, the
+    /// bound that is proved knows no number that divides those of all groups.
     pub(crate) fn is_best(&self, least: u64) -> bool {
-        least.saturating_add(self.ledger.step()) > self.least
+        let step = if self.choices.are_by_totals() {
+            1
+        } else {
+            self.ledger.step()
+        };
+        least.saturating_add(step) > self.least
     }
 
     /// Keeps on a tape what was learned.

@@ -43,6 +43,7 @@ impl Scale {
                 Scale::Hands => least_crib(choices, (HAND_RUNGS + CRIB_RUNGS).saturating_sub(rung)),
                 Scale::Cribs if rung < CRIB_RUNGS => least_crib(choices, CRIB_RUNGS - rung),
                 Scale::Cribs => least_hand(choice, (HAND_RUNGS + CRIB_RUNGS).saturating_sub(rung)),
+                Scale::Totals if rung > choices.total => Demand::impossible(),
                 Scale::Totals => Demand {
                     total: choices.total.saturating_sub(rung),
                     ..Demand::none()

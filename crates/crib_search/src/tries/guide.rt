@@ -19,6 +19,8 @@ pub struct Guide<'a, A: Allocator> {
     // What was learned in the case that is taken.
     tape: &'a Tape<A>,
     start: Spot,
+    // The index of the case in which no card is fixed.
+    whole: usize,
     // How many deals beat the best plan that was found.
     beaten: u64,
     scale: Scale,
@@ -51,12 +53,14 @@ impl<'a, A: Allocator + Copy> Guide<'a, A> {
         alloc: A,
         survey: &'a Survey<A>,
         start: Spot,
+        whole: usize,
         beaten: u64,
     ) -> Result<Self, AllocError> {
         let mut guide = Guide {
             survey,
             tape: &survey.tape,
             start,
+            whole,
             beaten,
             scale: survey.tape.scale(&survey.choices),
             flows: Vec::new(alloc),
@@ -79,7 +83,7 @@ impl<'a, A: Allocator + Copy> Guide<'a, A> {
 
     /// The case in which no card is fixed.
     pub fn whole(&self) -> Case {
-        Case { index: 0 }
+        Case { index: self.whole }
     }
 
     /// Takes what was learned in a case. It fails if an allocation fails.
@@ -249,11 +253,11 @@ impl<'a, A: Allocator + Copy> Guide<'a, A> {
     }
 
     /// How many of the parts of an entry the notes allow.
-    pub fn allowed(&self, entry: usize, parts: u16) -> u16 {
+    pub fn allowed(&self, entry: usize, parts: u32) -> u32 {
         match self.notes.get(entry) {
             Some(note) if self.is_noted && note.number == self.number => {
                 let allowed = note.share.saturating_mul(u64::from(parts)).div_ceil(ONE);
-                allowed.min(u64::from(parts)) as u16
+                allowed.min(u64::from(parts)) as u32
             }
             _ => parts,
         }

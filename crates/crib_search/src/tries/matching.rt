@@ -6,7 +6,10 @@ use crate::tries::register::Register;
 use std::alloc::{AllocError, Allocator};
 
 /// Shares and values are in parts of one.
-pub(crate) const ONE: u64 = 1_048_576;
+pub(crate) const ONE: u64 = 16_777_216;
+
+/// What the owner regrets is counted in so many parts of a deal.
+pub(crate) const GRAIN: u64 = 64;
 
 /// A group of deals that may beat the owner at a node or behind it.
 #[derive(Clone, Copy)]

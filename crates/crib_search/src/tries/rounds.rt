@@ -1,6 +1,6 @@
 //! The rounds of regret matching.
 
-use crate::tries::matching::{Habit, Lesson, Matching, ONE};
+use crate::tries::matching::{GRAIN, Habit, Lesson, Matching, ONE};
 use crate::tries::net::{Net, Node};
 use std::alloc::Allocator;
 
@@ -166,7 +166,7 @@ impl<A: Allocator + Copy> Matching<A> {
     fn learn(&mut self, net: &Net<A>, index: usize, node: &Node) {
         let mut worth = 0u64;
         for at in node.edge..node.edge_end {
-            let lost = self.lost(net, at) / ONE;
+            let lost = self.lost(net, at) / (ONE / GRAIN);
             if let Some(habit) = self.habits.get_mut(at) {
                 habit.lost = lost;
                 worth = worth.saturating_add(habit.share.saturating_mul(lost));
@@ -182,7 +182,7 @@ impl<A: Allocator + Copy> Matching<A> {
             }
         }
         if let Some(lesson) = self.lessons.get_mut(index) {
-            lesson.worth = worth;
+            lesson.worth = worth / GRAIN;
         }
         self.share_out(index, node);
     }

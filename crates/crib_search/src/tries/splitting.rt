@@ -2,27 +2,31 @@
 
 use crate::tries::cases::Cases;
 use crate::tries::choosing::Choosing;
-use crate::tries::matching::{Matching, ONE};
+use crate::tries::matching::{GRAIN, Matching, ONE};
 use crate::tries::net::{Net, Node};
 use crate::tries::places::Places;
 use crate::tries::rounds::average;
 use crate::tries::tape::Tape;
 use std::alloc::{AllocError, Allocator};
 
-// The rounds in a case.
+// The rounds in a case, after which what was learned is tried, and how often that is done at most.
 const ROUNDS: u8 = 16;
+
+const TIMES: u8 = 16;
 
 // At no more places a card is fixed at the same time.
 const DEPTH: u8 = 16;
 
 // The guests that are heard in all cases.
-const PATIENCE: usize = 12_000_000;
+const PATIENCE: usize = 24_000_000;
 
 /// The cases in the making.
 #[derive(Drop)]
 pub(crate) struct Splitting<'a, A: Allocator> {
     places: &'a Places<A>,
-    cases: Cases<A>,
+    cases: &'a mut Cases<A>,
+    // The case that is split.
+    whole: usize,
     // Whether some case was left in which a plan may be better. Then no more are kept.
     is_left: bool,
     patience: usize,
@@ -38,11 +42,11 @@ struct Fixed {
 
 impl<A: Allocator + Copy> Splitting<'_, A> {
     // Adds the case in which a card is fixed. Returns its index.
-    fn open(&mut self, alloc: A, net: &Net<A>, fixed: &Fixed) -> Result<usize, AllocError> {
+    fn open(&mut self, net: &Net<A>, fixed: &Fixed) -> Result<usize, AllocError> {
         if self.is_left {
             return Ok(0);
         }
-        let next = self.cases.open(alloc)?;
+        let next = self.cases.open()?;
         if let Some(node) = net.node(fixed.node) {
             self.cases.split(fixed.whole, node.place);
             if let Some(rank) = net.rank_of(self.places, &node, fixed.edge) {
@@ -53,31 +57,33 @@ impl<A: Allocator + Copy> Splitting<'_, A> {
     }
 
     // Leaves a case in which a plan may be better.
-    fn leave(&mut self, alloc: A) {
+    fn leave(&mut self) {
         self.is_left = true;
-        self.cases = Cases::new(alloc);
+        self.cases.close(self.whole);
     }
 }
 
 impl<A: Allocator + Copy> Choosing<'_, A> {
-    /// Tries what is learned in cases, until no plan can be better than the best so far. Returns the cases.
+    /// Tries what is learned in cases of which a given one consists, until no plan can be better than the best so far.
     pub(crate) fn split(
         &mut self,
         alloc: A,
         places: &Places<A>,
         matching: &mut Matching<A>,
-    ) -> Result<Cases<A>, AllocError> {
+        cases: &mut Cases<A>,
+        whole: usize,
+    ) -> Result<(), AllocError> {
+        if self.is_best(matching.least(&self.net)) {
+            return Ok(());
+        }
         let mut splitting = Splitting {
             places,
-            cases: Cases::new(alloc),
+            cases,
+            whole,
             is_left: false,
             patience: PATIENCE,
         };
-        if !self.is_best(matching.least(&self.net)) {
-            let whole = splitting.cases.open(alloc)?;
-            self.split_at(alloc, matching, &mut splitting, whole, DEPTH)?;
-        }
-        Ok(splitting.cases)
+        self.split_at(alloc, matching, &mut splitting, whole, DEPTH)
     }
 
     // Fixes each card at the place that is most in doubt.
@@ -91,11 +97,11 @@ impl<A: Allocator + Copy> Choosing<'_, A> {
         depth: u8,
     ) -> Result<(), AllocError> {
         let Some((index, node)) = matching.most_in_doubt(&self.net) else {
-            splitting.leave(alloc);
+            splitting.leave();
             return Ok(());
         };
         if depth == 0 {
-            splitting.leave(alloc);
+            splitting.leave();
             return Ok(());
         }
         let mut fixed = Fixed {
@@ -128,17 +134,13 @@ impl<A: Allocator + Copy> Choosing<'_, A> {
         depth: u8,
     ) -> Result<(), AllocError> {
         if splitting.patience == 0 || depth == 0 {
-            splitting.leave(alloc);
+            splitting.leave();
             return Ok(());
         }
-        let case = splitting.open(alloc, &self.net, fixed)?;
+        let case = splitting.open(&self.net, fixed)?;
         matching.fix(fixed.node, Some(fixed.edge));
         matching.restart(&self.net, regrets);
-        for _ in 0..ROUNDS {
-            matching.play(&self.net);
-            splitting.patience = splitting.patience.saturating_sub(matching.len());
-        }
-        if !self.is_best_now(matching)? {
+        if !self.learn_on(matching, splitting)? {
             return self.split_at(alloc, matching, splitting, case, depth - 1);
         }
         if !splitting.is_left {
@@ -147,6 +149,28 @@ impl<A: Allocator + Copy> Choosing<'_, A> {
             splitting.cases.keep(case, tape);
         }
         Ok(())
+    }
+
+    // Lets both sides learn, until no plan can be better than the best so far, or the owner is in doubt somewhere.
+    // Returns whether no plan can be better.
+    fn learn_on(
+        &mut self,
+        matching: &mut Matching<A>,
+        splitting: &mut Splitting<'_, A>,
+    ) -> Result<bool, AllocError> {
+        for _ in 0..TIMES {
+            for _ in 0..ROUNDS {
+                matching.play(&self.net);
+                splitting.patience = splitting.patience.saturating_sub(matching.len());
+            }
+            if self.is_best_now(matching)? {
+                return Ok(true);
+            }
+            if splitting.patience == 0 || matching.most_in_doubt(&self.net).is_some() {
+                break;
+            }
+        }
+        Ok(false)
     }
 }
 
@@ -186,11 +210,11 @@ impl<A: Allocator + Copy> Matching<A> {
             if let Some(guest) = self.guests.get(at) {
                 if let Some(way) = self.ways.get(guest.way) {
                     let flow = average(guest.total, weight);
-                    deals = deals.saturating_add(flow.saturating_mul(way.weight) / ONE);
+                    deals = deals.saturating_add(flow.saturating_mul(way.weight));
                 }
             }
         }
-        average(others, weight).saturating_mul(deals)
+        average(others, weight).saturating_mul(deals / (ONE / GRAIN))
     }
 
     // Fixes an edge at a node, or none.

@@ -19,22 +19,23 @@ use std::alloc::{AllocError, Allocator};
 const OWN: u8 = 14;
 
 impl<A: Allocator + Copy> Survey<A> {
-    /// Keeps for each case that is split the turns that lead from a position to the place. It fails if an allocation
-    /// fails.
-    pub(crate) fn trace_all(
+    /// Keeps the turns that lead to the place at which a case is split, if it is: some, and those from a position on.
+    /// It fails if an allocation fails.
+    pub(crate) fn trace_case(
         &mut self,
         problem: &Problem,
         know: &Know,
+        turns: &[u8],
         spot: &Spot,
+        case: usize,
     ) -> Result<(), AllocError>
         requires here { IsHere problem.now know.now }
     {
-        for case in 0..self.cases.len() {
-            if let Some(place) = self.cases.place(case) {
-                let turn = self.cases.turns.len();
-                self.trace(problem, know, spot, place)?;
-                self.cases.put_turns(case, turn);
-            }
+        if let Some(place) = self.cases.place(case) {
+            let first = self.cases.turns.len();
+            self.cases.turns.extend_from_slice(turns)?;
+            self.trace(problem, know, spot, place)?;
+            self.cases.put_turns(case, first);
         }
         Ok(())
     }
@@ -101,9 +102,7 @@ impl<A: Allocator + Copy> Survey<A> {
         requires held { IsTrue (has know.now.own_left card) }
         requires fits { count_of know.now.round.pile + card_value card ≤ 31 }
     {
-        self.cases
-            .turns
-            .push(OWN + Letter::Seen(card.rank()).index())?;
+        self.cases.turns.push(own_turn(card))?;
         let mut next = know.copy();
         next.own_play(card);
         self.trace(problem, &next, spot, place)
@@ -132,4 +131,9 @@ impl<A: Allocator + Copy> Survey<A> {
         next.saw(&letter);
         self.trace(problem, &next, &spot.after_letter(letter.index()), place)
     }
+}
+
+/// The number of a turn in which the owner plays a card.
+pub(crate) fn own_turn(card: Card) -> u8 {
+    OWN + Letter::Seen(card.rank()).index()
 }

@@ -17,8 +17,8 @@ use crib_problem::Problem;
 use crib_search::{Advice, Guide, SearchFault, try_plan};
 use std::alloc::{AllocError, Allocator};
 
-// The parts into which each deal is divided for the least. With more of them it is hardly greater.
-const PARTS: u16 = 60_000;
+// The parts into which each deal is divided for the least. With fewer it may be a deal less than the best.
+const PARTS: u32 = 16_777_216;
 
 /// How few deals beat a plan.
 #[derive(Clone, Copy)]
@@ -145,8 +145,8 @@ fn worth_of<A: Allocator + Copy>(
     guide: &mut Guide<'_, A>,
 ) -> Result<u64, AllocError>
     ensures plans { IfOk result (λ worth. (plan : List Node) (count : ℕ) → AreExactly (Beats problem.now plan) count
-        → worth ≤ 60000 * count) }
-    ensures strategy { IsPoneToReach problem.now → IfOk result (IsStrategy event_of problem.now 60000) }
+        → worth ≤ 16777216 * count) }
+    ensures strategy { IsPoneToReach problem.now → IfOk result (IsStrategy event_of problem.now 16777216) }
 {
     if is_for_all_players(problem) {
         return bound_of(alloc, problem, PARTS, guide);

@@ -1,4 +1,4 @@
-use Rattle.std.proofs.Common.{List, refl, rules, subst, ◌∙◌}
+use Rattle.std.proofs.Common.{List, refl, subst, ◌∙◌}
 use Rattle.std.proofs.lemmas.Result.{err_from_is_err_and}
 use Rattle.crib_leads.specs.declared.leads.Lead.{Lead}
 use Rattle.crib_run.specs.declared.status.Status.{Status}
@@ -42,7 +42,9 @@ returns-clause-outcome g c = (
 )
 
 pub returns-in_err-leads-clause-told : goal.returns-in_err-leads-clause-told
-returns-in_err-leads-clause-told g c = let fits = fits_large _ c.in_err-leads.ensures in search rules
+returns-in_err-leads-clause-told g c =
+    let p = err_from_is_err_and c.from_residual-in_err-leads.result c.from_residual-in_err-leads.ensures.1 in
+    rw (p.1, p.2) (fits_large _ c.in_err-leads.ensures)
 
 pub returns-in_err-stops-clause-told : goal.returns-in_err-stops-clause-told
 returns-in_err-stops-clause-told g c =

@@ -1,4 +1,3 @@
-use Rattle.std.proofs.Common.{rules}
 use Rattle.std.proofs.lemmas.Result.{err_from_is_err_and}
 use Rattle.crib_run.proofs.Delivery.{outcome_map}
 use Rattle.crib_sheet.specs.Sheet.{IsSheetOf, parts_reply}
@@ -15,4 +14,6 @@ returns-in_err-tried-clause-outcome g c =
     rw (p.1, p.2) (untried_sheet c.args.problem (IsSheetOf c.args.problem) _ c.in_err-tried.ensures)
 
 pub returns-in_err-tried-clause-told : goal.returns-in_err-tried-clause-told
-returns-in_err-tried-clause-told g c = let fits = fits_large _ c.in_err-tried.ensures in search rules
+returns-in_err-tried-clause-told g c =
+    let p = err_from_is_err_and c.from_residual.result c.from_residual.ensures.1 in
+    rw (p.1, p.2) (fits_large _ c.in_err-tried.ensures)

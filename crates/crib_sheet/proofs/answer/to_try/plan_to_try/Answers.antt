@@ -1,4 +1,3 @@
-use Rattle.std.proofs.Common.{rules}
 use Rattle.std.proofs.lemmas.Result.{err_from_is_err_and}
 use Rattle.crib_run.specs.Reply.{reply_of}
 use Rattle.crib_run.proofs.Delivery.{outcome_map}
@@ -16,4 +15,6 @@ returns-in_err-tried-clause-outcome g c =
     rw (p.1, p.2) (try_unmade _ _ _ c.in_ok-problem.ensures.read c.in_err-tried.ensures)
 
 pub returns-in_err-tried-clause-told : goal.returns-in_err-tried-clause-told
-returns-in_err-tried-clause-told g c = let fits = fits_large _ c.in_err-tried.ensures in search rules
+returns-in_err-tried-clause-told g c =
+    let p = err_from_is_err_and c.from_residual-in_err-tried.result c.from_residual-in_err-tried.ensures.1 in
+    rw (p.1, p.2) (fits_large _ c.in_err-tried.ensures)

@@ -7,15 +7,15 @@ ghost use Rattle.crib_beaten.specs.Beaten.{Beats};
 ghost use Rattle.crib_bound.specs.Private.Cases.{BoundsKeepers};
 ghost use Rattle.crib_bound.specs.Private.Walks.{IsReady};
 
-use crate::path::{Fixed, TurnTrail};
+use crate::path::{Fixed, TurnTrail, number_of};
 use crate::units::unit_of;
 use crate::walk::{SPARE, worth_if};
 use crate::weights::Choices;
 use arrayvec::ArrayVec;
-use crib_cards::Card;
+use crib_cards::{Card, Side};
 use crib_know::Know;
 use crib_problem::Problem;
-use crib_search::{Case, Guide};
+use crib_search::{Case, Guide, ShownTurn};
 use std::alloc::{AllocError, Allocator};
 
 // No more cards are fixed at the same time.
@@ -207,13 +207,12 @@ fn is_again(hold: &[Card; 4], at: usize) -> bool
 }
 
 // The trail to a place to which a guide leads by these turns.
-fn trail_of(turns: &[u8]) -> TurnTrail {
+fn trail_of(turns: &[ShownTurn]) -> TurnTrail {
     let mut trail = ArrayVec::new();
     for turn in turns {
-        let index = turn % 14;
-        let number = if index == 13 { 0 } else { index + 2 };
+        let digit = 2 * number_of(&turn.letter) + u8::from(turn.side == Side::Owner);
         if !trail.is_full() {
-            trail.insert(0, 2 * number + turn / 14);
+            trail.insert(0, digit);
         }
     }
     trail

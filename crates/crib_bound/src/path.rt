@@ -44,7 +44,7 @@ impl Path {
         ensures { result.trail.items ≡ (2 * letter_number letter.now) ∷ self.now.trail.items }
     {
         Path {
-            spot: self.spot.after_letter(letter.index()),
+            spot: self.spot.after_letter(*letter),
             trail: with_digit(&self.trail, 2 * number_of(letter)),
         }
     }
@@ -72,8 +72,8 @@ impl Path {
     }
 }
 
-// The number of a letter.
-fn number_of(letter: &Letter) -> u8
+/// The number of a letter.
+pub(crate) fn number_of(letter: &Letter) -> u8
     ensures value { result ≡ letter_number letter.now }
     ensures small { result ≤ 14 }
 {

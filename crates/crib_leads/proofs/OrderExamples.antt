@@ -1,12 +1,13 @@
 -- Worked examples of the order of entries. A card is a number below 52: 0 is AC, 1 is AD, 4 is 2C.
 use Rattle.std.proofs.Common.{◌≡◌, ℕ, true, false, List, [], ◌∷◌, ◌++◌, ap, map, refl, subst}
+use Rattle.crib_cards.specs.Cards.{ranks}
 use Rattle.crib_cards.specs.declared.sides.Side.TheVariants.{Opponent}
 use Rattle.crib_problem.proofs.ExampleProblems.{plays}
 use Rattle.crib_problem.specs.Setup.{Setup}
 use Rattle.crib_leads.specs.declared.leads.Lead.{Lead}
 use Rattle.crib_leads.specs.declared.verdict.LeadVerdict.{LeadVerdict}
 use Rattle.crib_leads.specs.declared.verdict.LeadVerdict.TheVariants.{Sure, Beaten, Reached, Missed}
-use Rattle.crib_leads.specs.Leads.{AreTheirs, badness, is_sure, is_worse, placed, worst_first}
+use Rattle.crib_leads.specs.Leads.{AreOfRanks, AreTheirs, badness, is_sure, is_worse, placed, worst_first}
 
 -- entries of ranks: after one a plan is sure, one misses the goal, and others are beaten by some of ten deals
 abbrev sure_rank : Lead
@@ -49,3 +50,7 @@ the_worst_is_first problem is cards gos =
 all_of_theirs_are_there : (problem : Setup) (is : AreTheirs problem []) → is.0 ≡ [] → is.1 ≡ missed_rank 5 ∷ [] → ⊥
 all_of_theirs_are_there problem is cards gos =
     (let none = subst (λ its. [] ≡ worst_first (its ++ missed_rank 5 ∷ [])) cards (subst (λ its. [] ≡ worst_first (is.0 ++ its)) gos is.4) in cc)
+
+-- what comes before a go are entries of the ranks
+their_ranks_are_there : (problem : Setup) (leads : List Lead) → ((cards : List Lead) → AreOfRanks problem ranks cards → ⊥) → AreTheirs problem leads → ⊥
+their_ranks_are_there problem leads none is = none is.0 is.2

@@ -41,6 +41,7 @@ pub use grades::{GRADES, Ladder, RUNGS};
 pub use guide::Guide;
 pub use spot::Spot;
 use std::alloc::{AllocError, Allocator, Global};
+pub use trails::ShownTurn;
 
 /// A plan to try.
 #[derive(Drop)]

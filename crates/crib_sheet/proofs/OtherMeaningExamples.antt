@@ -1,5 +1,5 @@
 -- Worked examples of what the texts of `leads`, `next`, `scores` and `holes` guarantee.
-use Rattle.std.proofs.Common.{Ok, Err, ◌≡◌, ◌⊎◌, ◌∙◌, inl, inr, ℕ, List, [], ◌∷◌, codes, refl, sym, ap, subst, arith}
+use Rattle.std.proofs.Common.{Ok, Err, ◌≡◌, ◌≢◌, ◌⊎◌, ◌∙◌, inl, inr, ℕ, List, [], ◌∷◌, codes, refl, sym, ap, subst, arith}
 use Rattle.std.specs.Prelude.{Bool, true, false, ◌++◌, reverse}
 use Rattle.std.specs.Fmt.{digits}
 use Rattle.crib_cards.specs.Sets.{set_where}
@@ -17,7 +17,8 @@ use Rattle.crib_sure.specs.Sure.{IsSure}
 use Rattle.crib_sure.proofs.ExampleOpening.{ace_or_two, at_29}
 use Rattle.crib_next.specs.Input.{SpellsTurns}
 use Rattle.crib_next.specs.Next.{next_after}
-use Rattle.crib_next.specs.declared.next.NextTurn.TheVariants.{Play, Stuck}
+use Rattle.crib_next.specs.declared.next.NextTurn.{NextTurn}
+use Rattle.crib_next.specs.declared.next.NextTurn.TheVariants.{Play, Go, Wait, Over, Stuck}
 use Rattle.crib_leads.specs.declared.leads.Lead.{Lead}
 use Rattle.crib_leads.specs.declared.verdict.LeadVerdict.{LeadVerdict}
 use Rattle.crib_leads.specs.declared.verdict.LeadVerdict.TheVariants.{Missed, Sure}
@@ -128,6 +129,19 @@ two_and_ace input spelled = (
   },
   λ stuck. absurd cc,
 )
+
+no_text_has_two : (problem : Setup) (plan : List Node) (turns : List Act) (next : NextTurn) → next ≢ Stuck →
+    codes "oover\n" ≡ next_text problem plan turns next → ⊥
+unfolding next_text
+no_text_has_two problem plan turns (Play card) other text = cc
+no_text_has_two problem plan turns Go other text = cc
+no_text_has_two problem plan turns Wait other text = cc
+no_text_has_two problem plan turns Over other text = cc
+no_text_has_two problem plan turns Stuck other text = other refl
+
+-- `over` has one o
+wrong_with_two : (input : List ℕ) → SheetMeans Next input (yes (codes "oover\n")) → ⊥
+wrong_with_two input means = no_text_has_two means.0.problem means.0.plan means.0.turns means.0.next means.1 means.0.printed
 
 wrong_if_not_stuck : (input text : List ℕ) (means : SheetMeans Next input (yes text)) → AreThese means.0.problem means.0.plan four_twos [] →
     means.0.turns ≡ [] → ⊥

@@ -6,12 +6,13 @@ ghost use Rattle.crib_play.specs.Record.{count_of};
 ghost use Rattle.crib_search.specs.Private.Search.{IsHere, IsTurnOf};
 
 use crate::own_options::options;
+use crate::tries::cases::Case;
 use crate::tries::choosing::choose;
 use crate::tries::guide::Guide;
 use crate::tries::places::{Branch, Places};
 use crate::tries::spot::Spot;
 use crate::tries::survey::{Survey, card_at};
-use crate::tries::trails::own_turn;
+use crate::tries::trails::ShownTurn;
 use crib_cards::{Card, Rank};
 use crib_know::Know;
 use crib_play::Turn;
@@ -26,7 +27,7 @@ pub struct Advice<A: Allocator = Global> {
     starts: Vec<Start, A>,
     // Where the play of the problem begins, and the case in which no card is fixed.
     spot: Spot,
-    whole: usize,
+    whole: Case,
 }
 
 /// The places behind the first card of the owner, or behind the opening.
@@ -40,19 +41,21 @@ struct Start {
     end: usize,
     // How many deals beat the cards that are chosen there.
     beaten: u64,
-    // The index of the case in which no card is fixed but that one, and the index past the last one of its parts.
-    case: usize,
-    case_end: usize,
+    // The case in which no card is fixed but that one, and the first one behind its parts.
+    case: Case,
+    case_end: Case,
 }
 
 impl<A: Allocator + Copy> Advice<A> {
     /// Begins to search a problem. It fails if an allocation fails.
     pub(crate) fn of(alloc: A, problem: &Problem) -> Result<Self, AllocError> {
+        let survey = Survey::of(alloc, problem)?;
+        let whole = survey.cases.end();
         Ok(Advice {
-            survey: Survey::of(alloc, problem)?,
+            survey,
             starts: Vec::new(alloc),
             spot: Spot::at(0, 0),
-            whole: 0,
+            whole,
         })
     }
 
@@ -169,7 +172,7 @@ impl<A: Allocator + Copy> Advice<A> {
         requires here { IsHere problem.now know.now }
     {
         let start = self.start_at(alloc, problem, know, Some(card.rank()))?;
-        self.trace(problem, know, &[own_turn(card)], &start)?;
+        self.trace(problem, know, &[ShownTurn::of(card)], &start)?;
         Ok(start)
     }
 
@@ -178,13 +181,14 @@ impl<A: Allocator + Copy> Advice<A> {
         &mut self,
         problem: &Problem,
         know: &Know,
-        turns: &[u8],
+        turns: &[ShownTurn],
         start: &Start,
     ) -> Result<(), AllocError>
         requires here { IsHere problem.now know.now }
     {
-        for case in start.case..start.case_end {
+        for index in start.case.index..start.case_end.index {
             let spot = Spot::at(start.next, start.end);
+            let case = Case { index };
             self.survey.trace_case(problem, know, turns, &spot, case)?;
         }
         Ok(())
@@ -216,7 +220,7 @@ impl<A: Allocator + Copy> Advice<A> {
             end: self.survey.places.len(),
             beaten,
             case,
-            case_end: self.survey.cases.len(),
+            case_end: self.survey.cases.end(),
         };
         if start.rank.is_none() {
             self.trace(problem, know, &[], &start)?;

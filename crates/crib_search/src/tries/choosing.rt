@@ -1,5 +1,6 @@
 //! Which card is chosen at each place, so that few deals beat the plan.
 
+use crate::tries::cases::Case;
 use crate::tries::choices::{Choices, Classes};
 use crate::tries::ledger::Ledger;
 use crate::tries::matching::Matching;
@@ -34,14 +35,14 @@ pub(crate) struct Choosing<'a, A: Allocator> {
 }
 
 /// Chooses a card at each place from an index on. The classes of each choice of ranks that beat the owner in any case
-/// are given. Returns how many deals beat the cards that are chosen, and the index of a case, whose parts may show that
-/// no fewer can. It fails if an allocation fails.
+/// are given. Returns how many deals beat the cards that are chosen, and a case whose parts may show that no fewer can.
+/// It fails if an allocation fails.
 pub(crate) fn choose<A: Allocator + Copy>(
     alloc: A,
     survey: &mut Survey<A>,
     first: usize,
     forced: Vec<Classes, A>,
-) -> Result<(u64, usize), AllocError> {
+) -> Result<(u64, Case), AllocError> {
     let Survey {
         choices,
         places,

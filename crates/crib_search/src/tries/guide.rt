@@ -6,6 +6,7 @@ use crate::tries::matching::ONE;
 use crate::tries::spot::Spot;
 use crate::tries::survey::Survey;
 use crate::tries::tape::{Stop, Tape, Visit};
+use crate::tries::trails::ShownTurn;
 use crib_cards::Rank;
 use crib_show::{CHOICES, Demand};
 use std::alloc::{AllocError, Allocator};
@@ -19,8 +20,8 @@ pub struct Guide<'a, A: Allocator> {
     // What was learned in the case that is taken.
     tape: &'a Tape<A>,
     start: Spot,
-    // The index of the case in which no card is fixed.
-    whole: usize,
+    // The case in which no card is fixed.
+    whole: Case,
     // How many deals beat the best plan that was found.
     beaten: u64,
     scale: Scale,
@@ -53,7 +54,7 @@ impl<'a, A: Allocator + Copy> Guide<'a, A> {
         alloc: A,
         survey: &'a Survey<A>,
         start: Spot,
-        whole: usize,
+        whole: Case,
         beaten: u64,
     ) -> Result<Self, AllocError> {
         let mut guide = Guide {
@@ -83,12 +84,12 @@ impl<'a, A: Allocator + Copy> Guide<'a, A> {
 
     /// The case in which no card is fixed.
     pub fn whole(&self) -> Case {
-        Case { index: self.whole }
+        self.whole
     }
 
     /// Takes what was learned in a case. It fails if an allocation fails.
     pub fn take(&mut self, case: Case) -> Result<(), AllocError> {
-        self.tape = match self.survey.cases.tape(case.index) {
+        self.tape = match self.survey.cases.tape(case) {
             Some(tape) => tape,
             None => &self.survey.tape,
         };
@@ -104,24 +105,24 @@ impl<'a, A: Allocator + Copy> Guide<'a, A> {
     }
 
     /// The turns since the opening that lead to the place of the owner at which a case is split, the first one first,
-    /// if it is split. For each there is the index of its letter, and 14 more if the turn is the owner's.
-    pub fn question(&self, case: Case) -> Option<&[u8]> {
-        self.survey.cases.turns(case.index)
+    /// if it is split.
+    pub fn question(&self, case: Case) -> Option<&[ShownTurn]> {
+        self.survey.cases.turns(case)
     }
 
     /// The case in which the owner plays a card of a rank at the place at which another one is split, or one that is as
     /// good against each deal.
     pub fn answer(&self, case: Case, rank: Rank) -> Case {
         let cases = &self.survey.cases;
-        let Some(place) = cases.place(case.index) else {
+        let Some(place) = cases.place(case) else {
             return case;
         };
         let rank = match self.survey.places.as_good(place, rank) {
             Some(other) => other,
             None => rank,
         };
-        match cases.answer(case.index, rank) {
-            Some(index) => Case { index },
+        match cases.answer(case, rank) {
+            Some(next) => next,
             None => case,
         }
     }

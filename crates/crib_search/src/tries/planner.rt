@@ -131,7 +131,7 @@ impl<A: Allocator + Copy> Planner<'_, A> {
         let mut nexts: ArrayVec<DraftPlace, 14> = ArrayVec::new();
         for index in 0..14u8 {
             let letter = Letter::at(index);
-            let next = self.place_after(problem, know, &letter, &spot.after_letter(index))?;
+            let next = self.place_after(problem, know, &letter, &spot.after_letter(letter))?;
             nexts.push(next);
         }
         join(&mut self.nodes, &nexts)

@@ -1,6 +1,6 @@
 //! Cases: a card is fixed at the place that is most in doubt, each in turn, and both sides learn anew.
 
-use crate::tries::cases::Cases;
+use crate::tries::cases::{Case, Cases};
 use crate::tries::choosing::Choosing;
 use crate::tries::matching::{GRAIN, Matching, ONE};
 use crate::tries::net::{Net, Node};
@@ -26,7 +26,7 @@ pub(crate) struct Splitting<'a, A: Allocator> {
     places: &'a Places<A>,
     cases: &'a mut Cases<A>,
     // The case that is split.
-    whole: usize,
+    whole: Case,
     // Whether some case was left in which a plan may be better. Then no more are kept.
     is_left: bool,
     patience: usize,
@@ -35,16 +35,16 @@ pub(crate) struct Splitting<'a, A: Allocator> {
 /// A card of a node that is fixed in a case of which another one is a part.
 #[derive(Clone, Copy)]
 struct Fixed {
-    whole: usize,
+    whole: Case,
     node: usize,
     edge: usize,
 }
 
 impl<A: Allocator + Copy> Splitting<'_, A> {
-    // Adds the case in which a card is fixed. Returns its index.
-    fn open(&mut self, net: &Net<A>, fixed: &Fixed) -> Result<usize, AllocError> {
+    // Adds the case in which a card is fixed, unless some case was left.
+    fn open(&mut self, net: &Net<A>, fixed: &Fixed) -> Result<Case, AllocError> {
         if self.is_left {
-            return Ok(0);
+            return Ok(fixed.whole);
         }
         let next = self.cases.open()?;
         if let Some(node) = net.node(fixed.node) {
@@ -71,7 +71,7 @@ impl<A: Allocator + Copy> Choosing<'_, A> {
         places: &Places<A>,
         matching: &mut Matching<A>,
         cases: &mut Cases<A>,
-        whole: usize,
+        whole: Case,
     ) -> Result<(), AllocError> {
         if self.is_best(matching.least(&self.net)) {
             return Ok(());
@@ -93,7 +93,7 @@ impl<A: Allocator + Copy> Choosing<'_, A> {
         alloc: A,
         matching: &mut Matching<A>,
         splitting: &mut Splitting<'_, A>,
-        whole: usize,
+        whole: Case,
         depth: u8,
     ) -> Result<(), AllocError> {
         let Some((index, node)) = matching.most_in_doubt(&self.net) else {

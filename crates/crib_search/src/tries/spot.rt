@@ -27,12 +27,12 @@ impl Spot {
         }
     }
 
-    /// The spot after the letter with an index.
-    pub fn after_letter(&self, index: u8) -> Spot {
+    /// The spot after a letter of the opponent.
+    pub fn after_letter(&self, letter: Letter) -> Spot {
         let span = self.span / 14;
         let key = self
             .key
-            .saturating_add(span.saturating_mul(u64::from(index)));
+            .saturating_add(span.saturating_mul(u64::from(letter.index())));
         Spot { key, span, ..*self }
     }
 

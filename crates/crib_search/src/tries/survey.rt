@@ -206,7 +206,7 @@ impl<A: Allocator + Copy> Survey<A> {
                 if know.can_show(letter) {
                     let mut next = know.copy();
                     next.saw(&letter);
-                    self.look_at(problem, &next, &spot.after_letter(index))?;
+                    self.look_at(problem, &next, &spot.after_letter(letter))?;
                 }
             }
             self.take_back(below, end);

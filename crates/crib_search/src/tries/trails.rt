@@ -6,17 +6,34 @@ ghost use Rattle.crib_play.specs.Record.{count_of};
 ghost use Rattle.crib_search.specs.Private.Search.{IsHere, IsTurnOf};
 
 use crate::own_options::options;
+use crate::tries::cases::Case;
 use crate::tries::planner::card_of;
 use crate::tries::spot::Spot;
 use crate::tries::survey::Survey;
-use crib_cards::{Card, Letter};
+use crib_cards::{Card, Letter, Side};
 use crib_know::Know;
 use crib_play::Turn;
 use crib_problem::Problem;
 use std::alloc::{AllocError, Allocator};
 
-// The number of an ace of the owner.
-const OWN: u8 = 14;
+/// A turn as its letter shows it: whose it is, and the rank of the card, or a go.
+#[derive(Clone, Copy)]
+pub struct ShownTurn {
+    /// Whose turn it is.
+    pub side: Side,
+    /// What it shows.
+    pub letter: Letter,
+}
+
+impl ShownTurn {
+    /// The turn in which the owner plays a card.
+    pub(crate) fn of(card: Card) -> Self {
+        ShownTurn {
+            side: Side::Owner,
+            letter: Letter::Seen(card.rank()),
+        }
+    }
+}
 
 impl<A: Allocator + Copy> Survey<A> {
     /// Keeps the turns that lead to the place at which a case is split, if it is: some, and those from a position on.
@@ -25,9 +42,9 @@ impl<A: Allocator + Copy> Survey<A> {
         &mut self,
         problem: &Problem,
         know: &Know,
-        turns: &[u8],
+        turns: &[ShownTurn],
         spot: &Spot,
-        case: usize,
+        case: Case,
     ) -> Result<(), AllocError>
         requires here { IsHere problem.now know.now }
     {
@@ -71,7 +88,10 @@ impl<A: Allocator + Copy> Survey<A> {
     {
         let (cards, len) = options(problem, know);
         if len == 0 {
-            self.cases.turns.push(OWN + Letter::Go.index())?;
+            self.cases.turns.push(ShownTurn {
+                side: Side::Owner,
+                letter: Letter::Go,
+            })?;
             let mut next = know.copy();
             next.own_go();
             return self.trace(problem, &next, spot, place);
@@ -102,7 +122,7 @@ impl<A: Allocator + Copy> Survey<A> {
         requires held { IsTrue (has know.now.own_left card) }
         requires fits { count_of know.now.round.pile + card_value card ≤ 31 }
     {
-        self.cases.turns.push(own_turn(card))?;
+        self.cases.turns.push(ShownTurn::of(card))?;
         let mut next = know.copy();
         next.own_play(card);
         self.trace(problem, &next, spot, place)
@@ -126,14 +146,12 @@ impl<A: Allocator + Copy> Survey<A> {
         if !know.can_show(letter) {
             return Ok(());
         }
-        self.cases.turns.push(letter.index())?;
+        self.cases.turns.push(ShownTurn {
+            side: Side::Opponent,
+            letter,
+        })?;
         let mut next = know.copy();
         next.saw(&letter);
-        self.trace(problem, &next, &spot.after_letter(letter.index()), place)
+        self.trace(problem, &next, &spot.after_letter(letter), place)
     }
-}
-
-/// The number of a turn in which the owner plays a card.
-pub(crate) fn own_turn(card: Card) -> u8 {
-    OWN + Letter::Seen(card.rank()).index()
 }

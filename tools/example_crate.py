@@ -36,10 +36,10 @@ def path_of(module: Module) -> Path:
 
 @cache
 def module_of(crate: str, kind: str, name: str) -> Module | None:
-    """The module of the repository that a name is of, if there is one. A declared type is a module as well."""
+    """The module that a name is of, if there is one. A declared type is a module, any other is below its module."""
     declared = re.match(r"declared\.(?:[a-z]\w*\.)*\w+", name)
-    module = kind, crate, declared[0] if declared else name
-    return module if (CRATES / crate / "specs" if declared else path_of(module)).exists() else None
+    modules = [(kind, crate, one) for one in ([declared[0]] if declared else [name, name.rpartition(".")[0]])]
+    return next((its for its in modules if (CRATES / crate / "specs" if declared else path_of(its)).exists()), None)
 
 
 def modules_in(text: str) -> set[Module]:

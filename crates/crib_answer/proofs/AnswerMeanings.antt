@@ -70,7 +70,7 @@ found_means input problem (Some plan) spelled found small =
     }
 found_means input problem None spelled found small = (record { problem = problem; spelled = spelled; none = none_law problem spelled.problem_is found }, refl)
 
-problem_means : (input : List ℕ) (problem : Setup) (reply : Reply) → SpellsProblem input problem → AnswersProblem problem reply → Solves input reply
+pub problem_means : (input : List ℕ) (problem : Setup) (reply : Reply) → SpellsProblem input problem → AnswersProblem problem reply → Solves input reply
 problem_means input problem reply spelled (inl answer) = subst (Solves input) (sym answer.3) (found_means input problem answer.0 spelled answer.1 answer.2)
 problem_means input problem reply spelled (inr answer) =
     let large = answer.0 in

@@ -38,6 +38,7 @@ use Rattle.crib_run.specs.declared.status.Status.{Status}
 use Rattle.crib_run.specs.declared.status.Status.TheVariants.{Yes, No, Refused, Fault}
 use Rattle.crib_run.specs.Reply.{Reply}
 use Rattle.crib_answer.specs.Input.{report_of_input}
+use Rattle.crib_answer.specs.Meaning.{HasSomePlan}
 use Rattle.crib_game_sheet.specs.GameText.{game_sheet_text}
 use Rattle.crib_sheet.specs.Asked.{asked_of_input, plan_or_none}
 use Rattle.crib_sheet.specs.PlanHead.{failing_text, position_text, sure_text}
@@ -295,14 +296,13 @@ spelled_is_not_refused input text (inr spelled) means = (means four_twos).1 two_
 
 no_fault_without_its_line : (input : List ℕ) → PlanMeans input [] Fault ⊎ GameMeans input [] Fault → ⊥
 no_fault_without_its_line input (inl (inl text)) = cc
-no_fault_without_its_line input (inl (inr text)) = (let e = text.2 in cc)
+no_fault_without_its_line input (inl (inr text)) = (let e = text.1 in cc)
 no_fault_without_its_line input (inr text) = cc
 
--- a large plan is a fault only if the input has a problem alone
-faults_of_a_plan : (input : List ℕ) (problem : Setup) → SpellsProblem input problem →
-    PlanMeans input (codes "fault 11\n") Fault × PlanMeans input (codes "fault 50\n") Fault
+-- a large plan is a fault only if the input has a problem alone, for which some plan is sure
+faults_of_a_plan : (input : List ℕ) → HasSomePlan input → PlanMeans input (codes "fault 11\n") Fault × PlanMeans input (codes "fault 50\n") Fault
 unfolding digits
-faults_of_a_plan input problem spelled = (inl refl, inr (problem, spelled, refl))
+faults_of_a_plan input some = (inl refl, inr (some, refl))
 
 other : ◌≡◌ {A = ℕ} 53 49 → ⊥
 other digit = absurd cc
@@ -310,4 +310,4 @@ other digit = absurd cc
 no_large_plan_is_typed : (input : List ℕ) → ((problem : Setup) → SpellsProblem input problem → ⊥) → PlanMeans input (codes "fault 50\n") Fault → ⊥
 unfolding digits
 no_large_plan_is_typed input none (inl text) = other (ap (λ (bytes : List ℕ). get_or bytes 6 0) text)
-no_large_plan_is_typed input none (inr large) = none large.0 large.1
+no_large_plan_is_typed input none (inr large) = none large.0.problem large.0.spelled

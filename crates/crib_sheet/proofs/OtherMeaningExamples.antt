@@ -1,12 +1,13 @@
 -- Worked examples of what the texts of `leads`, `next`, `scores` and `holes` guarantee.
-use Rattle.std.proofs.Common.{Ok, Err, ◌≡◌, ◌≢◌, ◌⊎◌, ◌∙◌, inl, inr, ℕ, List, [], ◌∷◌, codes, refl, sym, ap, subst, arith}
-use Rattle.std.specs.Prelude.{Bool, true, false, ◌++◌, reverse}
+use Rattle.std.proofs.Common.{Ok, Err, ◌≡◌, ◌≢◌, ◌⊎◌, ◌∙◌, inl, inr, ℕ, List, [], ◌∷◌, codes, get_or, refl, sym, ap, subst, arith}
+use Rattle.std.specs.Prelude.{Bool, Result, true, false, ◌++◌}
 use Rattle.std.specs.Fmt.{digits}
 use Rattle.crib_cards.specs.Sets.{set_where}
 use Rattle.crib_cards.specs.declared.sides.Side.TheVariants.{Owner, Opponent}
 use Rattle.crib_cards.specs.declared.moves.Act.{Act}
 use Rattle.crib_play.specs.declared.turns.Turn.{Turn}
 use Rattle.crib_play.specs.declared.turns.Turn.TheVariants as turns
+use Rattle.crib_text.specs.Refusals.{Refusal}
 use Rattle.crib_problem.specs.Setup.{Setup}
 use Rattle.crib_problem.specs.Spelling.{problem_lines, problem_text}
 use Rattle.crib_problem.proofs.ExampleProblems.{four_twos, plays, twos_and_aces}
@@ -16,7 +17,7 @@ use Rattle.crib_check.proofs.Examples.{AreThese, in_a_row, of_these}
 use Rattle.crib_sure.specs.Sure.{IsSure}
 use Rattle.crib_sure.proofs.ExampleOpening.{ace_or_two, at_29}
 use Rattle.crib_next.specs.Input.{SpellsTurns}
-use Rattle.crib_next.specs.Next.{next_after}
+use Rattle.crib_next.specs.Next.{next_from}
 use Rattle.crib_next.specs.declared.next.NextTurn.{NextTurn}
 use Rattle.crib_next.specs.declared.next.NextTurn.TheVariants.{Play, Go, Wait, Over, Stuck}
 use Rattle.crib_leads.specs.declared.leads.Lead.{Lead}
@@ -27,7 +28,7 @@ use Rattle.crib_tables.specs.declared.scores.ScoreTable.{ScoreTable}
 use Rattle.crib_run.specs.Reply.{Reply}
 use Rattle.crib_run.specs.declared.status.Status.TheVariants.{Yes, No, Refused, Fault}
 use Rattle.crib_sheet.specs.Holes.{HasHoles}
-use Rattle.crib_sheet.specs.Leads.{HasLeads}
+use Rattle.crib_sheet.specs.Leads.{HasLargePlan, HasLeads}
 use Rattle.crib_sheet.specs.LeadsText.{leads_status}
 use Rattle.crib_sheet.specs.Meaning.{IsSomeRefused, SheetMeans}
 use Rattle.crib_sheet.specs.Next.{next_text}
@@ -93,15 +94,27 @@ never_no input text (inl means) = means
 never_no input text (inr means) = means
 
 -- ---- the lines of faults
-faults : (input : List ℕ) → SheetMeans Leads input (fault (codes "fault 11\n")) × SheetMeans Leads input (fault (codes "fault 50\n"))
+faults : (input : List ℕ) (problem : Setup) → SpellsProblem input problem → HasLargePlan problem
+    → SheetMeans Leads input (fault (codes "fault 11\n")) × SheetMeans Leads input (fault (codes "fault 50\n"))
     × SheetMeans Next input (fault (codes "fault 11\n")) × SheetMeans Scores input (fault (codes "fault 11\n"))
     × SheetMeans Holes input (fault (codes "fault 11\n"))
 unfolding digits
-faults input = (inl refl, inr refl, refl, refl, refl)
+faults input problem spelled large = (inl refl, inr (problem, spelled, large, refl), refl, refl, refl)
 
 no_fault_without_a_line : (input : List ℕ) → (SheetMeans Leads input (fault []) → ⊥) × (SheetMeans Next input (fault []) → ⊥)
     × (SheetMeans Scores input (fault []) → ⊥) × (SheetMeans Holes input (fault []) → ⊥)
-no_fault_without_a_line input = ((λ means. elim means [ inl text ↦ cc | inr text ↦ cc ]), (λ text. cc), (λ text. cc), (λ text. cc))
+no_fault_without_a_line input = (
+  λ means. elim means [ inl text ↦ cc | inr large ↦ (let text = large.3 in cc) ],
+  λ text. cc,
+  λ text. cc,
+  λ text. cc,
+)
+
+no_large_plan_found : (input : List ℕ) → ((problem : Setup) → SpellsProblem input problem → HasLargePlan problem → ⊥)
+    → SheetMeans Leads input (fault (codes "fault 50\n")) → ⊥
+unfolding digits
+no_large_plan_found input none (inl text) = (let digit : 53 ≡ 49 = ap (λ (bytes : List ℕ). get_or bytes 6 0) text in absurd (omega (arith, digit)))
+no_large_plan_found input none (inr large) = none large.0 large.1 large.2
 
 -- ---- `leads`: with a lead that is sure the status is yes, and with one that misses the goal it is no
 abbrev two_led : LeadVerdict → Lead
@@ -123,6 +136,7 @@ two_and_ace input spelled = (
     plan = in_a_row;
     turns = plays Owner 4 ∷ plays Opponent 0 ∷ [];
     spelled = spelled;
+    line = 10;
     next = Play 5;
     right = refl;
     printed = refl;
@@ -147,8 +161,10 @@ wrong_if_not_stuck : (input text : List ℕ) (means : SheetMeans Next input (yes
     means.0.turns ≡ [] → ⊥
 unfolding set_where
 wrong_if_not_stuck input text means are none =
-    let next = subst (λ acts. next_after means.0.problem means.0.plan (reverse acts) ≡ means.0.next) none means.0.right in
-    means.1 (sym (of_these (λ setup plan. next_after setup plan [] ≡ means.0.next) means.0.problem means.0.plan _ _ are next))
+    let next = subst (λ acts. next_from means.0.problem means.0.plan means.0.line [] acts ≡ Ok means.0.next) none means.0.right in
+    let stuck : ◌≡◌ {A = Result NextTurn Refusal} (Ok Stuck) (Ok means.0.next) =
+    of_these (λ setup plan. next_from setup plan means.0.line [] [] ≡ Ok means.0.next) means.0.problem means.0.plan _ _ are next in
+    means.1 cc
 
 wrong_if_stuck : (input text : List ℕ) (means : SheetMeans Next input (no text)) →
     (AreThese means.0.problem means.0.plan at_29 ace_or_two × IsSure at_29 ace_or_two) ⊎ (means.0.next ≡ Play 5) → ⊥

@@ -5,7 +5,7 @@ use Rattle.crib_text.specs.Refusals.{Refusal, no_memory, too_long}
 use Rattle.crib_text.specs.Reading.{◌>>=◌}
 use Rattle.crib_cards.specs.declared.moves.Act.{Act}
 use Rattle.crib_problem.specs.Setup.{IsSetup, Setup}
-use Rattle.crib_plan.specs.Nodes.{ArePlan}
+use Rattle.crib_plan.specs.Nodes.{ArePlan, most_nodes}
 use Rattle.crib_plan.specs.Spelling.{plan_text}
 use Rattle.crib_plan.specs.declared.plan.Node.{Node}
 use Rattle.crib_game.specs.declared.fault.GameFault.{GameFault}
@@ -24,13 +24,14 @@ use Rattle.crib_sheet.specs.Asked.{asked_of_input}
 use Rattle.crib_sheet.proofs.AskedInputs.{asked_alone, asked_not_alone, asked_nothing, asked_question}
 use Rattle.crib_input.proofs.Inputs.{problem_accepted, problem_spelled, question_accepted, question_spelled, read_of_long}
 use Rattle.crib_input.proofs.GameInputs.{played_accepted}
-use Rattle.crib_run.specs.Reply.{IsAnswer, Reply, fault_reply, refusal_reply}
+use Rattle.crib_run.specs.Reply.{IsAnswer, Reply, fault_line, fault_reply, refusal_reply}
 use Rattle.crib_run.specs.declared.status.Status.{Status}
-use Rattle.crib_run.specs.declared.status.Status.TheVariants.{No}
+use Rattle.crib_run.specs.declared.status.Status.TheVariants.{Fault, No}
 use Rattle.crib_run.specs.Run.{HaveMeaning}
-use Rattle.crib_answer.specs.Answer.{reply_by}
-use Rattle.crib_answer.specs.Meaning.{HasSurePlan}
-use Rattle.crib_answer.proofs.AnswerMeanings.{found_means}
+use Rattle.crib_answer.specs.Answer.{reply_by, too_large}
+use Rattle.crib_answer.specs.Meaning.{HasSurePlan, SolveMeans}
+use Rattle.crib_answer.proofs.AnswerMeanings.{found_means, problem_means}
+use Rattle.crib_search.specs.Finder.{ExceedsLimit}
 use Rattle.crib_search.specs.Tried.{IsNeverStuck}
 use Rattle.crib_search.specs.Winnable.{IsWinnable}
 use Rattle.crib_search.proofs.FoundIsPlan.{plan_within}
@@ -43,7 +44,7 @@ use Rattle.crib_next.specs.Input.{next_of_question, next_question_at, next_quest
 use Rattle.crib_next.specs.declared.next.NextTurn.{NextTurn}
 use Rattle.crib_next.specs.declared.next.NextTurn.TheVariants as nexts
 use Rattle.crib_next.proofs.NextInputs.{question_accepted as next_accepted, question_spelled as next_spelled}
-use Rattle.crib_next.proofs.NextLaws.{next_is_after, sure_law}
+use Rattle.crib_next.proofs.NextLaws.{sure_law}
 use Rattle.crib_game_sheet.specs.GameText.{game_sheet_text, sheet_for}
 use Rattle.crib_sheet.specs.PlanHead.{failing_text}
 use Rattle.crib_sheet.specs.PlanBeaten.{AreBeatingOf, IsBest}
@@ -100,9 +101,14 @@ tried_means input problem plan reply spelled (inl found) text = rw (text, found.
 tried_means input problem plan reply spelled (inr unsure) text =
     rw (text, unsure.0) (record { problem = problem; spelled = spelled; none = unsure.1 }, (plan, unsure.2, unsure.3, refl))
 
+large_means : (input : List ℕ) (problem : Setup) → SpellsProblem input problem → ExceedsLimit problem most_nodes
+    → SolveMeans input (fault_line too_large) Fault
+large_means input problem spelled large = problem_means input problem (fault_reply too_large) spelled (inr (large, refl))
+
 try_means : (input : List ℕ) (said : Result Setup Refusal) (reply : Reply) → problem_of_input input ≡ said → AnswersTry said reply → SheetMeans Try input reply
 try_means input (Ok problem) reply asked (inl (plan, tried, text)) = tried_means input problem plan reply (problem_accepted input problem asked) tried text
-try_means input (Ok problem) reply asked (inr large) = subst (SheetMeans Try input) (sym large.1) (inr refl)
+try_means input (Ok problem) reply asked (inr large) =
+    subst (SheetMeans Try input) (sym large.1) (large_means input problem (problem_accepted input problem asked) large.0)
 try_means input (Err refusal) reply asked is = subst (SheetMeans Try input) (sym is) (λ problem spelled.
     let e : Ok problem ≡ Err refusal = sym (problem_spelled input problem spelled) ∙ asked in
     absurd cc)
@@ -170,7 +176,8 @@ plan_means input (Ok (problem, None)) reply asked (inl (plan, tried, answers)) =
     sheet_means input problem plan reply (inr (spelled, tried_plan problem plan reply.status spelled.problem_is tried))
     (λ same alone. (none_is_sure_if_no problem plan reply.status tried same, tried_stated problem plan reply.status tried same)) answers
 plan_means input (Ok (problem, None)) reply asked (inr large) =
-    subst (SheetMeans Plan input) (sym large.1) (inr (problem, problem_accepted input problem (asked_alone input problem asked), refl))
+    subst (SheetMeans Plan input) (sym large.1)
+    (large_means input problem (problem_accepted input problem (asked_alone input problem asked)) large.0)
 plan_means input (Err refusal) reply asked is = subst (SheetMeans Plan input) (sym is) (λ problem. asked_nothing input refusal problem asked)
 
 -- ---- a game
@@ -264,7 +271,8 @@ leads_has input problem reply spelled has =
 leads_means : (input : List ℕ) (said : Result Setup Refusal) (reply : Reply) → problem_of_input input ≡ said → AnswersLeads said reply
     → SheetMeans Leads input reply
 leads_means input (Ok problem) reply asked (inl has) = leads_has input problem reply (problem_accepted input problem asked) has
-leads_means input (Ok problem) reply asked (inr large) = subst (SheetMeans Leads input) (sym large.1) (inr refl)
+leads_means input (Ok problem) reply asked (inr large) =
+    subst (SheetMeans Leads input) (sym large.1) (inr (problem, problem_accepted input problem asked, large.0, refl))
 leads_means input (Err refusal) reply asked is = subst (SheetMeans Leads input) (sym is) (λ problem spelled.
     let e : Ok problem ≡ Err refusal = sym (problem_spelled input problem spelled) ∙ asked in
     absurd cc)
@@ -279,8 +287,9 @@ module _ (input : List ℕ) (problem : Setup) (plan : List Node) (turns : List A
     plan = plan;
     turns = turns;
     spelled = next_accepted input (problem, plan, turns, first) asked;
+    line = first + 1;
     next = next;
-    right = next_is_after problem plan (first + 1) turns next is;
+    right = is;
     printed = refl;
   }
 

@@ -1,5 +1,5 @@
 -- Worked examples of right replies to a problem to try, and of what they guarantee.
-use Rattle.std.proofs.Common.{◌≡◌, ◌⊎◌, inl, inr, ap, ℕ, List, [], ◌∷◌, Ok, Err, Some, arith, codes, refl, subst, sym}
+use Rattle.std.proofs.Common.{◌≡◌, ◌⊎◌, inl, inr, ap, get_or, ℕ, List, [], ◌∷◌, Ok, Err, Some, arith, codes, refl, subst, sym}
 use Rattle.std.specs.Fmt.{digits}
 use Rattle.crib_problem.specs.Setup.{Setup}
 use Rattle.crib_check.proofs.SureExamples.{ace_or_two_is_sure}
@@ -16,7 +16,7 @@ use Rattle.crib_search.proofs.TriedExamples.{stuck_at_the_lead}
 use Rattle.crib_problem.proofs.ExampleProblems.{four_twos}
 use Rattle.crib_sure.proofs.ExampleOpening.{ace_or_two, at_29}
 use Rattle.crib_sure.specs.Sure.{Ends, GoesOn, IsSure}
-use Rattle.crib_answer.specs.Meaning.{HasNoPlan}
+use Rattle.crib_answer.specs.Meaning.{HasNoPlan, HasSomePlan}
 use Rattle.crib_run.specs.declared.status.Status.TheVariants.{Yes, No, Refused, Fault}
 use Rattle.crib_run.specs.Reply.{Reply}
 use Rattle.crib_input.specs.Spelled.{SpellsProblem}
@@ -121,10 +121,15 @@ nothing_has_no_problem text = (no_problem_in_nothing, (λ means. no_problem_in_n
 no_try_without_a_problem : (text : List ℕ) → ((problem : Setup) → ¬ SpellsProblem (codes "aab") problem) → TryMeans (codes "aab") text No → ⊥
 no_try_without_a_problem text none means = none means.0.problem means.0.spelled
 
-two_faults : (input : List ℕ) → TryMeans input (codes "fault 11\n") Fault × TryMeans input (codes "fault 50\n") Fault
+two_faults : (input : List ℕ) → HasSomePlan input → TryMeans input (codes "fault 11\n") Fault × TryMeans input (codes "fault 50\n") Fault
 unfolding digits
-two_faults input = (inl refl, inr refl)
+two_faults input some = (inl refl, inr (some, refl))
+
+no_large_plan_where_none_is_sure : (input : List ℕ) → (HasSomePlan input → ⊥) → TryMeans input (codes "fault 50\n") Fault → ⊥
+unfolding digits
+no_large_plan_where_none_is_sure input none (inl text) = (let digit : 53 ≡ 49 = ap (λ (bytes : List ℕ). get_or bytes 6 0) text in absurd (omega (arith, digit)))
+no_large_plan_where_none_is_sure input none (inr large) = none large.0
 
 no_fault_without_a_line : (input : List ℕ) → TryMeans input [] Fault → ⊥
 no_fault_without_a_line input (inl text) = cc
-no_fault_without_a_line input (inr text) = cc
+no_fault_without_a_line input (inr large) = (let text = large.1 in cc)

@@ -1,5 +1,5 @@
 -- What the replies guarantee about the input.
-use Rattle.std.specs.Prelude.{◌≡◌, ◌≢◌, ◌≤◌, ◌⊎◌, ℕ, Bool, true, false, List, [], ◌++◌, length, reverse, Option}
+use Rattle.std.specs.Prelude.{◌≡◌, ◌≢◌, ◌≤◌, ◌⊎◌, ℕ, Bool, true, false, List, [], ◌++◌, length, Option}
 use Rattle.std.specs.Prelude.{Ok, Err}
 use Rattle.crib_text.specs.Refusals.{Refusal, no_memory}
 use Rattle.crib_cards.specs.declared.moves.Act.{Act}
@@ -17,7 +17,7 @@ use Rattle.crib_answer.specs.Input.{report_of_input}
 use Rattle.crib_answer.specs.Answer.{too_large}
 use Rattle.crib_search.specs.Tried.{IsNeverStuck}
 use Rattle.crib_search.specs.Winnable.{IsWinnable}
-use Rattle.crib_answer.specs.Meaning.{HasNoPlan, HasSomePlan, HasSurePlan, IsSolvedBy}
+use Rattle.crib_answer.specs.Meaning.{HasNoPlan, HasSomePlan, HasSurePlan, SolveMeans}
 use Rattle.crib_players.specs.Players.{IsSurePlayer, Player}
 use Rattle.crib_players.specs.Refutations.{Refutes}
 use Rattle.crib_why.specs.Answer.{AreBySuit, SomeIsSure}
@@ -25,13 +25,13 @@ use Rattle.crib_beaten.specs.Tally.{AreFigures}
 use Rattle.crib_beaten.specs.declared.rows.Rows.{Rows}
 use Rattle.crib_beaten.specs.declared.tally.RanksTally.{RanksTally}
 use Rattle.crib_next.specs.Input.{SpellsTurns}
-use Rattle.crib_next.specs.Next.{next_after, next_from}
+use Rattle.crib_next.specs.Next.{next_from}
 use Rattle.crib_next.specs.declared.next.NextTurn.{NextTurn}
 use Rattle.crib_next.specs.declared.next.NextTurn.TheVariants.{Stuck}
 use Rattle.crib_game_sheet.specs.GameText.{game_sheet_text}
 use Rattle.crib_sheet.specs.Beaten.{beaten_text}
 use Rattle.crib_sheet.specs.Holes.{HasHoles}
-use Rattle.crib_sheet.specs.Leads.{HasLeads}
+use Rattle.crib_sheet.specs.Leads.{HasLargePlan, HasLeads}
 use Rattle.crib_sheet.specs.Next.{next_text}
 use Rattle.crib_sheet.specs.PlanHead.{position_text, sure_text}
 use Rattle.crib_sheet.specs.PlanBeaten.{AreBeating, IsBest, beating_text, best_text}
@@ -102,16 +102,13 @@ pub record HasGameSheet (input text : List ℕ) : Type 0 where
 
 -- what the reply of `plan` guarantees, by its status. Yes: the plan is sure, and so is its sheet. No: the plan is not,
 -- and the figures of the deals that beat it are right; if no plan was spelled, no plan is sure. Refused: the input
--- spells neither a problem and a plan nor a problem. Fault: the text says that an allocation failed, or that the plan
--- that was found for the problem has too many nodes
+-- spells neither a problem and a plan nor a problem. Fault: the same as for `solve` of cribplan
 abbrev pub PlanMeans : List ℕ → List ℕ → Status → Type 0
 PlanMeans input text Yes = HasSureSheet input text
 PlanMeans input text No = HasUnsureSheet input text
 PlanMeans input text Refused =
     (problem : Setup) → (¬ SpellsProblem input problem) × ((plan : List Node) → ¬ SpellsPlan input problem plan)
-PlanMeans input text Fault =
-    (text ≡ fault_line no_memory)
-    ⊎ ((problem : Setup) × SpellsProblem input problem × (text ≡ fault_line too_large))
+PlanMeans input text Fault = SolveMeans input text Fault
 
 -- `replay` of cribplan refuses an input, and `text` is the line of its refusal
 pub record IsRefusedByReplay (input text : List ℕ) : Type 0 where
@@ -144,16 +141,15 @@ BeatenMeans input text No = (unsure : HasUnsurePlan input) × SaysHowMany unsure
 BeatenMeans input text Refused = (problem : Setup) (plan : List Node) → ¬ SpellsPlan input problem plan
 BeatenMeans input text Fault = text ≡ fault_line no_memory
 
--- what the reply of `try` guarantees, by its status. Yes: the text spells a plan that is sure. No: no plan is sure, and
--- the text spells one that is never stuck. Refused: the input spells no problem. Fault: the text says that an
--- allocation failed, or that the plan has too many nodes
+-- what the reply of `try` guarantees, by its status. No: no plan is sure, and the text spells one that is never stuck.
+-- Otherwise the same as for `solve` of cribplan
 abbrev pub TryMeans : List ℕ → List ℕ → Status → Type 0
-TryMeans input text Yes = IsSolvedBy input text
+TryMeans input text Yes = SolveMeans input text Yes
 TryMeans input text No =
     (none : HasNoPlan input)
     × ((plan : List Node) × ArePlan plan × IsNeverStuck none.problem plan × (text ≡ plan_text plan))
-TryMeans input text Refused = (problem : Setup) → ¬ SpellsProblem input problem
-TryMeans input text Fault = (text ≡ fault_line no_memory) ⊎ (text ≡ fault_line too_large)
+TryMeans input text Refused = SolveMeans input text Refused
+TryMeans input text Fault = SolveMeans input text Fault
 
 -- an input spells a problem, and `text` is that of at most 24 games that refute every player. So no player is sure,
 -- whatever they look at
@@ -189,22 +185,25 @@ abbrev pub SpellsLeads : List ℕ → Reply → Type 0
 SpellsLeads input reply = (problem : Setup) × SpellsProblem input problem × HasLeads problem reply
 
 -- what the reply of `leads` guarantees, by its status. Yes and no: the text has the turns that may come next, and this
--- is their status. Refused: the input spells no problem. Fault: the text says that an allocation failed, or that a plan
--- has too many nodes
+-- is their status. Refused: the input spells no problem. Fault: the text says that an allocation failed; or that a plan
+-- has too many nodes, and some plan that is found there has
 abbrev pub LeadsMeans : List ℕ → List ℕ → Status → Type 0
 LeadsMeans input text Yes = SpellsLeads input (record { output = text; status = Yes })
 LeadsMeans input text No = SpellsLeads input (record { output = text; status = No })
 LeadsMeans input text Refused = (problem : Setup) → ¬ SpellsProblem input problem
-LeadsMeans input text Fault = (text ≡ fault_line no_memory) ⊎ (text ≡ fault_line too_large)
+LeadsMeans input text Fault =
+    (text ≡ fault_line no_memory)
+    ⊎ ((problem : Setup) × SpellsProblem input problem × HasLargePlan problem × (text ≡ fault_line too_large))
 
--- an input spells a problem, a plan and turns, and `text` says what comes next after them
+-- an input spells a problem, a plan and turns, none of these is refused, and `text` says what comes next after them
 pub record SaysNext (input text : List ℕ) : Type 0 where
   pub problem : Setup
   pub plan : List Node
   pub turns : List Act
   pub spelled : SpellsTurns input problem plan turns
+  pub line : ℕ
   pub next : NextTurn
-  pub right : next_after problem plan (reverse turns) ≡ next
+  pub right : next_from problem plan line [] turns ≡ Ok next
   pub printed : text ≡ next_text problem plan turns next
 
 -- some turn is refused, if the first of the turns has this line

@@ -131,7 +131,8 @@ impl<A: Allocator + Copy> Planner<'_, A> {
         let mut nexts: ArrayVec<DraftPlace, 14> = ArrayVec::new();
         for index in 0..14u8 {
             let letter = Letter::at(index);
-            let next = self.place_after(problem, know, &letter, &spot.after_letter(letter))?;
+            let after = spot.after_letter(letter);
+            let next = self.place_after(problem, know, &letter, &after)?;
             nexts.push(next);
         }
         join(&mut self.nodes, &nexts)
